@@ -1,0 +1,31 @@
+-- Environments (profile): finite maps from names to values, as lists of pairs; the first pair of a name counts.
+use Rattle.std.specs.Prelude.{◌≡◌, ℕ, ◌+◌, Bool, true, false, if◌then◌else◌, List, [], ◌∷◌, Option, Some, None, map, nat_eq}
+use Rattle.std.specs.Option.{option_map}
+use lib.Pointwise.{pointwise}
+use Rattle.ioa_terms.specs.Data.{Data}
+
+abbrev pub Bindings : Type 0
+Bindings = List (List ℕ × Data)
+
+-- whether two names are the same
+abbrev pub same_name : List ℕ → List ℕ → Bool
+same_name = pointwise nat_eq
+
+-- the value of a name
+abbrev pub lookup : List ℕ → Bindings → Option Data
+lookup x [] = None
+lookup x (b ∷ e) = if same_name x b.0 then Some b.1 else lookup x e
+
+-- the environment in which a name has another value; the same where the name is not bound
+abbrev pub put : List ℕ → Data → Bindings → Bindings
+put x v [] = []
+put x v (b ∷ e) = if same_name x b.0 then (b.0, v) ∷ e else b ∷ put x v e
+
+-- the names that are bound, in order
+abbrev pub names_of : Bindings → List (List ℕ)
+names_of e = map (λ b. b.0) e
+
+-- the first place of a name in a list of names
+abbrev pub place_in : List ℕ → List (List ℕ) → Option ℕ
+place_in x [] = None
+place_in x (y ∷ ys) = if same_name x y then Some 0 else option_map (λ k. k + 1) (place_in x ys)

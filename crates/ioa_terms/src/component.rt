@@ -1,0 +1,25 @@
+//! The components of a system.
+
+use std::fmt;
+
+/// The name of a component: a node's automaton, the queue of a declared channel, or the queue of a
+/// node's scripted stimuli (Lynch 8.2 and 14.1, and profile for scripts).
+#[derive(Clone, Copy, Debug, PartialEq, Eq, PartialOrd, Ord)]
+pub enum Component {
+    /// The node of a number.
+    Node(i64),
+    /// The channel from one node to another.
+    Channel(i64, i64),
+    /// The script of a node.
+    Script(i64),
+}
+
+impl fmt::Display for Component {
+    fn fmt<W: fmt::Write>(&self, f: &mut fmt::Formatter<W>) -> fmt::Result {
+        match self {
+            Component::Node(node) => write!(f, "node {node}"),
+            Component::Channel(from, to) => write!(f, "channel {from} -> {to}"),
+            Component::Script(node) => write!(f, "script {node}"),
+        }
+    }
+}

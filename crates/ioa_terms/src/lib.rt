@@ -1,0 +1,19 @@
+//! Terms and statements with their meaning, the components of a system and its actions.
+#![tactic(auto)]
+
+mod action;
+mod component;
+mod environment;
+mod evaluation;
+mod fault;
+mod performance;
+mod tree;
+
+pub use action::{Action, NodeAction, Values};
+pub use component::Component;
+pub use environment::Env;
+pub use evaluation::eval;
+pub use fault::TermFault;
+pub use ioa_values::{Names, Sort, Value, Word, show};
+pub use performance::perform;
+pub use tree::{BinaryOperator, Checked, Kind, Place, Statement, Term, Tree};
