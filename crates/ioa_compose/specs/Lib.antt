@@ -1,0 +1,9 @@
+-- values, terms and texts, which systems stand on
+pub use Rattle.ioa_terms.specs.Data
+pub use Rattle.ioa_terms.specs.Outcome
+-- what the contracts of this crate and of those above it cite
+pub mod NodeState
+pub mod NodeStep
+pub mod Parts
+pub mod Placed
+pub mod StepFaults

@@ -1,0 +1,118 @@
+-- Steps of a node's automaton (Lynch 8.1).
+use Rattle.std.specs.Prelude.{◌≡◌, ℕ, ℤ, Bool, true, false, not, ◌&&◌, if◌then◌else◌, List, [], ◌∷◌, ◌++◌, Option, Some, None, Result, Ok, Err, map, length, drop, find, codes}
+use Rattle.std.specs.Option.{option_map}
+use Rattle.std.specs.List.{zip}
+use Rattle.ioa_compose.specs.Data.{Data, number, truth}
+use Rattle.ioa_compose.specs.Outcome.{and_then}
+use Rattle.ioa_values.specs.DataOrder.{same}
+use Rattle.ioa_values.specs.Sorts.{has_sort}
+use Rattle.ioa_terms.specs.Bindings.{Bindings, same_name}
+use Rattle.ioa_terms.specs.Meaning.{answer, answer_by}
+use Rattle.ioa_terms.specs.declared.tree.Kind.{Kind}
+use Rattle.ioa_terms.specs.declared.tree.Kind.TheVariants.{Input, Output, Internal}
+use Rattle.ioa_terms.specs.declared.action.Action.{Action}
+use Rattle.ioa_terms.specs.declared.action.Action.TheVariants.{Send, Receive, Local, Stimulus}
+use Rattle.ioa_terms.specs.declared.fault.TermFault.{TermFault}
+use Rattle.ioa_source.specs.PlainTerm.{PlainTerm}
+use Rattle.ioa_source.specs.PlainText.{PlainParameter, const, named, PlainEntry, PlainTransition, PlainVariable}
+use Rattle.ioa_source.specs.TextView.{entry_of, transition_of, variable_of}
+use Rattle.ioa_compose.specs.Parts.{Parts}
+use Rattle.ioa_compose.specs.Placed.{scope_of, own_names}
+use Rattle.ioa_compose.specs.NodeState.{NodeState, node_state}
+use Rattle.ioa_compose.specs.StepFaults.{step_fault}
+use Rattle.ioa_compose.specs.declared.program.Rule.{Rule}
+use Rattle.ioa_compose.specs.declared.fault.StepFault.{StepFault}
+use Rattle.ioa_compose.specs.declared.fault.StepFault.TheVariants.{NotEnabled, NotMine}
+
+-- the name of an action
+abbrev pub action_name : Action → List ℕ
+action_name (Send m i j) = codes "send"
+action_name (Receive m i j) = codes "receive"
+action_name (Local a) = a.name
+action_name (Stimulus a) = a.name
+
+-- the values of an action's arguments
+abbrev pub action_arguments : Action → List Data
+action_arguments (Send m i j) = m ∷ number i ∷ number j ∷ []
+action_arguments (Receive m i j) = m ∷ number i ∷ number j ∷ []
+action_arguments (Local a) = a.arguments
+action_arguments (Stimulus a) = a.arguments
+
+-- whether an action's kind is that of an entry: a send is the output `send`, a receive the input `receive`, a local
+-- action another output or an internal action, a stimulus another input (profile)
+abbrev pub kind_agrees : Action → Kind → Bool
+kind_agrees (Send m i j) Input = false
+kind_agrees (Send m i j) Output = true
+kind_agrees (Send m i j) Internal = false
+kind_agrees (Receive m i j) Input = true
+kind_agrees (Receive m i j) Output = false
+kind_agrees (Receive m i j) Internal = false
+kind_agrees (Local a) Input = false
+kind_agrees (Local a) Output = not (same_name a.name (codes "send"))
+kind_agrees (Local a) Internal = true
+kind_agrees (Stimulus a) Input = not (same_name a.name (codes "receive"))
+kind_agrees (Stimulus a) Output = false
+kind_agrees (Stimulus a) Internal = false
+
+-- whether a value is the one that a constant parameter has
+abbrev pub is_constant : Result Data TermFault → Data → Bool
+is_constant (Ok u) v = same u v
+is_constant (Err f) v = false
+
+-- whether arguments fit an entry's parameters: as many, of their sorts, and equal to the constants
+abbrev pub arguments_agree : List (PlainParameter ℕ) → List Data → Bool
+arguments_agree [] [] = true
+arguments_agree [] (v ∷ vs) = false
+arguments_agree (const t ∷ more) [] = false
+arguments_agree (named x s ∷ more) [] = false
+arguments_agree (const t ∷ more) (v ∷ vs) = is_constant (answer t []) v && arguments_agree more vs
+arguments_agree (named x s ∷ more) (v ∷ vs) = has_sort s v && arguments_agree more vs
+
+-- whether an action is one of an entry's
+abbrev pub entry_agrees : Action → PlainEntry ℕ → Bool
+entry_agrees a e = same_name e.name (action_name a) && (kind_agrees a e.kind && arguments_agree e.parameters (action_arguments a))
+
+-- the arguments that have names of their own
+abbrev pub own_values : List (PlainParameter ℕ) → List Data → List Data
+own_values [] vs = []
+own_values (p ∷ more) [] = []
+own_values (const t ∷ more) (v ∷ vs) = own_values more vs
+own_values (named x s ∷ more) (v ∷ vs) = v ∷ own_values more vs
+
+-- what guard and effect read: the entry's parameters and the state variables
+abbrev pub view_of : PlainEntry ℕ → List (PlainVariable ℕ) → Action → List Data → Bindings
+view_of e variables a vs = zip (scope_of e variables) (own_values e.parameters (action_arguments a) ++ vs)
+
+-- what a guard answers: nothing where it is true
+abbrev pub guarded : Result Data TermFault → Result (Unit {0}) StepFault
+guarded (Err f) = Err (step_fault f)
+guarded (Ok (number z)) = Err NotEnabled
+guarded (Ok (truth true)) = Ok tt
+guarded (Ok (truth false)) = Err NotEnabled
+
+abbrev pub guard_answer : Option (PlainTerm ℕ) → Bindings → Result (Unit {0}) StepFault
+guard_answer None e = Ok tt
+guard_answer (Some t) e = guarded (answer t e)
+
+-- the values of the state variables that an effect leaves, behind those of as many parameters
+abbrev pub left_by : ℕ → Result Bindings TermFault → Result (List Data) StepFault
+left_by n (Ok e) = Ok (drop n (map (λ b. b.1) e))
+left_by n (Err f) = Err (step_fault f)
+
+-- what a transition answers: the new values of the state variables, or the first fault of guard and effect
+abbrev pub transition_answer : PlainEntry ℕ → PlainTransition ℕ → Bindings → Result (List Data) StepFault
+transition_answer e t b = and_then (guard_answer t.pre b) (λ _. left_by (length (own_names e.parameters)) (answer_by t.effect b))
+
+-- the rule of an action: the first whose entry it is one of
+abbrev pub rule_for : Action → List Rule → Option Rule
+rule_for a rules = find (λ r. entry_agrees a (entry_of r.entry)) rules
+
+abbrev pub rule_answer : NodeState → Action → Option Rule → Result NodeState StepFault
+rule_answer c a None = Err NotMine
+rule_answer c a (Some r) =
+    and_then (transition_answer (entry_of r.entry) (transition_of r.transition) (view_of (entry_of r.entry) (map variable_of c.program.variables) a c.variables))
+      (λ vs. Ok (node_state c.program vs))
+
+-- what a node answers to an action: its new configuration, or why there is none
+unfoldable pub node_answer : NodeState → Action → Result NodeState StepFault
+node_answer c a = rule_answer c a (rule_for a c.program.rules)

@@ -1,0 +1,56 @@
+-- When each name of a program stands beside the place of its value.
+use Rattle.std.specs.Prelude.{◌≡◌, ℕ, List, [], ◌∷◌, ◌++◌, Option, Some, None, map, length, All}
+use Rattle.ioa_compose.specs.Data.{Data}
+use Rattle.ioa_terms.specs.Meaning.{IsPlaced, ArePlaced}
+use Rattle.ioa_source.specs.PlainTerm.{PlainTerm, PlainStatement, assign, fire}
+use Rattle.ioa_source.specs.View.{term_of, statement_of}
+use Rattle.ioa_source.specs.PlainText.{PlainParameter, const, named, PlainEntry, PlainVariable, PlainTransition}
+use Rattle.ioa_source.specs.TextView.{entry_of, variable_of, transition_of}
+use Rattle.ioa_compose.specs.Parts.{Parts}
+use Rattle.ioa_compose.specs.declared.program.Rule.{Rule}
+
+-- the names of an entry's own parameters
+abbrev pub own_names : {N : Type 0} → List (PlainParameter N) → List (List ℕ)
+own_names [] = []
+own_names (const t ∷ more) = own_names more
+own_names (named x s ∷ more) = x ∷ own_names more
+
+-- the names of variables
+abbrev pub variable_names : {N : Type 0} → List (PlainVariable N) → List (List ℕ)
+variable_names vs = map (λ v. v.name) vs
+
+-- the names in view in a transition: the entry's own parameters, and then the state variables
+abbrev pub scope_of : {N M : Type 0} → PlainEntry N → List (PlainVariable M) → List (List ℕ)
+scope_of e vs = own_names e.parameters ++ variable_names vs
+
+abbrev pub AreConstants : List (PlainParameter ℕ) → Type 0
+AreConstants [] = Unit {0}
+AreConstants (const t ∷ more) = IsPlaced t [] × AreConstants more
+AreConstants (named x s ∷ more) = AreConstants more
+
+abbrev pub IsPlacedGuard : Option (PlainTerm ℕ) → List (List ℕ) → Type 0
+IsPlacedGuard None names = Unit {0}
+IsPlacedGuard (Some t) names = IsPlaced t names
+
+-- a rule whose names stand beside the places of their values
+pub record IsPlacedRule (vs : List (PlainVariable ℕ)) (r : Rule) : Type 0 where
+  pub scope : r.scope.items ≡ scope_of (entry_of r.entry) vs
+  pub constants : AreConstants (entry_of r.entry).parameters
+  pub guard : IsPlacedGuard (transition_of r.transition).pre r.scope.items
+  pub effect : ArePlaced (transition_of r.transition).effect r.scope.items
+
+-- the arguments of each firing, placed among the variables
+abbrev pub ArePlacedTerms : List (PlainTerm ℕ) → List (List ℕ) → Type 0
+ArePlacedTerms [] names = Unit {0}
+ArePlacedTerms (t ∷ more) names = IsPlaced t names × ArePlacedTerms more names
+
+abbrev pub ArePlacedFirings : List (PlainStatement ℕ) → List (List ℕ) → Type 0
+ArePlacedFirings [] names = Unit {0}
+ArePlacedFirings (assign p t ∷ more) names = ArePlacedFirings more names
+ArePlacedFirings (fire k a ts ∷ more) names = ArePlacedTerms ts names × ArePlacedFirings more names
+
+-- a program whose names stand beside the places of their values
+pub record IsPlacedProgram (p : Parts) : Type 0 where
+  pub rules : All (IsPlacedRule (map variable_of p.variables)) p.rules
+  pub valued : length p.initial ≡ length p.variables
+  pub schedule : ArePlacedFirings (map statement_of p.schedule) (variable_names (map variable_of p.variables))

@@ -1,0 +1,76 @@
+//! Node configurations and their steps.
+
+ghost use Rattle.std.specs.Prelude.{◌≡◌, IfOk};
+ghost use Rattle.ioa_compose.specs.Outcome.{Answers};
+ghost use Rattle.ioa_compose.specs.NodeStep.{node_answer};
+ghost use Rattle.ioa_compose.specs.NodeState.{IsValued};
+
+use crate::fault::StepFault;
+use crate::program::Program;
+use ioa_terms::{Action, Values};
+use std::alloc::{AllocError, Global};
+use std::marker::Model;
+use std::sync::Arc;
+
+/// The configuration of a node: its program, which it shares, and the values of its state variables.
+#[derive(Debug, Drop)]
+pub struct NodeConf {
+    program: Arc<Program>,
+    variables: Values,
+}
+
+impl Model for NodeConf {
+    ghost use Rattle.std.specs.Arc.{arc_value};
+    ghost use Rattle.ioa_compose.specs.NodeState.{NodeState, node_state_code};
+
+    ghost Value = { NodeState };
+
+    ghost coded = { node_state_code };
+
+    ghost use Rattle.ioa_compose.specs.NodeState.{node_state, IsValued};
+
+    ghost view = { λ c. node_state (arc_value c.program) c.variables };
+
+    ghost invariant = { λ c. IsValued (node_state (arc_value c.program) c.variables) };
+}
+
+impl NodeConf {
+    /// The number of the node.
+    pub fn node(&self) -> i64
+        ensures { result ≡ self.now.program.node }
+    {
+        self.program.node()
+    }
+
+    /// The program of the node.
+    pub fn program(&self) -> &Program
+        ensures { result.now ≡ self.now.program }
+    {
+        &self.program
+    }
+
+    /// The values of the state variables, in the order of their declaration.
+    pub fn variables(&self) -> &Values
+        ensures { result.now ≡ self.now.variables }
+    {
+        &self.variables
+    }
+
+    /// An equal configuration with its own values; the program is shared.
+    pub fn try_copy(&self, alloc: Global) -> Result<Self, AllocError>
+        ensures { IfOk result (λ c. c ≡ self.now) }
+    {
+        let program = Arc::try_clone(&self.program)?;
+        let variables = self.variables.try_copy(alloc)?;
+        Ok(NodeConf { program, variables })
+    }
+
+    /// The configuration after an action (Lynch 8.1). `NotMine` where the action is not in the node's
+    /// signature; else the first fault of guard and effect: `Range` where a number met lies outside 64
+    /// bits, `Undefined` where a part has no value, `NotEnabled` where the guard is not true.
+    pub fn step(&self, _alloc: Global, action: &Action) -> Result<Self, StepFault>
+        ensures { Answers StepFault.Memory (λ c. c) result (node_answer self.now action.now) }
+    {
+        Err(StepFault::Memory)
+    }
+}

@@ -1,0 +1,90 @@
+//! The program of a node: its automaton, made ready to step.
+
+ghost use Rattle.std.specs.Prelude.{◌≡◌, All, map, length};
+ghost use Rattle.ioa_source.specs.View.{statement_of};
+ghost use Rattle.ioa_source.specs.TextView.{variable_of};
+ghost use Rattle.ioa_compose.specs.Placed.{IsPlacedRule, ArePlacedFirings, variable_names};
+
+use ioa_source::{Entry, Transition, Variable};
+use ioa_terms::{Statement, Value, Word};
+use std::marker::Model;
+
+/// An entry of a signature with its transition, and the names in view there: the entry's own
+/// parameters, and then the state variables.
+#[derive(Debug, Drop)]
+pub struct Rule {
+    /// The entry.
+    pub entry: Entry<usize>,
+    /// Its transition.
+    pub transition: Transition<usize>,
+    /// The names that guard and effect may read, each at the place that stands beside it there.
+    pub scope: Vec<Word>,
+}
+
+/// A node's program. Its type keeps that each name stands beside the place of its value.
+#[derive(Debug, Drop)]
+pub struct Program {
+    node: i64,
+    rules: Vec<Rule>,
+    variables: Vec<Variable<usize>>,
+    initial: Vec<Value>,
+    schedule: Vec<Statement<usize>>,
+}
+
+impl Model for Program {
+    ghost use Rattle.ioa_compose.specs.Parts.{Parts, parts_code};
+
+    ghost Value = { Parts };
+
+    ghost coded = { parts_code };
+
+    ghost use Rattle.ioa_compose.specs.Parts.{parts};
+
+    ghost view = { λ p. parts p.node p.rules.items p.variables.items p.initial.items p.schedule.items };
+
+    ghost use Rattle.ioa_compose.specs.Placed.{IsPlacedProgram};
+
+    ghost invariant = { λ p. IsPlacedProgram (parts p.node p.rules.items p.variables.items p.initial.items p.schedule.items) };
+}
+
+impl Program {
+    /// The number of its node.
+    pub fn node(&self) -> i64
+        ensures { result ≡ self.now.node }
+    {
+        self.node
+    }
+
+    /// The entries with their transitions, in the order of the signature.
+    pub fn rules(&self) -> &[Rule]
+        ensures value { result.now ≡ self.now.rules }
+        ensures placed { All (IsPlacedRule (map variable_of self.now.variables)) result.now }
+    {
+        self.rules.as_slice()
+    }
+
+    /// The state variables, in the order of their declaration.
+    pub fn variables(&self) -> &[Variable<usize>]
+        ensures { result.now ≡ self.now.variables }
+    {
+        self.variables.as_slice()
+    }
+
+    /// The values of the state variables in the start state.
+    pub fn initial(&self) -> &[Value]
+        ensures value { result.now ≡ self.now.initial }
+        ensures valued { length result.now ≡ length self.now.variables }
+    {
+        self.initial.as_slice()
+    }
+
+    /// The statements of the schedule block.
+    pub fn schedule(&self) -> &[Statement<usize>]
+        ensures value { result.now ≡ self.now.schedule }
+        ensures placed {
+            ArePlacedFirings (map statement_of result.now) (variable_names (map variable_of self.now.variables))
+        }
+    {
+        self.schedule.as_slice()
+    }
+}

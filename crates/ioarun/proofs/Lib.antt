@@ -1,0 +1,2 @@
+-- lemmas of the program
+mod Appended
