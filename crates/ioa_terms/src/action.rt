@@ -40,12 +40,20 @@ impl Values {
     pub fn try_copy(&self, alloc: Global) -> Result<Self, AllocError>
         ensures { IfOk result (λ v. v ≡ self.now) }
     {
-        let mut items = Vec::new(alloc);
-        for value in &self.items {
-            items.push(value.try_copy(alloc)?)?;
-        }
+        let items = copies(alloc, self.items.as_slice())?;
         Ok(Values { items })
     }
+}
+
+/// Copies of values, in order.
+pub fn copies(alloc: Global, values: &[Value]) -> Result<Vec<Value>, AllocError>
+    ensures { IfOk result (λ v. v.items ≡ values.now) }
+{
+    let mut items = Vec::new(alloc);
+    for value in values {
+        items.push(value.try_copy(alloc)?)?;
+    }
+    Ok(items)
 }
 
 /// An action of one node, by its name.

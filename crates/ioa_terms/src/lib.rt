@@ -9,7 +9,7 @@ mod fault;
 mod performance;
 mod tree;
 
-pub use action::{Action, NodeAction, Values};
+pub use action::{Action, NodeAction, Values, copies};
 pub use component::Component;
 pub use environment::Env;
 pub use evaluation::eval;

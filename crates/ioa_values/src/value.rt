@@ -3,7 +3,9 @@
 ghost use Rattle.std.specs.Prelude.{◌≡◌, ◌↔◌, IfOk, IsTrue, true};
 ghost use Rattle.ioa_values.specs.Data.{number, truth, as_number, as_truth, is_within};
 ghost use Rattle.ioa_values.specs.DataOrder.{same, data_cmp};
+ghost use Rattle.ioa_values.specs.Sorts.{has_sort};
 
+use crate::sort::Sort;
 use std::alloc::{AllocError, Global};
 use std::cmp::Ordering;
 use std::marker::Model;
@@ -67,6 +69,15 @@ impl Value {
         match &self.node {
             Node::Number(_) => None,
             Node::Truth(b) => Some(*b),
+        }
+    }
+
+    /// Whether the value has a sort.
+    pub fn has_sort(&self, sort: Sort) -> bool
+        ensures { result ≡ has_sort sort self.now }
+    {
+        match sort {
+            Sort::Int => self.as_number().is_some(),
         }
     }
 

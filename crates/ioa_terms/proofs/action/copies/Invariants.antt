@@ -1,6 +1,6 @@
 use Rattle.std.proofs.Common.{◌≡◌, take}
-use Rattle.ioa_terms.proofs.action.Values.try_copy.Given as goal
+use Rattle.ioa_terms.proofs.action.copies.Given as goal
 
 -- the copies so far are the values gone by
 abbrev pub invariant-loop-value : goal.invariant-loop-value
-invariant-loop-value l = l.items.items ≡ take l.value-index l.self
+invariant-loop-value l = l.items.items ≡ take l.value-index l.values

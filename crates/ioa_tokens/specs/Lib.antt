@@ -1,0 +1,4 @@
+-- what the contracts of this crate cite
+pub mod Spelling
+pub mod Piece
+pub mod Tokens

@@ -1,0 +1,161 @@
+//! How the signs and the words of the language are spelled.
+
+ghost use Rattle.std.specs.Prelude.{◌≡◌, nat_eq};
+ghost use Rattle.std.specs.List.{starts_with};
+ghost use Rattle.std.specs.Map.{lookup, lookup_entry};
+ghost use Rattle.std.specs.Option.{option_map};
+ghost use Rattle.std.specs.Str.{bytes_eq};
+ghost use Rattle.ioa_tokens.specs.Spelling as spec;
+
+use crate::mark::{LeftOut, Mark};
+
+/// The signs, longest first, but `\in`, which is spelled with letters.
+static SIGNS: [(&str, Mark); 30] = [
+    ("<=>", Mark::Equivalent),
+    ("/\\", Mark::And),
+    ("\\/", Mark::Or),
+    ("~=", Mark::NotEqual),
+    ("=>", Mark::Implies),
+    ("<=", Mark::AtMost),
+    (">=", Mark::AtLeast),
+    ("->", Mark::Arrow),
+    ("-|", Mark::Prepend),
+    ("|-", Mark::Append),
+    ("||", Mark::Concatenate),
+    (":=", Mark::Assign),
+    ("~", Mark::Not),
+    ("=", Mark::Equal),
+    ("<", Mark::Less),
+    (">", Mark::Greater),
+    ("+", Mark::Plus),
+    ("-", Mark::Minus),
+    ("*", Mark::Times),
+    (".", Mark::Dot),
+    (",", Mark::Comma),
+    (";", Mark::Semicolon),
+    (":", Mark::Colon),
+    ("(", Mark::OpenRound),
+    (")", Mark::CloseRound),
+    ("[", Mark::OpenSquare),
+    ("]", Mark::CloseSquare),
+    ("{", Mark::OpenBrace),
+    ("}", Mark::CloseBrace),
+    ("@", Mark::At),
+];
+
+/// The reserved words, and the sign that is spelled with letters.
+static RESERVED: [(&str, Mark); 41] = [
+    ("automaton", Mark::Automaton),
+    ("signature", Mark::Signature),
+    ("states", Mark::States),
+    ("transitions", Mark::Transitions),
+    ("schedule", Mark::Schedule),
+    ("input", Mark::Input),
+    ("output", Mark::Output),
+    ("internal", Mark::Internal),
+    ("const", Mark::Const),
+    ("where", Mark::Where),
+    ("pre", Mark::Pre),
+    ("eff", Mark::Eff),
+    ("if", Mark::If),
+    ("then", Mark::Then),
+    ("elseif", Mark::ElseIf),
+    ("else", Mark::Else),
+    ("fi", Mark::Fi),
+    ("while", Mark::While),
+    ("do", Mark::Do),
+    ("od", Mark::Od),
+    ("fire", Mark::Fire),
+    ("type", Mark::Type),
+    ("enumeration", Mark::Enumeration),
+    ("tuple", Mark::Tuple),
+    ("of", Mark::Of),
+    ("true", Mark::True),
+    ("false", Mark::False),
+    ("system", Mark::System),
+    ("node", Mark::Node),
+    ("channel", Mark::Channel),
+    ("script", Mark::Script),
+    ("invariant", Mark::Invariant),
+    ("yield", Mark::Yield),
+    ("unordered", Mark::Unordered),
+    ("Bool", Mark::Bool),
+    ("Int", Mark::Int),
+    ("Nat", Mark::Nat),
+    ("Seq", Mark::Seq),
+    ("Set", Mark::Set),
+    ("Map", Mark::Map),
+    ("\\in", Mark::Member),
+];
+
+/// The left-out words.
+static LEFT_OUT: [(&str, LeftOut); 19] = [
+    ("uses", LeftOut::Uses),
+    ("assumes", LeftOut::Assumes),
+    ("components", LeftOut::Components),
+    ("hidden", LeftOut::Hidden),
+    ("tasks", LeftOut::Tasks),
+    ("for", LeftOut::For),
+    ("local", LeftOut::Local),
+    ("so", LeftOut::So),
+    ("forward", LeftOut::Forward),
+    ("backward", LeftOut::Backward),
+    ("Array", LeftOut::Array),
+    ("Mset", LeftOut::Mset),
+    ("Null", LeftOut::Null),
+    ("String", LeftOut::String),
+    ("Char", LeftOut::Char),
+    ("Real", LeftOut::Real),
+    ("\\A", LeftOut::ForAll),
+    ("\\E", LeftOut::Exists),
+    ("choose", LeftOut::Choose),
+];
+
+/// The first row of a table whose spelling a text begins with.
+fn row_at_head<T: Copy>(table: &[(&'static str, T)], text: &[u8]) -> Option<(&'static str, T)>
+    ensures { option_map spec.spelled_row result
+        ≡ lookup_entry (starts_with nat_eq text.now) (spec.spelled table.now) }
+{
+    for (spelling, meaning) in table {
+        if text.starts_with(spelling.as_bytes()) {
+            return Some((*spelling, *meaning));
+        }
+    }
+    None
+}
+
+/// What a table has for a word.
+fn meaning<T: Copy>(table: &[(&str, T)], word: &[u8]) -> Option<T>
+    ensures { result ≡ lookup (bytes_eq word.now) (spec.spelled table.now) }
+{
+    for (spelling, meaning) in table {
+        if word == spelling.as_bytes() {
+            return Some(*meaning);
+        }
+    }
+    None
+}
+
+/// The longest sign that a text begins with, and its spelling.
+#[tactic(auto, unfolding(crate::specs::Spelling::signs))]
+pub(crate) fn sign_at(text: &[u8]) -> Option<(&'static str, Mark)>
+    ensures { option_map spec.spelled_row result ≡ spec.sign_at_head text.now }
+{
+    row_at_head(&SIGNS, text)
+}
+
+/// The mark of a reserved word.
+#[tactic(auto, unfolding(crate::specs::Spelling::reserved_words))]
+pub(crate) fn reserved_word(word: &[u8]) -> Option<Mark>
+    ensures { result ≡ spec.reserved_word word.now }
+{
+    meaning(&RESERVED, word)
+}
+
+/// The left-out word of these bytes.
+#[tactic(auto, unfolding(crate::specs::Spelling::left_out_words))]
+pub(crate) fn left_out_word(word: &[u8]) -> Option<LeftOut>
+    ensures { result ≡ spec.left_out_word word.now }
+{
+    meaning(&LEFT_OUT, word)
+}
