@@ -1,5 +1,5 @@
 -- Steps of a node's automaton (Lynch 8.1).
-use Rattle.std.specs.Prelude.{◌≡◌, ℕ, ℤ, Bool, true, false, not, ◌&&◌, if◌then◌else◌, List, [], ◌∷◌, ◌++◌, Option, Some, None, Result, Ok, Err, map, length, drop, find, codes}
+use Rattle.std.specs.Prelude.{◌≡◌, ℕ, ℤ, Bool, true, false, not, ◌&&◌, if◌then◌else◌, List, [], ◌∷◌, ◌++◌, Option, Some, None, Result, Ok, Err, map, length, take, find, codes}
 use Rattle.std.specs.Option.{option_map}
 use Rattle.std.specs.List.{zip}
 use Rattle.ioa_compose.specs.Data.{Data, number, truth}
@@ -17,7 +17,7 @@ use Rattle.ioa_source.specs.PlainTerm.{PlainTerm}
 use Rattle.ioa_source.specs.PlainText.{PlainParameter, const, named, PlainEntry, PlainTransition, PlainVariable}
 use Rattle.ioa_source.specs.TextView.{entry_of, transition_of, variable_of}
 use Rattle.ioa_compose.specs.Parts.{Parts}
-use Rattle.ioa_compose.specs.Placed.{scope_of, own_names}
+use Rattle.ioa_compose.specs.Placed.{scope_of}
 use Rattle.ioa_compose.specs.NodeState.{NodeState, node_state}
 use Rattle.ioa_compose.specs.StepFaults.{step_fault}
 use Rattle.ioa_compose.specs.declared.program.Rule.{Rule}
@@ -59,29 +59,36 @@ abbrev pub is_constant : Result Data TermFault → Data → Bool
 is_constant (Ok u) v = same u v
 is_constant (Err f) v = false
 
--- whether arguments fit an entry's parameters: as many, of their sorts, and equal to the constants
+-- whether a value fits a parameter: it is the constant, or has the sort
+abbrev pub parameter_agrees : PlainParameter ℕ → Data → Bool
+parameter_agrees (const t) v = is_constant (answer t []) v
+parameter_agrees (named x s) v = has_sort s v
+
+-- whether arguments fit an entry's parameters: as many, and each fits its own
 abbrev pub arguments_agree : List (PlainParameter ℕ) → List Data → Bool
 arguments_agree [] [] = true
 arguments_agree [] (v ∷ vs) = false
-arguments_agree (const t ∷ more) [] = false
-arguments_agree (named x s ∷ more) [] = false
-arguments_agree (const t ∷ more) (v ∷ vs) = is_constant (answer t []) v && arguments_agree more vs
-arguments_agree (named x s ∷ more) (v ∷ vs) = has_sort s v && arguments_agree more vs
+arguments_agree (p ∷ more) [] = false
+arguments_agree (p ∷ more) (v ∷ vs) = parameter_agrees p v && arguments_agree more vs
 
 -- whether an action is one of an entry's
 abbrev pub entry_agrees : Action → PlainEntry ℕ → Bool
 entry_agrees a e = same_name e.name (action_name a) && (kind_agrees a e.kind && arguments_agree e.parameters (action_arguments a))
 
+-- the argument of a parameter that has a name of its own
+abbrev pub own_value : PlainParameter ℕ → Data → List Data
+own_value (const t) v = []
+own_value (named x s) v = v ∷ []
+
 -- the arguments that have names of their own
 abbrev pub own_values : List (PlainParameter ℕ) → List Data → List Data
 own_values [] vs = []
 own_values (p ∷ more) [] = []
-own_values (const t ∷ more) (v ∷ vs) = own_values more vs
-own_values (named x s ∷ more) (v ∷ vs) = v ∷ own_values more vs
+own_values (p ∷ more) (v ∷ vs) = own_value p v ++ own_values more vs
 
--- what guard and effect read: the entry's parameters and the state variables
+-- what guard and effect read: the state variables and the entry's own parameters
 abbrev pub view_of : PlainEntry ℕ → List (PlainVariable ℕ) → Action → List Data → Bindings
-view_of e variables a vs = zip (scope_of e variables) (own_values e.parameters (action_arguments a) ++ vs)
+view_of e variables a vs = zip (scope_of e variables) (vs ++ own_values e.parameters (action_arguments a))
 
 -- what a guard answers: nothing where it is true
 abbrev pub guarded : Result Data TermFault → Result (Unit {0}) StepFault
@@ -94,25 +101,29 @@ abbrev pub guard_answer : Option (PlainTerm ℕ) → Bindings → Result (Unit {
 guard_answer None e = Ok tt
 guard_answer (Some t) e = guarded (answer t e)
 
--- the values of the state variables that an effect leaves, behind those of as many parameters
+-- the values of the state variables that an effect leaves
 abbrev pub left_by : ℕ → Result Bindings TermFault → Result (List Data) StepFault
-left_by n (Ok e) = Ok (drop n (map (λ b. b.1) e))
+left_by n (Ok e) = Ok (take n (map (λ b. b.1) e))
 left_by n (Err f) = Err (step_fault f)
 
--- what a transition answers: the new values of the state variables, or the first fault of guard and effect
-abbrev pub transition_answer : PlainEntry ℕ → PlainTransition ℕ → Bindings → Result (List Data) StepFault
-transition_answer e t b = and_then (guard_answer t.pre b) (λ _. left_by (length (own_names e.parameters)) (answer_by t.effect b))
+-- what a transition answers over n state variables: their new values, or the first fault of guard and effect
+abbrev pub transition_answer : ℕ → PlainTransition ℕ → Bindings → Result (List Data) StepFault
+transition_answer n t b = and_then (guard_answer t.pre b) (λ _. left_by n (answer_by t.effect b))
 
 -- the rule of an action: the first whose entry it is one of
 abbrev pub rule_for : Action → List Rule → Option Rule
 rule_for a rules = find (λ r. entry_agrees a (entry_of r.entry)) rules
 
-abbrev pub rule_answer : NodeState → Action → Option Rule → Result NodeState StepFault
-rule_answer c a None = Err NotMine
-rule_answer c a (Some r) =
-    and_then (transition_answer (entry_of r.entry) (transition_of r.transition) (view_of (entry_of r.entry) (map variable_of c.program.variables) a c.variables))
-      (λ vs. Ok (node_state c.program vs))
+-- what a program leaves of its variables' values by the rule of an action
+abbrev pub rule_answer : Parts → List Data → Action → Option Rule → Result (List Data) StepFault
+rule_answer p vs a None = Err NotMine
+rule_answer p vs a (Some r) =
+    transition_answer (length vs) (transition_of r.transition) (view_of (entry_of r.entry) (map variable_of p.variables) a vs)
+
+-- what a program leaves of its variables' values by an action, or why the action is no step
+abbrev pub program_answer : Parts → List Data → Action → Result (List Data) StepFault
+program_answer p vs a = rule_answer p vs a (rule_for a p.rules)
 
 -- what a node answers to an action: its new configuration, or why there is none
 unfoldable pub node_answer : NodeState → Action → Result NodeState StepFault
-node_answer c a = rule_answer c a (rule_for a c.program.rules)
+node_answer c a = and_then (program_answer c.program c.variables a) (λ vs. Ok (node_state c.program vs))

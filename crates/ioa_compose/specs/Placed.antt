@@ -19,14 +19,18 @@ own_names (named x s ∷ more) = x ∷ own_names more
 abbrev pub variable_names : {N : Type 0} → List (PlainVariable N) → List (List ℕ)
 variable_names vs = map (λ v. v.name) vs
 
--- the names in view in a transition: the entry's own parameters, and then the state variables
+-- the names in view in a transition: the state variables, and then the entry's own parameters
 abbrev pub scope_of : {N M : Type 0} → PlainEntry N → List (PlainVariable M) → List (List ℕ)
-scope_of e vs = own_names e.parameters ++ variable_names vs
+scope_of e vs = variable_names vs ++ own_names e.parameters
 
-abbrev pub AreConstants : List (PlainParameter ℕ) → Type 0
-AreConstants [] = Unit {0}
-AreConstants (const t ∷ more) = IsPlaced t [] × AreConstants more
-AreConstants (named x s ∷ more) = AreConstants more
+-- a constant parameter reads no name
+abbrev pub IsPlacedParameter : PlainParameter ℕ → Type 0
+IsPlacedParameter (const t) = IsPlaced t []
+IsPlacedParameter (named x s) = Unit {0}
+
+abbrev pub ArePlacedParameters : List (PlainParameter ℕ) → Type 0
+ArePlacedParameters [] = Unit {0}
+ArePlacedParameters (p ∷ more) = IsPlacedParameter p × ArePlacedParameters more
 
 abbrev pub IsPlacedGuard : Option (PlainTerm ℕ) → List (List ℕ) → Type 0
 IsPlacedGuard None names = Unit {0}
@@ -35,7 +39,7 @@ IsPlacedGuard (Some t) names = IsPlaced t names
 -- a rule whose names stand beside the places of their values
 pub record IsPlacedRule (vs : List (PlainVariable ℕ)) (r : Rule) : Type 0 where
   pub scope : r.scope.items ≡ scope_of (entry_of r.entry) vs
-  pub constants : AreConstants (entry_of r.entry).parameters
+  pub parameters : ArePlacedParameters (entry_of r.entry).parameters
   pub guard : IsPlacedGuard (transition_of r.transition).pre r.scope.items
   pub effect : ArePlaced (transition_of r.transition).effect r.scope.items
 

@@ -4,6 +4,7 @@
 mod fault;
 mod node;
 mod program;
+mod rule;
 
 pub use fault::StepFault;
 pub use node::NodeConf;

@@ -7,6 +7,7 @@ ghost use Rattle.ioa_compose.specs.NodeState.{IsValued};
 
 use crate::fault::StepFault;
 use crate::program::Program;
+use crate::rule::values_after;
 use ioa_terms::{Action, Values};
 use std::alloc::{AllocError, Global};
 use std::marker::Model;
@@ -68,9 +69,13 @@ impl NodeConf {
     /// The configuration after an action (Lynch 8.1). `NotMine` where the action is not in the node's
     /// signature; else the first fault of guard and effect: `Range` where a number met lies outside 64
     /// bits, `Undefined` where a part has no value, `NotEnabled` where the guard is not true.
-    pub fn step(&self, _alloc: Global, action: &Action) -> Result<Self, StepFault>
+    #[tactic(auto, unfolding(crate::specs::NodeStep::node_answer))]
+    pub fn step(&self, alloc: Global, action: &Action) -> Result<Self, StepFault>
         ensures { Answers StepFault.Memory (λ c. c) result (node_answer self.now action.now) }
     {
-        Err(StepFault::Memory)
+        let values = self.variables.as_slice();
+        let variables = Values::from_vec(values_after(alloc, &self.program, values, action)?);
+        let program = Arc::try_clone(&self.program)?;
+        Ok(NodeConf { program, variables })
     }
 }

@@ -1,8 +1,9 @@
 //! Environments in which terms are evaluated.
 
-ghost use Rattle.std.specs.Prelude.{◌≡◌, slice_get};
+ghost use Rattle.std.specs.Prelude.{◌≡◌, slice_get, length};
 ghost use Rattle.std.specs.Option.{option_copied, option_map};
 ghost use Rattle.std.specs.List.{zip};
+ghost use Rattle.ioa_terms.specs.Bindings.{names_of};
 
 use ioa_values::{Value, Word};
 use std::marker::Model;
@@ -25,10 +26,12 @@ impl<'a> Model for Env<'a> {
 }
 
 impl<'a> Env<'a> {
+    #[tactic(auto, using(crate::proofs::Places::names_zip))]
     /// The environment of these names and values, the first value under the first name; what is left
     /// over of either counts for nothing.
     pub fn new(names: &'a [Word], values: &'a [Value]) -> Self
-        ensures { result ≡ zip names.now values.now }
+        ensures value { result ≡ zip names.now values.now }
+        ensures names { length names.now ≡ length values.now → names_of result ≡ names.now }
     {
         Env { names, values }
     }

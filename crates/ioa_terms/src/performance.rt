@@ -28,10 +28,11 @@ pub fn perform(
 ) -> Result<Vec<Value>, TermFault>
     requires placed { ArePlaced (map statement_of statements.now) names.now }
     requires named { length names.now ≡ length values.items }
-    ensures {
+    ensures after {
         Answers TermFault.Memory (λ vs. zip names.now vs.items) result
             (answer_by (map statement_of statements.now) (zip names.now values.items))
     }
+    ensures named { IfOk result (λ vs. length names.now ≡ length vs.items) }
 {
     performed(alloc, statements, names, values)
 }
@@ -44,10 +45,11 @@ fn performed(
 ) -> Result<Vec<Value>, TermFault>
     requires placed { ArePlaced (map statement_of statements.now) names.now }
     requires named { length names.now ≡ length values.items }
-    ensures {
+    ensures after {
         Answers TermFault.Memory (λ vs. zip names.now vs.items) result
             (bounded_by (map statement_of statements.now) (zip names.now values.items))
     }
+    ensures named { IfOk result (λ vs. length names.now ≡ length vs.items) }
 {
     for statement in statements {
         values = perform_one(alloc, statement, names, values)?;

@@ -1,0 +1,10 @@
+use Rattle.std.proofs.Common.{◌≡◌, ℕ, sym, map, arith}
+use Rattle.std.proofs.lemmas.List.{length-map}
+use Rattle.ioa_source.specs.TextView.{parameter_of}
+use Rattle.ioa_compose.proofs.Arguments.{arguments_agree_short}
+use Rattle.ioa_compose.proofs.rule.arguments_agree.Goals as goal
+
+pub returns-then-parameters-arguments : goal.returns-then-parameters-arguments
+returns-then-parameters-arguments c =
+    let n = length-map c.args.parameters.now (parameter_of {N = ℕ}) in
+    sym (arguments_agree_short (map parameter_of c.args.parameters.now) c.args.arguments.now (λ e. omega arith))

@@ -1,0 +1,296 @@
+//! Which rule of a program an action takes, and what it leaves.
+
+ghost use Rattle.std.specs.Prelude.{◌≡◌, ◌++◌, ◌≤◌, [], ◌∷◌, IfOk, OnOk, IfSome, true, map, length};
+ghost use Rattle.std.specs.Option.{option_copied, option_map};
+ghost use Rattle.std.specs.List.{zip};
+ghost use Rattle.ioa_source.specs.TextView.{entry_of, transition_of, variable_of, parameter_of};
+ghost use Rattle.ioa_source.specs.View.{term_of, statement_of};
+ghost use Rattle.ioa_compose.specs.Data.{number};
+ghost use Rattle.ioa_compose.specs.Outcome.{Answers};
+ghost use Rattle.ioa_compose.specs.Placed.{IsPlacedRule, IsPlacedGuard, IsPlacedParameter, ArePlacedParameters};
+ghost use Rattle.ioa_compose.specs.NodeStep as spec;
+ghost use Rattle.ioa_terms.specs.Meaning.{ArePlaced, IsPlaced, answer, answer_by};
+ghost use Rattle.ioa_terms.specs.Bindings.{names_of};
+
+use crate::fault::StepFault;
+use crate::program::{Program, Rule};
+use ioa_source::{Entry, Parameter};
+use ioa_terms::{
+    Action, Checked, Env, Kind, Statement, TermFault, Value, Word, copies, eval, perform,
+};
+use std::alloc::{AllocError, Global};
+
+/// The name of an action.
+fn name_of(action: &Action) -> &str
+    ensures { result.now ≡ spec.action_name action.now }
+{
+    match action {
+        Action::Send(_, _, _) => "send",
+        Action::Receive(_, _, _) => "receive",
+        Action::Local(local) => local.name.as_str(),
+        Action::Stimulus(stimulus) => stimulus.name.as_str(),
+    }
+}
+
+/// The values of an action's arguments, all of them.
+pub fn arguments_of(alloc: Global, action: &Action) -> Result<Vec<Value>, AllocError>
+    ensures { IfOk result (λ v. v.items ≡ spec.action_arguments action.now) }
+{
+    match action {
+        Action::Send(message, from, to) | Action::Receive(message, from, to) => {
+            message_arguments(alloc, message, *from, *to)
+        }
+        Action::Local(local) => copies(alloc, local.arguments.as_slice()),
+        Action::Stimulus(stimulus) => copies(alloc, stimulus.arguments.as_slice()),
+    }
+}
+
+/// The arguments of a send or a receive.
+fn message_arguments(
+    alloc: Global,
+    message: &Value,
+    from: i64,
+    to: i64,
+) -> Result<Vec<Value>, AllocError>
+    ensures { IfOk result (λ v. v.items ≡ message.now ∷ number from ∷ number to ∷ []) }
+{
+    let mut arguments = Vec::new(alloc);
+    arguments.push(message.try_copy(alloc)?)?;
+    arguments.push(Value::number(from))?;
+    arguments.push(Value::number(to))?;
+    Ok(arguments)
+}
+
+/// Whether an action's kind is an entry's.
+fn kind_agrees(action: &Action, kind: Kind) -> bool
+    ensures { result ≡ spec.kind_agrees action.now kind }
+{
+    match action {
+        Action::Send(_, _, _) => kind == Kind::Output,
+        Action::Receive(_, _, _) => kind == Kind::Input,
+        Action::Local(local) => match kind {
+            Kind::Input => false,
+            Kind::Output => local.name.as_str() != "send",
+            Kind::Internal => true,
+        },
+        Action::Stimulus(stimulus) => match kind {
+            Kind::Input => stimulus.name.as_str() != "receive",
+            Kind::Output => false,
+            Kind::Internal => false,
+        },
+    }
+}
+
+/// Whether a value fits a parameter.
+fn parameter_agrees(
+    alloc: Global,
+    parameter: &Parameter<usize>,
+    value: &Value,
+) -> Result<bool, AllocError>
+    requires { IsPlacedParameter (parameter_of parameter.now) }
+    ensures { IfOk result (λ b. b ≡ spec.parameter_agrees (parameter_of parameter.now) value.now) }
+{
+    match parameter {
+        Parameter::Const(term) => is_constant(alloc, term, value),
+        Parameter::Declared(_, sort) => Ok(value.has_sort(*sort)),
+    }
+}
+
+/// Whether a value is the one of a term that reads no name.
+fn is_constant(alloc: Global, term: &Checked, value: &Value) -> Result<bool, AllocError>
+    requires { IsPlaced (term_of term.now) [] }
+    ensures { IfOk result (λ b. b ≡ spec.is_constant (answer (term_of term.now) []) value.now) }
+{
+    match eval(alloc, term, &Env::new(&[], &[])) {
+        Ok(constant) => Ok(constant.equals(value)),
+        Err(TermFault::Undefined) => Ok(false),
+        Err(TermFault::Range) => Ok(false),
+        Err(TermFault::Memory) => Err(AllocError),
+    }
+}
+
+/// Whether arguments fit an entry's parameters.
+fn arguments_agree(
+    alloc: Global,
+    parameters: &[Parameter<usize>],
+    arguments: &[Value],
+) -> Result<bool, AllocError>
+    requires { ArePlacedParameters (map parameter_of parameters.now) }
+    ensures { IfOk result (λ b. b ≡ spec.arguments_agree (map parameter_of parameters.now) arguments.now) }
+{
+    if parameters.len() != arguments.len() {
+        return Ok(false);
+    }
+    for i in 0..parameters.len() {
+        if !parameter_agrees(alloc, &parameters[i], &arguments[i])? {
+            return Ok(false);
+        }
+    }
+    Ok(true)
+}
+
+/// Whether an action, with these arguments, is one of an entry's.
+fn entry_agrees(
+    alloc: Global,
+    entry: &Entry<usize>,
+    action: &Action,
+    arguments: &[Value],
+) -> Result<bool, AllocError>
+    requires placed { ArePlacedParameters (entry_of entry.now).parameters }
+    requires own { arguments.now ≡ spec.action_arguments action.now }
+    ensures { IfOk result (λ b. b ≡ spec.entry_agrees action.now (entry_of entry.now)) }
+{
+    if entry.name.as_str() != name_of(action) {
+        return Ok(false);
+    }
+    if !kind_agrees(action, entry.kind) {
+        return Ok(false);
+    }
+    arguments_agree(alloc, &entry.parameters, arguments)
+}
+
+/// The rule that an action takes, with these arguments, where there is one.
+pub fn rule_for<'a>(
+    alloc: Global,
+    program: &'a Program,
+    action: &Action,
+    arguments: &[Value],
+) -> Result<Option<&'a Rule>, AllocError>
+    requires { arguments.now ≡ spec.action_arguments action.now }
+    ensures found { IfOk result (λ r. option_copied r ≡ spec.rule_for action.now program.now.rules) }
+    ensures placed {
+        IfOk result (λ r. IfSome r (λ x. IsPlacedRule (map variable_of program.now.variables) x.now))
+    }
+    ensures agrees {
+        IfOk result (λ r. IfSome r (λ x. spec.entry_agrees action.now (entry_of x.now.entry) ≡ true))
+    }
+{
+    for rule in program.rules() {
+        if entry_agrees(alloc, &rule.entry, action, arguments)? {
+            return Ok(Some(rule));
+        }
+    }
+    Ok(None)
+}
+
+/// What a program leaves of its state variables' values by an action.
+pub fn values_after(
+    alloc: Global,
+    program: &Program,
+    variables: &[Value],
+    action: &Action,
+) -> Result<Vec<Value>, StepFault>
+    requires { length variables.now ≡ length program.now.variables }
+    ensures after {
+        Answers StepFault.Memory (λ v. v.items) result
+            (spec.program_answer program.now variables.now action.now)
+    }
+    ensures valued { IfOk result (λ v. length v.items ≡ length variables.now) }
+{
+    let arguments = arguments_of(alloc, action)?;
+    match rule_for(alloc, program, action, &arguments)? {
+        None => Err(StepFault::NotMine),
+        Some(rule) => take_transition(alloc, rule, &arguments, variables),
+    }
+}
+
+/// What a transition leaves of the state variables: guard first, then effect.
+fn take_transition(
+    alloc: Global,
+    rule: &Rule,
+    arguments: &[Value],
+    variables: &[Value],
+) -> Result<Vec<Value>, StepFault>
+    requires guard { IsPlacedGuard (transition_of rule.now.transition).pre rule.now.scope.items }
+    requires effect { ArePlaced (transition_of rule.now.transition).effect rule.now.scope.items }
+    requires named {
+        length rule.now.scope.items
+            ≡ length (variables.now ++ spec.own_values (entry_of rule.now.entry).parameters arguments.now)
+    }
+    ensures after {
+        Answers StepFault.Memory (λ v. v.items) result
+            (spec.transition_answer (length variables.now) (transition_of rule.now.transition)
+                (zip rule.now.scope.items
+                    (variables.now ++ spec.own_values (entry_of rule.now.entry).parameters arguments.now)))
+    }
+    ensures valued { IfOk result (λ v. length v.items ≡ length variables.now) }
+{
+    let values = values_in_view(alloc, &rule.entry, arguments, variables)?;
+    pass_guard(alloc, &rule.transition.pre, &Env::new(&rule.scope, &values))?;
+    take_effect(alloc, &rule.transition.effect, &rule.scope, values, variables.len())
+}
+
+/// The values that an effect leaves, of the first `count` names.
+#[tactic(auto, using(crate::proofs::Arguments::left_by_zip))]
+fn take_effect(
+    alloc: Global,
+    effect: &[Statement<usize>],
+    scope: &[Word],
+    values: Vec<Value>,
+    count: usize,
+) -> Result<Vec<Value>, StepFault>
+    requires placed { ArePlaced (map statement_of effect.now) scope.now }
+    requires named { length scope.now ≡ length values.items }
+    requires within { count ≤ length values.items }
+    ensures after {
+        Answers StepFault.Memory (λ v. v.items) result
+            (spec.left_by count (answer_by (map statement_of effect.now) (zip scope.now values.items)))
+    }
+    ensures valued { IfOk result (λ v. length v.items ≡ count) }
+{
+    let mut left = perform(alloc, effect, scope, values)?;
+    left.truncate(count);
+    Ok(left)
+}
+
+/// The values of the state variables, and then those of the entry's own parameters.
+fn values_in_view(
+    alloc: Global,
+    entry: &Entry<usize>,
+    arguments: &[Value],
+    variables: &[Value],
+) -> Result<Vec<Value>, AllocError>
+    ensures { IfOk result (λ v. v.items ≡ variables.now ++ spec.own_values (entry_of entry.now).parameters arguments.now) }
+{
+    let mut values = copies(alloc, variables)?;
+    let count = entry.parameters.len().min(arguments.len());
+    for i in 0..count {
+        push_own(alloc, &mut values, &entry.parameters[i], &arguments[i])?;
+    }
+    Ok(values)
+}
+
+/// Puts the argument of a parameter with a name of its own at the end.
+fn push_own(
+    alloc: Global,
+    values: &mut Vec<Value>,
+    parameter: &Parameter<usize>,
+    argument: &Value,
+) -> Result<(), AllocError>
+    ensures {
+        OnOk result
+            (values.new.items ≡ values.old.items ++ spec.own_value (parameter_of parameter.now) argument.now)
+    }
+{
+    match parameter {
+        Parameter::Const(_) => Ok(()),
+        Parameter::Declared(_, _) => {
+            values.push(argument.try_copy(alloc)?)?;
+            Ok(())
+        }
+    }
+}
+
+/// Passes where a guard is true.
+fn pass_guard(alloc: Global, pre: &Option<Checked>, env: &Env) -> Result<(), StepFault>
+    requires { IsPlacedGuard (option_map term_of pre.now) (names_of env.now) }
+    ensures { Answers StepFault.Memory (λ _. tt) result (spec.guard_answer (option_map term_of pre.now) env.now) }
+{
+    match pre {
+        None => Ok(()),
+        Some(guard) => match eval(alloc, guard, env)?.as_truth() {
+            Some(true) => Ok(()),
+            _ => Err(StepFault::NotEnabled),
+        },
+    }
+}
