@@ -7,3 +7,4 @@ pub mod NodeStep
 pub mod Parts
 pub mod Placed
 pub mod StepFaults
+pub mod Systems

@@ -38,10 +38,10 @@ IsPlacedGuard (Some t) names = IsPlaced t names
 
 -- a rule whose names stand beside the places of their values
 pub record IsPlacedRule (vs : List (PlainVariable ℕ)) (r : Rule) : Type 0 where
-  pub scope : r.scope.items ≡ scope_of (entry_of r.entry) vs
+  pub scope : r.scope ≡ scope_of (entry_of r.entry) vs
   pub parameters : ArePlacedParameters (entry_of r.entry).parameters
-  pub guard : IsPlacedGuard (transition_of r.transition).pre r.scope.items
-  pub effect : ArePlaced (transition_of r.transition).effect r.scope.items
+  pub guard : IsPlacedGuard (transition_of r.transition).pre r.scope
+  pub effect : ArePlaced (transition_of r.transition).effect r.scope
 
 -- the arguments of each firing, placed among the variables
 abbrev pub ArePlacedTerms : List (PlainTerm ℕ) → List (List ℕ) → Type 0

@@ -5,7 +5,11 @@ mod fault;
 mod node;
 mod program;
 mod rule;
+mod scope;
+mod system;
 
 pub use fault::StepFault;
 pub use node::NodeConf;
 pub use program::{Program, Rule};
+pub use scope::Scope;
+pub use system::System;

@@ -14,7 +14,7 @@ use std::marker::Model;
 use std::sync::Arc;
 
 /// The configuration of a node: its program, which it shares, and the values of its state variables.
-#[derive(Debug, Drop)]
+#[derive(Drop)]
 pub struct NodeConf {
     program: Arc<Program>,
     variables: Values,

@@ -5,24 +5,25 @@ ghost use Rattle.ioa_source.specs.View.{statement_of};
 ghost use Rattle.ioa_source.specs.TextView.{variable_of};
 ghost use Rattle.ioa_compose.specs.Placed.{IsPlacedRule, ArePlacedFirings, variable_names};
 
+use crate::scope::Scope;
 use ioa_source::{Entry, Transition, Variable};
-use ioa_terms::{Statement, Value, Word};
+use ioa_terms::{Statement, Value};
 use std::marker::Model;
 
 /// An entry of a signature with its transition, and the names in view there: the entry's own
 /// parameters, and then the state variables.
-#[derive(Debug, Drop)]
+#[derive(Drop)]
 pub struct Rule {
     /// The entry.
     pub entry: Entry<usize>,
     /// Its transition.
     pub transition: Transition<usize>,
     /// The names that guard and effect may read, each at the place that stands beside it there.
-    pub scope: Vec<Word>,
+    pub scope: Scope,
 }
 
 /// A node's program. Its type keeps that each name stands beside the place of its value.
-#[derive(Debug, Drop)]
+#[derive(Drop)]
 pub struct Program {
     node: i64,
     rules: Vec<Rule>,

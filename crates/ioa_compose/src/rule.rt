@@ -201,23 +201,24 @@ fn take_transition(
     arguments: &[Value],
     variables: &[Value],
 ) -> Result<Vec<Value>, StepFault>
-    requires guard { IsPlacedGuard (transition_of rule.now.transition).pre rule.now.scope.items }
-    requires effect { ArePlaced (transition_of rule.now.transition).effect rule.now.scope.items }
+    requires guard { IsPlacedGuard (transition_of rule.now.transition).pre rule.now.scope }
+    requires effect { ArePlaced (transition_of rule.now.transition).effect rule.now.scope }
     requires named {
-        length rule.now.scope.items
+        length rule.now.scope
             ≡ length (variables.now ++ spec.own_values (entry_of rule.now.entry).parameters arguments.now)
     }
     ensures after {
         Answers StepFault.Memory (λ v. v.items) result
             (spec.transition_answer (length variables.now) (transition_of rule.now.transition)
-                (zip rule.now.scope.items
+                (zip rule.now.scope
                     (variables.now ++ spec.own_values (entry_of rule.now.entry).parameters arguments.now)))
     }
     ensures valued { IfOk result (λ v. length v.items ≡ length variables.now) }
 {
     let values = values_in_view(alloc, &rule.entry, arguments, variables)?;
-    pass_guard(alloc, &rule.transition.pre, &Env::new(&rule.scope, &values))?;
-    take_effect(alloc, &rule.transition.effect, &rule.scope, values, variables.len())
+    pass_guard(alloc, &rule.transition.pre, &Env::new(rule.scope.as_slice(), &values))?;
+    let scope = rule.scope.as_slice();
+    take_effect(alloc, &rule.transition.effect, scope, values, variables.len())
 }
 
 /// The values that an effect leaves, of the first `count` names.
