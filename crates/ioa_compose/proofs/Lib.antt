@@ -1,3 +1,10 @@
 -- the lemmas of this crate
 pub mod Arguments
+pub mod Components
+pub mod Deliveries
+pub mod Items
+pub mod Loops
+pub mod Places
+pub mod Projections
+pub mod Runs
 pub mod Scopes

@@ -2,9 +2,15 @@
 pub use Rattle.ioa_terms.specs.Data
 pub use Rattle.ioa_terms.specs.Outcome
 -- what the contracts of this crate and of those above it cite
+pub mod Channels
+pub mod Composition
+pub mod Executions
+pub mod FirstSorts
 pub mod NodeState
 pub mod NodeStep
+pub mod Participants
 pub mod Parts
 pub mod Placed
+pub mod Queues
 pub mod StepFaults
 pub mod Systems

@@ -1,15 +1,35 @@
 //! Systems and their composition: programs, node and queue steps, joint steps, replay, projection.
 #![tactic(auto)]
 
+mod building;
+mod check;
+mod composition;
+mod configuration;
 mod fault;
+mod laws;
 mod node;
+mod parties;
+mod placing;
 mod program;
+mod projection;
+mod queue;
+mod refusal;
+mod replay;
 mod rule;
 mod scope;
 mod system;
 
+pub use check::check_text;
+pub use composition::{changes, copy_confs, find_conf, joint_step, put_conf, put_confs};
+pub use configuration::Conf;
 pub use fault::StepFault;
+pub use laws::{prefix_law, projection_law};
 pub use node::NodeConf;
+pub use parties::{Parties, participants, takes_part_in};
 pub use program::{Program, Rule};
+pub use projection::project;
+pub use queue::{Item, Queue};
+pub use refusal::{CheckFault, Row};
+pub use replay::{ReplayFault, replay_from};
 pub use scope::Scope;
 pub use system::System;

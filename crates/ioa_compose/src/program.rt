@@ -3,6 +3,7 @@
 ghost use Rattle.std.specs.Prelude.{◌≡◌, All, map, length};
 ghost use Rattle.ioa_source.specs.View.{statement_of};
 ghost use Rattle.ioa_source.specs.TextView.{variable_of};
+ghost use Rattle.ioa_compose.specs.Parts.{parts};
 ghost use Rattle.ioa_compose.specs.Placed.{IsPlacedRule, ArePlacedFirings, variable_names};
 
 use crate::scope::Scope;
@@ -49,6 +50,33 @@ impl Model for Program {
 }
 
 impl Program {
+    /// The program of a node with these rules, state variables, initial values and schedule.
+    pub(crate) fn new(
+        node: i64,
+        rules: Vec<Rule>,
+        variables: Vec<Variable<usize>>,
+        initial: Vec<Value>,
+        schedule: Vec<Statement<usize>>,
+    ) -> Self
+        requires rules { All (IsPlacedRule (map variable_of variables.items)) rules.items }
+        requires valued { length initial.items ≡ length variables.items }
+        requires schedule {
+            ArePlacedFirings (map statement_of schedule.items)
+                (variable_names (map variable_of variables.items))
+        }
+        ensures {
+            result ≡ parts node rules.items variables.items initial.items schedule.items
+        }
+    {
+        Program {
+            node,
+            rules,
+            variables,
+            initial,
+            schedule,
+        }
+    }
+
     /// The number of its node.
     pub fn node(&self) -> i64
         ensures { result ≡ self.now.node }

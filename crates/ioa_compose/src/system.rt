@@ -2,6 +2,7 @@
 
 ghost use Rattle.std.specs.Prelude.{◌≡◌, map};
 ghost use Rattle.std.specs.Arc.{arc_value};
+ghost use Rattle.ioa_compose.specs.Systems.{system};
 
 use crate::program::Program;
 use ioa_source::Channel;
@@ -32,6 +33,17 @@ impl Model for System {
 }
 
 impl System {
+    /// The system of these programs and channels.
+    pub(crate) fn new(names: Names, programs: Vec<Arc<Program>>, channels: Vec<Channel>) -> Self
+        ensures { result ≡ system names (map arc_value programs.items) channels.items }
+    {
+        System {
+            names,
+            programs,
+            channels,
+        }
+    }
+
     /// The names of the text's constants.
     pub fn names(&self) -> &Names
         ensures { result.now ≡ self.now.names }

@@ -1,7 +1,7 @@
 -- What terms and statements mean (profile): over numbers without bound, partial, evaluated from left to right.
 use Rattle.std.specs.Prelude.{◌≡◌, ℕ, ℤ, ◌+ℤ◌, Bool, true, false, ◌&&◌, if◌then◌else◌, List, [], ◌∷◌, ◌++◌, Option, Some, None, Result, Ok, Err, map, length}
 use Rattle.std.specs.Option.{option_and_then, option_map, ok_or}
-use Rattle.std.specs.List.{list_all}
+use Rattle.std.specs.List.{list_all, AllByRecursion}
 use Rattle.ioa_terms.specs.Data.{Data, is_within, number, truth}
 use Rattle.ioa_terms.specs.DataOrder.{same}
 use Rattle.ioa_terms.specs.Bindings.{Bindings, lookup, put, place_in}
@@ -91,5 +91,4 @@ IsPlacedStatement (fire kind action arguments) names = Unit {0}
 
 -- the same of each statement
 abbrev pub ArePlaced : List (PlainStatement ℕ) → List (List ℕ) → Type 0
-ArePlaced [] names = Unit {0}
-ArePlaced (s ∷ more) names = IsPlacedStatement s names × ArePlaced more names
+ArePlaced ss names = AllByRecursion (λ s. IsPlacedStatement s names) ss

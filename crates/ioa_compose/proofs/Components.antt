@@ -1,0 +1,125 @@
+-- Names of components, and the configurations that bear them.
+use Rattle.std.proofs.Common.{◌≡◌, Bool, true, false, ◌||◌, List, [], ◌∷◌, Some, Result, Ok, Err, refl, ap, sym, ◌∙◌, map, if◌then◌else◌}
+use Rattle.std.specs.Bool.{Decides}
+use Rattle.std.specs.List.{list_any}
+use Rattle.std.proofs.lemmas.Bool.Decides.{Decides-int_eq, Decides-and, Decides-like}
+use Rattle.ioa_compose.specs.Data.{Data}
+use Rattle.ioa_compose.specs.Outcome.{and_then}
+use Rattle.ioa_terms.specs.declared.component.Component.{Component}
+use Rattle.ioa_terms.specs.declared.component.Component.TheVariants.{Node, Channel, Script}
+use Rattle.ioa_terms.specs.declared.action.Action.{Action}
+use Rattle.ioa_terms.specs.declared.action.Action.TheVariants.{Send, Receive, Local, Stimulus}
+use Rattle.ioa_compose.specs.declared.configuration.Conf.{Conf}
+use Rattle.ioa_compose.specs.declared.configuration.Conf.TheVariants as conf
+use Rattle.ioa_compose.specs.declared.fault.StepFault.{StepFault}
+use Rattle.ioa_compose.specs.declared.queue.Item.{Item}
+use Rattle.ioa_compose.specs.declared.queue.Item.TheVariants as item
+use Rattle.ioa_compose.specs.Parts.{Parts}
+use Rattle.ioa_compose.specs.NodeState.{NodeState, node_state}
+use Rattle.ioa_compose.specs.NodeStep.{node_answer, program_answer}
+use Rattle.ioa_compose.specs.Queues.{QueueState, queue_state, queue_answer, behind, with_last, without_first}
+use Rattle.ioa_compose.specs.Participants.{same_component}
+use Rattle.ioa_compose.specs.Composition.{component_of, conf_answer, find_conf, put, put_all}
+
+-- two names are told to be those of one component exactly where they are equal
+pub same_component_decides : (k l : Component) → Decides (same_component k l) (k ≡ l)
+same_component_decides (Node i) (Node j) = Decides-like _ (λ e. ap Node e) (λ e. cc) (Decides-int_eq i j)
+same_component_decides (Node i) (Channel j l) = (λ h. absurd (cc), λ e. absurd (cc))
+same_component_decides (Node i) (Script j) = (λ h. absurd (cc), λ e. absurd (cc))
+same_component_decides (Channel i j) (Node l) = (λ h. absurd (cc), λ e. absurd (cc))
+same_component_decides (Channel i j) (Channel k l) =
+    Decides-like _ (λ p. λ t. Channel (p.0 t) (p.1 t)) (λ e. (cc, cc)) (Decides-and _ _ (Decides-int_eq i k) (Decides-int_eq j l))
+same_component_decides (Channel i j) (Script l) = (λ h. absurd (cc), λ e. absurd (cc))
+same_component_decides (Script i) (Node j) = (λ h. absurd (cc), λ e. absurd (cc))
+same_component_decides (Script i) (Channel j l) = (λ h. absurd (cc), λ e. absurd (cc))
+same_component_decides (Script i) (Script j) = Decides-like _ (λ e. ap Script e) (λ e. cc) (Decides-int_eq i j)
+
+pub same_component-itself : (k : Component) → same_component k k ≡ true
+same_component-itself k = (same_component_decides k k).1 refl
+
+-- a node's step keeps its program
+program-node_answer : (c : NodeState) (a : Action) (d : NodeState) → node_answer c a ≡ Ok d → d.program ≡ c.program
+unfolding node_answer
+program-node_answer c a d h = kept (program_answer c.program c.variables a) h
+  where
+    kept : (r : Result (List Data) StepFault) → and_then r (λ vs. Ok (node_state c.program vs)) ≡ Ok d → d.program ≡ c.program
+    kept (Ok vs) e = let same_state : node_state c.program vs ≡ d = cc in ap (λ (s : NodeState). s.program) (sym same_state)
+    kept (Err f) e = absurd (cc)
+
+component-without_first : (x : Item) (q r : QueueState) → without_first x q ≡ Ok r → r.component ≡ q.component
+component-without_first x q r h = kept (behind x q.items) h
+  where
+    kept : (s : Result (List Item) StepFault) → and_then s (λ items. Ok (queue_state q.component items)) ≡ Ok r → r.component ≡ q.component
+    kept (Ok items) e = let same_state : queue_state q.component items ≡ r = cc in ap (λ (s : QueueState). s.component) (sym same_state)
+    kept (Err f) e = absurd (cc)
+
+queue_is : (q r : QueueState) (x : Item) → queue_state q.component (with_last x q).items ≡ r → r.component ≡ q.component
+queue_is q r x e = ap (λ (s : QueueState). s.component) (sym e)
+
+-- a queue's step keeps its name
+component-queue_answer : (q : QueueState) (a : Action) (r : QueueState) → queue_answer q a ≡ Ok r → r.component ≡ q.component
+component-queue_answer q (Send m i j) r h = queue_is q r (item.Message m) (cc)
+component-queue_answer q (Receive m i j) r h = component-without_first (item.Message m) q r h
+component-queue_answer q (Local a) r h = absurd (cc)
+component-queue_answer q (Stimulus a) r h = component-without_first (item.Stimulus a) q r h
+
+-- a component's step keeps its name
+pub component_of-conf_answer : (a : Action) (c d : Conf) → conf_answer a c ≡ Ok d → component_of d ≡ component_of c
+unfolding conf_answer
+component_of-conf_answer a (conf.Node c) d h = kept (node_answer c a) refl h
+  where
+    kept : (r : Result NodeState StepFault) → node_answer c a ≡ r → and_then r (λ s. Ok (conf.Node s)) ≡ Ok d → component_of d ≡ Node c.program.node
+    kept (Ok s) e h = let same_state : conf.Node s ≡ d = cc in rw (← same_state) (ap (λ (p : Parts). Node p.node) (program-node_answer c a s e))
+    kept (Err f) e h = absurd (cc)
+component_of-conf_answer a (conf.Queue q) d h = kept (queue_answer q a) refl h
+  where
+    kept : (r : Result QueueState StepFault) → queue_answer q a ≡ r → and_then r (λ s. Ok (conf.Queue s)) ≡ Ok d → component_of d ≡ q.component
+    kept (Ok s) e h = let same_state : conf.Queue s ≡ d = cc in rw (← same_state) (component-queue_answer q a s e)
+    kept (Err f) e h = absurd (cc)
+
+-- the configuration that is found bears the name
+pub component_of-find_conf : (k : Component) (cs : List Conf) (c : Conf) → find_conf k cs ≡ Some c → component_of c ≡ k
+component_of-find_conf k [] c h = absurd (cc)
+component_of-find_conf k (b ∷ cs) c h = by_test (same_component k (component_of b)) refl h (component_of-find_conf k cs c)
+  where
+    by_test : (t : Bool) → same_component k (component_of b) ≡ t → (if t then Some b else find_conf k cs) ≡ Some c → (find_conf k cs ≡ Some c → component_of c ≡ k) → component_of c ≡ k
+    by_test true e h further = let this : b ≡ c = cc in rw (← this) (sym ((same_component_decides k (component_of b)).0 e))
+    by_test false e h further = further h
+
+-- a configuration that is put in the place of one of its name is found there
+pub find_conf-put_same : (k : Component) (d : Conf) (cs : List Conf) (c : Conf) → component_of d ≡ k → find_conf k cs ≡ Some c → find_conf k (put d cs) ≡ Some d
+find_conf-put_same k d [] c name h = absurd (cc)
+find_conf-put_same k d (b ∷ cs) c name h = by_test (same_component k (component_of b)) refl h (find_conf-put_same k d cs c name)
+  where
+    by_test : (t : Bool) → same_component k (component_of b) ≡ t → (if t then Some b else find_conf k cs) ≡ Some c →
+        (find_conf k cs ≡ Some c → find_conf k (put d cs) ≡ Some d) →
+        find_conf k (if same_component (component_of d) (component_of b) then d ∷ cs else b ∷ put d cs) ≡ Some d
+    by_test true e h further = rw (name, e, name, same_component-itself k) refl
+    by_test false e h further = rw (name, e, e) (further h)
+
+-- another's configuration is found as before
+pub find_conf-put_other : (k : Component) (d : Conf) (cs : List Conf) → same_component k (component_of d) ≡ false → find_conf k (put d cs) ≡ find_conf k cs
+find_conf-put_other k d [] h = refl
+find_conf-put_other k d (b ∷ cs) h = by_test (same_component (component_of d) (component_of b)) refl (find_conf-put_other k d cs h)
+  where
+    by_test : (t : Bool) → same_component (component_of d) (component_of b) ≡ t → find_conf k (put d cs) ≡ find_conf k cs → find_conf k (if same_component (component_of d) (component_of b) then d ∷ cs else b ∷ put d cs) ≡ find_conf k (b ∷ cs)
+    by_test true e further =
+        let one : component_of d ≡ component_of b = (same_component_decides (component_of d) (component_of b)).0 e in
+        let not_b : same_component k (component_of b) ≡ false = rw (← one) h in
+        rw (e, h, not_b) refl
+    by_test false e further = rw e (ap (λ o. if same_component k (component_of b) then Some b else o) further)
+
+first_false : (s t : Bool) → (s || t) ≡ false → s ≡ false
+first_false true t h = absurd (cc)
+first_false false t h = refl
+
+second_false : (s t : Bool) → (s || t) ≡ false → t ≡ false
+second_false true t h = absurd (cc)
+second_false false t h = h
+
+-- what is put in the places of others is not found
+pub find_conf-put_all_other : (k : Component) (ds cs : List Conf) → list_any (same_component k) (map component_of ds) ≡ false → find_conf k (put_all ds cs) ≡ find_conf k cs
+find_conf-put_all_other k [] cs h = refl
+find_conf-put_all_other k (d ∷ ds) cs h =
+    find_conf-put_all_other k ds (put d cs) (second_false (same_component k (component_of d)) (list_any (same_component k) (map component_of ds)) h)
+    ∙ find_conf-put_other k d cs (first_false (same_component k (component_of d)) (list_any (same_component k) (map component_of ds)) h)

@@ -1,0 +1,64 @@
+-- The place of a component among configurations.
+use Rattle.std.proofs.Common.{◌≡◌, ℕ, suc, ◌+◌, ◌-◌, ◌<◌, ◌≤◌, Bool, true, false, List, [], ◌∷◌, ◌++◌, Some, None, refl, ap, length, set, arith, if◌then◌else◌}
+use Rattle.std.specs.List.{position_from}
+use Rattle.ioa_terms.specs.declared.component.Component.{Component}
+use Rattle.ioa_compose.specs.declared.configuration.Conf.{Conf}
+use Rattle.ioa_compose.specs.Participants.{same_component}
+use Rattle.ioa_compose.specs.Composition.{component_of, put, put_all}
+
+-- what it means that the first configuration of a name stands `m - n` places on
+record IsPlace (d : Conf) (cs : List Conf) (n m : ℕ) : Type 0 where
+  behind : n ≤ m
+  within : m - n < length cs
+  at : put d cs ≡ set cs (m - n) d
+
+next_place : (d c : Conf) (cs : List Conf) (n m : ℕ) → same_component (component_of d) (component_of c) ≡ false → IsPlace d cs (n + 1) m → IsPlace d (c ∷ cs) n m
+next_place d c cs n m e p =
+    let further : m - n ≡ suc (m - (n + 1)) = omega (arith, p.behind) in
+    record {
+      behind = omega (arith, p.behind);
+      within = rw further (omega (arith, p.within));
+      at = rw (further, e) (ap (λ ds. c ∷ ds) p.at);
+    }
+
+place : (d : Conf) (cs : List Conf) (n m : ℕ) → position_from (λ c. same_component (component_of d) (component_of c)) n cs ≡ Some m → IsPlace d cs n m
+place d [] n m h = absurd (cc)
+place d (c ∷ cs) n m h = by_test (same_component (component_of d) (component_of c)) refl h (λ k. place d cs (n + 1) m k)
+  where
+    by_test : (b : Bool) → same_component (component_of d) (component_of c) ≡ b → (if b then Some n else position_from (λ e. same_component (component_of d) (component_of e)) (n + 1) cs) ≡ Some m →
+        (position_from (λ e. same_component (component_of d) (component_of e)) (n + 1) cs ≡ Some m → IsPlace d cs (n + 1) m) → IsPlace d (c ∷ cs) n m
+    by_test true e h more =
+        let same_place : n ≡ m = cc in
+        let first : m - n ≡ 0 = omega arith in
+        record { behind = omega arith; within = rw first (omega arith); at = rw (first, e) refl }
+    by_test false e h more = next_place d c cs n m e (more h)
+
+-- the place of the first configuration of a name is one of the places
+pub place-within : (d : Conf) (cs : List Conf) (k : Component) (m : ℕ) → k ≡ component_of d → Some m ≡ position_from (λ c. same_component k (component_of c)) 0 cs → m < length cs
+place-within d cs k m e h =
+    let p : IsPlace d cs 0 m = place d cs 0 m (rw (← e, ← h) refl) in omega (arith, p.within)
+
+-- a configuration is put in the place of the first one of its name
+pub put-place : (d : Conf) (cs : List Conf) (k : Component) (m : ℕ) → k ≡ component_of d → Some m ≡ position_from (λ c. same_component k (component_of c)) 0 cs → set cs m d ≡ put d cs
+put-place d cs k m e h =
+    let p : IsPlace d cs 0 m = place d cs 0 m (rw (← e, ← h) refl) in
+    let same_place : m ≡ m - 0 = omega arith in
+    rw (p.at, ← same_place) refl
+
+nowhere : (d : Conf) (cs : List Conf) (n : ℕ) → None ≡ position_from (λ c. same_component (component_of d) (component_of c)) n cs → cs ≡ put d cs
+nowhere d [] n h = refl
+nowhere d (c ∷ cs) n h = by_test (same_component (component_of d) (component_of c)) refl h (λ k. nowhere d cs (n + 1) k)
+  where
+    by_test : (b : Bool) → same_component (component_of d) (component_of c) ≡ b → None ≡ (if b then Some n else position_from (λ e. same_component (component_of d) (component_of e)) (n + 1) cs) →
+        (None ≡ position_from (λ e. same_component (component_of d) (component_of e)) (n + 1) cs → cs ≡ put d cs) → c ∷ cs ≡ (if same_component (component_of d) (component_of c) then d ∷ cs else c ∷ put d cs)
+    by_test true e h more = absurd (cc)
+    by_test false e h more = rw e (ap (λ ds. c ∷ ds) (more h))
+
+-- where no configuration has its name, it is put nowhere
+pub put-no_place : (d : Conf) (cs : List Conf) (k : Component) → k ≡ component_of d → None ≡ position_from (λ c. same_component k (component_of c)) 0 cs → cs ≡ put d cs
+put-no_place d cs k e h = nowhere d cs 0 (rw (← e) h)
+
+-- one more configuration is put after the others
+pub put_all-push : (ds : List Conf) (d : Conf) (cs : List Conf) → put_all (ds ++ d ∷ []) cs ≡ put d (put_all ds cs)
+put_all-push [] d cs = refl
+put_all-push (e ∷ ds) d cs = put_all-push ds d (put e cs)

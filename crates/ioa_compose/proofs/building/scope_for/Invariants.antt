@@ -1,0 +1,10 @@
+use Rattle.std.proofs.Common.{◌≡◌, ◌++◌, map, take, drop}
+use Rattle.ioa_source.specs.TextView.{parameter_of, variable_of}
+use Rattle.ioa_compose.specs.Placed.{variable_names, own_names}
+use Rattle.ioa_compose.proofs.building.scope_for.Given as goal
+
+-- the names declared, and those that are left
+abbrev pub invariant-loop-parameter : goal.invariant-loop-parameter
+invariant-loop-parameter l =
+    l.names ++ own_names (map parameter_of (drop l.parameter-index l.entry.parameters.items))
+    ≡ variable_names (map variable_of l.variables) ++ own_names (map parameter_of l.entry.parameters.items)

@@ -1,0 +1,12 @@
+use Rattle.std.proofs.Common.{◌≡◌, map, take}
+use Rattle.ioa_source.specs.View.{statement_of}
+use Rattle.ioa_source.specs.Erasure.{erase_statement}
+use Rattle.ioa_terms.specs.Meaning.{ArePlaced}
+use Rattle.ioa_compose.proofs.placing.place_effect.Given as goal
+
+-- what is gone by is placed
+abbrev pub invariant-loop-statement : goal.invariant-loop-statement
+invariant-loop-statement l = record {
+  same : map erase_statement (map statement_of l.placed.items) ≡ map statement_of (take l.statement-index l.effect);
+  placed : ArePlaced (map statement_of l.placed.items) l.scope
+}

@@ -1,0 +1,12 @@
+use Rattle.std.proofs.Common.{◌≡◌, map, take}
+use Rattle.ioa_source.specs.TextView.{parameter_of}
+use Rattle.ioa_source.specs.Erasure.{erase_parameter}
+use Rattle.ioa_compose.specs.Placed.{ArePlacedParameters}
+use Rattle.ioa_compose.proofs.placing.place_parameters.Given as goal
+
+-- what is gone by is placed
+abbrev pub invariant-loop-parameter : goal.invariant-loop-parameter
+invariant-loop-parameter l = record {
+  same : map erase_parameter (map parameter_of l.placed.items) ≡ map parameter_of (take l.parameter-index l.parameters);
+  placed : ArePlacedParameters (map parameter_of l.placed.items)
+}

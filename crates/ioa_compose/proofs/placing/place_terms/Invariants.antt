@@ -1,0 +1,12 @@
+use Rattle.std.proofs.Common.{◌≡◌, map, take}
+use Rattle.ioa_source.specs.View.{term_of}
+use Rattle.ioa_source.specs.Erasure.{erase_term}
+use Rattle.ioa_compose.specs.Placed.{ArePlacedTerms}
+use Rattle.ioa_compose.proofs.placing.place_terms.Given as goal
+
+-- the terms gone by are placed
+abbrev pub invariant-loop-term : goal.invariant-loop-term
+invariant-loop-term l = record {
+  same : map erase_term (map term_of l.placed.items) ≡ map term_of (take l.term-index l.terms);
+  placed : ArePlacedTerms (map term_of l.placed.items) l.scope
+}

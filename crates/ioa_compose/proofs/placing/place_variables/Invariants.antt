@@ -1,0 +1,12 @@
+use Rattle.std.proofs.Common.{◌≡◌, map, take}
+use Rattle.ioa_source.specs.TextView.{variable_of}
+use Rattle.ioa_source.specs.Erasure.{erase_variable}
+use Rattle.ioa_compose.specs.Placed.{ArePlacedVariables}
+use Rattle.ioa_compose.proofs.placing.place_variables.Given as goal
+
+-- what is gone by is placed
+abbrev pub invariant-loop-variable : goal.invariant-loop-variable
+invariant-loop-variable l = record {
+  same : map erase_variable (map variable_of l.placed.items) ≡ map variable_of (take l.variable-index l.variables);
+  placed : ArePlacedVariables (map variable_of l.placed.items)
+}

@@ -1,0 +1,48 @@
+-- What is sent on a channel and what it hands out (Lynch 14.1).
+use Rattle.std.specs.Prelude.{◌≡◌, ℤ, if◌then◌else◌, List, [], ◌++◌, Option, Some, None, map}
+use Rattle.std.specs.List.{filter_map}
+use Rattle.ioa_compose.specs.Data.{Data}
+use Rattle.ioa_terms.specs.declared.component.Component.TheVariants.{Channel}
+use Rattle.ioa_terms.specs.declared.action.Action.{Action}
+use Rattle.ioa_terms.specs.declared.action.Action.TheVariants.{Send, Receive, Local, Stimulus}
+use Rattle.ioa_compose.specs.declared.queue.Item.TheVariants.{Message}
+use Rattle.ioa_compose.specs.declared.configuration.Conf.{Conf}
+use Rattle.ioa_compose.specs.declared.configuration.Conf.TheVariants.{Queue}
+use Rattle.ioa_compose.specs.Queues.{QueueState}
+use Rattle.ioa_compose.specs.Participants.{same_component}
+use Rattle.ioa_compose.specs.Composition.{find_conf}
+
+-- the message that an action sends on channel i -> j
+abbrev pub message_sent : ℤ → ℤ → Action → Option Data
+message_sent i j (Send m from to) = if same_component (Channel i j) (Channel from to) then Some m else None
+message_sent i j (Receive m from to) = None
+message_sent i j (Local a) = None
+message_sent i j (Stimulus a) = None
+
+-- the message that an action receives from channel i -> j
+abbrev pub message_received : ℤ → ℤ → Action → Option Data
+message_received i j (Send m from to) = None
+message_received i j (Receive m from to) = if same_component (Channel i j) (Channel from to) then Some m else None
+message_received i j (Local a) = None
+message_received i j (Stimulus a) = None
+
+-- the messages sent on channel i -> j, in order
+abbrev pub sent : ℤ → ℤ → List Action → List Data
+sent i j actions = filter_map (message_sent i j) actions
+
+-- the messages received from channel i -> j, in order
+abbrev pub received : ℤ → ℤ → List Action → List Data
+received i j actions = filter_map (message_received i j) actions
+
+-- each channel has handed out, in order, a first part of what stood in it and what was then sent on it, and holds the
+-- rest (Lynch 14.1)
+abbrev pub HandsOutInOrder : List Conf → List Action → List Conf → Type 0
+HandsOutInOrder start actions confs =
+    (i j : ℤ) (q : QueueState) → find_conf (Channel i j) start ≡ Some (Queue q) →
+    (r : QueueState) × (find_conf (Channel i j) confs ≡ Some (Queue r)) × (q.items ++ map Message (sent i j actions) ≡ map Message (received i j actions) ++ r.items)
+
+-- each channel that was empty has handed out a first part of what was sent on it, and holds the rest (Lynch 14.1)
+abbrev pub HandsOutPrefix : List Conf → List Action → List Conf → Type 0
+HandsOutPrefix start actions confs =
+    (i j : ℤ) (q : QueueState) → find_conf (Channel i j) start ≡ Some (Queue q) → q.items ≡ [] →
+    (r : QueueState) × (find_conf (Channel i j) confs ≡ Some (Queue r)) × (map Message (sent i j actions) ≡ map Message (received i j actions) ++ r.items)

@@ -1,0 +1,49 @@
+-- Executions, their replay and their projections (Lynch 8.1 and 8.2).
+use Rattle.std.specs.Prelude.{◌≡◌, ◌⊎◌, ℕ, ◌+◌, List, [], ◌∷◌, Option, Some, None, Result, Ok, Err, filter}
+use Rattle.ioa_terms.specs.declared.component.Component.{Component}
+use Rattle.ioa_terms.specs.declared.action.Action.{Action}
+use Rattle.ioa_compose.specs.declared.configuration.Conf.{Conf}
+use Rattle.ioa_compose.specs.declared.fault.StepFault.{StepFault}
+use Rattle.ioa_compose.specs.declared.fault.StepFault.TheVariants.{Memory}
+use Rattle.ioa_compose.specs.declared.replay.ReplayFault.{ReplayFault}
+use Rattle.ioa_compose.specs.Participants.{takes_part}
+use Rattle.ioa_compose.specs.Composition.{conf_answer, joint_answer, find_conf}
+
+-- further steps after a step, where there is one
+abbrev pub after_step : {C : Type 0} → (C → Option C) → Result C StepFault → Option C
+after_step steps (Ok c) = steps c
+after_step steps (Err e) = None
+
+-- the configurations after the joint steps by a list of actions, where each is a step: a schedule has an execution
+-- from the start exactly where there are some (Lynch 8.1)
+abbrev pub replay : List Action → List Conf → Option (List Conf)
+replay [] cs = Some cs
+replay (a ∷ more) cs = after_step (replay more) (joint_answer a cs)
+
+-- one component's configuration after its own steps by a list of actions, where each is a step (Lynch 8.1)
+abbrev pub replay_one : List Action → Conf → Option Conf
+replay_one [] c = Some c
+replay_one (a ∷ more) c = after_step (replay_one more) (conf_answer a c)
+
+-- the projection of a list of actions on a component: those in which it takes part (Lynch 8.2)
+abbrev pub projected : Component → List Action → List Action
+projected k actions = filter (takes_part k) actions
+
+-- the last configurations, or the first action that is no step: its place, counted from `n`, and the fault
+abbrev pub replay_after_step : ℕ → (List Conf → Result (List Conf) ReplayFault) → Result (List Conf) StepFault → Result (List Conf) ReplayFault
+replay_after_step n steps (Ok cs) = steps cs
+replay_after_step n steps (Err e) = Err (record { place = n; fault = e })
+
+abbrev pub replay_answer : ℕ → List Action → List Conf → Result (List Conf) ReplayFault
+replay_answer n [] cs = Ok cs
+replay_answer n (a ∷ more) cs = replay_after_step n (replay_answer (n + 1) more) (joint_answer a cs)
+
+-- a replay computes `meant`, or memory ran out at some place
+abbrev pub IsReplay : {X : Type 0} → (X → List Conf) → Result X ReplayFault → Result (List Conf) ReplayFault → Type 0
+IsReplay view (Ok x) meant = meant ≡ Ok (view x)
+IsReplay view (Err e) meant = (e.fault ≡ Memory) ⊎ (meant ≡ Err e)
+
+-- each component's own replay of its projection leads to the configuration that it has at the end (Lynch 8.2)
+abbrev pub ProjectsOnEach : List Conf → List Action → List Conf → Type 0
+ProjectsOnEach start actions confs =
+    (k : Component) (c : Conf) → find_conf k start ≡ Some c → (d : Conf) × (find_conf k confs ≡ Some d) × (replay_one (projected k actions) c ≡ Some d)

@@ -1,0 +1,38 @@
+-- The components that take part in an action (Lynch 8.2; the profile's for scripts).
+use Rattle.std.specs.Prelude.{Bool, false, ◌&&◌, List, [], ◌∷◌}
+use Rattle.std.specs.List.{list_any}
+use Rattle.std.specs.Ordering.{int_eq}
+use Rattle.ioa_terms.specs.declared.component.Component.{Component}
+use Rattle.ioa_terms.specs.declared.component.Component.TheVariants.{Node, Channel, Script}
+use Rattle.ioa_terms.specs.declared.action.Action.{Action}
+use Rattle.ioa_terms.specs.declared.action.Action.TheVariants.{Send, Receive, Local, Stimulus}
+use Rattle.ioa_compose.specs.declared.parties.Parties.{Parties}
+use Rattle.ioa_compose.specs.declared.parties.Parties.TheVariants.{One, Two}
+
+-- the components that have an action in their signature, the queue first
+abbrev pub has : Action → List Component
+has (Send m i j) = Channel i j ∷ Node i ∷ []
+has (Receive m i j) = Channel i j ∷ Node j ∷ []
+has (Local a) = Node a.node ∷ []
+has (Stimulus a) = Script a.node ∷ Node a.node ∷ []
+
+-- the components that a value of the code lists
+abbrev pub listed : Parties → List Component
+listed (One k) = k ∷ []
+listed (Two k l) = k ∷ l ∷ []
+
+-- whether two names are those of one component
+abbrev pub same_component : Component → Component → Bool
+same_component (Node i) (Node j) = int_eq i j
+same_component (Node i) (Channel j l) = false
+same_component (Node i) (Script j) = false
+same_component (Channel i j) (Node l) = false
+same_component (Channel i j) (Channel k l) = int_eq i k && int_eq j l
+same_component (Channel i j) (Script l) = false
+same_component (Script i) (Node j) = false
+same_component (Script i) (Channel j l) = false
+same_component (Script i) (Script j) = int_eq i j
+
+-- whether a component takes part in an action
+abbrev pub takes_part : Component → Action → Bool
+takes_part k a = list_any (same_component k) (has a)

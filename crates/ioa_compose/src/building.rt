@@ -1,0 +1,305 @@
+//! A node's program, made of its automaton.
+
+ghost use Rattle.std.specs.Prelude.{◌≡◌, ◌++◌, All, [], ◌∷◌, IfOk, map, length};
+ghost use Rattle.std.specs.Option.{option_map};
+ghost use Rattle.ioa_source.specs.View.{term_of};
+ghost use Rattle.ioa_source.specs.TextView.{parameter_of, entry_of, transition_of, variable_of};
+ghost use Rattle.ioa_terms.specs.Meaning.{ArePlaced};
+ghost use Rattle.ioa_compose.specs.Placed.{IsPlacedRule, ArePlacedVariables, IsPlacedGuard, own_name, variable_names, scope_of};
+
+use crate::placing::{
+    place_effect, place_entry, place_guard, place_schedule, place_terms, place_variables,
+};
+use crate::program::{Program, Rule};
+use crate::refusal::{Refusal, Row};
+use crate::scope::Scope;
+use ioa_source::{Automaton, Entry, Parameter, Transition, Variable};
+use ioa_terms::{Checked, Env, Kind, Statement, Term, TermFault, Tree, Value, Word, eval};
+use std::alloc::Global;
+
+/// The program of a node that an automaton is placed on.
+pub(crate) fn program_of(
+    alloc: Global,
+    node: i64,
+    automaton: &Automaton<()>,
+) -> Result<Program, Refusal>
+    ensures { IfOk result (λ p. p.node ≡ node) }
+{
+    actions_differ(alloc, automaton)?;
+    let variables = place_variables(alloc, &automaton.states)?;
+    let initial = initial_values(alloc, &variables)?;
+    let names = names_of(alloc, &variables)?;
+    transitions_have_entries(automaton)?;
+    firings_have_entries(automaton)?;
+    let rules = rules_of(alloc, automaton, &variables)?;
+    let schedule = place_schedule(alloc, &names, &automaton.schedule)?;
+    Ok(Program::new(node, rules, variables, initial, schedule))
+}
+
+/// The names of the state variables, which differ.
+fn names_of(alloc: Global, variables: &[Variable<usize>]) -> Result<Scope, Refusal>
+    ensures { IfOk result (λ s. s ≡ variable_names (map variable_of variables.now)) }
+{
+    let mut names = Scope::new(alloc);
+    for variable in variables {
+        declare(alloc, &mut names, &variable.name)?;
+    }
+    Ok(names)
+}
+
+/// Declares a name that is new.
+fn declare(alloc: Global, names: &mut Scope, name: &Word) -> Result<(), Refusal>
+    ensures { IfOk result (λ _. names.new ≡ names.old ++ name.now ∷ []) }
+{
+    if names.declare(name.try_copy(alloc)?)? {
+        Ok(())
+    } else {
+        Err(Refusal::Row(Row::Twice))
+    }
+}
+
+/// The names in view in the transition of an entry: the state variables, and then the entry's own
+/// parameters.
+fn scope_for(
+    alloc: Global,
+    variables: &[Variable<usize>],
+    entry: &Entry<usize>,
+) -> Result<Scope, Refusal>
+    ensures { IfOk result (λ s. s ≡ scope_of (entry_of entry.now) (map variable_of variables.now)) }
+{
+    let mut names = names_of(alloc, variables)?;
+    for parameter in &entry.parameters {
+        declare_parameter(alloc, &mut names, parameter)?;
+    }
+    Ok(names)
+}
+
+/// Declares the name of a parameter that has one.
+fn declare_parameter(
+    alloc: Global,
+    names: &mut Scope,
+    parameter: &Parameter<usize>,
+) -> Result<(), Refusal>
+    ensures { IfOk result (λ _. names.new ≡ names.old ++ own_name (parameter_of parameter.now)) }
+{
+    match parameter {
+        Parameter::Const(_) => Ok(()),
+        Parameter::Declared(name, _) => declare(alloc, names, name),
+    }
+}
+
+/// The values of the state variables in the start state.
+fn initial_values(alloc: Global, variables: &[Variable<usize>]) -> Result<Vec<Value>, Refusal>
+    requires { ArePlacedVariables (map variable_of variables.now) }
+    ensures { IfOk result (λ vs. length vs.items ≡ length variables.now) }
+{
+    let mut values = Vec::new(alloc);
+    for variable in variables {
+        values.push(initial_value(alloc, &variable.initial)?)?;
+    }
+    Ok(values)
+}
+
+/// The value of an initial term.
+fn initial_value(alloc: Global, initial: &Option<Checked>) -> Result<Value, Refusal>
+    requires { IsPlacedGuard (option_map term_of initial.now) [] }
+{
+    let Some(term) = initial else {
+        return Err(Refusal::Row(Row::NoInitial));
+    };
+    match eval(alloc, term, &Env::new(&[], &[])) {
+        Ok(value) => Ok(value),
+        Err(TermFault::Undefined) => Err(Refusal::Row(Row::BadArgument)),
+        Err(TermFault::Range) => Err(Refusal::Row(Row::BadArgument)),
+        Err(TermFault::Memory) => Err(Refusal::Memory),
+    }
+}
+
+/// The rules of an automaton: each entry with its transition.
+fn rules_of(
+    alloc: Global,
+    automaton: &Automaton<()>,
+    variables: &[Variable<usize>],
+) -> Result<Vec<Rule>, Refusal>
+    ensures { IfOk result (λ rs. All (IsPlacedRule (map variable_of variables.now)) rs.items) }
+{
+    let mut rules = Vec::new(alloc);
+    for entry in &automaton.signature {
+        let rule = rule_of(alloc, automaton, entry, variables)?;
+        rules.push(rule)?;
+    }
+    Ok(rules)
+}
+
+/// The rule of an entry.
+fn rule_of(
+    alloc: Global,
+    automaton: &Automaton<()>,
+    entry: &Entry<()>,
+    variables: &[Variable<usize>],
+) -> Result<Rule, Refusal>
+    ensures { IfOk result (IsPlacedRule (map variable_of variables.now)) }
+{
+    let Some(transition) = transition_for(automaton, entry) else {
+        return Err(Refusal::Row(Row::NoTransition));
+    };
+    if !head_repeats(&entry.parameters, &transition.arguments) {
+        return Err(Refusal::Row(Row::BadArgument));
+    }
+    if entry.kind == Kind::Input && transition.pre.is_some() {
+        return Err(Refusal::Row(Row::InputPre));
+    }
+    let entry = place_entry(alloc, entry)?;
+    let scope = scope_for(alloc, variables, &entry)?;
+    let transition = place_transition(alloc, &scope, variables.len(), transition)?;
+    Ok(Rule {
+        entry,
+        transition,
+        scope,
+    })
+}
+
+/// A transition, its names placed among those in view.
+fn place_transition(
+    alloc: Global,
+    scope: &Scope,
+    count: usize,
+    transition: &Transition<()>,
+) -> Result<Transition<usize>, Refusal>
+    ensures guard { IfOk result (λ t. IsPlacedGuard (transition_of t).pre scope.now) }
+    ensures effect { IfOk result (λ t. ArePlaced (transition_of t).effect scope.now) }
+{
+    let name = transition.name.try_copy(alloc)?;
+    let arguments = place_terms(alloc, scope, &transition.arguments)?;
+    let pre = place_guard(alloc, scope, &transition.pre)?;
+    let effect = place_effect(alloc, scope, count, &transition.effect)?;
+    Ok(Transition {
+        kind: transition.kind,
+        name,
+        arguments,
+        pre,
+        effect,
+    })
+}
+
+/// The transition of an entry's name.
+fn transition_for<'a>(
+    automaton: &'a Automaton<()>,
+    entry: &Entry<()>,
+) -> Option<&'a Transition<()>> {
+    for transition in &automaton.transitions {
+        if transition.name == entry.name && transition.kind == entry.kind {
+            return Some(transition);
+        }
+    }
+    None
+}
+
+/// The entry of a name.
+fn entry_for<'a>(automaton: &'a Automaton<()>, name: &Word) -> Option<&'a Entry<()>> {
+    for entry in &automaton.signature {
+        if entry.name == *name {
+            return Some(entry);
+        }
+    }
+    None
+}
+
+/// Whether a head repeats its entry: the same term at a constant, the same name elsewhere.
+fn head_repeats(parameters: &[Parameter<()>], arguments: &[Term]) -> bool {
+    if parameters.len() != arguments.len() {
+        return false;
+    }
+    for i in 0..parameters.len() {
+        if !argument_repeats(&parameters[i], &arguments[i]) {
+            return false;
+        }
+    }
+    true
+}
+
+/// Whether an argument of a head repeats its parameter.
+fn argument_repeats(parameter: &Parameter<()>, argument: &Term) -> bool {
+    match parameter {
+        Parameter::Const(term) => same_term(term, argument),
+        Parameter::Declared(name, _) => match argument {
+            Tree::Name(word, _) => word == name,
+            Tree::Number(_) => false,
+            Tree::Two(_, _, _) => false,
+        },
+    }
+}
+
+/// Whether two terms are spelled by the same tree.
+fn same_term(left: &Term, right: &Term) -> bool {
+    match left {
+        Tree::Number(m) => match right {
+            Tree::Number(n) => m == n,
+            Tree::Name(_, _) => false,
+            Tree::Two(_, _, _) => false,
+        },
+        Tree::Name(x, _) => match right {
+            Tree::Number(_) => false,
+            Tree::Name(y, _) => x == y,
+            Tree::Two(_, _, _) => false,
+        },
+        Tree::Two(f, a, b) => match right {
+            Tree::Number(_) => false,
+            Tree::Name(_, _) => false,
+            Tree::Two(g, c, d) => f == g && same_term(a, c) && same_term(b, d),
+        },
+    }
+}
+
+/// Passes where no two entries, and no two transitions, have one name.
+fn actions_differ(alloc: Global, automaton: &Automaton<()>) -> Result<(), Refusal> {
+    let mut entries = Scope::new(alloc);
+    for entry in &automaton.signature {
+        declare(alloc, &mut entries, &entry.name)?;
+    }
+    let mut transitions = Scope::new(alloc);
+    for transition in &automaton.transitions {
+        declare(alloc, &mut transitions, &transition.name)?;
+    }
+    Ok(())
+}
+
+/// Passes where each transition is of an entry's name and kind.
+fn transitions_have_entries(automaton: &Automaton<()>) -> Result<(), Refusal> {
+    for transition in &automaton.transitions {
+        match entry_for(automaton, &transition.name) {
+            None => return Err(Refusal::Row(Row::Unknown)),
+            Some(entry) => {
+                if entry.kind != transition.kind {
+                    return Err(Refusal::Row(Row::Unknown));
+                }
+            }
+        }
+    }
+    Ok(())
+}
+
+/// Passes where each firing is of an entry's name and has as many arguments.
+fn firings_have_entries(automaton: &Automaton<()>) -> Result<(), Refusal> {
+    for statement in &automaton.schedule {
+        firing_has_entry(automaton, statement)?;
+    }
+    Ok(())
+}
+
+/// Passes where a statement is a firing of an entry's name with as many arguments.
+fn firing_has_entry(automaton: &Automaton<()>, statement: &Statement<()>) -> Result<(), Refusal> {
+    match statement {
+        Statement::Assign(_, _) => Err(Refusal::Row(Row::Unknown)),
+        Statement::Fire(_, name, arguments) => match entry_for(automaton, name) {
+            None => Err(Refusal::Row(Row::Unknown)),
+            Some(entry) => {
+                if entry.parameters.len() == arguments.len() {
+                    Ok(())
+                } else {
+                    Err(Refusal::Row(Row::Sorts))
+                }
+            }
+        },
+    }
+}

@@ -1,0 +1,230 @@
+//! From a text to a system, or the first row of refusal found in it.
+
+ghost use Rattle.std.specs.Prelude.{◌≡◌};
+
+use crate::building::program_of;
+use crate::program::Program;
+use crate::refusal::{CheckFault, Refusal, Row};
+use crate::scope::Scope;
+use crate::system::System;
+use ioa_source::{Automaton, Channel, Declaration, Node, Parameter, Placement, Text};
+use ioa_terms::{Names, Term, Tree, Word};
+use std::alloc::Global;
+use std::sync::Arc;
+
+/// The greatest number of nodes.
+const MOST_NODES: usize = 64;
+
+/// The greatest number of channels.
+const MOST_CHANNELS: usize = 256;
+
+/// The name of the action that puts a message into a channel.
+const SEND: &str = "send";
+
+/// The name of the action that takes a message from a channel.
+const RECEIVE: &str = "receive";
+
+/// Makes the system that a text describes. Where a row of refusal stands in the text, one that stands
+/// is answered, with the place of its declaration.
+pub fn check_text(alloc: Global, text: &Text<()>) -> Result<System, CheckFault> {
+    check_declarations(alloc, &text.declarations)?;
+    match check_placements(alloc, text) {
+        Ok(system) => Ok(system),
+        Err(refusal) => Err(refusal.at(text.declarations.len())),
+    }
+}
+
+/// Passes where no row stands in a declaration before the system.
+fn check_declarations(alloc: Global, declarations: &[Declaration<()>]) -> Result<(), CheckFault> {
+    let mut names = Scope::new(alloc);
+    for place in 0..declarations.len() {
+        if let Err(refusal) = check_declaration(alloc, &mut names, &declarations[place]) {
+            return Err(refusal.at(place));
+        }
+    }
+    Ok(())
+}
+
+/// Passes where a declaration's name is new and a program can be made of it.
+fn check_declaration(
+    alloc: Global,
+    names: &mut Scope,
+    declaration: &Declaration<()>,
+) -> Result<(), Refusal> {
+    let Declaration::Automaton(automaton) = declaration;
+    if !names.declare(automaton.name.try_copy(alloc)?)? {
+        return Err(Refusal::Row(Row::Twice));
+    }
+    let _program = program_of(alloc, 0, automaton)?;
+    Ok(())
+}
+
+/// The system of a text whose declarations passed.
+fn check_placements(alloc: Global, text: &Text<()>) -> Result<System, Refusal> {
+    let nodes = nodes_of(alloc, text)?;
+    let channels = channels_of(alloc, text)?;
+    let automata = automata_of(alloc, text, &nodes)?;
+    let programs = programs_of(alloc, &automata)?;
+    for channel in &channels {
+        check_channel(&automata, channel)?;
+    }
+    Ok(System::new(Names::none(alloc), programs, channels))
+}
+
+/// The nodes of a text, as declared: at most 64, no two of one number.
+fn nodes_of<'a>(alloc: Global, text: &'a Text<()>) -> Result<Vec<&'a Node>, Refusal> {
+    let mut nodes: Vec<&'a Node> = Vec::new(alloc);
+    for placement in &text.system {
+        if let Placement::Node(node) = placement {
+            if nodes.len() >= MOST_NODES {
+                return Err(Refusal::Row(Row::Limit));
+            }
+            if nodes.iter().any(|other| other.number == node.number) {
+                return Err(Refusal::Row(Row::Twice));
+            }
+            nodes.push(node)?;
+        }
+    }
+    Ok(nodes)
+}
+
+/// The channels of a text, as declared: at most 256, no two between the same nodes.
+fn channels_of(alloc: Global, text: &Text<()>) -> Result<Vec<Channel>, Refusal> {
+    let mut channels: Vec<Channel> = Vec::new(alloc);
+    for placement in &text.system {
+        if let Placement::Channel(channel) = placement {
+            if channels.len() >= MOST_CHANNELS {
+                return Err(Refusal::Row(Row::Limit));
+            }
+            if channels.contains(channel) {
+                return Err(Refusal::Row(Row::Twice));
+            }
+            channels.push(*channel)?;
+        }
+    }
+    Ok(channels)
+}
+
+/// The automata of the nodes, node 0 first.
+fn automata_of<'a>(
+    alloc: Global,
+    text: &'a Text<()>,
+    nodes: &[&'a Node],
+) -> Result<Vec<&'a Automaton<()>>, Refusal> {
+    let mut automata: Vec<&'a Automaton<()>> = Vec::new(alloc);
+    for place in 0..nodes.len() {
+        let number = place as i64;
+        let Some(node) = node_of(nodes, number) else {
+            return Err(Refusal::Row(Row::NodeGap));
+        };
+        let Some(automaton) = automaton_named(&text.declarations, &node.automaton) else {
+            return Err(Refusal::Row(Row::Unknown));
+        };
+        if !is_at_home(automaton, number) {
+            return Err(Refusal::Row(Row::BadArgument));
+        }
+        automata.push(automaton)?;
+    }
+    Ok(automata)
+}
+
+/// The node of a number.
+fn node_of<'a>(nodes: &[&'a Node], number: i64) -> Option<&'a Node> {
+    for node in nodes {
+        if node.number == number {
+            return Some(node);
+        }
+    }
+    None
+}
+
+/// The automaton of a name.
+fn automaton_named<'a>(
+    declarations: &'a [Declaration<()>],
+    name: &Word,
+) -> Option<&'a Automaton<()>> {
+    for declaration in declarations {
+        let Declaration::Automaton(automaton) = declaration;
+        if automaton.name == *name {
+            return Some(automaton);
+        }
+    }
+    None
+}
+
+/// The programs of the nodes, node 0 first.
+fn programs_of(
+    alloc: Global,
+    automata: &[&Automaton<()>],
+) -> Result<Vec<Arc<Program>>, Refusal> {
+    let mut programs = Vec::new(alloc);
+    for place in 0..automata.len() {
+        let program = program_of(alloc, place as i64, automata[place])?;
+        programs.push(Arc::new(alloc, program)?)?;
+    }
+    Ok(programs)
+}
+
+/// Whether the sends of an automaton are from this node and its receives to it (profile): `send` has
+/// its node's number second, and `receive` third.
+fn is_at_home(automaton: &Automaton<()>, number: i64) -> bool {
+    for entry in &automaton.signature {
+        if entry.name.as_str() == SEND && !has_constant(&entry.parameters, 1, number) {
+            return false;
+        }
+        if entry.name.as_str() == RECEIVE && !has_constant(&entry.parameters, 2, number) {
+            return false;
+        }
+    }
+    true
+}
+
+/// Whether the parameter at a place is the constant of a number.
+fn has_constant(parameters: &[Parameter<()>], place: usize, number: i64) -> bool {
+    match parameters.get(place) {
+        Some(Parameter::Const(term)) => is_literal(term, number),
+        _ => false,
+    }
+}
+
+/// Whether a term is a number as it stands.
+fn is_literal(term: &Term, number: i64) -> bool {
+    match term {
+        Tree::Number(n) => *n == number,
+        _ => false,
+    }
+}
+
+/// Passes where a channel joins two nodes and its receiver takes messages of its sender.
+fn check_channel(automata: &[&Automaton<()>], channel: &Channel) -> Result<(), Refusal> {
+    if channel.from == channel.to {
+        return Err(Refusal::Row(Row::SelfChannel));
+    }
+    if automaton_at(automata, channel.from).is_none() {
+        return Err(Refusal::Row(Row::Unknown));
+    }
+    let Some(receiver) = automaton_at(automata, channel.to) else {
+        return Err(Refusal::Row(Row::Unknown));
+    };
+    if takes_from(receiver, channel.from) {
+        Ok(())
+    } else {
+        Err(Refusal::Row(Row::InputMissing))
+    }
+}
+
+/// The automaton of the node of a number.
+fn automaton_at<'a>(automata: &[&'a Automaton<()>], number: i64) -> Option<&'a Automaton<()>> {
+    let place = usize::try_from(number).ok()?;
+    automata.get(place).copied()
+}
+
+/// Whether an automaton has a `receive` from a node.
+fn takes_from(automaton: &Automaton<()>, sender: i64) -> bool {
+    for entry in &automaton.signature {
+        if entry.name.as_str() == RECEIVE {
+            return has_constant(&entry.parameters, 1, sender);
+        }
+    }
+    false
+}

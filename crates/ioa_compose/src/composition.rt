@@ -1,0 +1,102 @@
+//! Joint steps of a system's components.
+
+ghost use Rattle.std.specs.Prelude.{◌≡◌, IfOk};
+ghost use Rattle.std.specs.List.{position_from};
+ghost use Rattle.std.specs.Option.{option_copied};
+ghost use Rattle.ioa_compose.specs.Outcome.{Answers};
+ghost use Rattle.ioa_compose.specs.Participants.{has, same_component};
+ghost use Rattle.ioa_compose.specs.Composition.{component_of, find_conf, put, put_all, reads, changes_of, joint_answer};
+
+use crate::configuration::Conf;
+use crate::fault::StepFault;
+use crate::parties::{Parties, participants};
+use ioa_terms::{Action, Component};
+use std::alloc::{AllocError, Global};
+
+/// The configuration of a component, the first where several bear its name.
+pub fn find_conf(confs: &[Conf], component: Component) -> Option<&Conf>
+    ensures { option_copied result ≡ find_conf component confs.now }
+{
+    for conf in confs {
+        if component == conf.component() {
+            return Some(conf);
+        }
+    }
+    None
+}
+
+/// The new configurations of the participants of an action, the queue's first. `NoChannel` where one
+/// of them has no configuration; else the first fault of their own steps, the queue's first.
+pub fn changes(alloc: Global, confs: &[Conf], action: &Action) -> Result<Vec<Conf>, StepFault>
+    ensures { Answers StepFault.Memory (λ v. v.items) result (changes_of action.now (reads (has action.now) confs.now)) }
+{
+    let mut changed = Vec::new(alloc);
+    match participants(action) {
+        Parties::One(node) => {
+            let Some(node) = find_conf(confs, node) else {
+                return Err(StepFault::NoChannel);
+            };
+            changed.push(node.step(alloc, action)?)?;
+        }
+        Parties::Two(queue, node) => {
+            let Some(queue) = find_conf(confs, queue) else {
+                return Err(StepFault::NoChannel);
+            };
+            let Some(node) = find_conf(confs, node) else {
+                return Err(StepFault::NoChannel);
+            };
+            changed.push(queue.step(alloc, action)?)?;
+            changed.push(node.step(alloc, action)?)?;
+        }
+    }
+    Ok(changed)
+}
+
+/// The place of a component's configuration, the first where several bear its name.
+fn place_of(confs: &[Conf], component: Component) -> Option<usize>
+    ensures { result ≡ position_from (λ c. same_component component (component_of c)) 0 confs.now }
+{
+    confs.iter().position(|conf| component == conf.component())
+}
+
+/// Puts a configuration in the place of the one that bears its component's name; does nothing where
+/// there is none. Takes no memory.
+pub fn put_conf(confs: &mut Vec<Conf>, conf: Conf)
+    ensures { confs.new.items ≡ put conf confs.old.items }
+{
+    if let Some(place) = place_of(confs.as_slice(), conf.component()) {
+        confs[place] = conf;
+    }
+}
+
+/// Puts each configuration in its component's place. Takes no memory.
+pub fn put_confs(confs: &mut Vec<Conf>, changed: Vec<Conf>)
+    ensures { confs.new.items ≡ put_all changed.items confs.old.items }
+{
+    for conf in changed {
+        put_conf(confs, conf);
+    }
+}
+
+/// Equal configurations with their own memory.
+pub fn copy_confs(alloc: Global, confs: &[Conf]) -> Result<Vec<Conf>, AllocError>
+    ensures { IfOk result (λ v. v.items ≡ confs.now) }
+{
+    let mut copied = Vec::new(alloc);
+    for conf in confs {
+        copied.push(conf.try_copy(alloc)?)?;
+    }
+    Ok(copied)
+}
+
+/// The configurations after a joint step by an action: each participant takes its own step, and all
+/// others stay (Lynch 8.2). `NoChannel` where a participant is no component; else the first fault of
+/// the participants' own steps, the queue's first.
+pub fn joint_step(alloc: Global, confs: &[Conf], action: &Action) -> Result<Vec<Conf>, StepFault>
+    ensures { Answers StepFault.Memory (λ v. v.items) result (joint_answer action.now confs.now) }
+{
+    let changed = changes(alloc, confs, action)?;
+    let mut next = copy_confs(alloc, confs)?;
+    put_confs(&mut next, changed);
+    Ok(next)
+}

@@ -1,0 +1,54 @@
+//! Configurations of components.
+
+ghost use Rattle.std.specs.Prelude.{◌≡◌, IfOk};
+ghost use Rattle.ioa_compose.specs.Outcome.{Answers};
+ghost use Rattle.ioa_compose.specs.Composition.{component_of, conf_answer};
+
+use crate::fault::StepFault;
+use crate::node::NodeConf;
+use crate::queue::Queue;
+use ioa_terms::{Action, Component};
+use std::alloc::{AllocError, Global};
+
+/// The configuration of a component, which bears the component's name.
+#[derive(Drop)]
+pub enum Conf {
+    /// Of a node.
+    Node(NodeConf),
+    /// Of a channel or a script.
+    Queue(Queue),
+}
+
+impl Conf {
+    /// The name of its component.
+    pub fn component(&self) -> Component
+        ensures { result ≡ component_of self.now }
+    {
+        match self {
+            Conf::Node(node) => Component::Node(node.node()),
+            Conf::Queue(queue) => queue.component(),
+        }
+    }
+
+    /// An equal configuration with its own memory.
+    pub fn try_copy(&self, alloc: Global) -> Result<Self, AllocError>
+        ensures { IfOk result (λ c. c ≡ self.now) }
+    {
+        match self {
+            Conf::Node(node) => Ok(Conf::Node(node.try_copy(alloc)?)),
+            Conf::Queue(queue) => Ok(Conf::Queue(queue.try_copy(alloc)?)),
+        }
+    }
+
+    /// The configuration after the component's own step by an action (Lynch 8.1), or the component's
+    /// own fault. It is meant for an action in which the component takes part.
+    #[tactic(auto, unfolding(crate::specs::Composition::conf_answer))]
+    pub fn step(&self, alloc: Global, action: &Action) -> Result<Self, StepFault>
+        ensures { Answers StepFault.Memory (λ c. c) result (conf_answer action.now self.now) }
+    {
+        match self {
+            Conf::Node(node) => Ok(Conf::Node(node.step(alloc, action)?)),
+            Conf::Queue(queue) => Ok(Conf::Queue(queue.step(alloc, action)?)),
+        }
+    }
+}

@@ -1,0 +1,20 @@
+//! Laws of executions: each is what a function ensures that does nothing.
+
+ghost use Rattle.std.specs.Prelude.{◌≡◌, List, Some};
+ghost use Rattle.ioa_terms.specs.declared.action.Action.{Action};
+ghost use Rattle.ioa_compose.specs.declared.configuration.Conf.{Conf};
+ghost use Rattle.ioa_compose.specs.Executions.{replay, ProjectsOnEach};
+ghost use Rattle.ioa_compose.specs.Channels.{HandsOutInOrder, HandsOutPrefix};
+
+/// An execution, projected on a component, is an execution of that component, and ends in the
+/// configuration that the component has at the end (Lynch 8.2).
+pub fn projection_law()
+    ensures { (actions : List Action) (start confs : List Conf) → replay actions start ≡ Some confs → ProjectsOnEach start actions confs }
+{}
+
+/// In an execution each channel hands out its messages in the order in which they were sent, and holds
+/// the rest: what is received is a prefix of what is sent (Lynch 14.1).
+pub fn prefix_law()
+    ensures queued { (actions : List Action) (start confs : List Conf) → replay actions start ≡ Some confs → HandsOutInOrder start actions confs }
+    ensures from_empty { (actions : List Action) (start confs : List Conf) → replay actions start ≡ Some confs → HandsOutPrefix start actions confs }
+{}

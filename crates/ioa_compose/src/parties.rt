@@ -1,0 +1,46 @@
+//! The components that take part in an action.
+
+ghost use Rattle.std.specs.Prelude.{◌≡◌};
+ghost use Rattle.ioa_compose.specs.Participants.{has, listed, takes_part};
+
+use ioa_terms::{Action, Component};
+
+/// The one or two components that take part in an action.
+#[derive(Clone, Copy, Debug)]
+pub enum Parties {
+    /// A node alone.
+    One(Component),
+    /// A queue and then a node.
+    Two(Component, Component),
+}
+
+/// The components that have an action in their signature, the queue first (Lynch 8.2); takes no memory.
+pub fn participants(action: &Action) -> Parties
+    ensures { listed result ≡ has action.now }
+{
+    match action {
+        Action::Send(_, from, to) => Parties::Two(
+            Component::Channel(*from, *to),
+            Component::Node(*from),
+        ),
+        Action::Receive(_, from, to) => Parties::Two(
+            Component::Channel(*from, *to),
+            Component::Node(*to),
+        ),
+        Action::Local(local) => Parties::One(Component::Node(local.node)),
+        Action::Stimulus(stimulus) => Parties::Two(
+            Component::Script(stimulus.node),
+            Component::Node(stimulus.node),
+        ),
+    }
+}
+
+/// Whether a component takes part in an action.
+pub fn takes_part_in(component: Component, action: &Action) -> bool
+    ensures { result ≡ takes_part component action.now }
+{
+    match participants(action) {
+        Parties::One(node) => component == node,
+        Parties::Two(queue, node) => component == queue || component == node,
+    }
+}

@@ -1,0 +1,283 @@
+//! Terms and statements of a text, with each name's place beside it.
+
+ghost use Rattle.std.specs.Prelude.{◌≡◌, IfOk, map, []};
+ghost use Rattle.std.specs.Option.{option_map};
+ghost use Rattle.ioa_source.specs.View.{term_of, place_of, statement_of};
+ghost use Rattle.ioa_source.specs.TextView.{parameter_of, entry_of, variable_of, transition_of};
+ghost use Rattle.ioa_source.specs.Erasure.{erase_term, erase_place, erase_statement, erase_parameter, erase_entry, erase_variable};
+ghost use Rattle.ioa_terms.specs.Meaning.{IsPlaced, IsPlacedStatement, ArePlaced};
+ghost use Rattle.ioa_compose.specs.Placed.{IsPlacedGuard, IsPlacedParameter, ArePlacedParameters, ArePlacedTerms, IsPlacedFiring, ArePlacedFirings, IsPlacedPlace, ArePlacedVariables};
+ghost use Rattle.ioa_compose.specs.FirstSorts.{is_number, is_guard};
+
+use crate::refusal::{Refusal, Row};
+use crate::scope::Scope;
+use ioa_source::{Entry, Parameter, Variable};
+use ioa_terms::{BinaryOperator, Checked, Place, Statement, Term};
+use std::alloc::Global;
+
+/// A term with the places of its names among those in view.
+pub(crate) fn place_term(alloc: Global, scope: &Scope, term: &Term) -> Result<Checked, Refusal>
+    ensures same { IfOk result (λ t. erase_term (term_of t) ≡ term_of term.now) }
+    ensures placed { IfOk result (λ t. IsPlaced (term_of t) scope.now) }
+{
+    match term {
+        Term::Number(n) => Ok(Checked::Number(*n)),
+        Term::Name(name, _) => match scope.place_of(name) {
+            Some(at) => Ok(Checked::Name(name.try_copy(alloc)?, at)),
+            None => Err(Refusal::Row(Row::Unknown)),
+        },
+        Term::Two(operator, a, b) => {
+            let left = place_term(alloc, scope, a)?;
+            let right = place_term(alloc, scope, b)?;
+            Ok(Checked::Two(*operator, Box::new(alloc, left)?, Box::new(alloc, right)?))
+        }
+    }
+}
+
+/// Terms with the places of their names.
+#[tactic(auto, using(crate::proofs::Loops::each_push, crate::proofs::Loops::same_push))]
+pub(crate) fn place_terms(
+    alloc: Global,
+    scope: &Scope,
+    terms: &[Term],
+) -> Result<Vec<Checked>, Refusal>
+    ensures same { IfOk result (λ ts. map erase_term (map term_of ts.items) ≡ map term_of terms.now) }
+    ensures placed { IfOk result (λ ts. ArePlacedTerms (map term_of ts.items) scope.now) }
+{
+    let mut placed = Vec::new(alloc);
+    for term in terms {
+        placed.push(place_term(alloc, scope, term)?)?;
+    }
+    Ok(placed)
+}
+
+/// The place that an assignment writes: one of the first `count` names, those of the state variables.
+fn place_target(
+    alloc: Global,
+    scope: &Scope,
+    count: usize,
+    place: &Place<()>,
+) -> Result<Place<usize>, Refusal>
+    ensures same { IfOk result (λ p. erase_place (place_of p) ≡ place_of place.now) }
+    ensures placed { IfOk result (λ p. IsPlacedPlace (place_of p) scope.now) }
+{
+    let Place::Variable(name, _) = place;
+    let Some(at) = scope.place_of(name) else {
+        return Err(Refusal::Row(Row::Unknown));
+    };
+    if at < count {
+        Ok(Place::Variable(name.try_copy(alloc)?, at))
+    } else {
+        Err(Refusal::Row(Row::Unknown))
+    }
+}
+
+/// A statement of an effect: an assignment of a number to a state variable.
+fn place_assignment(
+    alloc: Global,
+    scope: &Scope,
+    count: usize,
+    statement: &Statement<()>,
+) -> Result<Statement<usize>, Refusal>
+    ensures same { IfOk result (λ s. erase_statement (statement_of s) ≡ statement_of statement.now) }
+    ensures placed { IfOk result (λ s. IsPlacedStatement (statement_of s) scope.now) }
+{
+    match statement {
+        Statement::Assign(place, term) => {
+            if !is_number(term) {
+                return Err(Refusal::Row(Row::Sorts));
+            }
+            let place = place_target(alloc, scope, count, place)?;
+            let term = place_term(alloc, scope, term)?;
+            Ok(Statement::Assign(place, term))
+        }
+        Statement::Fire(_, _, _) => Err(Refusal::Row(Row::Unknown)),
+    }
+}
+
+/// The statements of an effect.
+#[tactic(auto, using(crate::proofs::Loops::each_push, crate::proofs::Loops::same_push))]
+pub(crate) fn place_effect(
+    alloc: Global,
+    scope: &Scope,
+    count: usize,
+    effect: &[Statement<()>],
+) -> Result<Vec<Statement<usize>>, Refusal>
+    ensures same { IfOk result (λ ss. map erase_statement (map statement_of ss.items) ≡ map statement_of effect.now) }
+    ensures placed { IfOk result (λ ss. ArePlaced (map statement_of ss.items) scope.now) }
+{
+    let mut placed = Vec::new(alloc);
+    for statement in effect {
+        placed.push(place_assignment(alloc, scope, count, statement)?)?;
+    }
+    Ok(placed)
+}
+
+/// A guard, which is a truth value.
+pub(crate) fn place_guard(
+    alloc: Global,
+    scope: &Scope,
+    pre: &Option<Term>,
+) -> Result<Option<Checked>, Refusal>
+    ensures same { IfOk result (λ g. option_map erase_term (option_map term_of g) ≡ option_map term_of pre.now) }
+    ensures placed { IfOk result (λ g. IsPlacedGuard (option_map term_of g) scope.now) }
+{
+    match pre {
+        None => Ok(None),
+        Some(guard) => {
+            if !is_guard(guard) {
+                return Err(Refusal::Row(Row::Sorts));
+            }
+            Ok(Some(place_term(alloc, scope, guard)?))
+        }
+    }
+}
+
+/// A statement of a schedule block: a firing of numbers.
+fn place_firing(
+    alloc: Global,
+    variables: &Scope,
+    statement: &Statement<()>,
+) -> Result<Statement<usize>, Refusal>
+    ensures same { IfOk result (λ s. erase_statement (statement_of s) ≡ statement_of statement.now) }
+    ensures placed { IfOk result (λ s. IsPlacedFiring (statement_of s) variables.now) }
+{
+    match statement {
+        Statement::Assign(_, _) => Err(Refusal::Row(Row::Unknown)),
+        Statement::Fire(kind, name, arguments) => {
+            if !arguments.iter().all(is_number) {
+                return Err(Refusal::Row(Row::Sorts));
+            }
+            let name = name.try_copy(alloc)?;
+            let arguments = place_terms(alloc, variables, arguments)?;
+            Ok(Statement::Fire(*kind, name, arguments))
+        }
+    }
+}
+
+/// The statements of a schedule block.
+#[tactic(auto, using(crate::proofs::Loops::each_push, crate::proofs::Loops::same_push))]
+pub(crate) fn place_schedule(
+    alloc: Global,
+    variables: &Scope,
+    schedule: &[Statement<()>],
+) -> Result<Vec<Statement<usize>>, Refusal>
+    ensures same { IfOk result (λ ss. map erase_statement (map statement_of ss.items) ≡ map statement_of schedule.now) }
+    ensures placed { IfOk result (λ ss. ArePlacedFirings (map statement_of ss.items) variables.now) }
+{
+    let mut placed = Vec::new(alloc);
+    for statement in schedule {
+        placed.push(place_firing(alloc, variables, statement)?)?;
+    }
+    Ok(placed)
+}
+
+/// A parameter; a constant one reads no name.
+fn place_parameter(alloc: Global, parameter: &Parameter<()>) -> Result<Parameter<usize>, Refusal>
+    ensures same { IfOk result (λ p. erase_parameter (parameter_of p) ≡ parameter_of parameter.now) }
+    ensures placed { IfOk result (λ p. IsPlacedParameter (parameter_of p)) }
+{
+    match parameter {
+        Parameter::Const(term) => {
+            if !is_number(term) {
+                return Err(Refusal::Row(Row::Sorts));
+            }
+            Ok(Parameter::Const(place_term(alloc, &Scope::new(alloc), term)?))
+        }
+        Parameter::Declared(name, sort) => Ok(Parameter::Declared(name.try_copy(alloc)?, *sort)),
+    }
+}
+
+/// The parameters of an entry.
+#[tactic(auto, using(crate::proofs::Loops::each_push, crate::proofs::Loops::same_push))]
+fn place_parameters(
+    alloc: Global,
+    parameters: &[Parameter<()>],
+) -> Result<Vec<Parameter<usize>>, Refusal>
+    ensures same { IfOk result (λ ps. map erase_parameter (map parameter_of ps.items) ≡ map parameter_of parameters.now) }
+    ensures placed { IfOk result (λ ps. ArePlacedParameters (map parameter_of ps.items)) }
+{
+    let mut placed = Vec::new(alloc);
+    for parameter in parameters {
+        placed.push(place_parameter(alloc, parameter)?)?;
+    }
+    Ok(placed)
+}
+
+/// An entry of a signature.
+pub(crate) fn place_entry(alloc: Global, entry: &Entry<()>) -> Result<Entry<usize>, Refusal>
+    ensures same { IfOk result (λ e. erase_entry (entry_of e) ≡ entry_of entry.now) }
+    ensures placed { IfOk result (λ e. ArePlacedParameters (entry_of e).parameters) }
+{
+    let name = entry.name.try_copy(alloc)?;
+    let parameters = place_parameters(alloc, &entry.parameters)?;
+    Ok(Entry {
+        kind: entry.kind,
+        name,
+        parameters,
+    })
+}
+
+/// A state variable; its initial term reads no name.
+fn place_variable(alloc: Global, variable: &Variable<()>) -> Result<Variable<usize>, Refusal>
+    ensures same { IfOk result (λ v. erase_variable (variable_of v) ≡ variable_of variable.now) }
+    ensures placed { IfOk result (λ v. IsPlacedGuard (variable_of v).initial []) }
+{
+    let Some(initial) = &variable.initial else {
+        return Err(Refusal::Row(Row::NoInitial));
+    };
+    if !is_number(initial) {
+        return Err(Refusal::Row(Row::Sorts));
+    }
+    let name = variable.name.try_copy(alloc)?;
+    let initial = Some(place_term(alloc, &Scope::new(alloc), initial)?);
+    Ok(Variable {
+        name,
+        sort: variable.sort,
+        initial,
+    })
+}
+
+/// The state variables.
+#[tactic(auto, using(crate::proofs::Loops::each_push, crate::proofs::Loops::same_push))]
+pub(crate) fn place_variables(
+    alloc: Global,
+    variables: &[Variable<()>],
+) -> Result<Vec<Variable<usize>>, Refusal>
+    ensures same { IfOk result (λ vs. map erase_variable (map variable_of vs.items) ≡ map variable_of variables.now) }
+    ensures placed { IfOk result (λ vs. ArePlacedVariables (map variable_of vs.items)) }
+{
+    let mut placed = Vec::new(alloc);
+    for variable in variables {
+        placed.push(place_variable(alloc, variable)?)?;
+    }
+    Ok(placed)
+}
+
+/// Whether a term has sort Int.
+fn is_number(term: &Term) -> bool
+    ensures { result ≡ is_number (term_of term.now) }
+{
+    match term {
+        Term::Number(_) => true,
+        Term::Name(_, _) => true,
+        Term::Two(operator, a, b) => match operator {
+            BinaryOperator::Plus => is_number(a) && is_number(b),
+            BinaryOperator::Equal => false,
+        },
+    }
+}
+
+/// Whether a term has sort Bool.
+fn is_guard(term: &Term) -> bool
+    ensures { result ≡ is_guard (term_of term.now) }
+{
+    match term {
+        Term::Number(_) => false,
+        Term::Name(_, _) => false,
+        Term::Two(operator, a, b) => match operator {
+            BinaryOperator::Plus => false,
+            BinaryOperator::Equal => is_number(a) && is_number(b),
+        },
+    }
+}

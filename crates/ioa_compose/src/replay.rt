@@ -1,0 +1,49 @@
+//! Replay of schedules.
+
+ghost use Rattle.std.specs.Prelude.{◌≡◌, ◌⊎◌, IfOk, IfErr};
+ghost use Rattle.ioa_compose.specs.Executions.{replay, replay_answer, IsReplay};
+
+use crate::composition::joint_step;
+use crate::configuration::Conf;
+use crate::fault::StepFault;
+use ioa_terms::Action;
+use std::alloc::Global;
+use thiserror::Error;
+
+/// Why a list of actions has no execution.
+#[derive(Debug, Drop, Error)]
+#[error("{fault} at {place}")]
+pub struct ReplayFault {
+    /// The place of the first action that is no step, counted from 0.
+    pub place: usize,
+    /// Why it is none.
+    pub fault: StepFault,
+}
+
+/// The joint steps by a list of actions, one after another.
+fn steps(alloc: Global, start: Vec<Conf>, actions: &[Action]) -> Result<Vec<Conf>, ReplayFault>
+    ensures { IsReplay (λ v. v.items) result (replay_answer 0 actions.now start.items) }
+{
+    let mut confs = start;
+    for (place, action) in actions.iter().enumerate() {
+        match joint_step(alloc, confs.as_slice(), action) {
+            Ok(next) => confs = next,
+            Err(fault) => return Err(ReplayFault { place, fault }),
+        }
+    }
+    Ok(confs)
+}
+
+/// The configurations after the joint steps by a list of actions (Lynch 8.1), or the first action that
+/// is no step, with the fault of the joint step there. For want of memory it may stop at any place.
+pub fn replay_from(
+    alloc: Global,
+    start: Vec<Conf>,
+    actions: &[Action],
+) -> Result<Vec<Conf>, ReplayFault>
+    ensures answer { IsReplay (λ v. v.items) result (replay_answer 0 actions.now start.items) }
+    ensures execution { IfOk result (λ v. replay actions.now start.items ≡ Some v.items) }
+    ensures no_execution { IfErr result (λ e. (e.fault ≡ StepFault.Memory) ⊎ (replay actions.now start.items ≡ None)) }
+{
+    steps(alloc, start, actions)
+}

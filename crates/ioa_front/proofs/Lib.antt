@@ -1,0 +1,4 @@
+pub mod Lists
+pub mod Terms
+pub mod Exits
+pub mod Groups
