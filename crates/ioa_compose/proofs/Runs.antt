@@ -5,7 +5,7 @@ use Rattle.ioa_terms.specs.declared.action.Action.{Action}
 use Rattle.ioa_compose.specs.declared.configuration.Conf.{Conf}
 use Rattle.ioa_compose.specs.declared.fault.StepFault.{StepFault}
 use Rattle.ioa_compose.specs.declared.fault.StepFault.TheVariants.{Memory}
-use Rattle.ioa_compose.specs.declared.replay.ReplayFault.{ReplayFault}
+use Rattle.ioa_compose.specs.declared.replaying.ReplayFault.{ReplayFault}
 use Rattle.ioa_compose.specs.Composition.{joint_answer}
 use Rattle.ioa_compose.specs.Executions.{after_step, replay, replay_answer, replay_after_step, IsReplay}
 

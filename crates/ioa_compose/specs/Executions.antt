@@ -5,7 +5,7 @@ use Rattle.ioa_terms.specs.declared.action.Action.{Action}
 use Rattle.ioa_compose.specs.declared.configuration.Conf.{Conf}
 use Rattle.ioa_compose.specs.declared.fault.StepFault.{StepFault}
 use Rattle.ioa_compose.specs.declared.fault.StepFault.TheVariants.{Memory}
-use Rattle.ioa_compose.specs.declared.replay.ReplayFault.{ReplayFault}
+use Rattle.ioa_compose.specs.declared.replaying.ReplayFault.{ReplayFault}
 use Rattle.ioa_compose.specs.Participants.{takes_part}
 use Rattle.ioa_compose.specs.Composition.{conf_answer, joint_answer, find_conf}
 

@@ -12,5 +12,6 @@ pub mod Participants
 pub mod Parts
 pub mod Placed
 pub mod Queues
+pub mod Start
 pub mod StepFaults
 pub mod Systems

@@ -2,7 +2,7 @@
 #![tactic(auto)]
 
 mod building;
-mod check;
+mod checking;
 mod composition;
 mod configuration;
 mod fault;
@@ -14,12 +14,13 @@ mod program;
 mod projection;
 mod queue;
 mod refusal;
-mod replay;
+mod replaying;
 mod rule;
 mod scope;
+mod starting;
 mod system;
 
-pub use check::check_text;
+pub use checking::check;
 pub use composition::{changes, copy_confs, find_conf, joint_step, put_conf, put_confs};
 pub use configuration::Conf;
 pub use fault::StepFault;
@@ -30,6 +31,7 @@ pub use program::{Program, Rule};
 pub use projection::project;
 pub use queue::{Item, Queue};
 pub use refusal::{CheckFault, Row};
-pub use replay::{ReplayFault, replay_from};
+pub use replaying::{ReplayFault, replay, replay_from};
 pub use scope::Scope;
+pub use starting::start;
 pub use system::System;

@@ -3,12 +3,13 @@
 ghost use Rattle.std.specs.Prelude.{◌≡◌, IfOk};
 ghost use Rattle.ioa_compose.specs.Outcome.{Answers};
 ghost use Rattle.ioa_compose.specs.NodeStep.{node_answer};
-ghost use Rattle.ioa_compose.specs.NodeState.{IsValued};
+ghost use Rattle.std.specs.Arc.{arc_value};
+ghost use Rattle.ioa_compose.specs.NodeState.{node_state};
 
 use crate::fault::StepFault;
 use crate::program::Program;
 use crate::rule::values_after;
-use ioa_terms::{Action, Values};
+use ioa_terms::{Action, Values, copies};
 use std::alloc::{AllocError, Global};
 use std::marker::Model;
 use std::sync::Arc;
@@ -36,6 +37,15 @@ impl Model for NodeConf {
 }
 
 impl NodeConf {
+    /// The start configuration of a program (Lynch 8.1): each variable has its initial value.
+    pub fn start(alloc: Global, program: &Arc<Program>) -> Result<Self, AllocError>
+        ensures { IfOk result (λ c. c ≡ node_state (arc_value program.now) (arc_value program.now).initial) }
+    {
+        let variables = Values::from_vec(copies(alloc, program.initial())?);
+        let program = Arc::try_clone(program)?;
+        Ok(NodeConf { program, variables })
+    }
+
     /// The number of the node.
     pub fn node(&self) -> i64
         ensures { result ≡ self.now.program.node }

@@ -7,6 +7,7 @@ use crate::program::Program;
 use crate::refusal::{CheckFault, Refusal, Row};
 use crate::scope::Scope;
 use crate::system::System;
+use ioa_front::Source;
 use ioa_source::{Automaton, Channel, Declaration, Node, Parameter, Placement, Text};
 use ioa_terms::{Names, Term, Tree, Word};
 use std::alloc::Global;
@@ -24,9 +25,14 @@ const SEND: &str = "send";
 /// The name of the action that takes a message from a channel.
 const RECEIVE: &str = "receive";
 
-/// Makes the system that a text describes. Where a row of refusal stands in the text, one that stands
-/// is answered, with the place of its declaration.
-pub fn check_text(alloc: Global, text: &Text<()>) -> Result<System, CheckFault> {
+/// Makes the system that a source describes. Where a row of refusal stands in the source, one that
+/// stands is answered, with the place of its declaration. The source is spent, at a refusal too.
+pub fn check(alloc: Global, source: Source) -> Result<System, CheckFault> {
+    check_text(alloc, source.text())
+}
+
+/// Makes the system that a text describes.
+fn check_text(alloc: Global, text: &Text<()>) -> Result<System, CheckFault> {
     check_declarations(alloc, &text.declarations)?;
     match check_placements(alloc, text) {
         Ok(system) => Ok(system),

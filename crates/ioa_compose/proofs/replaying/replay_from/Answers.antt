@@ -1,5 +1,5 @@
 use Rattle.ioa_compose.proofs.Runs.{IsReplay-execution, IsReplay-no_execution}
-use Rattle.ioa_compose.proofs.replay.replay_from.Goals as goal
+use Rattle.ioa_compose.proofs.replaying.replay_from.Goals as goal
 
 pub returns-clause-execution : goal.returns-clause-execution
 returns-clause-execution c = IsReplay-execution _ _ c.args.actions.now c.args.start.items c.steps.ensures

@@ -1,11 +1,14 @@
 //! Replay of schedules.
 
 ghost use Rattle.std.specs.Prelude.{◌≡◌, ◌⊎◌, IfOk, IfErr};
+ghost use Rattle.ioa_compose.specs.Start.{start};
 ghost use Rattle.ioa_compose.specs.Executions.{replay, replay_answer, IsReplay};
 
 use crate::composition::joint_step;
 use crate::configuration::Conf;
 use crate::fault::StepFault;
+use crate::starting::start;
+use crate::system::System;
 use ioa_terms::Action;
 use std::alloc::Global;
 use thiserror::Error;
@@ -46,4 +49,24 @@ pub fn replay_from(
     ensures no_execution { IfErr result (λ e. (e.fault ≡ StepFault.Memory) ⊎ (replay actions.now start.items ≡ None)) }
 {
     steps(alloc, start, actions)
+}
+
+/// The configurations after the joint steps by a list of actions from a system's start (Lynch 8.1), or
+/// the first action that is no step, with the fault of the joint step there. For want of memory it may
+/// stop at any place.
+pub fn replay(
+    alloc: Global,
+    system: &System,
+    actions: &[Action],
+) -> Result<Vec<Conf>, ReplayFault>
+    ensures answer { IsReplay (λ v. v.items) result (replay_answer 0 actions.now (start system.now)) }
+    ensures execution { IfOk result (λ v. replay actions.now (start system.now) ≡ Some v.items) }
+{
+    match start(alloc, system) {
+        Ok(confs) => replay_from(alloc, confs, actions),
+        Err(_) => Err(ReplayFault {
+            place: 0,
+            fault: StepFault::Memory,
+        }),
+    }
 }

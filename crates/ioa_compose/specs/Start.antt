@@ -1,0 +1,26 @@
+-- The start of a system (Lynch 8.1 and 14.1).
+use Rattle.std.specs.Prelude.{List, [], ◌++◌, map}
+use Rattle.ioa_terms.specs.declared.component.Component.TheVariants as component
+use Rattle.ioa_source.specs.declared.declaration.Channel.{Channel}
+use Rattle.ioa_compose.specs.declared.configuration.Conf.{Conf}
+use Rattle.ioa_compose.specs.declared.configuration.Conf.TheVariants.{Node, Queue}
+use Rattle.ioa_compose.specs.NodeState.{node_state}
+use Rattle.ioa_compose.specs.Parts.{Parts}
+use Rattle.ioa_compose.specs.Queues.{queue_state}
+use Rattle.ioa_compose.specs.Systems.{SystemParts}
+
+-- a node starts with the initial values of its variables
+abbrev pub node_start : Parts → Conf
+node_start p = Node (node_state p p.initial)
+
+-- a channel starts empty
+abbrev pub channel_start : Channel → Conf
+channel_start c = Queue (queue_state (component.Channel c.from c.to) [])
+
+-- a script starts with the stimuli declared, of which this form has none
+abbrev pub script_start : Parts → Conf
+script_start p = Queue (queue_state (component.Script p.node) [])
+
+-- the start configurations: nodes by number, channels as declared, scripts by number
+abbrev pub start : SystemParts → List Conf
+start s = map node_start s.programs ++ map channel_start s.channels ++ map script_start s.programs
