@@ -6,6 +6,7 @@ pub mod Channels
 pub mod Composition
 pub mod Executions
 pub mod FirstSorts
+pub mod Made
 pub mod NodeState
 pub mod NodeStep
 pub mod Participants

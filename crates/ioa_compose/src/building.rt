@@ -1,9 +1,12 @@
 //! A node's program, made of its automaton.
 
 ghost use Rattle.std.specs.Prelude.{◌≡◌, ◌++◌, All, [], ◌∷◌, IfOk, map, length};
-ghost use Rattle.std.specs.Option.{option_map};
+ghost use Rattle.std.specs.Option.{option_map, option_copied};
+ghost use Rattle.std.specs.List.{AllByRecursion};
+ghost use Rattle.ioa_source.specs.Erasure.{erase_entry, erase_transition};
+ghost use Rattle.ioa_compose.specs.Made.{IsProgramOf, IsRuleOf, transition_for};
 ghost use Rattle.ioa_source.specs.View.{term_of};
-ghost use Rattle.ioa_source.specs.TextView.{parameter_of, entry_of, transition_of, variable_of};
+ghost use Rattle.ioa_source.specs.TextView.{automaton_of, parameter_of, entry_of, transition_of, variable_of};
 ghost use Rattle.ioa_terms.specs.Meaning.{ArePlaced};
 ghost use Rattle.ioa_compose.specs.Placed.{IsPlacedRule, ArePlacedVariables, IsPlacedGuard, own_name, variable_names, scope_of};
 
@@ -23,7 +26,8 @@ pub(crate) fn program_of(
     node: i64,
     automaton: &Automaton<()>,
 ) -> Result<Program, Refusal>
-    ensures { IfOk result (λ p. p.node ≡ node) }
+    ensures node { IfOk result (λ p. p.node ≡ node) }
+    ensures made { IfOk result (IsProgramOf (automaton_of automaton.now)) }
 {
     actions_differ(alloc, automaton)?;
     let variables = place_variables(alloc, &automaton.states)?;
@@ -121,7 +125,11 @@ fn rules_of(
     automaton: &Automaton<()>,
     variables: &[Variable<usize>],
 ) -> Result<Vec<Rule>, Refusal>
-    ensures { IfOk result (λ rs. All (IsPlacedRule (map variable_of variables.now)) rs.items) }
+    ensures placed { IfOk result (λ rs. All (IsPlacedRule (map variable_of variables.now)) rs.items) }
+    ensures signature {
+        IfOk result (λ rs. map (λ r. erase_entry (entry_of r.entry)) rs.items ≡ (automaton_of automaton.now).signature)
+    }
+    ensures transitions { IfOk result (λ rs. AllByRecursion (IsRuleOf (automaton_of automaton.now)) rs.items) }
 {
     let mut rules = Vec::new(alloc);
     for entry in &automaton.signature {
@@ -138,7 +146,9 @@ fn rule_of(
     entry: &Entry<()>,
     variables: &[Variable<usize>],
 ) -> Result<Rule, Refusal>
-    ensures { IfOk result (IsPlacedRule (map variable_of variables.now)) }
+    ensures placed { IfOk result (IsPlacedRule (map variable_of variables.now)) }
+    ensures entry { IfOk result (λ r. erase_entry (entry_of r.entry) ≡ entry_of entry.now) }
+    ensures transition { IfOk result (IsRuleOf (automaton_of automaton.now)) }
 {
     let Some(transition) = transition_for(automaton, entry) else {
         return Err(Refusal::Row(Row::NoTransition));
@@ -166,6 +176,7 @@ fn place_transition(
     count: usize,
     transition: &Transition<()>,
 ) -> Result<Transition<usize>, Refusal>
+    ensures same { IfOk result (λ t. erase_transition (transition_of t) ≡ transition_of transition.now) }
     ensures guard { IfOk result (λ t. IsPlacedGuard (transition_of t).pre scope.now) }
     ensures effect { IfOk result (λ t. ArePlaced (transition_of t).effect scope.now) }
 {
@@ -186,7 +197,12 @@ fn place_transition(
 fn transition_for<'a>(
     automaton: &'a Automaton<()>,
     entry: &Entry<()>,
-) -> Option<&'a Transition<()>> {
+) -> Option<&'a Transition<()>>
+    ensures {
+        option_map transition_of (option_copied result)
+            ≡ transition_for (entry_of entry.now) (automaton_of automaton.now).transitions
+    }
+{
     for transition in &automaton.transitions {
         if transition.name == entry.name && transition.kind == entry.kind {
             return Some(transition);

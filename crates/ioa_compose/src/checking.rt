@@ -1,6 +1,11 @@
 //! From a text to a system, or the first row of refusal found in it.
 
-ghost use Rattle.std.specs.Prelude.{◌≡◌};
+ghost use Rattle.std.specs.Prelude.{◌≡◌, ◌<◌, ◌^◌, Some, Contains, IfOk, IfSome, map, length};
+ghost use Rattle.std.specs.Option.{option_map, option_copied};
+ghost use Rattle.std.specs.Arc.{arc_value};
+ghost use Rattle.ioa_source.specs.TextView.{text_of, declaration_of, automaton_of};
+ghost use Rattle.ioa_source.specs.declared.declaration.Node.{Node};
+ghost use Rattle.ioa_compose.specs.Made.{IsSystemOf, IsNodeOf, AreNodesOf, nodes_in, channels_in, automaton_named};
 
 use crate::building::program_of;
 use crate::program::Program;
@@ -27,12 +32,16 @@ const RECEIVE: &str = "receive";
 
 /// Makes the system that a source describes. Where a row of refusal stands in the source, one that
 /// stands is answered, with the place of its declaration. The source is spent, at a refusal too.
-pub fn check(alloc: Global, source: Source) -> Result<System, CheckFault> {
+pub fn check(alloc: Global, source: Source) -> Result<System, CheckFault>
+    ensures { IfOk result (IsSystemOf (text_of source.text)) }
+{
     check_text(alloc, source.text())
 }
 
 /// Makes the system that a text describes.
-fn check_text(alloc: Global, text: &Text<()>) -> Result<System, CheckFault> {
+fn check_text(alloc: Global, text: &Text<()>) -> Result<System, CheckFault>
+    ensures { IfOk result (IsSystemOf (text_of text.now)) }
+{
     check_declarations(alloc, &text.declarations)?;
     match check_placements(alloc, text) {
         Ok(system) => Ok(system),
@@ -66,19 +75,34 @@ fn check_declaration(
 }
 
 /// The system of a text whose declarations passed.
-fn check_placements(alloc: Global, text: &Text<()>) -> Result<System, Refusal> {
+fn check_placements(alloc: Global, text: &Text<()>) -> Result<System, Refusal>
+    ensures { IfOk result (IsSystemOf (text_of text.now)) }
+{
     let nodes = nodes_of(alloc, text)?;
     let channels = channels_of(alloc, text)?;
-    let automata = automata_of(alloc, text, &nodes)?;
-    let programs = programs_of(alloc, &automata)?;
-    for channel in &channels {
-        check_channel(&automata, channel)?;
-    }
+    let programs = programs_of(alloc, text, &nodes)?;
+    check_channels(alloc, text, &nodes, &channels)?;
     Ok(System::new(Names::none(alloc), programs, channels))
 }
 
+/// Passes where each channel joins two nodes and its receiver takes messages of its sender.
+fn check_channels(
+    alloc: Global,
+    text: &Text<()>,
+    nodes: &[&Node],
+    channels: &[Channel],
+) -> Result<(), Refusal> {
+    let automata = automata_of(alloc, text, nodes)?;
+    for channel in channels {
+        check_channel(&automata, channel)?;
+    }
+    Ok(())
+}
+
 /// The nodes of a text, as declared: at most 64, no two of one number.
-fn nodes_of<'a>(alloc: Global, text: &'a Text<()>) -> Result<Vec<&'a Node>, Refusal> {
+fn nodes_of<'a>(alloc: Global, text: &'a Text<()>) -> Result<Vec<&'a Node>, Refusal>
+    ensures { IfOk result (λ ns. map (λ n. n.now) ns.items ≡ nodes_in text.now.system.items) }
+{
     let mut nodes: Vec<&'a Node> = Vec::new(alloc);
     for placement in &text.system {
         if let Placement::Node(node) = placement {
@@ -95,7 +119,9 @@ fn nodes_of<'a>(alloc: Global, text: &'a Text<()>) -> Result<Vec<&'a Node>, Refu
 }
 
 /// The channels of a text, as declared: at most 256, no two between the same nodes.
-fn channels_of(alloc: Global, text: &Text<()>) -> Result<Vec<Channel>, Refusal> {
+fn channels_of(alloc: Global, text: &Text<()>) -> Result<Vec<Channel>, Refusal>
+    ensures { IfOk result (λ cs. cs.items ≡ channels_in text.now.system.items) }
+{
     let mut channels: Vec<Channel> = Vec::new(alloc);
     for placement in &text.system {
         if let Placement::Channel(channel) = placement {
@@ -119,23 +145,37 @@ fn automata_of<'a>(
 ) -> Result<Vec<&'a Automaton<()>>, Refusal> {
     let mut automata: Vec<&'a Automaton<()>> = Vec::new(alloc);
     for place in 0..nodes.len() {
-        let number = place as i64;
-        let Some(node) = node_of(nodes, number) else {
-            return Err(Refusal::Row(Row::NodeGap));
-        };
-        let Some(automaton) = automaton_named(&text.declarations, &node.automaton) else {
-            return Err(Refusal::Row(Row::Unknown));
-        };
-        if !is_at_home(automaton, number) {
-            return Err(Refusal::Row(Row::BadArgument));
-        }
-        automata.push(automaton)?;
+        automata.push(automaton_on(text, nodes, place as i64)?)?;
     }
     Ok(automata)
 }
 
+/// The automaton that is placed on the node of a number.
+fn automaton_on<'a>(
+    text: &'a Text<()>,
+    nodes: &[&'a Node],
+    number: i64,
+) -> Result<&'a Automaton<()>, Refusal>
+    ensures {
+        IfOk result (λ a. (n : Node) × Contains (map (λ n. n.now) nodes.now) n × (n.number ≡ number)
+            × (automaton_named n.automaton (map declaration_of text.entry.now.declarations.items)
+                ≡ Some (automaton_of a.now)))
+    }
+{
+    let Some(node) = node_of(nodes, number) else {
+        return Err(Refusal::Row(Row::NodeGap));
+    };
+    match automaton_of_name(&text.declarations, &node.automaton) {
+        Some(automaton) => Ok(automaton),
+        None => Err(Refusal::Row(Row::Unknown)),
+    }
+}
+
 /// The node of a number.
-fn node_of<'a>(nodes: &[&'a Node], number: i64) -> Option<&'a Node> {
+fn node_of<'a>(nodes: &[&'a Node], number: i64) -> Option<&'a Node>
+    ensures number { IfSome result (λ n. n.now.number ≡ number) }
+    ensures declared { IfSome result (λ n. Contains (map (λ n. n.now) nodes.now) n.now) }
+{
     for node in nodes {
         if node.number == number {
             return Some(node);
@@ -145,10 +185,15 @@ fn node_of<'a>(nodes: &[&'a Node], number: i64) -> Option<&'a Node> {
 }
 
 /// The automaton of a name.
-fn automaton_named<'a>(
+fn automaton_of_name<'a>(
     declarations: &'a [Declaration<()>],
     name: &Word,
-) -> Option<&'a Automaton<()>> {
+) -> Option<&'a Automaton<()>>
+    ensures {
+        option_map automaton_of (option_copied result)
+            ≡ automaton_named name.now (map declaration_of declarations.entry.now)
+    }
+{
     for declaration in declarations {
         let Declaration::Automaton(automaton) = declaration;
         if automaton.name == *name {
@@ -161,14 +206,39 @@ fn automaton_named<'a>(
 /// The programs of the nodes, node 0 first.
 fn programs_of(
     alloc: Global,
-    automata: &[&Automaton<()>],
-) -> Result<Vec<Arc<Program>>, Refusal> {
+    text: &Text<()>,
+    nodes: &[&Node],
+) -> Result<Vec<Arc<Program>>, Refusal>
+    requires { map (λ n. n.now) nodes.now ≡ nodes_in text.now.system.items }
+    ensures nodes { IfOk result (λ ps. AreNodesOf (text_of text.now) 0 (map arc_value ps.items)) }
+    ensures many { IfOk result (λ ps. length ps.items ≡ length nodes.now) }
+{
     let mut programs = Vec::new(alloc);
-    for place in 0..automata.len() {
-        let program = program_of(alloc, place as i64, automata[place])?;
-        programs.push(Arc::new(alloc, program)?)?;
+    for place in 0..nodes.len() {
+        let program = node_program(alloc, text, nodes, place)?;
+        programs.push(program)?;
     }
     Ok(programs)
+}
+
+/// The program of a node.
+fn node_program(
+    alloc: Global,
+    text: &Text<()>,
+    nodes: &[&Node],
+    place: usize,
+) -> Result<Arc<Program>, Refusal>
+    requires nodes { map (λ n. n.now) nodes.now ≡ nodes_in text.now.system.items }
+    requires small { place < 2 ^ 63 }
+    ensures { IfOk result (λ p. IsNodeOf (text_of text.now) place (arc_value p)) }
+{
+    let number = place as i64;
+    let automaton = automaton_on(text, nodes, number)?;
+    if !is_at_home(automaton, number) {
+        return Err(Refusal::Row(Row::BadArgument));
+    }
+    let program = program_of(alloc, number, automaton)?;
+    Ok(Arc::new(alloc, program)?)
 }
 
 /// Whether the sends of an automaton are from this node and its receives to it (profile): `send` has

@@ -1,0 +1,93 @@
+-- When a system is the one that a text describes (profile).
+use Rattle.std.specs.Prelude.{◌≡◌, ℕ, ℤ, pos, Bool, true, false, ◌&&◌, List, [], ◌∷◌, ◌++◌, ◌+◌, Option, Some, None, map, length, find, Contains}
+use Rattle.std.specs.List.{AllByRecursion}
+use Rattle.std.specs.Option.{option_map}
+use Rattle.ioa_terms.specs.Bindings.{same_name}
+use Rattle.ioa_terms.specs.declared.tree.Kind.{Kind}
+use Rattle.ioa_terms.specs.declared.tree.Kind.TheVariants.{Input, Output, Internal}
+use Rattle.ioa_source.specs.View.{statement_of}
+use Rattle.ioa_source.specs.TextView.{entry_of, variable_of, transition_of}
+use Rattle.ioa_source.specs.Erasure.{erase_entry, erase_variable, erase_transition, erase_statement}
+use Rattle.ioa_source.specs.PlainText.{PlainEntry, PlainTransition, PlainAutomaton, PlainDeclaration, automaton, PlainText}
+use Rattle.ioa_source.specs.declared.declaration.Placement.{Placement}
+use Rattle.ioa_source.specs.declared.declaration.Placement.TheVariants as placement
+use Rattle.ioa_source.specs.declared.declaration.Node.{Node}
+use Rattle.ioa_source.specs.declared.declaration.Channel.{Channel}
+use Rattle.ioa_compose.specs.declared.program.Rule.{Rule}
+use Rattle.ioa_compose.specs.Parts.{Parts}
+use Rattle.ioa_compose.specs.Systems.{SystemParts}
+
+abbrev pub same_kind : Kind → Kind → Bool
+same_kind Input Input = true
+same_kind Output Output = true
+same_kind Internal Internal = true
+same_kind _ _ = false
+
+-- the transition of an entry: the first of its name and kind
+abbrev pub transition_for : {N : Type 0} → PlainEntry N → List (PlainTransition N) → Option (PlainTransition N)
+transition_for e ts = find (λ t. same_name t.name e.name && same_kind t.kind e.kind) ts
+
+-- a rule of an automaton: its transition is the one of its entry
+abbrev pub IsRuleOf : PlainAutomaton (Unit {0}) → Rule → Type 0
+IsRuleOf a r = transition_for (erase_entry (entry_of r.entry)) a.transitions ≡ Some (erase_transition (transition_of r.transition))
+
+-- a program of an automaton: without what stands beside its names it is what the automaton's text says
+pub record IsProgramOf (a : PlainAutomaton (Unit {0})) (p : Parts) : Type 0 where
+  pub signature : map (λ r. erase_entry (entry_of r.entry)) p.rules ≡ a.signature
+  pub transitions : AllByRecursion (IsRuleOf a) p.rules
+  pub states : map erase_variable (map variable_of p.variables) ≡ a.states
+  pub schedule : map erase_statement (map statement_of p.schedule) ≡ a.schedule
+
+-- the automaton of a name
+abbrev pub is_named : List ℕ → PlainDeclaration (Unit {0}) → Bool
+is_named x (automaton a) = same_name a.name x
+
+abbrev pub automaton_in : PlainDeclaration (Unit {0}) → PlainAutomaton (Unit {0})
+automaton_in (automaton a) = a
+
+abbrev pub automaton_named : List ℕ → List (PlainDeclaration (Unit {0})) → Option (PlainAutomaton (Unit {0}))
+automaton_named x ds = option_map automaton_in (find (is_named x) ds)
+
+-- the nodes of a system section, as declared
+abbrev pub node_in : Placement → List Node
+node_in (placement.Node n) = n ∷ []
+node_in (placement.Channel c) = []
+
+abbrev pub nodes_in : List Placement → List Node
+nodes_in [] = []
+nodes_in (p ∷ more) = node_in p ++ nodes_in more
+
+-- its channels, as declared
+abbrev pub channel_in : Placement → List Channel
+channel_in (placement.Node n) = []
+channel_in (placement.Channel c) = c ∷ []
+
+abbrev pub channels_in : List Placement → List Channel
+channels_in [] = []
+channels_in (p ∷ more) = channel_in p ++ channels_in more
+
+-- a node of a text: one of the system section of this number, on which this automaton is placed
+pub record IsPlacedOn (t : PlainText (Unit {0})) (k : ℕ) (a : PlainAutomaton (Unit {0})) : Type 0 where
+  pub node : Node
+  pub declared : Contains (nodes_in t.system) node
+  pub number : node.number ≡ pos k
+  pub automaton : automaton_named node.automaton t.declarations ≡ Some a
+
+-- the program of node k of a text
+pub record IsNodeOf (t : PlainText (Unit {0})) (k : ℕ) (p : Parts) : Type 0 where
+  pub automaton : PlainAutomaton (Unit {0})
+  pub placed : IsPlacedOn t k automaton
+  pub number : p.node ≡ pos k
+  pub program : IsProgramOf automaton p
+
+-- the programs of the nodes of a text from node k on
+abbrev pub AreNodesOf : PlainText (Unit {0}) → ℕ → List Parts → Type 0
+AreNodesOf t k [] = Unit {0}
+AreNodesOf t k (p ∷ more) = IsNodeOf t k p × AreNodesOf t (k + 1) more
+
+-- the system of a text: one program for each of its nodes, node 0 first, and its channels
+pub record IsSystemOf (t : PlainText (Unit {0})) (s : SystemParts) : Type 0 where
+  pub nodes : AreNodesOf t 0 s.programs
+  pub many : length s.programs ≡ length (nodes_in t.system)
+  pub channels : s.channels ≡ channels_in t.system
+  pub names : s.names ≡ []
