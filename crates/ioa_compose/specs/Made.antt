@@ -1,8 +1,14 @@
 -- When a system is the one that a text describes (profile).
-use Rattle.std.specs.Prelude.{◌≡◌, ℕ, ℤ, pos, Bool, true, false, ◌&&◌, List, [], ◌∷◌, ◌++◌, ◌+◌, Option, Some, None, map, length, find, Contains}
+use Rattle.std.specs.Prelude.{◌≡◌, ℕ, ℤ, pos, Bool, true, false, ◌&&◌, List, [], ◌∷◌, ◌++◌, ◌+◌, Option, Some, None, Result, Ok, Err, map, length, find, Contains}
 use Rattle.std.specs.List.{AllByRecursion}
 use Rattle.std.specs.Option.{option_map}
+use Rattle.ioa_compose.specs.Data.{Data}
 use Rattle.ioa_terms.specs.Bindings.{same_name}
+use Rattle.ioa_terms.specs.Meaning.{answer}
+use Rattle.ioa_terms.specs.declared.fault.TermFault.{TermFault}
+use Rattle.ioa_terms.specs.declared.fault.TermFault.TheVariants.{Undefined}
+use Rattle.ioa_source.specs.PlainTerm.{PlainTerm}
+use Rattle.ioa_source.specs.declared.declaration.Variable.{Variable}
 use Rattle.ioa_terms.specs.declared.tree.Kind.{Kind}
 use Rattle.ioa_terms.specs.declared.tree.Kind.TheVariants.{Input, Output, Internal}
 use Rattle.ioa_source.specs.View.{statement_of}
@@ -17,51 +23,71 @@ use Rattle.ioa_compose.specs.declared.program.Rule.{Rule}
 use Rattle.ioa_compose.specs.Parts.{Parts}
 use Rattle.ioa_compose.specs.Systems.{SystemParts}
 
+-- whether two kinds are the same
 abbrev pub same_kind : Kind → Kind → Bool
 same_kind Input Input = true
+same_kind Input Output = false
+same_kind Input Internal = false
+same_kind Output Input = false
 same_kind Output Output = true
+same_kind Output Internal = false
+same_kind Internal Input = false
+same_kind Internal Output = false
 same_kind Internal Internal = true
-same_kind _ _ = false
 
 -- the transition of an entry: the first of its name and kind
 abbrev pub transition_for : {N : Type 0} → PlainEntry N → List (PlainTransition N) → Option (PlainTransition N)
 transition_for e ts = find (λ t. same_name t.name e.name && same_kind t.kind e.kind) ts
 
+-- what a term answers that reads no name; where none is written there is no value
+abbrev pub term_answer : Option (PlainTerm ℕ) → Result Data TermFault
+term_answer None = Err Undefined
+term_answer (Some t) = answer t []
+
 -- a rule of an automaton: its transition is the one of its entry
 abbrev pub IsRuleOf : PlainAutomaton (Unit {0}) → Rule → Type 0
 IsRuleOf a r = transition_for (erase_entry (entry_of r.entry)) a.transitions ≡ Some (erase_transition (transition_of r.transition))
+
+-- what the initial term of a state variable answers; it reads no name
+abbrev pub initial_answer : Variable ℕ → Result Data TermFault
+initial_answer v = term_answer (variable_of v).initial
 
 -- a program of an automaton: without what stands beside its names it is what the automaton's text says
 pub record IsProgramOf (a : PlainAutomaton (Unit {0})) (p : Parts) : Type 0 where
   pub signature : map (λ r. erase_entry (entry_of r.entry)) p.rules ≡ a.signature
   pub transitions : AllByRecursion (IsRuleOf a) p.rules
   pub states : map erase_variable (map variable_of p.variables) ≡ a.states
+  pub initial : map initial_answer p.variables ≡ map Ok p.initial
   pub schedule : map erase_statement (map statement_of p.schedule) ≡ a.schedule
 
--- the automaton of a name
+-- whether a declaration is the automaton of a name
 abbrev pub is_named : List ℕ → PlainDeclaration (Unit {0}) → Bool
 is_named x (automaton a) = same_name a.name x
 
+-- the automaton that a declaration is
 abbrev pub automaton_in : PlainDeclaration (Unit {0}) → PlainAutomaton (Unit {0})
 automaton_in (automaton a) = a
 
+-- the automaton of a name, the first where several bear it
 abbrev pub automaton_named : List ℕ → List (PlainDeclaration (Unit {0})) → Option (PlainAutomaton (Unit {0}))
 automaton_named x ds = option_map automaton_in (find (is_named x) ds)
 
--- the nodes of a system section, as declared
+-- the node that a placement is, where it is one
 abbrev pub node_in : Placement → List Node
 node_in (placement.Node n) = n ∷ []
 node_in (placement.Channel c) = []
 
+-- the nodes of a system section, as declared
 abbrev pub nodes_in : List Placement → List Node
 nodes_in [] = []
 nodes_in (p ∷ more) = node_in p ++ nodes_in more
 
--- its channels, as declared
+-- the channel that a placement is, where it is one
 abbrev pub channel_in : Placement → List Channel
 channel_in (placement.Node n) = []
 channel_in (placement.Channel c) = c ∷ []
 
+-- the channels of a system section, as declared
 abbrev pub channels_in : List Placement → List Channel
 channels_in [] = []
 channels_in (p ∷ more) = channel_in p ++ channels_in more

@@ -1,10 +1,10 @@
 //! A node's program, made of its automaton.
 
-ghost use Rattle.std.specs.Prelude.{◌≡◌, ◌++◌, All, [], ◌∷◌, IfOk, map, length};
+ghost use Rattle.std.specs.Prelude.{◌≡◌, ◌++◌, All, [], ◌∷◌, IfOk, Ok, map, length};
 ghost use Rattle.std.specs.Option.{option_map, option_copied};
 ghost use Rattle.std.specs.List.{AllByRecursion};
 ghost use Rattle.ioa_source.specs.Erasure.{erase_entry, erase_transition};
-ghost use Rattle.ioa_compose.specs.Made.{IsProgramOf, IsRuleOf, transition_for};
+ghost use Rattle.ioa_compose.specs.Made.{IsProgramOf, IsRuleOf, initial_answer, term_answer, transition_for};
 ghost use Rattle.ioa_source.specs.View.{term_of};
 ghost use Rattle.ioa_source.specs.TextView.{automaton_of, parameter_of, entry_of, transition_of, variable_of};
 ghost use Rattle.ioa_terms.specs.Meaning.{ArePlaced};
@@ -95,11 +95,13 @@ fn declare_parameter(
 /// The values of the state variables in the start state.
 fn initial_values(alloc: Global, variables: &[Variable<usize>]) -> Result<Vec<Value>, Refusal>
     requires { ArePlacedVariables (map variable_of variables.now) }
-    ensures { IfOk result (λ vs. length vs.items ≡ length variables.now) }
+    ensures many { IfOk result (λ vs. length vs.items ≡ length variables.now) }
+    ensures values { IfOk result (λ vs. map initial_answer variables.now ≡ map Ok vs.items) }
 {
     let mut values = Vec::new(alloc);
     for variable in variables {
-        values.push(initial_value(alloc, &variable.initial)?)?;
+        let value = initial_value(alloc, &variable.initial)?;
+        values.push(value)?;
     }
     Ok(values)
 }
@@ -107,6 +109,7 @@ fn initial_values(alloc: Global, variables: &[Variable<usize>]) -> Result<Vec<Va
 /// The value of an initial term.
 fn initial_value(alloc: Global, initial: &Option<Checked>) -> Result<Value, Refusal>
     requires { IsPlacedGuard (option_map term_of initial.now) [] }
+    ensures { IfOk result (λ v. term_answer (option_map term_of initial.now) ≡ Ok v) }
 {
     let Some(term) = initial else {
         return Err(Refusal::Row(Row::NoInitial));

@@ -19,7 +19,7 @@ pub enum StepFault {
     /// 40: the action is not enabled.
     #[error("40 NotEnabled")]
     NotEnabled,
-    /// 41: the action is not in the node's signature.
+    /// 41: the action is not in the node's signature, or is none that a queue takes part in.
     #[error("41 NotMine")]
     NotMine,
     /// 42: a participant of the action is no component of the system.

@@ -11,8 +11,8 @@ use ioa_source::{Entry, Transition, Variable};
 use ioa_terms::{Statement, Value};
 use std::marker::Model;
 
-/// An entry of a signature with its transition, and the names in view there: the entry's own
-/// parameters, and then the state variables.
+/// An entry of a signature with its transition, and the names in view there: the state variables, and
+/// then the entry's own parameters.
 #[derive(Drop)]
 pub struct Rule {
     /// The entry.

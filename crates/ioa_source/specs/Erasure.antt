@@ -33,7 +33,8 @@ erase_transition t = record {
   name = t.name;
   arguments = map erase_term t.arguments;
   pre = option_map erase_term t.pre;
-  effect = map erase_statement t.effect }
+  effect = map erase_statement t.effect;
+}
 
 abbrev pub erase_automaton : {N : Type 0} → PlainAutomaton N → PlainAutomaton (Unit {0})
 erase_automaton a = record {
@@ -41,7 +42,8 @@ erase_automaton a = record {
   signature = map erase_entry a.signature;
   states = map erase_variable a.states;
   transitions = map erase_transition a.transitions;
-  schedule = map erase_statement a.schedule }
+  schedule = map erase_statement a.schedule;
+}
 
 abbrev pub erase_declaration : {N : Type 0} → PlainDeclaration N → PlainDeclaration (Unit {0})
 erase_declaration (automaton a) = automaton (erase_automaton a)

@@ -29,7 +29,8 @@ transition_of t = record {
   name = t.name;
   arguments = map term_of t.arguments.items;
   pre = option_map term_of t.pre;
-  effect = map statement_of t.effect.items }
+  effect = map statement_of t.effect.items;
+}
 
 abbrev pub automaton_of : {N : Type 0} → Automaton N → PlainAutomaton N
 automaton_of a = record {
@@ -37,7 +38,8 @@ automaton_of a = record {
   signature = map entry_of a.signature.items;
   states = map variable_of a.states.items;
   transitions = map transition_of a.transitions.items;
-  schedule = map statement_of a.schedule.items }
+  schedule = map statement_of a.schedule.items;
+}
 
 abbrev pub declaration_of : {N : Type 0} → Declaration N → PlainDeclaration N
 declaration_of (declaration.Automaton a) = automaton (automaton_of a)

@@ -37,16 +37,18 @@ pub lookup_placed : (e : Bindings) (x : List ℕ) (p : ℕ) → place_in x (name
 lookup_placed [] x p h = absurd (cc)
 lookup_placed (b ∷ e) x p h =
     elim (placed_first (same_name x b.0) (names_of e) x p h) [
-        inl w ↦ rw (w.0, w.1) refl
-      | inr w ↦ rw (w.0, w.3) (lookup_placed e x w.1 w.2) ]
+      | inl w ↦ rw (w.0, w.1) refl
+      | inr w ↦ rw (w.0, w.3) (lookup_placed e x w.1 w.2)
+    ]
 
 -- a place of a name is one of the places
 pub place_within : (names : List (List ℕ)) (x : List ℕ) (p : ℕ) → place_in x names ≡ Some p → p < length names
 place_within [] x p h = absurd (cc)
 place_within (n ∷ names) x p h =
     elim (placed_first (same_name x n) names x p h) [
-        inl w ↦ omega arith
-      | inr w ↦ let less = place_within names x w.1 w.2 in omega arith ]
+      | inl w ↦ omega arith
+      | inr w ↦ let less = place_within names x w.1 w.2 in omega arith
+    ]
 
 -- a new value under a name stands at the name's first place
 pub put_zip : (names : List (List ℕ)) (vs : List Data) (x : List ℕ) (p : ℕ) (v : Data) → place_in x names ≡ Some p → put x v (zip names vs) ≡ zip names (set vs p v)
@@ -54,8 +56,9 @@ put_zip [] vs x p v h = absurd (cc)
 put_zip (n ∷ names) [] x p v h = refl
 put_zip (n ∷ names) (u ∷ vs) x p v h =
     elim (placed_first (same_name x n) names x p h) [
-        inl w ↦ rw (w.0, w.1) refl
-      | inr w ↦ rw (w.0, w.3) (ap (λ (e : Bindings). (n, u) ∷ e) (put_zip names vs x w.1 v w.2)) ]
+      | inl w ↦ rw (w.0, w.1) refl
+      | inr w ↦ rw (w.0, w.3) (ap (λ (e : Bindings). (n, u) ∷ e) (put_zip names vs x w.1 v w.2))
+    ]
 
 lent : {X : Type 0} (xs : List X) (i : ℕ) (r : Option (Bor X)) → is_some r ≡ ltb i (length xs) → IfSome r (λ x. x.now ≡ get_or xs i x.now) → option_copied r ≡ slice_get xs i
 lent xs i None is at = sym (slice_get_past xs i (let e : ltb i (length xs) ≡ false = sym is in grind (arith, nat_tests)))

@@ -28,10 +28,8 @@ pub fn perform(
 ) -> Result<Vec<Value>, TermFault>
     requires placed { ArePlaced (map statement_of statements.now) names.now }
     requires named { length names.now ≡ length values.items }
-    ensures after {
-        Answers TermFault.Memory (λ vs. zip names.now vs.items) result
-            (answer_by (map statement_of statements.now) (zip names.now values.items))
-    }
+    ensures after { Answers TermFault.Memory (λ vs. zip names.now vs.items) result
+        (answer_by (map statement_of statements.now) (zip names.now values.items)) }
     ensures named { IfOk result (λ vs. length names.now ≡ length vs.items) }
 {
     performed(alloc, statements, names, values)
@@ -45,10 +43,8 @@ fn performed(
 ) -> Result<Vec<Value>, TermFault>
     requires placed { ArePlaced (map statement_of statements.now) names.now }
     requires named { length names.now ≡ length values.items }
-    ensures after {
-        Answers TermFault.Memory (λ vs. zip names.now vs.items) result
-            (bounded_by (map statement_of statements.now) (zip names.now values.items))
-    }
+    ensures after { Answers TermFault.Memory (λ vs. zip names.now vs.items) result
+        (bounded_by (map statement_of statements.now) (zip names.now values.items)) }
     ensures named { IfOk result (λ vs. length names.now ≡ length vs.items) }
 {
     for statement in statements {
@@ -66,10 +62,8 @@ fn perform_one(
 ) -> Result<Vec<Value>, TermFault>
     requires placed { IsPlacedStatement (statement_of statement.now) names.now }
     requires named { length names.now ≡ length values.items }
-    ensures after {
-        Answers TermFault.Memory (λ vs. zip names.now vs.items) result
-            (bounded_one (statement_of statement.now) (zip names.now values.items))
-    }
+    ensures after { Answers TermFault.Memory (λ vs. zip names.now vs.items) result
+        (bounded_one (statement_of statement.now) (zip names.now values.items)) }
     ensures named { IfOk result (λ vs. length names.now ≡ length vs.items) }
 {
     match statement {
@@ -89,10 +83,8 @@ fn assign(
 ) -> Result<Vec<Value>, TermFault>
     requires placed { IsPlacedStatement (assign (place_of place.now) (term_of term.now)) names.now }
     requires named { length names.now ≡ length values.items }
-    ensures after {
-        Answers TermFault.Memory (λ vs. zip names.now vs.items) result
-            (bounded_one (assign (place_of place.now) (term_of term.now)) (zip names.now values.items))
-    }
+    ensures after { Answers TermFault.Memory (λ vs. zip names.now vs.items) result
+        (bounded_one (assign (place_of place.now) (term_of term.now)) (zip names.now values.items)) }
     ensures named { IfOk result (λ vs. length names.now ≡ length vs.items) }
 {
     let Place::Variable(_, at) = place;

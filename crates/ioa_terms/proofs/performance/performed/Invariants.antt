@@ -11,5 +11,5 @@ invariant-loop-statement l = record {
   placed : ArePlaced (map statement_of (drop l.statement-index l.statements)) l.names;
   named : length l.names ≡ length l.values.items;
   same : bounded_by (map statement_of (drop l.statement-index l.statements)) (zip l.names l.values.items)
-    ≡ bounded_by (map statement_of l.statements) (zip l.names l.fn.values.items)
+      ≡ bounded_by (map statement_of l.statements) (zip l.names l.fn.values.items);
 }
