@@ -19,23 +19,24 @@ use Rattle.ioa_compose.specs.NodeState.{NodeState, node_state}
 use Rattle.ioa_compose.specs.NodeStep.{node_answer, program_answer}
 use Rattle.ioa_compose.specs.Queues.{QueueState, queue_state, queue_answer, behind, with_last, without_first}
 use Rattle.ioa_compose.specs.Participants.{same_component}
-use Rattle.ioa_compose.specs.Composition.{component_of, conf_answer, find_conf, put, put_all}
+use Rattle.ioa_compose.specs.Composition.{component_of, names, conf_answer, find_conf, put, put_all}
 
 -- two names are told to be those of one component exactly where they are equal
-pub same_component_decides : (k l : Component) → Decides (same_component k l) (k ≡ l)
-same_component_decides (Node i) (Node j) = Decides-like _ (λ e. ap Node e) (λ e. cc) (Decides-int_eq i j)
-same_component_decides (Node i) (Channel j l) = (λ h. absurd (cc), λ e. absurd (cc))
-same_component_decides (Node i) (Script j) = (λ h. absurd (cc), λ e. absurd (cc))
-same_component_decides (Channel i j) (Node l) = (λ h. absurd (cc), λ e. absurd (cc))
-same_component_decides (Channel i j) (Channel k l) =
+pub Decides-same_component : (k l : Component) → Decides (same_component k l) (k ≡ l)
+Decides-same_component (Node i) (Node j) = Decides-like _ (λ e. ap Node e) (λ e. cc) (Decides-int_eq i j)
+Decides-same_component (Node i) (Channel j l) = (λ h. absurd (cc), λ e. absurd (cc))
+Decides-same_component (Node i) (Script j) = (λ h. absurd (cc), λ e. absurd (cc))
+Decides-same_component (Channel i j) (Node l) = (λ h. absurd (cc), λ e. absurd (cc))
+Decides-same_component (Channel i j) (Channel k l) =
     Decides-like _ (λ p. λ t. Channel (p.0 t) (p.1 t)) (λ e. (cc, cc)) (Decides-and _ _ (Decides-int_eq i k) (Decides-int_eq j l))
-same_component_decides (Channel i j) (Script l) = (λ h. absurd (cc), λ e. absurd (cc))
-same_component_decides (Script i) (Node j) = (λ h. absurd (cc), λ e. absurd (cc))
-same_component_decides (Script i) (Channel j l) = (λ h. absurd (cc), λ e. absurd (cc))
-same_component_decides (Script i) (Script j) = Decides-like _ (λ e. ap Script e) (λ e. cc) (Decides-int_eq i j)
+Decides-same_component (Channel i j) (Script l) = (λ h. absurd (cc), λ e. absurd (cc))
+Decides-same_component (Script i) (Node j) = (λ h. absurd (cc), λ e. absurd (cc))
+Decides-same_component (Script i) (Channel j l) = (λ h. absurd (cc), λ e. absurd (cc))
+Decides-same_component (Script i) (Script j) = Decides-like _ (λ e. ap Script e) (λ e. cc) (Decides-int_eq i j)
 
+-- a name is that of its own component
 pub same_component-itself : (k : Component) → same_component k k ≡ true
-same_component-itself k = (same_component_decides k k).1 refl
+same_component-itself k = (Decides-same_component k k).1 refl
 
 -- a node's step keeps its program
 program-node_answer : (c : NodeState) (a : Action) (d : NodeState) → node_answer c a ≡ Ok d → d.program ≡ c.program
@@ -46,6 +47,7 @@ program-node_answer c a d h = kept (program_answer c.program c.variables a) h
     kept (Ok vs) e = let same_state : node_state c.program vs ≡ d = cc in ap (λ (s : NodeState). s.program) (sym same_state)
     kept (Err f) e = absurd (cc)
 
+-- what comes out of a queue leaves its name
 component-without_first : (x : Item) (q r : QueueState) → without_first x q ≡ Ok r → r.component ≡ q.component
 component-without_first x q r h = kept (behind x q.items) h
   where
@@ -53,12 +55,10 @@ component-without_first x q r h = kept (behind x q.items) h
     kept (Ok items) e = let same_state : queue_state q.component items ≡ r = cc in ap (λ (s : QueueState). s.component) (sym same_state)
     kept (Err f) e = absurd (cc)
 
-queue_is : (q r : QueueState) (x : Item) → queue_state q.component (with_last x q).items ≡ r → r.component ≡ q.component
-queue_is q r x e = ap (λ (s : QueueState). s.component) (sym e)
-
 -- a queue's step keeps its name
 component-queue_answer : (q : QueueState) (a : Action) (r : QueueState) → queue_answer q a ≡ Ok r → r.component ≡ q.component
-component-queue_answer q (Send m i j) r h = queue_is q r (item.Message m) (cc)
+component-queue_answer q (Send m i j) r h =
+    let same_state : with_last (item.Message m) q ≡ r = cc in ap (λ (s : QueueState). s.component) (sym same_state)
 component-queue_answer q (Receive m i j) r h = component-without_first (item.Message m) q r h
 component-queue_answer q (Local a) r h = absurd (cc)
 component-queue_answer q (Stimulus a) r h = component-without_first (item.Stimulus a) q r h
@@ -83,7 +83,7 @@ component_of-find_conf k [] c h = absurd (cc)
 component_of-find_conf k (b ∷ cs) c h = by_test (same_component k (component_of b)) refl h (component_of-find_conf k cs c)
   where
     by_test : (t : Bool) → same_component k (component_of b) ≡ t → (if t then Some b else find_conf k cs) ≡ Some c → (find_conf k cs ≡ Some c → component_of c ≡ k) → component_of c ≡ k
-    by_test true e h further = let this : b ≡ c = cc in rw (← this) (sym ((same_component_decides k (component_of b)).0 e))
+    by_test true e h further = let this : b ≡ c = cc in rw (← this) (sym ((Decides-same_component k (component_of b)).0 e))
     by_test false e h further = further h
 
 -- a configuration that is put in the place of one of its name is found there
@@ -104,15 +104,17 @@ find_conf-put_other k d (b ∷ cs) h = by_test (same_component (component_of d) 
   where
     by_test : (t : Bool) → same_component (component_of d) (component_of b) ≡ t → find_conf k (put d cs) ≡ find_conf k cs → find_conf k (if same_component (component_of d) (component_of b) then d ∷ cs else b ∷ put d cs) ≡ find_conf k (b ∷ cs)
     by_test true e further =
-        let one : component_of d ≡ component_of b = (same_component_decides (component_of d) (component_of b)).0 e in
+        let one : component_of d ≡ component_of b = (Decides-same_component (component_of d) (component_of b)).0 e in
         let not_b : same_component k (component_of b) ≡ false = rw (← one) h in
         rw (e, h, not_b) refl
     by_test false e further = rw e (ap (λ o. if same_component k (component_of b) then Some b else o) further)
 
+-- where neither of two tests is true, the first is false
 first_false : (s t : Bool) → (s || t) ≡ false → s ≡ false
 first_false true t h = absurd (cc)
 first_false false t h = refl
 
+-- and so is the second
 second_false : (s t : Bool) → (s || t) ≡ false → t ≡ false
 second_false true t h = absurd (cc)
 second_false false t h = h
@@ -123,3 +125,18 @@ find_conf-put_all_other k [] cs h = refl
 find_conf-put_all_other k (d ∷ ds) cs h =
     find_conf-put_all_other k ds (put d cs) (second_false (same_component k (component_of d)) (list_any (same_component k) (map component_of ds)) h)
     ∙ find_conf-put_other k d cs (first_false (same_component k (component_of d)) (list_any (same_component k) (map component_of ds)) h)
+
+-- a configuration that is put keeps the names
+pub names-put : (d : Conf) (cs : List Conf) → names (put d cs) ≡ names cs
+names-put d [] = refl
+names-put d (b ∷ cs) = by_test (same_component (component_of d) (component_of b)) refl (names-put d cs)
+  where
+    by_test : (t : Bool) → same_component (component_of d) (component_of b) ≡ t → names (put d cs) ≡ names cs →
+        names (if same_component (component_of d) (component_of b) then d ∷ cs else b ∷ put d cs) ≡ component_of b ∷ names cs
+    by_test true e further = rw e (ap (λ k. k ∷ names cs) ((Decides-same_component (component_of d) (component_of b)).0 e))
+    by_test false e further = rw e (ap (λ ks. component_of b ∷ ks) further)
+
+-- configurations that are put one after another keep the names
+pub names-put_all : (ds cs : List Conf) → names (put_all ds cs) ≡ names cs
+names-put_all [] cs = refl
+names-put_all (d ∷ ds) cs = names-put_all ds (put d cs) ∙ names-put d cs

@@ -42,6 +42,7 @@ received_first m ins outs steps q d h further = of_items q.items refl h
     of_items [] e h = absurd (cc)
     of_items (x ∷ rest) e h = of_first x rest e (same_item x (Message m)) refl h
 
+-- a channel's own replay of its projection hands out what it takes in, in order
 hands_out : (i j : ℤ) (actions : List Action) (q : QueueState) (d : Conf) → replay_one (projected (Channel i j) actions) (Queue q) ≡ Some d → HandsOut q (sent i j actions) (received i j actions) d
 unfolding conf_answer
 hands_out i j [] q d h = record { rest = q; held = cc; order = append-nil q.items }

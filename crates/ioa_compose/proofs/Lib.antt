@@ -3,6 +3,7 @@ pub mod Arguments
 pub mod Components
 pub mod Deliveries
 pub mod Items
+pub mod JointSteps
 pub mod Loops
 pub mod Nodes
 pub mod Places

@@ -12,6 +12,7 @@ record IsPlace (d : Conf) (cs : List Conf) (n m : ℕ) : Type 0 where
   within : m - n < length cs
   at : put d cs ≡ set cs (m - n) d
 
+-- behind a configuration of another name the place is one further on
 next_place : (d c : Conf) (cs : List Conf) (n m : ℕ) → same_component (component_of d) (component_of c) ≡ false → IsPlace d cs (n + 1) m → IsPlace d (c ∷ cs) n m
 next_place d c cs n m e p =
     let further : m - n ≡ suc (m - (n + 1)) = omega (arith, p.behind) in
@@ -21,6 +22,7 @@ next_place d c cs n m e p =
       at = rw (further, e) (ap (λ ds. c ∷ ds) p.at);
     }
 
+-- what is found by position is the place
 place : (d : Conf) (cs : List Conf) (n m : ℕ) → position_from (λ c. same_component (component_of d) (component_of c)) n cs ≡ Some m → IsPlace d cs n m
 place d [] n m h = absurd (cc)
 place d (c ∷ cs) n m h = by_test (same_component (component_of d) (component_of c)) refl h (λ k. place d cs (n + 1) m k)
@@ -45,6 +47,7 @@ put-place d cs k m e h =
     let same_place : m ≡ m - 0 = omega arith in
     rw (p.at, ← same_place) refl
 
+-- without a place nothing is put
 nowhere : (d : Conf) (cs : List Conf) (n : ℕ) → None ≡ position_from (λ c. same_component (component_of d) (component_of c)) n cs → cs ≡ put d cs
 nowhere d [] n h = refl
 nowhere d (c ∷ cs) n h = by_test (same_component (component_of d) (component_of c)) refl h (λ k. nowhere d cs (n + 1) k)

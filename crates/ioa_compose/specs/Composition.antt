@@ -1,6 +1,6 @@
 -- The composition of a system's components (Lynch 8.2). A configuration bears its component's name, and a list of
 -- configurations is the map from names to them: of two with one name the first counts.
-use Rattle.std.specs.Prelude.{if◌then◌else◌, List, [], ◌∷◌, Option, Some, None, Result, Ok, Err, map, find, is_none}
+use Rattle.std.specs.Prelude.{◌≡◌, true, false, if◌then◌else◌, List, [], ◌∷◌, Option, Some, None, Result, Ok, Err, map, find, is_none}
 use Rattle.std.specs.List.{list_any}
 use Rattle.ioa_compose.specs.Outcome.{and_then}
 use Rattle.ioa_terms.specs.declared.component.Component.{Component}
@@ -12,12 +12,16 @@ use Rattle.ioa_compose.specs.declared.fault.StepFault.{StepFault}
 use Rattle.ioa_compose.specs.declared.fault.StepFault.TheVariants.{NoChannel}
 use Rattle.ioa_compose.specs.NodeStep.{node_answer}
 use Rattle.ioa_compose.specs.Queues.{queue_answer}
-use Rattle.ioa_compose.specs.Participants.{same_component, has}
+use Rattle.ioa_compose.specs.Participants.{same_component, has, takes_part}
 
 -- the name of a configuration's component
 abbrev pub component_of : Conf → Component
 component_of (Node c) = component.Node c.program.node
 component_of (Queue q) = q.component
+
+-- the names of components, in order
+abbrev pub names : List Conf → List Component
+names cs = map component_of cs
 
 -- what a component answers to an action: its own step, or why there is none (Lynch 8.1)
 unfoldable pub conf_answer : Action → Conf → Result Conf StepFault
@@ -33,6 +37,7 @@ abbrev pub put : Conf → List Conf → List Conf
 put d [] = []
 put d (c ∷ cs) = if same_component (component_of d) (component_of c) then d ∷ cs else c ∷ put d cs
 
+-- the map with other configurations of components, put in one after another
 abbrev pub put_all : List Conf → List Conf → List Conf
 put_all [] cs = cs
 put_all (d ∷ ds) cs = put_all ds (put d cs)
@@ -54,3 +59,28 @@ changes_of a rs = if list_any is_none rs then Err NoChannel else own_steps a rs
 -- what the composition answers to an action: each participant takes its own step, and all others stay (Lynch 8.2)
 abbrev pub joint_answer : Action → List Conf → Result (List Conf) StepFault
 joint_answer a cs = and_then (changes_of a (reads (has a) cs)) (λ ds. Ok (put_all ds cs))
+
+-- a component has a step by an action
+pub record HasStep (a : Action) (k : Component) (cs : List Conf) : Type 0 where
+  pub old : Conf
+  pub new : Conf
+  pub before : find_conf k cs ≡ Some old
+  pub step : conf_answer a old ≡ Ok new
+
+-- a component takes its step by an action
+pub record TakesStep (a : Action) (k : Component) (cs next : List Conf) : Type 0 where
+  pub old : Conf
+  pub new : Conf
+  pub before : find_conf k cs ≡ Some old
+  pub step : conf_answer a old ≡ Ok new
+  pub after : find_conf k next ≡ Some new
+
+-- each component that has an action takes its own step by it, and all others stay (Lynch 8.2)
+pub record IsJointStep (a : Action) (cs next : List Conf) : Type 0 where
+  pub participants : (k : Component) → takes_part k a ≡ true → TakesStep a k cs next
+  pub others : (k : Component) → takes_part k a ≡ false → find_conf k next ≡ find_conf k cs
+  pub same_names : names next ≡ names cs
+
+-- each component that has an action has a step by it (Lynch 8.2)
+abbrev pub AllHaveSteps : Action → List Conf → Type 0
+AllHaveSteps a cs = (k : Component) → takes_part k a ≡ true → HasStep a k cs

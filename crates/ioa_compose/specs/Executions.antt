@@ -29,11 +29,12 @@ replay_one (a ∷ more) c = after_step (replay_one more) (conf_answer a c)
 abbrev pub projected : Component → List Action → List Action
 projected k actions = filter (takes_part k) actions
 
--- the last configurations, or the first action that is no step: its place, counted from `n`, and the fault
+-- further steps after the step at place `n`, or its fault with the place
 abbrev pub replay_after_step : ℕ → (List Conf → Result (List Conf) ReplayFault) → Result (List Conf) StepFault → Result (List Conf) ReplayFault
 replay_after_step n steps (Ok cs) = steps cs
 replay_after_step n steps (Err e) = Err (record { place = n; fault = e })
 
+-- the configurations after a list of actions, or the first that is no step: its place, counted from `n`, and the fault
 abbrev pub replay_answer : ℕ → List Action → List Conf → Result (List Conf) ReplayFault
 replay_answer n [] cs = Ok cs
 replay_answer n (a ∷ more) cs = replay_after_step n (replay_answer (n + 1) more) (joint_answer a cs)

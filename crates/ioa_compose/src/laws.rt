@@ -1,10 +1,25 @@
 //! Laws of executions: each is what a function ensures that does nothing.
 
-ghost use Rattle.std.specs.Prelude.{◌≡◌, List, Some};
+ghost use Rattle.std.specs.Prelude.{◌≡◌, ◌↔◌, ◌∷◌, List, Some, Ok};
 ghost use Rattle.ioa_terms.specs.declared.action.Action.{Action};
 ghost use Rattle.ioa_compose.specs.declared.configuration.Conf.{Conf};
+ghost use Rattle.ioa_compose.specs.declared.queue.Item.{Item};
+ghost use Rattle.ioa_compose.specs.Queues.{behind};
+ghost use Rattle.ioa_compose.specs.Composition.{joint_answer, IsJointStep, AllHaveSteps};
 ghost use Rattle.ioa_compose.specs.Executions.{replay, ProjectsOnEach};
 ghost use Rattle.ioa_compose.specs.Channels.{HandsOutInOrder, HandsOutPrefix};
+
+/// A queue is left by what comes out of it exactly where that stands first (Lynch 14.1).
+pub fn queue_step_law()
+    ensures { (item : Item) (items rest : List Item) → (behind item items ≡ Ok rest) ↔ (items ≡ item ∷ rest) }
+{}
+
+/// A joint step is one where each component that has the action takes its own step, and all others
+/// stay; and there is one wherever each component that has the action has a step (Lynch 8.2).
+pub fn joint_step_law()
+    ensures step { (action : Action) (confs next : List Conf) → joint_answer action confs ≡ Ok next → IsJointStep action confs next }
+    ensures enabled { (action : Action) (confs : List Conf) → AllHaveSteps action confs → (next : List Conf) × (joint_answer action confs ≡ Ok next) }
+{}
 
 /// An execution, projected on a component, is an execution of that component, and ends in the
 /// configuration that the component has at the end (Lynch 8.2).

@@ -24,7 +24,7 @@ pub use checking::check;
 pub use composition::{changes, copy_confs, find_conf, joint_step, put_conf, put_confs};
 pub use configuration::Conf;
 pub use fault::StepFault;
-pub use laws::{prefix_law, projection_law};
+pub use laws::{joint_step_law, prefix_law, projection_law, queue_step_law};
 pub use node::NodeConf;
 pub use parties::{Parties, participants, takes_part_in};
 pub use program::{Program, Rule};

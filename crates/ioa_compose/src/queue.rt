@@ -40,7 +40,6 @@ impl Item {
     }
 
     /// Whether two items are the same.
-    #[tactic(auto, using(crate::proofs::Items::same_item_is))]
     pub fn equals(&self, other: &Self) -> bool
         ensures value { result ≡ same_item self.now other.now }
         ensures equality { IsTrue result ↔ (self.now ≡ other.now) }

@@ -1,4 +1,13 @@
 pub mod Lists
 pub mod Terms
+pub mod Steps
+pub mod SoundTerms
+pub mod SoundLists
+pub mod SoundTexts
+pub mod Follow
+pub mod Shorter
+pub mod CompleteLists
+pub mod CompleteTexts
+pub mod Parsed
 pub mod Exits
 pub mod Groups

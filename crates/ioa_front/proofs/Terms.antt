@@ -1,14 +1,15 @@
 -- A term where brackets may still be opened.
-use Rattle.std.proofs.Common.{◌≡◌, ℕ, zero, suc, ◌-◌, ◌<◌, List, [], ◌∷◌, Option, Some, None, if◌then◌else◌, refl, sym, ap, ◌∙◌, arith}
+use Rattle.std.proofs.Common.{◌≡◌, ℕ, suc, ◌-◌, List, Option, Some, refl, ap, ◌∙◌, arith}
 use Rattle.ioa_tokens.specs.declared.token.Token.{Token}
 use Rattle.ioa_tokens.specs.declared.mark.Mark.TheVariants as mark
 use Rattle.ioa_front.specs.Grammar.{Term}
-use Rattle.ioa_front.specs.Reading.{term, atom, skip, expected, ◌>>=◌}
+use Rattle.ioa_front.specs.Reading.{term, atom, skip, expected, ◌>>=◌, choose}
 
 abbrev pub opened : ℕ → List Token → Option (Term × List Token)
 opened room xs =
-    if (skip mark.OpenRound xs).0 then (term room (skip mark.OpenRound xs).1 >>= λ t. expected mark.CloseRound t.1 >>= λ c. Some (t.0, c.1))
-    else atom (skip mark.OpenRound xs).1
+    choose (skip mark.OpenRound xs).0
+    (term room (skip mark.OpenRound xs).1 >>= λ t. expected mark.CloseRound t.1 >>= λ c. Some (t.0, c.1))
+    (atom (skip mark.OpenRound xs).1)
 
 at_room : (room : ℕ) (xs : List Token) → term (suc room) xs ≡ opened room xs
 unfolding term

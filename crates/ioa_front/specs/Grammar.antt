@@ -10,26 +10,31 @@ use Rattle.ioa_terms.specs.declared.tree.Kind.TheVariants as kind
 use Rattle.ioa_terms.specs.declared.tree.BinaryOperator.TheVariants as operator
 use Rattle.ioa_values.specs.declared.sort.Sort.TheVariants as sort
 use Rattle.ioa_source.specs.PlainTerm.{PlainTerm, number, name, two, variable, PlainStatement, assign, fire}
-use Rattle.ioa_source.specs.PlainText.{PlainParameter, const, named, PlainEntry, PlainVariable, PlainTransition, PlainAutomaton, PlainDeclaration, automaton, PlainText}
+use Rattle.ioa_source.specs.PlainText.{const, named, PlainEntry, PlainVariable, PlainTransition, PlainDeclaration, automaton, PlainText}
 use Rattle.ioa_source.specs.declared.declaration.Placement.{Placement}
 use Rattle.ioa_source.specs.declared.declaration.Placement.TheVariants as placement
 
--- the trees of a text as it is spelled: nothing stands beside a name
+-- a term as it is spelled: nothing stands beside a name
 abbrev pub Term : Type 0
 Term = PlainTerm (Unit {0})
 
+-- a statement as it is spelled
 abbrev pub Statement : Type 0
 Statement = PlainStatement (Unit {0})
 
+-- an entry of a signature as it is spelled
 abbrev pub Entry : Type 0
 Entry = PlainEntry (Unit {0})
 
+-- a state variable as it is spelled
 abbrev pub Variable : Type 0
 Variable = PlainVariable (Unit {0})
 
+-- a transition as it is spelled
 abbrev pub Transition : Type 0
 Transition = PlainTransition (Unit {0})
 
+-- what stands before the system as it is spelled
 abbrev pub Declaration : Type 0
 Declaration = PlainDeclaration (Unit {0})
 
@@ -64,10 +69,11 @@ pub data SpellsTerm : ℕ → Term → List Token → List Token → Type 0 wher
   brackets : {room : ℕ} {t : Term} {xs ys : List Token} → SpellsTerm room t xs (token.Mark mark.CloseRound ∷ ys) →
       SpellsTerm (suc room) t (token.Mark mark.OpenRound ∷ xs) ys
 
--- how many brackets may be open at once, and how many within those of a call
+-- how many brackets may be open at once
 abbrev pub bracket_limit : ℕ
 bracket_limit = 128
 
+-- the same within the brackets of a call, which are open too
 abbrev pub bracket_limit_in_call : ℕ
 bracket_limit_in_call = 127
 
@@ -176,3 +182,7 @@ pub data Spells : PlainText (Unit {0}) → List Token → Type 0 where
   text : {declarations : List Declaration} {system : List Placement} {xs ys : List Token} →
       Several SpellsDeclaration declarations xs (token.Mark mark.System ∷ ys) → Several SpellsPlacement system ys [] →
       Spells (record { declarations = declarations; system = system }) xs
+
+-- some tokens spell a text
+abbrev pub IsSpelled : PlainText (Unit {0}) → Type 0
+IsSpelled p = (tokens : List Token) × Spells p tokens

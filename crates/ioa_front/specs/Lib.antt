@@ -4,3 +4,4 @@ pub mod Grammar
 pub mod Outcome
 pub mod Parsing
 pub mod Reading
+pub mod Texts

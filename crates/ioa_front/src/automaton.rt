@@ -16,7 +16,7 @@ use ioa_tokens::Mark;
 use std::alloc::Global;
 
 /// Word `:` `Int` `:=` Number
-#[tactic(auto, unfolding(crate::specs::Reading::variable))]
+#[tactic(auto, unfolding(crate::specs::Reading::variable, crate::specs::Reading::bind))]
 fn variable(alloc: Global, tokens: &mut Tokens<'_>) -> Result<Variable<()>, Unread>
     ensures { Reads variable_of (spec.variable tokens.old) result tokens.new }
 {
@@ -33,7 +33,7 @@ fn variable(alloc: Global, tokens: &mut Tokens<'_>) -> Result<Variable<()>, Unre
 }
 
 /// Variable {`,` Variable}
-#[tactic(auto, unfolding(crate::specs::Reading::variables))]
+#[tactic(auto, unfolding(crate::specs::Reading::variables, crate::specs::Reading::bind))]
 fn variables(alloc: Global, tokens: &mut Tokens<'_>) -> Result<Vec<Variable<()>>, Unread>
     ensures { Reads (λ v. map variable_of v.items) (spec.variables tokens.old) result tokens.new }
 {
@@ -49,7 +49,7 @@ fn variables(alloc: Global, tokens: &mut Tokens<'_>) -> Result<Vec<Variable<()>>
 }
 
 /// Word `:=` Term
-#[tactic(auto, unfolding(crate::specs::Reading::statement))]
+#[tactic(auto, unfolding(crate::specs::Reading::statement, crate::specs::Reading::bind))]
 fn statement(alloc: Global, tokens: &mut Tokens<'_>) -> Result<Statement<()>, Unread>
     ensures { Reads statement_of (spec.statement tokens.old) result tokens.new }
 {
@@ -60,7 +60,7 @@ fn statement(alloc: Global, tokens: &mut Tokens<'_>) -> Result<Statement<()>, Un
 }
 
 /// Statement {`;` Statement} [`;`]
-#[tactic(auto, unfolding(crate::specs::Reading::statements))]
+#[tactic(auto, unfolding(crate::specs::Reading::statements, crate::specs::Reading::bind))]
 fn statements(alloc: Global, tokens: &mut Tokens<'_>) -> Result<Vec<Statement<()>>, Unread>
     ensures { Reads (λ v. map statement_of v.items) (spec.statements tokens.old) result tokens.new }
 {
@@ -76,7 +76,7 @@ fn statements(alloc: Global, tokens: &mut Tokens<'_>) -> Result<Vec<Statement<()
 }
 
 /// [`eff` Statements]
-#[tactic(auto, unfolding(crate::specs::Reading::effect))]
+#[tactic(auto, unfolding(crate::specs::Reading::effect, crate::specs::Reading::choose))]
 fn effect(alloc: Global, tokens: &mut Tokens<'_>) -> Result<Vec<Statement<()>>, Unread>
     ensures { Reads (λ v. map statement_of v.items) (spec.effect tokens.old) result tokens.new }
 {
@@ -87,7 +87,7 @@ fn effect(alloc: Global, tokens: &mut Tokens<'_>) -> Result<Vec<Statement<()>>, 
 }
 
 /// [`pre` Word `=` Term [`;`]]
-#[tactic(auto, unfolding(crate::specs::Reading::guard))]
+#[tactic(auto, unfolding(crate::specs::Reading::guard, crate::specs::Reading::bind, crate::specs::Reading::choose))]
 fn guard(alloc: Global, tokens: &mut Tokens<'_>) -> Result<Option<Term>, Unread>
     ensures { Reads (option_map term_of) (spec.guard tokens.old) result tokens.new }
 {
@@ -104,7 +104,7 @@ fn guard(alloc: Global, tokens: &mut Tokens<'_>) -> Result<Option<Term>, Unread>
 }
 
 /// Kind Call [`pre` Word `=` Term [`;`]] [`eff` Statements]
-#[tactic(auto, unfolding(crate::specs::Reading::transition))]
+#[tactic(auto, unfolding(crate::specs::Reading::transition, crate::specs::Reading::bind))]
 fn transition(alloc: Global, tokens: &mut Tokens<'_>) -> Result<Transition<()>, Unread>
     ensures { Reads transition_of (spec.transition tokens.old) result tokens.new }
 {
@@ -137,7 +137,7 @@ fn transitions(alloc: Global, tokens: &mut Tokens<'_>) -> Result<Vec<Transition<
 }
 
 /// `fire` Call
-#[tactic(auto, unfolding(crate::specs::Reading::firing))]
+#[tactic(auto, unfolding(crate::specs::Reading::firing, crate::specs::Reading::bind))]
 fn firing(alloc: Global, tokens: &mut Tokens<'_>) -> Result<Statement<()>, Unread>
     ensures { Reads statement_of (spec.firing tokens.old) result tokens.new }
 {
@@ -147,7 +147,7 @@ fn firing(alloc: Global, tokens: &mut Tokens<'_>) -> Result<Statement<()>, Unrea
 }
 
 /// Fire {`;` Fire} [`;`]
-#[tactic(auto, unfolding(crate::specs::Reading::firings))]
+#[tactic(auto, unfolding(crate::specs::Reading::firings, crate::specs::Reading::bind))]
 fn firings(alloc: Global, tokens: &mut Tokens<'_>) -> Result<Vec<Statement<()>>, Unread>
     ensures { Reads (λ v. map statement_of v.items) (spec.firings tokens.old) result tokens.new }
 {
@@ -163,7 +163,7 @@ fn firings(alloc: Global, tokens: &mut Tokens<'_>) -> Result<Vec<Statement<()>>,
 }
 
 /// `do` [Fire {`;` Fire} [`;`]] `od`
-#[tactic(auto, unfolding(crate::specs::Reading::block))]
+#[tactic(auto, unfolding(crate::specs::Reading::block, crate::specs::Reading::bind, crate::specs::Reading::choose))]
 fn block(alloc: Global, tokens: &mut Tokens<'_>) -> Result<Vec<Statement<()>>, Unread>
     ensures { Reads (λ v. map statement_of v.items) (spec.block tokens.old) result tokens.new }
 {
@@ -177,7 +177,7 @@ fn block(alloc: Global, tokens: &mut Tokens<'_>) -> Result<Vec<Statement<()>>, U
 }
 
 /// [`states` Variables]
-#[tactic(auto, unfolding(crate::specs::Reading::states_part))]
+#[tactic(auto, unfolding(crate::specs::Reading::states_part, crate::specs::Reading::choose))]
 fn states_part(alloc: Global, tokens: &mut Tokens<'_>) -> Result<Vec<Variable<()>>, Unread>
     ensures { Reads (λ v. map variable_of v.items) (spec.states_part tokens.old) result tokens.new }
 {
@@ -188,7 +188,7 @@ fn states_part(alloc: Global, tokens: &mut Tokens<'_>) -> Result<Vec<Variable<()
 }
 
 /// [`transitions` {Transition}]
-#[tactic(auto, unfolding(crate::specs::Reading::transitions_part))]
+#[tactic(auto, unfolding(crate::specs::Reading::transitions_part, crate::specs::Reading::choose))]
 fn transitions_part(alloc: Global, tokens: &mut Tokens<'_>) -> Result<Vec<Transition<()>>, Unread>
     ensures { Reads (λ v. map transition_of v.items) (spec.transitions_part tokens.old) result tokens.new }
 {
@@ -199,7 +199,7 @@ fn transitions_part(alloc: Global, tokens: &mut Tokens<'_>) -> Result<Vec<Transi
 }
 
 /// [`schedule` Block]
-#[tactic(auto, unfolding(crate::specs::Reading::schedule_part))]
+#[tactic(auto, unfolding(crate::specs::Reading::schedule_part, crate::specs::Reading::choose))]
 fn schedule_part(alloc: Global, tokens: &mut Tokens<'_>) -> Result<Vec<Statement<()>>, Unread>
     ensures { Reads (λ v. map statement_of v.items) (spec.schedule_part tokens.old) result tokens.new }
 {
@@ -210,7 +210,7 @@ fn schedule_part(alloc: Global, tokens: &mut Tokens<'_>) -> Result<Vec<Statement
 }
 
 /// `automaton` Word [Signature] [States] [Transitions] [Schedule]
-#[tactic(auto, unfolding(crate::specs::Reading::declaration))]
+#[tactic(auto, unfolding(crate::specs::Reading::declaration, crate::specs::Reading::bind))]
 fn declaration(alloc: Global, tokens: &mut Tokens<'_>) -> Result<Declaration<()>, Unread>
     ensures { Reads declaration_of (spec.declaration tokens.old) result tokens.new }
 {

@@ -1,7 +1,13 @@
 //! From a text to its source.
 
+ghost use Rattle.std.specs.Prelude.{◌≡◌, ◌≤◌, ◌⊎◌, List, length, true, IfOk, IfErr, MatchResult};
+ghost use Rattle.ioa_front.specs.Grammar.{Spells};
 ghost use Rattle.ioa_front.specs.Parsing.{Parses};
-ghost use Rattle.std.specs.Prelude.{◌≡◌, length};
+ghost use Rattle.ioa_front.specs.Texts.{length_limit, TextSpells, Stands, is_exact};
+ghost use Rattle.ioa_front.specs.declared.fault.FrontFault.{FrontFault};
+ghost use Rattle.ioa_source.specs.PlainText.{PlainText};
+ghost use Rattle.ioa_source.specs.TextView.{text_of};
+ghost use Rattle.ioa_tokens.specs.declared.token.Token.{Token};
 
 use crate::cursor::{Tokens, Unread};
 use crate::fault::FrontFault;
@@ -13,8 +19,8 @@ use std::alloc::Global;
 /// How many bytes a text has at most.
 const LENGTH_LIMIT: usize = 1_048_576;
 
-/// The source that a text spells.
-pub fn parse(alloc: Global, text: &str) -> Result<Source, FrontFault>
+/// What the reader makes of a text.
+fn read(alloc: Global, text: &str) -> Result<Source, FrontFault>
     ensures { Parses result text.now }
 {
     if text.len() > LENGTH_LIMIT {
@@ -36,3 +42,20 @@ pub fn parse(alloc: Global, text: &str) -> Result<Source, FrontFault>
         Err(Unread::Memory) => Err(FrontFault::Memory),
     }
 }
+
+/// The source that a text spells. A text that spells none is refused: 15 where it is longer than
+/// 1048576 bytes, else 11 or 13 by the first character or number that is no token, else 10 where it
+/// has no token, else 12 at the first token that no text has there. Source: profile.
+pub fn parse(alloc: Global, text: &str) -> Result<Source, FrontFault>
+    ensures found { IfOk result (λ s. TextSpells (text_of s.text) text.now) }
+    ensures refused { IfErr result (λ e. Stands e text.now) }
+    ensures exact { (e : FrontFault) → is_exact e ≡ true → Stands e text.now → MatchResult result (λ _. ⊥) (λ f. (f ≡ FrontFault.Memory) ⊎ (f ≡ e)) }
+    ensures only { (p : PlainText (Unit {0})) → length text.now ≤ length_limit → TextSpells p text.now → MatchResult result (λ s. text_of s.text ≡ p) (λ e. e ≡ FrontFault.Memory) }
+{
+    read(alloc, text)
+}
+
+/// The law that tokens spell one source at most.
+pub fn one_source()
+    ensures { (p q : PlainText (Unit {0})) (tokens : List Token) → Spells p tokens → Spells q tokens → p ≡ q }
+{}

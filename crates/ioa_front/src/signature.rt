@@ -21,7 +21,7 @@ pub(crate) fn at_kind(tokens: &Tokens<'_>) -> bool
 }
 
 /// `output` or `input`
-#[tactic(auto, unfolding(crate::specs::Reading::kind))]
+#[tactic(auto, unfolding(crate::specs::Reading::kind, crate::specs::Reading::bind, crate::specs::Reading::choose))]
 pub(crate) fn kind(tokens: &mut Tokens<'_>) -> Result<Kind, Unread>
     ensures { Reads (λ k. k) (spec.kind tokens.old) result tokens.new }
 {
@@ -33,7 +33,7 @@ pub(crate) fn kind(tokens: &mut Tokens<'_>) -> Result<Kind, Unread>
 }
 
 /// Word `:` `Int`
-#[tactic(auto, unfolding(crate::specs::Reading::message))]
+#[tactic(auto, unfolding(crate::specs::Reading::message, crate::specs::Reading::bind))]
 fn message(alloc: Global, tokens: &mut Tokens<'_>) -> Result<Parameter<()>, Unread>
     ensures { Reads parameter_of (spec.message tokens.old) result tokens.new }
 {
@@ -44,7 +44,7 @@ fn message(alloc: Global, tokens: &mut Tokens<'_>) -> Result<Parameter<()>, Unre
 }
 
 /// `,` `const` Number
-#[tactic(auto, unfolding(crate::specs::Reading::constant))]
+#[tactic(auto, unfolding(crate::specs::Reading::constant, crate::specs::Reading::bind))]
 fn constant(tokens: &mut Tokens<'_>) -> Result<Parameter<()>, Unread>
     ensures { Reads parameter_of (spec.constant tokens.old) result tokens.new }
 {
@@ -55,7 +55,7 @@ fn constant(tokens: &mut Tokens<'_>) -> Result<Parameter<()>, Unread>
 }
 
 /// Word `(` Word `:` `Int` `,` `const` Number `,` `const` Number `)`
-#[tactic(auto, unfolding(crate::specs::Reading::entry))]
+#[tactic(auto, unfolding(crate::specs::Reading::entry, crate::specs::Reading::bind))]
 fn entry(alloc: Global, tokens: &mut Tokens<'_>, kind: Kind) -> Result<Entry<()>, Unread>
     ensures { Reads entry_of (spec.entry kind tokens.old) result tokens.new }
 {
@@ -77,7 +77,7 @@ fn entry(alloc: Global, tokens: &mut Tokens<'_>, kind: Kind) -> Result<Entry<()>
 }
 
 /// Entry {`,` Entry} [`,`], behind the entries of the groups before.
-#[tactic(auto, unfolding(crate::specs::Reading::group))]
+#[tactic(auto, unfolding(crate::specs::Reading::group, crate::specs::Reading::bind))]
 fn group(
     alloc: Global,
     tokens: &mut Tokens<'_>,
@@ -113,7 +113,7 @@ fn groups(alloc: Global, tokens: &mut Tokens<'_>) -> Result<Vec<Entry<()>>, Unre
 }
 
 /// [`signature` {Group}]
-#[tactic(auto, unfolding(crate::specs::Reading::signature_part))]
+#[tactic(auto, unfolding(crate::specs::Reading::signature_part, crate::specs::Reading::choose))]
 pub(crate) fn signature_part(
     alloc: Global,
     tokens: &mut Tokens<'_>,

@@ -1,18 +1,22 @@
 //! The tree of a text.
 
+ghost use Rattle.std.specs.Prelude.{◌≡◌};
+ghost use Rattle.ioa_front.specs.Grammar.{IsSpelled};
+ghost use Rattle.ioa_source.specs.TextView.{text_of};
+
 use ioa_source::Text;
 
-/// What a text spells.
+/// What a text spells. Each value is spelled by some tokens; `parse` makes them. Source: profile.
 #[derive(Debug, Drop)]
 pub struct Source {
     text: Text<()>,
+    ghost spelled: { ∥ IsSpelled (text_of text) ∥₁ },
 }
 
 impl Source {
-    ghost use Rattle.std.specs.Prelude.{◌≡◌};
-
-    /// A text that tokens spell.
+    /// The source of a tree that some tokens spell.
     pub(crate) fn new(text: Text<()>) -> Self
+        requires { ∥ IsSpelled (text_of text) ∥₁ }
         ensures { result.text ≡ text }
     {
         Source { text }
@@ -20,7 +24,8 @@ impl Source {
 
     /// The tree.
     pub fn text(&self) -> &Text<()>
-        ensures { result.now ≡ self.now.text }
+        ensures same { result.now ≡ self.now.text }
+        ensures spelled { ∥ IsSpelled (text_of result.now) ∥₁ }
     {
         &self.text
     }

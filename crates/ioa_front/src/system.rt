@@ -20,7 +20,7 @@ fn at_placement(tokens: &Tokens<'_>) -> bool
 }
 
 /// `node` Number `:` Word
-#[tactic(auto, unfolding(crate::specs::Reading::node))]
+#[tactic(auto, unfolding(crate::specs::Reading::node, crate::specs::Reading::bind))]
 fn placed_node(alloc: Global, tokens: &mut Tokens<'_>) -> Result<Placement, Unread>
     ensures { Reads (λ p. p) (spec.node tokens.old) result tokens.new }
 {
@@ -32,7 +32,7 @@ fn placed_node(alloc: Global, tokens: &mut Tokens<'_>) -> Result<Placement, Unre
 }
 
 /// `channel` Number `->` Number
-#[tactic(auto, unfolding(crate::specs::Reading::channel))]
+#[tactic(auto, unfolding(crate::specs::Reading::channel, crate::specs::Reading::bind))]
 fn placed_channel(tokens: &mut Tokens<'_>) -> Result<Placement, Unread>
     ensures { Reads (λ p. p) (spec.channel tokens.old) result tokens.new }
 {
@@ -44,7 +44,7 @@ fn placed_channel(tokens: &mut Tokens<'_>) -> Result<Placement, Unread>
 }
 
 /// Node or Channel
-#[tactic(auto, unfolding(crate::specs::Reading::placement))]
+#[tactic(auto, unfolding(crate::specs::Reading::placement, crate::specs::Reading::choose))]
 fn one_placement(alloc: Global, tokens: &mut Tokens<'_>) -> Result<Placement, Unread>
     ensures { Reads (λ p. p) (spec.placement tokens.old) result tokens.new }
 {
@@ -71,7 +71,7 @@ fn placements(alloc: Global, tokens: &mut Tokens<'_>) -> Result<Vec<Placement>, 
 }
 
 /// {Automaton} `system` {Node or Channel}, and then the end
-#[tactic(auto, unfolding(crate::specs::Reading::whole))]
+#[tactic(auto, unfolding(crate::specs::Reading::whole, crate::specs::Reading::bind))]
 pub(crate) fn whole(alloc: Global, tokens: &mut Tokens<'_>) -> Result<Text<()>, Unread>
     ensures { Reads text_of (spec.whole tokens.old) result tokens.new }
 {

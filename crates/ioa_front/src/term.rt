@@ -27,7 +27,7 @@ pub(crate) struct ActionCall {
 }
 
 /// Word, Number, or Word `+` Number.
-#[tactic(auto, unfolding(crate::specs::Reading::atom))]
+#[tactic(auto, unfolding(crate::specs::Reading::atom, crate::specs::Reading::bind, crate::specs::Reading::choose))]
 fn atom(alloc: Global, tokens: &mut Tokens<'_>) -> Result<Term, Unread>
     ensures { Reads term_of (spec.atom tokens.old) result tokens.new }
 {
@@ -45,7 +45,7 @@ fn atom(alloc: Global, tokens: &mut Tokens<'_>) -> Result<Term, Unread>
 }
 
 /// A term. `room` is how many brackets more may be opened.
-#[tactic(auto, unfolding(crate::specs::Reading::term))]
+#[tactic(auto, unfolding(crate::specs::Reading::term, crate::specs::Reading::bind, crate::specs::Reading::choose))]
 pub(crate) fn term(alloc: Global, tokens: &mut Tokens<'_>, room: usize) -> Result<Term, Unread>
     ensures { Reads term_of (spec.term room tokens.old) result tokens.new }
 {
@@ -61,7 +61,7 @@ pub(crate) fn term(alloc: Global, tokens: &mut Tokens<'_>, room: usize) -> Resul
 }
 
 /// Term {`,` Term}
-#[tactic(auto, unfolding(crate::specs::Reading::terms))]
+#[tactic(auto, unfolding(crate::specs::Reading::terms, crate::specs::Reading::bind))]
 fn terms(alloc: Global, tokens: &mut Tokens<'_>) -> Result<Vec<Term>, Unread>
     ensures { Reads (λ v. map term_of v.items) (spec.terms tokens.old) result tokens.new }
 {
@@ -77,7 +77,7 @@ fn terms(alloc: Global, tokens: &mut Tokens<'_>) -> Result<Vec<Term>, Unread>
 }
 
 /// [`(` [Term {`,` Term}] `)`]
-#[tactic(auto, unfolding(crate::specs::Reading::arguments))]
+#[tactic(auto, unfolding(crate::specs::Reading::arguments, crate::specs::Reading::bind, crate::specs::Reading::choose))]
 fn arguments(alloc: Global, tokens: &mut Tokens<'_>) -> Result<Vec<Term>, Unread>
     ensures { Reads (λ v. map term_of v.items) (spec.arguments tokens.old) result tokens.new }
 {
@@ -93,7 +93,7 @@ fn arguments(alloc: Global, tokens: &mut Tokens<'_>) -> Result<Vec<Term>, Unread
 }
 
 /// Word [`(` [Term {`,` Term}] `)`]
-#[tactic(auto, unfolding(crate::specs::Reading::call))]
+#[tactic(auto, unfolding(crate::specs::Reading::call, crate::specs::Reading::bind))]
 pub(crate) fn call(alloc: Global, tokens: &mut Tokens<'_>) -> Result<ActionCall, Unread>
     ensures { Reads call_of (spec.call tokens.old) result tokens.new }
 {

@@ -10,3 +10,4 @@ pub mod View
 pub mod Bindings
 pub mod Meaning
 pub mod Bounded
+pub mod ActionText

@@ -7,6 +7,7 @@ mod environment;
 mod evaluation;
 mod fault;
 mod performance;
+mod text;
 mod tree;
 
 pub use action::{Action, NodeAction, Values, copies};
@@ -16,4 +17,5 @@ pub use evaluation::eval;
 pub use fault::TermFault;
 pub use ioa_values::{Names, Sort, Value, Word, show};
 pub use performance::perform;
+pub use text::{push_listed, show_action, show_node_action};
 pub use tree::{BinaryOperator, Checked, Kind, Place, Statement, Term, Tree};

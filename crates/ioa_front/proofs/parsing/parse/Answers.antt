@@ -1,8 +1,10 @@
-use Rattle.std.proofs.Common.{◌≡◌, sym, ap, ◌∙◌, arith}
-use Rattle.ioa_front.specs.Parsing.{bare}
+use Rattle.ioa_front.proofs.Parsed.{parses_found, parses_refused, parses_exact, parses_only}
 use Rattle.ioa_front.proofs.parsing.parse.Goals as goal
 
-pub returns-in-Ok-whole : goal.returns-in-Ok-whole
-returns-in-Ok-whole c =
-    let same : bare c.in-Ok.placed.items ≡ c.new-rest.result = ap bare (sym c.as_slice.ensures.value) ∙ sym c.new-rest.ensures in
-    (omega arith, (c.in-Ok.placed.items, c.whole.new.tokens, c.in-Ok.ensures, rw (c.new.ensures, same) c.in-Ok-whole.ensures))
+pub returns : goal.returns
+returns c = record {
+  found = parses_found c.read.result c.args.text.now c.read.ensures;
+  refused = parses_refused c.read.result c.args.text.now c.read.ensures;
+  exact = parses_exact c.read.result c.args.text.now c.read.ensures;
+  only = parses_only c.read.result c.args.text.now c.read.ensures;
+}

@@ -1,4 +1,4 @@
-use Rattle.std.proofs.Common.{◌≡◌, ◌-◌, map}
+use Rattle.std.proofs.Common.{◌≡◌, ◌-◌}
 use Rattle.ioa_front.specs.Reading.{at_placement, begun, collected, placed, placement}
 use Rattle.ioa_front.proofs.system.placements.Given as goal
 

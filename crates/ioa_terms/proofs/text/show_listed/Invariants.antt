@@ -1,0 +1,7 @@
+use Rattle.std.proofs.Common.{◌≡◌, map, take, string_bytes}
+use Rattle.ioa_terms.specs.Text.{text, with_commas}
+use Rattle.ioa_terms.proofs.text.show_listed.Given as goal
+
+-- what is written so far are the values gone by
+abbrev pub invariant-loop-place : goal.invariant-loop-place
+invariant-loop-place l = string_bytes l.list ≡ with_commas (map (text l.names) (take l.place l.values))

@@ -1,0 +1,102 @@
+//! Actions as text.
+
+ghost use Rattle.std.specs.Prelude.{◌≡◌, ◌++◌, IfOk, OnOk, map, string_bytes, codes};
+ghost use Rattle.std.specs.Fmt.{signed_decimal};
+ghost use Rattle.ioa_terms.specs.Text.{text, with_commas};
+ghost use Rattle.ioa_terms.specs.ActionText.{after_comma, arguments_text, node_action_text, message_text, action_text};
+
+use crate::action::{Action, NodeAction};
+use ioa_values::{Names, Value, show};
+use std::alloc::{AllocError, Global};
+
+/// Writes a piece of a list behind the pieces before it, with a comma and a space between; `place` is
+/// its place in the list.
+pub fn push_listed(list: &mut String, place: usize, piece: &str) -> Result<(), AllocError>
+    ensures { OnOk result (string_bytes list.new ≡ string_bytes list.old ++ after_comma place piece.now) }
+{
+    if place > 0 {
+        list.push_str(", ")?;
+    }
+    list.push_str(piece)
+}
+
+/// The texts of values, with a comma and a space between.
+fn show_listed(alloc: Global, names: &Names, values: &[Value]) -> Result<String, AllocError>
+    ensures { IfOk result (λ s. string_bytes s ≡ with_commas (map (text names.now) values.now)) }
+{
+    let mut list = String::new(alloc);
+    for (place, value) in values.iter().enumerate() {
+        let piece = show(alloc, names, value)?;
+        push_listed(&mut list, place, piece.as_str())?;
+    }
+    Ok(list)
+}
+
+/// The arguments of an action in round brackets, or nothing where it has none.
+fn show_arguments(alloc: Global, names: &Names, values: &[Value]) -> Result<String, AllocError>
+    ensures { IfOk result (λ s. string_bytes s ≡ arguments_text names.now values.now) }
+{
+    match values {
+        [] => Ok(String::new(alloc)),
+        [_, ..] => {
+            let list = show_listed(alloc, names, values)?;
+            format!(in alloc; "({list})")
+        }
+    }
+}
+
+/// The text of an action that bears its node: name, arguments and node.
+fn show_at_node(
+    alloc: Global,
+    name: &str,
+    arguments: &str,
+    node: i64,
+) -> Result<String, AllocError>
+    ensures { IfOk result (λ s. string_bytes s ≡ name.now ++ (arguments.now ++ (codes "@" ++ signed_decimal node))) }
+{
+    format!(in alloc; "{name}{arguments}@{node}")
+}
+
+/// The text of an action that bears its node (profile): `a(v, w)@k`, or `a@k` where it has no arguments.
+pub fn show_node_action(
+    alloc: Global,
+    names: &Names,
+    action: &NodeAction,
+) -> Result<String, AllocError>
+    ensures { IfOk result (λ s. string_bytes s ≡ node_action_text names.now action.now) }
+{
+    let arguments = show_arguments(alloc, names, action.arguments.as_slice())?;
+    show_at_node(alloc, action.name.as_str(), arguments.as_str(), action.node)
+}
+
+/// The text of a send or a receive.
+fn show_message(
+    alloc: Global,
+    name: &str,
+    message: &str,
+    from: i64,
+    to: i64,
+) -> Result<String, AllocError>
+    ensures { IfOk result (λ s. string_bytes s ≡ message_text name.now message.now from to) }
+{
+    format!(in alloc; "{name}({message}, {from}, {to})")
+}
+
+/// The text of an action (profile): `send(m, i, j)`, `receive(m, i, j)`, and for all others `a(v, w)@k`,
+/// or `a@k` where it has no arguments.
+pub fn show_action(alloc: Global, names: &Names, action: &Action) -> Result<String, AllocError>
+    ensures { IfOk result (λ s. string_bytes s ≡ action_text names.now action.now) }
+{
+    match action {
+        Action::Send(message, from, to) => {
+            let message = show(alloc, names, message)?;
+            show_message(alloc, "send", message.as_str(), *from, *to)
+        }
+        Action::Receive(message, from, to) => {
+            let message = show(alloc, names, message)?;
+            show_message(alloc, "receive", message.as_str(), *from, *to)
+        }
+        Action::Local(action) => show_node_action(alloc, names, action),
+        Action::Stimulus(action) => show_node_action(alloc, names, action),
+    }
+}
