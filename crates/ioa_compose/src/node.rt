@@ -1,6 +1,6 @@
 //! Node configurations and their steps.
 
-ghost use Rattle.std.specs.Prelude.{◌≡◌, IfOk};
+ghost use Rattle.std.specs.Prelude.{◌≡◌, IfOk, length};
 ghost use Rattle.ioa_compose.specs.Outcome.{Answers};
 ghost use Rattle.ioa_compose.specs.NodeStep.{node_answer};
 ghost use Rattle.std.specs.Arc.{arc_value};
@@ -62,7 +62,8 @@ impl NodeConf {
 
     /// The values of the state variables, in the order of their declaration.
     pub fn variables(&self) -> &Values
-        ensures { result.now ≡ self.now.variables }
+        ensures value { result.now ≡ self.now.variables }
+        ensures valued { length result.now ≡ length self.now.program.variables }
     {
         &self.variables
     }

@@ -1,2 +1,4 @@
 -- lemmas of the program
 mod Appended
+mod Elements
+mod Runs

@@ -1,8 +1,39 @@
 //! The program `ioarun`: system text on standard input, report on standard output.
 #![tactic(auto)]
 
+mod ending;
 mod input;
 mod options;
 mod out;
+mod program;
+mod record;
+mod reporting;
+mod running;
+mod turn;
+mod whole_run;
 
-fn main() {}
+use crate::out::Over;
+use crate::program::command;
+use std::env;
+use std::io;
+use std::process::ExitCode;
+
+/// The status where the command line could not be read.
+const BAD_WORDS: u8 = 2;
+
+fn main(rt: HostRuntime) -> ExitCode {
+    match run_on_streams(rt) {
+        Ok(status) => ExitCode::from(status),
+        Err(_) => ExitCode::from(BAD_WORDS),
+    }
+}
+
+/// Runs the program on the standard streams; a fault is one of reading the command line.
+fn run_on_streams(rt: HostRuntime) -> io::Result<u8> {
+    let alloc = rt.alloc();
+    let owned: Vec<String> = env::args(&rt)?.collect(alloc)?;
+    let words: Vec<&str> = owned.iter().map(|word| word.as_str()).collect(alloc)?;
+    let mut out = Over::new(rt.stdout());
+    let mut err = Over::new(rt.stderr());
+    Ok(command(alloc, &words, &mut rt.reader(), &mut out, &mut err))
+}
