@@ -150,4 +150,6 @@ fn tell<E: Out>(alloc: Global, fault: &CommandFault, err: &mut E) -> u8
 }
 
 #[cfg(test)]
+mod refusals;
+#[cfg(test)]
 mod tests;
