@@ -1,5 +1,6 @@
 -- Lists that a loop makes, one item after another.
-use Rattle.std.proofs.Common.{◌≡◌, ℕ, ◌+◌, ◌<◌, List, [], ◌∷◌, ◌++◌, refl, sym, ap, ◌∙◌, length, map, take, get_or, arith}
+use Rattle.std.proofs.Common.{◌≡◌, ℕ, ◌+◌, ◌<◌, List, [], ◌∷◌, ◌++◌, refl, length, map, take, drop, get_or, Bool, true, false, add-one, drop-cons, subst}
+use Rattle.std.specs.List.{list_all, list_any}
 use Rattle.std.specs.List.{AllByRecursion}
 use Rattle.std.proofs.lemmas.List.{take_more, map-append}
 
@@ -21,3 +22,32 @@ next_push f h xs x ys i y so_far same within at =
 pub same_push : {A B C D : Type 0} (g : B → C) (f : A → B) (h : D → C) (xs : List A) (x : A) (ys : List D) (i : ℕ) (y : D) → map g (map f xs) ≡ map h (take i ys) → g (f x) ≡ h y → i < length ys → y ≡ get_or ys i y → map g (map f (xs ++ x ∷ [])) ≡ map h (take (i + 1) ys)
 same_push g f h xs x ys i y so_far same within at =
     rw (map-append f xs (x ∷ []), map-append g (map f xs) (f x ∷ []), take_more ys i y within, map-append h (take i ys) (get_or ys i y ∷ []), so_far, same, ← at) refl
+
+-- one more of the first items of a list
+pub each_take : {A B : Type 0} (P : B → Type 0) (f : A → B) (ys : List A) (i : ℕ) (y : A) → AllByRecursion P (map f (take i ys)) → P (f y) → i < length ys → y ≡ get_or ys i y → AllByRecursion P (map f (take (i + 1) ys))
+each_take P f ys i y h p within at =
+    rw (take_more ys i y within, map-append f (take i ys) (get_or ys i y ∷ []), ← at) (each_append P (map f (take i ys)) (f y) h p)
+
+-- the items of a list that are left begin with the next one
+next_left : {A : Type 0} (ys : List A) (i : ℕ) (y : A) → i < length ys → y ≡ get_or ys i y → drop i ys ≡ y ∷ drop (i + 1) ys
+next_left ys i y within at = rw (add-one, drop-cons ys i y, ← at) refl
+
+-- where the next one passes, the others decide
+pub all_left : {A B : Type 0} (p : B → Bool) (f : A → B) (ys : List A) (i : ℕ) (y : A) {all : Bool} → list_all p (map f (drop i ys)) ≡ all → p (f y) ≡ true → i < length ys → y ≡ get_or ys i y → list_all p (map f (drop (i + 1) ys)) ≡ all
+all_left {A} p f ys i y {all} h passes within at =
+    rw passes at (subst (λ (zs : List A). list_all p (map f zs) ≡ all) (next_left ys i y within at) h)
+
+-- where the next one does not pass, the others decide
+pub any_left : {A B : Type 0} (p : B → Bool) (f : A → B) (ys : List A) (i : ℕ) (y : A) {any : Bool} → list_any p (map f (drop i ys)) ≡ any → p (f y) ≡ false → i < length ys → y ≡ get_or ys i y → list_any p (map f (drop (i + 1) ys)) ≡ any
+any_left {A} p f ys i y {any} h fails within at =
+    rw fails at (subst (λ (zs : List A). list_any p (map f zs) ≡ any) (next_left ys i y within at) h)
+
+-- where the next one passes, one does
+pub any_next : {A B : Type 0} (p : B → Bool) (f : A → B) (ys : List A) (i : ℕ) (y : A) {any : Bool} → list_any p (map f (drop i ys)) ≡ any → p (f y) ≡ true → i < length ys → y ≡ get_or ys i y → true ≡ any
+any_next {A} p f ys i y {any} h passes within at =
+    rw passes at (subst (λ (zs : List A). list_any p (map f zs) ≡ any) (next_left ys i y within at) h)
+
+-- what one more item stands for
+pub map_take : {A B C : Type 0} (g : B → C) (f : A → B) (ys : List A) (i : ℕ) (y : A) → i < length ys → y ≡ get_or ys i y → map g (map f (take i ys)) ++ g (f y) ∷ [] ≡ map g (map f (take (i + 1) ys))
+map_take g f ys i y within at =
+    rw (take_more ys i y within, map-append f (take i ys) (get_or ys i y ∷ []), map-append g (map f (take i ys)) (f (get_or ys i y) ∷ []), ← at) refl

@@ -13,6 +13,7 @@ pub mod Participants
 pub mod Parts
 pub mod Placed
 pub mod Queues
+pub mod Rows
 pub mod Start
 pub mod StepFaults
 pub mod Systems

@@ -16,7 +16,7 @@ node_state p vs = record { program = p; variables = vs }
 abbrev pub node_state_code : Coded NodeState
 node_state_code =
     code_by (Parts × List Data) (coded× parts_code (coded_list value.the_row.coded))
-      (λ c. (c.program, c.variables)) (λ p. node_state p.0 p.1) (λ _. refl)
+    (λ c. (c.program, c.variables)) (λ p. node_state p.0 p.1) (λ _. refl)
 
 -- there is a value for each variable
 abbrev pub IsValued : NodeState → Type 0

@@ -24,7 +24,7 @@ parts n rs vs ds ss = record { node = n; rules = rs; variables = vs; initial = d
 abbrev pub parts_code : Coded Parts
 parts_code =
     code_by (ℤ × (List Rule × (List (Variable ℕ) × (List Data × List (Statement ℕ)))))
-      (coded× coded_ℤ (coded× (coded_list rule.the_row.coded) (coded× (coded_list (variable.the_row usize).coded) (coded× (coded_list value.the_row.coded) (coded_list (statement.the_row usize).coded)))))
-      (λ p. (p.node, (p.rules, (p.variables, (p.initial, p.schedule)))))
-      (λ t. record { node = t.0; rules = t.1.0; variables = t.1.1.0; initial = t.1.1.1.0; schedule = t.1.1.1.1 })
-      (λ _. refl)
+    (coded× coded_ℤ (coded× (coded_list rule.the_row.coded) (coded× (coded_list (variable.the_row usize).coded) (coded× (coded_list value.the_row.coded) (coded_list (statement.the_row usize).coded)))))
+    (λ p. (p.node, (p.rules, (p.variables, (p.initial, p.schedule)))))
+    (λ t. record { node = t.0; rules = t.1.0; variables = t.1.1.0; initial = t.1.1.1.0; schedule = t.1.1.1.1 })
+    (λ _. refl)

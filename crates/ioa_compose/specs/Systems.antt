@@ -17,7 +17,7 @@ system ns ps cs = record { names = ns; programs = ps; channels = cs }
 abbrev pub system_code : Coded SystemParts
 system_code =
     code_by (List (List ℕ) × (List Parts × List Channel))
-      (coded× (coded_list (coded_list coded_ℕ)) (coded× (coded_list parts_code) (coded_list channel.the_row.coded)))
-      (λ s. (s.names, (s.programs, s.channels)))
-      (λ t. system t.0 t.1.0 t.1.1)
-      (λ _. refl)
+    (coded× (coded_list (coded_list coded_ℕ)) (coded× (coded_list parts_code) (coded_list channel.the_row.coded)))
+    (λ s. (s.names, (s.programs, s.channels)))
+    (λ t. system t.0 t.1.0 t.1.1)
+    (λ _. refl)

@@ -1,11 +1,14 @@
 //! A node's program, made of its automaton.
 
-ghost use Rattle.std.specs.Prelude.{◌≡◌, ◌++◌, All, [], ◌∷◌, IfOk, Ok, map, length};
-ghost use Rattle.std.specs.Option.{option_map, option_copied};
-ghost use Rattle.std.specs.List.{AllByRecursion};
+ghost use Rattle.std.specs.Prelude.{◌≡◌, ◌&&◌, true, nat_eq, ◌++◌, All, [], ◌∷◌, IfOk, OnOk, Ok, map, length};
+ghost use Rattle.std.specs.Option.{option_map, option_copied, is_some};
+ghost use lib.Pointwise.{pointwise};
+ghost use Rattle.std.specs.List.{AllByRecursion, IsDistinct, list_all, list_any};
+ghost use Rattle.ioa_terms.specs.Bindings.{same_name};
+ghost use Rattle.ioa_compose.specs.Rows.{HasNoEntryRow, HasNoAutomatonRow, has_entry, fires_entry, fires_as_many, assigns_number, is_guard_or_none, argument_repeats, same_term};
 ghost use Rattle.ioa_source.specs.Erasure.{erase_entry, erase_transition};
-ghost use Rattle.ioa_compose.specs.Made.{IsProgramOf, IsRuleOf, initial_answer, term_answer, transition_for};
-ghost use Rattle.ioa_source.specs.View.{term_of};
+ghost use Rattle.ioa_compose.specs.Made.{IsProgramOf, IsRuleOf, initial_answer, term_answer, transition_for, same_kind};
+ghost use Rattle.ioa_source.specs.View.{term_of, statement_of};
 ghost use Rattle.ioa_source.specs.TextView.{automaton_of, parameter_of, entry_of, transition_of, variable_of};
 ghost use Rattle.ioa_terms.specs.Meaning.{ArePlaced};
 ghost use Rattle.ioa_compose.specs.Placed.{IsPlacedRule, ArePlacedVariables, IsPlacedGuard, own_name, variable_names, scope_of};
@@ -28,8 +31,10 @@ pub(crate) fn program_of(
 ) -> Result<Program, Refusal>
     ensures node { IfOk result (λ p. p.node ≡ node) }
     ensures made { IfOk result (IsProgramOf (automaton_of automaton.now)) }
+    ensures rows { OnOk result (HasNoAutomatonRow (automaton_of automaton.now)) }
 {
-    actions_differ(alloc, automaton)?;
+    entries_differ(alloc, automaton)?;
+    transitions_differ(alloc, automaton)?;
     let variables = place_variables(alloc, &automaton.states)?;
     let initial = initial_values(alloc, &variables)?;
     let names = names_of(alloc, &variables)?;
@@ -42,7 +47,8 @@ pub(crate) fn program_of(
 
 /// The names of the state variables, which differ.
 fn names_of(alloc: Global, variables: &[Variable<usize>]) -> Result<Scope, Refusal>
-    ensures { IfOk result (λ s. s ≡ variable_names (map variable_of variables.now)) }
+    ensures names { IfOk result (λ s. s ≡ variable_names (map variable_of variables.now)) }
+    ensures differ { IfOk result (IsDistinct same_name) }
 {
     let mut names = Scope::new(alloc);
     for variable in variables {
@@ -53,7 +59,8 @@ fn names_of(alloc: Global, variables: &[Variable<usize>]) -> Result<Scope, Refus
 
 /// Declares a name that is new.
 fn declare(alloc: Global, names: &mut Scope, name: &Word) -> Result<(), Refusal>
-    ensures { IfOk result (λ _. names.new ≡ names.old ++ name.now ∷ []) }
+    ensures added { OnOk result (names.new ≡ names.old ++ name.now ∷ []) }
+    ensures differ { OnOk result (IsDistinct same_name names.old → IsDistinct same_name names.new) }
 {
     if names.declare(name.try_copy(alloc)?)? {
         Ok(())
@@ -69,7 +76,8 @@ fn scope_for(
     variables: &[Variable<usize>],
     entry: &Entry<usize>,
 ) -> Result<Scope, Refusal>
-    ensures { IfOk result (λ s. s ≡ scope_of (entry_of entry.now) (map variable_of variables.now)) }
+    ensures names { IfOk result (λ s. s ≡ scope_of (entry_of entry.now) (map variable_of variables.now)) }
+    ensures differ { IfOk result (IsDistinct same_name) }
 {
     let mut names = names_of(alloc, variables)?;
     for parameter in &entry.parameters {
@@ -84,7 +92,8 @@ fn declare_parameter(
     names: &mut Scope,
     parameter: &Parameter<usize>,
 ) -> Result<(), Refusal>
-    ensures { IfOk result (λ _. names.new ≡ names.old ++ own_name (parameter_of parameter.now)) }
+    ensures added { OnOk result (names.new ≡ names.old ++ own_name (parameter_of parameter.now)) }
+    ensures differ { OnOk result (IsDistinct same_name names.old → IsDistinct same_name names.new) }
 {
     match parameter {
         Parameter::Const(_) => Ok(()),
@@ -129,10 +138,10 @@ fn rules_of(
     variables: &[Variable<usize>],
 ) -> Result<Vec<Rule>, Refusal>
     ensures placed { IfOk result (λ rs. All (IsPlacedRule (map variable_of variables.now)) rs.items) }
-    ensures signature {
-        IfOk result (λ rs. map (λ r. erase_entry (entry_of r.entry)) rs.items ≡ (automaton_of automaton.now).signature)
-    }
+    ensures signature { IfOk result (λ rs. map (λ r. erase_entry (entry_of r.entry)) rs.items ≡ (automaton_of automaton.now).signature) }
     ensures transitions { IfOk result (λ rs. AllByRecursion (IsRuleOf (automaton_of automaton.now)) rs.items) }
+    ensures rows { OnOk result (AllByRecursion (HasNoEntryRow (variable_names (map variable_of variables.now)) (automaton_of automaton.now).transitions)
+        (automaton_of automaton.now).signature) }
 {
     let mut rules = Vec::new(alloc);
     for entry in &automaton.signature {
@@ -152,6 +161,7 @@ fn rule_of(
     ensures placed { IfOk result (IsPlacedRule (map variable_of variables.now)) }
     ensures entry { IfOk result (λ r. erase_entry (entry_of r.entry) ≡ entry_of entry.now) }
     ensures transition { IfOk result (IsRuleOf (automaton_of automaton.now)) }
+    ensures rows { OnOk result (HasNoEntryRow (variable_names (map variable_of variables.now)) (automaton_of automaton.now).transitions (entry_of entry.now)) }
 {
     let Some(transition) = transition_for(automaton, entry) else {
         return Err(Refusal::Row(Row::NoTransition));
@@ -159,7 +169,7 @@ fn rule_of(
     if !head_repeats(&entry.parameters, &transition.arguments) {
         return Err(Refusal::Row(Row::BadArgument));
     }
-    if entry.kind == Kind::Input && transition.pre.is_some() {
+    if has_input_pre(entry, transition) {
         return Err(Refusal::Row(Row::InputPre));
     }
     let entry = place_entry(alloc, entry)?;
@@ -172,6 +182,16 @@ fn rule_of(
     })
 }
 
+/// Whether a transition has a guard although its entry is an input.
+fn has_input_pre(entry: &Entry<()>, transition: &Transition<()>) -> bool
+    ensures { result ≡ is_some (transition_of transition.now).pre && same_kind (entry_of entry.now).kind Kind.Input }
+{
+    match &transition.pre {
+        None => false,
+        Some(_) => entry.kind == Kind::Input,
+    }
+}
+
 /// A transition, its names placed among those in view.
 fn place_transition(
     alloc: Global,
@@ -182,6 +202,8 @@ fn place_transition(
     ensures same { IfOk result (λ t. erase_transition (transition_of t) ≡ transition_of transition.now) }
     ensures guard { IfOk result (λ t. IsPlacedGuard (transition_of t).pre scope.now) }
     ensures effect { IfOk result (λ t. ArePlaced (transition_of t).effect scope.now) }
+    ensures sort { OnOk result (is_guard_or_none (transition_of transition.now).pre ≡ true) }
+    ensures numbers { OnOk result (list_all assigns_number (transition_of transition.now).effect ≡ true) }
 {
     let name = transition.name.try_copy(alloc)?;
     let arguments = place_terms(alloc, scope, &transition.arguments)?;
@@ -197,14 +219,9 @@ fn place_transition(
 }
 
 /// The transition of an entry's name.
-fn transition_for<'a>(
-    automaton: &'a Automaton<()>,
-    entry: &Entry<()>,
-) -> Option<&'a Transition<()>>
-    ensures {
-        option_map transition_of (option_copied result)
-            ≡ transition_for (entry_of entry.now) (automaton_of automaton.now).transitions
-    }
+fn transition_for<'a>(automaton: &'a Automaton<()>, entry: &Entry<()>) -> Option<&'a Transition<()>>
+    ensures { option_map transition_of (option_copied result)
+        ≡ transition_for (entry_of entry.now) (automaton_of automaton.now).transitions }
 {
     for transition in &automaton.transitions {
         if transition.name == entry.name && transition.kind == entry.kind {
@@ -214,18 +231,10 @@ fn transition_for<'a>(
     None
 }
 
-/// The entry of a name.
-fn entry_for<'a>(automaton: &'a Automaton<()>, name: &Word) -> Option<&'a Entry<()>> {
-    for entry in &automaton.signature {
-        if entry.name == *name {
-            return Some(entry);
-        }
-    }
-    None
-}
-
 /// Whether a head repeats its entry: the same term at a constant, the same name elsewhere.
-fn head_repeats(parameters: &[Parameter<()>], arguments: &[Term]) -> bool {
+fn head_repeats(parameters: &[Parameter<()>], arguments: &[Term]) -> bool
+    ensures { result ≡ pointwise argument_repeats (map parameter_of parameters.now) (map term_of arguments.now) }
+{
     if parameters.len() != arguments.len() {
         return false;
     }
@@ -238,7 +247,9 @@ fn head_repeats(parameters: &[Parameter<()>], arguments: &[Term]) -> bool {
 }
 
 /// Whether an argument of a head repeats its parameter.
-fn argument_repeats(parameter: &Parameter<()>, argument: &Term) -> bool {
+fn argument_repeats(parameter: &Parameter<()>, argument: &Term) -> bool
+    ensures { result ≡ argument_repeats (parameter_of parameter.now) (term_of argument.now) }
+{
     match parameter {
         Parameter::Const(term) => same_term(term, argument),
         Parameter::Declared(name, _) => match argument {
@@ -250,7 +261,9 @@ fn argument_repeats(parameter: &Parameter<()>, argument: &Term) -> bool {
 }
 
 /// Whether two terms are spelled by the same tree.
-fn same_term(left: &Term, right: &Term) -> bool {
+fn same_term(left: &Term, right: &Term) -> bool
+    ensures { result ≡ same_term (term_of left.now) (term_of right.now) }
+{
     match left {
         Tree::Number(m) => match right {
             Tree::Number(n) => m == n,
@@ -270,55 +283,109 @@ fn same_term(left: &Term, right: &Term) -> bool {
     }
 }
 
-/// Passes where no two entries, and no two transitions, have one name.
-fn actions_differ(alloc: Global, automaton: &Automaton<()>) -> Result<(), Refusal> {
-    let mut entries = Scope::new(alloc);
+/// Passes where no two entries have one name.
+fn entries_differ(alloc: Global, automaton: &Automaton<()>) -> Result<(), Refusal>
+    ensures { OnOk result (IsDistinct same_name (map (λ e. e.name) (automaton_of automaton.now).signature)) }
+{
+    let mut names = Scope::new(alloc);
     for entry in &automaton.signature {
-        declare(alloc, &mut entries, &entry.name)?;
+        declare(alloc, &mut names, &entry.name)?;
     }
-    let mut transitions = Scope::new(alloc);
+    Ok(())
+}
+
+/// Passes where no two transitions have one name.
+fn transitions_differ(alloc: Global, automaton: &Automaton<()>) -> Result<(), Refusal>
+    ensures { OnOk result (IsDistinct same_name (map (λ t. t.name) (automaton_of automaton.now).transitions)) }
+{
+    let mut names = Scope::new(alloc);
     for transition in &automaton.transitions {
-        declare(alloc, &mut transitions, &transition.name)?;
+        declare(alloc, &mut names, &transition.name)?;
     }
     Ok(())
 }
 
 /// Passes where each transition is of an entry's name and kind.
-fn transitions_have_entries(automaton: &Automaton<()>) -> Result<(), Refusal> {
+fn transitions_have_entries(automaton: &Automaton<()>) -> Result<(), Refusal>
+    ensures { OnOk result (list_all (has_entry (automaton_of automaton.now).signature) (automaton_of automaton.now).transitions ≡ true) }
+{
     for transition in &automaton.transitions {
-        match entry_for(automaton, &transition.name) {
-            None => return Err(Refusal::Row(Row::Unknown)),
-            Some(entry) => {
-                if entry.kind != transition.kind {
-                    return Err(Refusal::Row(Row::Unknown));
-                }
-            }
+        if !has_entry(automaton, transition) {
+            return Err(Refusal::Row(Row::Unknown));
         }
     }
     Ok(())
 }
 
+/// Whether a transition is of an entry's name and kind.
+fn has_entry(automaton: &Automaton<()>, transition: &Transition<()>) -> bool
+    ensures { result ≡ has_entry (automaton_of automaton.now).signature (transition_of transition.now) }
+{
+    for entry in &automaton.signature {
+        if entry.name == transition.name && entry.kind == transition.kind {
+            return true;
+        }
+    }
+    false
+}
+
 /// Passes where each firing is of an entry's name and has as many arguments.
-fn firings_have_entries(automaton: &Automaton<()>) -> Result<(), Refusal> {
+fn firings_have_entries(automaton: &Automaton<()>) -> Result<(), Refusal>
+    ensures known { OnOk result (list_all (fires_entry (automaton_of automaton.now).signature) (automaton_of automaton.now).schedule ≡ true) }
+    ensures many { OnOk result (list_all (fires_as_many (automaton_of automaton.now).signature) (automaton_of automaton.now).schedule ≡ true) }
+{
     for statement in &automaton.schedule {
-        firing_has_entry(automaton, statement)?;
+        if !fires_entry(automaton, statement) {
+            return Err(Refusal::Row(Row::Unknown));
+        }
+        if !fires_as_many(automaton, statement) {
+            return Err(Refusal::Row(Row::Sorts));
+        }
     }
     Ok(())
 }
 
-/// Passes where a statement is a firing of an entry's name with as many arguments.
-fn firing_has_entry(automaton: &Automaton<()>, statement: &Statement<()>) -> Result<(), Refusal> {
+/// Whether a statement is a firing of an entry's name.
+fn fires_entry(automaton: &Automaton<()>, statement: &Statement<()>) -> bool
+    ensures { result ≡ fires_entry (automaton_of automaton.now).signature (statement_of statement.now) }
+{
     match statement {
-        Statement::Assign(_, _) => Err(Refusal::Row(Row::Unknown)),
-        Statement::Fire(_, name, arguments) => match entry_for(automaton, name) {
-            None => Err(Refusal::Row(Row::Unknown)),
-            Some(entry) => {
-                if entry.parameters.len() == arguments.len() {
-                    Ok(())
-                } else {
-                    Err(Refusal::Row(Row::Sorts))
-                }
-            }
-        },
+        Statement::Assign(_, _) => false,
+        Statement::Fire(_, name, _) => is_entry(automaton, name),
     }
+}
+
+/// Whether an entry has a name.
+fn is_entry(automaton: &Automaton<()>, name: &Word) -> bool
+    ensures { result ≡ list_any (λ e. same_name e.name name.now) (automaton_of automaton.now).signature }
+{
+    for entry in &automaton.signature {
+        if entry.name == *name {
+            return true;
+        }
+    }
+    false
+}
+
+/// Whether a statement is a firing with as many arguments as its entry has parameters.
+fn fires_as_many(automaton: &Automaton<()>, statement: &Statement<()>) -> bool
+    ensures { result ≡ fires_as_many (automaton_of automaton.now).signature (statement_of statement.now) }
+{
+    match statement {
+        Statement::Assign(_, _) => false,
+        Statement::Fire(_, name, arguments) => takes_as_many(automaton, name, arguments),
+    }
+}
+
+/// Whether an entry of a name has as many parameters as there are arguments.
+fn takes_as_many(automaton: &Automaton<()>, name: &Word, arguments: &[Term]) -> bool
+    ensures { result ≡ list_any (λ e. same_name e.name name.now && nat_eq (length e.parameters) (length (map term_of arguments.now)))
+        (automaton_of automaton.now).signature }
+{
+    for entry in &automaton.signature {
+        if entry.name == *name && entry.parameters.len() == arguments.len() {
+            return true;
+        }
+    }
+    false
 }

@@ -1,13 +1,15 @@
 //! Terms and statements of a text, with each name's place beside it.
 
-ghost use Rattle.std.specs.Prelude.{◌≡◌, IfOk, map, []};
-ghost use Rattle.std.specs.Option.{option_map};
+ghost use Rattle.std.specs.Prelude.{◌≡◌, IfOk, OnOk, map, [], true};
+ghost use Rattle.std.specs.List.{list_all};
+ghost use Rattle.std.specs.Option.{option_map, is_some};
 ghost use Rattle.ioa_source.specs.View.{term_of, place_of, statement_of};
 ghost use Rattle.ioa_source.specs.TextView.{parameter_of, entry_of, variable_of, transition_of};
 ghost use Rattle.ioa_source.specs.Erasure.{erase_term, erase_place, erase_statement, erase_parameter, erase_entry, erase_variable};
 ghost use Rattle.ioa_terms.specs.Meaning.{IsPlaced, IsPlacedStatement, ArePlaced};
 ghost use Rattle.ioa_compose.specs.Placed.{IsPlacedGuard, IsPlacedParameter, ArePlacedParameters, ArePlacedTerms, IsPlacedFiring, ArePlacedFirings, IsPlacedPlace, ArePlacedVariables};
 ghost use Rattle.ioa_compose.specs.FirstSorts.{is_number, is_guard};
+ghost use Rattle.ioa_compose.specs.Rows.{assigns_number, fires_numbers, is_number_constant, is_number_term, is_guard_or_none};
 
 use crate::refusal::{Refusal, Row};
 use crate::scope::Scope;
@@ -81,6 +83,7 @@ fn place_assignment(
 ) -> Result<Statement<usize>, Refusal>
     ensures same { IfOk result (λ s. erase_statement (statement_of s) ≡ statement_of statement.now) }
     ensures placed { IfOk result (λ s. IsPlacedStatement (statement_of s) scope.now) }
+    ensures number { OnOk result (assigns_number (statement_of statement.now) ≡ true) }
 {
     match statement {
         Statement::Assign(place, term) => {
@@ -105,6 +108,7 @@ pub(crate) fn place_effect(
 ) -> Result<Vec<Statement<usize>>, Refusal>
     ensures same { IfOk result (λ ss. map erase_statement (map statement_of ss.items) ≡ map statement_of effect.now) }
     ensures placed { IfOk result (λ ss. ArePlaced (map statement_of ss.items) scope.now) }
+    ensures numbers { OnOk result (list_all assigns_number (map statement_of effect.now) ≡ true) }
 {
     let mut placed = Vec::new(alloc);
     for statement in effect {
@@ -121,6 +125,7 @@ pub(crate) fn place_guard(
 ) -> Result<Option<Checked>, Refusal>
     ensures same { IfOk result (λ g. option_map erase_term (option_map term_of g) ≡ option_map term_of pre.now) }
     ensures placed { IfOk result (λ g. IsPlacedGuard (option_map term_of g) scope.now) }
+    ensures sort { OnOk result (is_guard_or_none (option_map term_of pre.now) ≡ true) }
 {
     match pre {
         None => Ok(None),
@@ -141,11 +146,12 @@ fn place_firing(
 ) -> Result<Statement<usize>, Refusal>
     ensures same { IfOk result (λ s. erase_statement (statement_of s) ≡ statement_of statement.now) }
     ensures placed { IfOk result (λ s. IsPlacedFiring (statement_of s) variables.now) }
+    ensures numbers { OnOk result (fires_numbers (statement_of statement.now) ≡ true) }
 {
     match statement {
         Statement::Assign(_, _) => Err(Refusal::Row(Row::Unknown)),
         Statement::Fire(kind, name, arguments) => {
-            if !arguments.iter().all(is_number) {
+            if !are_numbers(arguments) {
                 return Err(Refusal::Row(Row::Sorts));
             }
             let name = name.try_copy(alloc)?;
@@ -164,6 +170,7 @@ pub(crate) fn place_schedule(
 ) -> Result<Vec<Statement<usize>>, Refusal>
     ensures same { IfOk result (λ ss. map erase_statement (map statement_of ss.items) ≡ map statement_of schedule.now) }
     ensures placed { IfOk result (λ ss. ArePlacedFirings (map statement_of ss.items) variables.now) }
+    ensures numbers { OnOk result (list_all fires_numbers (map statement_of schedule.now) ≡ true) }
 {
     let mut placed = Vec::new(alloc);
     for statement in schedule {
@@ -176,6 +183,7 @@ pub(crate) fn place_schedule(
 fn place_parameter(alloc: Global, parameter: &Parameter<()>) -> Result<Parameter<usize>, Refusal>
     ensures same { IfOk result (λ p. erase_parameter (parameter_of p) ≡ parameter_of parameter.now) }
     ensures placed { IfOk result (λ p. IsPlacedParameter (parameter_of p)) }
+    ensures number { OnOk result (is_number_constant (parameter_of parameter.now) ≡ true) }
 {
     match parameter {
         Parameter::Const(term) => {
@@ -196,6 +204,7 @@ fn place_parameters(
 ) -> Result<Vec<Parameter<usize>>, Refusal>
     ensures same { IfOk result (λ ps. map erase_parameter (map parameter_of ps.items) ≡ map parameter_of parameters.now) }
     ensures placed { IfOk result (λ ps. ArePlacedParameters (map parameter_of ps.items)) }
+    ensures numbers { OnOk result (list_all is_number_constant (map parameter_of parameters.now) ≡ true) }
 {
     let mut placed = Vec::new(alloc);
     for parameter in parameters {
@@ -208,6 +217,7 @@ fn place_parameters(
 pub(crate) fn place_entry(alloc: Global, entry: &Entry<()>) -> Result<Entry<usize>, Refusal>
     ensures same { IfOk result (λ e. erase_entry (entry_of e) ≡ entry_of entry.now) }
     ensures placed { IfOk result (λ e. ArePlacedParameters (entry_of e).parameters) }
+    ensures numbers { OnOk result (list_all is_number_constant (entry_of entry.now).parameters ≡ true) }
 {
     let name = entry.name.try_copy(alloc)?;
     let parameters = place_parameters(alloc, &entry.parameters)?;
@@ -222,6 +232,8 @@ pub(crate) fn place_entry(alloc: Global, entry: &Entry<()>) -> Result<Entry<usiz
 fn place_variable(alloc: Global, variable: &Variable<()>) -> Result<Variable<usize>, Refusal>
     ensures same { IfOk result (λ v. erase_variable (variable_of v) ≡ variable_of variable.now) }
     ensures placed { IfOk result (λ v. IsPlacedGuard (variable_of v).initial []) }
+    ensures initial { OnOk result (is_some (variable_of variable.now).initial ≡ true) }
+    ensures number { OnOk result (is_number_term (variable_of variable.now).initial ≡ true) }
 {
     let Some(initial) = &variable.initial else {
         return Err(Refusal::Row(Row::NoInitial));
@@ -246,12 +258,26 @@ pub(crate) fn place_variables(
 ) -> Result<Vec<Variable<usize>>, Refusal>
     ensures same { IfOk result (λ vs. map erase_variable (map variable_of vs.items) ≡ map variable_of variables.now) }
     ensures placed { IfOk result (λ vs. ArePlacedVariables (map variable_of vs.items)) }
+    ensures initials { OnOk result (list_all (λ v. is_some v.initial) (map variable_of variables.now) ≡ true) }
+    ensures numbers { OnOk result (list_all (λ v. is_number_term v.initial) (map variable_of variables.now) ≡ true) }
 {
     let mut placed = Vec::new(alloc);
     for variable in variables {
         placed.push(place_variable(alloc, variable)?)?;
     }
     Ok(placed)
+}
+
+/// Whether terms have sort Int.
+fn are_numbers(terms: &[Term]) -> bool
+    ensures { result ≡ list_all is_number (map term_of terms.now) }
+{
+    for term in terms {
+        if !is_number(term) {
+            return false;
+        }
+    }
+    true
 }
 
 /// Whether a term has sort Int.

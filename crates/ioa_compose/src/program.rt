@@ -60,13 +60,9 @@ impl Program {
     ) -> Self
         requires rules { All (IsPlacedRule (map variable_of variables.items)) rules.items }
         requires valued { length initial.items ≡ length variables.items }
-        requires schedule {
-            ArePlacedFirings (map statement_of schedule.items)
-                (variable_names (map variable_of variables.items))
-        }
-        ensures {
-            result ≡ parts node rules.items variables.items initial.items schedule.items
-        }
+        requires schedule { ArePlacedFirings (map statement_of schedule.items)
+            (variable_names (map variable_of variables.items)) }
+        ensures { result ≡ parts node rules.items variables.items initial.items schedule.items }
     {
         Program {
             node,
@@ -110,9 +106,7 @@ impl Program {
     /// The statements of the schedule block.
     pub fn schedule(&self) -> &[Statement<usize>]
         ensures value { result.now ≡ self.now.schedule }
-        ensures placed {
-            ArePlacedFirings (map statement_of result.now) (variable_names (map variable_of self.now.variables))
-        }
+        ensures placed { ArePlacedFirings (map statement_of result.now) (variable_names (map variable_of self.now.variables)) }
     {
         self.schedule.as_slice()
     }

@@ -54,11 +54,7 @@ pub fn replay_from(
 /// The configurations after the joint steps by a list of actions from a system's start (Lynch 8.1), or
 /// the first action that is no step, with the fault of the joint step there. For want of memory it may
 /// stop at any place.
-pub fn replay(
-    alloc: Global,
-    system: &System,
-    actions: &[Action],
-) -> Result<Vec<Conf>, ReplayFault>
+pub fn replay(alloc: Global, system: &System, actions: &[Action]) -> Result<Vec<Conf>, ReplayFault>
     ensures answer { IsReplay (λ v. v.items) result (replay_answer 0 actions.now (start system.now)) }
     ensures execution { IfOk result (λ v. replay actions.now (start system.now) ≡ Some v.items) }
 {

@@ -158,12 +158,8 @@ pub fn rule_for<'a>(
 ) -> Result<Option<&'a Rule>, AllocError>
     requires { arguments.now ≡ spec.action_arguments action.now }
     ensures found { IfOk result (λ r. option_copied r ≡ spec.rule_for action.now program.now.rules) }
-    ensures placed {
-        IfOk result (λ r. IfSome r (λ x. IsPlacedRule (map variable_of program.now.variables) x.now))
-    }
-    ensures agrees {
-        IfOk result (λ r. IfSome r (λ x. spec.entry_agrees action.now (entry_of x.now.entry) ≡ true))
-    }
+    ensures placed { IfOk result (λ r. IfSome r (λ x. IsPlacedRule (map variable_of program.now.variables) x.now)) }
+    ensures agrees { IfOk result (λ r. IfSome r (λ x. spec.entry_agrees action.now (entry_of x.now.entry) ≡ true)) }
 {
     for rule in program.rules() {
         if entry_agrees(alloc, &rule.entry, action, arguments)? {
@@ -181,10 +177,8 @@ pub fn values_after(
     action: &Action,
 ) -> Result<Vec<Value>, StepFault>
     requires { length variables.now ≡ length program.now.variables }
-    ensures after {
-        Answers StepFault.Memory (λ v. v.items) result
-            (spec.program_answer program.now variables.now action.now)
-    }
+    ensures after { Answers StepFault.Memory (λ v. v.items) result
+        (spec.program_answer program.now variables.now action.now) }
     ensures valued { IfOk result (λ v. length v.items ≡ length variables.now) }
 {
     let arguments = arguments_of(alloc, action)?;
@@ -203,22 +197,28 @@ fn take_transition(
 ) -> Result<Vec<Value>, StepFault>
     requires guard { IsPlacedGuard (transition_of rule.now.transition).pre rule.now.scope }
     requires effect { ArePlaced (transition_of rule.now.transition).effect rule.now.scope }
-    requires named {
-        length rule.now.scope
-            ≡ length (variables.now ++ spec.own_values (entry_of rule.now.entry).parameters arguments.now)
-    }
-    ensures after {
-        Answers StepFault.Memory (λ v. v.items) result
-            (spec.transition_answer (length variables.now) (transition_of rule.now.transition)
-                (zip rule.now.scope
-                    (variables.now ++ spec.own_values (entry_of rule.now.entry).parameters arguments.now)))
-    }
+    requires named { length rule.now.scope
+        ≡ length (variables.now ++ spec.own_values (entry_of rule.now.entry).parameters arguments.now) }
+    ensures after { Answers StepFault.Memory (λ v. v.items) result
+        (spec.transition_answer (length variables.now) (transition_of rule.now.transition)
+        (zip rule.now.scope
+        (variables.now ++ spec.own_values (entry_of rule.now.entry).parameters arguments.now))) }
     ensures valued { IfOk result (λ v. length v.items ≡ length variables.now) }
 {
     let values = values_in_view(alloc, &rule.entry, arguments, variables)?;
-    pass_guard(alloc, &rule.transition.pre, &Env::new(rule.scope.as_slice(), &values))?;
+    pass_guard(
+        alloc,
+        &rule.transition.pre,
+        &Env::new(rule.scope.as_slice(), &values),
+    )?;
     let scope = rule.scope.as_slice();
-    take_effect(alloc, &rule.transition.effect, scope, values, variables.len())
+    take_effect(
+        alloc,
+        &rule.transition.effect,
+        scope,
+        values,
+        variables.len(),
+    )
 }
 
 /// The values that an effect leaves, of the first `count` names.
@@ -233,10 +233,8 @@ fn take_effect(
     requires placed { ArePlaced (map statement_of effect.now) scope.now }
     requires named { length scope.now ≡ length values.items }
     requires within { count ≤ length values.items }
-    ensures after {
-        Answers StepFault.Memory (λ v. v.items) result
-            (spec.left_by count (answer_by (map statement_of effect.now) (zip scope.now values.items)))
-    }
+    ensures after { Answers StepFault.Memory (λ v. v.items) result
+        (spec.left_by count (answer_by (map statement_of effect.now) (zip scope.now values.items))) }
     ensures valued { IfOk result (λ v. length v.items ≡ count) }
 {
     let mut left = perform(alloc, effect, scope, values)?;
@@ -268,10 +266,8 @@ fn push_own(
     parameter: &Parameter<usize>,
     argument: &Value,
 ) -> Result<(), AllocError>
-    ensures {
-        OnOk result
-            (values.new.items ≡ values.old.items ++ spec.own_value (parameter_of parameter.now) argument.now)
-    }
+    ensures { OnOk result
+        (values.new.items ≡ values.old.items ++ spec.own_value (parameter_of parameter.now) argument.now) }
 {
     match parameter {
         Parameter::Const(_) => Ok(()),

@@ -1,7 +1,7 @@
 //! Names in view, numbered in the order in which they are first declared.
 
-ghost use Rattle.std.specs.Prelude.{◌≡◌, ◌++◌, [], ◌∷◌, IfOk, MatchBool, not};
-ghost use Rattle.std.specs.List.{list_any};
+ghost use Rattle.std.specs.Prelude.{◌≡◌, ◌++◌, [], ◌∷◌, IfOk, OnOk, MatchBool, not};
+ghost use Rattle.std.specs.List.{list_any, IsDistinct};
 ghost use Rattle.ioa_terms.specs.Bindings.{place_in, same_name};
 
 use indexmap::IndexSet;
@@ -37,6 +37,7 @@ impl Scope {
     pub fn declare(&mut self, name: Word) -> Result<bool, AllocError>
         ensures ok { IfOk result (λ fresh. MatchBool fresh (self.new ≡ self.old ++ name ∷ []) (self.new ≡ self.old)) }
         ensures fresh { IfOk result (λ fresh. fresh ≡ not (list_any (same_name name) self.old)) }
+        ensures differ { OnOk result (IsDistinct same_name self.old → IsDistinct same_name self.new) }
     {
         let (_, fresh) = self.names.insert_full(name)?;
         Ok(fresh)

@@ -22,5 +22,5 @@ replay-push (b ∷ more) a cs states next h e = at_step (joint_answer b cs) h (�
 pub IsExecution-push : (limit : ℕ) (from : List Conf) (actions : List Action) (a : Action) (states next : List Conf) → IsExecution limit from actions states → joint_answer a states ≡ Ok next → length actions < limit → IsExecution limit from (actions ++ a ∷ []) next
 IsExecution-push limit from actions a states next x e room = record {
   leads = replay-push actions a from states next x.leads e;
-  within = omega (arith, length-append actions (a ∷ []))
+  within = omega (arith, length-append actions (a ∷ []));
 }

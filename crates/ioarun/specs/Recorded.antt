@@ -18,7 +18,7 @@ pub record IsExecution (limit : ℕ) (from : List Conf) (schedule : List Action)
 abbrev pub Continues : ℕ → Course → Course → Type 0
 Continues limit old new =
     (from : List Conf) → IsExecution limit from old.schedule.items old.states.items
-      → IsExecution limit from new.schedule.items new.states.items
+    → IsExecution limit from new.schedule.items new.states.items
 
 -- a record and endings of a run of a system: the schedule is an execution from the system's start, and the worker
 -- recorded each of its actions; there is one ending a node

@@ -4,6 +4,7 @@ use Rattle.std.specs.Io.KnownBytes.{Keeps, Appends}
 use Rattle.ioa_source.specs.PlainText.{PlainText}
 use Rattle.ioa_front.specs.Texts.{TextSpells}
 use Rattle.ioa_compose.specs.Made.{IsSystemOf}
+use Rattle.ioa_compose.specs.Rows.{HasNoRow}
 use Rattle.ioa_compose.specs.Systems.{SystemParts}
 use Rattle.ioarun.specs.declared.ending.Ending.{Ending}
 use Rattle.ioarun.specs.declared.record.Record.{Record}
@@ -13,10 +14,12 @@ use Rattle.ioarun.specs.Out.{AppendsBeginning}
 use Rattle.ioarun.specs.Reports.{report_text}
 use Rattle.ioarun.specs.Recorded.{IsRunOf}
 
--- a system that a text describes: the tokens of the text spell a source, and the system is that source's
+-- a system that a text describes: the tokens of the text spell a source in which no row of refusal stands, and the
+-- system is that source's
 pub record IsDescribed (text : List ℕ) (s : SystemParts) : Type 0 where
   pub source : PlainText (Unit {0})
   pub spelled : TextSpells source text
+  pub rows : HasNoRow source
   pub system : IsSystemOf source s
 
 -- the report of a run of a system that a text describes, with at most `limit` steps

@@ -14,9 +14,8 @@ mod whole_run;
 
 use crate::out::Over;
 use crate::program::command;
-use std::env;
-use std::io;
 use std::process::ExitCode;
+use std::{env, io};
 
 /// The status where the command line could not be read.
 const BAD_WORDS: u8 = 2;

@@ -9,7 +9,9 @@ use crate::ending::Ending;
 use crate::record::Record;
 use ioa_compose::{Conf, Item, NodeConf, Queue, System};
 use ioa_source::Variable;
-use ioa_terms::{Action, Component, Names, Value, push_listed, show, show_action, show_node_action};
+use ioa_terms::{
+    Action, Component, Names, Value, push_listed, show, show_action, show_node_action,
+};
 use std::alloc::{AllocError, Global};
 
 /// The report of a run that left a record, with an ending for each node, node 0 first (profile): the

@@ -171,16 +171,9 @@ fn commit(course: &mut Course, action: Action, states: Vec<Conf>) -> Result<(), 
 }
 
 /// One turn of a node on the present configurations, and the step of the action that it fires.
-fn attempt(
-    alloc: Global,
-    limit: u64,
-    course: &Course,
-    node: &Progress,
-) -> Result<Tried, Fault>
-    ensures answer {
-        Answers Fault.Memory tried_of result
-            (attempt_answer limit course.now.schedule.items course.now.states.items node.now)
-    }
+fn attempt(alloc: Global, limit: u64, course: &Course, node: &Progress) -> Result<Tried, Fault>
+    ensures answer { Answers Fault.Memory tried_of result
+        (attempt_answer limit course.now.schedule.items course.now.states.items node.now) }
     ensures step { IfOk result (IsStepOf limit course.now) }
     ensures counts { IfOk result (Counts node.now.passed) }
 {
@@ -212,10 +205,8 @@ fn fire(
     node: i64,
     action: Action,
 ) -> Result<Tried, Fault>
-    ensures answer {
-        Answers Fault.Memory tried_of result
-            (fire_answer limit course.now.schedule.items course.now.states.items node action)
-    }
+    ensures answer { Answers Fault.Memory tried_of result
+        (fire_answer limit course.now.schedule.items course.now.states.items node action) }
     ensures step { IfOk result (IsStepOf limit course.now) }
 {
     if node_of(&action) != node {

@@ -39,19 +39,11 @@ pub fn next(alloc: Global, node: &NodeConf, passed: usize) -> Result<Turn, TermF
 }
 
 /// The turn where this statement stands next.
-fn fire(
-    alloc: Global,
-    node: &NodeConf,
-    statement: &Statement<usize>,
-) -> Result<Turn, TermFault>
-    requires {
-        IsPlacedFiring (statement_of statement.now)
-            (variable_names (map variable_of node.now.program.variables))
-    }
-    ensures {
-        Answers TermFault.Memory (λ t. t) result
-            (statement_answer node.now.program.node (view_of node.now) (statement_of statement.now))
-    }
+fn fire(alloc: Global, node: &NodeConf, statement: &Statement<usize>) -> Result<Turn, TermFault>
+    requires { IsPlacedFiring (statement_of statement.now)
+        (variable_names (map variable_of node.now.program.variables)) }
+    ensures { Answers TermFault.Memory (λ t. t) result
+        (statement_answer node.now.program.node (view_of node.now) (statement_of statement.now)) }
 {
     match statement {
         Statement::Assign(_, _) => Err(TermFault::Undefined),
@@ -63,19 +55,11 @@ fn fire(
 }
 
 /// The values of terms over a node's variables, in order.
-fn arguments_of(
-    alloc: Global,
-    node: &NodeConf,
-    terms: &[Checked],
-) -> Result<Vec<Value>, TermFault>
-    requires {
-        ArePlacedTerms (map term_of terms.now)
-            (variable_names (map variable_of node.now.program.variables))
-    }
-    ensures {
-        Answers TermFault.Memory (λ v. v.items) result
-            (answers (map term_of terms.now) (view_of node.now))
-    }
+fn arguments_of(alloc: Global, node: &NodeConf, terms: &[Checked]) -> Result<Vec<Value>, TermFault>
+    requires { ArePlacedTerms (map term_of terms.now)
+        (variable_names (map variable_of node.now.program.variables)) }
+    ensures { Answers TermFault.Memory (λ v. v.items) result
+        (answers (map term_of terms.now) (view_of node.now)) }
 {
     let names = names_of(alloc, node.program().variables())?;
     let env = Env::new(&names, node.variables().as_slice());
@@ -96,9 +80,7 @@ fn names_of(alloc: Global, variables: &[Variable<usize>]) -> Result<Vec<Word>, A
 /// The values of terms in an environment, in order.
 fn values_of(alloc: Global, terms: &[Checked], env: &Env) -> Result<Vec<Value>, TermFault>
     requires { ArePlacedTerms (map term_of terms.now) (names_of env.now) }
-    ensures {
-        Answers TermFault.Memory (λ v. v.items) result (answers (map term_of terms.now) env.now)
-    }
+    ensures { Answers TermFault.Memory (λ v. v.items) result (answers (map term_of terms.now) env.now) }
 {
     let mut values = Vec::new(alloc);
     for term in terms {

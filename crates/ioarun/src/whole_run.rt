@@ -74,10 +74,8 @@ pub fn run_system<O: Out>(
     out: &mut O,
 ) -> Result<(), RunFault>
     requires { O.failed out.old ≡ false }
-    ensures {
-        WritesReport text.now options.now.steps (O.bytes out.old) (O.bytes out.new) (O.failed out.new)
-            result
-    }
+    ensures { WritesReport text.now options.now.steps (O.bytes out.old) (O.bytes out.new) (O.failed out.new)
+        result }
 {
     let report = report_of(alloc, text, options)?;
     match put_all(out, report.as_bytes()) {

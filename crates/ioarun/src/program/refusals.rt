@@ -31,33 +31,158 @@ const RECEIVES: &str = "signature input receive(m: Int, const 0, const 1) ";
 fn each_row_of_the_check_is_told_with_its_place(rt: HostRuntime) -> Result<(), Fail> {
     let rows = [
         ("automaton A system node 0: B", "", "", "20 Unknown in 1"),
-        ("automaton A ", "transitions output send(m, 0, 1) ", "system", "20 Unknown in 0"),
-        ("automaton A ", SENDS, "transitions input send(m, 0, 1) system", "20 Unknown in 0"),
-        ("automaton A ", SENDS, "transitions output send(m, 0, 1) pre x = 1 system", "20 Unknown in 0"),
-        ("automaton A ", SENDS, "states n: Int := 0 transitions output send(m, 0, 1) eff n := x system", "20 Unknown in 0"),
-        ("automaton A ", SENDS, "transitions output send(m, 0, 1) eff x := 1 system", "20 Unknown in 0"),
-        ("automaton A ", SENDS, "transitions output send(m, 0, 1) eff m := 1 system", "20 Unknown in 0"),
-        ("automaton A ", "schedule do fire go od ", "system", "20 Unknown in 0"),
-        ("automaton A ", SENDS, "transitions output send(m, 0, 1) schedule do fire send(x, 0, 1) od system", "20 Unknown in 0"),
-        ("automaton A ", RECEIVES, "transitions input receive(m, 0, 1) system channel 0 -> 1", "20 Unknown in 1"),
-        ("automaton A automaton B automaton A ", "", "system", "21 Twice in 2"),
-        ("automaton A states x: Int := 1, x: Int := 2 ", "", "system", "21 Twice in 0"),
-        ("automaton A ", SENDS, "states m: Int := 0 transitions output send(m, 0, 1) system", "21 Twice in 0"),
-        ("automaton A ", SENDS, "output send(m: Int, const 0, const 2) transitions output send(m, 0, 1) system", "21 Twice in 0"),
-        ("automaton A ", SENDS, "transitions output send(m, 0, 1) output send(m, 0, 1) system", "21 Twice in 0"),
-        ("automaton A ", "", "system node 0: A node 0: A", "21 Twice in 1"),
-        ("automaton A automaton B ", RECEIVES, "transitions input receive(m, 0, 1) system node 0: A node 1: B channel 0 -> 1 channel 0 -> 1", "21 Twice in 2"),
-        ("automaton A ", SENDS, "transitions output send(m, 0, 1) schedule do fire send(1, 0) od system", "22 Sorts in 0"),
-        ("automaton A ", RECEIVES, "transitions input receive(m, 0, 1) pre m = 1 system", "24 InputPre in 0"),
+        (
+            "automaton A ",
+            "transitions output send(m, 0, 1) ",
+            "system",
+            "20 Unknown in 0",
+        ),
+        (
+            "automaton A ",
+            SENDS,
+            "transitions input send(m, 0, 1) system",
+            "20 Unknown in 0",
+        ),
+        (
+            "automaton A ",
+            SENDS,
+            "transitions output send(m, 0, 1) pre x = 1 system",
+            "20 Unknown in 0",
+        ),
+        (
+            "automaton A ",
+            SENDS,
+            "states n: Int := 0 transitions output send(m, 0, 1) eff n := x system",
+            "20 Unknown in 0",
+        ),
+        (
+            "automaton A ",
+            SENDS,
+            "transitions output send(m, 0, 1) eff x := 1 system",
+            "20 Unknown in 0",
+        ),
+        (
+            "automaton A ",
+            SENDS,
+            "transitions output send(m, 0, 1) eff m := 1 system",
+            "20 Unknown in 0",
+        ),
+        (
+            "automaton A ",
+            "schedule do fire go od ",
+            "system",
+            "20 Unknown in 0",
+        ),
+        (
+            "automaton A ",
+            SENDS,
+            "transitions output send(m, 0, 1) schedule do fire send(x, 0, 1) od system",
+            "20 Unknown in 0",
+        ),
+        (
+            "automaton A ",
+            RECEIVES,
+            "transitions input receive(m, 0, 1) system channel 0 -> 1",
+            "20 Unknown in 1",
+        ),
+        (
+            "automaton A automaton B automaton A ",
+            "",
+            "system",
+            "21 Twice in 2",
+        ),
+        (
+            "automaton A states x: Int := 1, x: Int := 2 ",
+            "",
+            "system",
+            "21 Twice in 0",
+        ),
+        (
+            "automaton A ",
+            SENDS,
+            "states m: Int := 0 transitions output send(m, 0, 1) system",
+            "21 Twice in 0",
+        ),
+        (
+            "automaton A ",
+            SENDS,
+            "output send(m: Int, const 0, const 2) transitions output send(m, 0, 1) system",
+            "21 Twice in 0",
+        ),
+        (
+            "automaton A ",
+            SENDS,
+            "transitions output send(m, 0, 1) output send(m, 0, 1) system",
+            "21 Twice in 0",
+        ),
+        (
+            "automaton A ",
+            "",
+            "system node 0: A node 0: A",
+            "21 Twice in 1",
+        ),
+        (
+            "automaton A automaton B ",
+            RECEIVES,
+            "transitions input receive(m, 0, 1) system node 0: A node 1: B channel 0 -> 1 channel 0 -> 1",
+            "21 Twice in 2",
+        ),
+        (
+            "automaton A ",
+            SENDS,
+            "transitions output send(m, 0, 1) schedule do fire send(1, 0) od system",
+            "22 Sorts in 0",
+        ),
+        (
+            "automaton A ",
+            RECEIVES,
+            "transitions input receive(m, 0, 1) pre m = 1 system",
+            "24 InputPre in 0",
+        ),
         ("automaton A ", SENDS, "system", "25 NoTransition in 0"),
-        ("automaton A ", "", "system node 0: A node 1: A channel 0 -> 1", "28 InputMissing in 1"),
-        ("automaton A ", "", "system node 0: A channel 0 -> 0", "29 SelfChannel in 1"),
+        (
+            "automaton A ",
+            "",
+            "system node 0: A node 1: A channel 0 -> 1",
+            "28 InputMissing in 1",
+        ),
+        (
+            "automaton A ",
+            "",
+            "system node 0: A channel 0 -> 0",
+            "29 SelfChannel in 1",
+        ),
         ("automaton A ", "", "system node 1: A", "30 NodeGap in 1"),
-        ("automaton A ", SENDS, "transitions output send(m, 0, 2) system", "34 BadArgument in 0"),
-        ("automaton A ", SENDS, "transitions output send(n, 0, 1) system", "34 BadArgument in 0"),
-        ("automaton A ", SENDS, "transitions output send(m, 0) system", "34 BadArgument in 0"),
-        ("automaton A automaton B ", SENDS, "transitions output send(m, 0, 1) system node 0: A node 1: B", "34 BadArgument in 2"),
-        ("automaton A automaton B ", RECEIVES, "transitions input receive(m, 0, 1) system node 0: B node 1: A", "34 BadArgument in 2"),
+        (
+            "automaton A ",
+            SENDS,
+            "transitions output send(m, 0, 2) system",
+            "34 BadArgument in 0",
+        ),
+        (
+            "automaton A ",
+            SENDS,
+            "transitions output send(n, 0, 1) system",
+            "34 BadArgument in 0",
+        ),
+        (
+            "automaton A ",
+            SENDS,
+            "transitions output send(m, 0) system",
+            "34 BadArgument in 0",
+        ),
+        (
+            "automaton A automaton B ",
+            SENDS,
+            "transitions output send(m, 0, 1) system node 0: A node 1: B",
+            "34 BadArgument in 2",
+        ),
+        (
+            "automaton A automaton B ",
+            RECEIVES,
+            "transitions input receive(m, 0, 1) system node 0: B node 1: A",
+            "34 BadArgument in 2",
+        ),
     ];
     for (first, second, third, refusal) in rows {
         let text = format!(in rt.alloc(); "{first}{second}{third}")?;
@@ -94,16 +219,31 @@ fn later_forms_are_unexpected(rt: HostRuntime) -> Result<(), Fail> {
         ("type T = enumeration of a system", 0),
         ("automaton A(i: Nat) system", 11),
         ("automaton A signature internal t system", 22),
-        ("automaton A signature output go(m: Int, const 0, const 1) system", 29),
-        ("automaton A signature output send(m: Nat, const 0, const 1) system", 37),
-        ("automaton A signature output send(m: Int, j: Int, const 1) system", 42),
-        ("automaton A signature output send(m: Int, const 0, const 1) where true system", 60),
+        (
+            "automaton A signature output go(m: Int, const 0, const 1) system",
+            29,
+        ),
+        (
+            "automaton A signature output send(m: Nat, const 0, const 1) system",
+            37,
+        ),
+        (
+            "automaton A signature output send(m: Int, j: Int, const 1) system",
+            42,
+        ),
+        (
+            "automaton A signature output send(m: Int, const 0, const 1) where true system",
+            60,
+        ),
         ("automaton A states x: Bool := true system", 22),
         ("automaton A states x: Int system", 26),
         ("automaton A transitions internal t system", 24),
         ("automaton A transitions output t pre x < 1 system", 39),
         ("automaton A transitions output t pre x = 1 - 1 system", 43),
-        ("automaton A transitions output t eff if true then x := 1 fi system", 37),
+        (
+            "automaton A transitions output t eff if true then x := 1 fi system",
+            37,
+        ),
         ("automaton A transitions output t eff x[1] := 1 system", 38),
         ("automaton A schedule states c: Int := 0 do od system", 21),
         ("automaton A schedule do while true do od od system", 24),
@@ -143,7 +283,9 @@ fn schedules_are_replayed_and_projected(rt: HostRuntime) -> Result<(), Fail> {
     schedule.push(Action::Send(Value::number(7), 0, 1))?;
     schedule.push(Action::Send(Value::number(8), 0, 1))?;
     schedule.push(Action::Receive(Value::number(7), 0, 1))?;
-    let states = replay(alloc, &system, &schedule).ok().ok_or("no execution")?;
+    let states = replay(alloc, &system, &schedule)
+        .ok()
+        .ok_or("no execution")?;
     assert_eq!(rt; states.len(), 5);
     if let Conf::Node(node) = &states[1] {
         let values = node.variables().as_slice();
@@ -152,7 +294,10 @@ fn schedules_are_replayed_and_projected(rt: HostRuntime) -> Result<(), Fail> {
         assert_eq!(rt; values[1].as_number(), Some(2));
     }
     assert_eq!(rt; project(alloc, &schedule, Component::Node(0))?.len(), 2);
-    assert_eq!(rt; project(alloc, &schedule, Component::Channel(0, 1))?.len(), 3);
+    assert_eq!(rt;
+        project(alloc, &schedule, Component::Channel(0, 1))?.len(),
+        3
+    );
     assert_eq!(rt; project(alloc, &schedule, Component::Script(0))?.len(), 0);
     schedule.push(Action::Receive(Value::number(9), 0, 1))?;
     match replay(alloc, &system, &schedule) {
@@ -169,7 +314,11 @@ fn queues_hand_out_their_first(rt: HostRuntime) -> Result<(), Fail> {
     let queue = queue.after_send(alloc, Item::Message(Value::number(7)))?;
     let queue = queue.after_send(alloc, Item::Message(Value::number(8)))?;
     assert_eq!(rt; queue.items().len(), 2);
-    assert!(rt; queue.after_receive(alloc, &Item::Message(Value::number(8))).is_err());
+    assert!(rt;
+        queue
+            .after_receive(alloc, &Item::Message(Value::number(8)))
+            .is_err()
+    );
     let queue = queue.after_receive(alloc, &Item::Message(Value::number(7)))?;
     let front = queue.front().ok_or("empty")?;
     assert!(rt; front.equals(&Item::Message(Value::number(8))));

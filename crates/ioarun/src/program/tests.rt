@@ -267,7 +267,10 @@ fn a_writer_that_fails_has_a_beginning_of_the_report(rt: HostRuntime) -> Result<
         let written = out.into_writer().written;
         assert_eq!(rt; written.len(), room);
         assert!(rt; ONE_STATE_REPORT.as_bytes().starts_with(&written));
-        assert_eq!(rt; err.into_writer().as_slice(), b"failed 71 Write\n".as_slice());
+        assert_eq!(rt;
+            err.into_writer().as_slice(),
+            b"failed 71 Write\n".as_slice()
+        );
         assert_eq!(rt; status, 3);
     }
     Ok(())

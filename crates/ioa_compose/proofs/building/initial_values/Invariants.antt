@@ -9,5 +9,5 @@ abbrev pub invariant-loop-variable : goal.invariant-loop-variable
 invariant-loop-variable l = record {
   many : length l.values.items ≡ l.variable-index;
   values : map initial_answer (take l.variable-index l.variables) ≡ map Ok l.values.items;
-  placed : ArePlacedVariables (map variable_of (drop l.variable-index l.variables))
+  placed : ArePlacedVariables (map variable_of (drop l.variable-index l.variables));
 }

@@ -2,7 +2,8 @@ use Rattle.std.proofs.Common.{◌≡◌, All, map, take}
 use Rattle.std.specs.List.{AllByRecursion}
 use Rattle.ioa_source.specs.TextView.{automaton_of, entry_of, variable_of}
 use Rattle.ioa_source.specs.Erasure.{erase_entry}
-use Rattle.ioa_compose.specs.Placed.{IsPlacedRule}
+use Rattle.ioa_compose.specs.Placed.{IsPlacedRule, variable_names}
+use Rattle.ioa_compose.specs.Rows.{HasNoEntryRow}
 use Rattle.ioa_compose.specs.Made.{IsRuleOf}
 use Rattle.ioa_compose.proofs.building.rules_of.Given as goal
 
@@ -11,5 +12,6 @@ abbrev pub invariant-loop-entry : goal.invariant-loop-entry
 invariant-loop-entry l = record {
   placed : All (IsPlacedRule (map variable_of l.variables)) l.rules.items;
   signature : map (λ r. erase_entry (entry_of r.entry)) l.rules.items ≡ map entry_of (take l.entry-index l.automaton.signature.items);
-  transitions : AllByRecursion (IsRuleOf (automaton_of l.automaton)) l.rules.items
+  transitions : AllByRecursion (IsRuleOf (automaton_of l.automaton)) l.rules.items;
+  rows : AllByRecursion (HasNoEntryRow (variable_names (map variable_of l.variables)) (automaton_of l.automaton).transitions) (map entry_of (take l.entry-index l.automaton.signature.items));
 }

@@ -8,5 +8,5 @@ use Rattle.ioa_compose.proofs.checking.programs_of.Given as goal
 abbrev pub invariant-loop-place : goal.invariant-loop-place
 invariant-loop-place l = record {
   nodes : AreNodesOf (text_of l.text) 0 (map arc_value l.programs.items);
-  many : length l.programs.items ≡ l.place
+  many : length l.programs.items ≡ l.place;
 }

@@ -1,4 +1,6 @@
-use Rattle.std.proofs.Common.{◌≡◌, map, take}
+use Rattle.std.proofs.Common.{◌≡◌, map, take, drop}
+use Rattle.std.specs.List.{list_all}
+use Rattle.ioa_compose.specs.Rows.{is_number_constant}
 use Rattle.ioa_source.specs.TextView.{parameter_of}
 use Rattle.ioa_source.specs.Erasure.{erase_parameter}
 use Rattle.ioa_compose.specs.Placed.{ArePlacedParameters}
@@ -8,5 +10,6 @@ use Rattle.ioa_compose.proofs.placing.place_parameters.Given as goal
 abbrev pub invariant-loop-parameter : goal.invariant-loop-parameter
 invariant-loop-parameter l = record {
   same : map erase_parameter (map parameter_of l.placed.items) ≡ map parameter_of (take l.parameter-index l.parameters);
-  placed : ArePlacedParameters (map parameter_of l.placed.items)
+  placed : ArePlacedParameters (map parameter_of l.placed.items);
+  numbers : list_all is_number_constant (map parameter_of (drop l.parameter-index l.parameters)) ≡ list_all is_number_constant (map parameter_of l.parameters);
 }

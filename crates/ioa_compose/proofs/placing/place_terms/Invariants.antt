@@ -8,5 +8,5 @@ use Rattle.ioa_compose.proofs.placing.place_terms.Given as goal
 abbrev pub invariant-loop-term : goal.invariant-loop-term
 invariant-loop-term l = record {
   same : map erase_term (map term_of l.placed.items) ≡ map term_of (take l.term-index l.terms);
-  placed : ArePlacedTerms (map term_of l.placed.items) l.scope
+  placed : ArePlacedTerms (map term_of l.placed.items) l.scope;
 }

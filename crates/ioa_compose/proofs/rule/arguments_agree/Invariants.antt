@@ -10,5 +10,5 @@ invariant-loop-i l = record {
   placed : ArePlacedParameters (map parameter_of (drop l.i l.parameters));
   many : length l.parameters ≡ length l.arguments;
   same : spec.arguments_agree (map parameter_of (drop l.i l.parameters)) (drop l.i l.arguments)
-    ≡ spec.arguments_agree (map parameter_of l.parameters) l.arguments
+      ≡ spec.arguments_agree (map parameter_of l.parameters) l.arguments;
 }

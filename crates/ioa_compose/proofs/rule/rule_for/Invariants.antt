@@ -8,5 +8,5 @@ use Rattle.ioa_compose.proofs.rule.rule_for.Given as goal
 abbrev pub invariant-loop-rule : goal.invariant-loop-rule
 invariant-loop-rule l = record {
   placed : All (IsPlacedRule (map variable_of l.program.variables)) l.rule-items;
-  same : spec.rule_for l.action (drop l.rule-index l.rule-items) ≡ spec.rule_for l.action l.program.rules
+  same : spec.rule_for l.action (drop l.rule-index l.rule-items) ≡ spec.rule_for l.action l.program.rules;
 }

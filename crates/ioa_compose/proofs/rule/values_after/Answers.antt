@@ -10,4 +10,4 @@ take_transition-requires-clause-named c =
     let agrees = rw c.in-Some.is at c.in_ok-rule_for.ensures.agrees in
     let many = length-map c.args.program.now.variables (variable_of {N = ℕ}) in
     rw (placed.scope, c.deref-in-Some.ensures.value, c.in_ok-arguments.ensures)
-      (named_scope (entry_of c.in-Some.rule.now.entry) (map variable_of c.args.program.now.variables) c.args.variables.now c.args.action.now agrees (omega arith))
+    (named_scope (entry_of c.in-Some.rule.now.entry) (map variable_of c.args.program.now.variables) c.args.variables.now c.args.action.now agrees (omega arith))

@@ -7,5 +7,5 @@ use Rattle.ioarun.proofs.running.run.Given as goal
 abbrev pub invariant-loop-round : goal.invariant-loop-round
 invariant-loop-round l = record {
   execution : IsExecution l.options.steps (start l.system) l.course.schedule.items l.course.states.items;
-  many : length l.nodes.items ≡ length l.system.programs
+  many : length l.nodes.items ≡ length l.system.programs;
 }

@@ -11,5 +11,5 @@ abbrev pub invariant-loop-term : goal.invariant-loop-term
 invariant-loop-term l = record {
   placed : ArePlacedTerms (map term_of (drop l.term-index l.terms)) (names_of l.env);
   same : and_then (answers (map term_of (drop l.term-index l.terms)) l.env) (λ vs. Ok (l.values.items ++ vs))
-    ≡ answers (map term_of l.terms) l.env
+      ≡ answers (map term_of l.terms) l.env;
 }
