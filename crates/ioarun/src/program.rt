@@ -99,7 +99,8 @@ fn show_check_fault<W: fmt::Write>(fault: &CheckFault, f: &mut fmt::Formatter<W>
 /// The program (profile): reads a text, runs its system with the default options, and writes the report.
 /// It takes no words beyond its own name. Gives the status: 0 where the report was written, 1 where the
 /// text was refused, 2 where the words were, and 3 where memory, reading or writing failed. Where it is
-/// not 0 one line on `err` says why; a fault of `err` is ignored.
+/// not 0 one line on `err` says why; a fault of `err` is ignored. It has no `ensures`: statuses and lines
+/// are shown by tests, and what a report is stands on `run_system`.
 pub fn command<R: Read, O: Out, E: Out>(
     alloc: Global,
     words: &[&str],
