@@ -1,6 +1,7 @@
 -- Facts of a text, from those of what is made of it.
 use Rattle.std.proofs.Common.{◌≡◌, ◌≢◌, ◌<◌, ◌≤◌, ◌+◌, ℕ, zero, suc, pos, Bool, true, false, ◌||◌, List, [], ◌∷◌, ◌++◌, refl, sym, ap, subst, ◌∙◌, length, map, take, get_or, arith, Contains}
 use Rattle.std.proofs.lemmas.List.{take_more, map-append, length-map}
+use Rattle.std.proofs.Math.Seq.{take-append_seam}
 use Rattle.std.specs.Prelude.{◌&&◌}
 use Rattle.std.specs.List.{AllByRecursion, IsDistinct, list_any}
 use lib.Pointwise.{pointwise}
@@ -90,3 +91,7 @@ numbers_from t ps many h e k l =
 -- no more items than what they stand for
 pub few_map : {A B : Type 0} (f : A → B) (xs : List A) (ys : List B) (most : ℕ) → map f xs ≡ ys → length xs ≤ most → length ys ≤ most
 few_map {A} {B} f xs ys most e h = subst (λ (zs : List B). length zs ≤ most) e (rw (length-map xs f) h)
+
+-- the first names in view are those of the variables
+pub take_first : {A : Type 0} (n : ℕ) (xs ys : List A) → n ≡ length xs → take n (xs ++ ys) ≡ xs
+take_first n xs ys e = rw e (take-append_seam xs ys)

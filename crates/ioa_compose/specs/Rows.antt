@@ -1,5 +1,5 @@
 -- When no row of refusal stands in a text of the first form (profile).
-use Rattle.std.specs.Prelude.{◌≡◌, ◌≤◌, ◌<◌, ℕ, ℤ, pos, Bool, true, false, ◌&&◌, ◌||◌, not, codes, slice_get, List, ◌++◌, Option, Some, None, map, length, nat_eq, Contains}
+use Rattle.std.specs.Prelude.{◌≡◌, ◌≤◌, ◌<◌, ℕ, ℤ, pos, Bool, true, false, ◌&&◌, ◌||◌, not, codes, slice_get, List, [], ◌++◌, Option, Some, None, map, length, nat_eq, Contains}
 use Rattle.std.specs.List.{AllByRecursion, IsDistinct, list_all, list_any}
 use Rattle.std.specs.Option.{is_some}
 use Rattle.std.specs.Ordering.{int_eq}
@@ -8,7 +8,7 @@ use lib.Pointwise.{pointwise}
 use Rattle.ioa_terms.specs.declared.tree.BinaryOperator.{BinaryOperator}
 use Rattle.ioa_terms.specs.declared.tree.BinaryOperator.TheVariants.{Plus, Equal}
 use Rattle.ioa_terms.specs.declared.tree.Kind.TheVariants.{Input}
-use Rattle.ioa_source.specs.PlainTerm.{PlainTerm, number, name, two, variable, PlainStatement, assign, fire}
+use Rattle.ioa_source.specs.PlainTerm.{PlainTerm, number, name, two, PlainPlace, variable, PlainStatement, assign, fire}
 use Rattle.ioa_source.specs.PlainText.{PlainParameter, const, named, PlainEntry, PlainTransition, PlainAutomaton, PlainDeclaration, PlainText}
 use Rattle.ioa_compose.specs.FirstSorts.{is_number, is_guard}
 use Rattle.ioa_compose.specs.Placed.{own_names, variable_names}
@@ -91,10 +91,19 @@ abbrev pub guard_reads_only : List (List ℕ) → Option (PlainTerm (Unit {0})) 
 guard_reads_only names None = true
 guard_reads_only names (Some t) = reads_only names t
 
--- 20: the names that an assignment reads
-abbrev pub assigns_only : List (List ℕ) → PlainStatement (Unit {0}) → Bool
-assigns_only names (assign (variable x at) t) = list_any (same_name x) names && reads_only names t
-assigns_only names (fire k x ts) = true
+-- 20: what a constant reads: no name
+abbrev pub reads_no_name : PlainParameter (Unit {0}) → Bool
+reads_no_name (const t) = reads_only [] t
+reads_no_name (named x s) = true
+
+-- 20: an assignment is to one of these variables
+abbrev pub writes_only : List (List ℕ) → PlainPlace (Unit {0}) → Bool
+writes_only variables (variable x at) = list_any (same_name x) variables
+
+-- 20: the variable that an assignment writes, and the names that it reads
+abbrev pub assigns_only : List (List ℕ) → List (List ℕ) → PlainStatement (Unit {0}) → Bool
+assigns_only variables names (assign p t) = writes_only variables p && reads_only names t
+assigns_only variables names (fire k x ts) = true
 
 -- 20: the names that a firing reads
 abbrev pub fires_only : List (List ℕ) → PlainStatement (Unit {0}) → Bool
@@ -116,9 +125,10 @@ pub record HasNoEntryRow (names : List (List ℕ)) (ts : List (PlainTransition (
   pub constants : list_all is_number_constant e.parameters ≡ true
   pub guard : is_guard_or_none transition.pre ≡ true
   pub effect : list_all assigns_number transition.effect ≡ true
-  -- 20: guard and effect name what is in view
+  -- 20: constants read no name; guard and effect read what is in view, and assignments are to state variables
+  pub constant_names : list_all reads_no_name e.parameters ≡ true
   pub guard_names : guard_reads_only (names ++ own_names e.parameters) transition.pre ≡ true
-  pub effect_names : list_all (assigns_only (names ++ own_names e.parameters)) transition.effect ≡ true
+  pub effect_names : list_all (assigns_only names (names ++ own_names e.parameters)) transition.effect ≡ true
 
 -- an automaton
 pub record HasNoAutomatonRow (a : PlainAutomaton (Unit {0})) : Type 0 where
@@ -137,6 +147,8 @@ pub record HasNoAutomatonRow (a : PlainAutomaton (Unit {0})) : Type 0 where
   pub initials : list_all (λ v. is_some v.initial) a.states ≡ true
   -- 22: which is a number
   pub initial_numbers : list_all (λ v. is_number_term v.initial) a.states ≡ true
+  -- 20: and which reads no name
+  pub initial_names : list_all (λ v. guard_reads_only [] v.initial) a.states ≡ true
   -- each entry and its transition
   pub entries : AllByRecursion (HasNoEntryRow (variable_names a.states) a.transitions) a.signature
 

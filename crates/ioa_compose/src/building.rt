@@ -1,11 +1,11 @@
 //! A node's program, made of its automaton.
 
-ghost use Rattle.std.specs.Prelude.{◌≡◌, ◌&&◌, true, nat_eq, ◌++◌, All, [], ◌∷◌, IfOk, OnOk, Ok, map, length};
+ghost use Rattle.std.specs.Prelude.{◌≡◌, ◌&&◌, true, nat_eq, ◌++◌, All, [], ◌∷◌, IfOk, OnOk, Ok, map, take, length};
 ghost use Rattle.std.specs.Option.{option_map, option_copied, is_some};
 ghost use lib.Pointwise.{pointwise};
 ghost use Rattle.std.specs.List.{AllByRecursion, IsDistinct, list_all, list_any};
 ghost use Rattle.ioa_terms.specs.Bindings.{same_name};
-ghost use Rattle.ioa_compose.specs.Rows.{HasNoEntryRow, HasNoAutomatonRow, has_entry, fires_entry, fires_as_many, assigns_number, is_guard_or_none, argument_repeats, same_term};
+ghost use Rattle.ioa_compose.specs.Rows.{HasNoEntryRow, HasNoAutomatonRow, has_entry, fires_entry, fires_as_many, assigns_only, assigns_number, is_guard_or_none, argument_repeats, same_term};
 ghost use Rattle.ioa_source.specs.Erasure.{erase_entry, erase_transition};
 ghost use Rattle.ioa_compose.specs.Made.{IsProgramOf, IsRuleOf, initial_answer, term_answer, transition_for, same_kind};
 ghost use Rattle.ioa_source.specs.View.{term_of, statement_of};
@@ -204,6 +204,7 @@ fn place_transition(
     ensures effect { IfOk result (λ t. ArePlaced (transition_of t).effect scope.now) }
     ensures sort { OnOk result (is_guard_or_none (transition_of transition.now).pre ≡ true) }
     ensures numbers { OnOk result (list_all assigns_number (transition_of transition.now).effect ≡ true) }
+    ensures names { OnOk result (list_all (assigns_only (take count scope.now) scope.now) (transition_of transition.now).effect ≡ true) }
 {
     let name = transition.name.try_copy(alloc)?;
     let arguments = place_terms(alloc, scope, &transition.arguments)?;

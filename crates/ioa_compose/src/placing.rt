@@ -1,15 +1,16 @@
 //! Terms and statements of a text, with each name's place beside it.
 
-ghost use Rattle.std.specs.Prelude.{◌≡◌, IfOk, OnOk, map, [], true};
+ghost use Rattle.std.specs.Prelude.{◌≡◌, IfOk, OnOk, map, take, [], true};
 ghost use Rattle.std.specs.List.{list_all};
 ghost use Rattle.std.specs.Option.{option_map, is_some};
 ghost use Rattle.ioa_source.specs.View.{term_of, place_of, statement_of};
+ghost use Rattle.ioa_source.specs.PlainTerm.{assign};
 ghost use Rattle.ioa_source.specs.TextView.{parameter_of, entry_of, variable_of, transition_of};
 ghost use Rattle.ioa_source.specs.Erasure.{erase_term, erase_place, erase_statement, erase_parameter, erase_entry, erase_variable};
 ghost use Rattle.ioa_terms.specs.Meaning.{IsPlaced, IsPlacedStatement, ArePlaced};
 ghost use Rattle.ioa_compose.specs.Placed.{IsPlacedGuard, IsPlacedParameter, ArePlacedParameters, ArePlacedTerms, IsPlacedFiring, ArePlacedFirings, IsPlacedPlace, ArePlacedVariables};
 ghost use Rattle.ioa_compose.specs.FirstSorts.{is_number, is_guard};
-ghost use Rattle.ioa_compose.specs.Rows.{assigns_number, fires_numbers, is_number_constant, is_number_term, is_guard_or_none};
+ghost use Rattle.ioa_compose.specs.Rows.{writes_only, assigns_only, assigns_number, fires_numbers, is_number_constant, is_number_term, is_guard_or_none};
 
 use crate::refusal::{Refusal, Row};
 use crate::scope::Scope;
@@ -54,6 +55,7 @@ pub(crate) fn place_terms(
 }
 
 /// The place that an assignment writes: one of the first `count` names, those of the state variables.
+#[tactic(auto, using(crate::proofs::Names::any_first_place))]
 fn place_target(
     alloc: Global,
     scope: &Scope,
@@ -62,6 +64,7 @@ fn place_target(
 ) -> Result<Place<usize>, Refusal>
     ensures same { IfOk result (λ p. erase_place (place_of p) ≡ place_of place.now) }
     ensures placed { IfOk result (λ p. IsPlacedPlace (place_of p) scope.now) }
+    ensures written { OnOk result (writes_only (take count scope.now) (place_of place.now) ≡ true) }
 {
     let Place::Variable(name, _) = place;
     let Some(at) = scope.place_of(name) else {
@@ -84,18 +87,33 @@ fn place_assignment(
     ensures same { IfOk result (λ s. erase_statement (statement_of s) ≡ statement_of statement.now) }
     ensures placed { IfOk result (λ s. IsPlacedStatement (statement_of s) scope.now) }
     ensures number { OnOk result (assigns_number (statement_of statement.now) ≡ true) }
+    ensures names { OnOk result (assigns_only (take count scope.now) scope.now (statement_of statement.now) ≡ true) }
 {
     match statement {
-        Statement::Assign(place, term) => {
-            if !is_number(term) {
-                return Err(Refusal::Row(Row::Sorts));
-            }
-            let place = place_target(alloc, scope, count, place)?;
-            let term = place_term(alloc, scope, term)?;
-            Ok(Statement::Assign(place, term))
-        }
+        Statement::Assign(place, term) => place_assigned(alloc, scope, count, place, term),
         Statement::Fire(_, _, _) => Err(Refusal::Row(Row::Unknown)),
     }
+}
+
+/// An assignment of a number to one of the first `count` names.
+fn place_assigned(
+    alloc: Global,
+    scope: &Scope,
+    count: usize,
+    place: &Place<()>,
+    term: &Term,
+) -> Result<Statement<usize>, Refusal>
+    ensures same { IfOk result (λ s. erase_statement (statement_of s) ≡ assign (place_of place.now) (term_of term.now)) }
+    ensures placed { IfOk result (λ s. IsPlacedStatement (statement_of s) scope.now) }
+    ensures number { OnOk result (is_number (term_of term.now) ≡ true) }
+    ensures names { OnOk result (assigns_only (take count scope.now) scope.now (assign (place_of place.now) (term_of term.now)) ≡ true) }
+{
+    if !is_number(term) {
+        return Err(Refusal::Row(Row::Sorts));
+    }
+    let place = place_target(alloc, scope, count, place)?;
+    let term = place_term(alloc, scope, term)?;
+    Ok(Statement::Assign(place, term))
 }
 
 /// The statements of an effect.
@@ -109,6 +127,7 @@ pub(crate) fn place_effect(
     ensures same { IfOk result (λ ss. map erase_statement (map statement_of ss.items) ≡ map statement_of effect.now) }
     ensures placed { IfOk result (λ ss. ArePlaced (map statement_of ss.items) scope.now) }
     ensures numbers { OnOk result (list_all assigns_number (map statement_of effect.now) ≡ true) }
+    ensures names { OnOk result (list_all (assigns_only (take count scope.now) scope.now) (map statement_of effect.now) ≡ true) }
 {
     let mut placed = Vec::new(alloc);
     for statement in effect {

@@ -1,11 +1,12 @@
-use Rattle.std.proofs.Common.{◌≡◌, ◌∙◌, ℕ, List, true, subst, map}
+use Rattle.std.proofs.Common.{◌≡◌, ◌∙◌, ℕ, List, [], true, subst, map}
 use Rattle.std.specs.List.{list_all}
 use Rattle.ioa_source.specs.View.{statement_of}
 use Rattle.ioa_source.specs.PlainTerm.{PlainStatement}
-use Rattle.ioa_source.specs.Erasure.{erase_statement}
+use Rattle.ioa_source.specs.Erasure.{erase_statement, erase_variable}
+use Rattle.ioa_source.specs.PlainText.{PlainVariable}
 use Rattle.ioa_compose.specs.Placed.{variable_names}
-use Rattle.ioa_compose.specs.Rows.{fires_only}
-use Rattle.ioa_compose.proofs.Names.{fires_only-placed}
+use Rattle.ioa_compose.specs.Rows.{fires_only, guard_reads_only}
+use Rattle.ioa_compose.proofs.Names.{fires_only-placed, initials_read_none}
 use Rattle.ioa_source.specs.TextView.{automaton_of, variable_of}
 use Rattle.ioa_compose.proofs.Rows.{entries_erased, variables_erased}
 use Rattle.ioa_compose.proofs.building.program_of.Goals as goal
@@ -19,7 +20,9 @@ returns-clause-rows c =
     let same : map erase_statement ss ≡ a.schedule = rw c.deref-5.ensures.value at c.in_ok-schedule.ensures.same in
     let read : list_all (fires_only c.in_ok-names.names) a.schedule ≡ true =
     subst (λ (xs : List (PlainStatement (Unit {0}))). list_all (fires_only c.in_ok-names.names) xs ≡ true) same (fires_only-placed ss c.in_ok-names.names c.in_ok-schedule.ensures.placed) in
+    let initial_names : list_all (λ (v : PlainVariable (Unit {0})). guard_reads_only [] v.initial) (map erase_variable vs) ≡ true = initials_read_none vs c.in_ok-variables.ensures.placed in
     record {
+      initial_names = subst (λ (xs : List (PlainVariable (Unit {0}))). list_all (λ (v : PlainVariable (Unit {0})). guard_reads_only [] v.initial) xs ≡ true) (rw c.deref.ensures.value at c.in_ok-variables.ensures.same) initial_names;
       read = subst (λ (ns : List (List ℕ)). list_all (fires_only ns) a.schedule ≡ true) names read;
       entries_differ = c.in_ok-entries_differ.ensures;
       transitions_differ = c.in_ok-transitions_differ.ensures;
