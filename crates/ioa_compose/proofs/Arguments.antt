@@ -1,5 +1,5 @@
 -- Arguments beside parameters, one after another.
-use Rattle.std.proofs.Common.{◌≡◌, ◌≢◌, ℕ, zero, suc, ◌+◌, ◌<◌, Bool, true, false, List, [], ◌∷◌, ◌++◌, refl, sym, ap, ◌∙◌, length, drop, arith, append_assoc, min, map, take, Ok, Result, length-append}
+use Rattle.std.proofs.Common.{◌≡◌, ◌≢◌, ℕ, zero, suc, Bool, true, false, List, [], ◌∷◌, ◌++◌, refl, sym, ap, length, drop, arith, min, map, take, Ok, length-append}
 use Rattle.std.specs.Prelude.{◌&&◌}
 use Rattle.std.specs.List.{zip}
 use Rattle.std.proofs.lemmas.Slice.Zip.{seconds-zip}
@@ -7,9 +7,10 @@ use Rattle.ioa_compose.specs.Data.{Data}
 use Rattle.std.proofs.lemmas.List.{length-map}
 use Rattle.ioa_terms.specs.Bindings.{same_name}
 use Rattle.ioa_terms.specs.declared.action.Action.{Action}
-use Rattle.ioa_source.specs.PlainText.{PlainParameter, const, named, PlainEntry, PlainVariable}
+use Rattle.ioa_source.specs.PlainText.{const, named}
+use Rattle.ioa_source.specs.Sides.{CheckedEntry, CheckedParameter, CheckedVariable}
 use Rattle.ioa_compose.specs.Placed.{own_names, variable_names, scope_of}
-use Rattle.ioa_compose.specs.NodeStep.{left_by, arguments_agree, parameter_agrees, own_value, own_values, entry_agrees, kind_agrees, action_name, action_arguments}
+use Rattle.ioa_compose.specs.NodeStep.{left_by, arguments_agree, parameter_agrees, own_values, entry_agrees, kind_agrees, action_name, action_arguments}
 
 and_false : (b : Bool) → b && false ≡ false
 and_false true = refl
@@ -20,7 +21,7 @@ second_true true b h = h
 second_true false b h = absurd (cc)
 
 -- arguments that are not as many as the parameters fit none
-pub arguments_agree_short : (ps : List (PlainParameter ℕ)) (vs : List Data) → length ps ≢ length vs → arguments_agree ps vs ≡ false
+pub arguments_agree_short : (ps : List CheckedParameter) (vs : List Data) → length ps ≢ length vs → arguments_agree ps vs ≡ false
 arguments_agree_short [] [] h = absurd (h refl)
 arguments_agree_short [] (v ∷ vs) h = refl
 arguments_agree_short (p ∷ ps) [] h = refl
@@ -29,7 +30,7 @@ arguments_agree_short (p ∷ ps) (v ∷ vs) h =
     rw e (and_false (parameter_agrees p v))
 
 -- where the parameters or the arguments end, no value of their own is left
-pub own_values_end : {A : Type 0} (f : A → PlainParameter ℕ) (ps : List A) (vs : List Data) (i : ℕ) → i ≡ min (length ps) (length vs) → own_values (map f (drop i ps)) (drop i vs) ≡ []
+pub own_values_end : {A : Type 0} (f : A → CheckedParameter) (ps : List A) (vs : List Data) (i : ℕ) → i ≡ min (length ps) (length vs) → own_values (map f (drop i ps)) (drop i vs) ≡ []
 own_values_end f [] vs zero h = refl
 own_values_end f [] vs (suc i) h = refl
 own_values_end f (p ∷ ps) [] zero h = refl
@@ -42,7 +43,7 @@ pub left_by_zip : (n : ℕ) (names : List (List ℕ)) (vs : List Data) → lengt
 left_by_zip n names vs h = ap (λ (ds : List Data). Ok (take n ds)) (seconds-zip names vs (sym h))
 
 -- arguments that fit have as many values of their own as the parameters have names
-pub own_values_named : (ps : List (PlainParameter ℕ)) (vs : List Data) → arguments_agree ps vs ≡ true → length (own_values ps vs) ≡ length (own_names ps)
+pub own_values_named : (ps : List CheckedParameter) (vs : List Data) → arguments_agree ps vs ≡ true → length (own_values ps vs) ≡ length (own_names ps)
 own_values_named [] [] h = refl
 own_values_named [] (v ∷ vs) h = absurd (cc)
 own_values_named (p ∷ ps) [] h = absurd (cc)
@@ -51,11 +52,11 @@ own_values_named (named x s ∷ ps) (v ∷ vs) h =
     let more = own_values_named ps vs (second_true (parameter_agrees (named x s) v) (arguments_agree ps vs) h) in omega arith
 
 -- an action that is one of an entry's gives a value to each name in view
-pub named_scope : (e : PlainEntry ℕ) (variables : List (PlainVariable ℕ)) (vs : List Data) (a : Action) → entry_agrees a e ≡ true → length vs ≡ length variables → length (scope_of e variables) ≡ length (vs ++ own_values e.parameters (action_arguments a))
+pub named_scope : (e : CheckedEntry) (variables : List CheckedVariable) (vs : List Data) (a : Action) → entry_agrees a e ≡ true → length vs ≡ length variables → length (scope_of e variables) ≡ length (vs ++ own_values e.parameters (action_arguments a))
 named_scope e variables vs a h n =
     let agree = second_true (kind_agrees a e.kind) (arguments_agree e.parameters (action_arguments a)) (second_true (same_name e.name (action_name a)) (kind_agrees a e.kind && arguments_agree e.parameters (action_arguments a)) h) in
     let own = own_values_named e.parameters (action_arguments a) agree in
     let left = length-append (variable_names variables) (own_names e.parameters) in
     let right = length-append vs (own_values e.parameters (action_arguments a)) in
-    let many = length-map variables (λ (v : PlainVariable ℕ). v.name) in
+    let many = length-map variables (λ (v : CheckedVariable). v.name) in
     omega arith

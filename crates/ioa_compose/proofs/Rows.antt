@@ -5,11 +5,12 @@ use Rattle.std.proofs.Math.Seq.{take-append_seam}
 use Rattle.std.specs.Prelude.{◌&&◌}
 use Rattle.std.specs.List.{AllByRecursion, IsDistinct, list_any}
 use lib.Pointwise.{pointwise}
-use Rattle.ioa_source.specs.PlainText.{PlainParameter, const, named, PlainEntry, PlainVariable, PlainAutomaton, PlainText}
+use Rattle.ioa_source.specs.PlainText.{const, named}
 use Rattle.ioa_source.specs.declared.declaration.Node.{Node}
 use Rattle.ioa_compose.specs.Parts.{Parts}
 use Rattle.ioa_compose.specs.Made.{AreNodesOf, nodes_in}
 use Rattle.ioa_source.specs.Erasure.{erase_parameter, erase_entry, erase_variable}
+use Rattle.ioa_source.specs.Sides.{CheckedEntry, CheckedParameter, CheckedVariable, SourceAutomaton, SourceEntry, SourceText, SourceVariable}
 use Rattle.ioa_compose.specs.Placed.{own_names, variable_names, scope_of}
 use Rattle.ioa_compose.specs.Rows.{HasNoEntryRow}
 use Rattle.ioa_compose.proofs.Loops.{each_append}
@@ -26,30 +27,30 @@ pointwise_short E (x ∷ xs) (y ∷ ys) h = rw (pointwise_short E xs ys (λ q. h
     and_false false = refl
 
 -- parameters have the same names without what stands beside the names of their terms
-own_names-erase : (ps : List (PlainParameter ℕ)) → own_names (map erase_parameter ps) ≡ own_names ps
+own_names-erase : (ps : List CheckedParameter) → own_names (map erase_parameter ps) ≡ own_names ps
 own_names-erase [] = refl
 own_names-erase (const t ∷ ps) = own_names-erase ps
 own_names-erase (named x s ∷ ps) = ap (λ (ns : List (List ℕ)). x ∷ ns) (own_names-erase ps)
 
 -- and so have variables
-variable_names-erase : (vs : List (PlainVariable ℕ)) → variable_names (map erase_variable vs) ≡ variable_names vs
+variable_names-erase : (vs : List CheckedVariable) → variable_names (map erase_variable vs) ≡ variable_names vs
 variable_names-erase [] = refl
 variable_names-erase (v ∷ vs) = ap (λ (ns : List (List ℕ)). v.name ∷ ns) (variable_names-erase vs)
 
 -- the names in view are those that the text spells
-pub scope_of-erase : (vs : List (PlainVariable ℕ)) (placed : PlainEntry ℕ) (e : PlainEntry (Unit {0})) (scope : List (List ℕ)) → scope ≡ scope_of placed vs → erase_entry placed ≡ e → scope ≡ variable_names vs ++ own_names e.parameters
+pub scope_of-erase : (vs : List CheckedVariable) (placed : CheckedEntry) (e : SourceEntry) (scope : List (List ℕ)) → scope ≡ scope_of placed vs → erase_entry placed ≡ e → scope ≡ variable_names vs ++ own_names e.parameters
 scope_of-erase vs placed e scope s same =
-    let names : own_names e.parameters ≡ own_names placed.parameters = ap (λ (x : PlainEntry (Unit {0})). own_names x.parameters) (sym same) ∙ own_names-erase placed.parameters in
+    let names : own_names e.parameters ≡ own_names placed.parameters = ap (λ (x : SourceEntry). own_names x.parameters) (sym same) ∙ own_names-erase placed.parameters in
     s ∙ ap (λ (ns : List (List ℕ)). variable_names vs ++ ns) (sym names)
 
 -- the variables' names are those that the text spells
-pub variables_erased : (a : PlainAutomaton (Unit {0})) (vs : List (PlainVariable ℕ)) → map erase_variable vs ≡ a.states → variable_names vs ≡ variable_names a.states
-variables_erased a vs same = sym (variable_names-erase vs) ∙ ap (λ (xs : List (PlainVariable (Unit {0}))). variable_names xs) same
+pub variables_erased : (a : SourceAutomaton) (vs : List CheckedVariable) → map erase_variable vs ≡ a.states → variable_names vs ≡ variable_names a.states
+variables_erased a vs same = sym (variable_names-erase vs) ∙ ap (λ (xs : List SourceVariable). variable_names xs) same
 
 -- the rows of entries, where the variables are those of the automaton
-pub entries_erased : (a : PlainAutomaton (Unit {0})) (vs : List (PlainVariable ℕ)) → map erase_variable vs ≡ a.states → AllByRecursion (HasNoEntryRow (variable_names vs) a.transitions) a.signature → AllByRecursion (HasNoEntryRow (variable_names a.states) a.transitions) a.signature
+pub entries_erased : (a : SourceAutomaton) (vs : List CheckedVariable) → map erase_variable vs ≡ a.states → AllByRecursion (HasNoEntryRow (variable_names vs) a.transitions) a.signature → AllByRecursion (HasNoEntryRow (variable_names a.states) a.transitions) a.signature
 entries_erased a vs same h =
-    let names : variable_names vs ≡ variable_names a.states = sym (variable_names-erase vs) ∙ ap (λ (xs : List (PlainVariable (Unit {0}))). variable_names xs) same in
+    let names : variable_names vs ≡ variable_names a.states = sym (variable_names-erase vs) ∙ ap (λ (xs : List SourceVariable). variable_names xs) same in
     subst (λ (ns : List (List ℕ)). AllByRecursion (HasNoEntryRow ns a.transitions) a.signature) names h
 
 neither : (a b : Bool) → (a || b) ≡ false → (a ≡ false) × (b ≡ false)
@@ -74,7 +75,7 @@ distinct_take-map e f ys i y d h within at =
     rw (take_more ys i y within, map-append f (take i ys) (get_or ys i y ∷ []), ← at) (distinct_push e (map f (take i ys)) (f y) d h)
 
 -- the nodes that have programs are there
-nodes_from : (t : PlainText (Unit {0})) (j : ℕ) (ps : List Parts) → AreNodesOf t j ps → (k : ℕ) → k < length ps → (n : Node) × Contains (nodes_in t.system) n × (n.number ≡ pos (j + k))
+nodes_from : (t : SourceText) (j : ℕ) (ps : List Parts) → AreNodesOf t j ps → (k : ℕ) → k < length ps → (n : Node) × Contains (nodes_in t.system) n × (n.number ≡ pos (j + k))
 nodes_from t j [] h k l = absurd (omega arith)
 nodes_from t j (p ∷ ps) h zero l =
     let same : j ≡ j + 0 = omega arith in (h.0.placed.node, h.0.placed.declared, h.0.placed.number ∙ ap pos same)
@@ -83,7 +84,7 @@ nodes_from t j (p ∷ ps) h (suc k) l =
     let same : (j + 1) + k ≡ j + suc k = omega arith in (later.0, later.1, later.2 ∙ ap pos same)
 
 -- where each node has a program, the nodes' numbers are 0 to n - 1
-pub numbers_from : (t : PlainText (Unit {0})) (ps : List Parts) (many : ℕ) → AreNodesOf t 0 ps → length ps ≡ many → (k : ℕ) → k < many → (n : Node) × Contains (nodes_in t.system) n × (n.number ≡ pos k)
+pub numbers_from : (t : SourceText) (ps : List Parts) (many : ℕ) → AreNodesOf t 0 ps → length ps ≡ many → (k : ℕ) → k < many → (n : Node) × Contains (nodes_in t.system) n × (n.number ≡ pos k)
 numbers_from t ps many h e k l =
     let there : (n : Node) × Contains (nodes_in t.system) n × (n.number ≡ pos (0 + k)) = nodes_from t 0 ps h k (omega arith) in
     let same : 0 + k ≡ k = omega arith in (there.0, there.1, there.2 ∙ ap pos same)

@@ -1,5 +1,5 @@
 -- The configuration of a node.
-use Rattle.std.specs.Prelude.{◌≡◌, ℕ, List, length, refl}
+use Rattle.std.specs.Prelude.{◌≡◌, List, length, refl}
 use Rattle.std.specs.Coded.{Coded, code_by, coded×, coded_list}
 use Rattle.ioa_compose.specs.Data.{Data}
 use Rattle.ioa_compose.specs.Parts.{Parts, parts_code}

@@ -1,21 +1,21 @@
 -- Steps of a node's automaton (Lynch 8.1).
-use Rattle.std.specs.Prelude.{◌≡◌, ℕ, ℤ, Bool, true, false, not, ◌&&◌, if◌then◌else◌, List, [], ◌∷◌, ◌++◌, Option, Some, None, Result, Ok, Err, map, length, take, find, codes}
-use Rattle.std.specs.Option.{option_map}
+use Rattle.std.specs.Prelude.{ℕ, Bool, true, false, not, ◌&&◌, List, [], ◌∷◌, ◌++◌, Option, Some, None, Result, Ok, Err, map, length, take, find, codes}
 use Rattle.std.specs.List.{zip}
-use Rattle.ioa_compose.specs.Data.{Data, number, truth}
+use Rattle.ioa_compose.specs.Data.{Data, number, as_truth}
 use Rattle.ioa_compose.specs.Outcome.{and_then}
 use Rattle.ioa_values.specs.DataOrder.{same}
 use Rattle.ioa_values.specs.Sorts.{has_sort}
 use Rattle.ioa_terms.specs.Bindings.{Bindings, same_name}
-use Rattle.ioa_terms.specs.Meaning.{answer, answer_by}
+use Rattle.ioa_terms.specs.Meaning.{answer}
+use Rattle.ioa_terms.specs.Performance.{answer_by}
 use Rattle.ioa_terms.specs.declared.tree.Kind.{Kind}
 use Rattle.ioa_terms.specs.declared.tree.Kind.TheVariants.{Input, Output, Internal}
 use Rattle.ioa_terms.specs.declared.action.Action.{Action}
 use Rattle.ioa_terms.specs.declared.action.Action.TheVariants.{Send, Receive, Local, Stimulus}
-use Rattle.ioa_terms.specs.declared.fault.TermFault.{TermFault}
-use Rattle.ioa_source.specs.PlainTerm.{PlainTerm}
-use Rattle.ioa_source.specs.PlainText.{PlainParameter, const, named, PlainEntry, PlainTransition, PlainVariable}
+use Rattle.ioa_operators.specs.declared.fault.TermFault.{TermFault}
+use Rattle.ioa_source.specs.PlainText.{const, named}
 use Rattle.ioa_source.specs.TextView.{entry_of, transition_of, variable_of}
+use Rattle.ioa_source.specs.Sides.{CheckedEntry, CheckedParameter, CheckedTerm, CheckedTransition, CheckedVariable}
 use Rattle.ioa_compose.specs.Parts.{Parts}
 use Rattle.ioa_compose.specs.Placed.{scope_of}
 use Rattle.ioa_compose.specs.NodeState.{NodeState, node_state}
@@ -60,44 +60,48 @@ is_constant (Ok u) v = same u v
 is_constant (Err f) v = false
 
 -- whether a value fits a parameter: it is the constant, or has the sort
-abbrev pub parameter_agrees : PlainParameter ℕ → Data → Bool
+abbrev pub parameter_agrees : CheckedParameter → Data → Bool
 parameter_agrees (const t) v = is_constant (answer t []) v
 parameter_agrees (named x s) v = has_sort s v
 
 -- whether arguments fit an entry's parameters: as many, and each fits its own
-abbrev pub arguments_agree : List (PlainParameter ℕ) → List Data → Bool
+abbrev pub arguments_agree : List CheckedParameter → List Data → Bool
 arguments_agree [] [] = true
 arguments_agree [] (v ∷ vs) = false
 arguments_agree (p ∷ more) [] = false
 arguments_agree (p ∷ more) (v ∷ vs) = parameter_agrees p v && arguments_agree more vs
 
 -- whether an action is one of an entry's
-abbrev pub entry_agrees : Action → PlainEntry ℕ → Bool
+abbrev pub entry_agrees : Action → CheckedEntry → Bool
 entry_agrees a e = same_name e.name (action_name a) && (kind_agrees a e.kind && arguments_agree e.parameters (action_arguments a))
 
 -- the argument of a parameter that has a name of its own
-abbrev pub own_value : PlainParameter ℕ → Data → List Data
+abbrev pub own_value : CheckedParameter → Data → List Data
 own_value (const t) v = []
 own_value (named x s) v = v ∷ []
 
 -- the arguments that have names of their own
-abbrev pub own_values : List (PlainParameter ℕ) → List Data → List Data
+abbrev pub own_values : List CheckedParameter → List Data → List Data
 own_values [] vs = []
 own_values (p ∷ more) [] = []
 own_values (p ∷ more) (v ∷ vs) = own_value p v ++ own_values more vs
 
 -- what guard and effect read: the state variables and the entry's own parameters
-abbrev pub view_of : PlainEntry ℕ → List (PlainVariable ℕ) → Action → List Data → Bindings
+abbrev pub view_of : CheckedEntry → List CheckedVariable → Action → List Data → Bindings
 view_of e variables a vs = zip (scope_of e variables) (vs ++ own_values e.parameters (action_arguments a))
+
+-- a guard passes where it is true
+abbrev pub passed : Option Bool → Result (Unit {0}) StepFault
+passed None = Err NotEnabled
+passed (Some true) = Ok tt
+passed (Some false) = Err NotEnabled
 
 -- what a guard answers: nothing where it is true
 abbrev pub guarded : Result Data TermFault → Result (Unit {0}) StepFault
 guarded (Err f) = Err (step_fault f)
-guarded (Ok (number z)) = Err NotEnabled
-guarded (Ok (truth true)) = Ok tt
-guarded (Ok (truth false)) = Err NotEnabled
+guarded (Ok v) = passed (as_truth v)
 
-abbrev pub guard_answer : Option (PlainTerm ℕ) → Bindings → Result (Unit {0}) StepFault
+abbrev pub guard_answer : Option CheckedTerm → Bindings → Result (Unit {0}) StepFault
 guard_answer None e = Ok tt
 guard_answer (Some t) e = guarded (answer t e)
 
@@ -107,7 +111,7 @@ left_by n (Ok e) = Ok (take n (map (λ b. b.1) e))
 left_by n (Err f) = Err (step_fault f)
 
 -- what a transition answers over n state variables: their new values, or the first fault of guard and effect
-abbrev pub transition_answer : ℕ → PlainTransition ℕ → Bindings → Result (List Data) StepFault
+abbrev pub transition_answer : ℕ → CheckedTransition → Bindings → Result (List Data) StepFault
 transition_answer n t b = and_then (guard_answer t.pre b) (λ _. left_by n (answer_by t.effect b))
 
 -- the rule of an action: the first whose entry it is one of

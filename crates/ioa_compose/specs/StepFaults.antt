@@ -1,6 +1,6 @@
 -- A term's fault, as a step's.
-use Rattle.ioa_terms.specs.declared.fault.TermFault.{TermFault}
-use Rattle.ioa_terms.specs.declared.fault.TermFault.TheVariants as term
+use Rattle.ioa_operators.specs.declared.fault.TermFault.{TermFault}
+use Rattle.ioa_operators.specs.declared.fault.TermFault.TheVariants as term
 use Rattle.ioa_compose.specs.declared.fault.StepFault.{StepFault}
 use Rattle.ioa_compose.specs.declared.fault.StepFault.TheVariants as step
 

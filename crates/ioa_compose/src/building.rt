@@ -5,12 +5,12 @@ ghost use Rattle.std.specs.Option.{option_map, option_copied, is_some};
 ghost use lib.Pointwise.{pointwise};
 ghost use Rattle.std.specs.List.{AllByRecursion, IsDistinct, list_all, list_any};
 ghost use Rattle.ioa_terms.specs.Bindings.{same_name};
-ghost use Rattle.ioa_compose.specs.Rows.{HasNoEntryRow, HasNoAutomatonRow, has_entry, fires_entry, fires_as_many, assigns_only, assigns_number, is_guard_or_none, argument_repeats, same_term};
+ghost use Rattle.ioa_compose.specs.Rows.{HasNoEntryRow, HasNoAutomatonRow, has_entry, fires_entry, fires_as_many, guard_reads_only, assigns_only, assigns_number, is_guard_or_none, argument_repeats, same_term};
 ghost use Rattle.ioa_source.specs.Erasure.{erase_entry, erase_transition};
-ghost use Rattle.ioa_compose.specs.Made.{IsProgramOf, IsRuleOf, initial_answer, term_answer, transition_for, same_kind};
+ghost use Rattle.ioa_compose.specs.Made.{AssignsInteger, HasIntegers, IsProgramOf, IsRuleOf, initial_answer, term_answer, transition_for, same_kind};
 ghost use Rattle.ioa_source.specs.View.{term_of, statement_of};
 ghost use Rattle.ioa_source.specs.TextView.{automaton_of, parameter_of, entry_of, transition_of, variable_of};
-ghost use Rattle.ioa_terms.specs.Meaning.{ArePlaced};
+ghost use Rattle.ioa_terms.specs.Placed.{ArePlaced};
 ghost use Rattle.ioa_compose.specs.Placed.{IsPlacedRule, ArePlacedVariables, IsPlacedGuard, own_name, variable_names, scope_of};
 
 use crate::placing::{
@@ -20,14 +20,14 @@ use crate::program::{Program, Rule};
 use crate::refusal::{Refusal, Row};
 use crate::scope::Scope;
 use ioa_source::{Automaton, Entry, Parameter, Transition, Variable};
-use ioa_terms::{Checked, Env, Kind, Statement, Term, TermFault, Tree, Value, Word, eval};
+use ioa_terms::{Checked, Env, Kind, Shape, Statement, Term, TermFault, Tree, Value, Word, eval};
 use std::alloc::Global;
 
 /// The program of a node that an automaton is placed on.
 pub(crate) fn program_of(
     alloc: Global,
     node: i64,
-    automaton: &Automaton<()>,
+    automaton: &Automaton<(), ()>,
 ) -> Result<Program, Refusal>
     ensures node { IfOk result (λ p. p.node ≡ node) }
     ensures made { IfOk result (IsProgramOf (automaton_of automaton.now)) }
@@ -46,7 +46,7 @@ pub(crate) fn program_of(
 }
 
 /// The names of the state variables, which differ.
-fn names_of(alloc: Global, variables: &[Variable<usize>]) -> Result<Scope, Refusal>
+fn names_of(alloc: Global, variables: &[Variable<usize, Shape>]) -> Result<Scope, Refusal>
     ensures names { IfOk result (λ s. s ≡ variable_names (map variable_of variables.now)) }
     ensures differ { IfOk result (IsDistinct same_name) }
 {
@@ -73,8 +73,8 @@ fn declare(alloc: Global, names: &mut Scope, name: &Word) -> Result<(), Refusal>
 /// parameters.
 fn scope_for(
     alloc: Global,
-    variables: &[Variable<usize>],
-    entry: &Entry<usize>,
+    variables: &[Variable<usize, Shape>],
+    entry: &Entry<usize, Shape>,
 ) -> Result<Scope, Refusal>
     ensures names { IfOk result (λ s. s ≡ scope_of (entry_of entry.now) (map variable_of variables.now)) }
     ensures differ { IfOk result (IsDistinct same_name) }
@@ -90,7 +90,7 @@ fn scope_for(
 fn declare_parameter(
     alloc: Global,
     names: &mut Scope,
-    parameter: &Parameter<usize>,
+    parameter: &Parameter<usize, Shape>,
 ) -> Result<(), Refusal>
     ensures added { OnOk result (names.new ≡ names.old ++ own_name (parameter_of parameter.now)) }
     ensures differ { OnOk result (IsDistinct same_name names.old → IsDistinct same_name names.new) }
@@ -102,7 +102,10 @@ fn declare_parameter(
 }
 
 /// The values of the state variables in the start state.
-fn initial_values(alloc: Global, variables: &[Variable<usize>]) -> Result<Vec<Value>, Refusal>
+fn initial_values(
+    alloc: Global,
+    variables: &[Variable<usize, Shape>],
+) -> Result<Vec<Value>, Refusal>
     requires { ArePlacedVariables (map variable_of variables.now) }
     ensures many { IfOk result (λ vs. length vs.items ≡ length variables.now) }
     ensures values { IfOk result (λ vs. map initial_answer variables.now ≡ map Ok vs.items) }
@@ -134,12 +137,13 @@ fn initial_value(alloc: Global, initial: &Option<Checked>) -> Result<Value, Refu
 /// The rules of an automaton: each entry with its transition.
 fn rules_of(
     alloc: Global,
-    automaton: &Automaton<()>,
-    variables: &[Variable<usize>],
+    automaton: &Automaton<(), ()>,
+    variables: &[Variable<usize, Shape>],
 ) -> Result<Vec<Rule>, Refusal>
     ensures placed { IfOk result (λ rs. All (IsPlacedRule (map variable_of variables.now)) rs.items) }
     ensures signature { IfOk result (λ rs. map (λ r. erase_entry (entry_of r.entry)) rs.items ≡ (automaton_of automaton.now).signature) }
     ensures transitions { IfOk result (λ rs. AllByRecursion (IsRuleOf (automaton_of automaton.now)) rs.items) }
+    ensures shapes { IfOk result (λ rs. AllByRecursion HasIntegers rs.items) }
     ensures rows { OnOk result (AllByRecursion (HasNoEntryRow (variable_names (map variable_of variables.now)) (automaton_of automaton.now).transitions)
         (automaton_of automaton.now).signature) }
 {
@@ -154,13 +158,14 @@ fn rules_of(
 /// The rule of an entry.
 fn rule_of(
     alloc: Global,
-    automaton: &Automaton<()>,
-    entry: &Entry<()>,
-    variables: &[Variable<usize>],
+    automaton: &Automaton<(), ()>,
+    entry: &Entry<(), ()>,
+    variables: &[Variable<usize, Shape>],
 ) -> Result<Rule, Refusal>
     ensures placed { IfOk result (IsPlacedRule (map variable_of variables.now)) }
     ensures entry { IfOk result (λ r. erase_entry (entry_of r.entry) ≡ entry_of entry.now) }
     ensures transition { IfOk result (IsRuleOf (automaton_of automaton.now)) }
+    ensures shapes { IfOk result HasIntegers }
     ensures rows { OnOk result (HasNoEntryRow (variable_names (map variable_of variables.now)) (automaton_of automaton.now).transitions (entry_of entry.now)) }
 {
     let Some(transition) = transition_for(automaton, entry) else {
@@ -183,7 +188,7 @@ fn rule_of(
 }
 
 /// Whether a transition has a guard although its entry is an input.
-fn has_input_pre(entry: &Entry<()>, transition: &Transition<()>) -> bool
+fn has_input_pre(entry: &Entry<(), ()>, transition: &Transition<(), ()>) -> bool
     ensures { result ≡ is_some (transition_of transition.now).pre && same_kind (entry_of entry.now).kind Kind.Input }
 {
     match &transition.pre {
@@ -197,12 +202,14 @@ fn place_transition(
     alloc: Global,
     scope: &Scope,
     count: usize,
-    transition: &Transition<()>,
-) -> Result<Transition<usize>, Refusal>
+    transition: &Transition<(), ()>,
+) -> Result<Transition<usize, Shape>, Refusal>
     ensures same { IfOk result (λ t. erase_transition (transition_of t) ≡ transition_of transition.now) }
     ensures guard { IfOk result (λ t. IsPlacedGuard (transition_of t).pre scope.now) }
-    ensures effect { IfOk result (λ t. ArePlaced (transition_of t).effect scope.now) }
+    ensures effect { IfOk result (λ t. ArePlaced (transition_of t).effect scope.now scope.now) }
+    ensures shapes { IfOk result (λ t. AllByRecursion AssignsInteger (transition_of t).effect) }
     ensures sort { OnOk result (is_guard_or_none (transition_of transition.now).pre ≡ true) }
+    ensures guard_names { OnOk result (guard_reads_only scope.now (transition_of transition.now).pre ≡ true) }
     ensures numbers { OnOk result (list_all assigns_number (transition_of transition.now).effect ≡ true) }
     ensures names { OnOk result (list_all (assigns_only (take count scope.now) scope.now) (transition_of transition.now).effect ≡ true) }
 {
@@ -220,7 +227,10 @@ fn place_transition(
 }
 
 /// The transition of an entry's name.
-fn transition_for<'a>(automaton: &'a Automaton<()>, entry: &Entry<()>) -> Option<&'a Transition<()>>
+fn transition_for<'a>(
+    automaton: &'a Automaton<(), ()>,
+    entry: &Entry<(), ()>,
+) -> Option<&'a Transition<(), ()>>
     ensures { option_map transition_of (option_copied result)
         ≡ transition_for (entry_of entry.now) (automaton_of automaton.now).transitions }
 {
@@ -233,7 +243,7 @@ fn transition_for<'a>(automaton: &'a Automaton<()>, entry: &Entry<()>) -> Option
 }
 
 /// Whether a head repeats its entry: the same term at a constant, the same name elsewhere.
-fn head_repeats(parameters: &[Parameter<()>], arguments: &[Term]) -> bool
+fn head_repeats(parameters: &[Parameter<(), ()>], arguments: &[Term]) -> bool
     ensures { result ≡ pointwise argument_repeats (map parameter_of parameters.now) (map term_of arguments.now) }
 {
     if parameters.len() != arguments.len() {
@@ -248,44 +258,32 @@ fn head_repeats(parameters: &[Parameter<()>], arguments: &[Term]) -> bool
 }
 
 /// Whether an argument of a head repeats its parameter.
-fn argument_repeats(parameter: &Parameter<()>, argument: &Term) -> bool
+fn argument_repeats(parameter: &Parameter<(), ()>, argument: &Term) -> bool
     ensures { result ≡ argument_repeats (parameter_of parameter.now) (term_of argument.now) }
 {
     match parameter {
         Parameter::Const(term) => same_term(term, argument),
         Parameter::Declared(name, _) => match argument {
             Tree::Name(word, _) => word == name,
-            Tree::Number(_) => false,
-            Tree::Two(_, _, _) => false,
+            _ => false,
         },
     }
 }
 
-/// Whether two terms are spelled by the same tree.
+/// Whether two terms of the first form are spelled by the same tree.
 fn same_term(left: &Term, right: &Term) -> bool
     ensures { result ≡ same_term (term_of left.now) (term_of right.now) }
 {
-    match left {
-        Tree::Number(m) => match right {
-            Tree::Number(n) => m == n,
-            Tree::Name(_, _) => false,
-            Tree::Two(_, _, _) => false,
-        },
-        Tree::Name(x, _) => match right {
-            Tree::Number(_) => false,
-            Tree::Name(y, _) => x == y,
-            Tree::Two(_, _, _) => false,
-        },
-        Tree::Two(f, a, b) => match right {
-            Tree::Number(_) => false,
-            Tree::Name(_, _) => false,
-            Tree::Two(g, c, d) => f == g && same_term(a, c) && same_term(b, d),
-        },
+    match (left, right) {
+        (Tree::Number(m), Tree::Number(n)) => m == n,
+        (Tree::Name(x, _), Tree::Name(y, _)) => x == y,
+        (Tree::Two(f, a, b), Tree::Two(g, c, d)) => f == g && same_term(a, c) && same_term(b, d),
+        _ => false,
     }
 }
 
 /// Passes where no two entries have one name.
-fn entries_differ(alloc: Global, automaton: &Automaton<()>) -> Result<(), Refusal>
+fn entries_differ(alloc: Global, automaton: &Automaton<(), ()>) -> Result<(), Refusal>
     ensures { OnOk result (IsDistinct same_name (map (λ e. e.name) (automaton_of automaton.now).signature)) }
 {
     let mut names = Scope::new(alloc);
@@ -296,7 +294,7 @@ fn entries_differ(alloc: Global, automaton: &Automaton<()>) -> Result<(), Refusa
 }
 
 /// Passes where no two transitions have one name.
-fn transitions_differ(alloc: Global, automaton: &Automaton<()>) -> Result<(), Refusal>
+fn transitions_differ(alloc: Global, automaton: &Automaton<(), ()>) -> Result<(), Refusal>
     ensures { OnOk result (IsDistinct same_name (map (λ t. t.name) (automaton_of automaton.now).transitions)) }
 {
     let mut names = Scope::new(alloc);
@@ -307,7 +305,7 @@ fn transitions_differ(alloc: Global, automaton: &Automaton<()>) -> Result<(), Re
 }
 
 /// Passes where each transition is of an entry's name and kind.
-fn transitions_have_entries(automaton: &Automaton<()>) -> Result<(), Refusal>
+fn transitions_have_entries(automaton: &Automaton<(), ()>) -> Result<(), Refusal>
     ensures { OnOk result (list_all (has_entry (automaton_of automaton.now).signature) (automaton_of automaton.now).transitions ≡ true) }
 {
     for transition in &automaton.transitions {
@@ -319,7 +317,7 @@ fn transitions_have_entries(automaton: &Automaton<()>) -> Result<(), Refusal>
 }
 
 /// Whether a transition is of an entry's name and kind.
-fn has_entry(automaton: &Automaton<()>, transition: &Transition<()>) -> bool
+fn has_entry(automaton: &Automaton<(), ()>, transition: &Transition<(), ()>) -> bool
     ensures { result ≡ has_entry (automaton_of automaton.now).signature (transition_of transition.now) }
 {
     for entry in &automaton.signature {
@@ -331,7 +329,7 @@ fn has_entry(automaton: &Automaton<()>, transition: &Transition<()>) -> bool
 }
 
 /// Passes where each firing is of an entry's name and has as many arguments.
-fn firings_have_entries(automaton: &Automaton<()>) -> Result<(), Refusal>
+fn firings_have_entries(automaton: &Automaton<(), ()>) -> Result<(), Refusal>
     ensures known { OnOk result (list_all (fires_entry (automaton_of automaton.now).signature) (automaton_of automaton.now).schedule ≡ true) }
     ensures many { OnOk result (list_all (fires_as_many (automaton_of automaton.now).signature) (automaton_of automaton.now).schedule ≡ true) }
 {
@@ -347,17 +345,17 @@ fn firings_have_entries(automaton: &Automaton<()>) -> Result<(), Refusal>
 }
 
 /// Whether a statement is a firing of an entry's name.
-fn fires_entry(automaton: &Automaton<()>, statement: &Statement<()>) -> bool
+fn fires_entry(automaton: &Automaton<(), ()>, statement: &Statement<(), ()>) -> bool
     ensures { result ≡ fires_entry (automaton_of automaton.now).signature (statement_of statement.now) }
 {
     match statement {
-        Statement::Assign(_, _) => false,
         Statement::Fire(_, name, _) => is_entry(automaton, name),
+        _ => false,
     }
 }
 
 /// Whether an entry has a name.
-fn is_entry(automaton: &Automaton<()>, name: &Word) -> bool
+fn is_entry(automaton: &Automaton<(), ()>, name: &Word) -> bool
     ensures { result ≡ list_any (λ e. same_name e.name name.now) (automaton_of automaton.now).signature }
 {
     for entry in &automaton.signature {
@@ -369,17 +367,17 @@ fn is_entry(automaton: &Automaton<()>, name: &Word) -> bool
 }
 
 /// Whether a statement is a firing with as many arguments as its entry has parameters.
-fn fires_as_many(automaton: &Automaton<()>, statement: &Statement<()>) -> bool
+fn fires_as_many(automaton: &Automaton<(), ()>, statement: &Statement<(), ()>) -> bool
     ensures { result ≡ fires_as_many (automaton_of automaton.now).signature (statement_of statement.now) }
 {
     match statement {
-        Statement::Assign(_, _) => false,
         Statement::Fire(_, name, arguments) => takes_as_many(automaton, name, arguments),
+        _ => false,
     }
 }
 
 /// Whether an entry of a name has as many parameters as there are arguments.
-fn takes_as_many(automaton: &Automaton<()>, name: &Word, arguments: &[Term]) -> bool
+fn takes_as_many(automaton: &Automaton<(), ()>, name: &Word, arguments: &[Term]) -> bool
     ensures { result ≡ list_any (λ e. same_name e.name name.now && nat_eq (length e.parameters) (length (map term_of arguments.now)))
         (automaton_of automaton.now).signature }
 {

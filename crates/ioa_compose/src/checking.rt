@@ -39,7 +39,7 @@ pub fn check(alloc: Global, source: Source) -> Result<System, CheckFault>
 }
 
 /// Makes the system that a text describes.
-fn check_text(alloc: Global, text: &Text<()>) -> Result<System, CheckFault>
+fn check_text(alloc: Global, text: &Text<(), ()>) -> Result<System, CheckFault>
     ensures system { IfOk result (IsSystemOf (text_of text.now)) }
     ensures rows { OnOk result (HasNoRow (text_of text.now)) }
 {
@@ -51,7 +51,7 @@ fn check_text(alloc: Global, text: &Text<()>) -> Result<System, CheckFault>
 }
 
 /// Passes where no row stands in a declaration before the system.
-fn check_declarations(alloc: Global, declarations: &[Declaration<()>]) -> Result<(), CheckFault>
+fn check_declarations(alloc: Global, declarations: &[Declaration<(), ()>]) -> Result<(), CheckFault>
     ensures differ { OnOk result (IsDistinct same_name (map (λ d. (automaton_in d).name) (map declaration_of declarations.now))) }
     ensures rows { OnOk result (AllByRecursion (λ d. HasNoAutomatonRow (automaton_in d)) (map declaration_of declarations.now)) }
 {
@@ -69,7 +69,7 @@ fn check_declarations(alloc: Global, declarations: &[Declaration<()>]) -> Result
 fn check_declaration(
     alloc: Global,
     names: &mut Scope,
-    declaration: &Declaration<()>,
+    declaration: &Declaration<(), ()>,
 ) -> Result<(), Refusal>
     ensures added { OnOk result (names.new ≡ names.old ++ (automaton_in (declaration_of declaration.now)).name ∷ []) }
     ensures differ { OnOk result (IsDistinct same_name names.old → IsDistinct same_name names.new) }
@@ -83,7 +83,7 @@ fn check_declaration(
 }
 
 /// Passes where a program can be made of an automaton.
-fn check_automaton(alloc: Global, automaton: &Automaton<()>) -> Result<(), Refusal>
+fn check_automaton(alloc: Global, automaton: &Automaton<(), ()>) -> Result<(), Refusal>
     ensures { OnOk result (HasNoAutomatonRow (automaton_of automaton.now)) }
 {
     let _program = program_of(alloc, 0, automaton)?;
@@ -91,7 +91,7 @@ fn check_automaton(alloc: Global, automaton: &Automaton<()>) -> Result<(), Refus
 }
 
 /// The system of a text whose declarations passed.
-fn check_placements(alloc: Global, text: &Text<()>) -> Result<System, Refusal>
+fn check_placements(alloc: Global, text: &Text<(), ()>) -> Result<System, Refusal>
     ensures system { IfOk result (IsSystemOf (text_of text.now)) }
     ensures rows { OnOk result (HasNoSystemRow (text_of text.now)) }
 {
@@ -106,7 +106,7 @@ fn check_placements(alloc: Global, text: &Text<()>) -> Result<System, Refusal>
 }
 
 /// The nodes of a text, as declared: at most 64.
-fn nodes_of<'a>(alloc: Global, text: &'a Text<()>) -> Result<Vec<&'a Node>, Refusal>
+fn nodes_of<'a>(alloc: Global, text: &'a Text<(), ()>) -> Result<Vec<&'a Node>, Refusal>
     ensures all { IfOk result (λ ns. map (λ n. n.now) ns.items ≡ nodes_in text.now.system.items) }
     ensures few { IfOk result (λ ns. length ns.items ≤ 64) }
 {
@@ -123,7 +123,7 @@ fn nodes_of<'a>(alloc: Global, text: &'a Text<()>) -> Result<Vec<&'a Node>, Refu
 }
 
 /// The channels of a text, as declared: at most 256.
-fn channels_of(alloc: Global, text: &Text<()>) -> Result<Vec<Channel>, Refusal>
+fn channels_of(alloc: Global, text: &Text<(), ()>) -> Result<Vec<Channel>, Refusal>
     ensures all { IfOk result (λ cs. cs.items ≡ channels_in text.now.system.items) }
     ensures few { IfOk result (λ cs. length cs.items ≤ 256) }
 {
@@ -197,7 +197,7 @@ fn is_channel(channels: &[Channel], channel: &Channel) -> bool
 
 /// Passes where each node's automaton is declared, its sends are from that node and its receives to
 /// it.
-fn check_nodes(text: &Text<()>, nodes: &[&Node]) -> Result<(), Refusal>
+fn check_nodes(text: &Text<(), ()>, nodes: &[&Node]) -> Result<(), Refusal>
     ensures declared { OnOk result (list_all (spec.is_declared (text_of text.now).declarations) (map (λ n. n.now) nodes.now) ≡ true) }
     ensures at_home { OnOk result (list_all (spec.has_its_own (text_of text.now).declarations) (map (λ n. n.now) nodes.now) ≡ true) }
 {
@@ -208,7 +208,7 @@ fn check_nodes(text: &Text<()>, nodes: &[&Node]) -> Result<(), Refusal>
 }
 
 /// Passes where a node's automaton is declared, its sends are from that node and its receives to it.
-fn check_node(text: &Text<()>, node: &Node) -> Result<(), Refusal>
+fn check_node(text: &Text<(), ()>, node: &Node) -> Result<(), Refusal>
     ensures declared { OnOk result (spec.is_declared (text_of text.now).declarations node.now ≡ true) }
     ensures at_home { OnOk result (spec.has_its_own (text_of text.now).declarations node.now ≡ true) }
 {
@@ -225,7 +225,7 @@ fn check_node(text: &Text<()>, node: &Node) -> Result<(), Refusal>
 }
 
 /// Passes where each channel joins two nodes and its receiver takes messages of its sender.
-fn check_channels(text: &Text<()>, nodes: &[&Node], channels: &[Channel]) -> Result<(), Refusal>
+fn check_channels(text: &Text<(), ()>, nodes: &[&Node], channels: &[Channel]) -> Result<(), Refusal>
     ensures two { OnOk result (list_all spec.joins_two channels.now ≡ true) }
     ensures ends { OnOk result (list_all (spec.joins_nodes (map (λ n. n.now) nodes.now)) channels.now ≡ true) }
     ensures inputs { OnOk result (list_all (spec.has_input (text_of text.now).declarations (map (λ n. n.now) nodes.now)) channels.now ≡ true) }
@@ -237,7 +237,7 @@ fn check_channels(text: &Text<()>, nodes: &[&Node], channels: &[Channel]) -> Res
 }
 
 /// Passes where a channel joins two nodes and its receiver takes messages of its sender.
-fn check_channel(text: &Text<()>, nodes: &[&Node], channel: &Channel) -> Result<(), Refusal>
+fn check_channel(text: &Text<(), ()>, nodes: &[&Node], channel: &Channel) -> Result<(), Refusal>
     ensures two { OnOk result (spec.joins_two channel.now ≡ true) }
     ensures ends { OnOk result (spec.joins_nodes (map (λ n. n.now) nodes.now) channel.now ≡ true) }
     ensures inputs { OnOk result (spec.has_input (text_of text.now).declarations (map (λ n. n.now) nodes.now) channel.now ≡ true) }
@@ -258,7 +258,7 @@ fn check_channel(text: &Text<()>, nodes: &[&Node], channel: &Channel) -> Result<
 }
 
 /// Whether the receiver of a channel takes messages of its sender.
-fn has_input(text: &Text<()>, nodes: &[&Node], channel: &Channel) -> bool
+fn has_input(text: &Text<(), ()>, nodes: &[&Node], channel: &Channel) -> bool
     ensures { result ≡ spec.has_input (text_of text.now).declarations (map (λ n. n.now) nodes.now) channel.now }
 {
     for node in nodes {
@@ -270,14 +270,14 @@ fn has_input(text: &Text<()>, nodes: &[&Node], channel: &Channel) -> bool
 }
 
 /// Whether a node is the receiver of a channel and takes messages of its sender.
-fn is_receiver(text: &Text<()>, node: &Node, channel: &Channel) -> bool
+fn is_receiver(text: &Text<(), ()>, node: &Node, channel: &Channel) -> bool
     ensures { result ≡ spec.is_receiver (text_of text.now).declarations channel.now node.now }
 {
     node.number == channel.to && node_takes_from(text, node, channel.from)
 }
 
 /// Whether the automaton of a node has a `receive` from a node.
-fn node_takes_from(text: &Text<()>, node: &Node, sender: i64) -> bool
+fn node_takes_from(text: &Text<(), ()>, node: &Node, sender: i64) -> bool
     ensures { result ≡ passes (spec.takes_from sender) (automaton_named node.now.automaton (text_of text.now).declarations) }
 {
     match automaton_of_name(&text.declarations, &node.automaton) {
@@ -288,10 +288,10 @@ fn node_takes_from(text: &Text<()>, node: &Node, sender: i64) -> bool
 
 /// The automaton that is placed on the node of a number.
 fn automaton_on<'a>(
-    text: &'a Text<()>,
+    text: &'a Text<(), ()>,
     nodes: &[&'a Node],
     number: i64,
-) -> Result<&'a Automaton<()>, Refusal>
+) -> Result<&'a Automaton<(), ()>, Refusal>
     ensures { IfOk result (λ a. (n : Node) × Contains (map (λ n. n.now) nodes.now) n × (n.number ≡ number)
         × (automaton_named n.automaton (map declaration_of text.entry.now.declarations.items)
         ≡ Some (automaton_of a.now))) }
@@ -320,9 +320,9 @@ fn node_of<'a>(nodes: &[&'a Node], number: i64) -> Option<&'a Node>
 
 /// The automaton of a name.
 fn automaton_of_name<'a>(
-    declarations: &'a [Declaration<()>],
+    declarations: &'a [Declaration<(), ()>],
     name: &Word,
-) -> Option<&'a Automaton<()>>
+) -> Option<&'a Automaton<(), ()>>
     ensures { option_map automaton_of (option_copied result)
         ≡ automaton_named name.now (map declaration_of declarations.entry.now) }
 {
@@ -338,7 +338,7 @@ fn automaton_of_name<'a>(
 /// The programs of the nodes, node 0 first.
 fn programs_of(
     alloc: Global,
-    text: &Text<()>,
+    text: &Text<(), ()>,
     nodes: &[&Node],
 ) -> Result<Vec<Arc<Program>>, Refusal>
     requires { map (λ n. n.now) nodes.now ≡ nodes_in text.now.system.items }
@@ -356,7 +356,7 @@ fn programs_of(
 /// The program of a node.
 fn node_program(
     alloc: Global,
-    text: &Text<()>,
+    text: &Text<(), ()>,
     nodes: &[&Node],
     place: usize,
 ) -> Result<Arc<Program>, Refusal>
@@ -372,7 +372,7 @@ fn node_program(
 
 /// Whether the sends of an automaton are from this node and its receives to it (profile): `send` has
 /// its node's number second, and `receive` third.
-fn is_at_home(automaton: &Automaton<()>, number: i64) -> bool
+fn is_at_home(automaton: &Automaton<(), ()>, number: i64) -> bool
     ensures { result ≡ list_all (spec.is_at_home number) (automaton_of automaton.now).signature }
 {
     for entry in &automaton.signature {
@@ -384,7 +384,7 @@ fn is_at_home(automaton: &Automaton<()>, number: i64) -> bool
 }
 
 /// Whether an entry is neither a `send` nor a `receive`, or one of this node.
-fn entry_is_at_home(entry: &Entry<()>, number: i64) -> bool
+fn entry_is_at_home(entry: &Entry<(), ()>, number: i64) -> bool
     ensures { result ≡ spec.is_at_home number (entry_of entry.now) }
 {
     if entry.name.as_str() == "send" && !has_constant(&entry.parameters, 1, number) {
@@ -397,7 +397,7 @@ fn entry_is_at_home(entry: &Entry<()>, number: i64) -> bool
 }
 
 /// Whether the parameter at a place is the constant of a number.
-fn has_constant(parameters: &[Parameter<()>], place: usize, number: i64) -> bool
+fn has_constant(parameters: &[Parameter<(), ()>], place: usize, number: i64) -> bool
     ensures { result ≡ spec.is_constant (slice_get (map parameter_of parameters.now) place) number }
 {
     match parameters.get(place) {
@@ -407,21 +407,20 @@ fn has_constant(parameters: &[Parameter<()>], place: usize, number: i64) -> bool
 }
 
 /// Whether a parameter is the constant of a number.
-fn is_constant(parameter: &Parameter<()>, number: i64) -> bool
+fn is_constant(parameter: &Parameter<(), ()>, number: i64) -> bool
     ensures { result ≡ spec.is_constant (Some (parameter_of parameter.now)) number }
 {
     match parameter {
         Parameter::Const(term) => match term {
             Tree::Number(n) => *n == number,
-            Tree::Name(_, _) => false,
-            Tree::Two(_, _, _) => false,
+            _ => false,
         },
         Parameter::Declared(_, _) => false,
     }
 }
 
 /// Whether an automaton has a `receive` from a node.
-fn takes_from(automaton: &Automaton<()>, sender: i64) -> bool
+fn takes_from(automaton: &Automaton<(), ()>, sender: i64) -> bool
     ensures { result ≡ spec.takes_from sender (automaton_of automaton.now) }
 {
     for entry in &automaton.signature {

@@ -1,39 +1,58 @@
 //! Terms and statements of a text, with each name's place beside it.
 
 ghost use Rattle.std.specs.Prelude.{◌≡◌, IfOk, OnOk, map, take, [], true};
-ghost use Rattle.std.specs.List.{list_all};
+ghost use Rattle.std.specs.List.{AllByRecursion, list_all, list_any};
 ghost use Rattle.std.specs.Option.{option_map, is_some};
+ghost use Rattle.ioa_source.specs.PlainTerm as plain;
 ghost use Rattle.ioa_source.specs.View.{term_of, place_of, statement_of};
-ghost use Rattle.ioa_source.specs.PlainTerm.{assign};
 ghost use Rattle.ioa_source.specs.TextView.{parameter_of, entry_of, variable_of, transition_of};
 ghost use Rattle.ioa_source.specs.Erasure.{erase_term, erase_place, erase_statement, erase_parameter, erase_entry, erase_variable};
-ghost use Rattle.ioa_terms.specs.Meaning.{IsPlaced, IsPlacedStatement, ArePlaced};
-ghost use Rattle.ioa_compose.specs.Placed.{IsPlacedGuard, IsPlacedParameter, ArePlacedParameters, ArePlacedTerms, IsPlacedFiring, ArePlacedFirings, IsPlacedPlace, ArePlacedVariables};
-ghost use Rattle.ioa_compose.specs.FirstSorts.{is_number, is_guard};
-ghost use Rattle.ioa_compose.specs.Rows.{writes_only, assigns_only, assigns_number, fires_numbers, is_number_constant, is_number_term, is_guard_or_none};
+ghost use Rattle.ioa_terms.specs.Placed.{IsPlaced, IsPlacedPlace, IsPlacedStatement, ArePlaced};
+ghost use Rattle.ioa_terms.specs.Bindings.{same_name};
+ghost use Rattle.ioa_terms.specs.Performance.{target_shape};
+ghost use Rattle.ioa_operators.specs.Shapes.{integers};
+ghost use Rattle.ioa_compose.specs.Placed.{IsPlacedGuard, IsPlacedParameter, ArePlacedParameters, ArePlacedTerms, IsPlacedFiring, ArePlacedFirings, ArePlacedVariables};
+ghost use Rattle.ioa_compose.specs.Made.{AssignsInteger};
+ghost use Rattle.ioa_compose.specs.FirstSorts.{is_first, is_number, is_guard};
+ghost use Rattle.ioa_compose.specs.Rows.{reads_only, reads_no_name, guard_reads_only, writes_only, assigns_only, assigns_number, fires_only, fires_numbers, is_number_constant, is_number_term, is_guard_or_none};
 
 use crate::refusal::{Refusal, Row};
 use crate::scope::Scope;
 use ioa_source::{Entry, Parameter, Variable};
-use ioa_terms::{BinaryOperator, Checked, Place, Statement, Term};
+use ioa_terms::{BinaryOperator, Checked, Place, Shape, Statement, Term, Word};
 use std::alloc::Global;
 
-/// A term with the places of its names among those in view.
+/// A term of the first form with the places of its names among those in view.
 pub(crate) fn place_term(alloc: Global, scope: &Scope, term: &Term) -> Result<Checked, Refusal>
     ensures same { IfOk result (λ t. erase_term (term_of t) ≡ term_of term.now) }
     ensures placed { IfOk result (λ t. IsPlaced (term_of t) scope.now) }
+    ensures names { OnOk result (reads_only scope.now (term_of term.now) ≡ true) }
 {
     match term {
         Term::Number(n) => Ok(Checked::Number(*n)),
-        Term::Name(name, _) => match scope.place_of(name) {
-            Some(at) => Ok(Checked::Name(name.try_copy(alloc)?, at)),
-            None => Err(Refusal::Row(Row::Unknown)),
-        },
+        Term::Name(name, _) => place_name(alloc, scope, name),
         Term::Two(operator, a, b) => {
+            if !is_first(*operator) {
+                return Err(Refusal::Row(Row::Unknown));
+            }
             let left = place_term(alloc, scope, a)?;
             let right = place_term(alloc, scope, b)?;
             Ok(Checked::Two(*operator, Box::new(alloc, left)?, Box::new(alloc, right)?))
         }
+        _ => Err(Refusal::Row(Row::Unknown)),
+    }
+}
+
+/// A name with its place among those in view.
+#[tactic(auto, using(crate::proofs::Names::any_place))]
+fn place_name(alloc: Global, scope: &Scope, name: &Word) -> Result<Checked, Refusal>
+    ensures same { IfOk result (λ t. erase_term (term_of t) ≡ plain.name name.now tt) }
+    ensures placed { IfOk result (λ t. IsPlaced (term_of t) scope.now) }
+    ensures names { OnOk result (list_any (same_name name.now) scope.now ≡ true) }
+{
+    match scope.place_of(name) {
+        Some(at) => Ok(Checked::Name(name.try_copy(alloc)?, at)),
+        None => Err(Refusal::Row(Row::Unknown)),
     }
 }
 
@@ -46,6 +65,7 @@ pub(crate) fn place_terms(
 ) -> Result<Vec<Checked>, Refusal>
     ensures same { IfOk result (λ ts. map erase_term (map term_of ts.items) ≡ map term_of terms.now) }
     ensures placed { IfOk result (λ ts. ArePlacedTerms (map term_of ts.items) scope.now) }
+    ensures names { OnOk result (list_all (reads_only scope.now) (map term_of terms.now) ≡ true) }
 {
     let mut placed = Vec::new(alloc);
     for term in terms {
@@ -60,18 +80,21 @@ fn place_target(
     alloc: Global,
     scope: &Scope,
     count: usize,
-    place: &Place<()>,
-) -> Result<Place<usize>, Refusal>
+    place: &Place<(), ()>,
+) -> Result<Place<usize, Shape>, Refusal>
     ensures same { IfOk result (λ p. erase_place (place_of p) ≡ place_of place.now) }
-    ensures placed { IfOk result (λ p. IsPlacedPlace (place_of p) scope.now) }
+    ensures placed { IfOk result (λ p. IsPlacedPlace (place_of p) scope.now scope.now) }
+    ensures shape { IfOk result (λ p. target_shape (place_of p) ≡ integers) }
     ensures written { OnOk result (writes_only (take count scope.now) (place_of place.now) ≡ true) }
 {
-    let Place::Variable(name, _) = place;
+    let Place::Variable(name, _, _) = place else {
+        return Err(Refusal::Row(Row::Unknown));
+    };
     let Some(at) = scope.place_of(name) else {
         return Err(Refusal::Row(Row::Unknown));
     };
     if at < count {
-        Ok(Place::Variable(name.try_copy(alloc)?, at))
+        Ok(Place::Variable(name.try_copy(alloc)?, at, Shape::Integers))
     } else {
         Err(Refusal::Row(Row::Unknown))
     }
@@ -82,16 +105,17 @@ fn place_assignment(
     alloc: Global,
     scope: &Scope,
     count: usize,
-    statement: &Statement<()>,
-) -> Result<Statement<usize>, Refusal>
+    statement: &Statement<(), ()>,
+) -> Result<Statement<usize, Shape>, Refusal>
     ensures same { IfOk result (λ s. erase_statement (statement_of s) ≡ statement_of statement.now) }
-    ensures placed { IfOk result (λ s. IsPlacedStatement (statement_of s) scope.now) }
+    ensures placed { IfOk result (λ s. IsPlacedStatement (statement_of s) scope.now scope.now) }
+    ensures shape { IfOk result (λ s. AssignsInteger (statement_of s)) }
     ensures number { OnOk result (assigns_number (statement_of statement.now) ≡ true) }
     ensures names { OnOk result (assigns_only (take count scope.now) scope.now (statement_of statement.now) ≡ true) }
 {
     match statement {
         Statement::Assign(place, term) => place_assigned(alloc, scope, count, place, term),
-        Statement::Fire(_, _, _) => Err(Refusal::Row(Row::Unknown)),
+        _ => Err(Refusal::Row(Row::Unknown)),
     }
 }
 
@@ -100,20 +124,21 @@ fn place_assigned(
     alloc: Global,
     scope: &Scope,
     count: usize,
-    place: &Place<()>,
+    place: &Place<(), ()>,
     term: &Term,
-) -> Result<Statement<usize>, Refusal>
-    ensures same { IfOk result (λ s. erase_statement (statement_of s) ≡ assign (place_of place.now) (term_of term.now)) }
-    ensures placed { IfOk result (λ s. IsPlacedStatement (statement_of s) scope.now) }
+) -> Result<Statement<usize, Shape>, Refusal>
+    ensures same { IfOk result (λ s. erase_statement (statement_of s) ≡ plain.assign (place_of place.now) (term_of term.now)) }
+    ensures placed { IfOk result (λ s. IsPlacedStatement (statement_of s) scope.now scope.now) }
+    ensures shape { IfOk result (λ s. AssignsInteger (statement_of s)) }
     ensures number { OnOk result (is_number (term_of term.now) ≡ true) }
-    ensures names { OnOk result (assigns_only (take count scope.now) scope.now (assign (place_of place.now) (term_of term.now)) ≡ true) }
+    ensures names { OnOk result (assigns_only (take count scope.now) scope.now (plain.assign (place_of place.now) (term_of term.now)) ≡ true) }
 {
+    let place = place_target(alloc, scope, count, place)?;
+    let value = place_term(alloc, scope, term)?;
     if !is_number(term) {
         return Err(Refusal::Row(Row::Sorts));
     }
-    let place = place_target(alloc, scope, count, place)?;
-    let term = place_term(alloc, scope, term)?;
-    Ok(Statement::Assign(place, term))
+    Ok(Statement::Assign(place, value))
 }
 
 /// The statements of an effect.
@@ -122,10 +147,11 @@ pub(crate) fn place_effect(
     alloc: Global,
     scope: &Scope,
     count: usize,
-    effect: &[Statement<()>],
-) -> Result<Vec<Statement<usize>>, Refusal>
+    effect: &[Statement<(), ()>],
+) -> Result<Vec<Statement<usize, Shape>>, Refusal>
     ensures same { IfOk result (λ ss. map erase_statement (map statement_of ss.items) ≡ map statement_of effect.now) }
-    ensures placed { IfOk result (λ ss. ArePlaced (map statement_of ss.items) scope.now) }
+    ensures placed { IfOk result (λ ss. ArePlaced (map statement_of ss.items) scope.now scope.now) }
+    ensures shapes { IfOk result (λ ss. AllByRecursion AssignsInteger (map statement_of ss.items)) }
     ensures numbers { OnOk result (list_all assigns_number (map statement_of effect.now) ≡ true) }
     ensures names { OnOk result (list_all (assigns_only (take count scope.now) scope.now) (map statement_of effect.now) ≡ true) }
 {
@@ -145,14 +171,16 @@ pub(crate) fn place_guard(
     ensures same { IfOk result (λ g. option_map erase_term (option_map term_of g) ≡ option_map term_of pre.now) }
     ensures placed { IfOk result (λ g. IsPlacedGuard (option_map term_of g) scope.now) }
     ensures sort { OnOk result (is_guard_or_none (option_map term_of pre.now) ≡ true) }
+    ensures names { OnOk result (guard_reads_only scope.now (option_map term_of pre.now) ≡ true) }
 {
     match pre {
         None => Ok(None),
         Some(guard) => {
+            let placed = place_term(alloc, scope, guard)?;
             if !is_guard(guard) {
                 return Err(Refusal::Row(Row::Sorts));
             }
-            Ok(Some(place_term(alloc, scope, guard)?))
+            Ok(Some(placed))
         }
     }
 }
@@ -161,22 +189,23 @@ pub(crate) fn place_guard(
 fn place_firing(
     alloc: Global,
     variables: &Scope,
-    statement: &Statement<()>,
-) -> Result<Statement<usize>, Refusal>
+    statement: &Statement<(), ()>,
+) -> Result<Statement<usize, Shape>, Refusal>
     ensures same { IfOk result (λ s. erase_statement (statement_of s) ≡ statement_of statement.now) }
     ensures placed { IfOk result (λ s. IsPlacedFiring (statement_of s) variables.now) }
     ensures numbers { OnOk result (fires_numbers (statement_of statement.now) ≡ true) }
+    ensures names { OnOk result (fires_only variables.now (statement_of statement.now) ≡ true) }
 {
     match statement {
-        Statement::Assign(_, _) => Err(Refusal::Row(Row::Unknown)),
         Statement::Fire(kind, name, arguments) => {
+            let name = name.try_copy(alloc)?;
+            let placed = place_terms(alloc, variables, arguments)?;
             if !are_numbers(arguments) {
                 return Err(Refusal::Row(Row::Sorts));
             }
-            let name = name.try_copy(alloc)?;
-            let arguments = place_terms(alloc, variables, arguments)?;
-            Ok(Statement::Fire(*kind, name, arguments))
+            Ok(Statement::Fire(*kind, name, placed))
         }
+        _ => Err(Refusal::Row(Row::Unknown)),
     }
 }
 
@@ -185,11 +214,12 @@ fn place_firing(
 pub(crate) fn place_schedule(
     alloc: Global,
     variables: &Scope,
-    schedule: &[Statement<()>],
-) -> Result<Vec<Statement<usize>>, Refusal>
+    schedule: &[Statement<(), ()>],
+) -> Result<Vec<Statement<usize, Shape>>, Refusal>
     ensures same { IfOk result (λ ss. map erase_statement (map statement_of ss.items) ≡ map statement_of schedule.now) }
     ensures placed { IfOk result (λ ss. ArePlacedFirings (map statement_of ss.items) variables.now) }
     ensures numbers { OnOk result (list_all fires_numbers (map statement_of schedule.now) ≡ true) }
+    ensures names { OnOk result (list_all (fires_only variables.now) (map statement_of schedule.now) ≡ true) }
 {
     let mut placed = Vec::new(alloc);
     for statement in schedule {
@@ -199,17 +229,22 @@ pub(crate) fn place_schedule(
 }
 
 /// A parameter; a constant one reads no name.
-fn place_parameter(alloc: Global, parameter: &Parameter<()>) -> Result<Parameter<usize>, Refusal>
+fn place_parameter(
+    alloc: Global,
+    parameter: &Parameter<(), ()>,
+) -> Result<Parameter<usize, Shape>, Refusal>
     ensures same { IfOk result (λ p. erase_parameter (parameter_of p) ≡ parameter_of parameter.now) }
     ensures placed { IfOk result (λ p. IsPlacedParameter (parameter_of p)) }
     ensures number { OnOk result (is_number_constant (parameter_of parameter.now) ≡ true) }
+    ensures names { OnOk result (reads_no_name (parameter_of parameter.now) ≡ true) }
 {
     match parameter {
         Parameter::Const(term) => {
+            let placed = place_term(alloc, &Scope::new(alloc), term)?;
             if !is_number(term) {
                 return Err(Refusal::Row(Row::Sorts));
             }
-            Ok(Parameter::Const(place_term(alloc, &Scope::new(alloc), term)?))
+            Ok(Parameter::Const(placed))
         }
         Parameter::Declared(name, sort) => Ok(Parameter::Declared(name.try_copy(alloc)?, *sort)),
     }
@@ -219,11 +254,12 @@ fn place_parameter(alloc: Global, parameter: &Parameter<()>) -> Result<Parameter
 #[tactic(auto, using(crate::proofs::Loops::each_push, crate::proofs::Loops::same_push))]
 fn place_parameters(
     alloc: Global,
-    parameters: &[Parameter<()>],
-) -> Result<Vec<Parameter<usize>>, Refusal>
+    parameters: &[Parameter<(), ()>],
+) -> Result<Vec<Parameter<usize, Shape>>, Refusal>
     ensures same { IfOk result (λ ps. map erase_parameter (map parameter_of ps.items) ≡ map parameter_of parameters.now) }
     ensures placed { IfOk result (λ ps. ArePlacedParameters (map parameter_of ps.items)) }
     ensures numbers { OnOk result (list_all is_number_constant (map parameter_of parameters.now) ≡ true) }
+    ensures names { OnOk result (list_all reads_no_name (map parameter_of parameters.now) ≡ true) }
 {
     let mut placed = Vec::new(alloc);
     for parameter in parameters {
@@ -233,10 +269,14 @@ fn place_parameters(
 }
 
 /// An entry of a signature.
-pub(crate) fn place_entry(alloc: Global, entry: &Entry<()>) -> Result<Entry<usize>, Refusal>
+pub(crate) fn place_entry(
+    alloc: Global,
+    entry: &Entry<(), ()>,
+) -> Result<Entry<usize, Shape>, Refusal>
     ensures same { IfOk result (λ e. erase_entry (entry_of e) ≡ entry_of entry.now) }
     ensures placed { IfOk result (λ e. ArePlacedParameters (entry_of e).parameters) }
     ensures numbers { OnOk result (list_all is_number_constant (entry_of entry.now).parameters ≡ true) }
+    ensures names { OnOk result (list_all reads_no_name (entry_of entry.now).parameters ≡ true) }
 {
     let name = entry.name.try_copy(alloc)?;
     let parameters = place_parameters(alloc, &entry.parameters)?;
@@ -248,24 +288,27 @@ pub(crate) fn place_entry(alloc: Global, entry: &Entry<()>) -> Result<Entry<usiz
 }
 
 /// A state variable; its initial term reads no name.
-fn place_variable(alloc: Global, variable: &Variable<()>) -> Result<Variable<usize>, Refusal>
+fn place_variable(
+    alloc: Global,
+    variable: &Variable<(), ()>,
+) -> Result<Variable<usize, Shape>, Refusal>
     ensures same { IfOk result (λ v. erase_variable (variable_of v) ≡ variable_of variable.now) }
     ensures placed { IfOk result (λ v. IsPlacedGuard (variable_of v).initial []) }
     ensures initial { OnOk result (is_some (variable_of variable.now).initial ≡ true) }
     ensures number { OnOk result (is_number_term (variable_of variable.now).initial ≡ true) }
+    ensures names { OnOk result (guard_reads_only [] (variable_of variable.now).initial ≡ true) }
 {
     let Some(initial) = &variable.initial else {
         return Err(Refusal::Row(Row::NoInitial));
     };
+    let placed = place_term(alloc, &Scope::new(alloc), initial)?;
     if !is_number(initial) {
         return Err(Refusal::Row(Row::Sorts));
     }
-    let name = variable.name.try_copy(alloc)?;
-    let initial = Some(place_term(alloc, &Scope::new(alloc), initial)?);
     Ok(Variable {
-        name,
+        name: variable.name.try_copy(alloc)?,
         sort: variable.sort,
-        initial,
+        initial: Some(placed),
     })
 }
 
@@ -273,12 +316,13 @@ fn place_variable(alloc: Global, variable: &Variable<()>) -> Result<Variable<usi
 #[tactic(auto, using(crate::proofs::Loops::each_push, crate::proofs::Loops::same_push))]
 pub(crate) fn place_variables(
     alloc: Global,
-    variables: &[Variable<()>],
-) -> Result<Vec<Variable<usize>>, Refusal>
+    variables: &[Variable<(), ()>],
+) -> Result<Vec<Variable<usize, Shape>>, Refusal>
     ensures same { IfOk result (λ vs. map erase_variable (map variable_of vs.items) ≡ map variable_of variables.now) }
     ensures placed { IfOk result (λ vs. ArePlacedVariables (map variable_of vs.items)) }
     ensures initials { OnOk result (list_all (λ v. is_some v.initial) (map variable_of variables.now) ≡ true) }
     ensures numbers { OnOk result (list_all (λ v. is_number_term v.initial) (map variable_of variables.now) ≡ true) }
+    ensures names { OnOk result (list_all (λ v. guard_reads_only [] v.initial) (map variable_of variables.now) ≡ true) }
 {
     let mut placed = Vec::new(alloc);
     for variable in variables {
@@ -308,8 +352,9 @@ fn is_number(term: &Term) -> bool
         Term::Name(_, _) => true,
         Term::Two(operator, a, b) => match operator {
             BinaryOperator::Plus => is_number(a) && is_number(b),
-            BinaryOperator::Equal => false,
+            _ => false,
         },
+        _ => false,
     }
 }
 
@@ -318,11 +363,20 @@ fn is_guard(term: &Term) -> bool
     ensures { result ≡ is_guard (term_of term.now) }
 {
     match term {
-        Term::Number(_) => false,
-        Term::Name(_, _) => false,
         Term::Two(operator, a, b) => match operator {
-            BinaryOperator::Plus => false,
             BinaryOperator::Equal => is_number(a) && is_number(b),
+            _ => false,
         },
+        _ => false,
+    }
+}
+
+/// Whether an operator is of the first form.
+fn is_first(operator: BinaryOperator) -> bool
+    ensures { result ≡ is_first operator }
+{
+    match operator {
+        BinaryOperator::Plus | BinaryOperator::Equal => true,
+        _ => false,
     }
 }

@@ -8,7 +8,7 @@ ghost use Rattle.ioa_compose.specs.Placed.{IsPlacedRule, ArePlacedFirings, varia
 
 use crate::scope::Scope;
 use ioa_source::{Entry, Transition, Variable};
-use ioa_terms::{Statement, Value};
+use ioa_terms::{Shape, Statement, Value};
 use std::marker::Model;
 
 /// An entry of a signature with its transition, and the names in view there: the state variables, and
@@ -16,9 +16,9 @@ use std::marker::Model;
 #[derive(Drop)]
 pub struct Rule {
     /// The entry.
-    pub entry: Entry<usize>,
+    pub entry: Entry<usize, Shape>,
     /// Its transition.
-    pub transition: Transition<usize>,
+    pub transition: Transition<usize, Shape>,
     /// The names that guard and effect may read, each at the place that stands beside it there.
     pub scope: Scope,
 }
@@ -28,9 +28,9 @@ pub struct Rule {
 pub struct Program {
     node: i64,
     rules: Vec<Rule>,
-    variables: Vec<Variable<usize>>,
+    variables: Vec<Variable<usize, Shape>>,
     initial: Vec<Value>,
-    schedule: Vec<Statement<usize>>,
+    schedule: Vec<Statement<usize, Shape>>,
 }
 
 impl Model for Program {
@@ -54,9 +54,9 @@ impl Program {
     pub(crate) fn new(
         node: i64,
         rules: Vec<Rule>,
-        variables: Vec<Variable<usize>>,
+        variables: Vec<Variable<usize, Shape>>,
         initial: Vec<Value>,
-        schedule: Vec<Statement<usize>>,
+        schedule: Vec<Statement<usize, Shape>>,
     ) -> Self
         requires rules { All (IsPlacedRule (map variable_of variables.items)) rules.items }
         requires valued { length initial.items ≡ length variables.items }
@@ -89,7 +89,7 @@ impl Program {
     }
 
     /// The state variables, in the order of their declaration.
-    pub fn variables(&self) -> &[Variable<usize>]
+    pub fn variables(&self) -> &[Variable<usize, Shape>]
         ensures { result.now ≡ self.now.variables }
     {
         self.variables.as_slice()
@@ -104,7 +104,7 @@ impl Program {
     }
 
     /// The statements of the schedule block.
-    pub fn schedule(&self) -> &[Statement<usize>]
+    pub fn schedule(&self) -> &[Statement<usize, Shape>]
         ensures value { result.now ≡ self.now.schedule }
         ensures placed { ArePlacedFirings (map statement_of result.now) (variable_names (map variable_of self.now.variables)) }
     {

@@ -9,14 +9,16 @@ ghost use Rattle.ioa_compose.specs.Data.{number};
 ghost use Rattle.ioa_compose.specs.Outcome.{Answers};
 ghost use Rattle.ioa_compose.specs.Placed.{IsPlacedRule, IsPlacedGuard, IsPlacedParameter, ArePlacedParameters};
 ghost use Rattle.ioa_compose.specs.NodeStep as spec;
-ghost use Rattle.ioa_terms.specs.Meaning.{ArePlaced, IsPlaced, answer, answer_by};
+ghost use Rattle.ioa_terms.specs.Meaning.{answer};
+ghost use Rattle.ioa_terms.specs.Performance.{answer_by};
+ghost use Rattle.ioa_terms.specs.Placed.{ArePlaced, IsPlaced};
 ghost use Rattle.ioa_terms.specs.Bindings.{names_of};
 
 use crate::fault::StepFault;
 use crate::program::{Program, Rule};
 use ioa_source::{Entry, Parameter};
 use ioa_terms::{
-    Action, Checked, Env, Kind, Statement, TermFault, Value, Word, copies, eval, perform,
+    Action, Checked, Env, Kind, Shape, Statement, TermFault, Value, Word, copies, eval, perform,
 };
 use std::alloc::{AllocError, Global};
 
@@ -84,7 +86,7 @@ fn kind_agrees(action: &Action, kind: Kind) -> bool
 /// Whether a value fits a parameter.
 fn parameter_agrees(
     alloc: Global,
-    parameter: &Parameter<usize>,
+    parameter: &Parameter<usize, Shape>,
     value: &Value,
 ) -> Result<bool, AllocError>
     requires { IsPlacedParameter (parameter_of parameter.now) }
@@ -112,7 +114,7 @@ fn is_constant(alloc: Global, term: &Checked, value: &Value) -> Result<bool, All
 /// Whether arguments fit an entry's parameters.
 fn arguments_agree(
     alloc: Global,
-    parameters: &[Parameter<usize>],
+    parameters: &[Parameter<usize, Shape>],
     arguments: &[Value],
 ) -> Result<bool, AllocError>
     requires { ArePlacedParameters (map parameter_of parameters.now) }
@@ -132,7 +134,7 @@ fn arguments_agree(
 /// Whether an action, with these arguments, is one of an entry's.
 fn entry_agrees(
     alloc: Global,
-    entry: &Entry<usize>,
+    entry: &Entry<usize, Shape>,
     action: &Action,
     arguments: &[Value],
 ) -> Result<bool, AllocError>
@@ -196,7 +198,7 @@ fn take_transition(
     variables: &[Value],
 ) -> Result<Vec<Value>, StepFault>
     requires guard { IsPlacedGuard (transition_of rule.now.transition).pre rule.now.scope }
-    requires effect { ArePlaced (transition_of rule.now.transition).effect rule.now.scope }
+    requires effect { ArePlaced (transition_of rule.now.transition).effect rule.now.scope rule.now.scope }
     requires named { length rule.now.scope
         ≡ length (variables.now ++ spec.own_values (entry_of rule.now.entry).parameters arguments.now) }
     ensures after { Answers StepFault.Memory (λ v. v.items) result
@@ -222,22 +224,22 @@ fn take_transition(
 }
 
 /// The values that an effect leaves, of the first `count` names.
-#[tactic(auto, using(crate::proofs::Arguments::left_by_zip))]
+#[tactic(auto, using(crate::proofs::Arguments::left_by_zip, ioa_terms::proofs::Places::no_constants))]
 fn take_effect(
     alloc: Global,
-    effect: &[Statement<usize>],
+    effect: &[Statement<usize, Shape>],
     scope: &[Word],
     values: Vec<Value>,
     count: usize,
 ) -> Result<Vec<Value>, StepFault>
-    requires placed { ArePlaced (map statement_of effect.now) scope.now }
+    requires placed { ArePlaced (map statement_of effect.now) scope.now scope.now }
     requires named { length scope.now ≡ length values.items }
     requires within { count ≤ length values.items }
     ensures after { Answers StepFault.Memory (λ v. v.items) result
         (spec.left_by count (answer_by (map statement_of effect.now) (zip scope.now values.items))) }
     ensures valued { IfOk result (λ v. length v.items ≡ count) }
 {
-    let mut left = perform(alloc, effect, scope, values)?;
+    let mut left = perform(alloc, effect, scope, &[], values)?;
     left.truncate(count);
     Ok(left)
 }
@@ -245,7 +247,7 @@ fn take_effect(
 /// The values of the state variables, and then those of the entry's own parameters.
 fn values_in_view(
     alloc: Global,
-    entry: &Entry<usize>,
+    entry: &Entry<usize, Shape>,
     arguments: &[Value],
     variables: &[Value],
 ) -> Result<Vec<Value>, AllocError>
@@ -263,7 +265,7 @@ fn values_in_view(
 fn push_own(
     alloc: Global,
     values: &mut Vec<Value>,
-    parameter: &Parameter<usize>,
+    parameter: &Parameter<usize, Shape>,
     argument: &Value,
 ) -> Result<(), AllocError>
     ensures { OnOk result

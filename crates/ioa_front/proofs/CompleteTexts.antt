@@ -7,12 +7,13 @@ use Rattle.ioa_tokens.specs.declared.mark.Mark.{Mark}
 use Rattle.ioa_tokens.specs.declared.mark.Mark.TheVariants as mark
 use Rattle.ioa_terms.specs.declared.tree.Kind.{Kind}
 use Rattle.ioa_terms.specs.declared.tree.Kind.TheVariants as kinds
-use Rattle.ioa_terms.specs.declared.tree.BinaryOperator.TheVariants as operator
+use Rattle.ioa_operators.specs.declared.operator.BinaryOperator.TheVariants as operator
 use Rattle.ioa_terms.specs.PlainTerm as plain
-use Rattle.ioa_source.specs.PlainText.{PlainText, automaton}
+use Rattle.ioa_source.specs.PlainText.{automaton}
 use Rattle.ioa_source.specs.declared.declaration.Placement.{Placement}
+use Rattle.ioa_source.specs.Sides.{SourceTerm as Term, SourceStatement as Statement, SourceEntry as Entry, SourceVariable as Variable, SourceTransition as Transition, SourceDeclaration as Declaration, SourceText}
 use Rattle.ioa_front.specs.Grammar as grammar
-use Rattle.ioa_front.specs.Grammar.{Term, Statement, Entry, Variable, Transition, Declaration, Call, action_name, Several, none, some, Separated, single, followed, Ended, last, closed, continued, Section, SpellsTerm, SpellsCall, SpellsKind, SpellsEntry, SpellsGroup, SpellsGroups, SpellsVariable, SpellsStatement, SpellsGuard, SpellsTransition, SpellsFire, SpellsBlock, SpellsDeclaration, SpellsPlacement, Spells}
+use Rattle.ioa_front.specs.Grammar.{Call, action_name, Several, none, some, Separated, single, followed, Ended, last, closed, continued, Section, SpellsTerm, SpellsCall, SpellsKind, SpellsEntry, SpellsGroup, SpellsGroups, SpellsVariable, SpellsStatement, SpellsGuard, SpellsTransition, SpellsFire, SpellsBlock, SpellsDeclaration, SpellsPlacement, Spells}
 use Rattle.ioa_front.specs.Reading as reading
 use Rattle.ioa_front.specs.Reading.{bind, choose, skip, expected, word, numeral, at, at_word, at_number, at_kind, at_placement}
 use Rattle.ioa_front.proofs.Steps.{read_next, stays}
@@ -31,7 +32,7 @@ transition_with k c g ss = record { kind = k; name = c.name; arguments = c.argum
 abbrev automaton_with : List ℕ → List Entry → List Variable → List Transition → List Statement → Declaration
 automaton_with w es vs ts ss = automaton (record { name = w; signature = es; states = vs; transitions = ts; schedule = ss })
 
-abbrev text_with : List Declaration → List Placement → PlainText (Unit {0})
+abbrev text_with : List Declaration → List Placement → SourceText
 text_with ds ps = record { declarations = ds; system = ps }
 
 -- terms
@@ -200,7 +201,7 @@ unfolding reading.variables
 variables_complete vs xs ys d h =
     separated_complete SpellsVariable 10 reading.variable variable_complete variable_shorter mark.Comma (omega arith) (nothing_skipped mark.Comma) vs xs ys d (omega arith) h
 
-assigned : (w : List ℕ) (t : Term) (xs ys : List Token) → reading.term 128 xs ≡ read_next t ys → reading.statement (token.Word w ∷ token.Mark mark.Assign ∷ xs) ≡ read_next (plain.assign (plain.variable w tt) t) ys
+assigned : (w : List ℕ) (t : Term) (xs ys : List Token) → reading.term 128 xs ≡ read_next t ys → reading.statement (token.Word w ∷ token.Mark mark.Assign ∷ xs) ≡ read_next (plain.assign (plain.variable w tt tt) t) ys
 unfolding reading.statement expected skip word bind
 assigned w t xs ys e = rw e refl
 
@@ -385,5 +386,5 @@ unfolding reading.whole reading.ended expected bind
 text_of ds ps xs us e f = rw e (rw (skip_same mark.System us) (rw f refl))
 
 -- a text is read as it is spelled
-pub whole_complete : (p : PlainText (Unit {0})) (xs : List Token) → Spells p xs → reading.whole xs ≡ read_next p []
+pub whole_complete : (p : SourceText) (xs : List Token) → Spells p xs → reading.whole xs ≡ read_next p []
 whole_complete _ xs (grammar.text {declarations = ds} {system = ps} {ys = us} dd pd) = text_of ds ps xs us (declared_complete ds xs _ dd (omega arith)) (placed_complete ps us pd)

@@ -2,7 +2,7 @@
 use Rattle.std.proofs.Common.{◌≡◌, ℕ, ◌+◌, ◌-◌, ◌<◌, ◌≤◌, true, false, List, None, refl, sym}
 use Rattle.ioa_tokens.specs.declared.token.Token.{Token}
 use Rattle.ioa_terms.specs.declared.tree.Kind.{Kind}
-use Rattle.ioa_front.specs.Grammar.{Entry}
+use Rattle.ioa_source.specs.Sides.{SourceEntry as Entry}
 use Rattle.ioa_front.specs.Reading.{groups_in, at_kind, kind, group, bind, choose}
 use Rattle.ioa_front.proofs.Lists.{read_next, left_less, none_left}
 

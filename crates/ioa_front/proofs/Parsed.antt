@@ -7,8 +7,8 @@ use Rattle.ioa_tokens.specs.declared.token.Placed.{Placed}
 use Rattle.ioa_tokens.specs.declared.fault.CutFault.{CutFault}
 use Rattle.ioa_tokens.specs.declared.fault.CutFault.TheVariants as cut
 use Rattle.ioa_tokens.specs.Tokens.{tokens}
-use Rattle.ioa_source.specs.PlainText.{PlainText}
 use Rattle.ioa_source.specs.TextView.{text_of}
+use Rattle.ioa_source.specs.Sides.{SourceText}
 use Rattle.ioa_front.specs.Grammar.{Spells}
 use Rattle.ioa_front.specs.Reading.{whole, declared, expected, skip, collected, bind}
 use Rattle.ioa_front.specs.Parsing.{Parses}
@@ -21,7 +21,7 @@ use Rattle.ioa_front.proofs.SoundTexts.{whole_sound}
 use Rattle.ioa_front.proofs.CompleteTexts.{whole_complete}
 
 -- tokens spell one source at most
-pub spelled_once : (p q : PlainText (Unit {0})) (xs : List Token) → Spells p xs → Spells q xs → p ≡ q
+pub spelled_once : (p q : SourceText) (xs : List Token) → Spells p xs → Spells q xs → p ≡ q
 spelled_once p q xs d e = (some_pair_parts p q [] [] (sym (whole_complete p xs d) ∙ whole_complete q xs e)).0
 
 ok_not_err : {X : Type 0} (x : List Placed) (e : CutFault) (r : Result (List Placed) CutFault) → r ≡ Ok x → r ≡ Err e → X
@@ -53,11 +53,11 @@ nothing_read : whole [] ≡ None
 unfolding whole declared expected skip collected bind
 nothing_read = refl
 
-something_read : {X : Type 0} (placed : List Placed) (r : PlainText (Unit {0}) × List Token) → [] ≡ placed → whole (bare placed) ≡ Some r → X
+something_read : {X : Type 0} (placed : List Placed) (r : SourceText × List Token) → [] ≡ placed → whole (bare placed) ≡ Some r → X
 something_read placed r same e = none_not_some r (whole (bare placed)) (rw (← same) nothing_read) e
 
 -- what is spelled is read
-read_as_spelled : (p : PlainText (Unit {0})) (placed other : List Placed) (r : Result (List Placed) CutFault) → r ≡ Ok placed → r ≡ Ok other → Spells p (bare other) → whole (bare placed) ≡ read_next p []
+read_as_spelled : (p : SourceText) (placed other : List Placed) (r : Result (List Placed) CutFault) → r ≡ Ok placed → r ≡ Ok other → Spells p (bare other) → whole (bare placed) ≡ read_next p []
 read_as_spelled p placed other r e f d = rw (same_ok placed other r e f) (whole_complete p (bare other) d)
 
 -- what is read is spelled
@@ -66,7 +66,7 @@ parses_found (Ok s) text h = let placed = h.1.0 in (placed, h.1.2, whole_sound (
 parses_found (Err e) text h = tt
 
 -- what is spelled is answered
-pub parses_only : (r : Result Source FrontFault) (text : List ℕ) → Parses r text → (p : PlainText (Unit {0})) → length text ≤ length_limit → TextSpells p text →
+pub parses_only : (r : Result Source FrontFault) (text : List ℕ) → Parses r text → (p : SourceText) → length text ≤ length_limit → TextSpells p text →
     MatchResult r (λ s. text_of s.text ≡ p) (λ e. e ≡ Memory)
 parses_only (Ok s) text h p l d =
     (some_pair_parts _ p h.1.1 [] (sym h.1.3 ∙ read_as_spelled p h.1.0 d.0 (tokens text) h.1.2 d.1 d.2)).0

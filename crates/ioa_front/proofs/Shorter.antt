@@ -5,8 +5,9 @@ use Rattle.ioa_tokens.specs.declared.mark.Mark.{Mark}
 use Rattle.ioa_tokens.specs.declared.mark.Mark.TheVariants as mark
 use Rattle.ioa_terms.specs.declared.tree.Kind.{Kind}
 use Rattle.ioa_source.specs.declared.declaration.Placement.{Placement}
+use Rattle.ioa_source.specs.Sides.{SourceTerm as Term, SourceStatement as Statement, SourceEntry as Entry, SourceVariable as Variable, SourceTransition as Transition, SourceDeclaration as Declaration}
 use Rattle.ioa_front.specs.Grammar as grammar
-use Rattle.ioa_front.specs.Grammar.{Term, Statement, Entry, Variable, Transition, Declaration, Call, Several, none, some, Separated, single, followed, Ended, last, closed, continued, Section, absent, present, SpellsTerm, SpellsCall, SpellsKind, SpellsEntry, SpellsGroup, SpellsGroups, SpellsVariable, SpellsStatement, SpellsGuard, SpellsTransition, SpellsFire, SpellsBlock, SpellsDeclaration, SpellsPlacement}
+use Rattle.ioa_front.specs.Grammar.{Call, Several, none, some, Separated, single, followed, Ended, last, closed, continued, Section, absent, present, SpellsTerm, SpellsCall, SpellsKind, SpellsEntry, SpellsGroup, SpellsGroups, SpellsVariable, SpellsStatement, SpellsGuard, SpellsTransition, SpellsFire, SpellsBlock, SpellsDeclaration, SpellsPlacement}
 
 module _ {A : Type 0} (X : A → List Token → List Token → Type 0) (shorter : (a : A) (xs ys : List Token) → X a xs ys → length ys < length xs) where
   pub several_shorter : {items : List A} {xs ys : List Token} → Several X items xs ys → length ys ≤ length xs

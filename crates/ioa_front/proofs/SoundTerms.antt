@@ -3,8 +3,9 @@ use Rattle.std.proofs.Common.{◌≡◌, ℕ, zero, suc, List}
 use Rattle.std.proofs.lemmas.Option.{some_pair_parts}
 use Rattle.ioa_tokens.specs.declared.token.Token.{Token}
 use Rattle.ioa_tokens.specs.declared.mark.Mark.TheVariants as mark
+use Rattle.ioa_source.specs.Sides.{SourceTerm as Term}
 use Rattle.ioa_front.specs.Grammar as grammar
-use Rattle.ioa_front.specs.Grammar.{Term, SpellsTerm, numeral, sum, brackets}
+use Rattle.ioa_front.specs.Grammar.{SpellsTerm, numeral, sum, brackets}
 use Rattle.ioa_front.specs.Reading.{atom, term}
 use Rattle.ioa_front.proofs.Steps.{read_next, chosen, bound, skip_taken, skip_left, expected_taken, word_taken, numeral_taken}
 

@@ -8,14 +8,14 @@ use Rattle.ioa_tokens.specs.declared.token.Token.TheVariants as token
 use Rattle.ioa_tokens.specs.declared.mark.Mark.TheVariants as mark
 use Rattle.ioa_terms.specs.declared.tree.Kind.{Kind}
 use Rattle.ioa_terms.specs.declared.tree.Kind.TheVariants as kinds
-use Rattle.ioa_terms.specs.declared.tree.BinaryOperator.TheVariants as operator
+use Rattle.ioa_operators.specs.declared.operator.BinaryOperator.TheVariants as operator
 use Rattle.ioa_terms.specs.PlainTerm as plain
 use Rattle.ioa_values.specs.declared.sort.Sort.TheVariants as sort
 use Rattle.ioa_source.specs.PlainText as trees
-use Rattle.ioa_source.specs.PlainText.{PlainParameter, PlainText}
 use Rattle.ioa_source.specs.declared.declaration.Placement.{Placement}
+use Rattle.ioa_source.specs.Sides.{SourceTerm as Term, SourceStatement as Statement, SourceEntry as Entry, SourceVariable as Variable, SourceTransition as Transition, SourceDeclaration as Declaration, SourceParameter, SourceText}
 use Rattle.ioa_front.specs.Grammar as grammar
-use Rattle.ioa_front.specs.Grammar.{Term, Statement, Entry, Variable, Transition, Declaration, Call, action_name, Several, Separated, Ended, Section, SpellsTerm, SpellsCall, SpellsKind, SpellsEntry, SpellsGroup, SpellsGroups, SpellsVariable, SpellsStatement, SpellsGuard, SpellsTransition, SpellsFire, SpellsBlock, SpellsDeclaration, SpellsPlacement, Spells}
+use Rattle.ioa_front.specs.Grammar.{Call, action_name, Several, Separated, Ended, Section, SpellsTerm, SpellsCall, SpellsKind, SpellsEntry, SpellsGroup, SpellsGroups, SpellsVariable, SpellsStatement, SpellsGuard, SpellsTransition, SpellsFire, SpellsBlock, SpellsDeclaration, SpellsPlacement, Spells}
 use Rattle.ioa_front.specs.Reading as reading
 use Rattle.ioa_front.specs.Reading.{skip, expected}
 use Rattle.ioa_front.proofs.Steps.{read_next, chosen, bound, skip_taken, skip_left, expected_taken, word_taken, numeral_taken}
@@ -93,10 +93,10 @@ action_taken k (token.Number n ∷ xs) r e = absurd cc
 action_taken k (token.LeftOut w ∷ xs) r e = absurd cc
 action_taken k [] r e = absurd cc
 
-abbrev Message : List Token → PlainParameter (Unit {0}) × List Token → Type 0
+abbrev Message : List Token → SourceParameter × List Token → Type 0
 Message xs r = (w : List ℕ) × (xs ≡ token.Word w ∷ token.Mark mark.Colon ∷ token.Mark mark.Int ∷ r.1) × (r.0 ≡ trees.named w sort.Int)
 
-message_taken : (xs : List Token) (r : PlainParameter (Unit {0}) × List Token) → reading.message xs ≡ Some r → Message xs r
+message_taken : (xs : List Token) (r : SourceParameter × List Token) → reading.message xs ≡ Some r → Message xs r
 unfolding reading.message
 message_taken xs r e =
     let P : Type 0 = Message xs r in
@@ -104,10 +104,10 @@ message_taken xs r e =
     let p = some_pair_parts _ _ _ _ done in
     (w.0, rw (word_taken xs w w_is, expected_taken mark.Colon w.1 c c_is, expected_taken mark.Int c.1 s s_is, ← p.1) refl, sym p.0))))
 
-abbrev Constant : List Token → PlainParameter (Unit {0}) × List Token → Type 0
+abbrev Constant : List Token → SourceParameter × List Token → Type 0
 Constant xs r = (n : ℤ) × (xs ≡ token.Mark mark.Comma ∷ token.Mark mark.Const ∷ token.Number n ∷ r.1) × (r.0 ≡ trees.const (plain.number n))
 
-constant_taken : (xs : List Token) (r : PlainParameter (Unit {0}) × List Token) → reading.constant xs ≡ Some r → Constant xs r
+constant_taken : (xs : List Token) (r : SourceParameter × List Token) → reading.constant xs ≡ Some r → Constant xs r
 unfolding reading.constant
 constant_taken xs r e =
     let P : Type 0 = Constant xs r in
@@ -115,10 +115,10 @@ constant_taken xs r e =
     let p = some_pair_parts _ _ _ _ done in
     (n.0, rw (expected_taken mark.Comma xs c c_is, expected_taken mark.Const c.1 k k_is, numeral_taken k.1 n n_is, ← p.1) refl, sym p.0))))
 
-abbrev entry_of : Kind → List ℕ → PlainParameter (Unit {0}) → PlainParameter (Unit {0}) → PlainParameter (Unit {0}) → Entry
+abbrev entry_of : Kind → List ℕ → SourceParameter → SourceParameter → SourceParameter → Entry
 entry_of k w message from to = record { kind = k; name = w; parameters = message ∷ from ∷ to ∷ [] }
 
-entry_at : {k : Kind} {x : Entry} {w m : List ℕ} {i j : ℤ} {message from to : PlainParameter (Unit {0})} {xs t₁ t₂ t₃ t₄ t₅ t₆ ys : List Token} →
+entry_at : {k : Kind} {x : Entry} {w m : List ℕ} {i j : ℤ} {message from to : SourceParameter} {xs t₁ t₂ t₃ t₄ t₅ t₆ ys : List Token} →
     xs ≡ token.Word w ∷ t₁ → action_name k ≡ Some w → t₁ ≡ token.Mark mark.OpenRound ∷ t₂ →
     t₂ ≡ token.Word m ∷ token.Mark mark.Colon ∷ token.Mark mark.Int ∷ t₃ → message ≡ trees.named m sort.Int →
     t₃ ≡ token.Mark mark.Comma ∷ token.Mark mark.Const ∷ token.Number i ∷ t₄ → from ≡ trees.const (plain.number i) →
@@ -320,7 +320,7 @@ ended_taken [] r e = refl
 ended_taken (x ∷ xs) r e = absurd cc
 
 -- what is read of a whole text is spelled
-pub whole_sound : (xs ys : List Token) (x : PlainText (Unit {0})) → reading.whole xs ≡ read_next x ys → Spells x xs
+pub whole_sound : (xs ys : List Token) (x : SourceText) → reading.whole xs ≡ read_next x ys → Spells x xs
 unfolding reading.whole
 whole_sound xs ys x e =
     let P : Type 0 = Spells x xs in

@@ -2,7 +2,7 @@
 use Rattle.std.proofs.Common.{◌≡◌, ℕ, suc, ◌-◌, List, Option, Some, refl, ap, ◌∙◌, arith}
 use Rattle.ioa_tokens.specs.declared.token.Token.{Token}
 use Rattle.ioa_tokens.specs.declared.mark.Mark.TheVariants as mark
-use Rattle.ioa_front.specs.Grammar.{Term}
+use Rattle.ioa_source.specs.Sides.{SourceTerm as Term}
 use Rattle.ioa_front.specs.Reading.{term, atom, skip, expected, ◌>>=◌, choose}
 
 abbrev pub opened : ℕ → List Token → Option (Term × List Token)

@@ -7,36 +7,13 @@ use Rattle.ioa_tokens.specs.declared.mark.Mark.{Mark}
 use Rattle.ioa_tokens.specs.declared.mark.Mark.TheVariants as mark
 use Rattle.ioa_terms.specs.declared.tree.Kind.{Kind}
 use Rattle.ioa_terms.specs.declared.tree.Kind.TheVariants as kind
-use Rattle.ioa_terms.specs.declared.tree.BinaryOperator.TheVariants as operator
+use Rattle.ioa_operators.specs.declared.operator.BinaryOperator.TheVariants as operator
 use Rattle.ioa_values.specs.declared.sort.Sort.TheVariants as sort
-use Rattle.ioa_source.specs.PlainTerm.{PlainTerm, number, name, two, variable, PlainStatement, assign, fire}
-use Rattle.ioa_source.specs.PlainText.{const, named, PlainEntry, PlainVariable, PlainTransition, PlainDeclaration, automaton, PlainText}
+use Rattle.ioa_source.specs.PlainTerm.{number, name, two, variable, assign, fire}
+use Rattle.ioa_source.specs.PlainText.{const, named, automaton}
 use Rattle.ioa_source.specs.declared.declaration.Placement.{Placement}
 use Rattle.ioa_source.specs.declared.declaration.Placement.TheVariants as placement
-
--- a term as it is spelled: nothing stands beside a name
-abbrev pub Term : Type 0
-Term = PlainTerm (Unit {0})
-
--- a statement as it is spelled
-abbrev pub Statement : Type 0
-Statement = PlainStatement (Unit {0})
-
--- an entry of a signature as it is spelled
-abbrev pub Entry : Type 0
-Entry = PlainEntry (Unit {0})
-
--- a state variable as it is spelled
-abbrev pub Variable : Type 0
-Variable = PlainVariable (Unit {0})
-
--- a transition as it is spelled
-abbrev pub Transition : Type 0
-Transition = PlainTransition (Unit {0})
-
--- what stands before the system as it is spelled
-abbrev pub Declaration : Type 0
-Declaration = PlainDeclaration (Unit {0})
+use Rattle.ioa_source.specs.Sides.{SourceTerm as Term, SourceStatement as Statement, SourceEntry as Entry, SourceVariable as Variable, SourceTransition as Transition, SourceDeclaration as Declaration, SourceText}
 
 -- {X}: any number of an X
 pub data Several {A : Type 0} (X : A → List Token → List Token → Type 0) : List A → List Token → List Token → Type 0 where
@@ -130,7 +107,7 @@ pub data SpellsVariable : Variable → List Token → List Token → Type 0 wher
 -- Statement: Word := Term
 pub data SpellsStatement : Statement → List Token → List Token → Type 0 where
   assignment : {w : List ℕ} {t : Term} {xs ys : List Token} → SpellsTerm bracket_limit t xs ys →
-      SpellsStatement (assign (variable w tt) t) (token.Word w ∷ token.Mark mark.Assign ∷ xs) ys
+      SpellsStatement (assign (variable w tt tt) t) (token.Word w ∷ token.Mark mark.Assign ∷ xs) ys
 
 -- [pre Word = Term [;]]
 pub data SpellsGuard : Option Term → List Token → List Token → Type 0 where
@@ -178,11 +155,11 @@ pub data SpellsPlacement : Placement → List Token → List Token → Type 0 wh
       (token.Mark mark.Channel ∷ token.Number i ∷ token.Mark mark.Arrow ∷ token.Number j ∷ xs) xs
 
 -- Text: {Automaton} system {Placement}, and then nothing more
-pub data Spells : PlainText (Unit {0}) → List Token → Type 0 where
+pub data Spells : SourceText → List Token → Type 0 where
   text : {declarations : List Declaration} {system : List Placement} {xs ys : List Token} →
       Several SpellsDeclaration declarations xs (token.Mark mark.System ∷ ys) → Several SpellsPlacement system ys [] →
       Spells (record { declarations = declarations; system = system }) xs
 
 -- some tokens spell a text
-abbrev pub IsSpelled : PlainText (Unit {0}) → Type 0
+abbrev pub IsSpelled : SourceText → Type 0
 IsSpelled p = (tokens : List Token) × Spells p tokens

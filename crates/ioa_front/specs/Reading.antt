@@ -10,14 +10,14 @@ use Rattle.ioa_tokens.specs.declared.mark.Mark.{Mark}
 use Rattle.ioa_tokens.specs.declared.mark.Mark.TheVariants as mark
 use Rattle.ioa_terms.specs.declared.tree.Kind.{Kind}
 use Rattle.ioa_terms.specs.declared.tree.Kind.TheVariants as kinds
-use Rattle.ioa_terms.specs.declared.tree.BinaryOperator.TheVariants as operator
+use Rattle.ioa_operators.specs.declared.operator.BinaryOperator.TheVariants as operator
 use Rattle.ioa_terms.specs.PlainTerm as plain
 use Rattle.ioa_values.specs.declared.sort.Sort.TheVariants as sort
 use Rattle.ioa_source.specs.PlainText as declarations
-use Rattle.ioa_source.specs.PlainText.{PlainParameter, PlainText}
 use Rattle.ioa_source.specs.declared.declaration.Placement.{Placement}
 use Rattle.ioa_source.specs.declared.declaration.Placement.TheVariants as placements
-use Rattle.ioa_front.specs.Grammar.{Term, Statement, Entry, Variable, Transition, Declaration, Call, action_name, bracket_limit, bracket_limit_in_call}
+use Rattle.ioa_source.specs.Sides.{SourceTerm as Term, SourceStatement as Statement, SourceEntry as Entry, SourceVariable as Variable, SourceTransition as Transition, SourceDeclaration as Declaration, SourceParameter, SourceText}
+use Rattle.ioa_front.specs.Grammar.{Call, action_name, bracket_limit, bracket_limit_in_call}
 
 -- one reading after another
 unfoldable pub bind : {A B : Type 0} → Option A → (A → Option B) → Option B
@@ -173,11 +173,11 @@ action k (token.LeftOut w ∷ xs) = None
 action k [] = None
 
 -- Word : Int
-unfoldable pub message : List Token → Option (PlainParameter (Unit {0}) × List Token)
+unfoldable pub message : List Token → Option (SourceParameter × List Token)
 message xs = word xs >>= λ w. expected mark.Colon w.1 >>= λ c. expected mark.Int c.1 >>= λ s. Some (declarations.named w.0 sort.Int, s.1)
 
 -- , const Number
-unfoldable pub constant : List Token → Option (PlainParameter (Unit {0}) × List Token)
+unfoldable pub constant : List Token → Option (SourceParameter × List Token)
 constant xs = expected mark.Comma xs >>= λ c. expected mark.Const c.1 >>= λ k. numeral k.1 >>= λ n. Some (declarations.const (plain.number n.0), n.1)
 
 -- Word ( Word : Int , const Number , const Number )
@@ -212,7 +212,7 @@ variables xs = several_more (skip mark.Comma) variable [] xs
 
 -- Word := Term
 unfoldable pub statement : List Token → Option (Statement × List Token)
-statement xs = word xs >>= λ w. expected mark.Assign w.1 >>= λ a. term bracket_limit a.1 >>= λ t. Some (plain.assign (plain.variable w.0 tt) t.0, t.1)
+statement xs = word xs >>= λ w. expected mark.Assign w.1 >>= λ a. term bracket_limit a.1 >>= λ t. Some (plain.assign (plain.variable w.0 tt tt) t.0, t.1)
 
 -- Statement {; Statement} [;]
 unfoldable pub statements : List Token → Option (List Statement × List Token)
@@ -312,7 +312,7 @@ ended [] = Some (tt, [])
 ended (x ∷ xs) = None
 
 -- a whole text
-unfoldable pub whole : List Token → Option (PlainText (Unit {0}) × List Token)
+unfoldable pub whole : List Token → Option (SourceText × List Token)
 whole xs =
     declared xs >>= λ d. expected mark.System d.1 >>= λ s. placed s.1 >>= λ p. ended p.1 >>= λ e.
     Some (record { declarations = d.0; system = p.0 }, e.1)

@@ -4,7 +4,7 @@ use Rattle.ioa_tokens.specs.declared.token.Token.{Token}
 use Rattle.ioa_tokens.specs.declared.token.Placed.{Placed}
 use Rattle.ioa_tokens.specs.declared.fault.CutFault.TheVariants as cut
 use Rattle.ioa_tokens.specs.Tokens.{tokens}
-use Rattle.ioa_source.specs.PlainText.{PlainText}
+use Rattle.ioa_source.specs.Sides.{SourceText}
 use Rattle.ioa_front.specs.Grammar.{Spells}
 use Rattle.ioa_front.specs.declared.fault.FrontFault.{FrontFault}
 use Rattle.ioa_front.specs.declared.fault.FrontFault.TheVariants.{Empty, BadCharacter, Unexpected, NumberTooLarge, TooLong, Memory}
@@ -18,7 +18,7 @@ abbrev pub bare : List Placed → List Token
 bare placed = map (λ p. p.token) placed
 
 -- the tokens of a text spell a source
-abbrev pub TextSpells : PlainText (Unit {0}) → List ℕ → Type 0
+abbrev pub TextSpells : SourceText → List ℕ → Type 0
 TextSpells p text = (placed : List Placed) × (tokens text ≡ Ok placed) × Spells p (bare placed)
 
 -- where a refusal stands: the length first, then the tokens, then the grammar. Memory may be refused anywhere.
@@ -27,7 +27,7 @@ Stands TooLong text = length_limit < length text
 Stands (BadCharacter place) text = (length text ≤ length_limit) × (tokens text ≡ Err (cut.BadCharacter place))
 Stands (NumberTooLarge place) text = (length text ≤ length_limit) × (tokens text ≡ Err (cut.NumberTooLarge place))
 Stands Empty text = (length text ≤ length_limit) × (tokens text ≡ Ok [])
-Stands (Unexpected place) text = (length text ≤ length_limit) × ((p : PlainText (Unit {0})) → TextSpells p text → ⊥)
+Stands (Unexpected place) text = (length text ≤ length_limit) × ((p : SourceText) → TextSpells p text → ⊥)
 Stands Memory text = Unit {0}
 
 -- the refusals that come wherever they stand, with their places

@@ -17,7 +17,7 @@ use std::alloc::Global;
 
 /// Word `:` `Int` `:=` Number
 #[tactic(auto, unfolding(crate::specs::Reading::variable, crate::specs::Reading::bind))]
-fn variable(alloc: Global, tokens: &mut Tokens<'_>) -> Result<Variable<()>, Unread>
+fn variable(alloc: Global, tokens: &mut Tokens<'_>) -> Result<Variable<(), ()>, Unread>
     ensures { Reads variable_of (spec.variable tokens.old) result tokens.new }
 {
     let name = tokens.word(alloc)?;
@@ -34,7 +34,7 @@ fn variable(alloc: Global, tokens: &mut Tokens<'_>) -> Result<Variable<()>, Unre
 
 /// Variable {`,` Variable}
 #[tactic(auto, unfolding(crate::specs::Reading::variables, crate::specs::Reading::bind))]
-fn variables(alloc: Global, tokens: &mut Tokens<'_>) -> Result<Vec<Variable<()>>, Unread>
+fn variables(alloc: Global, tokens: &mut Tokens<'_>) -> Result<Vec<Variable<(), ()>>, Unread>
     ensures { Reads (λ v. map variable_of v.items) (spec.variables tokens.old) result tokens.new }
 {
     let mut variables = Vec::new(alloc);
@@ -50,18 +50,18 @@ fn variables(alloc: Global, tokens: &mut Tokens<'_>) -> Result<Vec<Variable<()>>
 
 /// Word `:=` Term
 #[tactic(auto, unfolding(crate::specs::Reading::statement, crate::specs::Reading::bind))]
-fn statement(alloc: Global, tokens: &mut Tokens<'_>) -> Result<Statement<()>, Unread>
+fn statement(alloc: Global, tokens: &mut Tokens<'_>) -> Result<Statement<(), ()>, Unread>
     ensures { Reads statement_of (spec.statement tokens.old) result tokens.new }
 {
     let name = tokens.word(alloc)?;
     tokens.expect(Mark::Assign)?;
     let value = term(alloc, tokens, BRACKET_LIMIT)?;
-    Ok(Statement::Assign(Place::Variable(name, ()), value))
+    Ok(Statement::Assign(Place::Variable(name, (), ()), value))
 }
 
 /// Statement {`;` Statement} [`;`]
 #[tactic(auto, unfolding(crate::specs::Reading::statements, crate::specs::Reading::bind))]
-fn statements(alloc: Global, tokens: &mut Tokens<'_>) -> Result<Vec<Statement<()>>, Unread>
+fn statements(alloc: Global, tokens: &mut Tokens<'_>) -> Result<Vec<Statement<(), ()>>, Unread>
     ensures { Reads (λ v. map statement_of v.items) (spec.statements tokens.old) result tokens.new }
 {
     let mut statements = Vec::new(alloc);
@@ -77,7 +77,7 @@ fn statements(alloc: Global, tokens: &mut Tokens<'_>) -> Result<Vec<Statement<()
 
 /// [`eff` Statements]
 #[tactic(auto, unfolding(crate::specs::Reading::effect, crate::specs::Reading::choose))]
-fn effect(alloc: Global, tokens: &mut Tokens<'_>) -> Result<Vec<Statement<()>>, Unread>
+fn effect(alloc: Global, tokens: &mut Tokens<'_>) -> Result<Vec<Statement<(), ()>>, Unread>
     ensures { Reads (λ v. map statement_of v.items) (spec.effect tokens.old) result tokens.new }
 {
     if !tokens.skip(Mark::Eff) {
@@ -105,7 +105,7 @@ fn guard(alloc: Global, tokens: &mut Tokens<'_>) -> Result<Option<Term>, Unread>
 
 /// Kind Call [`pre` Word `=` Term [`;`]] [`eff` Statements]
 #[tactic(auto, unfolding(crate::specs::Reading::transition, crate::specs::Reading::bind))]
-fn transition(alloc: Global, tokens: &mut Tokens<'_>) -> Result<Transition<()>, Unread>
+fn transition(alloc: Global, tokens: &mut Tokens<'_>) -> Result<Transition<(), ()>, Unread>
     ensures { Reads transition_of (spec.transition tokens.old) result tokens.new }
 {
     let kind = kind(tokens)?;
@@ -123,7 +123,7 @@ fn transition(alloc: Global, tokens: &mut Tokens<'_>) -> Result<Transition<()>, 
 
 /// {Transition}
 #[tactic(auto, unfolding(crate::specs::Reading::transitions))]
-fn transitions(alloc: Global, tokens: &mut Tokens<'_>) -> Result<Vec<Transition<()>>, Unread>
+fn transitions(alloc: Global, tokens: &mut Tokens<'_>) -> Result<Vec<Transition<(), ()>>, Unread>
     ensures { Reads (λ v. map transition_of v.items) (spec.transitions tokens.old) result tokens.new }
 {
     let mut transitions = Vec::new(alloc);
@@ -138,7 +138,7 @@ fn transitions(alloc: Global, tokens: &mut Tokens<'_>) -> Result<Vec<Transition<
 
 /// `fire` Call
 #[tactic(auto, unfolding(crate::specs::Reading::firing, crate::specs::Reading::bind))]
-fn firing(alloc: Global, tokens: &mut Tokens<'_>) -> Result<Statement<()>, Unread>
+fn firing(alloc: Global, tokens: &mut Tokens<'_>) -> Result<Statement<(), ()>, Unread>
     ensures { Reads statement_of (spec.firing tokens.old) result tokens.new }
 {
     tokens.expect(Mark::Fire)?;
@@ -148,7 +148,7 @@ fn firing(alloc: Global, tokens: &mut Tokens<'_>) -> Result<Statement<()>, Unrea
 
 /// Fire {`;` Fire} [`;`]
 #[tactic(auto, unfolding(crate::specs::Reading::firings, crate::specs::Reading::bind))]
-fn firings(alloc: Global, tokens: &mut Tokens<'_>) -> Result<Vec<Statement<()>>, Unread>
+fn firings(alloc: Global, tokens: &mut Tokens<'_>) -> Result<Vec<Statement<(), ()>>, Unread>
     ensures { Reads (λ v. map statement_of v.items) (spec.firings tokens.old) result tokens.new }
 {
     let mut firings = Vec::new(alloc);
@@ -164,7 +164,7 @@ fn firings(alloc: Global, tokens: &mut Tokens<'_>) -> Result<Vec<Statement<()>>,
 
 /// `do` [Fire {`;` Fire} [`;`]] `od`
 #[tactic(auto, unfolding(crate::specs::Reading::block, crate::specs::Reading::bind, crate::specs::Reading::choose))]
-fn block(alloc: Global, tokens: &mut Tokens<'_>) -> Result<Vec<Statement<()>>, Unread>
+fn block(alloc: Global, tokens: &mut Tokens<'_>) -> Result<Vec<Statement<(), ()>>, Unread>
     ensures { Reads (λ v. map statement_of v.items) (spec.block tokens.old) result tokens.new }
 {
     tokens.expect(Mark::Do)?;
@@ -178,7 +178,7 @@ fn block(alloc: Global, tokens: &mut Tokens<'_>) -> Result<Vec<Statement<()>>, U
 
 /// [`states` Variables]
 #[tactic(auto, unfolding(crate::specs::Reading::states_part, crate::specs::Reading::choose))]
-fn states_part(alloc: Global, tokens: &mut Tokens<'_>) -> Result<Vec<Variable<()>>, Unread>
+fn states_part(alloc: Global, tokens: &mut Tokens<'_>) -> Result<Vec<Variable<(), ()>>, Unread>
     ensures { Reads (λ v. map variable_of v.items) (spec.states_part tokens.old) result tokens.new }
 {
     if !tokens.skip(Mark::States) {
@@ -189,7 +189,10 @@ fn states_part(alloc: Global, tokens: &mut Tokens<'_>) -> Result<Vec<Variable<()
 
 /// [`transitions` {Transition}]
 #[tactic(auto, unfolding(crate::specs::Reading::transitions_part, crate::specs::Reading::choose))]
-fn transitions_part(alloc: Global, tokens: &mut Tokens<'_>) -> Result<Vec<Transition<()>>, Unread>
+fn transitions_part(
+    alloc: Global,
+    tokens: &mut Tokens<'_>,
+) -> Result<Vec<Transition<(), ()>>, Unread>
     ensures { Reads (λ v. map transition_of v.items) (spec.transitions_part tokens.old) result tokens.new }
 {
     if !tokens.skip(Mark::Transitions) {
@@ -200,7 +203,7 @@ fn transitions_part(alloc: Global, tokens: &mut Tokens<'_>) -> Result<Vec<Transi
 
 /// [`schedule` Block]
 #[tactic(auto, unfolding(crate::specs::Reading::schedule_part, crate::specs::Reading::choose))]
-fn schedule_part(alloc: Global, tokens: &mut Tokens<'_>) -> Result<Vec<Statement<()>>, Unread>
+fn schedule_part(alloc: Global, tokens: &mut Tokens<'_>) -> Result<Vec<Statement<(), ()>>, Unread>
     ensures { Reads (λ v. map statement_of v.items) (spec.schedule_part tokens.old) result tokens.new }
 {
     if !tokens.skip(Mark::Schedule) {
@@ -211,7 +214,7 @@ fn schedule_part(alloc: Global, tokens: &mut Tokens<'_>) -> Result<Vec<Statement
 
 /// `automaton` Word [Signature] [States] [Transitions] [Schedule]
 #[tactic(auto, unfolding(crate::specs::Reading::declaration, crate::specs::Reading::bind))]
-fn declaration(alloc: Global, tokens: &mut Tokens<'_>) -> Result<Declaration<()>, Unread>
+fn declaration(alloc: Global, tokens: &mut Tokens<'_>) -> Result<Declaration<(), ()>, Unread>
     ensures { Reads declaration_of (spec.declaration tokens.old) result tokens.new }
 {
     tokens.expect(Mark::Automaton)?;
@@ -234,7 +237,7 @@ fn declaration(alloc: Global, tokens: &mut Tokens<'_>) -> Result<Declaration<()>
 pub(crate) fn declarations(
     alloc: Global,
     tokens: &mut Tokens<'_>,
-) -> Result<Vec<Declaration<()>>, Unread>
+) -> Result<Vec<Declaration<(), ()>>, Unread>
     ensures { Reads (λ v. map declaration_of v.items) (spec.declared tokens.old) result tokens.new }
 {
     let mut declarations = Vec::new(alloc);

@@ -5,7 +5,7 @@ ghost use Rattle.ioa_front.specs.Grammar.{Spells};
 ghost use Rattle.ioa_front.specs.Parsing.{Parses};
 ghost use Rattle.ioa_front.specs.Texts.{length_limit, TextSpells, Stands, is_exact};
 ghost use Rattle.ioa_front.specs.declared.fault.FrontFault.{FrontFault};
-ghost use Rattle.ioa_source.specs.PlainText.{PlainText};
+ghost use Rattle.ioa_source.specs.Sides.{SourceText};
 ghost use Rattle.ioa_source.specs.TextView.{text_of};
 ghost use Rattle.ioa_tokens.specs.declared.token.Token.{Token};
 
@@ -50,12 +50,12 @@ pub fn parse(alloc: Global, text: &str) -> Result<Source, FrontFault>
     ensures found { IfOk result (λ s. TextSpells (text_of s.text) text.now) }
     ensures refused { IfErr result (λ e. Stands e text.now) }
     ensures exact { (e : FrontFault) → is_exact e ≡ true → Stands e text.now → MatchResult result (λ _. ⊥) (λ f. (f ≡ FrontFault.Memory) ⊎ (f ≡ e)) }
-    ensures only { (p : PlainText (Unit {0})) → length text.now ≤ length_limit → TextSpells p text.now → MatchResult result (λ s. text_of s.text ≡ p) (λ e. e ≡ FrontFault.Memory) }
+    ensures only { (p : SourceText) → length text.now ≤ length_limit → TextSpells p text.now → MatchResult result (λ s. text_of s.text ≡ p) (λ e. e ≡ FrontFault.Memory) }
 {
     read(alloc, text)
 }
 
 /// The law that tokens spell one source at most.
 pub fn one_source()
-    ensures { (p q : PlainText (Unit {0})) (tokens : List Token) → Spells p tokens → Spells q tokens → p ≡ q }
+    ensures { (p q : SourceText) (tokens : List Token) → Spells p tokens → Spells q tokens → p ≡ q }
 {}

@@ -34,7 +34,7 @@ pub(crate) fn kind(tokens: &mut Tokens<'_>) -> Result<Kind, Unread>
 
 /// Word `:` `Int`
 #[tactic(auto, unfolding(crate::specs::Reading::message, crate::specs::Reading::bind))]
-fn message(alloc: Global, tokens: &mut Tokens<'_>) -> Result<Parameter<()>, Unread>
+fn message(alloc: Global, tokens: &mut Tokens<'_>) -> Result<Parameter<(), ()>, Unread>
     ensures { Reads parameter_of (spec.message tokens.old) result tokens.new }
 {
     let name = tokens.word(alloc)?;
@@ -45,7 +45,7 @@ fn message(alloc: Global, tokens: &mut Tokens<'_>) -> Result<Parameter<()>, Unre
 
 /// `,` `const` Number
 #[tactic(auto, unfolding(crate::specs::Reading::constant, crate::specs::Reading::bind))]
-fn constant(tokens: &mut Tokens<'_>) -> Result<Parameter<()>, Unread>
+fn constant(tokens: &mut Tokens<'_>) -> Result<Parameter<(), ()>, Unread>
     ensures { Reads parameter_of (spec.constant tokens.old) result tokens.new }
 {
     tokens.expect(Mark::Comma)?;
@@ -56,7 +56,7 @@ fn constant(tokens: &mut Tokens<'_>) -> Result<Parameter<()>, Unread>
 
 /// Word `(` Word `:` `Int` `,` `const` Number `,` `const` Number `)`
 #[tactic(auto, unfolding(crate::specs::Reading::entry, crate::specs::Reading::bind))]
-fn entry(alloc: Global, tokens: &mut Tokens<'_>, kind: Kind) -> Result<Entry<()>, Unread>
+fn entry(alloc: Global, tokens: &mut Tokens<'_>, kind: Kind) -> Result<Entry<(), ()>, Unread>
     ensures { Reads entry_of (spec.entry kind tokens.old) result tokens.new }
 {
     let name = tokens.action(alloc, kind)?;
@@ -82,8 +82,8 @@ fn group(
     alloc: Global,
     tokens: &mut Tokens<'_>,
     kind: Kind,
-    mut entries: Vec<Entry<()>>,
-) -> Result<Vec<Entry<()>>, Unread>
+    mut entries: Vec<Entry<(), ()>>,
+) -> Result<Vec<Entry<(), ()>>, Unread>
     ensures { Reads (λ v. map entry_of v.items) (spec.group kind (map entry_of entries.items) tokens.old) result tokens.new }
 {
     entries.push(entry(alloc, tokens, kind)?)?;
@@ -98,7 +98,7 @@ fn group(
 
 /// {Kind Entry {`,` Entry} [`,`]}
 #[tactic(auto, unfolding(crate::specs::Reading::groups))]
-fn groups(alloc: Global, tokens: &mut Tokens<'_>) -> Result<Vec<Entry<()>>, Unread>
+fn groups(alloc: Global, tokens: &mut Tokens<'_>) -> Result<Vec<Entry<(), ()>>, Unread>
     ensures { Reads (λ v. map entry_of v.items) (spec.groups tokens.old) result tokens.new }
 {
     let mut entries = Vec::new(alloc);
@@ -117,7 +117,7 @@ fn groups(alloc: Global, tokens: &mut Tokens<'_>) -> Result<Vec<Entry<()>>, Unre
 pub(crate) fn signature_part(
     alloc: Global,
     tokens: &mut Tokens<'_>,
-) -> Result<Vec<Entry<()>>, Unread>
+) -> Result<Vec<Entry<(), ()>>, Unread>
     ensures { Reads (λ v. map entry_of v.items) (spec.signature_part tokens.old) result tokens.new }
 {
     if !tokens.skip(Mark::Signature) {

@@ -7,15 +7,15 @@ ghost use Rattle.ioa_source.specs.TextView.{text_of};
 use ioa_source::Text;
 
 /// What a text spells. Each value is spelled by some tokens; `parse` makes them. Source: profile.
-#[derive(Debug, Drop)]
+#[derive(Drop)]
 pub struct Source {
-    text: Text<()>,
+    text: Text<(), ()>,
     ghost spelled: { ∥ IsSpelled (text_of text) ∥₁ },
 }
 
 impl Source {
     /// The source of a tree that some tokens spell.
-    pub(crate) fn new(text: Text<()>) -> Self
+    pub(crate) fn new(text: Text<(), ()>) -> Self
         requires { ∥ IsSpelled (text_of text) ∥₁ }
         ensures { result.text ≡ text }
     {
@@ -23,7 +23,7 @@ impl Source {
     }
 
     /// The tree.
-    pub fn text(&self) -> &Text<()>
+    pub fn text(&self) -> &Text<(), ()>
         ensures same { result.now ≡ self.now.text }
         ensures spelled { ∥ IsSpelled (text_of result.now) ∥₁ }
     {

@@ -72,7 +72,7 @@ fn placements(alloc: Global, tokens: &mut Tokens<'_>) -> Result<Vec<Placement>, 
 
 /// {Automaton} `system` {Node or Channel}, and then the end
 #[tactic(auto, unfolding(crate::specs::Reading::whole, crate::specs::Reading::bind))]
-pub(crate) fn whole(alloc: Global, tokens: &mut Tokens<'_>) -> Result<Text<()>, Unread>
+pub(crate) fn whole(alloc: Global, tokens: &mut Tokens<'_>) -> Result<Text<(), ()>, Unread>
     ensures { Reads text_of (spec.whole tokens.old) result tokens.new }
 {
     let declarations = declarations(alloc, tokens)?;

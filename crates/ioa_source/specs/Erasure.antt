@@ -1,33 +1,58 @@
--- A checked text without what stands beside its names: the text as it is spelled.
-use Rattle.std.specs.Prelude.{List, Option, map}
+-- A checked text without what stands beside its names, displays, fields and assigned variables: the text as it is
+-- spelled.
+use Rattle.std.specs.Prelude.{map}
 use Rattle.std.specs.Option.{option_map}
-use Rattle.ioa_source.specs.PlainTerm.{PlainTerm, number, name, two, PlainPlace, variable, PlainStatement, assign, fire}
+use Rattle.ioa_source.specs.PlainTerm.{PlainTerm, PlainTerms, number, truth, name, one, two, call, display, field, no_terms, term, PlainPlace, variable, at_key, at_field, PlainStatement, PlainStatements, PlainArms, assign, choose, fire, no_statements, statement, no_arms, arm}
 use Rattle.ioa_source.specs.PlainText.{PlainParameter, const, named, PlainEntry, PlainVariable, PlainTransition, PlainAutomaton, PlainDeclaration, automaton, PlainText}
+use Rattle.ioa_source.specs.Sides.{SourceTerm, SourceTerms, SourcePlace, SourceStatement, SourceStatements, SourceArms, SourceParameter, SourceEntry, SourceVariable, SourceTransition, SourceAutomaton, SourceDeclaration, SourceText}
 
--- a term without annotations
-abbrev pub erase_term : {N : Type 0} → PlainTerm N → PlainTerm (Unit {0})
-erase_term (number n) = number n
-erase_term (name w x) = name w tt
-erase_term (two op a b) = two op (erase_term a) (erase_term b)
+abbrev mutual
+  -- a term without annotations
+  pub erase_term : {N D : Type 0} → PlainTerm N D → SourceTerm
+  erase_term (number n) = number n
+  erase_term (truth b) = truth b
+  erase_term (name w x) = name w tt
+  erase_term (one op a) = one op (erase_term a)
+  erase_term (two op a b) = two op (erase_term a) (erase_term b)
+  erase_term (call w ts) = call w (erase_terms ts)
+  erase_term (display form d ts) = display form tt (erase_terms ts)
+  erase_term (field a w d) = field (erase_term a) w tt
 
-abbrev pub erase_place : {N : Type 0} → PlainPlace N → PlainPlace (Unit {0})
-erase_place (variable w x) = variable w tt
+  -- terms without annotations
+  pub erase_terms : {N D : Type 0} → PlainTerms N D → SourceTerms
+  erase_terms no_terms = no_terms
+  erase_terms (term t more) = term (erase_term t) (erase_terms more)
 
-abbrev pub erase_statement : {N : Type 0} → PlainStatement N → PlainStatement (Unit {0})
-erase_statement (assign p t) = assign (erase_place p) (erase_term t)
-erase_statement (fire k w ts) = fire k w (map erase_term ts)
+abbrev pub erase_place : {N D : Type 0} → PlainPlace N D → SourcePlace
+erase_place (variable w x d) = variable w tt tt
+erase_place (at_key w x d t) = at_key w tt tt (erase_term t)
+erase_place (at_field w x d f) = at_field w tt tt f
 
-abbrev pub erase_parameter : {N : Type 0} → PlainParameter N → PlainParameter (Unit {0})
+abbrev mutual
+  pub erase_statement : {N D : Type 0} → PlainStatement N D → SourceStatement
+  erase_statement (assign p t) = assign (erase_place p) (erase_term t)
+  erase_statement (choose arms rest) = choose (erase_arms arms) (erase_statements rest)
+  erase_statement (fire k w ts) = fire k w (map erase_term ts)
+
+  pub erase_statements : {N D : Type 0} → PlainStatements N D → SourceStatements
+  erase_statements no_statements = no_statements
+  erase_statements (statement s more) = statement (erase_statement s) (erase_statements more)
+
+  pub erase_arms : {N D : Type 0} → PlainArms N D → SourceArms
+  erase_arms no_arms = no_arms
+  erase_arms (arm t ss more) = arm (erase_term t) (erase_statements ss) (erase_arms more)
+
+abbrev pub erase_parameter : {N D : Type 0} → PlainParameter N D → SourceParameter
 erase_parameter (const t) = const (erase_term t)
 erase_parameter (named w s) = named w s
 
-abbrev pub erase_entry : {N : Type 0} → PlainEntry N → PlainEntry (Unit {0})
+abbrev pub erase_entry : {N D : Type 0} → PlainEntry N D → SourceEntry
 erase_entry e = record { kind = e.kind; name = e.name; parameters = map erase_parameter e.parameters }
 
-abbrev pub erase_variable : {N : Type 0} → PlainVariable N → PlainVariable (Unit {0})
+abbrev pub erase_variable : {N D : Type 0} → PlainVariable N D → SourceVariable
 erase_variable v = record { name = v.name; sort = v.sort; initial = option_map erase_term v.initial }
 
-abbrev pub erase_transition : {N : Type 0} → PlainTransition N → PlainTransition (Unit {0})
+abbrev pub erase_transition : {N D : Type 0} → PlainTransition N D → SourceTransition
 erase_transition t = record {
   kind = t.kind;
   name = t.name;
@@ -36,7 +61,7 @@ erase_transition t = record {
   effect = map erase_statement t.effect;
 }
 
-abbrev pub erase_automaton : {N : Type 0} → PlainAutomaton N → PlainAutomaton (Unit {0})
+abbrev pub erase_automaton : {N D : Type 0} → PlainAutomaton N D → SourceAutomaton
 erase_automaton a = record {
   name = a.name;
   signature = map erase_entry a.signature;
@@ -45,8 +70,8 @@ erase_automaton a = record {
   schedule = map erase_statement a.schedule;
 }
 
-abbrev pub erase_declaration : {N : Type 0} → PlainDeclaration N → PlainDeclaration (Unit {0})
+abbrev pub erase_declaration : {N D : Type 0} → PlainDeclaration N D → SourceDeclaration
 erase_declaration (automaton a) = automaton (erase_automaton a)
 
-abbrev pub erase : {N : Type 0} → PlainText N → PlainText (Unit {0})
+abbrev pub erase : {N D : Type 0} → PlainText N D → SourceText
 erase t = record { declarations = map erase_declaration t.declarations; system = t.system }

@@ -3,5 +3,6 @@ pub use Rattle.ioa_terms.specs.PlainTerm
 pub use Rattle.ioa_terms.specs.View
 -- what the contracts of this crate and of those above it cite
 pub mod PlainText
+pub mod Sides
 pub mod TextView
 pub mod Erasure

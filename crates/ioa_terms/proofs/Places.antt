@@ -1,28 +1,46 @@
 -- Names and the places of their values.
-use Rattle.std.proofs.Common.{◌≡◌, ℕ, zero, suc, ◌+◌, ◌<◌, ◌≤◌, Bool, true, false, List, [], ◌∷◌, Option, Some, None, refl, sym, ap, ◌∙◌, length, set, arith, if◌then◌else◌, inl, inr, ◌⊎◌, ltb, get_or}
+use Rattle.std.proofs.Common.{◌≡◌, ℕ, zero, suc, ◌+◌, ◌<◌, ◌≤◌, min, Bool, true, false, List, [], ◌∷◌, ◌++◌, Option, Some, None, refl, sym, ap, ◌∙◌, length, set, arith, if◌then◌else◌, inl, inr, ◌⊎◌, get_or, append-nil}
 use Rattle.std.specs.List.{zip, slice_get}
-use Rattle.std.specs.Slice.{IsGetResult}
-use Rattle.std.specs.Borrow.{Bor}
-use Rattle.std.proofs.lemmas.Option.{slice_get_past, slice_get_read}
-use Rattle.std.proofs.lemmas.Bool.Decides.{nat_tests}
+use Rattle.std.proofs.lemmas.List.{map-append}
 use Rattle.std.proofs.lemmas.Slice.Zip.{firsts-zip}
-use Rattle.std.specs.Option.{option_map, option_copied, is_some, IfSome}
-use Rattle.ioa_terms.specs.Data.{Data}
-use Rattle.ioa_terms.specs.Bindings.{Bindings, lookup, put, place_in, names_of, same_name}
+use Rattle.std.specs.Option.{option_map}
+use Rattle.ioa_terms.specs.PlainTerm.{PlainPlace, variable, at_key, at_field}
+use Rattle.ioa_terms.specs.Placed.{IsPlacedPlace}
+use Rattle.ioa_operators.specs.declared.shape.Shape.{Shape}
+use Rattle.ioa_terms.specs.Data.{Data, constant}
+use Rattle.ioa_terms.specs.Bindings.{Bindings, lookup, put, place_in, names_of, same_name, constants_from, environment}
 
--- within the names, a place of the pairs is that place of the values
-pub slice_get_zip : {A B : Type 0} (ks : List A) (vs : List B) (i : ℕ) → i < length ks → slice_get vs i ≡ option_map (λ (p : A × B). p.1) (slice_get (zip ks vs) i)
-slice_get_zip [] vs i h = absurd (omega arith)
-slice_get_zip (k ∷ ks) [] i h = refl
-slice_get_zip (k ∷ ks) (v ∷ vs) zero h = refl
-slice_get_zip (k ∷ ks) (v ∷ vs) (suc i) h = slice_get_zip ks vs i (omega arith)
+-- what stands at a place of a variable
+pub environment_variable : (names : List (List ℕ)) (vs : List Data) (cs : List (List ℕ)) (i : ℕ) (d : Data) → i < length names → i < length vs → option_map (λ (b : List ℕ × Data). b.1) (slice_get (environment names vs cs) i) ≡ Some (get_or vs i d)
+environment_variable [] vs cs i d h g = absurd (omega arith)
+environment_variable (n ∷ names) [] cs i d h g = absurd (omega arith)
+environment_variable (n ∷ names) (v ∷ vs) cs zero d h g = refl
+environment_variable (n ∷ names) (v ∷ vs) cs (suc i) d h g = environment_variable names vs cs i d (omega arith) (omega arith)
 
--- past the names there is no pair
-pub slice_get_zip_past : {A B : Type 0} (ks : List A) (vs : List B) (i : ℕ) → length ks ≤ i → None ≡ option_map (λ (p : A × B). p.1) (slice_get (zip ks vs) i)
-slice_get_zip_past [] vs i h = refl
-slice_get_zip_past (k ∷ ks) [] i h = refl
-slice_get_zip_past (k ∷ ks) (v ∷ vs) zero h = absurd (omega arith)
-slice_get_zip_past (k ∷ ks) (v ∷ vs) (suc i) h = slice_get_zip_past ks vs i (omega arith)
+-- behind the variables stand the constants
+behind : (names : List (List ℕ)) (vs : List Data) (cs : List (List ℕ)) (i j : ℕ) → i ≡ min (length names) (length vs) + j → slice_get (environment names vs cs) i ≡ slice_get (constants_from 0 cs) j
+behind [] vs cs i j h = ap (slice_get (constants_from 0 cs)) (omega arith)
+behind (n ∷ names) [] cs i j h = ap (slice_get (constants_from 0 cs)) (omega arith)
+behind (n ∷ names) (v ∷ vs) cs zero j h = absurd (omega arith)
+behind (n ∷ names) (v ∷ vs) cs (suc i) j h = behind names vs cs i j (omega arith)
+
+constant_at : (k : ℕ) (cs : List (List ℕ)) (j : ℕ) → j < length cs → option_map (λ (b : List ℕ × Data). b.1) (slice_get (constants_from k cs) j) ≡ Some (constant (k + j))
+constant_at k [] j h = absurd (omega arith)
+constant_at k (c ∷ cs) zero h = ap (λ n. Some (constant n)) (omega arith)
+constant_at k (c ∷ cs) (suc j) h = constant_at (k + 1) cs j (omega arith) ∙ ap (λ n. Some (constant n)) (omega arith)
+
+no_constant : (k : ℕ) (cs : List (List ℕ)) (j : ℕ) → length cs ≤ j → None ≡ option_map (λ (b : List ℕ × Data). b.1) (slice_get (constants_from k cs) j)
+no_constant k [] j h = refl
+no_constant k (c ∷ cs) zero h = absurd (omega arith)
+no_constant k (c ∷ cs) (suc j) h = no_constant (k + 1) cs j (omega arith)
+
+-- what stands at a place of a constant
+pub environment_constant : (names : List (List ℕ)) (vs : List Data) (cs : List (List ℕ)) (i j : ℕ) → i ≡ min (length names) (length vs) + j → j < length cs → option_map (λ (b : List ℕ × Data). b.1) (slice_get (environment names vs cs) i) ≡ Some (constant j)
+environment_constant names vs cs i j at h = rw (behind names vs cs i j at) (constant_at 0 cs j h ∙ ap (λ n. Some (constant n)) (omega arith))
+
+-- behind the constants stands nothing
+pub environment_past : (names : List (List ℕ)) (vs : List Data) (cs : List (List ℕ)) (i j : ℕ) → i ≡ min (length names) (length vs) + j → length cs ≤ j → None ≡ option_map (λ (b : List ℕ × Data). b.1) (slice_get (environment names vs cs) i)
+environment_past names vs cs i j at h = rw (behind names vs cs i j at) (no_constant 0 cs j h)
 
 mapped : (o : Option ℕ) (p : ℕ) → option_map (λ k. k + 1) o ≡ Some p → (k : ℕ) × (o ≡ Some k) × (p ≡ suc k)
 mapped None p h = absurd (cc)
@@ -50,24 +68,43 @@ place_within (n ∷ names) x p h =
       | inr w ↦ let less = place_within names x w.1 w.2 in omega arith
     ]
 
--- a new value under a name stands at the name's first place
-pub put_zip : (names : List (List ℕ)) (vs : List Data) (x : List ℕ) (p : ℕ) (v : Data) → place_in x names ≡ Some p → put x v (zip names vs) ≡ zip names (set vs p v)
-put_zip [] vs x p v h = absurd (cc)
-put_zip (n ∷ names) [] x p v h = refl
-put_zip (n ∷ names) (u ∷ vs) x p v h =
+-- a place among names is the same among more names
+pub place_among_more : (names more : List (List ℕ)) (x : List ℕ) (p : ℕ) → place_in x names ≡ Some p → place_in x (names ++ more) ≡ Some p
+place_among_more [] more x p h = absurd (cc)
+place_among_more (n ∷ names) more x p h =
     elim (placed_first (same_name x n) names x p h) [
       | inl w ↦ rw (w.0, w.1) refl
-      | inr w ↦ rw (w.0, w.3) (ap (λ (e : Bindings). (n, u) ∷ e) (put_zip names vs x w.1 v w.2))
+      | inr w ↦ rw (w.0, w.3, place_among_more names more x w.1 w.2) (ap (λ k. Some k) (omega arith))
     ]
 
-lent : {X : Type 0} (xs : List X) (i : ℕ) (r : Option (Bor X)) → is_some r ≡ ltb i (length xs) → IfSome r (λ x. x.now ≡ get_or xs i x.now) → option_copied r ≡ slice_get xs i
-lent xs i None is at = sym (slice_get_past xs i (let e : ltb i (length xs) ≡ false = sym is in grind (arith, nat_tests)))
-lent xs i (Some x) is at = sym (slice_get_read xs (length xs) i x.now refl (let e : ltb i (length xs) ≡ true = sym is in grind (arith, nat_tests)) at)
-
--- what `get` lends is the item at that place
-pub option_copied_get : {X : Type 0} (xs : List X) (i : ℕ) (r : Option (Bor X)) → IsGetResult xs i i r → option_copied r ≡ slice_get xs i
-option_copied_get xs i r h = lent xs i r h.0 h.1
+-- a new value under a variable's name stands at the variable's place
+pub put_environment : (names : List (List ℕ)) (vs : List Data) (cs : List (List ℕ)) (x : List ℕ) (p : ℕ) (v : Data) → length names ≡ length vs → place_in x names ≡ Some p → put x v (environment names vs cs) ≡ environment names (set vs p v) cs
+put_environment [] vs cs x p v many h = absurd (cc)
+put_environment (n ∷ names) [] cs x p v many h = absurd (omega arith)
+put_environment (n ∷ names) (u ∷ vs) cs x p v many h =
+    elim (placed_first (same_name x n) names x p h) [
+      | inl w ↦ rw (w.0, w.1) refl
+      | inr w ↦ rw (w.0, w.3) (ap (λ (e : Bindings). (n, u) ∷ e) (put_environment names vs cs x w.1 v (omega arith) w.2))
+    ]
 
 -- the names of pairs
 pub names_zip : (names : List (List ℕ)) (vs : List Data) → length names ≡ length vs → names_of (zip names vs) ≡ names
 names_zip names vs h = firsts-zip names vs (sym h)
+
+constant_names : (k : ℕ) (cs : List (List ℕ)) → names_of (constants_from k cs) ≡ cs
+constant_names k [] = refl
+constant_names k (c ∷ cs) = ap (λ (ws : List (List ℕ)). c ∷ ws) (constant_names (k + 1) cs)
+
+-- the names of an environment are those of its variables and of its constants
+pub names_environment : (names : List (List ℕ)) (vs : List Data) (cs : List (List ℕ)) → length names ≡ length vs → names_of (environment names vs cs) ≡ names ++ cs
+names_environment names vs cs h = rw (map-append (λ (b : List ℕ × Data). b.0) (zip names vs) (constants_from 0 cs), names_zip names vs h, constant_names 0 cs) refl
+
+-- without constants an environment has the variables alone
+pub no_constants : (names : List (List ℕ)) (vs : List Data) → environment names vs [] ≡ zip names vs
+no_constants names vs = append-nil (zip names vs)
+
+-- a place of a variable is one among the names in view
+pub placed_among_more : (p : PlainPlace ℕ Shape) (names more : List (List ℕ)) → IsPlacedPlace p names (names ++ more) → IsPlacedPlace p (names ++ more) (names ++ more)
+placed_among_more (variable x at d) names more h = place_among_more names more x at h
+placed_among_more (at_key x at d k) names more h = (place_among_more names more x at h.0, h.1)
+placed_among_more (at_field x at d f) names more h = place_among_more names more x at h

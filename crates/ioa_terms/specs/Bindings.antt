@@ -1,8 +1,9 @@
 -- Environments (profile): finite maps from names to values, as lists of pairs; the first pair of a name counts.
-use Rattle.std.specs.Prelude.{◌≡◌, ℕ, ◌+◌, Bool, true, false, if◌then◌else◌, List, [], ◌∷◌, Option, Some, None, map, nat_eq}
+use Rattle.std.specs.Prelude.{◌≡◌, ℕ, ◌+◌, Bool, true, false, if◌then◌else◌, List, [], ◌∷◌, ◌++◌, Option, Some, None, map, nat_eq}
 use Rattle.std.specs.Option.{option_map}
+use Rattle.std.specs.List.{zip}
 use lib.Pointwise.{pointwise}
-use Rattle.ioa_terms.specs.Data.{Data}
+use Rattle.ioa_terms.specs.Data.{Data, constant}
 
 abbrev pub Bindings : Type 0
 Bindings = List (List ℕ × Data)
@@ -29,3 +30,12 @@ names_of e = map (λ b. b.0) e
 abbrev pub place_in : List ℕ → List (List ℕ) → Option ℕ
 place_in x [] = None
 place_in x (y ∷ ys) = if same_name x y then Some 0 else option_map (λ k. k + 1) (place_in x ys)
+
+-- the constants of the text's enumerations, each under its name: a constant is its place among them
+abbrev pub constants_from : ℕ → List (List ℕ) → Bindings
+constants_from k [] = []
+constants_from k (w ∷ ws) = (w, constant k) ∷ constants_from (k + 1) ws
+
+-- the environment of variables with their values, and of the constants behind them
+abbrev pub environment : List (List ℕ) → List Data → List (List ℕ) → Bindings
+environment names values constants = zip names values ++ constants_from 0 constants

@@ -1,13 +1,24 @@
--- the values, which terms stand on
+-- the values, and what operators do with them, which terms stand on
+pub use Rattle.ioa_values.specs.Collections
 pub use Rattle.ioa_values.specs.Data
 pub use Rattle.ioa_values.specs.DataOrder
 pub use Rattle.ioa_values.specs.Outcome
 pub use Rattle.ioa_values.specs.Sorts
 pub use Rattle.ioa_values.specs.Text
+pub use Rattle.ioa_operators.specs.Judged
+pub use Rattle.ioa_operators.specs.Operators
+pub use Rattle.ioa_operators.specs.Shapes
+pub use Rattle.ioa_operators.specs.ShapeView
 -- what the contracts of this crate and of those above it cite
 pub mod PlainTerm
 pub mod View
 pub mod Bindings
+pub mod Slots
 pub mod Meaning
+pub mod Performance
+pub mod Placed
 pub mod Bounded
+pub mod Sorted
+pub mod Actions
 pub mod ActionText
+pub mod ValuesOrder

@@ -1,94 +1,72 @@
--- What terms and statements mean (profile): over numbers without bound, partial, evaluated from left to right.
-use Rattle.std.specs.Prelude.{◌≡◌, ℕ, ℤ, ◌+ℤ◌, Bool, true, false, ◌&&◌, if◌then◌else◌, List, [], ◌∷◌, ◌++◌, Option, Some, None, Result, Ok, Err, map, length}
-use Rattle.std.specs.Option.{option_and_then, option_map, ok_or}
-use Rattle.std.specs.List.{list_all, AllByRecursion}
-use Rattle.ioa_terms.specs.Data.{Data, is_within, number, truth}
-use Rattle.ioa_terms.specs.DataOrder.{same}
-use Rattle.ioa_terms.specs.Bindings.{Bindings, lookup, put, place_in}
-use Rattle.ioa_terms.specs.PlainTerm as term
-use Rattle.ioa_terms.specs.PlainTerm.{PlainTerm, PlainPlace, PlainStatement, two, name, variable, assign, fire}
-use Rattle.ioa_terms.specs.declared.tree.BinaryOperator.{BinaryOperator}
-use Rattle.ioa_terms.specs.declared.tree.BinaryOperator.TheVariants.{Plus, Equal}
-use Rattle.ioa_terms.specs.declared.fault.TermFault.{TermFault}
-use Rattle.ioa_terms.specs.declared.fault.TermFault.TheVariants.{Undefined, Range}
+-- What terms mean (profile): over numbers without bound, partial, evaluated from left to right.
+use Rattle.std.specs.Prelude.{ℕ, List, [], ◌∷◌, ◌++◌, Option, Some, None, Result}
+use Rattle.std.specs.Option.{option_and_then, option_map, option_or}
+use Rattle.ioa_terms.specs.Data.{Data, number, truth}
+use Rattle.ioa_terms.specs.Operators.{unary_value, binary_value, decided, function_named, call_value}
+use Rattle.ioa_terms.specs.Shapes.{display_value, field_value}
+use Rattle.ioa_terms.specs.ShapeView.{shape_of}
+use Rattle.ioa_terms.specs.Judged.{judged, result_of}
+use Rattle.ioa_terms.specs.Bindings.{Bindings, lookup}
+use Rattle.ioa_terms.specs.PlainTerm as plain
+use Rattle.ioa_terms.specs.PlainTerm.{PlainTerm, PlainTerms, name, one, two, call, display, field, no_terms, term}
+use Rattle.ioa_operators.specs.declared.operator.BinaryOperator.{BinaryOperator}
+use Rattle.ioa_operators.specs.declared.shape.Shape.{Shape}
+use Rattle.ioa_operators.specs.declared.fault.TermFault.{TermFault}
 
--- the value of an operator between two values
-abbrev pub binary_value : BinaryOperator → Data → Data → Option Data
-binary_value Plus (number m) (number n) = Some (number (m +ℤ n))
-binary_value Plus (number m) (truth b) = None
-binary_value Plus (truth a) y = None
-binary_value Equal x y = Some (truth (same x y))
+-- the value of a function, by its name
+abbrev pub called : List ℕ → List Data → Option Data
+called w vs = option_and_then (λ f. call_value f vs) (function_named w)
 
--- the value of a term in an environment, where there is one
-abbrev pub value : {N : Type 0} → PlainTerm N → Bindings → Option Data
-value (term.number n) e = Some (number n)
-value (name x at) e = lookup x e
-value (two op a b) e = option_and_then (λ x. option_and_then (λ y. binary_value op x y) (value b e)) (value a e)
+abbrev mutual
+  -- the value of a term in an environment, where there is one; the right side of an operator counts only where the left
+  -- one does not decide
+  pub value : {N : Type 0} → PlainTerm N Shape → Bindings → Option Data
+  value (plain.number n) e = Some (number n)
+  value (plain.truth b) e = Some (truth b)
+  value (name x at) e = lookup x e
+  value (one op a) e = option_and_then (unary_value op) (value a e)
+  value (two op a b) e = option_and_then (λ x. option_or (decided op x) (option_and_then (binary_value op x) (value b e))) (value a e)
+  value (call w ts) e = option_and_then (called w) (values ts e)
+  value (display form d ts) e = option_and_then (display_value form (shape_of d)) (values ts e)
+  value (field a w d) e = option_and_then (field_value (shape_of d) w) (value a e)
 
--- the value, where there is one, as a list
-abbrev pub result_of : Option Data → List Data
-result_of None = []
-result_of (Some v) = v ∷ []
+  -- the values of terms, where each has one
+  pub values : {N : Type 0} → PlainTerms N Shape → Bindings → Option (List Data)
+  values no_terms e = Some []
+  values (term t more) e = option_and_then (λ v. option_map (λ vs. v ∷ vs) (values more e)) (value t e)
 
 -- what comes after a part: nothing where the part has no value
 abbrev pub if_any : Option Data → List Data → List Data
 if_any None ds = []
 if_any (Some v) ds = ds
 
--- the results of the parts of a term that are taken: left part, right part, whole, up to the first that has no value
-abbrev pub met : {N : Type 0} → PlainTerm N → Bindings → List Data
-met (term.number n) e = number n ∷ []
-met (name x at) e = result_of (lookup x e)
-met (two op a b) e = met a e ++ (if_any (value a e) (met b e) ++ result_of (value (two op a b) e))
+-- what comes after a part that may decide: nothing where it does
+abbrev pub if_none : Option Data → List Data → List Data
+if_none None ds = ds
+if_none (Some v) ds = []
 
--- 2 where a number met lies outside 64 bits, else 1 where there is no value, else the value
-abbrev pub judged : {A : Type 0} → List Data → Option A → Result A TermFault
-judged ds v = if list_all is_within ds then ok_or v Undefined else Err Range
+-- what comes after the left side of an operator: nothing where that has no value or decides
+abbrev pub if_open : BinaryOperator → Option Data → List Data → List Data
+if_open op None ds = []
+if_open op (Some x) ds = if_none (decided op x) ds
 
--- what evaluating a term answers
-abbrev pub answer : {N : Type 0} → PlainTerm N → Bindings → Result Data TermFault
+abbrev mutual
+  -- the results of the parts of a term that are taken: left part, right part, whole, up to the first that has no value
+  pub met : {N : Type 0} → PlainTerm N Shape → Bindings → List Data
+  met (plain.number n) e = number n ∷ []
+  met (plain.truth b) e = truth b ∷ []
+  met (name x at) e = result_of (lookup x e)
+  met (one op a) e = met a e ++ result_of (value (one op a) e)
+  met (two op a b) e = met a e ++ (if_open op (value a e) (met b e) ++ result_of (value (two op a b) e))
+  met (call w ts) e = all_met ts e ++ result_of (value (call w ts) e)
+  met (display form d ts) e = all_met ts e ++ result_of (value (display form d ts) e)
+  met (field a w d) e = met a e ++ result_of (value (field a w d) e)
+
+  -- the same of terms, one after another
+  pub all_met : {N : Type 0} → PlainTerms N Shape → Bindings → List Data
+  all_met no_terms e = []
+  all_met (term t more) e = met t e ++ if_any (value t e) (all_met more e)
+
+-- what evaluating a term answers: 2 where a number met lies outside 64 bits, else 1 where there is no value, else the value
+abbrev pub answer : {N : Type 0} → PlainTerm N Shape → Bindings → Result Data TermFault
 answer t e = judged (met t e) (value t e)
-
--- the environment after one statement
-abbrev pub after_one : {N : Type 0} → PlainStatement N → Bindings → Option Bindings
-after_one (assign (variable x at) t) e = option_map (λ v. put x v e) (value t e)
-after_one (fire kind action arguments) e = None
-
--- the environment after statements in order, each seeing what the one before left
-abbrev pub after : {N : Type 0} → List (PlainStatement N) → Bindings → Option Bindings
-after [] e = Some e
-after (s ∷ more) e = option_and_then (after more) (after_one s e)
-
--- what comes after a statement: nothing where it leaves no environment
-abbrev pub met_after : Option Bindings → (Bindings → List Data) → List Data
-met_after None more = []
-met_after (Some e) more = more e
-
--- the results that one statement meets
-abbrev pub met_one : {N : Type 0} → PlainStatement N → Bindings → List Data
-met_one (assign p t) e = met t e
-met_one (fire kind action arguments) e = []
-
--- the results that statements meet, one statement after another
-abbrev pub met_by : {N : Type 0} → List (PlainStatement N) → Bindings → List Data
-met_by [] e = []
-met_by (s ∷ more) e = met_one s e ++ met_after (after_one s e) (met_by more)
-
--- what performing statements answers
-abbrev pub answer_by : {N : Type 0} → List (PlainStatement N) → Bindings → Result Bindings TermFault
-answer_by ss e = judged (met_by ss e) (after ss e)
-
--- beside each name of a term stands the first place of that name among the names in view
-abbrev pub IsPlaced : PlainTerm ℕ → List (List ℕ) → Type 0
-IsPlaced (term.number n) names = Unit {0}
-IsPlaced (name x at) names = place_in x names ≡ Some at
-IsPlaced (two op a b) names = IsPlaced a names × IsPlaced b names
-
--- the same of a statement; a firing is none of an effect's
-abbrev pub IsPlacedStatement : PlainStatement ℕ → List (List ℕ) → Type 0
-IsPlacedStatement (assign (variable x at) t) names = (place_in x names ≡ Some at) × IsPlaced t names
-IsPlacedStatement (fire kind action arguments) names = Unit {0}
-
--- the same of each statement
-abbrev pub ArePlaced : List (PlainStatement ℕ) → List (List ℕ) → Type 0
-ArePlaced ss names = AllByRecursion (λ s. IsPlacedStatement s names) ss

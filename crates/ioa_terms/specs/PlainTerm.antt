@@ -1,20 +1,62 @@
--- Terms and statements without where they lie in memory. `N` stands beside a name: nothing in a text,
--- the place of the name's value in a checked system.
-use Rattle.std.specs.Prelude.{ℕ, ℤ, List, [], ◌∷◌, Option, Some, None}
-use Rattle.ioa_terms.specs.declared.tree.BinaryOperator.{BinaryOperator}
+-- Terms and statements without where they lie in memory. `N` stands beside a name: nothing in a text, the place of
+-- the name's value in a checked system. `D` stands beside a display, a field and an assigned variable: nothing in a
+-- text, a shape in a checked system.
+use Rattle.std.specs.Prelude.{ℕ, ℤ, Bool, List, [], ◌∷◌, Option, Some, None}
+use Rattle.ioa_operators.specs.declared.operator.UnaryOperator.{UnaryOperator}
+use Rattle.ioa_operators.specs.declared.operator.BinaryOperator.{BinaryOperator}
+use Rattle.ioa_operators.specs.declared.shape.DisplayForm.{DisplayForm}
 use Rattle.ioa_terms.specs.declared.tree.Kind.{Kind}
 
--- a term (profile): a number, a name, or an operator between two terms
-pub data PlainTerm (N : Type 0) : Type 0 where
-  number : ℤ → PlainTerm N
-  name : List ℕ → N → PlainTerm N
-  two : BinaryOperator → PlainTerm N → PlainTerm N → PlainTerm N
+mutual
+  -- a term (profile): a number, a truth value, a name, an operator before a term or between two terms, a function of
+  -- terms, a display, or a field of a term
+  pub data PlainTerm (N D : Type 0) : Type 0 where
+    number : ℤ → PlainTerm N D
+    truth : Bool → PlainTerm N D
+    name : List ℕ → N → PlainTerm N D
+    one : UnaryOperator → PlainTerm N D → PlainTerm N D
+    two : BinaryOperator → PlainTerm N D → PlainTerm N D → PlainTerm N D
+    call : List ℕ → PlainTerms N D → PlainTerm N D
+    display : DisplayForm → D → PlainTerms N D → PlainTerm N D
+    field : PlainTerm N D → List ℕ → D → PlainTerm N D
 
--- where an assignment puts a value (profile): a variable
-pub data PlainPlace (N : Type 0) : Type 0 where
-  variable : List ℕ → N → PlainPlace N
+  -- terms one after another
+  pub data PlainTerms (N D : Type 0) : Type 0 where
+    no_terms : PlainTerms N D
+    term : PlainTerm N D → PlainTerms N D → PlainTerms N D
 
--- a statement (profile): an assignment, or in a schedule the firing of an action, with its kind where that is written
-pub data PlainStatement (N : Type 0) : Type 0 where
-  assign : PlainPlace N → PlainTerm N → PlainStatement N
-  fire : Option Kind → List ℕ → List (PlainTerm N) → PlainStatement N
+abbrev pub terms_of : {N D : Type 0} → List (PlainTerm N D) → PlainTerms N D
+terms_of [] = no_terms
+terms_of (t ∷ more) = term t (terms_of more)
+
+-- where an assignment puts a value (profile): a variable, a map's value at a key, or a tuple's field
+pub data PlainPlace (N D : Type 0) : Type 0 where
+  variable : List ℕ → N → D → PlainPlace N D
+  at_key : List ℕ → N → D → PlainTerm N D → PlainPlace N D
+  at_field : List ℕ → N → D → List ℕ → PlainPlace N D
+
+mutual
+  -- a statement (profile): an assignment, an `if` of arms and the rest, or in a schedule the firing of an action, with
+  -- its kind where that is written
+  pub data PlainStatement (N D : Type 0) : Type 0 where
+    assign : PlainPlace N D → PlainTerm N D → PlainStatement N D
+    choose : PlainArms N D → PlainStatements N D → PlainStatement N D
+    fire : Option Kind → List ℕ → List (PlainTerm N D) → PlainStatement N D
+
+  -- statements one after another
+  pub data PlainStatements (N D : Type 0) : Type 0 where
+    no_statements : PlainStatements N D
+    statement : PlainStatement N D → PlainStatements N D → PlainStatements N D
+
+  -- arms, each a test with its statements, one after another
+  pub data PlainArms (N D : Type 0) : Type 0 where
+    no_arms : PlainArms N D
+    arm : PlainTerm N D → PlainStatements N D → PlainArms N D → PlainArms N D
+
+abbrev pub statements_of : {N D : Type 0} → List (PlainStatement N D) → PlainStatements N D
+statements_of [] = no_statements
+statements_of (s ∷ more) = statement s (statements_of more)
+
+abbrev pub arms_of : {N D : Type 0} → List (PlainTerm N D × PlainStatements N D) → PlainArms N D
+arms_of [] = no_arms
+arms_of (a ∷ more) = arm a.0 a.1 (arms_of more)

@@ -3,25 +3,44 @@ use Rattle.std.specs.Prelude.{ℕ, List, map}
 use Rattle.ioa_terms.specs.declared.tree.Tree.{Tree, fold-Tree}
 use Rattle.ioa_terms.specs.declared.tree.Tree.TheOpen.{Tree-F}
 use Rattle.ioa_terms.specs.declared.tree.Place.{Place}
-use Rattle.ioa_terms.specs.declared.tree.Place.TheVariants.{Variable}
-use Rattle.ioa_terms.specs.declared.tree.Statement.{Statement}
-use Rattle.ioa_terms.specs.declared.tree.Statement.TheVariants.{Assign, Fire}
-use Rattle.ioa_terms.specs.PlainTerm.{PlainTerm, number, name, two, PlainPlace, variable, PlainStatement, assign, fire}
+use Rattle.ioa_terms.specs.declared.tree.Place.TheVariants as place
+use Rattle.ioa_terms.specs.declared.tree.Statement.{Statement, fold-Statement}
+use Rattle.ioa_terms.specs.declared.tree.Statement.TheOpen.{Statement-F, Arm-F}
+use Rattle.ioa_terms.specs.declared.tree.Arm.{Arm, fold-Arm}
+use Rattle.ioa_terms.specs.PlainTerm.{PlainTerm, number, truth, name, one, two, call, display, field, terms_of, PlainPlace, variable, at_key, at_field, PlainStatement, PlainStatements, assign, choose, fire, statements_of, arms_of}
 
-abbrev pub view_step : {N : Type 0} → Tree-F N (PlainTerm N) → PlainTerm N
+abbrev pub view_step : {N D : Type 0} → Tree-F N D (PlainTerm N D) → PlainTerm N D
 view_step (Tree-F.Number n) = number n
+view_step (Tree-F.Truth b) = truth b
 view_step (Tree-F.Name w x) = name w x
+view_step (Tree-F.One op a) = one op a.value
 view_step (Tree-F.Two op a b) = two op a.value b.value
+view_step (Tree-F.Call w ts) = call w (terms_of ts.items)
+view_step (Tree-F.Display form d ts) = display form d (terms_of ts.items)
+view_step (Tree-F.Field a w d) = field a.value w d
 
 -- a term
-abbrev pub term_of : {N : Type 0} → Tree N → PlainTerm N
-term_of {N} = fold-Tree N (PlainTerm N) view_step
+abbrev pub term_of : {N D : Type 0} → Tree N D → PlainTerm N D
+term_of {N} {D} = fold-Tree N D (PlainTerm N D) view_step
 
 -- a place
-abbrev pub place_of : {N : Type 0} → Place N → PlainPlace N
-place_of (Variable w x) = variable w x
+abbrev pub place_of : {N D : Type 0} → Place N D → PlainPlace N D
+place_of (place.Variable w x d) = variable w x d
+place_of (place.At w x d t) = at_key w x d (term_of t)
+place_of (place.Field w x d f) = at_field w x d f
+
+abbrev pub statement_step : {N D : Type 0} → Statement-F N D (PlainStatement N D) (PlainTerm N D × PlainStatements N D) → PlainStatement N D
+statement_step (Statement-F.Assign p t) = assign (place_of p) (term_of t)
+statement_step (Statement-F.If arms rest) = choose (arms_of arms.items) (statements_of rest.items)
+statement_step (Statement-F.Fire k w ts) = fire k w (map term_of ts.items)
+
+abbrev pub arm_step : {N D : Type 0} → Arm-F N D (PlainStatement N D) (PlainTerm N D × PlainStatements N D) → PlainTerm N D × PlainStatements N D
+arm_step a = (term_of a.test, statements_of a.body.items)
 
 -- a statement
-abbrev pub statement_of : {N : Type 0} → Statement N → PlainStatement N
-statement_of (Assign p t) = assign (place_of p) (term_of t)
-statement_of (Fire k w ts) = fire k w (map term_of ts.items)
+abbrev pub statement_of : {N D : Type 0} → Statement N D → PlainStatement N D
+statement_of {N} {D} = fold-Statement N D (PlainStatement N D) (PlainTerm N D × PlainStatements N D) statement_step arm_step
+
+-- an arm: its test and its statements
+abbrev pub arm_of : {N D : Type 0} → Arm N D → PlainTerm N D × PlainStatements N D
+arm_of {N} {D} = fold-Arm N D (PlainStatement N D) (PlainTerm N D × PlainStatements N D) statement_step arm_step

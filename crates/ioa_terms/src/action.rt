@@ -1,9 +1,11 @@
 //! The actions of a system.
 
-ghost use Rattle.std.specs.Prelude.{◌≡◌, IfOk, [], map, length};
+ghost use Rattle.std.specs.Prelude.{◌≡◌, ◌↔◌, IfOk, IsTrue, [], map, length};
+ghost use Rattle.ioa_terms.specs.Actions.{same_node_action, same_action};
 
 use ioa_values::{Value, Word};
 use std::alloc::{AllocError, Global};
+use std::cmp::Ordering;
 use std::marker::Model;
 
 /// The values of an action's arguments, in order. A contract sees them as a list.
@@ -14,9 +16,13 @@ pub struct Values {
 
 impl Model for Values {
     ghost use Rattle.std.specs.Prelude.{List};
+    ghost use Rattle.std.specs.Coded.{coded_list};
     ghost use Rattle.ioa_terms.specs.Data.{Data};
+    ghost use Rattle.ioa_values.specs.DataCode.{data_code};
 
     ghost Value = { List Data };
+
+    ghost coded = { coded_list data_code };
 
     ghost view = { λ v. v.items.items };
 }
@@ -45,6 +51,52 @@ impl Values {
     }
 }
 
+impl PartialEq for Values {
+    ghost use Rattle.ioa_terms.specs.ValuesOrder.{all_same, all_same_partial};
+
+    ghost eq = { all_same };
+
+    ghost laws = { all_same_partial };
+
+    fn eq(&self, other: &Self) -> bool {
+        self.items == other.items
+    }
+}
+
+impl Eq for Values {
+    ghost use Rattle.ioa_terms.specs.ValuesOrder.{all_same_equivalence};
+
+    ghost laws = { all_same_equivalence };
+}
+
+impl PartialOrd for Values {
+    ghost use Rattle.ioa_terms.specs.ValuesOrder.{list_partial_cmp, list_cmp_partial};
+
+    ghost partial_cmp = { list_partial_cmp };
+
+    ghost laws = { list_cmp_partial };
+
+    fn partial_cmp(&self, other: &Self) -> Option<Ordering> {
+        self.items.partial_cmp(&other.items)
+    }
+}
+
+impl Ord for Values {
+    ghost use Rattle.ioa_terms.specs.ValuesOrder.{list_cmp, list_cmp_total, list_cmp_agrees, list_cmp_ties};
+
+    ghost cmp = { list_cmp };
+
+    ghost total = { list_cmp_total };
+
+    ghost matches_partial_cmp = { list_cmp_agrees };
+
+    ghost matches_eq = { list_cmp_ties };
+
+    fn cmp(&self, other: &Self) -> Ordering {
+        self.items.cmp(&other.items)
+    }
+}
+
 /// Copies of values, in order.
 pub fn copies(alloc: Global, values: &[Value]) -> Result<Vec<Value>, AllocError>
     ensures { IfOk result (λ v. v.items ≡ values.now) }
@@ -56,8 +108,8 @@ pub fn copies(alloc: Global, values: &[Value]) -> Result<Vec<Value>, AllocError>
     Ok(items)
 }
 
-/// An action of one node, by its name.
-#[derive(Debug, Drop)]
+/// An action of one node, by its name. Actions are ordered by node, name and arguments.
+#[derive(Debug, Drop, PartialEq, Eq, PartialOrd, Ord)]
 pub struct NodeAction {
     /// The node.
     pub node: i64,
@@ -67,8 +119,9 @@ pub struct NodeAction {
     pub arguments: Values,
 }
 
-/// An action of a system (Lynch 8.1 and 14.1; stimuli are the profile's).
-#[derive(Debug, Drop)]
+/// An action of a system (Lynch 8.1 and 14.1; stimuli are the profile's). Actions are ordered by kind,
+/// as the kinds stand here, and then by their parts from left to right.
+#[derive(Debug, Drop, PartialEq, Eq, PartialOrd, Ord)]
 pub enum Action {
     /// `send(m, i, j)`: node i puts message m into channel i -> j.
     Send(Value, i64, i64),
@@ -81,6 +134,15 @@ pub enum Action {
 }
 
 impl NodeAction {
+    /// Whether two actions are the same.
+    #[tactic(auto, using(crate::proofs::SameActions::same_node_action_is))]
+    pub fn equals(&self, other: &Self) -> bool
+        ensures value { result ≡ same_node_action self.now other.now }
+        ensures equality { IsTrue result ↔ (self.now ≡ other.now) }
+    {
+        self == other
+    }
+
     /// An equal action with its own memory.
     pub fn try_copy(&self, alloc: Global) -> Result<Self, AllocError>
         ensures { IfOk result (λ a. a ≡ self.now) }
@@ -96,6 +158,22 @@ impl NodeAction {
 }
 
 impl Action {
+    /// Whether two actions are the same.
+    #[tactic(auto, using(crate::proofs::SameActions::same_action_is))]
+    pub fn equals(&self, other: &Self) -> bool
+        ensures value { result ≡ same_action self.now other.now }
+        ensures equality { IsTrue result ↔ (self.now ≡ other.now) }
+    {
+        self.is_same(other)
+    }
+
+    /// Whether two actions have one kind and the same parts.
+    fn is_same(&self, other: &Self) -> bool
+        ensures { result ≡ same_action self.now other.now }
+    {
+        self == other
+    }
+
     /// An equal action with its own memory.
     pub fn try_copy(&self, alloc: Global) -> Result<Self, AllocError>
         ensures { IfOk result (λ a. a ≡ self.now) }

@@ -1,47 +1,82 @@
 //! Environments in which terms are evaluated.
 
-ghost use Rattle.std.specs.Prelude.{◌≡◌, slice_get, length};
-ghost use Rattle.std.specs.Option.{option_copied, option_map};
+ghost use Rattle.std.specs.Prelude.{◌≡◌, ◌++◌, slice_get, length};
+ghost use Rattle.std.specs.Option.{option_map};
 ghost use Rattle.std.specs.List.{zip};
-ghost use Rattle.ioa_terms.specs.Bindings.{names_of};
+ghost use Rattle.ioa_terms.specs.Bindings.{names_of, environment};
+ghost use Rattle.ioa_terms.specs.Slots.{slot_value};
 
 use ioa_values::{Value, Word};
 use std::marker::Model;
 
-/// The values that a term may read, each at its place, with their names beside them. A contract sees
-/// the pairs of names and values; the first pair of a name is the one that counts.
+/// The values that a term may read, each at its place, with their names beside them: those of variables
+/// first, and the constants behind them. A contract sees the pairs of names and values; the first pair
+/// of a name is the one that counts.
 #[derive(Drop)]
 pub struct Env<'a> {
     names: &'a [Word],
     values: &'a [Value],
+    constants: &'a [Word],
 }
 
 impl<'a> Model for Env<'a> {
-    ghost use Rattle.std.specs.List.{zip};
-    ghost use Rattle.ioa_terms.specs.Bindings.{Bindings};
+    ghost use Rattle.ioa_terms.specs.Bindings.{Bindings, environment};
+    ghost use Rattle.std.specs.Coded.{coded×, coded_ℕ, coded_list};
+    ghost use Rattle.ioa_values.specs.DataCode.{data_code};
 
     ghost Value = { Bindings };
 
-    ghost view = { λ e. zip e.names.now e.values.now };
+    ghost coded = { coded_list (coded× (coded_list coded_ℕ) data_code) };
+
+    ghost view = { λ e. environment e.names.now e.values.now e.constants.now };
+}
+
+/// What stands at a place of an environment.
+#[derive(Clone, Copy)]
+pub enum Slot<'a> {
+    /// A variable's value.
+    Variable(&'a Value),
+    /// A constant, by its place among the text's constants.
+    Constant(usize),
 }
 
 impl<'a> Env<'a> {
-    #[tactic(auto, using(crate::proofs::Places::names_zip))]
     /// The environment of these names and values, the first value under the first name; what is left
-    /// over of either counts for nothing.
+    /// over of either counts for nothing. It has no constants.
+    #[tactic(auto, using(crate::proofs::Places::names_zip, crate::proofs::Places::no_constants))]
     pub fn new(names: &'a [Word], values: &'a [Value]) -> Self
         ensures value { result ≡ zip names.now values.now }
         ensures names { length names.now ≡ length values.now → names_of result ≡ names.now }
     {
-        Env { names, values }
+        Env {
+            names,
+            values,
+            constants: &[],
+        }
     }
 
-    /// The value at a place, where there is one.
-    pub fn get(&self, place: usize) -> Option<&'a Value>
-        ensures { option_copied result ≡ option_map (λ b. b.1) (slice_get self.now place) }
+    /// The environment of these names and values, and of the text's constants behind them.
+    #[tactic(auto, using(crate::proofs::Places::names_environment))]
+    pub fn with_constants(names: &'a [Word], values: &'a [Value], constants: &'a [Word]) -> Self
+        ensures value { result ≡ environment names.now values.now constants.now }
+        ensures names { length names.now ≡ length values.now → names_of result ≡ names.now ++ constants.now }
     {
-        if place < self.names.len() {
-            self.values.get(place)
+        Env {
+            names,
+            values,
+            constants,
+        }
+    }
+
+    /// What stands at a place, where there is something.
+    pub fn get(&self, place: usize) -> Option<Slot<'a>>
+        ensures { option_map slot_value result ≡ option_map (λ b. b.1) (slice_get self.now place) }
+    {
+        let variables = self.names.len().min(self.values.len());
+        if place < variables {
+            Some(Slot::Variable(&self.values[place]))
+        } else if place - variables < self.constants.len() {
+            Some(Slot::Constant(place - variables))
         } else {
             None
         }

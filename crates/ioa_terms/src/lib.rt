@@ -5,17 +5,21 @@ mod action;
 mod component;
 mod environment;
 mod evaluation;
-mod fault;
+mod laws;
 mod performance;
 mod text;
 mod tree;
 
 pub use action::{Action, NodeAction, Values, copies};
 pub use component::Component;
-pub use environment::Env;
+pub use environment::{Env, Slot};
 pub use evaluation::eval;
-pub use fault::TermFault;
+pub use ioa_operators::{BinaryOperator, DisplayForm, Function, Shape, TermFault, UnaryOperator};
 pub use ioa_values::{Names, Sort, Value, Word, show};
+pub use laws::shapes_law;
 pub use performance::perform;
 pub use text::{push_listed, show_action, show_node_action};
-pub use tree::{BinaryOperator, Checked, Kind, Place, Statement, Term, Tree};
+pub use tree::{Arm, Checked, Kind, Place, Statement, Term, Tree};
+
+#[cfg(test)]
+mod tests;

@@ -1,17 +1,7 @@
-//! Terms and statements as trees, with an annotation beside each name.
+//! Terms and statements as trees, with annotations beside names and displays.
 
-ghost use Rattle.std.specs.Prelude.{◌≡◌, IfOk, ℕ};
-
+use ioa_operators::{BinaryOperator, DisplayForm, Shape, UnaryOperator};
 use ioa_values::Word;
-
-/// An operator between two terms (profile).
-#[derive(Clone, Copy, Debug, PartialEq, Eq)]
-pub enum BinaryOperator {
-    /// `+`: the sum of two numbers.
-    Plus,
-    /// `=`: whether two values are the same.
-    Equal,
-}
 
 /// The kind of an action in a signature (Lynch 8.1).
 #[derive(Clone, Copy, Debug, PartialEq, Eq)]
@@ -25,35 +15,63 @@ pub enum Kind {
 }
 
 /// A term. `N` is what stands beside a name: nothing in a text, the place of the name's value in a
-/// checked system.
-#[derive(Debug, Drop)]
-pub enum Tree<N> {
+/// checked system. `D` is what stands beside a display, a field and an assigned variable: nothing in
+/// a text, the shape of its values in a checked system.
+#[derive(Drop)]
+pub enum Tree<N, D> {
     /// A number.
     Number(i64),
-    /// A parameter or a variable.
+    /// `true` or `false`.
+    Truth(bool),
+    /// A parameter, a variable or a constant.
     Name(Word, N),
+    /// An operator before a term.
+    One(UnaryOperator, Box<Tree<N, D>>),
     /// An operator between two terms, the left one first.
-    Two(BinaryOperator, Box<Tree<N>>, Box<Tree<N>>),
+    Two(BinaryOperator, Box<Tree<N, D>>, Box<Tree<N, D>>),
+    /// `f(t, u)`: a function of the terms' values.
+    Call(Word, Vec<Tree<N, D>>),
+    /// `{t, u}` or `[t, u]`, with the shape that it has.
+    Display(DisplayForm, D, Vec<Tree<N, D>>),
+    /// `t.f`: a field, with the shape of the tuple.
+    Field(Box<Tree<N, D>>, Word, D),
 }
 
 /// A term as a text spells it.
-pub type Term = Tree<()>;
+pub type Term = Tree<(), ()>;
 
 /// A term of a checked system: beside each name the place of its value in the environment.
-pub type Checked = Tree<usize>;
+pub type Checked = Tree<usize, Shape>;
 
-/// Where an assignment puts a value (profile).
-#[derive(Debug, Drop)]
-pub enum Place<N> {
-    /// A variable.
-    Variable(Word, N),
+/// Where an assignment puts a value (profile), with the shape of the variable.
+#[derive(Drop)]
+pub enum Place<N, D> {
+    /// `x`: a variable.
+    Variable(Word, N, D),
+    /// `x[t]`: the value of a map at a key.
+    At(Word, N, D, Tree<N, D>),
+    /// `x.f`: a field of a tuple.
+    Field(Word, N, D, Word),
+}
+
+/// `t then s`, an arm of an `if`.
+#[cycle(statement)]
+#[derive(Drop)]
+pub struct Arm<N, D> {
+    /// The test.
+    pub test: Tree<N, D>,
+    /// The statements that are performed where the test is true.
+    pub body: Vec<Statement<N, D>>,
 }
 
 /// A statement of an effect or of a schedule block (profile).
-#[derive(Debug, Drop)]
-pub enum Statement<N> {
+#[cycle(statement)]
+#[derive(Drop)]
+pub enum Statement<N, D> {
     /// `x := t`.
-    Assign(Place<N>, Tree<N>),
+    Assign(Place<N, D>, Tree<N, D>),
+    /// `if t then s elseif u then s else s fi`: the first arm whose test is true, or the rest.
+    If(Vec<Arm<N, D>>, Vec<Statement<N, D>>),
     /// `fire a(t, u)`, in schedule blocks alone, with the action's kind where it is written.
-    Fire(Option<Kind>, Word, Vec<Tree<N>>),
+    Fire(Option<Kind>, Word, Vec<Tree<N, D>>),
 }

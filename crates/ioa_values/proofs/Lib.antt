@@ -1,2 +1,9 @@
 -- the lemmas of this crate
+pub mod Ascending
+pub mod Commas
+pub mod Endings
 pub mod Equality
+pub mod Falls
+pub mod Halves
+pub mod Merging
+pub mod Places

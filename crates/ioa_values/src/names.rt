@@ -1,9 +1,11 @@
 //! Values as text.
 
-ghost use Rattle.std.specs.Prelude.{◌≡◌, ◌++◌, IfOk, [], string_bytes};
-ghost use Rattle.ioa_values.specs.Text.{text};
+ghost use Rattle.std.specs.Prelude.{◌≡◌, ◌++◌, IfOk, OnOk, [], string_bytes, codes, get_or};
+ghost use Rattle.std.specs.Fmt.{signed_decimal};
+ghost use Rattle.ioa_values.specs.Data.{items_of, entries_of};
+ghost use Rattle.ioa_values.specs.Text.{text, texts, entry_texts, with_commas, separator};
 
-use crate::value::Value;
+use crate::value::{Node, Value};
 use crate::word::Word;
 use std::alloc::{AllocError, Global};
 use std::marker::Model;
@@ -24,6 +26,13 @@ impl Model for Names {
 }
 
 impl Names {
+    /// The names of the constants of a text, in the order of their declaration.
+    pub fn new(words: Vec<Word>) -> Self
+        ensures { result ≡ words.items }
+    {
+        Names { words }
+    }
+
     /// No names: of a text that declares no constants.
     pub fn none(alloc: Global) -> Self
         ensures { result ≡ [] }
@@ -42,16 +51,117 @@ impl Names {
 }
 
 /// The text of a value (profile): a number is decimal with `-` for a negative one, a truth value is
-/// `true` or `false`.
+/// `true` or `false`, a constant is its name, a tuple is `[a, b]`, a sequence or a set `{a, b}`, and a
+/// map `{k -> v, l -> w}`. A constant without a name has no text.
 pub fn show(alloc: Global, names: &Names, value: &Value) -> Result<String, AllocError>
     ensures { IfOk result (λ s. string_bytes s ≡ text names.now value.now) }
 {
-    let _ = names;
-    match value.as_number() {
-        Some(n) => format!(in alloc; "{n}"),
-        None => match value.as_truth() {
-            Some(true) => String::from_str(alloc, "true"),
-            _ => String::from_str(alloc, "false"),
-        },
+    let mut output = String::new(alloc);
+    push_shown(&mut output, names, value)?;
+    Ok(output)
+}
+
+/// Writes the text of a value behind what is written.
+#[cycle(showing)]
+#[tactic(auto, using(crate::proofs::Falls::most_items, crate::proofs::Falls::most_entries))]
+pub fn push_shown(output: &mut String, names: &Names, value: &Value) -> Result<(), AllocError>
+    ensures { OnOk result (string_bytes output.new ≡ string_bytes output.old ++ text names.now value.now) }
+{
+    match &value.node {
+        Node::Number(n) => push_number(output, *n),
+        Node::Truth(b) => output.push_str(if *b { "true" } else { "false" }),
+        Node::Constant(place) => push_name(output, names, *place),
+        Node::Tuple(parts) => push_enclosed(output, names, "[", parts, "]"),
+        Node::Sequence(items) => push_enclosed(output, names, "{", items, "}"),
+        Node::Set(members) => push_enclosed(output, names, "{", members, "}"),
+        Node::Map(entries) => push_map(output, names, entries),
     }
+}
+
+/// Writes a number.
+fn push_number(output: &mut String, n: i64) -> Result<(), AllocError>
+    ensures { OnOk result (string_bytes output.new ≡ string_bytes output.old ++ signed_decimal n) }
+{
+    write!(output, "{n}")?;
+    Ok(())
+}
+
+/// Writes the name of the constant at a place, where it has one.
+fn push_name(output: &mut String, names: &Names, place: usize) -> Result<(), AllocError>
+    ensures { OnOk result (string_bytes output.new ≡ string_bytes output.old ++ get_or names.now place []) }
+{
+    match names.as_slice().get(place) {
+        Some(word) => output.push_str(word.as_str()),
+        None => Ok(()),
+    }
+}
+
+/// Writes values between two brackets.
+#[cycle(showing)]
+fn push_enclosed(
+    output: &mut String,
+    names: &Names,
+    left: &str,
+    values: &Vec<Value>,
+    right: &str,
+) -> Result<(), AllocError>
+    ensures { OnOk result (string_bytes output.new ≡ string_bytes output.old ++ (left.now ++ with_commas (texts names.now (items_of values.now.items)) ++ right.now)) }
+{
+    output.push_str(left)?;
+    push_values(output, names, values)?;
+    output.push_str(right)
+}
+
+/// Writes values with commas between them.
+#[cycle(showing)]
+fn push_values(output: &mut String, names: &Names, values: &Vec<Value>) -> Result<(), AllocError>
+    ensures { OnOk result (string_bytes output.new ≡ string_bytes output.old ++ with_commas (texts names.now (items_of values.now.items))) }
+{
+    for (place, value) in values.iter().enumerate() {
+        push_separator(output, place)?;
+        push_shown(output, names, value)?;
+    }
+    Ok(())
+}
+
+/// Writes a map.
+#[cycle(showing)]
+fn push_map(
+    output: &mut String,
+    names: &Names,
+    entries: &Vec<(Value, Value)>,
+) -> Result<(), AllocError>
+    ensures { OnOk result (string_bytes output.new ≡ string_bytes output.old ++ (codes "{" ++ with_commas (entry_texts names.now (entries_of entries.now.items)) ++ codes "}")) }
+{
+    output.push_str("{")?;
+    push_entries(output, names, entries)?;
+    output.push_str("}")
+}
+
+/// Writes entries with commas between them.
+#[cycle(showing)]
+fn push_entries(
+    output: &mut String,
+    names: &Names,
+    entries: &Vec<(Value, Value)>,
+) -> Result<(), AllocError>
+    ensures { OnOk result (string_bytes output.new ≡ string_bytes output.old ++ with_commas (entry_texts names.now (entries_of entries.now.items))) }
+{
+    for (place, entry) in entries.iter().enumerate() {
+        push_separator(output, place)?;
+        push_shown(output, names, &entry.0)?;
+        output.push_str(" -> ")?;
+        push_shown(output, names, &entry.1)?;
+    }
+    Ok(())
+}
+
+/// Writes what stands before the piece of a list at a place: a comma and a space, but for the first.
+fn push_separator(output: &mut String, place: usize) -> Result<(), AllocError>
+    ensures { OnOk result (string_bytes output.new ≡ string_bytes output.old ++ separator place) }
+{
+    if place > 0 {
+        output.push_str(", ")?;
+    }
+    Ok(())
 }

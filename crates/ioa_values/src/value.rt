@@ -1,8 +1,9 @@
 //! Values, as terms have them and configurations keep them.
 
 ghost use Rattle.std.specs.Prelude.{◌≡◌, ◌↔◌, IfOk, IsTrue, true};
-ghost use Rattle.ioa_values.specs.Data.{number, truth, as_number, as_truth, is_within};
-ghost use Rattle.ioa_values.specs.DataOrder.{same, data_cmp};
+ghost use Rattle.std.specs.Ordering.{ordering_then};
+ghost use Rattle.ioa_values.specs.Data.{number, truth, constant, tuple, sequence, items_of, entries_of, as_number, as_truth, is_within};
+ghost use Rattle.ioa_values.specs.DataOrder.{same, data_cmp, items_cmp, entries_cmp, kind};
 ghost use Rattle.ioa_values.specs.Sorts.{has_sort};
 
 use crate::sort::Sort;
@@ -10,27 +11,54 @@ use std::alloc::{AllocError, Global};
 use std::cmp::Ordering;
 use std::marker::Model;
 
-/// A value of the language: a number or a truth value. Numbers are kept in 64 bits; a contract sees
-/// the number itself.
+/// A value of the language: a number, a truth value, a constant, a tuple, a sequence, a finite set or
+/// a finite map. Numbers are kept in 64 bits; a contract sees the number itself.
+#[cycle(value)]
 #[derive(Debug, Drop)]
 pub struct Value {
-    node: Node,
+    /// What the value is.
+    pub node: Node,
 }
 
+/// What a value is. A set is kept as its members in ascending order, and a map as its entries in
+/// ascending order of keys, both without doubles.
+#[cycle(value)]
 #[derive(Debug, Drop)]
-enum Node {
+pub enum Node {
+    /// A whole number.
     Number(i64),
+    /// A truth value.
     Truth(bool),
+    /// A constant, by its place among the text's constants.
+    Constant(usize),
+    /// A tuple of its parts.
+    Tuple(Vec<Value>),
+    /// A sequence of its items.
+    Sequence(Vec<Value>),
+    /// A finite set of its members.
+    Set(Vec<Value>),
+    /// A finite map, as pairs of a key and its value.
+    Map(Vec<(Value, Value)>),
 }
 
 impl Model for Value {
     ghost use Rattle.ioa_values.specs.Data.{Data};
+    ghost use Rattle.ioa_values.specs.DataCode.{data_code};
 
     ghost Value = { Data };
 
+    ghost coded = { data_code };
+
+    ghost use Rattle.ioa_values.specs.Depth.{depth};
     ghost use Rattle.ioa_values.specs.Node.{data_of};
 
     ghost view = { λ v. data_of v.node };
+
+    ghost size = { depth };
+
+    ghost use Rattle.ioa_values.specs.NodeFalls.{deep-le-depth};
+
+    ghost size_decreases = { λ v h. deep-le-depth v.node };
 }
 
 impl Value {
@@ -52,13 +80,40 @@ impl Value {
         }
     }
 
+    /// The constant at a place among the text's constants.
+    pub fn constant(place: usize) -> Self
+        ensures { result ≡ constant place }
+    {
+        Value {
+            node: Node::Constant(place),
+        }
+    }
+
+    /// A tuple of its parts.
+    pub fn tuple(parts: Vec<Value>) -> Self
+        ensures { result ≡ tuple (items_of parts.items) }
+    {
+        Value {
+            node: Node::Tuple(parts),
+        }
+    }
+
+    /// A sequence of its items.
+    pub fn sequence(items: Vec<Value>) -> Self
+        ensures { result ≡ sequence (items_of items.items) }
+    {
+        Value {
+            node: Node::Sequence(items),
+        }
+    }
+
     /// The number, where the value is one.
     pub fn as_number(&self) -> Option<i64>
         ensures { result ≡ as_number self.now }
     {
         match &self.node {
             Node::Number(n) => Some(*n),
-            Node::Truth(_) => None,
+            _ => None,
         }
     }
 
@@ -67,8 +122,8 @@ impl Value {
         ensures { result ≡ as_truth self.now }
     {
         match &self.node {
-            Node::Number(_) => None,
             Node::Truth(b) => Some(*b),
+            _ => None,
         }
     }
 
@@ -82,40 +137,134 @@ impl Value {
     }
 
     /// An equal value with its own memory. Costs time and memory in proportion to the value.
+    #[cycle(copying)]
+    #[tactic(auto, using(crate::proofs::Falls::most_items, crate::proofs::Falls::most_entries))]
     pub fn try_copy(&self, alloc: Global) -> Result<Self, AllocError>
         ensures equal { IfOk result (λ v. v ≡ self.now) }
         ensures within { is_within self.now ≡ true }
     {
-        let _ = alloc;
+        let node = match &self.node {
+            Node::Number(n) => Node::Number(*n),
+            Node::Truth(b) => Node::Truth(*b),
+            Node::Constant(place) => Node::Constant(*place),
+            Node::Tuple(parts) => Node::Tuple(copy_values(alloc, parts)?),
+            Node::Sequence(items) => Node::Sequence(copy_values(alloc, items)?),
+            Node::Set(members) => Node::Set(copy_values(alloc, members)?),
+            Node::Map(entries) => Node::Map(copy_entries(alloc, entries)?),
+        };
+        Ok(Value { node })
+    }
+
+    /// The place of the value's kind in the order of kinds.
+    fn kind(&self) -> u8
+        ensures { result ≡ kind self.now }
+    {
         match &self.node {
-            Node::Number(n) => Ok(Value::number(*n)),
-            Node::Truth(b) => Ok(Value::truth(*b)),
+            Node::Number(_) => 0,
+            Node::Truth(_) => 1,
+            Node::Constant(_) => 2,
+            Node::Tuple(_) => 3,
+            Node::Sequence(_) => 4,
+            Node::Set(_) => 5,
+            Node::Map(_) => 6,
         }
     }
 
-    /// The order of values (profile): numbers by size, false before true, numbers first.
+    /// The order of values (profile): numbers by size, false before true, constants as declared, lists
+    /// item by item with a beginning before the longer list, sets and maps as their ascending lists;
+    /// values of two kinds by their kinds, in the order of `Node`.
+    #[cycle(comparing)]
+    #[tactic(auto, using(crate::proofs::Falls::most_items, crate::proofs::Falls::most_entries))]
     fn compare(&self, other: &Self) -> Ordering
         ensures { result ≡ data_cmp self.now other.now }
     {
-        match &self.node {
-            Node::Number(m) => match &other.node {
-                Node::Number(n) => m.cmp(n),
-                Node::Truth(_) => Ordering::Less,
-            },
-            Node::Truth(a) => match &other.node {
-                Node::Number(_) => Ordering::Greater,
-                Node::Truth(b) => a.cmp(b),
-            },
+        match (&self.node, &other.node) {
+            (Node::Number(m), Node::Number(n)) => m.cmp(n),
+            (Node::Truth(a), Node::Truth(b)) => a.cmp(b),
+            (Node::Constant(k), Node::Constant(l)) => k.cmp(l),
+            (Node::Tuple(xs), Node::Tuple(ys)) => compare_values(xs, ys),
+            (Node::Sequence(xs), Node::Sequence(ys)) => compare_values(xs, ys),
+            (Node::Set(xs), Node::Set(ys)) => compare_values(xs, ys),
+            (Node::Map(xs), Node::Map(ys)) => compare_entries(xs, ys),
+            _ => self.kind().cmp(&other.kind()),
         }
     }
 
     /// Whether two values are the same.
-    #[tactic(auto, using(crate::proofs::Equality::same_is))]
     pub fn equals(&self, other: &Self) -> bool
         ensures value { result ≡ same self.now other.now }
         ensures equality { IsTrue result ↔ (self.now ≡ other.now) }
     {
         self.compare(other) == Ordering::Equal
+    }
+}
+
+/// Copies of values, in order.
+#[cycle(copying)]
+fn copy_values(alloc: Global, values: &Vec<Value>) -> Result<Vec<Value>, AllocError>
+    ensures { IfOk result (λ v. v.items ≡ values.now.items) }
+{
+    let mut copies = Vec::new(alloc);
+    for value in values {
+        let copy = value.try_copy(alloc)?;
+        copies.push(copy)?;
+    }
+    Ok(copies)
+}
+
+/// Copies of entries, in order.
+#[cycle(copying)]
+fn copy_entries(
+    alloc: Global,
+    entries: &Vec<(Value, Value)>,
+) -> Result<Vec<(Value, Value)>, AllocError>
+    ensures { IfOk result (λ v. v.items ≡ entries.now.items) }
+{
+    let mut copies = Vec::new(alloc);
+    for (key, value) in entries {
+        let key = key.try_copy(alloc)?;
+        let value = value.try_copy(alloc)?;
+        copies.push((key, value))?;
+    }
+    Ok(copies)
+}
+
+/// The order of lists of values: the first two items that differ decide, and else the lengths.
+#[cycle(comparing)]
+fn compare_values(values: &Vec<Value>, others: &Vec<Value>) -> Ordering
+    ensures { result ≡ items_cmp (items_of values.now.items) (items_of others.now.items) }
+{
+    for place in 0..values.len().min(others.len()) {
+        match values[place].compare(&others[place]) {
+            Ordering::Equal => {}
+            decided => return decided,
+        }
+    }
+    values.len().cmp(&others.len())
+}
+
+/// The order of lists of entries: the first two keys or values that differ decide, and else the lengths.
+#[cycle(comparing)]
+fn compare_entries(entries: &Vec<(Value, Value)>, others: &Vec<(Value, Value)>) -> Ordering
+    ensures { result ≡ entries_cmp (entries_of entries.now.items) (entries_of others.now.items) }
+{
+    for place in 0..entries.len().min(others.len()) {
+        match compare_entry(&entries[place], &others[place]) {
+            Ordering::Equal => {}
+            decided => return decided,
+        }
+    }
+    entries.len().cmp(&others.len())
+}
+
+/// The order of two entries: by the keys, and then by the values.
+#[cycle(comparing)]
+fn compare_entry(left: &(Value, Value), right: &(Value, Value)) -> Ordering
+    ensures { result ≡ ordering_then (data_cmp left.now.0 right.now.0) (data_cmp left.now.1 right.now.1) }
+{
+    match left.0.compare(&right.0) {
+        Ordering::Equal => left.1.compare(&right.1),
+        decided => decided,
     }
 }
 

@@ -1,6 +1,6 @@
 -- A fault of a term as a node's ending bears it.
-use Rattle.ioa_terms.specs.declared.fault.TermFault.{TermFault}
-use Rattle.ioa_terms.specs.declared.fault.TermFault.TheVariants as term
+use Rattle.ioa_operators.specs.declared.fault.TermFault.{TermFault}
+use Rattle.ioa_operators.specs.declared.fault.TermFault.TheVariants as term
 use Rattle.ioarun.specs.declared.ending.Fault.{Fault}
 use Rattle.ioarun.specs.declared.ending.Fault.TheVariants.{Undefined, Range, Memory}
 

@@ -2,6 +2,7 @@
 use Rattle.std.specs.Prelude.{ℕ, ℤ, ◌+◌, List, [], ◌∷◌, ◌++◌, map, length, codes}
 use Rattle.std.specs.Fmt.{decimal, signed_decimal}
 use Rattle.std.specs.List.{flat_map}
+use Rattle.ioa_operators.specs.declared.shape.Shape.{Shape}
 use Rattle.ioa_values.specs.Data.{Data}
 use Rattle.ioa_values.specs.Text.{text, with_commas}
 use Rattle.ioa_terms.specs.ActionText.{action_text, node_action_text}
@@ -34,7 +35,7 @@ variable_line names i x v =
     codes "node " ++ (signed_decimal i ++ (codes " " ++ (x ++ (codes " = " ++ (text names v ++ codes "\n")))))
 
 -- one line a variable, as declared
-abbrev pub variable_lines : List (List ℕ) → ℤ → List Data → List (Variable ℕ) → List ℕ
+abbrev pub variable_lines : List (List ℕ) → ℤ → List Data → List (Variable ℕ Shape) → List ℕ
 variable_lines names i [] xs = []
 variable_lines names i (v ∷ vs) [] = []
 variable_lines names i (v ∷ vs) (x ∷ xs) = variable_line names i x.name v ++ variable_lines names i vs xs

@@ -1,17 +1,19 @@
 -- Turns of a schedule block of firings (profile).
-use Rattle.std.specs.Prelude.{ℕ, ℤ, ◌+◌, ◌^◌, ◌<◌, Bool, if◌then◌else◌, List, [], ◌∷◌, Option, Some, None, Result, Ok, Err, map, drop, codes}
+use Rattle.std.specs.Prelude.{ℕ, ℤ, ◌+◌, ◌^◌, ◌<◌, if◌then◌else◌, List, [], ◌∷◌, Option, Some, None, Result, Ok, Err, map, drop, codes}
 use Rattle.std.specs.List.{zip}
-use Rattle.ioa_values.specs.Data.{Data, number, truth}
+use Rattle.std.specs.Option.{option_and_then, option_map}
+use Rattle.ioa_values.specs.Data.{Data, as_number}
 use Rattle.ioa_values.specs.Outcome.{and_then}
 use Rattle.ioa_terms.specs.Bindings.{Bindings, same_name}
 use Rattle.ioa_terms.specs.Meaning.{answer}
-use Rattle.ioa_terms.specs.PlainTerm.{PlainTerm, PlainStatement, assign, fire}
+use Rattle.ioa_terms.specs.PlainTerm.{assign, choose, fire}
 use Rattle.ioa_terms.specs.declared.action.Action.{Action}
 use Rattle.ioa_terms.specs.declared.action.Action.TheVariants.{Send, Receive, Local, Stimulus}
-use Rattle.ioa_terms.specs.declared.fault.TermFault.{TermFault}
-use Rattle.ioa_terms.specs.declared.fault.TermFault.TheVariants.{Undefined}
+use Rattle.ioa_operators.specs.declared.fault.TermFault.{TermFault}
+use Rattle.ioa_operators.specs.declared.fault.TermFault.TheVariants.{Undefined}
 use Rattle.ioa_source.specs.View.{statement_of}
 use Rattle.ioa_source.specs.TextView.{variable_of}
+use Rattle.ioa_source.specs.Sides.{CheckedStatement, CheckedTerm}
 use Rattle.ioa_compose.specs.Placed.{variable_names}
 use Rattle.ioa_compose.specs.NodeState.{NodeState}
 use Rattle.ioarun.specs.declared.turn.Turn.{Turn}
@@ -22,13 +24,13 @@ abbrev pub view_of : NodeState → Bindings
 view_of c = zip (variable_names (map variable_of c.program.variables)) c.variables
 
 -- the values of terms in order, or the first fault among them
-abbrev pub answers : {N : Type 0} → List (PlainTerm N) → Bindings → Result (List Data) TermFault
+abbrev pub answers : List CheckedTerm → Bindings → Result (List Data) TermFault
 answers [] e = Ok []
 answers (t ∷ more) e = and_then (answer t e) (λ v. and_then (answers more e) (λ vs. Ok (v ∷ vs)))
 
 -- a message and the two ends of its channel, where arguments are these
 abbrev pub message_of : List Data → Option (Data × ℤ × ℤ)
-message_of (m ∷ (number i ∷ (number j ∷ []))) = Some (m, i, j)
+message_of (m ∷ x ∷ y ∷ []) = option_and_then (λ i. option_map (λ j. (m, i, j)) (as_number y)) (as_number x)
 message_of _ = None
 
 -- the action of node k of a name and arguments, where they are a message and its ends, or not
@@ -45,12 +47,13 @@ action_at k name vs = action_by k name vs (message_of vs)
 
 -- what a turn of node k answers where this statement stands next: a firing is the action whose arguments are the
 -- values of its terms; other statements do not come in this form
-abbrev pub statement_answer : ℤ → Bindings → PlainStatement ℕ → Result Turn TermFault
+abbrev pub statement_answer : ℤ → Bindings → CheckedStatement → Result Turn TermFault
 statement_answer k e (assign p t) = Err Undefined
+statement_answer k e (choose arms rest) = Err Undefined
 statement_answer k e (fire kind name ts) = and_then (answers ts e) (λ vs. Ok (Fire (action_at k name vs)))
 
 -- what a turn of node k answers, by the statements that are left of its block: Done where there are none
-abbrev pub turn_answer : ℤ → Bindings → List (PlainStatement ℕ) → Result Turn TermFault
+abbrev pub turn_answer : ℤ → Bindings → List CheckedStatement → Result Turn TermFault
 turn_answer k e [] = Ok Done
 turn_answer k e (s ∷ more) = statement_answer k e s
 

@@ -1,7 +1,6 @@
 -- What a whole run writes (profile).
 use Rattle.std.specs.Prelude.{◌≡◌, ℕ, Bool, true, false, List, Option, Result, Ok, Err, ⊤}
 use Rattle.std.specs.Io.KnownBytes.{Keeps, Appends}
-use Rattle.ioa_source.specs.PlainText.{PlainText}
 use Rattle.ioa_front.specs.Texts.{TextSpells}
 use Rattle.ioa_compose.specs.Made.{IsSystemOf}
 use Rattle.ioa_compose.specs.Rows.{HasNoRow}
@@ -13,11 +12,12 @@ use Rattle.ioarun.specs.declared.whole_run.RunFault.TheVariants.{Front, Check, M
 use Rattle.ioarun.specs.Out.{AppendsBeginning}
 use Rattle.ioarun.specs.Reports.{report_text}
 use Rattle.ioarun.specs.Recorded.{IsRunOf}
+use Rattle.ioa_source.specs.Sides.{SourceText}
 
 -- a system that a text describes: the tokens of the text spell a source in which no row of refusal stands, and the
 -- system is that source's
 pub record IsDescribed (text : List ℕ) (s : SystemParts) : Type 0 where
-  pub source : PlainText (Unit {0})
+  pub source : SourceText
   pub spelled : TextSpells source text
   pub rows : HasNoRow source
   pub system : IsSystemOf source s

@@ -10,7 +10,7 @@ use crate::record::Record;
 use ioa_compose::{Conf, Item, NodeConf, Queue, System};
 use ioa_source::Variable;
 use ioa_terms::{
-    Action, Component, Names, Value, push_listed, show, show_action, show_node_action,
+    Action, Component, Names, Shape, Value, push_listed, show, show_action, show_node_action,
 };
 use std::alloc::{AllocError, Global};
 
@@ -103,7 +103,7 @@ fn push_variables(
     names: &Names,
     node: i64,
     values: &[Value],
-    variables: &[Variable<usize>],
+    variables: &[Variable<usize, Shape>],
     report: &mut String,
 ) -> Result<(), AllocError>
     ensures { OnOk result (string_bytes report.new ≡ string_bytes report.old ++ variable_lines names.now node values.now variables.now) }

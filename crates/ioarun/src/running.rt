@@ -4,8 +4,9 @@ ghost use Rattle.std.specs.Prelude.{◌≡◌, ◌⊎◌, ◌+◌, ◌<◌, ◌^
 ghost use Rattle.std.specs.Arc.{arc_value};
 ghost use Rattle.ioa_values.specs.Outcome.{Answers};
 ghost use Rattle.ioa_compose.specs.Composition.{joint_answer};
-ghost use Rattle.ioarun.specs.Turns.{IsCounted};
-ghost use Rattle.ioarun.specs.Attempts.{tried_of, turn_at, fire_answer, attempt_answer, Counts, IsStepOf};
+ghost use Rattle.std.specs.Ordering.{int_eq};
+ghost use Rattle.ioarun.specs.Turns.{IsCounted, node_of};
+ghost use Rattle.ioarun.specs.Attempts.{tried_of, turn_at, taken, fire_answer, attempt_answer, Counts, IsStepOf};
 ghost use Rattle.ioarun.specs.Recorded.{Continues, IsRunOf};
 ghost use Rattle.ioarun.specs.Solo.{progress_at};
 
@@ -196,8 +197,7 @@ fn turn_of(alloc: Global, states: &[Conf], node: &Progress) -> Result<Turn, Term
 }
 
 /// The step of an action that a node fires: `NotMine` where the action is another node's, else what the
-/// composition answers. An action that is not enabled is missed; a step is `Full` where the schedule is
-/// as long as the limit allows.
+/// composition answers.
 fn fire(
     alloc: Global,
     limit: u64,
@@ -209,9 +209,27 @@ fn fire(
         (fire_answer limit course.now.schedule.items course.now.states.items node action) }
     ensures step { IfOk result (IsStepOf limit course.now) }
 {
-    if node_of(&action) != node {
-        return Err(Fault::NotMine);
+    if is_fired_by(&action, node) {
+        take(alloc, limit, course, action)
+    } else {
+        Err(Fault::NotMine)
     }
+}
+
+/// Whether an action is fired by this node's program.
+fn is_fired_by(action: &Action, node: i64) -> bool
+    ensures { result ≡ int_eq (node_of action.now) node }
+{
+    node_of(action) == node
+}
+
+/// The step of an action by the composition's answer. An action that is not enabled is missed; a step is
+/// `Full` where the schedule is as long as the limit allows.
+fn take(alloc: Global, limit: u64, course: &Course, action: Action) -> Result<Tried, Fault>
+    ensures answer { Answers Fault.Memory tried_of result
+        (taken limit course.now.schedule.items action (joint_answer action course.now.states.items)) }
+    ensures step { IfOk result (IsStepOf limit course.now) }
+{
     match joint_step(alloc, &course.states, &action) {
         Ok(states) => {
             if (course.schedule.len() as u64) < limit {

@@ -12,7 +12,7 @@ ghost use Rattle.ioarun.specs.Turns.{view_of, answers, message_of, action_at, st
 use ioa_compose::NodeConf;
 use ioa_source::Variable;
 use ioa_terms::{
-    Action, Checked, Env, NodeAction, Statement, TermFault, Value, Values, Word, eval,
+    Action, Checked, Env, NodeAction, Shape, Statement, TermFault, Value, Values, Word, eval,
 };
 use std::alloc::{AllocError, Global};
 
@@ -39,18 +39,22 @@ pub fn next(alloc: Global, node: &NodeConf, passed: usize) -> Result<Turn, TermF
 }
 
 /// The turn where this statement stands next.
-fn fire(alloc: Global, node: &NodeConf, statement: &Statement<usize>) -> Result<Turn, TermFault>
+fn fire(
+    alloc: Global,
+    node: &NodeConf,
+    statement: &Statement<usize, Shape>,
+) -> Result<Turn, TermFault>
     requires { IsPlacedFiring (statement_of statement.now)
         (variable_names (map variable_of node.now.program.variables)) }
     ensures { Answers TermFault.Memory (λ t. t) result
         (statement_answer node.now.program.node (view_of node.now) (statement_of statement.now)) }
 {
     match statement {
-        Statement::Assign(_, _) => Err(TermFault::Undefined),
         Statement::Fire(_, name, terms) => {
             let arguments = arguments_of(alloc, node, terms)?;
             Ok(Turn::Fire(action_at(alloc, node.node(), name, arguments)?))
         }
+        _ => Err(TermFault::Undefined),
     }
 }
 
@@ -67,7 +71,7 @@ fn arguments_of(alloc: Global, node: &NodeConf, terms: &[Checked]) -> Result<Vec
 }
 
 /// The names of variables, in order.
-fn names_of(alloc: Global, variables: &[Variable<usize>]) -> Result<Vec<Word>, AllocError>
+fn names_of(alloc: Global, variables: &[Variable<usize, Shape>]) -> Result<Vec<Word>, AllocError>
     ensures { IfOk result (λ v. v.items ≡ variable_names (map variable_of variables.now)) }
 {
     let mut names = Vec::new(alloc);

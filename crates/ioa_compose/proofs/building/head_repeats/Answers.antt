@@ -8,6 +8,6 @@ use Rattle.ioa_compose.proofs.building.head_repeats.Goals as goal
 
 pub returns-then-parameters-arguments : goal.returns-then-parameters-arguments
 returns-then-parameters-arguments c =
-    let m = length-map c.args.parameters.now (parameter_of {N = Unit {0}}) in
-    let n = length-map c.args.arguments.now (term_of {N = Unit {0}}) in
+    let m = length-map c.args.parameters.now (parameter_of {N = Unit {0}} {D = Unit {0}}) in
+    let n = length-map c.args.arguments.now (term_of {N = Unit {0}} {D = Unit {0}}) in
     sym (pointwise_short argument_repeats (map parameter_of c.args.parameters.now) (map term_of c.args.arguments.now) (λ e. omega arith))

@@ -1,12 +1,7 @@
-use Rattle.std.proofs.Common.{◌≡◌, ◌∙◌, ℕ, List, [], true, subst, map}
+use Rattle.std.proofs.Common.{◌≡◌, ◌∙◌, ℕ, List, true, subst, map}
 use Rattle.std.specs.List.{list_all}
-use Rattle.ioa_source.specs.View.{statement_of}
-use Rattle.ioa_source.specs.PlainTerm.{PlainStatement}
-use Rattle.ioa_source.specs.Erasure.{erase_statement, erase_variable}
-use Rattle.ioa_source.specs.PlainText.{PlainVariable}
 use Rattle.ioa_compose.specs.Placed.{variable_names}
-use Rattle.ioa_compose.specs.Rows.{fires_only, guard_reads_only}
-use Rattle.ioa_compose.proofs.Names.{fires_only-placed, initials_read_none}
+use Rattle.ioa_compose.specs.Rows.{fires_only}
 use Rattle.ioa_source.specs.TextView.{automaton_of, variable_of}
 use Rattle.ioa_compose.proofs.Rows.{entries_erased, variables_erased}
 use Rattle.ioa_compose.proofs.building.program_of.Goals as goal
@@ -15,14 +10,9 @@ pub returns-clause-rows : goal.returns-clause-rows
 returns-clause-rows c =
     let a = automaton_of c.args.automaton.now in
     let vs = map variable_of c.in_ok-variables.variables.items in
-    let ss = map statement_of c.in_ok-schedule.schedule.items in
     let names : c.in_ok-names.names ≡ variable_names a.states = (rw c.deref-3.ensures.value at c.in_ok-names.ensures.names) ∙ variables_erased a vs (rw c.deref.ensures.value at c.in_ok-variables.ensures.same) in
-    let same : map erase_statement ss ≡ a.schedule = rw c.deref-5.ensures.value at c.in_ok-schedule.ensures.same in
-    let read : list_all (fires_only c.in_ok-names.names) a.schedule ≡ true =
-    subst (λ (xs : List (PlainStatement (Unit {0}))). list_all (fires_only c.in_ok-names.names) xs ≡ true) same (fires_only-placed ss c.in_ok-names.names c.in_ok-schedule.ensures.placed) in
-    let initial_names : list_all (λ (v : PlainVariable (Unit {0})). guard_reads_only [] v.initial) (map erase_variable vs) ≡ true = initials_read_none vs c.in_ok-variables.ensures.placed in
+    let read : list_all (fires_only c.in_ok-names.names) a.schedule ≡ true = rw c.deref-5.ensures.value at c.in_ok-schedule.ensures.names in
     record {
-      initial_names = subst (λ (xs : List (PlainVariable (Unit {0}))). list_all (λ (v : PlainVariable (Unit {0})). guard_reads_only [] v.initial) xs ≡ true) (rw c.deref.ensures.value at c.in_ok-variables.ensures.same) initial_names;
       read = subst (λ (ns : List (List ℕ)). list_all (fires_only ns) a.schedule ≡ true) names read;
       entries_differ = c.in_ok-entries_differ.ensures;
       transitions_differ = c.in_ok-transitions_differ.ensures;
@@ -32,5 +22,6 @@ returns-clause-rows c =
       arguments = rw c.deref-5.ensures.value at c.in_ok-schedule.ensures.numbers;
       initials = rw c.deref.ensures.value at c.in_ok-variables.ensures.initials;
       initial_numbers = rw c.deref.ensures.value at c.in_ok-variables.ensures.numbers;
+      initial_names = rw c.deref.ensures.value at c.in_ok-variables.ensures.names;
       entries = entries_erased (automaton_of c.args.automaton.now) (map variable_of c.in_ok-variables.variables.items) (rw c.deref.ensures.value at c.in_ok-variables.ensures.same) (rw c.deref-4.ensures.value at c.in_ok-rules.ensures.rows);
     }

@@ -1,15 +1,11 @@
-use Rattle.std.proofs.Common.{◌≡◌, ◌++◌, ℕ, List, Option, true, sym, ap, subst, ◌∙◌, map, take, length, rules}
+use Rattle.std.proofs.Common.{◌≡◌, ◌++◌, ℕ, List, true, sym, subst, ◌∙◌, map, take, length, rules}
 use Rattle.std.proofs.lemmas.List.{length-map}
 use Rattle.std.specs.List.{IsDistinct, list_all}
-use Rattle.std.specs.Option.{option_map}
 use Rattle.ioa_terms.specs.Bindings.{same_name}
-use Rattle.ioa_source.specs.PlainTerm.{PlainTerm}
-use Rattle.ioa_source.specs.PlainText.{PlainParameter, PlainEntry, PlainVariable, PlainTransition}
-use Rattle.ioa_source.specs.Erasure.{erase_term, erase_parameter}
 use Rattle.ioa_source.specs.TextView.{entry_of, transition_of, variable_of}
+use Rattle.ioa_source.specs.Sides.{CheckedVariable}
 use Rattle.ioa_compose.specs.Placed.{variable_names, own_names}
-use Rattle.ioa_compose.specs.Rows.{guard_reads_only, assigns_only, reads_no_name}
-use Rattle.ioa_compose.proofs.Names.{guard_reads_only-placed, constants_read_none}
+use Rattle.ioa_compose.specs.Rows.{guard_reads_only, assigns_only}
 use Rattle.ioa_compose.proofs.Rows.{scope_of-erase, take_first}
 use Rattle.ioa_compose.proofs.building.rule_of.Goals as goal
 
@@ -17,19 +13,14 @@ pub returns-clause-rows : goal.returns-clause-rows
 returns-clause-rows c =
     let scope = c.in_ok-scope.scope in
     let t = transition_of c.in-Some.transition.now in
-    let placed = transition_of c.in_ok-transition.transition in
-    let names : scope ≡ variable_names (map variable_of c.args.variables.now) ++ own_names (entry_of c.args.entry.now).parameters =
-    scope_of-erase (map variable_of c.args.variables.now) (entry_of c.in_ok-entry.entry) (entry_of c.args.entry.now) scope c.in_ok-scope.ensures.names c.in_ok-entry.ensures.same in
-    let pre : option_map erase_term placed.pre ≡ t.pre = ap (λ (u : PlainTransition (Unit {0})). u.pre) c.in_ok-transition.ensures.same in
-    let guard_names : guard_reads_only scope t.pre ≡ true =
-    subst (λ (g : Option (PlainTerm (Unit {0}))). guard_reads_only scope g ≡ true) pre (guard_reads_only-placed placed.pre scope c.in_ok-transition.ensures.guard) in
     let vs = map variable_of c.args.variables.now in
     let own = own_names (entry_of c.args.entry.now).parameters in
-    let many : length c.args.variables.now ≡ length (variable_names vs) = sym (length-map vs (λ (v : PlainVariable ℕ). v.name) ∙ length-map c.args.variables.now variable_of) in
+    let names : scope ≡ variable_names vs ++ own =
+    scope_of-erase vs (entry_of c.in_ok-entry.entry) (entry_of c.args.entry.now) scope c.in_ok-scope.ensures.names c.in_ok-entry.ensures.same in
+    let many : length c.args.variables.now ≡ length (variable_names vs) = sym (length-map vs (λ (v : CheckedVariable). v.name) ∙ length-map c.args.variables.now variable_of) in
     let first : take (length c.args.variables.now) (variable_names vs ++ own) ≡ variable_names vs = take_first (length c.args.variables.now) (variable_names vs) own many in
     let written : list_all (assigns_only (take (length c.args.variables.now) (variable_names vs ++ own)) (variable_names vs ++ own)) t.effect ≡ true =
     subst (λ (ns : List (List ℕ)). list_all (assigns_only (take (length c.args.variables.now) ns) ns) t.effect ≡ true) names c.in_ok-transition.ensures.names in
-    let parameters : map erase_parameter (entry_of c.in_ok-entry.entry).parameters ≡ (entry_of c.args.entry.now).parameters = ap (λ (e : PlainEntry (Unit {0})). e.parameters) c.in_ok-entry.ensures.same in
     record {
       transition = t;
       found = sym c.in-Some.ensures;
@@ -39,7 +30,7 @@ returns-clause-rows c =
       constants = c.in_ok-entry.ensures.numbers;
       guard = c.in_ok-transition.ensures.sort;
       effect = c.in_ok-transition.ensures.numbers;
-      guard_names = subst (λ (ns : List (List ℕ)). guard_reads_only ns t.pre ≡ true) names guard_names;
-      constant_names = subst (λ (ps : List (PlainParameter (Unit {0}))). list_all reads_no_name ps ≡ true) parameters (constants_read_none (entry_of c.in_ok-entry.entry).parameters c.in_ok-entry.ensures.placed);
+      constant_names = c.in_ok-entry.ensures.names;
+      guard_names = subst (λ (ns : List (List ℕ)). guard_reads_only ns t.pre ≡ true) names c.in_ok-transition.ensures.guard_names;
       effect_names = subst (λ (ns : List (List ℕ)). list_all (assigns_only ns (variable_names vs ++ own)) t.effect ≡ true) first written;
     }

@@ -4,7 +4,7 @@ use Rattle.ioa_source.specs.TextView.{automaton_of, entry_of, variable_of}
 use Rattle.ioa_source.specs.Erasure.{erase_entry}
 use Rattle.ioa_compose.specs.Placed.{IsPlacedRule, variable_names}
 use Rattle.ioa_compose.specs.Rows.{HasNoEntryRow}
-use Rattle.ioa_compose.specs.Made.{IsRuleOf}
+use Rattle.ioa_compose.specs.Made.{HasIntegers, IsRuleOf}
 use Rattle.ioa_compose.proofs.building.rules_of.Given as goal
 
 -- the rules of the entries gone by
@@ -13,5 +13,6 @@ invariant-loop-entry l = record {
   placed : All (IsPlacedRule (map variable_of l.variables)) l.rules.items;
   signature : map (λ r. erase_entry (entry_of r.entry)) l.rules.items ≡ map entry_of (take l.entry-index l.automaton.signature.items);
   transitions : AllByRecursion (IsRuleOf (automaton_of l.automaton)) l.rules.items;
+  shapes : AllByRecursion HasIntegers l.rules.items;
   rows : AllByRecursion (HasNoEntryRow (variable_names (map variable_of l.variables)) (automaton_of l.automaton).transitions) (map entry_of (take l.entry-index l.automaton.signature.items));
 }

@@ -1,6 +1,6 @@
 use Rattle.std.proofs.Common.{◌++◌, ◌∷◌, ◌∙◌, [], ℕ, List, ap, arith}
-use Rattle.ioa_source.specs.PlainText.{PlainDeclaration}
 use Rattle.ioa_source.specs.TextView.{declaration_of}
+use Rattle.ioa_source.specs.Sides.{SourceDeclaration}
 use Rattle.ioa_compose.specs.Made.{automaton_in}
 use Rattle.ioa_compose.specs.Rows as spec
 use Rattle.ioa_compose.proofs.Loops.{map_take, each_take}
@@ -11,7 +11,7 @@ loop-place-preserved c =
     let d = c.index-declarations-place.result in
     let at_name : List (List ℕ) → List (List ℕ) = λ ns. ns ++ (automaton_in (declaration_of d)).name ∷ [] in
     record {
-      names = c.in-Ok.ensures.added ∙ ap at_name c.loop-place.invariant.names ∙ map_take (λ (e : PlainDeclaration (Unit {0})). (automaton_in e).name) declaration_of c.args.declarations.now c.loop-place.place d (omega arith) c.index-declarations-place.is;
+      names = c.in-Ok.ensures.added ∙ ap at_name c.loop-place.invariant.names ∙ map_take (λ (e : SourceDeclaration). (automaton_in e).name) declaration_of c.args.declarations.now c.loop-place.place d (omega arith) c.index-declarations-place.is;
       differ = c.in-Ok.ensures.differ c.loop-place.invariant.differ;
-      rows = each_take (λ (e : PlainDeclaration (Unit {0})). spec.HasNoAutomatonRow (automaton_in e)) declaration_of c.args.declarations.now c.loop-place.place d c.loop-place.invariant.rows c.in-Ok.ensures.rows (omega arith) c.index-declarations-place.is;
+      rows = each_take (λ (e : SourceDeclaration). spec.HasNoAutomatonRow (automaton_in e)) declaration_of c.args.declarations.now c.loop-place.place d c.loop-place.invariant.rows c.in-Ok.ensures.rows (omega arith) c.index-declarations-place.is;
     }

@@ -1,7 +1,7 @@
-use Rattle.std.proofs.Common.{◌≡◌, map, take, drop}
+use Rattle.std.proofs.Common.{◌≡◌, [], map, take, drop}
 use Rattle.std.specs.List.{list_all}
 use Rattle.std.specs.Option.{is_some}
-use Rattle.ioa_compose.specs.Rows.{is_number_term}
+use Rattle.ioa_compose.specs.Rows.{guard_reads_only, is_number_term}
 use Rattle.ioa_source.specs.TextView.{variable_of}
 use Rattle.ioa_source.specs.Erasure.{erase_variable}
 use Rattle.ioa_compose.specs.Placed.{ArePlacedVariables}
@@ -14,4 +14,5 @@ invariant-loop-variable l = record {
   placed : ArePlacedVariables (map variable_of l.placed.items);
   initials : list_all (λ v. is_some v.initial) (map variable_of (drop l.variable-index l.variables)) ≡ list_all (λ v. is_some v.initial) (map variable_of l.variables);
   numbers : list_all (λ v. is_number_term v.initial) (map variable_of (drop l.variable-index l.variables)) ≡ list_all (λ v. is_number_term v.initial) (map variable_of l.variables);
+  names : list_all (λ v. guard_reads_only [] v.initial) (map variable_of (drop l.variable-index l.variables)) ≡ list_all (λ v. guard_reads_only [] v.initial) (map variable_of l.variables);
 }

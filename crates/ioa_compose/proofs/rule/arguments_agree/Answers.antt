@@ -1,4 +1,5 @@
-use Rattle.std.proofs.Common.{◌≡◌, ℕ, sym, map, arith}
+use Rattle.std.proofs.Common.{ℕ, sym, map, arith}
+use Rattle.ioa_operators.specs.declared.shape.Shape.{Shape}
 use Rattle.std.proofs.lemmas.List.{length-map}
 use Rattle.ioa_source.specs.TextView.{parameter_of}
 use Rattle.ioa_compose.proofs.Arguments.{arguments_agree_short}
@@ -6,5 +7,5 @@ use Rattle.ioa_compose.proofs.rule.arguments_agree.Goals as goal
 
 pub returns-then-parameters-arguments : goal.returns-then-parameters-arguments
 returns-then-parameters-arguments c =
-    let n = length-map c.args.parameters.now (parameter_of {N = ℕ}) in
+    let n = length-map c.args.parameters.now (parameter_of {N = ℕ} {D = Shape}) in
     sym (arguments_agree_short (map parameter_of c.args.parameters.now) c.args.arguments.now (λ e. omega arith))

@@ -1,4 +1,5 @@
-use Rattle.std.proofs.Common.{◌≡◌, ℕ, map, length, arith}
+use Rattle.std.proofs.Common.{ℕ, map, arith}
+use Rattle.ioa_operators.specs.declared.shape.Shape.{Shape}
 use Rattle.std.proofs.lemmas.List.{length-map}
 use Rattle.ioa_source.specs.TextView.{variable_of, entry_of}
 use Rattle.ioa_compose.proofs.Arguments.{named_scope}
@@ -8,6 +9,6 @@ pub take_transition-requires-clause-named : goal.take_transition-requires-clause
 take_transition-requires-clause-named c =
     let placed = rw c.in-Some.is at c.in_ok-rule_for.ensures.placed in
     let agrees = rw c.in-Some.is at c.in_ok-rule_for.ensures.agrees in
-    let many = length-map c.args.program.now.variables (variable_of {N = ℕ}) in
+    let many = length-map c.args.program.now.variables (variable_of {N = ℕ} {D = Shape}) in
     rw (placed.scope, c.deref-in-Some.ensures.value, c.in_ok-arguments.ensures)
     (named_scope (entry_of c.in-Some.rule.now.entry) (map variable_of c.args.program.now.variables) c.args.variables.now c.args.action.now agrees (omega arith))

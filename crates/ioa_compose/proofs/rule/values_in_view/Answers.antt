@@ -1,4 +1,4 @@
-use Rattle.std.proofs.Common.{◌≡◌, sym, ◌∙◌, ap, map, arith, append-nil, ◌++◌, List}
+use Rattle.std.proofs.Common.{sym, ◌∙◌, ap, arith, append-nil, ◌++◌, List}
 use Rattle.ioa_source.specs.TextView.{parameter_of}
 use Rattle.ioa_compose.specs.Data.{Data}
 use Rattle.ioa_compose.proofs.Arguments.{own_values_end}

@@ -1,0 +1,6 @@
+-- the lemmas of this crate
+pub mod ItemLists
+pub mod NamedParts
+pub mod ShapeLists
+pub mod Canonicals
+pub mod Ascents

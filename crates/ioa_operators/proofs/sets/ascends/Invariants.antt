@@ -1,0 +1,7 @@
+use Rattle.std.proofs.Common.{◌-◌, drop}
+use Rattle.ioa_operators.specs.Collections.{IsAscending}
+use Rattle.ioa_operators.proofs.sets.ascends.Given as goal
+
+-- the whole ascends where what begins with the last member gone by does
+abbrev pub invariant-loop-place : goal.invariant-loop-place
+invariant-loop-place l = IsAscending (drop (l.place - 1) l.members.items) → IsAscending l.members.items

@@ -1,0 +1,20 @@
+-- A value judged by the results on the way to it.
+use Rattle.std.specs.Prelude.{List, [], ◌∷◌, Option, Some, None, Result, Err, if◌then◌else◌}
+use Rattle.std.specs.Option.{ok_or}
+use Rattle.std.specs.List.{list_all}
+use Rattle.ioa_operators.specs.Data.{Data, is_within}
+use Rattle.ioa_operators.specs.declared.fault.TermFault.{TermFault}
+use Rattle.ioa_operators.specs.declared.fault.TermFault.TheVariants.{Undefined, Range}
+
+-- the value, where there is one, as a list
+abbrev pub result_of : Option Data → List Data
+result_of None = []
+result_of (Some v) = v ∷ []
+
+-- 2 where a number met lies outside 64 bits, else 1 where there is no value, else the value
+abbrev pub judged : {A : Type 0} → List Data → Option A → Result A TermFault
+judged ds v = if list_all is_within ds then ok_or v Undefined else Err Range
+
+-- a result, judged alone
+abbrev pub kept : Option Data → Result Data TermFault
+kept v = judged (result_of v) v

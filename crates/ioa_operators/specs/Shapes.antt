@@ -1,0 +1,83 @@
+-- Shapes (profile): what sorts stand for, with the enumerations and tuple types that they name written out.
+use Rattle.std.specs.Prelude.{ℕ, pos, int_le, nat_le, nat_lt, nat_eq, ◌+◌, Bool, true, false, ◌&&◌, if◌then◌else◌, List, [], ◌∷◌, Option, Some, None, slice_get, slice_set}
+use Rattle.std.specs.List.{position}
+use Rattle.std.specs.Option.{option_and_then, option_map}
+use lib.Pointwise.{pointwise}
+use Rattle.ioa_operators.specs.Data.{Data, Items, Entries, number, truth, constant, tuple, sequence, finite_set, finite_map, no_items, item, no_entries, entry, items_of, list_of}
+use Rattle.ioa_operators.specs.Collections.{set_of}
+use Rattle.ioa_operators.specs.Operators.{sequence_of, finite_set_of, finite_map_of}
+use Rattle.ioa_operators.specs.declared.shape.DisplayForm.{DisplayForm}
+use Rattle.ioa_operators.specs.declared.shape.DisplayForm.TheVariants.{Braces, Brackets}
+
+mutual
+  -- the truth values; the whole numbers; those that are not negative; the constants of an enumeration, from a place on;
+  -- the tuples of a type, with the names and the shapes of its fields; the sequences and sets of items of a shape;
+  -- the maps of keys and values of two shapes
+  pub data PlainShape : Type 0 where
+    truths : PlainShape
+    integers : PlainShape
+    naturals : PlainShape
+    constants : (type : List ℕ) → (from : ℕ) → (many : ℕ) → PlainShape
+    tuples : (type : List ℕ) → (names : List (List ℕ)) → (fields : PlainShapes) → PlainShape
+    sequences : PlainShape → PlainShape
+    sets : PlainShape → PlainShape
+    maps : PlainShape → PlainShape → PlainShape
+
+  pub data PlainShapes : Type 0 where
+    no_shapes : PlainShapes
+    shape : PlainShape → PlainShapes → PlainShapes
+
+abbrev pub shapes_of : List PlainShape → PlainShapes
+shapes_of [] = no_shapes
+shapes_of (s ∷ more) = shape s (shapes_of more)
+
+-- whether a value has a shape: a negative number is no natural, wherever it stands
+abbrev mutual
+  pub has_shape : PlainShape → Data → Bool
+  has_shape truths (truth b) = true
+  has_shape integers (number z) = true
+  has_shape naturals (number z) = int_le (pos 0) z
+  has_shape (constants w from many) (constant k) = nat_le from k && nat_lt k (from + many)
+  has_shape (tuples w names ss) (tuple ds) = have_shapes ss ds
+  has_shape (sequences s) (sequence ds) = all_have s ds
+  has_shape (sets s) (finite_set ds) = all_have s ds
+  has_shape (maps k v) (finite_map es) = entries_have k v es
+  has_shape _ _ = false
+
+  -- whether values have shapes, one by one
+  pub have_shapes : PlainShapes → Items → Bool
+  have_shapes no_shapes no_items = true
+  have_shapes (shape s ss) (item d ds) = has_shape s d && have_shapes ss ds
+  have_shapes _ _ = false
+
+  -- whether values all have a shape
+  pub all_have : PlainShape → Items → Bool
+  all_have s no_items = true
+  all_have s (item d ds) = has_shape s d && all_have s ds
+
+  -- whether keys have a shape and values another
+  pub entries_have : PlainShape → PlainShape → Entries → Bool
+  entries_have k v no_entries = true
+  entries_have k v (entry d e es) = has_shape k d && (has_shape v e && entries_have k v es)
+
+-- the place of a name among the names of fields
+abbrev pub field_place : List ℕ → List (List ℕ) → Option ℕ
+field_place w names = position (pointwise nat_eq w) names
+
+-- the field of a name, of a value of a tuple type
+abbrev pub field_value : PlainShape → List ℕ → Data → Option Data
+field_value (tuples type names ss) w (tuple ds) = option_and_then (slice_get (list_of ds)) (field_place w names)
+field_value _ _ _ = None
+
+-- the tuple in which the field of a name has another value
+abbrev pub with_field : PlainShape → List ℕ → Data → Data → Option Data
+with_field (tuples type names ss) w v (tuple ds) = option_and_then (λ i. option_map (λ old. tuple (items_of (slice_set (list_of ds) i v))) (slice_get (list_of ds) i)) (field_place w names)
+with_field _ _ _ _ = None
+
+-- a display `{..}` or `[..]` that has a shape, of the values of its parts
+abbrev pub display_value : DisplayForm → PlainShape → List Data → Option Data
+display_value Braces (sequences s) ds = Some (sequence_of ds)
+display_value Braces (sets s) ds = Some (finite_set_of (set_of ds))
+display_value Braces (maps k v) [] = Some (finite_map_of [])
+display_value Brackets (tuples type names ss) ds = if have_shapes ss (items_of ds) then Some (tuple (items_of ds)) else None
+display_value _ _ _ = None

@@ -1,0 +1,77 @@
+//! The operators of the language between values.
+
+ghost use Rattle.std.specs.Prelude.{IfOk};
+ghost use Rattle.ioa_operators.specs.Canonical.{IsCanonical};
+ghost use Rattle.ioa_operators.specs.Outcome.{Answers};
+ghost use Rattle.ioa_operators.specs.Judged.{kept};
+ghost use Rattle.ioa_operators.specs.Operators.{unary_value, binary_value};
+
+use crate::fault::TermFault;
+use crate::lists::{appended, concatenated, membership, prepended};
+use crate::maps::at_key;
+use crate::numbers::{at_least, at_most, difference, greater, less, negative, product, sum};
+use crate::operator::{BinaryOperator, UnaryOperator};
+use crate::truths::{conjunction, disjunction, equivalence, implication, negation};
+use ioa_values::Value;
+use std::alloc::Global;
+
+/// The value of an operator before a value (profile).
+pub fn unary(operator: UnaryOperator, value: &Value) -> Result<Value, TermFault>
+    ensures value { Answers TermFault.Memory (λ v. v) result (kept (unary_value operator value.now)) }
+    ensures canonical { IfOk result IsCanonical }
+{
+    before_value(operator, value)
+}
+
+fn before_value(operator: UnaryOperator, value: &Value) -> Result<Value, TermFault>
+    ensures { Answers TermFault.Memory (λ v. v) result (kept (unary_value operator value.now)) }
+{
+    match operator {
+        UnaryOperator::Not => negation(value),
+        UnaryOperator::Negative => negative(value),
+    }
+}
+
+/// The value of an operator between two values (profile). Takes the values over, and their memory where
+/// the result is made of it: costs time in proportion to the values, and `|-` that of one more item.
+pub fn binary(
+    alloc: Global,
+    operator: BinaryOperator,
+    left: Value,
+    right: Value,
+) -> Result<Value, TermFault>
+    ensures value { Answers TermFault.Memory (λ v. v) result (kept (binary_value operator left right)) }
+    ensures canonical { IsCanonical left → IsCanonical right → IfOk result IsCanonical }
+{
+    between_values(alloc, operator, left, right)
+}
+
+fn between_values(
+    alloc: Global,
+    operator: BinaryOperator,
+    left: Value,
+    right: Value,
+) -> Result<Value, TermFault>
+    ensures { Answers TermFault.Memory (λ v. v) result (kept (binary_value operator left right)) }
+{
+    match operator {
+        BinaryOperator::Equivalent => equivalence(&left, &right),
+        BinaryOperator::Implies => implication(&left, &right),
+        BinaryOperator::Or => disjunction(&left, &right),
+        BinaryOperator::And => conjunction(&left, &right),
+        BinaryOperator::Equal => Ok(Value::truth(left.equals(&right))),
+        BinaryOperator::NotEqual => Ok(Value::truth(!left.equals(&right))),
+        BinaryOperator::Less => less(&left, &right),
+        BinaryOperator::AtMost => at_most(&left, &right),
+        BinaryOperator::Greater => greater(&left, &right),
+        BinaryOperator::AtLeast => at_least(&left, &right),
+        BinaryOperator::Member => membership(&left, &right),
+        BinaryOperator::Prepend => prepended(left, right),
+        BinaryOperator::Append => appended(left, right),
+        BinaryOperator::Concatenate => concatenated(left, right),
+        BinaryOperator::Plus => sum(&left, &right),
+        BinaryOperator::Minus => difference(&left, &right),
+        BinaryOperator::Times => product(&left, &right),
+        BinaryOperator::At => at_key(alloc, &left, &right),
+    }
+}

@@ -1,0 +1,74 @@
+//! Displays: `{..}` and `[..]`.
+
+ghost use Rattle.std.specs.Prelude.{IfOk};
+ghost use Rattle.ioa_operators.specs.Canonical.{AllCanonical, IsCanonical};
+ghost use Rattle.ioa_operators.specs.Outcome.{Answers};
+ghost use Rattle.ioa_operators.specs.Judged.{kept};
+ghost use Rattle.ioa_operators.specs.Shapes.{display_value};
+ghost use Rattle.ioa_operators.specs.ShapeView.{shape_of};
+
+use crate::fault::TermFault;
+use crate::maps::map;
+use crate::sets::set_of_values;
+use crate::shape::{DisplayForm, Shape, all_admit};
+use ioa_values::Value;
+use std::alloc::Global;
+
+/// The value of a display of these parts where it has a shape (profile). Takes over the parts and their
+/// memory. Costs time in proportion to the parts, and at a set what `collections::set_of` costs.
+pub fn display(
+    alloc: Global,
+    form: DisplayForm,
+    shape: &Shape,
+    parts: Vec<Value>,
+) -> Result<Value, TermFault>
+    ensures value { Answers TermFault.Memory (λ v. v) result (kept (display_value form (shape_of shape.now) parts.items)) }
+    ensures canonical { AllCanonical parts.items → IfOk result IsCanonical }
+{
+    displayed(alloc, form, shape, parts)
+}
+
+fn displayed(
+    alloc: Global,
+    form: DisplayForm,
+    shape: &Shape,
+    parts: Vec<Value>,
+) -> Result<Value, TermFault>
+    ensures { Answers TermFault.Memory (λ v. v) result (kept (display_value form (shape_of shape.now) parts.items)) }
+{
+    match form {
+        DisplayForm::Braces => braces(alloc, shape, parts),
+        DisplayForm::Brackets => brackets(shape, parts),
+    }
+}
+
+/// The value of `{..}`.
+fn braces(alloc: Global, shape: &Shape, parts: Vec<Value>) -> Result<Value, TermFault>
+    ensures { Answers TermFault.Memory (λ v. v) result (kept (display_value DisplayForm.Braces (shape_of shape.now) parts.items)) }
+{
+    match shape {
+        Shape::Sequences(_) => Ok(Value::sequence(parts)),
+        Shape::Sets(_) => set_of_values(alloc, parts),
+        Shape::Maps(_, _) => match parts.as_slice() {
+            [] => Ok(map(Vec::new(alloc))),
+            [_, ..] => Err(TermFault::Undefined),
+        },
+        _ => Err(TermFault::Undefined),
+    }
+}
+
+/// The value of `[..]`: a tuple whose parts have the shapes of its fields.
+fn brackets(shape: &Shape, parts: Vec<Value>) -> Result<Value, TermFault>
+    ensures { Answers TermFault.Memory (λ v. v) result (kept (display_value DisplayForm.Brackets (shape_of shape.now) parts.items)) }
+{
+    match shape {
+        Shape::Tuples(_, _, shapes) => {
+            if all_admit(shapes, &parts) {
+                Ok(Value::tuple(parts))
+            } else {
+                Err(TermFault::Undefined)
+            }
+        }
+        _ => Err(TermFault::Undefined),
+    }
+}

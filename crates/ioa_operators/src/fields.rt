@@ -1,0 +1,101 @@
+//! The fields of tuples.
+
+ghost use Rattle.std.specs.Prelude.{◌≡◌, IfOk, slice_set, ◌<◌, length};
+ghost use Rattle.ioa_operators.specs.Canonical.{IsCanonical};
+ghost use Rattle.ioa_operators.specs.Outcome.{Answers};
+ghost use Rattle.ioa_operators.specs.Judged.{kept};
+ghost use Rattle.ioa_operators.specs.Shapes.{field_place, field_value, with_field};
+ghost use Rattle.ioa_operators.specs.ShapeView.{shape_of};
+ghost use Rattle.ioa_operators.specs.Parts.{part_named, with_part};
+
+use crate::fault::TermFault;
+use crate::parts::{part, parts_of_tuple};
+use crate::shape::Shape;
+use ioa_values::{Value, Word};
+use std::mem;
+
+/// The field of a name, of a value of a tuple type (profile). Takes the value over; its other fields are
+/// dropped. Costs time in proportion to the names of the fields and the value.
+pub fn field(shape: &Shape, name: &Word, value: Value) -> Result<Value, TermFault>
+    ensures value { Answers TermFault.Memory (λ v. v) result (kept (field_value (shape_of shape.now) name.now value)) }
+    ensures canonical { IsCanonical value → IfOk result IsCanonical }
+{
+    field_of(shape, name, value)
+}
+
+#[tactic(auto, using(crate::proofs::NamedParts::field_value_tuples))]
+fn field_of(shape: &Shape, name: &Word, value: Value) -> Result<Value, TermFault>
+    ensures { Answers TermFault.Memory (λ v. v) result (kept (field_value (shape_of shape.now) name.now value)) }
+{
+    match shape {
+        Shape::Tuples(_, names, _) => field_among(names, name, value),
+        _ => Err(TermFault::Undefined),
+    }
+}
+
+/// The tuple in which the field of a name has another value (profile). Takes the values over, and the
+/// tuple's memory. Costs time in proportion to the names of the fields and to what is replaced.
+pub fn replace_field(
+    shape: &Shape,
+    name: &Word,
+    new: Value,
+    value: Value,
+) -> Result<Value, TermFault>
+    ensures value { Answers TermFault.Memory (λ v. v) result (kept (with_field (shape_of shape.now) name.now new value)) }
+    ensures canonical { IsCanonical new → IsCanonical value → IfOk result IsCanonical }
+{
+    field_replaced(shape, name, new, value)
+}
+
+#[tactic(auto, using(crate::proofs::NamedParts::with_field_tuples))]
+fn field_replaced(shape: &Shape, name: &Word, new: Value, value: Value) -> Result<Value, TermFault>
+    ensures { Answers TermFault.Memory (λ v. v) result (kept (with_field (shape_of shape.now) name.now new value)) }
+{
+    match shape {
+        Shape::Tuples(_, names, _) => replace_among(names, name, new, value),
+        _ => Err(TermFault::Undefined),
+    }
+}
+
+fn field_among(names: &Vec<Word>, name: &Word, value: Value) -> Result<Value, TermFault>
+    ensures { Answers TermFault.Memory (λ v. v) result (kept (part_named names.now.items name.now value)) }
+{
+    let mut parts = parts_of_tuple(value)?;
+    match place_of(names, name) {
+        Some(place) if place < parts.len() => part(parts.swap_remove(place)),
+        _ => Err(TermFault::Undefined),
+    }
+}
+
+fn replace_among(
+    names: &Vec<Word>,
+    name: &Word,
+    new: Value,
+    value: Value,
+) -> Result<Value, TermFault>
+    ensures { Answers TermFault.Memory (λ v. v) result (kept (with_part names.now.items name.now new value)) }
+{
+    let mut parts = parts_of_tuple(value)?;
+    match place_of(names, name) {
+        Some(place) if place < parts.len() => {
+            put_at(&mut parts, place, new);
+            Ok(Value::tuple(parts))
+        }
+        _ => Err(TermFault::Undefined),
+    }
+}
+
+/// The place of a field's name.
+fn place_of(names: &Vec<Word>, name: &Word) -> Option<usize>
+    ensures { result ≡ field_place name.now names.now.items }
+{
+    names.iter().position(|other| name == other)
+}
+
+/// Puts a value in the place of another, which is dropped.
+fn put_at(parts: &mut Vec<Value>, place: usize, new: Value)
+    requires { place < length parts.old.items }
+    ensures { parts.new.items ≡ slice_set parts.old.items place new }
+{
+    let _old = mem::replace(&mut parts[place], new);
+}

@@ -1,0 +1,137 @@
+//! The functions of the language.
+
+ghost use Rattle.std.specs.Prelude.{◌≡◌, IfOk, None, MatchOption};
+ghost use Rattle.ioa_operators.specs.Canonical.{AllCanonical, IsCanonical};
+ghost use Rattle.ioa_operators.specs.Outcome.{Answers};
+ghost use Rattle.ioa_operators.specs.Judged.{kept};
+ghost use Rattle.ioa_operators.specs.Parts.{listed};
+ghost use Rattle.ioa_operators.specs.Operators.{call_one, call_two, call_three, call_value, function_named};
+
+use crate::fault::TermFault;
+use crate::lists::{head, length, size, tail};
+use crate::maps::{defined, removed, updated};
+use crate::numbers::{quotient, remainder};
+use crate::operator::Function;
+use crate::sets::{deleted, inserted, united};
+use ioa_values::{Value, Word};
+use std::alloc::Global;
+
+impl Function {
+    /// The function of a name (profile).
+    pub fn named(name: &Word) -> Option<Function>
+        ensures { result ≡ function_named name.now }
+    {
+        match name.as_str() {
+            "head" => Some(Function::Head),
+            "tail" => Some(Function::Tail),
+            "len" => Some(Function::Length),
+            "size" => Some(Function::Size),
+            "div" => Some(Function::Quotient),
+            "mod" => Some(Function::Remainder),
+            "insert" => Some(Function::Insert),
+            "delete" => Some(Function::Delete),
+            "union" => Some(Function::Union),
+            "update" => Some(Function::Update),
+            "remove" => Some(Function::Remove),
+            "defined" => Some(Function::Defined),
+            _ => None,
+        }
+    }
+}
+
+/// The parts of a call, as many as a function may have.
+#[derive(Drop)]
+enum Parts {
+    One(Value),
+    Two(Value, Value),
+    Three(Value, Value, Value),
+}
+
+/// The value of a function at the values of its parts (profile). Takes the values over, and their memory
+/// where the result is made of it: costs time in proportion to the values.
+pub fn call(alloc: Global, function: Function, parts: Vec<Value>) -> Result<Value, TermFault>
+    ensures value { Answers TermFault.Memory (λ v. v) result (kept (call_value function parts.items)) }
+    ensures canonical { AllCanonical parts.items → IfOk result IsCanonical }
+{
+    called(alloc, function, parts)
+}
+
+fn called(alloc: Global, function: Function, parts: Vec<Value>) -> Result<Value, TermFault>
+    ensures { Answers TermFault.Memory (λ v. v) result (kept (call_value function parts.items)) }
+{
+    match few(parts) {
+        Some(Parts::One(value)) => call_of_one(function, value),
+        Some(Parts::Two(left, right)) => call_of_two(alloc, function, left, right),
+        Some(Parts::Three(first, second, third)) => {
+            call_of_three(function, first, second, third)
+        }
+        None => Err(TermFault::Undefined),
+    }
+}
+
+/// The parts, where there are one, two or three.
+fn few(parts: Vec<Value>) -> Option<Parts>
+    ensures { MatchOption result ((f : Function) → call_value f parts.items ≡ None) (λ p. parts.items ≡ listed p) }
+{
+    let mut parts = parts.into_iter();
+    let first = parts.next()?;
+    let Some(second) = parts.next() else {
+        return Some(Parts::One(first));
+    };
+    let Some(third) = parts.next() else {
+        return Some(Parts::Two(first, second));
+    };
+    match parts.next() {
+        Some(_) => None,
+        None => Some(Parts::Three(first, second, third)),
+    }
+}
+
+/// The value of a function of one value.
+fn call_of_one(function: Function, value: Value) -> Result<Value, TermFault>
+    ensures { Answers TermFault.Memory (λ v. v) result (kept (call_one function value)) }
+{
+    match function {
+        Function::Head => head(value),
+        Function::Tail => tail(value),
+        Function::Length => length(value),
+        Function::Size => size(&value),
+        _ => Err(TermFault::Undefined),
+    }
+}
+
+/// The value of a function of two values.
+fn call_of_two(
+    alloc: Global,
+    function: Function,
+    left: Value,
+    right: Value,
+) -> Result<Value, TermFault>
+    ensures { Answers TermFault.Memory (λ v. v) result (kept (call_two function left right)) }
+{
+    match function {
+        Function::Quotient => quotient(&left, &right),
+        Function::Remainder => remainder(&left, &right),
+        Function::Insert => inserted(left, right),
+        Function::Delete => deleted(&left, right),
+        Function::Union => united(alloc, left, right),
+        Function::Remove => removed(left, &right),
+        Function::Defined => defined(&left, &right),
+        _ => Err(TermFault::Undefined),
+    }
+}
+
+/// The value of a function of three values.
+fn call_of_three(
+    function: Function,
+    first: Value,
+    second: Value,
+    third: Value,
+) -> Result<Value, TermFault>
+    ensures { Answers TermFault.Memory (λ v. v) result (kept (call_three function first second third)) }
+{
+    match function {
+        Function::Update => updated(first, second, third),
+        _ => Err(TermFault::Undefined),
+    }
+}

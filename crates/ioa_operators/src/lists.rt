@@ -1,0 +1,96 @@
+//! Operators and functions of sequences.
+
+ghost use Rattle.ioa_operators.specs.Outcome.{Answers};
+ghost use Rattle.ioa_operators.specs.Judged.{kept};
+ghost use Rattle.ioa_operators.specs.Operators.{binary_value, call_one};
+
+use crate::fault::TermFault;
+use crate::operator::{BinaryOperator, Function};
+use crate::parts::{counted, items_of_sequence, part};
+use ioa_values::{Node, Value, collections};
+
+/// A value, and then the items of a sequence. Costs time in proportion to the sequence.
+pub(crate) fn prepended(item: Value, sequence: Value) -> Result<Value, TermFault>
+    ensures { Answers TermFault.Memory (λ v. v) result (kept (binary_value BinaryOperator.Prepend item sequence)) }
+{
+    let mut items = items_of_sequence(sequence)?;
+    items.insert(0, item)?;
+    Ok(Value::sequence(items))
+}
+
+/// The items of a sequence, and then a value. The sequence's memory is taken over.
+pub(crate) fn appended(sequence: Value, item: Value) -> Result<Value, TermFault>
+    ensures { Answers TermFault.Memory (λ v. v) result (kept (binary_value BinaryOperator.Append sequence item)) }
+{
+    let mut items = items_of_sequence(sequence)?;
+    items.push(item)?;
+    Ok(Value::sequence(items))
+}
+
+/// The items of two sequences. Costs time in proportion to the second one, and takes over the memory
+/// of the first.
+pub(crate) fn concatenated(left: Value, right: Value) -> Result<Value, TermFault>
+    ensures { Answers TermFault.Memory (λ v. v) result (kept (binary_value BinaryOperator.Concatenate left right)) }
+{
+    let mut items = items_of_sequence(left)?;
+    let mut more = items_of_sequence(right)?;
+    items.append(&mut more)?;
+    Ok(Value::sequence(items))
+}
+
+/// Whether a value is an item of a sequence or a member of a set. Costs one comparison an item.
+#[tactic(auto, using(crate::proofs::ItemLists::list_of_items))]
+pub(crate) fn membership(value: &Value, whole: &Value) -> Result<Value, TermFault>
+    ensures { Answers TermFault.Memory (λ v. v) result (kept (binary_value BinaryOperator.Member value.now whole.now)) }
+{
+    match &whole.node {
+        Node::Sequence(items) => Ok(Value::truth(collections::contains(items, value))),
+        Node::Set(members) => Ok(Value::truth(collections::contains(members, value))),
+        _ => Err(TermFault::Undefined),
+    }
+}
+
+/// The first item of a sequence that is not empty.
+pub(crate) fn head(sequence: Value) -> Result<Value, TermFault>
+    ensures { Answers TermFault.Memory (λ v. v) result (kept (call_one Function.Head sequence)) }
+{
+    let items = items_of_sequence(sequence)?;
+    match items.into_iter().next() {
+        Some(item) => part(item),
+        None => Err(TermFault::Undefined),
+    }
+}
+
+/// The items but the first of a sequence that is not empty. Costs time in proportion to the sequence,
+/// whose memory is taken over.
+#[tactic(auto, using(crate::proofs::ItemLists::rest_of_some))]
+pub(crate) fn tail(sequence: Value) -> Result<Value, TermFault>
+    ensures { Answers TermFault.Memory (λ v. v) result (kept (call_one Function.Tail sequence)) }
+{
+    let mut items = items_of_sequence(sequence)?;
+    if items.is_empty() {
+        return Err(TermFault::Undefined);
+    }
+    let _first = items.remove(0);
+    Ok(Value::sequence(items))
+}
+
+/// How many items a sequence has.
+pub(crate) fn length(sequence: Value) -> Result<Value, TermFault>
+    ensures { Answers TermFault.Memory (λ v. v) result (kept (call_one Function.Length sequence)) }
+{
+    let items = items_of_sequence(sequence)?;
+    counted(items.len())
+}
+
+/// How many members a set has, or how many keys a map has.
+#[tactic(auto, using(crate::proofs::ItemLists::list_of_items, crate::proofs::ItemLists::pairs_of_entries))]
+pub(crate) fn size(whole: &Value) -> Result<Value, TermFault>
+    ensures { Answers TermFault.Memory (λ v. v) result (kept (call_one Function.Size whole.now)) }
+{
+    match &whole.node {
+        Node::Set(members) => counted(members.len()),
+        Node::Map(entries) => counted(entries.len()),
+        _ => Err(TermFault::Undefined),
+    }
+}

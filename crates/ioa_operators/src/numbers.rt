@@ -1,0 +1,119 @@
+//! Operators and functions between numbers.
+
+ghost use Rattle.ioa_operators.specs.Outcome.{Answers};
+ghost use Rattle.ioa_operators.specs.Judged.{kept};
+ghost use Rattle.ioa_operators.specs.Operators.{unary_value, binary_value, call_two};
+
+use crate::fault::TermFault;
+use crate::operator::{BinaryOperator, Function, UnaryOperator};
+use crate::parts::number_of;
+use ioa_values::Value;
+
+/// The number with the other sign.
+pub(crate) fn negative(value: &Value) -> Result<Value, TermFault>
+    ensures { Answers TermFault.Memory (λ v. v) result (kept (unary_value UnaryOperator.Negative value.now)) }
+{
+    let n = number_of(value)?;
+    match n.checked_neg() {
+        Some(other) => Ok(Value::number(other)),
+        None => Err(TermFault::Range),
+    }
+}
+
+/// The sum of two numbers.
+pub(crate) fn sum(left: &Value, right: &Value) -> Result<Value, TermFault>
+    ensures { Answers TermFault.Memory (λ v. v) result (kept (binary_value BinaryOperator.Plus left.now right.now)) }
+{
+    let m = number_of(left)?;
+    let n = number_of(right)?;
+    match m.checked_add(n) {
+        Some(total) => Ok(Value::number(total)),
+        None => Err(TermFault::Range),
+    }
+}
+
+/// The difference of two numbers.
+pub(crate) fn difference(left: &Value, right: &Value) -> Result<Value, TermFault>
+    ensures { Answers TermFault.Memory (λ v. v) result (kept (binary_value BinaryOperator.Minus left.now right.now)) }
+{
+    let m = number_of(left)?;
+    let n = number_of(right)?;
+    match m.checked_sub(n) {
+        Some(rest) => Ok(Value::number(rest)),
+        None => Err(TermFault::Range),
+    }
+}
+
+/// The product of two numbers.
+pub(crate) fn product(left: &Value, right: &Value) -> Result<Value, TermFault>
+    ensures { Answers TermFault.Memory (λ v. v) result (kept (binary_value BinaryOperator.Times left.now right.now)) }
+{
+    let m = number_of(left)?;
+    let n = number_of(right)?;
+    match m.checked_mul(n) {
+        Some(total) => Ok(Value::number(total)),
+        None => Err(TermFault::Range),
+    }
+}
+
+/// Whether a number is below another.
+pub(crate) fn less(left: &Value, right: &Value) -> Result<Value, TermFault>
+    ensures { Answers TermFault.Memory (λ v. v) result (kept (binary_value BinaryOperator.Less left.now right.now)) }
+{
+    let m = number_of(left)?;
+    let n = number_of(right)?;
+    Ok(Value::truth(m < n))
+}
+
+/// Whether a number is below another or the same.
+pub(crate) fn at_most(left: &Value, right: &Value) -> Result<Value, TermFault>
+    ensures { Answers TermFault.Memory (λ v. v) result (kept (binary_value BinaryOperator.AtMost left.now right.now)) }
+{
+    let m = number_of(left)?;
+    let n = number_of(right)?;
+    Ok(Value::truth(m <= n))
+}
+
+/// Whether a number is above another.
+pub(crate) fn greater(left: &Value, right: &Value) -> Result<Value, TermFault>
+    ensures { Answers TermFault.Memory (λ v. v) result (kept (binary_value BinaryOperator.Greater left.now right.now)) }
+{
+    let m = number_of(left)?;
+    let n = number_of(right)?;
+    Ok(Value::truth(m > n))
+}
+
+/// Whether a number is above another or the same.
+pub(crate) fn at_least(left: &Value, right: &Value) -> Result<Value, TermFault>
+    ensures { Answers TermFault.Memory (λ v. v) result (kept (binary_value BinaryOperator.AtLeast left.now right.now)) }
+{
+    let m = number_of(left)?;
+    let n = number_of(right)?;
+    Ok(Value::truth(m >= n))
+}
+
+/// The quotient rounded down, of a divisor that is at least 1.
+pub(crate) fn quotient(left: &Value, right: &Value) -> Result<Value, TermFault>
+    ensures { Answers TermFault.Memory (λ v. v) result (kept (call_two Function.Quotient left.now right.now)) }
+{
+    let m = number_of(left)?;
+    let n = number_of(right)?;
+    if 1 <= n {
+        Ok(Value::number(m.div_euclid(n)))
+    } else {
+        Err(TermFault::Undefined)
+    }
+}
+
+/// What the quotient leaves, of a divisor that is at least 1.
+pub(crate) fn remainder(left: &Value, right: &Value) -> Result<Value, TermFault>
+    ensures { Answers TermFault.Memory (λ v. v) result (kept (call_two Function.Remainder left.now right.now)) }
+{
+    let m = number_of(left)?;
+    let n = number_of(right)?;
+    if 1 <= n {
+        Ok(Value::number(m.rem_euclid(n)))
+    } else {
+        Err(TermFault::Undefined)
+    }
+}

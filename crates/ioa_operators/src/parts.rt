@@ -1,0 +1,89 @@
+//! The parts that operators take, as what they have to be.
+
+ghost use Rattle.std.specs.Prelude.{Some, pos};
+ghost use Rattle.ioa_operators.specs.Data.{number, as_number, as_truth};
+ghost use Rattle.ioa_operators.specs.Operators.{as_tuple, as_sequence, as_set, as_map};
+ghost use Rattle.ioa_operators.specs.Outcome.{Answers};
+ghost use Rattle.ioa_operators.specs.Judged.{kept};
+ghost use Rattle.ioa_operators.specs.Parts.{Takes};
+
+use crate::fault::TermFault;
+use ioa_values::{Node, Value};
+
+/// The number that a part is.
+pub(crate) fn number_of(value: &Value) -> Result<i64, TermFault>
+    ensures { Takes (λ n. n) result (as_number value.now) }
+{
+    value.as_number().ok_or(TermFault::Undefined)
+}
+
+/// The truth value that a part is.
+pub(crate) fn truth_of(value: &Value) -> Result<bool, TermFault>
+    ensures { Takes (λ b. b) result (as_truth value.now) }
+{
+    value.as_truth().ok_or(TermFault::Undefined)
+}
+
+/// The items of a sequence, with their memory.
+#[tactic(auto, using(crate::proofs::ItemLists::list_of_items))]
+pub(crate) fn items_of_sequence(value: Value) -> Result<Vec<Value>, TermFault>
+    ensures { Takes (λ v. v.items) result (as_sequence value) }
+{
+    match value.node {
+        Node::Sequence(items) => Ok(items),
+        _ => Err(TermFault::Undefined),
+    }
+}
+
+/// The members of a set, with their memory.
+#[tactic(auto, using(crate::proofs::ItemLists::list_of_items))]
+pub(crate) fn members_of_set(value: Value) -> Result<Vec<Value>, TermFault>
+    ensures { Takes (λ v. v.items) result (as_set value) }
+{
+    match value.node {
+        Node::Set(members) => Ok(members),
+        _ => Err(TermFault::Undefined),
+    }
+}
+
+/// The entries of a map, with their memory.
+#[tactic(auto, using(crate::proofs::ItemLists::pairs_of_entries))]
+pub(crate) fn entries_of_map(value: Value) -> Result<Vec<(Value, Value)>, TermFault>
+    ensures { Takes (λ v. v.items) result (as_map value) }
+{
+    match value.node {
+        Node::Map(entries) => Ok(entries),
+        _ => Err(TermFault::Undefined),
+    }
+}
+
+/// The parts of a tuple, with their memory.
+#[tactic(auto, using(crate::proofs::ItemLists::list_of_items))]
+pub(crate) fn parts_of_tuple(value: Value) -> Result<Vec<Value>, TermFault>
+    ensures { Takes (λ v. v.items) result (as_tuple value) }
+{
+    match value.node {
+        Node::Tuple(parts) => Ok(parts),
+        _ => Err(TermFault::Undefined),
+    }
+}
+
+/// A part itself as the value of the whole: a number in it is kept in 64 bits, so that it is in range.
+pub(crate) fn part(value: Value) -> Result<Value, TermFault>
+    ensures { Answers TermFault.Memory (λ v. v) result (kept (Some value)) }
+{
+    match value.node {
+        Node::Number(n) => Ok(Value::number(n)),
+        node => Ok(Value { node }),
+    }
+}
+
+/// How many there are, as a value.
+pub(crate) fn counted(many: usize) -> Result<Value, TermFault>
+    ensures { Answers TermFault.Memory (λ v. v) result (kept (Some (number (pos many)))) }
+{
+    match i64::try_from(many) {
+        Ok(n) => Ok(Value::number(n)),
+        Err(_) => Err(TermFault::Range),
+    }
+}

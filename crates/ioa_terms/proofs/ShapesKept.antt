@@ -1,0 +1,316 @@
+-- Values that operators, functions, displays and fields make of values with their shapes have theirs.
+use Rattle.std.proofs.Common.{◌≡◌, ℕ, zero, suc, ℤ, Bool, true, false, List, [], ◌∷◌, ◌++◌, Option, Some, None, refl, sym, subst, map, if◌then◌else◌}
+use Rattle.std.specs.Prelude.{slice_get, pos, int_le, int_lt, ◌+ℤ◌, ◌-ℤ◌, ◌*ℤ◌, neg_ℤ, not, ◌&&◌, ◌||◌}
+use Rattle.std.specs.Int.{int_div_euclid, int_rem_euclid}
+use Rattle.std.specs.List.{AllByRecursion}
+use Rattle.std.specs.Option.{IfSome, option_and_then, option_map, option_or}
+use Rattle.ioa_values.proofs.Ascending.{by_each}
+use Rattle.ioa_operators.proofs.Canonicals.{all_appended, all_with, all_without, all_of_list, all_of_either}
+use Rattle.ioa_terms.specs.Data.{Data, Items, Entries, number, truth, constant, tuple, sequence, finite_set, finite_map, no_items, item, no_entries, entry, list_of, pairs_of, items_of, entries_of, as_number, as_truth}
+use Rattle.ioa_terms.specs.DataOrder.{data_cmp, same}
+use Rattle.ioa_terms.specs.Collections.{with_member, without_member, set_of, union, value_at, with_entry, without_key}
+use Rattle.ioa_terms.specs.Operators.{sequence_of, finite_set_of, finite_map_of, as_sequence, as_set, as_map, on_numbers, on_truths, on_division, divided, unary_value, binary_value, decided, has_member, first, rest, count, size_value, is_there, call_value, same_truth}
+use Rattle.ioa_terms.specs.Shapes.{PlainShape, PlainShapes, truths, integers, naturals, constants, tuples, sequences, sets, maps, no_shapes, shape, has_shape, have_shapes, all_have, entries_have, display_value, field_value, field_place}
+use Rattle.ioa_terms.specs.Sorted.{counted, UnaryIs, negation, negative, BinaryIs, equivalent, implies, either, both, equal, differ, below, at_most, above, at_least, item_of, member_of, prepended, appended, joined, sum, difference, product, at_key, FunctionIs, head, tail, items, members, keys, quotient, remainder, inserted, deleted, united, updated, removed, defined, DisplayIs, listed_shapes, field_shape}
+use Rattle.ioa_operators.specs.declared.operator.UnaryOperator.{UnaryOperator}
+use Rattle.ioa_operators.specs.declared.operator.BinaryOperator.{BinaryOperator}
+use Rattle.ioa_operators.specs.declared.operator.Function.{Function}
+use Rattle.ioa_operators.specs.declared.operator.Function.TheVariants as function
+use Rattle.ioa_operators.specs.declared.shape.DisplayForm.{DisplayForm}
+use Rattle.ioa_operators.specs.declared.shape.DisplayForm.TheVariants.{Braces, Brackets}
+
+-- a value has a shape; an entry has two
+abbrev pub Has : PlainShape → Data → Type 0
+Has s v = has_shape s v ≡ true
+
+abbrev pub HasEntry : PlainShape → PlainShape → Data × Data → Type 0
+HasEntry k v p = Has k p.0 × Has v p.1
+
+-- values have shapes, one by one
+abbrev pub HaveEach : List PlainShape → List Data → Type 0
+HaveEach [] [] = Unit {0}
+HaveEach [] (v ∷ vs) = ⊥
+HaveEach (x ∷ xs) [] = ⊥
+HaveEach (x ∷ xs) (v ∷ vs) = Has x v × HaveEach xs vs
+
+both_true : (a b : Bool) → (a && b) ≡ true → (a ≡ true) × (b ≡ true)
+both_true true b h = (refl, h)
+both_true false b h = absurd (cc)
+
+-- items that all have a shape are a list of values that do, and back
+all_items : (s : PlainShape) (ds : Items) → all_have s ds ≡ true → AllByRecursion (Has s) (list_of ds)
+all_items s no_items h = tt
+all_items s (item d ds) h = let p = both_true (has_shape s d) (all_have s ds) h in (p.0, all_items s ds p.1)
+
+items_all : (s : PlainShape) (ds : List Data) → AllByRecursion (Has s) ds → all_have s (items_of ds) ≡ true
+items_all s [] h = refl
+items_all s (d ∷ ds) h = rw (h.0) (items_all s ds h.1)
+
+all_entries : (k v : PlainShape) (es : Entries) → entries_have k v es ≡ true → AllByRecursion (HasEntry k v) (pairs_of es)
+all_entries k v no_entries h = tt
+all_entries k v (entry x y es) h =
+    let p = both_true (has_shape k x) (has_shape v y && entries_have k v es) h in
+    let q = both_true (has_shape v y) (entries_have k v es) p.1 in
+    ((p.0, q.0), all_entries k v es q.1)
+
+entries_all : (k v : PlainShape) (es : List (Data × Data)) → AllByRecursion (HasEntry k v) es → entries_have k v (entries_of es) ≡ true
+entries_all k v [] h = refl
+entries_all k v (e ∷ es) h = rw (h.0.0, h.0.1) (entries_all k v es h.1)
+
+-- the parts of a value that has a shape
+sequence_items : (s : PlainShape) (x : Data) → Has (sequences s) x → IfSome (as_sequence x) (AllByRecursion (Has s))
+sequence_items s (sequence ds) h = all_items s ds h
+sequence_items s _ h = tt
+
+set_members : (s : PlainShape) (x : Data) → Has (sets s) x → IfSome (as_set x) (AllByRecursion (Has s))
+set_members s (finite_set ds) h = all_items s ds h
+set_members s _ h = tt
+
+map_entries : (k v : PlainShape) (x : Data) → Has (maps k v) x → IfSome (as_map x) (AllByRecursion (HasEntry k v))
+map_entries k v (finite_map es) h = all_entries k v es h
+map_entries k v _ h = tt
+
+-- what holds of the entries of a map and of one more, of those that are left, and of the value at a key
+with_entry_has : (k v : PlainShape) (x y : Data) (es : List (Data × Data)) → Has k x → Has v y → AllByRecursion (HasEntry k v) es → AllByRecursion (HasEntry k v) (with_entry x y es)
+with_entry_has k v x y [] p q h = ((p, q), tt)
+with_entry_has k v x y (e ∷ es) p q h =
+    by_each (AllByRecursion (HasEntry k v)) (data_cmp x e.0) ((x, y) ∷ e ∷ es) ((x, y) ∷ es) (e ∷ with_entry x y es)
+    (λ l. ((p, q), h)) (λ l. ((p, q), h.1)) (λ l. (h.0, with_entry_has k v x y es p q h.1))
+
+without_key_has : (k v : PlainShape) (x : Data) (es : List (Data × Data)) → AllByRecursion (HasEntry k v) es → AllByRecursion (HasEntry k v) (without_key x es)
+without_key_has k v x [] h = tt
+without_key_has k v x (e ∷ es) h =
+    by_each (AllByRecursion (HasEntry k v)) (data_cmp x e.0) (e ∷ es) es (e ∷ without_key x es)
+    (λ l. h) (λ l. h.1) (λ l. (h.0, without_key_has k v x es h.1))
+
+value_at_has : (k v : PlainShape) (x : Data) (es : List (Data × Data)) → AllByRecursion (HasEntry k v) es → IfSome (value_at x es) (Has v)
+value_at_has k v x [] h = tt
+value_at_has k v x (e ∷ es) h =
+    by_each (λ (o : Option Data). IfSome o (Has v)) (data_cmp x e.0) None (Some e.1) (value_at x es)
+    (λ l. tt) (λ l. h.0.1) (λ l. value_at_has k v x es h.1)
+
+-- what is made of what is there, if anything is
+pub mapped : {A B : Type 0} (P : A → Type 0) (Q : B → Type 0) (f : A → B) (o : Option A) → IfSome o P → ((a : A) → P a → Q (f a)) → IfSome (option_map f o) Q
+mapped P Q f None h g = tt
+mapped P Q f (Some a) h g = g a h
+
+pub chained : {A B : Type 0} (P : A → Type 0) (Q : B → Type 0) (f : A → Option B) (o : Option A) → IfSome o P → ((a : A) → P a → IfSome (f a) Q) → IfSome (option_and_then f o) Q
+chained P Q f None h g = tt
+chained P Q f (Some a) h g = g a h
+
+-- the same of anything that is there
+mapped_any : {A B : Type 0} (Q : B → Type 0) (f : A → B) (o : Option A) → ((a : A) → Q (f a)) → IfSome (option_map f o) Q
+mapped_any Q f None g = tt
+mapped_any Q f (Some a) g = g a
+
+chained_any : {A B : Type 0} (Q : B → Type 0) (f : A → Option B) (o : Option A) → ((a : A) → IfSome (f a) Q) → IfSome (option_and_then f o) Q
+chained_any Q f None g = tt
+chained_any Q f (Some a) g = g a
+
+pub one_or_other : (P : Data → Type 0) (o p : Option Data) → IfSome o P → IfSome p P → IfSome (option_or o p) P
+one_or_other P None p h g = g
+one_or_other P (Some v) p h g = h
+
+-- the value of a test
+of_test : (b : Bool) (s : PlainShape) (v : Data) → (b ≡ true → Has s v) → IfSome (if b then Some v else None) (Has s)
+of_test true s v g = g refl
+of_test false s v g = tt
+
+of_numbers : (s : PlainShape) (f : ℤ → ℤ → Data) (x y : Data) → ((m n : ℤ) → Has s (f m n)) → IfSome (on_numbers f x y) (Has s)
+of_numbers s f x y g = chained_any (Has s) (λ m. option_map (f m) (as_number y)) (as_number x) (λ m. mapped_any (Has s) (f m) (as_number y) (g m))
+
+of_truths : (f : Bool → Bool → Bool) (x y : Data) → IfSome (on_truths f x y) (Has truths)
+of_truths f x y = chained_any (Has truths) (λ a. option_map (λ b. truth (f a b)) (as_truth y)) (as_truth x) (λ a. mapped_any (Has truths) (λ b. truth (f a b)) (as_truth y) (λ b. refl))
+
+of_division : (f : ℤ → ℤ → ℤ) (x y : Data) → IfSome (on_division f x y) (Has integers)
+of_division f x y =
+    chained_any (Has integers) (λ m. option_and_then (divided f m) (as_number y)) (as_number x)
+    (λ m. chained_any (Has integers) (divided f m) (as_number y) (λ n. of_test (int_le (pos 1) n) integers (number (f m n)) (λ h. refl)))
+
+of_member : (d x : Data) → IfSome (has_member d x) (Has truths)
+of_member d (sequence ds) = refl
+of_member d (finite_set ds) = refl
+of_member d _ = tt
+
+size_has : (v : Data) → IfSome (size_value v) (Has integers)
+size_has (finite_set ds) = refl
+size_has (finite_map es) = refl
+size_has _ = tt
+
+-- what an operator before a value makes
+pub unary_has : {op : UnaryOperator} {x s : PlainShape} → UnaryIs op x s → (v : Data) → IfSome (unary_value op v) (Has s)
+unary_has negation v = mapped_any (Has truths) (λ b. truth (not b)) (as_truth v) (λ b. refl)
+unary_has negative v = mapped_any (Has integers) (λ m. number (neg_ℤ m)) (as_number v) (λ m. refl)
+
+-- what the left side of an operator decides
+pub decided_has : {op : BinaryOperator} {x y s : PlainShape} → BinaryIs op x y s → (v : Data) → IfSome (decided op v) (Has s)
+decided_has both (truth false) = refl
+decided_has both _ = tt
+decided_has either (truth true) = refl
+decided_has either _ = tt
+decided_has implies (truth false) = refl
+decided_has implies _ = tt
+decided_has _ v = tt
+
+-- what an operator between values makes
+pub binary_has : {op : BinaryOperator} {x y s : PlainShape} → BinaryIs op x y s → (v w : Data) → Has x v → Has y w → IfSome (binary_value op v w) (Has s)
+binary_has equivalent v w h k = of_truths same_truth v w
+binary_has implies v w h k = of_truths (λ a b. not a || b) v w
+binary_has either v w h k = of_truths (λ a b. a || b) v w
+binary_has both v w h k = of_truths (λ a b. a && b) v w
+binary_has equal v w h k = refl
+binary_has differ v w h k = refl
+binary_has below v w h k = of_numbers truths (λ m n. truth (int_lt m n)) v w (λ m n. refl)
+binary_has at_most v w h k = of_numbers truths (λ m n. truth (int_le m n)) v w (λ m n. refl)
+binary_has above v w h k = of_numbers truths (λ m n. truth (int_lt n m)) v w (λ m n. refl)
+binary_has at_least v w h k = of_numbers truths (λ m n. truth (int_le n m)) v w (λ m n. refl)
+binary_has item_of v w h k = of_member v w
+binary_has member_of v w h k = of_member v w
+binary_has (prepended {x}) v w h k =
+    mapped (AllByRecursion (Has x)) (Has (sequences x)) (λ ds. sequence_of (v ∷ ds)) (as_sequence w) (sequence_items x w k) (λ ds p. items_all x (v ∷ ds) (h, p))
+binary_has (appended {x}) v w h k =
+    mapped (AllByRecursion (Has x)) (Has (sequences x)) (λ ds. sequence_of (ds ++ w ∷ [])) (as_sequence v) (sequence_items x v h)
+    (λ ds p. items_all x (ds ++ w ∷ []) (all_appended (Has x) ds (w ∷ []) p (k, tt)))
+binary_has (joined {x}) v w h k =
+    chained (AllByRecursion (Has x)) (Has (sequences x)) (λ ds. option_map (λ es. sequence_of (ds ++ es)) (as_sequence w)) (as_sequence v) (sequence_items x v h)
+    (λ ds p. mapped (AllByRecursion (Has x)) (Has (sequences x)) (λ es. sequence_of (ds ++ es)) (as_sequence w) (sequence_items x w k)
+    (λ es q. items_all x (ds ++ es) (all_appended (Has x) ds es p q)))
+binary_has sum v w h k = of_numbers integers (λ m n. number (m +ℤ n)) v w (λ m n. refl)
+binary_has difference v w h k = of_numbers integers (λ m n. number (m -ℤ n)) v w (λ m n. refl)
+binary_has product v w h k = of_numbers integers (λ m n. number (m *ℤ n)) v w (λ m n. refl)
+binary_has (at_key {k = x} {v = y}) v w h k =
+    chained (AllByRecursion (HasEntry x y)) (Has y) (value_at w) (as_map v) (map_entries x y v h) (λ es p. value_at_has x y w es p)
+
+first_has : (s : PlainShape) (ds : List Data) → AllByRecursion (Has s) ds → IfSome (first ds) (Has s)
+first_has s [] h = tt
+first_has s (d ∷ ds) h = h.0
+
+rest_has : (s : PlainShape) (ds : List Data) → AllByRecursion (Has s) ds → IfSome (rest ds) (Has (sequences s))
+rest_has s [] h = tt
+rest_has s (d ∷ ds) h = items_all s ds h.1
+
+-- values of one, two and three shapes are one, two and three
+one_value : (Q : List Data → Type 0) (x : PlainShape) → ((v : Data) → Has x v → Q (v ∷ [])) → (vs : List Data) → HaveEach (x ∷ []) vs → Q vs
+one_value Q x g [] h = absurd h
+one_value Q x g (v ∷ []) h = g v h.0
+one_value Q x g (v ∷ (w ∷ ws)) h = absurd h.1
+
+two_values : (Q : List Data → Type 0) (x y : PlainShape) → ((v w : Data) → Has x v → Has y w → Q (v ∷ w ∷ [])) → (vs : List Data) → HaveEach (x ∷ y ∷ []) vs → Q vs
+two_values Q x y g [] h = absurd h
+two_values Q x y g (v ∷ vs) h = one_value (λ ws. Q (v ∷ ws)) y (λ w k. g v w h.0 k) vs h.1
+
+three_values : (Q : List Data → Type 0) (x y z : PlainShape) → ((u v w : Data) → Has x u → Has y v → Has z w → Q (u ∷ v ∷ w ∷ [])) → (vs : List Data) → HaveEach (x ∷ y ∷ z ∷ []) vs → Q vs
+three_values Q x y z g [] h = absurd h
+three_values Q x y z g (u ∷ vs) h = two_values (λ ws. Q (u ∷ ws)) y z (λ v w k l. g u v w h.0 k l) vs h.1
+
+-- what a function makes
+pub function_has : {f : Function} {xs : List PlainShape} {s : PlainShape} → FunctionIs f xs s → (vs : List Data) → HaveEach xs vs → IfSome (call_value f vs) (Has s)
+function_has (head {x}) vs h =
+    one_value (λ vs. IfSome (call_value function.Head vs) (Has x)) (sequences x)
+    (λ v k. chained (AllByRecursion (Has x)) (Has x) first (as_sequence v) (sequence_items x v k) (first_has x)) vs h
+function_has (tail {x}) vs h =
+    one_value (λ vs. IfSome (call_value function.Tail vs) (Has (sequences x))) (sequences x)
+    (λ v k. chained (AllByRecursion (Has x)) (Has (sequences x)) rest (as_sequence v) (sequence_items x v k) (rest_has x)) vs h
+function_has (items {x}) vs h =
+    one_value (λ vs. IfSome (call_value function.Length vs) (Has integers)) (sequences x)
+    (λ v k. mapped_any (Has integers) (λ (ds : List Data). count ds) (as_sequence v) (λ ds. refl)) vs h
+function_has (members {x}) vs h =
+    one_value (λ vs. IfSome (call_value function.Size vs) (Has integers)) (sets x) (λ v k. size_has v) vs h
+function_has (keys {k} {v}) vs h =
+    one_value (λ vs. IfSome (call_value function.Size vs) (Has integers)) (maps k v) (λ v k. size_has v) vs h
+function_has quotient vs h =
+    two_values (λ vs. IfSome (call_value function.Quotient vs) (Has integers)) integers integers (λ v w k l. of_division int_div_euclid v w) vs h
+function_has remainder vs h =
+    two_values (λ vs. IfSome (call_value function.Remainder vs) (Has integers)) integers integers (λ v w k l. of_division int_rem_euclid v w) vs h
+function_has (inserted {x}) vs h =
+    two_values (λ vs. IfSome (call_value function.Insert vs) (Has (sets x))) x (sets x)
+    (λ v w k l. mapped (AllByRecursion (Has x)) (Has (sets x)) (λ ds. finite_set_of (with_member v ds)) (as_set w) (set_members x w l)
+    (λ ds p. items_all x (with_member v ds) (all_with (Has x) v ds k p))) vs h
+function_has (deleted {x}) vs h =
+    two_values (λ vs. IfSome (call_value function.Delete vs) (Has (sets x))) x (sets x)
+    (λ v w k l. mapped (AllByRecursion (Has x)) (Has (sets x)) (λ ds. finite_set_of (without_member v ds)) (as_set w) (set_members x w l)
+    (λ ds p. items_all x (without_member v ds) (all_without (Has x) v ds p))) vs h
+function_has (united {x}) vs h =
+    two_values (λ vs. IfSome (call_value function.Union vs) (Has (sets x))) (sets x) (sets x)
+    (λ v w k l. chained (AllByRecursion (Has x)) (Has (sets x)) (λ ds. option_map (λ es. finite_set_of (union ds es)) (as_set w)) (as_set v) (set_members x v k)
+    (λ ds p. mapped (AllByRecursion (Has x)) (Has (sets x)) (λ es. finite_set_of (union ds es)) (as_set w) (set_members x w l)
+    (λ es q. items_all x (union ds es) (all_of_either (Has x) ds es p q)))) vs h
+function_has (updated {k = x} {v = y}) vs h =
+    three_values (λ vs. IfSome (call_value function.Update vs) (Has (maps x y))) (maps x y) x y
+    (λ u v w j k l. mapped (AllByRecursion (HasEntry x y)) (Has (maps x y)) (λ es. finite_map_of (with_entry v w es)) (as_map u) (map_entries x y u j)
+    (λ es p. entries_all x y (with_entry v w es) (with_entry_has x y v w es k l p))) vs h
+function_has (removed {k = x} {v = y}) vs h =
+    two_values (λ vs. IfSome (call_value function.Remove vs) (Has (maps x y))) (maps x y) x
+    (λ v w k l. mapped (AllByRecursion (HasEntry x y)) (Has (maps x y)) (λ es. finite_map_of (without_key w es)) (as_map v) (map_entries x y v k)
+    (λ es p. entries_all x y (without_key w es) (without_key_has x y w es p))) vs h
+function_has (defined {k = x} {v = y}) vs h =
+    two_values (λ vs. IfSome (call_value function.Defined vs) (Has truths)) (maps x y) x
+    (λ v w k l. mapped_any (Has truths) (λ es. truth (is_there (value_at w es))) (as_map v) (λ es. refl)) vs h
+
+-- values of equal shapes all have that one
+all_alike : (x : PlainShape) (xs : List PlainShape) (vs : List Data) → AllByRecursion (λ y. y ≡ x) xs → HaveEach xs vs → AllByRecursion (Has x) vs
+all_alike x [] [] e h = tt
+all_alike x [] (v ∷ vs) e h = absurd h
+all_alike x (y ∷ ys) [] e h = absurd h
+all_alike x (y ∷ ys) (v ∷ vs) e h = (subst (λ (s : PlainShape). Has s v) e.0 h.0, all_alike x ys vs e.1 h.1)
+
+no_values : (Q : List Data → Type 0) → Q [] → (xs : List PlainShape) (vs : List Data) → xs ≡ [] → HaveEach xs vs → Q vs
+no_values Q q [] [] e h = q
+no_values Q q [] (v ∷ vs) e h = absurd h
+no_values Q q (x ∷ xs) vs e h = absurd (cc)
+
+-- what a display makes
+pub display_has : (form : DisplayForm) (s : PlainShape) (xs : List PlainShape) (vs : List Data) → DisplayIs form xs s → HaveEach xs vs → IfSome (display_value form s vs) (Has s)
+display_has Braces (sequences x) xs vs d h = items_all x vs (all_alike x xs vs d h)
+display_has Braces (sets x) xs vs d h = items_all x (set_of vs) (all_of_list (Has x) vs (all_alike x xs vs d h))
+display_has Braces (maps k v) xs vs d h = no_values (λ vs. IfSome (display_value Braces (maps k v) vs) (Has (maps k v))) refl xs vs d h
+display_has Brackets (tuples type names fields) xs vs d h = of_test (have_shapes fields (items_of vs)) (tuples type names fields) (tuple (items_of vs)) (λ k. k)
+display_has form s xs vs d h = absurd d
+
+-- where naturals count as integers a value has its shape too
+mutual
+  pub counted_has : (s : PlainShape) (v : Data) → has_shape s v ≡ true → has_shape (counted s) v ≡ true
+  counted_has truths v h = h
+  counted_has integers v h = h
+  counted_has naturals (number z) h = refl
+  counted_has naturals _ h = absurd (cc)
+  counted_has (constants type from many) v h = h
+  counted_has (tuples type names fields) v h = h
+  counted_has (sequences s) (sequence ds) h = counted_all s ds h
+  counted_has (sequences s) _ h = absurd (cc)
+  counted_has (sets s) (finite_set ds) h = counted_all s ds h
+  counted_has (sets s) _ h = absurd (cc)
+  counted_has (maps x y) (finite_map es) h = counted_entries x y es h
+  counted_has (maps x y) _ h = absurd (cc)
+
+  counted_all : (s : PlainShape) (ds : Items) → all_have s ds ≡ true → all_have (counted s) ds ≡ true
+  counted_all s no_items h = refl
+  counted_all s (item d ds) h =
+      let p = both_true (has_shape s d) (all_have s ds) h in
+      rw (counted_has s d p.0) (counted_all s ds p.1)
+
+  counted_entries : (x y : PlainShape) (es : Entries) → entries_have x y es ≡ true → entries_have (counted x) (counted y) es ≡ true
+  counted_entries x y no_entries h = refl
+  counted_entries x y (entry k v es) h =
+      let p = both_true (has_shape x k) (has_shape y v && entries_have x y es) h in
+      let q = both_true (has_shape y v) (entries_have x y es) p.1 in
+      rw (counted_has x k p.0, counted_has y v q.0) (counted_entries x y es q.1)
+
+-- the field at a place has the shape at that place
+part_has : (ss : PlainShapes) (ds : Items) (i : ℕ) (s : PlainShape) → have_shapes ss ds ≡ true → option_map counted (slice_get (listed_shapes ss) i) ≡ Some s → IfSome (slice_get (list_of ds) i) (Has s)
+part_has ss no_items i s h e = tt
+part_has no_shapes (item d ds) i s h e = absurd (cc)
+part_has (shape x ss) (item d ds) zero s h e =
+    let p = both_true (has_shape x d) (have_shapes ss ds) h in
+    let f : counted x ≡ s = cc in
+    subst (λ (z : PlainShape). Has z d) f (counted_has x d p.0)
+part_has (shape x ss) (item d ds) (suc i) s h e = part_has ss ds i s (both_true (has_shape x d) (have_shapes ss ds) h).1 e
+
+named_part_has : (ss : PlainShapes) (ds : Items) (o : Option ℕ) (s : PlainShape) → have_shapes ss ds ≡ true → option_map counted (option_and_then (slice_get (listed_shapes ss)) o) ≡ Some s → IfSome (option_and_then (slice_get (list_of ds)) o) (Has s)
+named_part_has ss ds None s h e = tt
+named_part_has ss ds (Some i) s h e = part_has ss ds i s h e
+
+-- what a field makes
+pub field_has : (t : PlainShape) (w : List ℕ) (s : PlainShape) (v : Data) → option_map counted (field_shape w t) ≡ Some s → Has t v → IfSome (field_value t w v) (Has s)
+field_has (tuples type names ss) w s (tuple ds) e h = named_part_has ss ds (field_place w names) s h e
+field_has t w s v e h = tt

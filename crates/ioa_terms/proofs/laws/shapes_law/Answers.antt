@@ -1,0 +1,9 @@
+use Rattle.ioa_terms.proofs.ShapesKept.{counted_has}
+use Rattle.ioa_terms.proofs.Sound.{value_has}
+use Rattle.ioa_terms.proofs.laws.shapes_law.Goals as goal
+
+pub returns-clause-kept : goal.returns-clause-kept
+returns-clause-kept c = value_has
+
+pub returns-clause-counted : goal.returns-clause-counted
+returns-clause-counted c = counted_has

@@ -1,0 +1,9 @@
+-- What stands at a place of an environment.
+use Rattle.ioa_terms.specs.Data.{Data, constant}
+use Rattle.ioa_terms.specs.declared.environment.Slot.{Slot}
+use Rattle.ioa_terms.specs.declared.environment.Slot.TheVariants.{Variable, Constant}
+
+-- the value that it is
+abbrev pub slot_value : Slot → Data
+slot_value (Variable v) = v.now
+slot_value (Constant k) = constant k
