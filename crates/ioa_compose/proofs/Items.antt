@@ -1,40 +1,20 @@
 -- Items that are told to be the same are equal.
 use Rattle.std.proofs.Common.{◌≡◌, Bool, true, false, List, [], ◌∷◌, Ok, Err, if◌then◌else◌, refl, ap}
 use Rattle.std.specs.Prelude.{◌↔◌, IsTrue}
-use Rattle.std.specs.Bool.{Decides}
-use Rattle.std.proofs.lemmas.Bool.Decides.{Decides-int_eq, Decides-and, Decides-like}
-use Rattle.std.proofs.lemmas.Slice.Eq.{slice_eq-Decides, bytes_eq-Decides}
-use lib.Pointwise.{pointwise}
+use Rattle.ioa_terms.proofs.SameActions.{same_node_action_is}
 use Rattle.ioa_values.specs.DataOrder.{same}
 use Rattle.ioa_values.proofs.Equality.{same_equal, same_itself}
-use Rattle.ioa_terms.specs.Data.{Data}
-use Rattle.ioa_terms.specs.declared.action.NodeAction.{NodeAction}
 use Rattle.ioa_compose.specs.declared.queue.Item.{Item}
 use Rattle.ioa_compose.specs.declared.queue.Item.TheVariants.{Message, Stimulus}
 use Rattle.ioa_compose.specs.declared.fault.StepFault.TheVariants.{NotEnabled}
-use Rattle.ioa_compose.specs.Queues.{same_action, same_item, behind}
-
--- lists of values are told to be the same where they are equal
-Decides-same_values : (vs ws : List Data) → Decides (pointwise same vs ws) (vs ≡ ws)
-Decides-same_values vs ws = slice_eq-Decides (λ a b. (same_equal a b, λ e. subst_same a b e)) vs ws _ refl
-  where
-    subst_same : (a b : Data) → a ≡ b → same a b ≡ true
-    subst_same a b e = rw (← e) (same_itself a)
-
--- two actions of nodes are told to be the same exactly where they are equal
-pub Decides-same_action : (a b : NodeAction) → Decides (same_action a b) (a ≡ b)
-Decides-same_action a b =
-    Decides-like _ (λ p. λ i. record { node = p.0 i; name = p.1.0 i; arguments = p.1.1 i })
-    (λ e. (ap (λ (c : NodeAction). c.node) e, (ap (λ (c : NodeAction). c.name) e, ap (λ (c : NodeAction). c.arguments) e)))
-    (Decides-and _ _ (Decides-int_eq a.node b.node)
-    (Decides-and _ _ (bytes_eq-Decides a.name b.name) (Decides-same_values a.arguments b.arguments)))
+use Rattle.ioa_compose.specs.Queues.{same_item, behind}
 
 -- two items are told to be the same exactly where they are equal
 pub same_item_is : (x y : Item) → IsTrue (same_item x y) ↔ (x ≡ y)
 same_item_is (Message m) (Message n) = (λ h. ap Message (same_equal m n h), λ e. let k : m ≡ n = cc in rw (← k) (same_itself m))
 same_item_is (Message m) (Stimulus b) = (λ h. absurd (cc), λ e. absurd (cc))
 same_item_is (Stimulus a) (Message n) = (λ h. absurd (cc), λ e. absurd (cc))
-same_item_is (Stimulus a) (Stimulus b) = (λ h. ap Stimulus ((Decides-same_action a b).0 h), λ e. let k : a ≡ b = cc in (Decides-same_action a b).1 k)
+same_item_is (Stimulus a) (Stimulus b) = (λ h. ap Stimulus ((same_node_action_is a b).0 h), λ e. let k : a ≡ b = cc in (same_node_action_is a b).1 k)
 
 -- a queue goes on behind an item exactly where the item stands first
 pub behind_is : (x : Item) (items rest : List Item) → (behind x items ≡ Ok rest) ↔ (items ≡ x ∷ rest)

@@ -5,15 +5,9 @@ pub use Rattle.ioa_terms.specs.Outcome
 pub mod Channels
 pub mod Composition
 pub mod Executions
-pub mod FirstSorts
-pub mod Made
 pub mod NodeState
 pub mod NodeStep
 pub mod Participants
-pub mod Parts
-pub mod Placed
 pub mod Queues
-pub mod Rows
 pub mod Start
 pub mod StepFaults
-pub mod Systems

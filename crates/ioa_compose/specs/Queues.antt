@@ -1,14 +1,11 @@
 -- Queues: of the messages under way on a channel (Lynch 14.1), and of the stimuli left in a script (profile).
-use Rattle.std.specs.Prelude.{Bool, false, ◌&&◌, if◌then◌else◌, List, [], ◌∷◌, ◌++◌, Result, Ok, Err, refl}
+use Rattle.std.specs.Prelude.{Bool, false, if◌then◌else◌, List, [], ◌∷◌, ◌++◌, Result, Ok, Err, refl}
 use Rattle.std.specs.Coded.{Coded, code_by, coded×, coded_list}
-use Rattle.std.specs.Ordering.{int_eq}
-use lib.Pointwise.{pointwise}
 use Rattle.ioa_compose.specs.Outcome.{and_then}
 use Rattle.ioa_values.specs.DataOrder.{same}
-use Rattle.ioa_terms.specs.Bindings.{same_name}
+use Rattle.ioa_terms.specs.Actions.{same_node_action}
 use Rattle.ioa_terms.specs.contracts.component.Component as component
 use Rattle.ioa_terms.specs.declared.component.Component.{Component}
-use Rattle.ioa_terms.specs.declared.action.NodeAction.{NodeAction}
 use Rattle.ioa_terms.specs.declared.action.Action.{Action}
 use Rattle.ioa_terms.specs.declared.action.Action.TheVariants as action
 use Rattle.ioa_compose.specs.contracts.queue.Item as item
@@ -30,16 +27,12 @@ queue_state_code =
     code_by (Component × List Item) (coded× component.the_row.coded (coded_list item.the_row.coded))
     (λ q. (q.component, q.items)) (λ p. queue_state p.0 p.1) (λ _. refl)
 
--- whether two actions of nodes are the same: node, name and values
-abbrev pub same_action : NodeAction → NodeAction → Bool
-same_action a b = int_eq a.node b.node && (same_name a.name b.name && pointwise same a.arguments b.arguments)
-
 -- whether two items are the same
 abbrev pub same_item : Item → Item → Bool
 same_item (Message m) (Message n) = same m n
 same_item (Message m) (Stimulus b) = false
 same_item (Stimulus a) (Message n) = false
-same_item (Stimulus a) (Stimulus b) = same_action a b
+same_item (Stimulus a) (Stimulus b) = same_node_action a b
 
 -- the queue with an item behind its last (Lynch 14.1)
 abbrev pub with_last : Item → QueueState → QueueState

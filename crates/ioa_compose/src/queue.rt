@@ -3,7 +3,7 @@
 ghost use Rattle.std.specs.Prelude.{◌≡◌, ◌≢◌, ◌↔◌, [], ◌∷◌, Ok, IsTrue, IfOk, IsErrOf, List, slice_get};
 ghost use Rattle.std.specs.Option.{option_copied};
 ghost use Rattle.ioa_compose.specs.Outcome.{Answers};
-ghost use Rattle.ioa_compose.specs.Queues.{queue_state, same_action, same_item, with_last, without_first, queue_answer};
+ghost use Rattle.ioa_compose.specs.Queues.{queue_state, same_item, with_last, without_first, queue_answer};
 
 use crate::fault::StepFault;
 use ioa_terms::{Action, Component, NodeAction, Value};
@@ -17,15 +17,6 @@ pub enum Item {
     Message(Value),
     /// A stimulus that a script has left.
     Stimulus(NodeAction),
-}
-
-/// Whether two actions of nodes are the same.
-fn is_same_action(first: &NodeAction, second: &NodeAction) -> bool
-    ensures { result ≡ same_action first.now second.now }
-{
-    first.node == second.node
-        && first.name == second.name
-        && first.arguments.as_slice() == second.arguments.as_slice()
 }
 
 impl Item {
@@ -51,7 +42,7 @@ impl Item {
             },
             Item::Stimulus(action) => match other {
                 Item::Message(_) => false,
-                Item::Stimulus(second) => is_same_action(action, second),
+                Item::Stimulus(second) => action.equals(second),
             },
         }
     }

@@ -6,9 +6,8 @@ ghost use Rattle.ioa_compose.specs.Start.{start, node_start, channel_start, scri
 
 use crate::configuration::Conf;
 use crate::node::NodeConf;
-use crate::program::Program;
 use crate::queue::Queue;
-use crate::system::System;
+use ioa_check::{Program, System};
 use ioa_source::Channel;
 use ioa_terms::Component;
 use std::alloc::{AllocError, Global};

@@ -6,3 +6,4 @@ pub mod Commas
 pub mod ShapesKept
 pub mod Sound
 pub mod SameActions
+pub mod CanonicalKept

@@ -7,13 +7,13 @@ use Rattle.ioa_terms.specs.Data.{Data, is_within, as_truth, number, truth, const
 use Rattle.ioa_terms.specs.Outcome.{and_then}
 use Rattle.ioa_terms.specs.Shapes.{PlainShape, truths, integers, naturals, constants, tuples, sequences, sets, maps, with_field, field_place}
 use Rattle.ioa_terms.specs.ShapeView.{shape_of}
-use Rattle.ioa_terms.specs.Judged.{judged, result_of, kept}
+use Rattle.ioa_terms.specs.Judged.{judged, kept}
 use Rattle.ioa_terms.specs.Bindings.{Bindings, lookup, put}
 use Rattle.ioa_terms.specs.PlainTerm.{PlainTerm, PlainPlace, variable, at_key, at_field, PlainStatement, PlainStatements, PlainArms, assign, choose, fire, no_statements, statement, no_arms, arm, statements_of}
 use Rattle.ioa_terms.specs.Meaning.{value, met, if_any}
 use Rattle.ioa_terms.specs.Performance.{target, target_shape, updated, assigned, fitted, tested, by_test, after_one, after_choice, after_all, met_assigned, met_after, met_one, met_choice, met_all, answer_by}
-use Rattle.ioa_terms.specs.Placed.{IsPlacedStatement, AreAllPlaced, ArePlaced}
-use Rattle.ioa_terms.specs.Bounded.{bounded, bounded_test, bounded_assigned, put_fitted, if_answered, bounded_one, bounded_choice, bounded_all}
+use Rattle.ioa_terms.specs.Placed.{AreAllPlaced, ArePlaced}
+use Rattle.ioa_terms.specs.Bounded.{bounded_test, bounded_assigned, put_fitted, if_answered, bounded_one, bounded_choice, bounded_all}
 use Rattle.ioa_terms.proofs.Bounds.{bounded_is, judged_append, judged_none, judged_some, made_of}
 use Rattle.ioa_operators.specs.declared.shape.Shape.{Shape}
 use Rattle.ioa_operators.specs.declared.fault.TermFault.{TermFault}

@@ -1,5 +1,5 @@
 -- Actions that are told to be the same are equal.
-use Rattle.std.proofs.Common.{◌≡◌, ℤ, Bool, true, false, List, [], ◌∷◌, refl, ap}
+use Rattle.std.proofs.Common.{◌≡◌, ℤ, List, refl, ap}
 use Rattle.std.specs.Prelude.{◌↔◌, IsTrue, ◌&&◌}
 use Rattle.std.specs.Ordering.{int_eq}
 use Rattle.std.specs.Bool.{Decides}

@@ -1,13 +1,13 @@
 -- Values that operators, functions, displays and fields make of values with their shapes have theirs.
-use Rattle.std.proofs.Common.{◌≡◌, ℕ, zero, suc, ℤ, Bool, true, false, List, [], ◌∷◌, ◌++◌, Option, Some, None, refl, sym, subst, map, if◌then◌else◌}
+use Rattle.std.proofs.Common.{◌≡◌, ℕ, zero, suc, ℤ, Bool, true, false, List, [], ◌∷◌, ◌++◌, Option, Some, None, refl, subst, if◌then◌else◌}
 use Rattle.std.specs.Prelude.{slice_get, pos, int_le, int_lt, ◌+ℤ◌, ◌-ℤ◌, ◌*ℤ◌, neg_ℤ, not, ◌&&◌, ◌||◌}
 use Rattle.std.specs.Int.{int_div_euclid, int_rem_euclid}
 use Rattle.std.specs.List.{AllByRecursion}
 use Rattle.std.specs.Option.{IfSome, option_and_then, option_map, option_or}
 use Rattle.ioa_values.proofs.Ascending.{by_each}
 use Rattle.ioa_operators.proofs.Canonicals.{all_appended, all_with, all_without, all_of_list, all_of_either}
-use Rattle.ioa_terms.specs.Data.{Data, Items, Entries, number, truth, constant, tuple, sequence, finite_set, finite_map, no_items, item, no_entries, entry, list_of, pairs_of, items_of, entries_of, as_number, as_truth}
-use Rattle.ioa_terms.specs.DataOrder.{data_cmp, same}
+use Rattle.ioa_terms.specs.Data.{Data, Items, Entries, number, truth, tuple, sequence, finite_set, finite_map, no_items, item, no_entries, entry, list_of, pairs_of, items_of, entries_of, as_number, as_truth}
+use Rattle.ioa_terms.specs.DataOrder.{data_cmp}
 use Rattle.ioa_terms.specs.Collections.{with_member, without_member, set_of, union, value_at, with_entry, without_key}
 use Rattle.ioa_terms.specs.Operators.{sequence_of, finite_set_of, finite_map_of, as_sequence, as_set, as_map, on_numbers, on_truths, on_division, divided, unary_value, binary_value, decided, has_member, first, rest, count, size_value, is_there, call_value, same_truth}
 use Rattle.ioa_terms.specs.Shapes.{PlainShape, PlainShapes, truths, integers, naturals, constants, tuples, sequences, sets, maps, no_shapes, shape, has_shape, have_shapes, all_have, entries_have, display_value, field_value, field_place}

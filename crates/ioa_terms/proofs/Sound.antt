@@ -1,5 +1,5 @@
 -- The value of a term has the term's shape.
-use Rattle.std.proofs.Common.{◌≡◌, ℕ, List, [], ◌∷◌, Option, Some, None, refl, true}
+use Rattle.std.proofs.Common.{◌≡◌, List, [], ◌∷◌, Option, Some, None, refl, true}
 use Rattle.std.specs.Option.{IfSome, option_and_then, option_map, option_or}
 use Rattle.ioa_terms.specs.Data.{Data}
 use Rattle.ioa_terms.specs.Operators.{unary_value, binary_value, decided}

@@ -1,5 +1,5 @@
 -- Whether two actions are the same (profile).
-use Rattle.std.specs.Prelude.{Bool, true, false, ◌&&◌, nat_eq}
+use Rattle.std.specs.Prelude.{Bool, false, ◌&&◌, nat_eq}
 use Rattle.std.specs.Ordering.{int_eq}
 use lib.Pointwise.{pointwise}
 use Rattle.ioa_terms.specs.DataOrder.{same}

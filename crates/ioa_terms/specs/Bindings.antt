@@ -1,5 +1,5 @@
 -- Environments (profile): finite maps from names to values, as lists of pairs; the first pair of a name counts.
-use Rattle.std.specs.Prelude.{◌≡◌, ℕ, ◌+◌, Bool, true, false, if◌then◌else◌, List, [], ◌∷◌, ◌++◌, Option, Some, None, map, nat_eq}
+use Rattle.std.specs.Prelude.{ℕ, ◌+◌, Bool, if◌then◌else◌, List, [], ◌∷◌, ◌++◌, Option, Some, None, map, nat_eq}
 use Rattle.std.specs.Option.{option_map}
 use Rattle.std.specs.List.{zip}
 use lib.Pointwise.{pointwise}

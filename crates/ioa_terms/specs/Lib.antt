@@ -5,6 +5,7 @@ pub use Rattle.ioa_values.specs.DataOrder
 pub use Rattle.ioa_values.specs.Outcome
 pub use Rattle.ioa_values.specs.Sorts
 pub use Rattle.ioa_values.specs.Text
+pub use Rattle.ioa_operators.specs.Canonical
 pub use Rattle.ioa_operators.specs.Judged
 pub use Rattle.ioa_operators.specs.Operators
 pub use Rattle.ioa_operators.specs.Shapes
@@ -19,6 +20,8 @@ pub mod Performance
 pub mod Placed
 pub mod Bounded
 pub mod Sorted
+pub mod Ascending
 pub mod Actions
 pub mod ActionText
+pub mod ComponentText
 pub mod ValuesOrder

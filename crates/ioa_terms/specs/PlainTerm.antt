@@ -1,7 +1,7 @@
 -- Terms and statements without where they lie in memory. `N` stands beside a name: nothing in a text, the place of
 -- the name's value in a checked system. `D` stands beside a display, a field and an assigned variable: nothing in a
 -- text, a shape in a checked system.
-use Rattle.std.specs.Prelude.{ℕ, ℤ, Bool, List, [], ◌∷◌, Option, Some, None}
+use Rattle.std.specs.Prelude.{ℕ, ℤ, Bool, List, [], ◌∷◌, Option}
 use Rattle.ioa_operators.specs.declared.operator.UnaryOperator.{UnaryOperator}
 use Rattle.ioa_operators.specs.declared.operator.BinaryOperator.{BinaryOperator}
 use Rattle.ioa_operators.specs.declared.shape.DisplayForm.{DisplayForm}

@@ -8,7 +8,6 @@ use Rattle.ioa_terms.specs.Operators.{function_named}
 use Rattle.ioa_terms.specs.Shapes.{PlainShape, PlainShapes, truths, integers, naturals, constants, tuples, sequences, sets, maps, no_shapes, shape, has_shape, field_place}
 use Rattle.ioa_terms.specs.ShapeView.{shape_of}
 use Rattle.ioa_terms.specs.Bindings.{Bindings, same_name, lookup}
-use Rattle.ioa_terms.specs.Meaning.{value}
 use Rattle.ioa_terms.specs.PlainTerm as plain
 use Rattle.ioa_terms.specs.PlainTerm.{PlainTerm, PlainTerms, name, one, two, call, display, field, no_terms, term}
 use Rattle.ioa_operators.specs.declared.operator.UnaryOperator.{UnaryOperator}

@@ -1,5 +1,5 @@
 -- What the trees of the code stand for.
-use Rattle.std.specs.Prelude.{ℕ, List, map}
+use Rattle.std.specs.Prelude.{map}
 use Rattle.ioa_terms.specs.declared.tree.Tree.{Tree, fold-Tree}
 use Rattle.ioa_terms.specs.declared.tree.Tree.TheOpen.{Tree-F}
 use Rattle.ioa_terms.specs.declared.tree.Place.{Place}

@@ -15,6 +15,11 @@ pub enum Component {
 }
 
 impl fmt::Display for Component {
+    ghost use Rattle.std.specs.Prelude.{Some};
+    ghost use Rattle.ioa_terms.specs.ComponentText.{component_text};
+
+    ghost output = { λ c. Some (component_text c) };
+
     fn fmt<W: fmt::Write>(&self, f: &mut fmt::Formatter<W>) -> fmt::Result {
         match self {
             Component::Node(node) => write!(f, "node {node}"),

@@ -4,7 +4,7 @@ use Rattle.ioa_terms.specs.declared.action.Action.{Action}
 use Rattle.ioa_compose.specs.declared.configuration.Conf.{Conf}
 use Rattle.ioa_compose.specs.Executions.{replay}
 use Rattle.ioa_compose.specs.Start.{start}
-use Rattle.ioa_compose.specs.Systems.{SystemParts}
+use Rattle.ioa_check.specs.Systems.{SystemParts}
 use Rattle.ioarun.specs.declared.ending.Ending.{Ending}
 use Rattle.ioarun.specs.declared.record.Record.{Record}
 use Rattle.ioarun.specs.declared.running.Course.{Course}

@@ -2,9 +2,9 @@
 use Rattle.std.specs.Prelude.{◌≡◌, ℕ, Bool, true, false, List, Option, Result, Ok, Err, ⊤}
 use Rattle.std.specs.Io.KnownBytes.{Keeps, Appends}
 use Rattle.ioa_front.specs.Texts.{TextSpells}
-use Rattle.ioa_compose.specs.Made.{IsSystemOf}
-use Rattle.ioa_compose.specs.Rows.{HasNoRow}
-use Rattle.ioa_compose.specs.Systems.{SystemParts}
+use Rattle.ioa_check.specs.Made.{IsSystemOf}
+use Rattle.ioa_check.specs.Rows.{HasNoRow}
+use Rattle.ioa_check.specs.Systems.{SystemParts}
 use Rattle.ioarun.specs.declared.ending.Ending.{Ending}
 use Rattle.ioarun.specs.declared.record.Record.{Record}
 use Rattle.ioarun.specs.declared.whole_run.RunFault.{RunFault}

@@ -1,4 +1,4 @@
-use Rattle.std.proofs.Common.{◌≡◌, ◌-◌, arith, sym}
+use Rattle.std.proofs.Common.{◌-◌, arith, sym}
 use Rattle.ioa_terms.proofs.Places.{environment_variable, environment_constant, environment_past}
 use Rattle.ioa_terms.proofs.environment.Env.get.Goals as goal
 

@@ -1,0 +1,6 @@
+-- the lemmas of this crate
+pub mod Loops
+pub mod Names
+pub mod Nodes
+pub mod Rows
+pub mod Scopes

@@ -1,0 +1,98 @@
+-- Facts of a text, from those of what is made of it.
+use Rattle.std.proofs.Common.{◌≡◌, ◌≢◌, ◌<◌, ◌≤◌, ◌+◌, ℕ, zero, suc, pos, Bool, true, false, ◌||◌, List, [], ◌∷◌, ◌++◌, refl, sym, ap, subst, ◌∙◌, length, map, take, get_or, arith, Contains}
+use Rattle.std.proofs.lemmas.List.{take_more, map-append, length-map}
+use Rattle.std.proofs.Math.Seq.{take-append_seam}
+use Rattle.std.specs.Prelude.{◌&&◌}
+use Rattle.std.specs.List.{AllByRecursion, IsDistinct, list_any}
+use lib.Pointwise.{pointwise}
+use Rattle.ioa_source.specs.PlainText.{const, named}
+use Rattle.ioa_source.specs.declared.declaration.Node.{Node}
+use Rattle.ioa_check.specs.Parts.{Parts}
+use Rattle.ioa_check.specs.Made.{AreNodesOf, nodes_in}
+use Rattle.ioa_source.specs.Erasure.{erase_parameter, erase_entry, erase_variable}
+use Rattle.ioa_source.specs.Sides.{CheckedEntry, CheckedParameter, CheckedVariable, SourceAutomaton, SourceEntry, SourceText, SourceVariable}
+use Rattle.ioa_check.specs.Placed.{own_names, variable_names, scope_of}
+use Rattle.ioa_check.specs.Rows.{HasNoEntryRow}
+use Rattle.ioa_check.proofs.Loops.{each_append}
+
+-- lists of two lengths agree nowhere
+pub pointwise_short : {A B : Type 0} (E : A → B → Bool) (xs : List A) (ys : List B) → length xs ≢ length ys → pointwise E xs ys ≡ false
+pointwise_short E [] [] h = absurd (h refl)
+pointwise_short E [] (y ∷ ys) h = refl
+pointwise_short E (x ∷ xs) [] h = refl
+pointwise_short E (x ∷ xs) (y ∷ ys) h = rw (pointwise_short E xs ys (λ q. h (omega arith))) (and_false (E x y))
+  where
+    and_false : (b : Bool) → b && false ≡ false
+    and_false true = refl
+    and_false false = refl
+
+-- parameters have the same names without what stands beside the names of their terms
+own_names-erase : (ps : List CheckedParameter) → own_names (map erase_parameter ps) ≡ own_names ps
+own_names-erase [] = refl
+own_names-erase (const t ∷ ps) = own_names-erase ps
+own_names-erase (named x s ∷ ps) = ap (λ (ns : List (List ℕ)). x ∷ ns) (own_names-erase ps)
+
+-- and so have variables
+variable_names-erase : (vs : List CheckedVariable) → variable_names (map erase_variable vs) ≡ variable_names vs
+variable_names-erase [] = refl
+variable_names-erase (v ∷ vs) = ap (λ (ns : List (List ℕ)). v.name ∷ ns) (variable_names-erase vs)
+
+-- the names in view are those that the text spells
+pub scope_of-erase : (vs : List CheckedVariable) (placed : CheckedEntry) (e : SourceEntry) (scope : List (List ℕ)) → scope ≡ scope_of placed vs → erase_entry placed ≡ e → scope ≡ variable_names vs ++ own_names e.parameters
+scope_of-erase vs placed e scope s same =
+    let names : own_names e.parameters ≡ own_names placed.parameters = ap (λ (x : SourceEntry). own_names x.parameters) (sym same) ∙ own_names-erase placed.parameters in
+    s ∙ ap (λ (ns : List (List ℕ)). variable_names vs ++ ns) (sym names)
+
+-- the variables' names are those that the text spells
+pub variables_erased : (a : SourceAutomaton) (vs : List CheckedVariable) → map erase_variable vs ≡ a.states → variable_names vs ≡ variable_names a.states
+variables_erased a vs same = sym (variable_names-erase vs) ∙ ap (λ (xs : List SourceVariable). variable_names xs) same
+
+-- the rows of entries, where the variables are those of the automaton
+pub entries_erased : (a : SourceAutomaton) (vs : List CheckedVariable) → map erase_variable vs ≡ a.states → AllByRecursion (HasNoEntryRow (variable_names vs) a.transitions) a.signature → AllByRecursion (HasNoEntryRow (variable_names a.states) a.transitions) a.signature
+entries_erased a vs same h =
+    let names : variable_names vs ≡ variable_names a.states = sym (variable_names-erase vs) ∙ ap (λ (xs : List SourceVariable). variable_names xs) same in
+    subst (λ (ns : List (List ℕ)). AllByRecursion (HasNoEntryRow ns a.transitions) a.signature) names h
+
+neither : (a b : Bool) → (a || b) ≡ false → (a ≡ false) × (b ≡ false)
+neither true b h = absurd (cc)
+neither false b h = (refl, h)
+
+-- one more item, which no other is equal to
+distinct_push : {A : Type 0} (e : A → A → Bool) (xs : List A) (y : A) → IsDistinct e xs → list_any (λ x. e x y) xs ≡ false → IsDistinct e (xs ++ y ∷ [])
+unfolding IsDistinct
+distinct_push e [] y d h = (tt, tt)
+distinct_push {A} e (x ∷ xs) y d h =
+    let both : (e x y ≡ false) × (list_any (λ z. e z y) xs ≡ false) = neither (e x y) (list_any (λ z. e z y) xs) h in
+    (each_append (λ (z : A). e x z ≡ false) xs y d.0 both.0, distinct_push e xs y d.1 both.1)
+
+-- one more of the first items of a list
+pub distinct_take : {A : Type 0} (e : A → A → Bool) (ys : List A) (i : ℕ) (d : A) → IsDistinct e (take i ys) → list_any (λ x. e x (get_or ys i d)) (take i ys) ≡ false → i < length ys → IsDistinct e (take (i + 1) ys)
+distinct_take e ys i d h none within = rw (take_more ys i d within) (distinct_push e (take i ys) (get_or ys i d) h none)
+
+-- the same, of what the items stand for
+pub distinct_take-map : {A B : Type 0} (e : B → B → Bool) (f : A → B) (ys : List A) (i : ℕ) (y : A) → IsDistinct e (map f (take i ys)) → list_any (λ x. e x (f y)) (map f (take i ys)) ≡ false → i < length ys → y ≡ get_or ys i y → IsDistinct e (map f (take (i + 1) ys))
+distinct_take-map e f ys i y d h within at =
+    rw (take_more ys i y within, map-append f (take i ys) (get_or ys i y ∷ []), ← at) (distinct_push e (map f (take i ys)) (f y) d h)
+
+-- the nodes that have programs are there
+nodes_from : (t : SourceText) (j : ℕ) (ps : List Parts) → AreNodesOf t j ps → (k : ℕ) → k < length ps → (n : Node) × Contains (nodes_in t.system) n × (n.number ≡ pos (j + k))
+nodes_from t j [] h k l = absurd (omega arith)
+nodes_from t j (p ∷ ps) h zero l =
+    let same : j ≡ j + 0 = omega arith in (h.0.placed.node, h.0.placed.declared, h.0.placed.number ∙ ap pos same)
+nodes_from t j (p ∷ ps) h (suc k) l =
+    let later : (n : Node) × Contains (nodes_in t.system) n × (n.number ≡ pos ((j + 1) + k)) = nodes_from t (j + 1) ps h.1 k (omega arith) in
+    let same : (j + 1) + k ≡ j + suc k = omega arith in (later.0, later.1, later.2 ∙ ap pos same)
+
+-- where each node has a program, the nodes' numbers are 0 to n - 1
+pub numbers_from : (t : SourceText) (ps : List Parts) (many : ℕ) → AreNodesOf t 0 ps → length ps ≡ many → (k : ℕ) → k < many → (n : Node) × Contains (nodes_in t.system) n × (n.number ≡ pos k)
+numbers_from t ps many h e k l =
+    let there : (n : Node) × Contains (nodes_in t.system) n × (n.number ≡ pos (0 + k)) = nodes_from t 0 ps h k (omega arith) in
+    let same : 0 + k ≡ k = omega arith in (there.0, there.1, there.2 ∙ ap pos same)
+
+-- no more items than what they stand for
+pub few_map : {A B : Type 0} (f : A → B) (xs : List A) (ys : List B) (most : ℕ) → map f xs ≡ ys → length xs ≤ most → length ys ≤ most
+few_map {A} {B} f xs ys most e h = subst (λ (zs : List B). length zs ≤ most) e (rw (length-map xs f) h)
+
+-- the first names in view are those of the variables
+pub take_first : {A : Type 0} (n : ℕ) (xs ys : List A) → n ≡ length xs → take n (xs ++ ys) ≡ xs
+take_first n xs ys e = rw e (take-append_seam xs ys)

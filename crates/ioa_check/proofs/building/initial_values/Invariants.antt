@@ -1,0 +1,13 @@
+use Rattle.std.proofs.Common.{◌≡◌, map, take, drop, length, Ok}
+use Rattle.ioa_source.specs.TextView.{variable_of}
+use Rattle.ioa_check.specs.Placed.{ArePlacedVariables}
+use Rattle.ioa_check.specs.Made.{initial_answer}
+use Rattle.ioa_check.proofs.building.initial_values.Given as goal
+
+-- the values of the variables gone by
+abbrev pub invariant-loop-variable : goal.invariant-loop-variable
+invariant-loop-variable l = record {
+  many : length l.values.items ≡ l.variable-index;
+  values : map initial_answer (take l.variable-index l.variables) ≡ map Ok l.values.items;
+  placed : ArePlacedVariables (map variable_of (drop l.variable-index l.variables));
+}

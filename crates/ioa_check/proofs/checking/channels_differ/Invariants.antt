@@ -1,0 +1,8 @@
+use Rattle.std.proofs.Common.{take}
+use Rattle.std.specs.List.{IsDistinct}
+use Rattle.ioa_check.specs.Rows as spec
+use Rattle.ioa_check.proofs.checking.channels_differ.Given as goal
+
+-- the channels gone by differ
+abbrev pub invariant-loop-place : goal.invariant-loop-place
+invariant-loop-place l = IsDistinct spec.same_channel (take l.place l.channels)

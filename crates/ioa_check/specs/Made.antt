@@ -1,0 +1,134 @@
+-- When a system is the one that a text describes (profile).
+use Rattle.std.specs.Prelude.{◌≡◌, ℕ, pos, Bool, true, false, ◌&&◌, List, [], ◌∷◌, ◌++◌, ◌+◌, Option, Some, None, Result, Ok, Err, map, length, find, Contains}
+use Rattle.ioa_operators.specs.declared.shape.Shape.{Shape}
+use Rattle.std.specs.List.{AllByRecursion}
+use Rattle.std.specs.Option.{option_map}
+use Rattle.ioa_check.specs.Data.{Data}
+use Rattle.ioa_terms.specs.Bindings.{same_name}
+use Rattle.ioa_terms.specs.Meaning.{answer}
+use Rattle.ioa_terms.specs.Performance.{target_shape}
+use Rattle.ioa_operators.specs.Shapes.{integers}
+use Rattle.ioa_source.specs.PlainTerm.{assign, choose, fire}
+use Rattle.ioa_operators.specs.declared.fault.TermFault.{TermFault}
+use Rattle.ioa_operators.specs.declared.fault.TermFault.TheVariants.{Undefined}
+use Rattle.ioa_source.specs.declared.declaration.Variable.{Variable}
+use Rattle.ioa_terms.specs.declared.tree.Kind.{Kind}
+use Rattle.ioa_terms.specs.declared.tree.Kind.TheVariants.{Input, Output, Internal}
+use Rattle.ioa_source.specs.View.{statement_of}
+use Rattle.ioa_source.specs.TextView.{entry_of, variable_of, transition_of}
+use Rattle.ioa_source.specs.Erasure.{erase_entry, erase_variable, erase_transition, erase_statement}
+use Rattle.ioa_source.specs.PlainText.{PlainEntry, PlainTransition, automaton}
+use Rattle.ioa_source.specs.declared.declaration.Placement.{Placement}
+use Rattle.ioa_source.specs.declared.declaration.Placement.TheVariants as placement
+use Rattle.ioa_source.specs.declared.declaration.Node.{Node}
+use Rattle.ioa_source.specs.declared.declaration.Channel.{Channel}
+use Rattle.ioa_source.specs.Sides.{CheckedStatement, CheckedTerm, SourceAutomaton, SourceDeclaration, SourceText}
+use Rattle.ioa_check.specs.declared.program.Rule.{Rule}
+use Rattle.ioa_check.specs.Parts.{Parts}
+use Rattle.ioa_check.specs.Systems.{SystemParts}
+
+-- whether two kinds are the same
+abbrev pub same_kind : Kind → Kind → Bool
+same_kind Input Input = true
+same_kind Input Output = false
+same_kind Input Internal = false
+same_kind Output Input = false
+same_kind Output Output = true
+same_kind Output Internal = false
+same_kind Internal Input = false
+same_kind Internal Output = false
+same_kind Internal Internal = true
+
+-- the transition of an entry: the first of its name and kind
+abbrev pub transition_for : {N D : Type 0} → PlainEntry N D → List (PlainTransition N D) → Option (PlainTransition N D)
+transition_for e ts = find (λ t. same_name t.name e.name && same_kind t.kind e.kind) ts
+
+-- beside an assigned variable stands the shape of its sort, which is Int in this form
+abbrev pub AssignsInteger : CheckedStatement → Type 0
+AssignsInteger (assign p t) = target_shape p ≡ integers
+AssignsInteger (choose arms rest) = ⊥
+AssignsInteger (fire k x ts) = Unit {0}
+
+-- what a term answers that reads no name; where none is written there is no value
+abbrev pub term_answer : Option CheckedTerm → Result Data TermFault
+term_answer None = Err Undefined
+term_answer (Some t) = answer t []
+
+-- a rule of an automaton: its transition is the one of its entry
+abbrev pub IsRuleOf : SourceAutomaton → Rule → Type 0
+IsRuleOf a r = transition_for (erase_entry (entry_of r.entry)) a.transitions ≡ Some (erase_transition (transition_of r.transition))
+
+-- a rule of which each assigned variable stands beside its shape
+abbrev pub HasIntegers : Rule → Type 0
+HasIntegers r = AllByRecursion AssignsInteger (transition_of r.transition).effect
+
+-- what the initial term of a state variable answers; it reads no name
+abbrev pub initial_answer : Variable ℕ Shape → Result Data TermFault
+initial_answer v = term_answer (variable_of v).initial
+
+-- a program of an automaton: without what stands beside its names it is what the automaton's text says
+pub record IsProgramOf (a : SourceAutomaton) (p : Parts) : Type 0 where
+  pub signature : map (λ r. erase_entry (entry_of r.entry)) p.rules ≡ a.signature
+  pub transitions : AllByRecursion (IsRuleOf a) p.rules
+  pub shapes : AllByRecursion HasIntegers p.rules
+  pub states : map erase_variable (map variable_of p.variables) ≡ a.states
+  pub initial : map initial_answer p.variables ≡ map Ok p.initial
+  pub schedule : map erase_statement (map statement_of p.schedule) ≡ a.schedule
+
+-- whether a declaration is the automaton of a name
+abbrev pub is_named : List ℕ → SourceDeclaration → Bool
+is_named x (automaton a) = same_name a.name x
+
+-- the automaton that a declaration is
+abbrev pub automaton_in : SourceDeclaration → SourceAutomaton
+automaton_in (automaton a) = a
+
+-- the automaton of a name, the first where several bear it
+abbrev pub automaton_named : List ℕ → List SourceDeclaration → Option SourceAutomaton
+automaton_named x ds = option_map automaton_in (find (is_named x) ds)
+
+-- the node that a placement is, where it is one
+abbrev pub node_in : Placement → List Node
+node_in (placement.Node n) = n ∷ []
+node_in (placement.Channel c) = []
+
+-- the nodes of a system section, as declared
+abbrev pub nodes_in : List Placement → List Node
+nodes_in [] = []
+nodes_in (p ∷ more) = node_in p ++ nodes_in more
+
+-- the channel that a placement is, where it is one
+abbrev pub channel_in : Placement → List Channel
+channel_in (placement.Node n) = []
+channel_in (placement.Channel c) = c ∷ []
+
+-- the channels of a system section, as declared
+abbrev pub channels_in : List Placement → List Channel
+channels_in [] = []
+channels_in (p ∷ more) = channel_in p ++ channels_in more
+
+-- a node of a text: one of the system section of this number, on which this automaton is placed
+pub record IsPlacedOn (t : SourceText) (k : ℕ) (a : SourceAutomaton) : Type 0 where
+  pub node : Node
+  pub declared : Contains (nodes_in t.system) node
+  pub number : node.number ≡ pos k
+  pub automaton : automaton_named node.automaton t.declarations ≡ Some a
+
+-- the program of node k of a text
+pub record IsNodeOf (t : SourceText) (k : ℕ) (p : Parts) : Type 0 where
+  pub automaton : SourceAutomaton
+  pub placed : IsPlacedOn t k automaton
+  pub number : p.node ≡ pos k
+  pub program : IsProgramOf automaton p
+
+-- the programs of the nodes of a text from node k on
+abbrev pub AreNodesOf : SourceText → ℕ → List Parts → Type 0
+AreNodesOf t k [] = Unit {0}
+AreNodesOf t k (p ∷ more) = IsNodeOf t k p × AreNodesOf t (k + 1) more
+
+-- the system of a text: one program for each of its nodes, node 0 first, and its channels
+pub record IsSystemOf (t : SourceText) (s : SystemParts) : Type 0 where
+  pub nodes : AreNodesOf t 0 s.programs
+  pub many : length s.programs ≡ length (nodes_in t.system)
+  pub channels : s.channels ≡ channels_in t.system
+  pub names : s.names ≡ []

@@ -1,0 +1,70 @@
+-- When each name of a program stands beside the place of its value.
+use Rattle.std.specs.Prelude.{◌≡◌, ℕ, List, [], ◌∷◌, ◌++◌, Option, Some, None, map, length, All}
+use Rattle.std.specs.List.{AllByRecursion}
+use Rattle.ioa_terms.specs.Placed.{IsPlaced, ArePlaced}
+use Rattle.ioa_source.specs.PlainTerm.{assign, choose, fire}
+use Rattle.ioa_source.specs.View.{statement_of}
+use Rattle.ioa_source.specs.PlainText.{PlainParameter, const, named, PlainEntry, PlainVariable}
+use Rattle.ioa_source.specs.TextView.{entry_of, variable_of, transition_of}
+use Rattle.ioa_source.specs.Sides.{CheckedParameter, CheckedStatement, CheckedTerm, CheckedVariable}
+use Rattle.ioa_check.specs.Parts.{Parts}
+use Rattle.ioa_check.specs.declared.program.Rule.{Rule}
+
+-- the name of a parameter that has one
+abbrev pub own_name : {N D : Type 0} → PlainParameter N D → List (List ℕ)
+own_name (const t) = []
+own_name (named x s) = x ∷ []
+
+-- the names of an entry's own parameters
+abbrev pub own_names : {N D : Type 0} → List (PlainParameter N D) → List (List ℕ)
+own_names [] = []
+own_names (p ∷ more) = own_name p ++ own_names more
+
+-- the names of variables
+abbrev pub variable_names : {N D : Type 0} → List (PlainVariable N D) → List (List ℕ)
+variable_names vs = map (λ v. v.name) vs
+
+-- the names in view in a transition: the state variables, and then the entry's own parameters
+abbrev pub scope_of : {N D M E : Type 0} → PlainEntry N D → List (PlainVariable M E) → List (List ℕ)
+scope_of e vs = variable_names vs ++ own_names e.parameters
+
+-- a constant parameter reads no name
+abbrev pub IsPlacedParameter : CheckedParameter → Type 0
+IsPlacedParameter (const t) = IsPlaced t []
+IsPlacedParameter (named x s) = Unit {0}
+
+abbrev pub ArePlacedParameters : List CheckedParameter → Type 0
+ArePlacedParameters ps = AllByRecursion IsPlacedParameter ps
+
+abbrev pub IsPlacedGuard : Option CheckedTerm → List (List ℕ) → Type 0
+IsPlacedGuard None names = Unit {0}
+IsPlacedGuard (Some t) names = IsPlaced t names
+
+-- a rule whose names stand beside the places of their values
+pub record IsPlacedRule (vs : List CheckedVariable) (r : Rule) : Type 0 where
+  pub scope : r.scope ≡ scope_of (entry_of r.entry) vs
+  pub parameters : ArePlacedParameters (entry_of r.entry).parameters
+  pub guard : IsPlacedGuard (transition_of r.transition).pre r.scope
+  pub effect : ArePlaced (transition_of r.transition).effect r.scope r.scope
+
+-- the arguments of each firing, placed among the variables
+abbrev pub ArePlacedTerms : List CheckedTerm → List (List ℕ) → Type 0
+ArePlacedTerms ts names = AllByRecursion (λ t. IsPlaced t names) ts
+
+abbrev pub IsPlacedFiring : CheckedStatement → List (List ℕ) → Type 0
+IsPlacedFiring (assign p t) names = Unit {0}
+IsPlacedFiring (choose arms rest) names = Unit {0}
+IsPlacedFiring (fire k a ts) names = ArePlacedTerms ts names
+
+abbrev pub ArePlacedFirings : List CheckedStatement → List (List ℕ) → Type 0
+ArePlacedFirings ss names = AllByRecursion (λ s. IsPlacedFiring s names) ss
+
+-- a program whose names stand beside the places of their values
+pub record IsPlacedProgram (p : Parts) : Type 0 where
+  pub rules : All (IsPlacedRule (map variable_of p.variables)) p.rules
+  pub valued : length p.initial ≡ length p.variables
+  pub schedule : ArePlacedFirings (map statement_of p.schedule) (variable_names (map variable_of p.variables))
+
+-- initial terms read no name
+abbrev pub ArePlacedVariables : List CheckedVariable → Type 0
+ArePlacedVariables vs = AllByRecursion (λ v. IsPlacedGuard v.initial []) vs

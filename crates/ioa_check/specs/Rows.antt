@@ -1,0 +1,243 @@
+-- When no row of refusal stands in a text of the first form (profile).
+use Rattle.std.specs.Prelude.{◌≡◌, ◌≤◌, ◌<◌, ℕ, ℤ, pos, Bool, true, false, ◌&&◌, ◌||◌, not, codes, slice_get, List, [], ◌++◌, Option, Some, None, map, length, nat_eq, Contains}
+use Rattle.std.specs.List.{AllByRecursion, IsDistinct, list_all, list_any}
+use Rattle.std.specs.Option.{is_some}
+use Rattle.std.specs.Ordering.{int_eq}
+use Rattle.ioa_terms.specs.Bindings.{same_name}
+use lib.Pointwise.{pointwise}
+use denote.Enum.Bare.{sameb}
+use Rattle.ioa_operators.specs.declared.operator.BinaryOperator.{BinaryOperator}
+use Rattle.ioa_operators.specs.contracts.operator.BinaryOperator.{the_type}
+use Rattle.ioa_terms.specs.declared.tree.Kind.TheVariants.{Input}
+use Rattle.ioa_source.specs.PlainTerm.{number, name, two, variable, at_key, at_field, assign, choose, fire}
+use Rattle.ioa_source.specs.PlainText.{const, named}
+use Rattle.ioa_check.specs.FirstSorts.{is_first, is_number, is_guard}
+use Rattle.ioa_check.specs.Placed.{own_names, variable_names}
+use Rattle.ioa_check.specs.Made.{same_kind, transition_for, automaton_in, automaton_named, nodes_in, channels_in}
+use Rattle.ioa_source.specs.declared.declaration.Node.{Node}
+use Rattle.ioa_source.specs.declared.declaration.Channel.{Channel}
+use Rattle.ioa_source.specs.Sides.{SourceAutomaton, SourceDeclaration, SourceEntry, SourceParameter, SourcePlace, SourceStatement, SourceTerm, SourceText, SourceTransition}
+
+-- 20: a transition is of the name and kind of an entry
+abbrev pub has_entry : List SourceEntry → SourceTransition → Bool
+has_entry es t = list_any (λ e. same_name e.name t.name && same_kind e.kind t.kind) es
+
+-- 20: a firing is of an entry's name
+abbrev pub fires_entry : List SourceEntry → SourceStatement → Bool
+fires_entry es (assign p t) = false
+fires_entry es (choose arms rest) = false
+fires_entry es (fire k x ts) = list_any (λ e. same_name e.name x) es
+
+-- 22: a firing has as many arguments as its entry
+abbrev pub fires_as_many : List SourceEntry → SourceStatement → Bool
+fires_as_many es (assign p t) = false
+fires_as_many es (choose arms rest) = false
+fires_as_many es (fire k x ts) = list_any (λ e. same_name e.name x && nat_eq (length e.parameters) (length ts)) es
+
+-- 22: the arguments of a firing are numbers
+abbrev pub fires_numbers : SourceStatement → Bool
+fires_numbers (assign p t) = false
+fires_numbers (choose arms rest) = false
+fires_numbers (fire k x ts) = list_all is_number ts
+
+-- 22: an assigned term is a number
+abbrev pub assigns_number : SourceStatement → Bool
+assigns_number (assign p t) = is_number t
+assigns_number (choose arms rest) = false
+assigns_number (fire k x ts) = false
+
+-- 22: a constant is a number
+abbrev pub is_number_constant : SourceParameter → Bool
+is_number_constant (const t) = is_number t
+is_number_constant (named x s) = true
+
+-- 22: a guard, where there is one, is a truth value
+abbrev pub is_guard_or_none : Option SourceTerm → Bool
+is_guard_or_none None = true
+is_guard_or_none (Some t) = is_guard t
+
+-- 22 and 23: a state variable has an initial term, which is a number
+abbrev pub is_number_term : Option SourceTerm → Bool
+is_number_term None = false
+is_number_term (Some t) = is_number t
+
+-- whether two operators are the same
+abbrev pub same_operator : BinaryOperator → BinaryOperator → Bool
+same_operator = sameb the_type
+
+-- two terms of the first form are spelled by the same tree
+abbrev pub same_term : SourceTerm → SourceTerm → Bool
+same_term (number m) (number n) = int_eq m n
+same_term (name x a) (name y b) = same_name x y
+same_term (two f a b) (two g c d) = same_operator f g && same_term a c && same_term b d
+same_term _ _ = false
+
+-- 34: an argument of a head repeats its parameter: the same term at a constant, the same name elsewhere
+abbrev pub argument_repeats : SourceParameter → SourceTerm → Bool
+argument_repeats (const t) u = same_term t u
+argument_repeats (named x s) (name y at) = same_name y x
+argument_repeats (named x s) _ = false
+
+-- 20: a term is of the first form, and the names that it reads are in view
+abbrev pub reads_only : List (List ℕ) → SourceTerm → Bool
+reads_only names (number n) = true
+reads_only names (name x at) = list_any (same_name x) names
+reads_only names (two f a b) = is_first f && (reads_only names a && reads_only names b)
+reads_only names _ = false
+
+-- 20: the names that a guard reads, where there is one
+abbrev pub guard_reads_only : List (List ℕ) → Option SourceTerm → Bool
+guard_reads_only names None = true
+guard_reads_only names (Some t) = reads_only names t
+
+-- 20: what a constant reads: no name
+abbrev pub reads_no_name : SourceParameter → Bool
+reads_no_name (const t) = reads_only [] t
+reads_no_name (named x s) = true
+
+-- 20: an assignment is to one of these variables
+abbrev pub writes_only : List (List ℕ) → SourcePlace → Bool
+writes_only variables (variable x at d) = list_any (same_name x) variables
+writes_only variables (at_key x at d t) = false
+writes_only variables (at_field x at d f) = false
+
+-- 20: the variable that an assignment writes, and the names that it reads
+abbrev pub assigns_only : List (List ℕ) → List (List ℕ) → SourceStatement → Bool
+assigns_only variables names (assign p t) = writes_only variables p && reads_only names t
+assigns_only variables names (choose arms rest) = false
+assigns_only variables names (fire k x ts) = true
+
+-- 20: the names that a firing reads
+abbrev pub fires_only : List (List ℕ) → SourceStatement → Bool
+fires_only names (assign p t) = true
+fires_only names (choose arms rest) = false
+fires_only names (fire k x ts) = list_all (reads_only names) ts
+
+-- an entry and its transition, where the state variables have these names
+pub record HasNoEntryRow (names : List (List ℕ)) (ts : List SourceTransition) (e : SourceEntry) : Type 0 where
+  pub transition : SourceTransition
+  -- 25: it is there
+  pub found : transition_for e ts ≡ Some transition
+  -- 24: an input has no guard
+  pub input_pre : is_some transition.pre && same_kind e.kind Input ≡ false
+  -- 34: the head repeats the entry
+  pub head : pointwise argument_repeats e.parameters transition.arguments ≡ true
+  -- 21: the state variables and the entry's own parameters differ
+  pub differ : IsDistinct same_name (names ++ own_names e.parameters)
+  -- 22: constants and assigned terms are numbers, and a guard is a truth value
+  pub constants : list_all is_number_constant e.parameters ≡ true
+  pub guard : is_guard_or_none transition.pre ≡ true
+  pub effect : list_all assigns_number transition.effect ≡ true
+  -- 20: constants read no name; guard and effect read what is in view, and assignments are to state variables
+  pub constant_names : list_all reads_no_name e.parameters ≡ true
+  pub guard_names : guard_reads_only (names ++ own_names e.parameters) transition.pre ≡ true
+  pub effect_names : list_all (assigns_only names (names ++ own_names e.parameters)) transition.effect ≡ true
+
+-- an automaton
+pub record HasNoAutomatonRow (a : SourceAutomaton) : Type 0 where
+  -- 21: its entries' names differ, and its transitions' names
+  pub entries_differ : IsDistinct same_name (map (λ e. e.name) a.signature)
+  pub transitions_differ : IsDistinct same_name (map (λ t. t.name) a.transitions)
+  -- 20: its transitions and firings are of entries
+  pub transitions : list_all (has_entry a.signature) a.transitions ≡ true
+  pub firings : list_all (fires_entry a.signature) a.schedule ≡ true
+  -- 22: its firings have as many arguments as their entries, and they are numbers
+  pub many : list_all (fires_as_many a.signature) a.schedule ≡ true
+  pub arguments : list_all fires_numbers a.schedule ≡ true
+  -- 20: which read state variables alone
+  pub read : list_all (fires_only (variable_names a.states)) a.schedule ≡ true
+  -- 23: each state variable has an initial term
+  pub initials : list_all (λ v. is_some v.initial) a.states ≡ true
+  -- 22: which is a number
+  pub initial_numbers : list_all (λ v. is_number_term v.initial) a.states ≡ true
+  -- 20: and which reads no name
+  pub initial_names : list_all (λ v. guard_reads_only [] v.initial) a.states ≡ true
+  -- each entry and its transition
+  pub entries : AllByRecursion (HasNoEntryRow (variable_names a.states) a.transitions) a.signature
+
+-- the test of what there is
+abbrev pub passes : {A : Type 0} → (A → Bool) → Option A → Bool
+passes test None = false
+passes test (Some x) = test x
+
+-- the parameter at a place is the constant of a number
+abbrev pub is_constant : Option SourceParameter → ℤ → Bool
+is_constant None k = false
+is_constant (Some (const (number n))) k = int_eq n k
+is_constant (Some (const _)) k = false
+is_constant (Some (named x s)) k = false
+
+-- 20: the automaton of a node is declared
+abbrev pub is_declared : List SourceDeclaration → Node → Bool
+is_declared ds n = is_some (automaton_named n.automaton ds)
+
+-- 34: an entry that is a `send` has its node's number second, and one that is a `receive` has it third
+abbrev pub is_at_home : ℤ → SourceEntry → Bool
+is_at_home k e =
+    (not (same_name e.name (codes "send")) || is_constant (slice_get e.parameters 1) k)
+    && (not (same_name e.name (codes "receive")) || is_constant (slice_get e.parameters 2) k)
+
+-- 34: the sends of a node's automaton are from that node, and its receives to it
+abbrev pub has_its_own : List SourceDeclaration → Node → Bool
+has_its_own ds n = passes (λ a. list_all (is_at_home n.number) a.signature) (automaton_named n.automaton ds)
+
+-- 28: an automaton has a `receive` from a node
+abbrev pub takes_from : ℤ → SourceAutomaton → Bool
+takes_from k a = list_any (λ e. same_name e.name (codes "receive") && is_constant (slice_get e.parameters 1) k) a.signature
+
+-- 28: a node is the receiver of a channel and takes messages of its sender
+abbrev pub is_receiver : List SourceDeclaration → Channel → Node → Bool
+is_receiver ds c n = int_eq n.number c.to && passes (takes_from c.from) (automaton_named n.automaton ds)
+
+-- 28: the receiver of a channel takes messages of its sender
+abbrev pub has_input : List SourceDeclaration → List Node → Channel → Bool
+has_input ds ns c = list_any (is_receiver ds c) ns
+
+-- 20: a number is that of a node
+abbrev pub is_node : List Node → ℤ → Bool
+is_node ns k = list_any (λ n. int_eq n.number k) ns
+
+-- 20: both ends of a channel are nodes
+abbrev pub joins_nodes : List Node → Channel → Bool
+joins_nodes ns c = is_node ns c.from && is_node ns c.to
+
+-- 29: a channel is from a node to another
+abbrev pub joins_two : Channel → Bool
+joins_two c = not (int_eq c.from c.to)
+
+-- 21: two nodes have one number
+abbrev pub same_number : Node → Node → Bool
+same_number m n = int_eq m.number n.number
+
+-- 21: two channels are between the same nodes, in the same direction
+abbrev pub same_channel : Channel → Channel → Bool
+same_channel c d = int_eq c.from d.from && int_eq c.to d.to
+
+-- a system section
+pub record HasNoSystemRow (t : SourceText) : Type 0 where
+  -- 31: at most 64 nodes and 256 channels
+  pub few_nodes : length (nodes_in t.system) ≤ 64
+  pub few_channels : length (channels_in t.system) ≤ 256
+  -- 21: the nodes' numbers differ, and the channels
+  pub nodes_differ : IsDistinct same_number (nodes_in t.system)
+  pub channels_differ : IsDistinct same_channel (channels_in t.system)
+  -- 30: the nodes' numbers are 0 to n - 1
+  pub numbers : (k : ℕ) → k < length (nodes_in t.system) → (n : Node) × Contains (nodes_in t.system) n × (n.number ≡ pos k)
+  -- 20: each node's automaton is declared, and the ends of each channel are nodes
+  pub declared : list_all (is_declared t.declarations) (nodes_in t.system) ≡ true
+  pub ends : list_all (joins_nodes (nodes_in t.system)) (channels_in t.system) ≡ true
+  -- 34: sends are from their node, and receives to it
+  pub at_home : list_all (has_its_own t.declarations) (nodes_in t.system) ≡ true
+  -- 29: no channel is from a node to itself
+  pub two : list_all joins_two (channels_in t.system) ≡ true
+  -- 28: the receiver of each channel takes messages of its sender
+  pub inputs : list_all (has_input t.declarations (nodes_in t.system)) (channels_in t.system) ≡ true
+
+-- a whole text
+pub record HasNoRow (t : SourceText) : Type 0 where
+  -- 21: the automata's names differ
+  pub automata_differ : IsDistinct same_name (map (λ d. (automaton_in d).name) t.declarations)
+  -- each automaton
+  pub automata : AllByRecursion (λ d. HasNoAutomatonRow (automaton_in d)) t.declarations
+  -- the system section
+  pub system : HasNoSystemRow t

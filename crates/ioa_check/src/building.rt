@@ -1,0 +1,390 @@
+//! A node's program, made of its automaton.
+
+ghost use Rattle.std.specs.Prelude.{◌≡◌, ◌&&◌, true, nat_eq, ◌++◌, All, [], ◌∷◌, IfOk, OnOk, Ok, map, take, length};
+ghost use Rattle.std.specs.Option.{option_map, option_copied, is_some};
+ghost use lib.Pointwise.{pointwise};
+ghost use Rattle.std.specs.List.{AllByRecursion, IsDistinct, list_all, list_any};
+ghost use Rattle.ioa_terms.specs.Bindings.{same_name};
+ghost use Rattle.ioa_check.specs.Rows.{HasNoEntryRow, HasNoAutomatonRow, has_entry, fires_entry, fires_as_many, guard_reads_only, assigns_only, assigns_number, is_guard_or_none, argument_repeats, same_term};
+ghost use Rattle.ioa_source.specs.Erasure.{erase_entry, erase_transition};
+ghost use Rattle.ioa_check.specs.Made.{AssignsInteger, HasIntegers, IsProgramOf, IsRuleOf, initial_answer, term_answer, transition_for, same_kind};
+ghost use Rattle.ioa_source.specs.View.{term_of, statement_of};
+ghost use Rattle.ioa_source.specs.TextView.{automaton_of, parameter_of, entry_of, transition_of, variable_of};
+ghost use Rattle.ioa_terms.specs.Placed.{ArePlaced};
+ghost use Rattle.ioa_check.specs.Placed.{IsPlacedRule, ArePlacedVariables, IsPlacedGuard, own_name, variable_names, scope_of};
+
+use crate::placing::{
+    place_effect, place_entry, place_guard, place_schedule, place_terms, place_variables,
+};
+use crate::program::{Program, Rule};
+use crate::refusal::{Refusal, Row};
+use crate::scope::Scope;
+use ioa_source::{Automaton, Entry, Parameter, Transition, Variable};
+use ioa_terms::{Checked, Env, Kind, Shape, Statement, Term, TermFault, Tree, Value, Word, eval};
+use std::alloc::Global;
+
+/// The program of a node that an automaton is placed on.
+pub(crate) fn program_of(
+    alloc: Global,
+    node: i64,
+    automaton: &Automaton<(), ()>,
+) -> Result<Program, Refusal>
+    ensures node { IfOk result (λ p. p.node ≡ node) }
+    ensures made { IfOk result (IsProgramOf (automaton_of automaton.now)) }
+    ensures rows { OnOk result (HasNoAutomatonRow (automaton_of automaton.now)) }
+{
+    entries_differ(alloc, automaton)?;
+    transitions_differ(alloc, automaton)?;
+    let variables = place_variables(alloc, &automaton.states)?;
+    let initial = initial_values(alloc, &variables)?;
+    let names = names_of(alloc, &variables)?;
+    transitions_have_entries(automaton)?;
+    firings_have_entries(automaton)?;
+    let rules = rules_of(alloc, automaton, &variables)?;
+    let schedule = place_schedule(alloc, &names, &automaton.schedule)?;
+    Ok(Program::new(node, rules, variables, initial, schedule))
+}
+
+/// The names of the state variables, which differ.
+fn names_of(alloc: Global, variables: &[Variable<usize, Shape>]) -> Result<Scope, Refusal>
+    ensures names { IfOk result (λ s. s ≡ variable_names (map variable_of variables.now)) }
+    ensures differ { IfOk result (IsDistinct same_name) }
+{
+    let mut names = Scope::new(alloc);
+    for variable in variables {
+        declare(alloc, &mut names, &variable.name)?;
+    }
+    Ok(names)
+}
+
+/// Declares a name that is new.
+fn declare(alloc: Global, names: &mut Scope, name: &Word) -> Result<(), Refusal>
+    ensures added { OnOk result (names.new ≡ names.old ++ name.now ∷ []) }
+    ensures differ { OnOk result (IsDistinct same_name names.old → IsDistinct same_name names.new) }
+{
+    if names.declare(name.try_copy(alloc)?)? {
+        Ok(())
+    } else {
+        Err(Refusal::Row(Row::Twice))
+    }
+}
+
+/// The names in view in the transition of an entry: the state variables, and then the entry's own
+/// parameters.
+fn scope_for(
+    alloc: Global,
+    variables: &[Variable<usize, Shape>],
+    entry: &Entry<usize, Shape>,
+) -> Result<Scope, Refusal>
+    ensures names { IfOk result (λ s. s ≡ scope_of (entry_of entry.now) (map variable_of variables.now)) }
+    ensures differ { IfOk result (IsDistinct same_name) }
+{
+    let mut names = names_of(alloc, variables)?;
+    for parameter in &entry.parameters {
+        declare_parameter(alloc, &mut names, parameter)?;
+    }
+    Ok(names)
+}
+
+/// Declares the name of a parameter that has one.
+fn declare_parameter(
+    alloc: Global,
+    names: &mut Scope,
+    parameter: &Parameter<usize, Shape>,
+) -> Result<(), Refusal>
+    ensures added { OnOk result (names.new ≡ names.old ++ own_name (parameter_of parameter.now)) }
+    ensures differ { OnOk result (IsDistinct same_name names.old → IsDistinct same_name names.new) }
+{
+    match parameter {
+        Parameter::Const(_) => Ok(()),
+        Parameter::Declared(name, _) => declare(alloc, names, name),
+    }
+}
+
+/// The values of the state variables in the start state.
+fn initial_values(
+    alloc: Global,
+    variables: &[Variable<usize, Shape>],
+) -> Result<Vec<Value>, Refusal>
+    requires { ArePlacedVariables (map variable_of variables.now) }
+    ensures many { IfOk result (λ vs. length vs.items ≡ length variables.now) }
+    ensures values { IfOk result (λ vs. map initial_answer variables.now ≡ map Ok vs.items) }
+{
+    let mut values = Vec::new(alloc);
+    for variable in variables {
+        let value = initial_value(alloc, &variable.initial)?;
+        values.push(value)?;
+    }
+    Ok(values)
+}
+
+/// The value of an initial term.
+fn initial_value(alloc: Global, initial: &Option<Checked>) -> Result<Value, Refusal>
+    requires { IsPlacedGuard (option_map term_of initial.now) [] }
+    ensures { IfOk result (λ v. term_answer (option_map term_of initial.now) ≡ Ok v) }
+{
+    let Some(term) = initial else {
+        return Err(Refusal::Row(Row::NoInitial));
+    };
+    match eval(alloc, term, &Env::new(&[], &[])) {
+        Ok(value) => Ok(value),
+        Err(TermFault::Undefined) => Err(Refusal::Row(Row::BadArgument)),
+        Err(TermFault::Range) => Err(Refusal::Row(Row::BadArgument)),
+        Err(TermFault::Memory) => Err(Refusal::Memory),
+    }
+}
+
+/// The rules of an automaton: each entry with its transition.
+fn rules_of(
+    alloc: Global,
+    automaton: &Automaton<(), ()>,
+    variables: &[Variable<usize, Shape>],
+) -> Result<Vec<Rule>, Refusal>
+    ensures placed { IfOk result (λ rs. All (IsPlacedRule (map variable_of variables.now)) rs.items) }
+    ensures signature { IfOk result (λ rs. map (λ r. erase_entry (entry_of r.entry)) rs.items ≡ (automaton_of automaton.now).signature) }
+    ensures transitions { IfOk result (λ rs. AllByRecursion (IsRuleOf (automaton_of automaton.now)) rs.items) }
+    ensures shapes { IfOk result (λ rs. AllByRecursion HasIntegers rs.items) }
+    ensures rows { OnOk result (AllByRecursion (HasNoEntryRow (variable_names (map variable_of variables.now)) (automaton_of automaton.now).transitions)
+        (automaton_of automaton.now).signature) }
+{
+    let mut rules = Vec::new(alloc);
+    for entry in &automaton.signature {
+        let rule = rule_of(alloc, automaton, entry, variables)?;
+        rules.push(rule)?;
+    }
+    Ok(rules)
+}
+
+/// The rule of an entry.
+fn rule_of(
+    alloc: Global,
+    automaton: &Automaton<(), ()>,
+    entry: &Entry<(), ()>,
+    variables: &[Variable<usize, Shape>],
+) -> Result<Rule, Refusal>
+    ensures placed { IfOk result (IsPlacedRule (map variable_of variables.now)) }
+    ensures entry { IfOk result (λ r. erase_entry (entry_of r.entry) ≡ entry_of entry.now) }
+    ensures transition { IfOk result (IsRuleOf (automaton_of automaton.now)) }
+    ensures shapes { IfOk result HasIntegers }
+    ensures rows { OnOk result (HasNoEntryRow (variable_names (map variable_of variables.now)) (automaton_of automaton.now).transitions (entry_of entry.now)) }
+{
+    let Some(transition) = transition_for(automaton, entry) else {
+        return Err(Refusal::Row(Row::NoTransition));
+    };
+    if !head_repeats(&entry.parameters, &transition.arguments) {
+        return Err(Refusal::Row(Row::BadArgument));
+    }
+    if has_input_pre(entry, transition) {
+        return Err(Refusal::Row(Row::InputPre));
+    }
+    let entry = place_entry(alloc, entry)?;
+    let scope = scope_for(alloc, variables, &entry)?;
+    let transition = place_transition(alloc, &scope, variables.len(), transition)?;
+    Ok(Rule {
+        entry,
+        transition,
+        scope,
+    })
+}
+
+/// Whether a transition has a guard although its entry is an input.
+fn has_input_pre(entry: &Entry<(), ()>, transition: &Transition<(), ()>) -> bool
+    ensures { result ≡ is_some (transition_of transition.now).pre && same_kind (entry_of entry.now).kind Kind.Input }
+{
+    match &transition.pre {
+        None => false,
+        Some(_) => entry.kind == Kind::Input,
+    }
+}
+
+/// A transition, its names placed among those in view.
+fn place_transition(
+    alloc: Global,
+    scope: &Scope,
+    count: usize,
+    transition: &Transition<(), ()>,
+) -> Result<Transition<usize, Shape>, Refusal>
+    ensures same { IfOk result (λ t. erase_transition (transition_of t) ≡ transition_of transition.now) }
+    ensures guard { IfOk result (λ t. IsPlacedGuard (transition_of t).pre scope.now) }
+    ensures effect { IfOk result (λ t. ArePlaced (transition_of t).effect scope.now scope.now) }
+    ensures shapes { IfOk result (λ t. AllByRecursion AssignsInteger (transition_of t).effect) }
+    ensures sort { OnOk result (is_guard_or_none (transition_of transition.now).pre ≡ true) }
+    ensures guard_names { OnOk result (guard_reads_only scope.now (transition_of transition.now).pre ≡ true) }
+    ensures numbers { OnOk result (list_all assigns_number (transition_of transition.now).effect ≡ true) }
+    ensures names { OnOk result (list_all (assigns_only (take count scope.now) scope.now) (transition_of transition.now).effect ≡ true) }
+{
+    let name = transition.name.try_copy(alloc)?;
+    let arguments = place_terms(alloc, scope, &transition.arguments)?;
+    let pre = place_guard(alloc, scope, &transition.pre)?;
+    let effect = place_effect(alloc, scope, count, &transition.effect)?;
+    Ok(Transition {
+        kind: transition.kind,
+        name,
+        arguments,
+        pre,
+        effect,
+    })
+}
+
+/// The transition of an entry's name.
+fn transition_for<'a>(
+    automaton: &'a Automaton<(), ()>,
+    entry: &Entry<(), ()>,
+) -> Option<&'a Transition<(), ()>>
+    ensures { option_map transition_of (option_copied result)
+        ≡ transition_for (entry_of entry.now) (automaton_of automaton.now).transitions }
+{
+    for transition in &automaton.transitions {
+        if transition.name == entry.name && transition.kind == entry.kind {
+            return Some(transition);
+        }
+    }
+    None
+}
+
+/// Whether a head repeats its entry: the same term at a constant, the same name elsewhere.
+fn head_repeats(parameters: &[Parameter<(), ()>], arguments: &[Term]) -> bool
+    ensures { result ≡ pointwise argument_repeats (map parameter_of parameters.now) (map term_of arguments.now) }
+{
+    if parameters.len() != arguments.len() {
+        return false;
+    }
+    for i in 0..parameters.len() {
+        if !argument_repeats(&parameters[i], &arguments[i]) {
+            return false;
+        }
+    }
+    true
+}
+
+/// Whether an argument of a head repeats its parameter.
+fn argument_repeats(parameter: &Parameter<(), ()>, argument: &Term) -> bool
+    ensures { result ≡ argument_repeats (parameter_of parameter.now) (term_of argument.now) }
+{
+    match parameter {
+        Parameter::Const(term) => same_term(term, argument),
+        Parameter::Declared(name, _) => match argument {
+            Tree::Name(word, _) => word == name,
+            _ => false,
+        },
+    }
+}
+
+/// Whether two terms of the first form are spelled by the same tree.
+fn same_term(left: &Term, right: &Term) -> bool
+    ensures { result ≡ same_term (term_of left.now) (term_of right.now) }
+{
+    match (left, right) {
+        (Tree::Number(m), Tree::Number(n)) => m == n,
+        (Tree::Name(x, _), Tree::Name(y, _)) => x == y,
+        (Tree::Two(f, a, b), Tree::Two(g, c, d)) => f == g && same_term(a, c) && same_term(b, d),
+        _ => false,
+    }
+}
+
+/// Passes where no two entries have one name.
+fn entries_differ(alloc: Global, automaton: &Automaton<(), ()>) -> Result<(), Refusal>
+    ensures { OnOk result (IsDistinct same_name (map (λ e. e.name) (automaton_of automaton.now).signature)) }
+{
+    let mut names = Scope::new(alloc);
+    for entry in &automaton.signature {
+        declare(alloc, &mut names, &entry.name)?;
+    }
+    Ok(())
+}
+
+/// Passes where no two transitions have one name.
+fn transitions_differ(alloc: Global, automaton: &Automaton<(), ()>) -> Result<(), Refusal>
+    ensures { OnOk result (IsDistinct same_name (map (λ t. t.name) (automaton_of automaton.now).transitions)) }
+{
+    let mut names = Scope::new(alloc);
+    for transition in &automaton.transitions {
+        declare(alloc, &mut names, &transition.name)?;
+    }
+    Ok(())
+}
+
+/// Passes where each transition is of an entry's name and kind.
+fn transitions_have_entries(automaton: &Automaton<(), ()>) -> Result<(), Refusal>
+    ensures { OnOk result (list_all (has_entry (automaton_of automaton.now).signature) (automaton_of automaton.now).transitions ≡ true) }
+{
+    for transition in &automaton.transitions {
+        if !has_entry(automaton, transition) {
+            return Err(Refusal::Row(Row::Unknown));
+        }
+    }
+    Ok(())
+}
+
+/// Whether a transition is of an entry's name and kind.
+fn has_entry(automaton: &Automaton<(), ()>, transition: &Transition<(), ()>) -> bool
+    ensures { result ≡ has_entry (automaton_of automaton.now).signature (transition_of transition.now) }
+{
+    for entry in &automaton.signature {
+        if entry.name == transition.name && entry.kind == transition.kind {
+            return true;
+        }
+    }
+    false
+}
+
+/// Passes where each firing is of an entry's name and has as many arguments.
+fn firings_have_entries(automaton: &Automaton<(), ()>) -> Result<(), Refusal>
+    ensures known { OnOk result (list_all (fires_entry (automaton_of automaton.now).signature) (automaton_of automaton.now).schedule ≡ true) }
+    ensures many { OnOk result (list_all (fires_as_many (automaton_of automaton.now).signature) (automaton_of automaton.now).schedule ≡ true) }
+{
+    for statement in &automaton.schedule {
+        if !fires_entry(automaton, statement) {
+            return Err(Refusal::Row(Row::Unknown));
+        }
+        if !fires_as_many(automaton, statement) {
+            return Err(Refusal::Row(Row::Sorts));
+        }
+    }
+    Ok(())
+}
+
+/// Whether a statement is a firing of an entry's name.
+fn fires_entry(automaton: &Automaton<(), ()>, statement: &Statement<(), ()>) -> bool
+    ensures { result ≡ fires_entry (automaton_of automaton.now).signature (statement_of statement.now) }
+{
+    match statement {
+        Statement::Fire(_, name, _) => is_entry(automaton, name),
+        _ => false,
+    }
+}
+
+/// Whether an entry has a name.
+fn is_entry(automaton: &Automaton<(), ()>, name: &Word) -> bool
+    ensures { result ≡ list_any (λ e. same_name e.name name.now) (automaton_of automaton.now).signature }
+{
+    for entry in &automaton.signature {
+        if entry.name == *name {
+            return true;
+        }
+    }
+    false
+}
+
+/// Whether a statement is a firing with as many arguments as its entry has parameters.
+fn fires_as_many(automaton: &Automaton<(), ()>, statement: &Statement<(), ()>) -> bool
+    ensures { result ≡ fires_as_many (automaton_of automaton.now).signature (statement_of statement.now) }
+{
+    match statement {
+        Statement::Fire(_, name, arguments) => takes_as_many(automaton, name, arguments),
+        _ => false,
+    }
+}
+
+/// Whether an entry of a name has as many parameters as there are arguments.
+fn takes_as_many(automaton: &Automaton<(), ()>, name: &Word, arguments: &[Term]) -> bool
+    ensures { result ≡ list_any (λ e. same_name e.name name.now && nat_eq (length e.parameters) (length (map term_of arguments.now)))
+        (automaton_of automaton.now).signature }
+{
+    for entry in &automaton.signature {
+        if entry.name == *name && entry.parameters.len() == arguments.len() {
+            return true;
+        }
+    }
+    false
+}

@@ -1,0 +1,432 @@
+//! From a text to a system, or the first row of refusal found in it.
+
+ghost use Rattle.std.specs.Prelude.{◌≡◌, ◌<◌, ◌≤◌, ◌^◌, ◌++◌, ◌∷◌, [], ◌&&◌, ◌||◌, not, true, codes, slice_get, Some, Contains, IfOk, OnOk, IfSome, map, length};
+ghost use Rattle.std.specs.List.{AllByRecursion, IsDistinct, list_all, list_any};
+ghost use Rattle.ioa_terms.specs.Bindings.{same_name};
+ghost use Rattle.std.specs.Option.{option_map, option_copied};
+ghost use Rattle.std.specs.Arc.{arc_value};
+ghost use Rattle.ioa_source.specs.TextView.{text_of, declaration_of, automaton_of, entry_of, parameter_of};
+ghost use Rattle.ioa_source.specs.View.{term_of};
+ghost use Rattle.ioa_source.specs.declared.declaration.Node.{Node};
+ghost use Rattle.ioa_check.specs.Made.{IsSystemOf, IsNodeOf, AreNodesOf, nodes_in, channels_in, automaton_named, automaton_in};
+ghost use Rattle.ioa_check.specs.Rows as spec;
+ghost use Rattle.ioa_check.specs.Rows.{HasNoRow, HasNoSystemRow, HasNoAutomatonRow, passes};
+
+use crate::building::program_of;
+use crate::program::Program;
+use crate::refusal::{CheckFault, Refusal, Row};
+use crate::scope::Scope;
+use crate::system::System;
+use ioa_front::Source;
+use ioa_source::{Automaton, Channel, Declaration, Entry, Node, Parameter, Placement, Text};
+use ioa_terms::{Names, Tree, Word};
+use std::alloc::Global;
+use std::sync::Arc;
+
+/// The greatest number of nodes.
+const MOST_NODES: usize = 64;
+
+/// The greatest number of channels.
+const MOST_CHANNELS: usize = 256;
+
+/// Makes the system that a source describes. Where a row of refusal stands in the source, one that
+/// stands is answered, with the place of its declaration. The source is spent, at a refusal too.
+pub fn check(alloc: Global, source: Source) -> Result<System, CheckFault>
+    ensures system { IfOk result (IsSystemOf (text_of source.text)) }
+    ensures rows { IfOk result (λ _. HasNoRow (text_of source.text)) }
+{
+    check_text(alloc, source.text())
+}
+
+/// Makes the system that a text describes.
+fn check_text(alloc: Global, text: &Text<(), ()>) -> Result<System, CheckFault>
+    ensures system { IfOk result (IsSystemOf (text_of text.now)) }
+    ensures rows { OnOk result (HasNoRow (text_of text.now)) }
+{
+    check_declarations(alloc, &text.declarations)?;
+    match check_placements(alloc, text) {
+        Ok(system) => Ok(system),
+        Err(refusal) => Err(refusal.at(text.declarations.len())),
+    }
+}
+
+/// Passes where no row stands in a declaration before the system.
+fn check_declarations(alloc: Global, declarations: &[Declaration<(), ()>]) -> Result<(), CheckFault>
+    ensures differ { OnOk result (IsDistinct same_name (map (λ d. (automaton_in d).name) (map declaration_of declarations.now))) }
+    ensures rows { OnOk result (AllByRecursion (λ d. HasNoAutomatonRow (automaton_in d)) (map declaration_of declarations.now)) }
+{
+    let mut names = Scope::new(alloc);
+    for place in 0..declarations.len() {
+        match check_declaration(alloc, &mut names, &declarations[place]) {
+            Ok(()) => {}
+            Err(refusal) => return Err(refusal.at(place)),
+        }
+    }
+    Ok(())
+}
+
+/// Passes where a declaration's name is new and a program can be made of it.
+fn check_declaration(
+    alloc: Global,
+    names: &mut Scope,
+    declaration: &Declaration<(), ()>,
+) -> Result<(), Refusal>
+    ensures added { OnOk result (names.new ≡ names.old ++ (automaton_in (declaration_of declaration.now)).name ∷ []) }
+    ensures differ { OnOk result (IsDistinct same_name names.old → IsDistinct same_name names.new) }
+    ensures rows { OnOk result (HasNoAutomatonRow (automaton_in (declaration_of declaration.now))) }
+{
+    let Declaration::Automaton(automaton) = declaration;
+    if !names.declare(automaton.name.try_copy(alloc)?)? {
+        return Err(Refusal::Row(Row::Twice));
+    }
+    check_automaton(alloc, automaton)
+}
+
+/// Passes where a program can be made of an automaton.
+fn check_automaton(alloc: Global, automaton: &Automaton<(), ()>) -> Result<(), Refusal>
+    ensures { OnOk result (HasNoAutomatonRow (automaton_of automaton.now)) }
+{
+    let _program = program_of(alloc, 0, automaton)?;
+    Ok(())
+}
+
+/// The system of a text whose declarations passed.
+fn check_placements(alloc: Global, text: &Text<(), ()>) -> Result<System, Refusal>
+    ensures system { IfOk result (IsSystemOf (text_of text.now)) }
+    ensures rows { OnOk result (HasNoSystemRow (text_of text.now)) }
+{
+    let nodes = nodes_of(alloc, text)?;
+    let channels = channels_of(alloc, text)?;
+    numbers_differ(&nodes)?;
+    channels_differ(&channels)?;
+    check_nodes(text, &nodes)?;
+    let programs = programs_of(alloc, text, &nodes)?;
+    check_channels(text, &nodes, &channels)?;
+    Ok(System::new(Names::none(alloc), programs, channels))
+}
+
+/// The nodes of a text, as declared: at most 64.
+fn nodes_of<'a>(alloc: Global, text: &'a Text<(), ()>) -> Result<Vec<&'a Node>, Refusal>
+    ensures all { IfOk result (λ ns. map (λ n. n.now) ns.items ≡ nodes_in text.now.system.items) }
+    ensures few { IfOk result (λ ns. length ns.items ≤ 64) }
+{
+    let mut nodes: Vec<&'a Node> = Vec::new(alloc);
+    for placement in &text.system {
+        if let Placement::Node(node) = placement {
+            nodes.push(node)?;
+        }
+    }
+    if nodes.len() > MOST_NODES {
+        return Err(Refusal::Row(Row::Limit));
+    }
+    Ok(nodes)
+}
+
+/// The channels of a text, as declared: at most 256.
+fn channels_of(alloc: Global, text: &Text<(), ()>) -> Result<Vec<Channel>, Refusal>
+    ensures all { IfOk result (λ cs. cs.items ≡ channels_in text.now.system.items) }
+    ensures few { IfOk result (λ cs. length cs.items ≤ 256) }
+{
+    let mut channels: Vec<Channel> = Vec::new(alloc);
+    for placement in &text.system {
+        if let Placement::Channel(channel) = placement {
+            channels.push(*channel)?;
+        }
+    }
+    if channels.len() > MOST_CHANNELS {
+        return Err(Refusal::Row(Row::Limit));
+    }
+    Ok(channels)
+}
+
+/// Passes where no two nodes have one number.
+fn numbers_differ(nodes: &[&Node]) -> Result<(), Refusal>
+    ensures { OnOk result (IsDistinct spec.same_number (map (λ n. n.now) nodes.now)) }
+{
+    for place in 0..nodes.len() {
+        let node = nodes[place];
+        if is_numbered_as(&nodes[..place], node) {
+            return Err(Refusal::Row(Row::Twice));
+        }
+    }
+    Ok(())
+}
+
+/// Whether one of these nodes has the number of another.
+fn is_numbered_as(nodes: &[&Node], other: &Node) -> bool
+    ensures { result ≡ list_any (λ n. spec.same_number n other.now) (map (λ n. n.now) nodes.now) }
+{
+    is_node(nodes, other.number)
+}
+
+/// Whether a number is that of a node.
+fn is_node(nodes: &[&Node], number: i64) -> bool
+    ensures { result ≡ spec.is_node (map (λ n. n.now) nodes.now) number }
+{
+    for node in nodes {
+        if node.number == number {
+            return true;
+        }
+    }
+    false
+}
+
+/// Passes where no two channels are between the same nodes in the same direction.
+fn channels_differ(channels: &[Channel]) -> Result<(), Refusal>
+    ensures { OnOk result (IsDistinct spec.same_channel channels.now) }
+{
+    for (place, channel) in channels.iter().enumerate() {
+        if is_channel(&channels[..place], channel) {
+            return Err(Refusal::Row(Row::Twice));
+        }
+    }
+    Ok(())
+}
+
+/// Whether a channel is one of these.
+fn is_channel(channels: &[Channel], channel: &Channel) -> bool
+    ensures { result ≡ list_any (λ c. spec.same_channel c channel.now) channels.now }
+{
+    for other in channels {
+        if other.from == channel.from && other.to == channel.to {
+            return true;
+        }
+    }
+    false
+}
+
+/// Passes where each node's automaton is declared, its sends are from that node and its receives to
+/// it.
+fn check_nodes(text: &Text<(), ()>, nodes: &[&Node]) -> Result<(), Refusal>
+    ensures declared { OnOk result (list_all (spec.is_declared (text_of text.now).declarations) (map (λ n. n.now) nodes.now) ≡ true) }
+    ensures at_home { OnOk result (list_all (spec.has_its_own (text_of text.now).declarations) (map (λ n. n.now) nodes.now) ≡ true) }
+{
+    for node in nodes {
+        check_node(text, node)?;
+    }
+    Ok(())
+}
+
+/// Passes where a node's automaton is declared, its sends are from that node and its receives to it.
+fn check_node(text: &Text<(), ()>, node: &Node) -> Result<(), Refusal>
+    ensures declared { OnOk result (spec.is_declared (text_of text.now).declarations node.now ≡ true) }
+    ensures at_home { OnOk result (spec.has_its_own (text_of text.now).declarations node.now ≡ true) }
+{
+    match automaton_of_name(&text.declarations, &node.automaton) {
+        None => Err(Refusal::Row(Row::Unknown)),
+        Some(automaton) => {
+            if is_at_home(automaton, node.number) {
+                Ok(())
+            } else {
+                Err(Refusal::Row(Row::BadArgument))
+            }
+        }
+    }
+}
+
+/// Passes where each channel joins two nodes and its receiver takes messages of its sender.
+fn check_channels(text: &Text<(), ()>, nodes: &[&Node], channels: &[Channel]) -> Result<(), Refusal>
+    ensures two { OnOk result (list_all spec.joins_two channels.now ≡ true) }
+    ensures ends { OnOk result (list_all (spec.joins_nodes (map (λ n. n.now) nodes.now)) channels.now ≡ true) }
+    ensures inputs { OnOk result (list_all (spec.has_input (text_of text.now).declarations (map (λ n. n.now) nodes.now)) channels.now ≡ true) }
+{
+    for channel in channels {
+        check_channel(text, nodes, channel)?;
+    }
+    Ok(())
+}
+
+/// Passes where a channel joins two nodes and its receiver takes messages of its sender.
+fn check_channel(text: &Text<(), ()>, nodes: &[&Node], channel: &Channel) -> Result<(), Refusal>
+    ensures two { OnOk result (spec.joins_two channel.now ≡ true) }
+    ensures ends { OnOk result (spec.joins_nodes (map (λ n. n.now) nodes.now) channel.now ≡ true) }
+    ensures inputs { OnOk result (spec.has_input (text_of text.now).declarations (map (λ n. n.now) nodes.now) channel.now ≡ true) }
+{
+    if channel.from == channel.to {
+        return Err(Refusal::Row(Row::SelfChannel));
+    }
+    if !is_node(nodes, channel.from) {
+        return Err(Refusal::Row(Row::Unknown));
+    }
+    if !is_node(nodes, channel.to) {
+        return Err(Refusal::Row(Row::Unknown));
+    }
+    if !has_input(text, nodes, channel) {
+        return Err(Refusal::Row(Row::InputMissing));
+    }
+    Ok(())
+}
+
+/// Whether the receiver of a channel takes messages of its sender.
+fn has_input(text: &Text<(), ()>, nodes: &[&Node], channel: &Channel) -> bool
+    ensures { result ≡ spec.has_input (text_of text.now).declarations (map (λ n. n.now) nodes.now) channel.now }
+{
+    for node in nodes {
+        if is_receiver(text, node, channel) {
+            return true;
+        }
+    }
+    false
+}
+
+/// Whether a node is the receiver of a channel and takes messages of its sender.
+fn is_receiver(text: &Text<(), ()>, node: &Node, channel: &Channel) -> bool
+    ensures { result ≡ spec.is_receiver (text_of text.now).declarations channel.now node.now }
+{
+    node.number == channel.to && node_takes_from(text, node, channel.from)
+}
+
+/// Whether the automaton of a node has a `receive` from a node.
+fn node_takes_from(text: &Text<(), ()>, node: &Node, sender: i64) -> bool
+    ensures { result ≡ passes (spec.takes_from sender) (automaton_named node.now.automaton (text_of text.now).declarations) }
+{
+    match automaton_of_name(&text.declarations, &node.automaton) {
+        None => false,
+        Some(automaton) => takes_from(automaton, sender),
+    }
+}
+
+/// The automaton that is placed on the node of a number.
+fn automaton_on<'a>(
+    text: &'a Text<(), ()>,
+    nodes: &[&'a Node],
+    number: i64,
+) -> Result<&'a Automaton<(), ()>, Refusal>
+    ensures { IfOk result (λ a. (n : Node) × Contains (map (λ n. n.now) nodes.now) n × (n.number ≡ number)
+        × (automaton_named n.automaton (map declaration_of text.entry.now.declarations.items)
+        ≡ Some (automaton_of a.now))) }
+{
+    let Some(node) = node_of(nodes, number) else {
+        return Err(Refusal::Row(Row::NodeGap));
+    };
+    match automaton_of_name(&text.declarations, &node.automaton) {
+        Some(automaton) => Ok(automaton),
+        None => Err(Refusal::Row(Row::Unknown)),
+    }
+}
+
+/// The node of a number.
+fn node_of<'a>(nodes: &[&'a Node], number: i64) -> Option<&'a Node>
+    ensures number { IfSome result (λ n. n.now.number ≡ number) }
+    ensures declared { IfSome result (λ n. Contains (map (λ n. n.now) nodes.now) n.now) }
+{
+    for node in nodes {
+        if node.number == number {
+            return Some(node);
+        }
+    }
+    None
+}
+
+/// The automaton of a name.
+fn automaton_of_name<'a>(
+    declarations: &'a [Declaration<(), ()>],
+    name: &Word,
+) -> Option<&'a Automaton<(), ()>>
+    ensures { option_map automaton_of (option_copied result)
+        ≡ automaton_named name.now (map declaration_of declarations.entry.now) }
+{
+    for declaration in declarations {
+        let Declaration::Automaton(automaton) = declaration;
+        if automaton.name == *name {
+            return Some(automaton);
+        }
+    }
+    None
+}
+
+/// The programs of the nodes, node 0 first.
+fn programs_of(
+    alloc: Global,
+    text: &Text<(), ()>,
+    nodes: &[&Node],
+) -> Result<Vec<Arc<Program>>, Refusal>
+    requires { map (λ n. n.now) nodes.now ≡ nodes_in text.now.system.items }
+    ensures nodes { IfOk result (λ ps. AreNodesOf (text_of text.now) 0 (map arc_value ps.items)) }
+    ensures many { IfOk result (λ ps. length ps.items ≡ length nodes.now) }
+{
+    let mut programs = Vec::new(alloc);
+    for place in 0..nodes.len() {
+        let program = node_program(alloc, text, nodes, place)?;
+        programs.push(program)?;
+    }
+    Ok(programs)
+}
+
+/// The program of a node.
+fn node_program(
+    alloc: Global,
+    text: &Text<(), ()>,
+    nodes: &[&Node],
+    place: usize,
+) -> Result<Arc<Program>, Refusal>
+    requires nodes { map (λ n. n.now) nodes.now ≡ nodes_in text.now.system.items }
+    requires small { place < 2 ^ 63 }
+    ensures { IfOk result (λ p. IsNodeOf (text_of text.now) place (arc_value p)) }
+{
+    let number = place as i64;
+    let automaton = automaton_on(text, nodes, number)?;
+    let program = program_of(alloc, number, automaton)?;
+    Ok(Arc::new(alloc, program)?)
+}
+
+/// Whether the sends of an automaton are from this node and its receives to it (profile): `send` has
+/// its node's number second, and `receive` third.
+fn is_at_home(automaton: &Automaton<(), ()>, number: i64) -> bool
+    ensures { result ≡ list_all (spec.is_at_home number) (automaton_of automaton.now).signature }
+{
+    for entry in &automaton.signature {
+        if !entry_is_at_home(entry, number) {
+            return false;
+        }
+    }
+    true
+}
+
+/// Whether an entry is neither a `send` nor a `receive`, or one of this node.
+fn entry_is_at_home(entry: &Entry<(), ()>, number: i64) -> bool
+    ensures { result ≡ spec.is_at_home number (entry_of entry.now) }
+{
+    if entry.name.as_str() == "send" && !has_constant(&entry.parameters, 1, number) {
+        return false;
+    }
+    if entry.name.as_str() == "receive" && !has_constant(&entry.parameters, 2, number) {
+        return false;
+    }
+    true
+}
+
+/// Whether the parameter at a place is the constant of a number.
+fn has_constant(parameters: &[Parameter<(), ()>], place: usize, number: i64) -> bool
+    ensures { result ≡ spec.is_constant (slice_get (map parameter_of parameters.now) place) number }
+{
+    match parameters.get(place) {
+        None => false,
+        Some(parameter) => is_constant(parameter, number),
+    }
+}
+
+/// Whether a parameter is the constant of a number.
+fn is_constant(parameter: &Parameter<(), ()>, number: i64) -> bool
+    ensures { result ≡ spec.is_constant (Some (parameter_of parameter.now)) number }
+{
+    match parameter {
+        Parameter::Const(term) => match term {
+            Tree::Number(n) => *n == number,
+            _ => false,
+        },
+        Parameter::Declared(_, _) => false,
+    }
+}
+
+/// Whether an automaton has a `receive` from a node.
+fn takes_from(automaton: &Automaton<(), ()>, sender: i64) -> bool
+    ensures { result ≡ spec.takes_from sender (automaton_of automaton.now) }
+{
+    for entry in &automaton.signature {
+        if entry.name.as_str() == "receive" && has_constant(&entry.parameters, 1, sender) {
+            return true;
+        }
+    }
+    false
+}

@@ -1,0 +1,382 @@
+//! Terms and statements of a text, with each name's place beside it.
+
+ghost use Rattle.std.specs.Prelude.{◌≡◌, IfOk, OnOk, map, take, [], true};
+ghost use Rattle.std.specs.List.{AllByRecursion, list_all, list_any};
+ghost use Rattle.std.specs.Option.{option_map, is_some};
+ghost use Rattle.ioa_source.specs.PlainTerm as plain;
+ghost use Rattle.ioa_source.specs.View.{term_of, place_of, statement_of};
+ghost use Rattle.ioa_source.specs.TextView.{parameter_of, entry_of, variable_of, transition_of};
+ghost use Rattle.ioa_source.specs.Erasure.{erase_term, erase_place, erase_statement, erase_parameter, erase_entry, erase_variable};
+ghost use Rattle.ioa_terms.specs.Placed.{IsPlaced, IsPlacedPlace, IsPlacedStatement, ArePlaced};
+ghost use Rattle.ioa_terms.specs.Bindings.{same_name};
+ghost use Rattle.ioa_terms.specs.Performance.{target_shape};
+ghost use Rattle.ioa_operators.specs.Shapes.{integers};
+ghost use Rattle.ioa_check.specs.Placed.{IsPlacedGuard, IsPlacedParameter, ArePlacedParameters, ArePlacedTerms, IsPlacedFiring, ArePlacedFirings, ArePlacedVariables};
+ghost use Rattle.ioa_check.specs.Made.{AssignsInteger};
+ghost use Rattle.ioa_check.specs.FirstSorts.{is_first, is_number, is_guard};
+ghost use Rattle.ioa_check.specs.Rows.{reads_only, reads_no_name, guard_reads_only, writes_only, assigns_only, assigns_number, fires_only, fires_numbers, is_number_constant, is_number_term, is_guard_or_none};
+
+use crate::refusal::{Refusal, Row};
+use crate::scope::Scope;
+use ioa_source::{Entry, Parameter, Variable};
+use ioa_terms::{BinaryOperator, Checked, Place, Shape, Statement, Term, Word};
+use std::alloc::Global;
+
+/// A term of the first form with the places of its names among those in view.
+pub(crate) fn place_term(alloc: Global, scope: &Scope, term: &Term) -> Result<Checked, Refusal>
+    ensures same { IfOk result (λ t. erase_term (term_of t) ≡ term_of term.now) }
+    ensures placed { IfOk result (λ t. IsPlaced (term_of t) scope.now) }
+    ensures names { OnOk result (reads_only scope.now (term_of term.now) ≡ true) }
+{
+    match term {
+        Term::Number(n) => Ok(Checked::Number(*n)),
+        Term::Name(name, _) => place_name(alloc, scope, name),
+        Term::Two(operator, a, b) => {
+            if !is_first(*operator) {
+                return Err(Refusal::Row(Row::Unknown));
+            }
+            let left = place_term(alloc, scope, a)?;
+            let right = place_term(alloc, scope, b)?;
+            Ok(Checked::Two(*operator, Box::new(alloc, left)?, Box::new(alloc, right)?))
+        }
+        _ => Err(Refusal::Row(Row::Unknown)),
+    }
+}
+
+/// A name with its place among those in view.
+#[tactic(auto, using(crate::proofs::Names::any_place))]
+fn place_name(alloc: Global, scope: &Scope, name: &Word) -> Result<Checked, Refusal>
+    ensures same { IfOk result (λ t. erase_term (term_of t) ≡ plain.name name.now tt) }
+    ensures placed { IfOk result (λ t. IsPlaced (term_of t) scope.now) }
+    ensures names { OnOk result (list_any (same_name name.now) scope.now ≡ true) }
+{
+    match scope.place_of(name) {
+        Some(at) => Ok(Checked::Name(name.try_copy(alloc)?, at)),
+        None => Err(Refusal::Row(Row::Unknown)),
+    }
+}
+
+/// Terms with the places of their names.
+#[tactic(auto, using(crate::proofs::Loops::each_push, crate::proofs::Loops::same_push))]
+pub(crate) fn place_terms(
+    alloc: Global,
+    scope: &Scope,
+    terms: &[Term],
+) -> Result<Vec<Checked>, Refusal>
+    ensures same { IfOk result (λ ts. map erase_term (map term_of ts.items) ≡ map term_of terms.now) }
+    ensures placed { IfOk result (λ ts. ArePlacedTerms (map term_of ts.items) scope.now) }
+    ensures names { OnOk result (list_all (reads_only scope.now) (map term_of terms.now) ≡ true) }
+{
+    let mut placed = Vec::new(alloc);
+    for term in terms {
+        placed.push(place_term(alloc, scope, term)?)?;
+    }
+    Ok(placed)
+}
+
+/// The place that an assignment writes: one of the first `count` names, those of the state variables.
+#[tactic(auto, using(crate::proofs::Names::any_first_place))]
+fn place_target(
+    alloc: Global,
+    scope: &Scope,
+    count: usize,
+    place: &Place<(), ()>,
+) -> Result<Place<usize, Shape>, Refusal>
+    ensures same { IfOk result (λ p. erase_place (place_of p) ≡ place_of place.now) }
+    ensures placed { IfOk result (λ p. IsPlacedPlace (place_of p) scope.now scope.now) }
+    ensures shape { IfOk result (λ p. target_shape (place_of p) ≡ integers) }
+    ensures written { OnOk result (writes_only (take count scope.now) (place_of place.now) ≡ true) }
+{
+    let Place::Variable(name, _, _) = place else {
+        return Err(Refusal::Row(Row::Unknown));
+    };
+    let Some(at) = scope.place_of(name) else {
+        return Err(Refusal::Row(Row::Unknown));
+    };
+    if at < count {
+        Ok(Place::Variable(name.try_copy(alloc)?, at, Shape::Integers))
+    } else {
+        Err(Refusal::Row(Row::Unknown))
+    }
+}
+
+/// A statement of an effect: an assignment of a number to a state variable.
+fn place_assignment(
+    alloc: Global,
+    scope: &Scope,
+    count: usize,
+    statement: &Statement<(), ()>,
+) -> Result<Statement<usize, Shape>, Refusal>
+    ensures same { IfOk result (λ s. erase_statement (statement_of s) ≡ statement_of statement.now) }
+    ensures placed { IfOk result (λ s. IsPlacedStatement (statement_of s) scope.now scope.now) }
+    ensures shape { IfOk result (λ s. AssignsInteger (statement_of s)) }
+    ensures number { OnOk result (assigns_number (statement_of statement.now) ≡ true) }
+    ensures names { OnOk result (assigns_only (take count scope.now) scope.now (statement_of statement.now) ≡ true) }
+{
+    match statement {
+        Statement::Assign(place, term) => place_assigned(alloc, scope, count, place, term),
+        _ => Err(Refusal::Row(Row::Unknown)),
+    }
+}
+
+/// An assignment of a number to one of the first `count` names.
+fn place_assigned(
+    alloc: Global,
+    scope: &Scope,
+    count: usize,
+    place: &Place<(), ()>,
+    term: &Term,
+) -> Result<Statement<usize, Shape>, Refusal>
+    ensures same { IfOk result (λ s. erase_statement (statement_of s) ≡ plain.assign (place_of place.now) (term_of term.now)) }
+    ensures placed { IfOk result (λ s. IsPlacedStatement (statement_of s) scope.now scope.now) }
+    ensures shape { IfOk result (λ s. AssignsInteger (statement_of s)) }
+    ensures number { OnOk result (is_number (term_of term.now) ≡ true) }
+    ensures names { OnOk result (assigns_only (take count scope.now) scope.now (plain.assign (place_of place.now) (term_of term.now)) ≡ true) }
+{
+    let place = place_target(alloc, scope, count, place)?;
+    let value = place_term(alloc, scope, term)?;
+    if !is_number(term) {
+        return Err(Refusal::Row(Row::Sorts));
+    }
+    Ok(Statement::Assign(place, value))
+}
+
+/// The statements of an effect.
+#[tactic(auto, using(crate::proofs::Loops::each_push, crate::proofs::Loops::same_push))]
+pub(crate) fn place_effect(
+    alloc: Global,
+    scope: &Scope,
+    count: usize,
+    effect: &[Statement<(), ()>],
+) -> Result<Vec<Statement<usize, Shape>>, Refusal>
+    ensures same { IfOk result (λ ss. map erase_statement (map statement_of ss.items) ≡ map statement_of effect.now) }
+    ensures placed { IfOk result (λ ss. ArePlaced (map statement_of ss.items) scope.now scope.now) }
+    ensures shapes { IfOk result (λ ss. AllByRecursion AssignsInteger (map statement_of ss.items)) }
+    ensures numbers { OnOk result (list_all assigns_number (map statement_of effect.now) ≡ true) }
+    ensures names { OnOk result (list_all (assigns_only (take count scope.now) scope.now) (map statement_of effect.now) ≡ true) }
+{
+    let mut placed = Vec::new(alloc);
+    for statement in effect {
+        placed.push(place_assignment(alloc, scope, count, statement)?)?;
+    }
+    Ok(placed)
+}
+
+/// A guard, which is a truth value.
+pub(crate) fn place_guard(
+    alloc: Global,
+    scope: &Scope,
+    pre: &Option<Term>,
+) -> Result<Option<Checked>, Refusal>
+    ensures same { IfOk result (λ g. option_map erase_term (option_map term_of g) ≡ option_map term_of pre.now) }
+    ensures placed { IfOk result (λ g. IsPlacedGuard (option_map term_of g) scope.now) }
+    ensures sort { OnOk result (is_guard_or_none (option_map term_of pre.now) ≡ true) }
+    ensures names { OnOk result (guard_reads_only scope.now (option_map term_of pre.now) ≡ true) }
+{
+    match pre {
+        None => Ok(None),
+        Some(guard) => {
+            let placed = place_term(alloc, scope, guard)?;
+            if !is_guard(guard) {
+                return Err(Refusal::Row(Row::Sorts));
+            }
+            Ok(Some(placed))
+        }
+    }
+}
+
+/// A statement of a schedule block: a firing of numbers.
+fn place_firing(
+    alloc: Global,
+    variables: &Scope,
+    statement: &Statement<(), ()>,
+) -> Result<Statement<usize, Shape>, Refusal>
+    ensures same { IfOk result (λ s. erase_statement (statement_of s) ≡ statement_of statement.now) }
+    ensures placed { IfOk result (λ s. IsPlacedFiring (statement_of s) variables.now) }
+    ensures numbers { OnOk result (fires_numbers (statement_of statement.now) ≡ true) }
+    ensures names { OnOk result (fires_only variables.now (statement_of statement.now) ≡ true) }
+{
+    match statement {
+        Statement::Fire(kind, name, arguments) => {
+            let name = name.try_copy(alloc)?;
+            let placed = place_terms(alloc, variables, arguments)?;
+            if !are_numbers(arguments) {
+                return Err(Refusal::Row(Row::Sorts));
+            }
+            Ok(Statement::Fire(*kind, name, placed))
+        }
+        _ => Err(Refusal::Row(Row::Unknown)),
+    }
+}
+
+/// The statements of a schedule block.
+#[tactic(auto, using(crate::proofs::Loops::each_push, crate::proofs::Loops::same_push))]
+pub(crate) fn place_schedule(
+    alloc: Global,
+    variables: &Scope,
+    schedule: &[Statement<(), ()>],
+) -> Result<Vec<Statement<usize, Shape>>, Refusal>
+    ensures same { IfOk result (λ ss. map erase_statement (map statement_of ss.items) ≡ map statement_of schedule.now) }
+    ensures placed { IfOk result (λ ss. ArePlacedFirings (map statement_of ss.items) variables.now) }
+    ensures numbers { OnOk result (list_all fires_numbers (map statement_of schedule.now) ≡ true) }
+    ensures names { OnOk result (list_all (fires_only variables.now) (map statement_of schedule.now) ≡ true) }
+{
+    let mut placed = Vec::new(alloc);
+    for statement in schedule {
+        placed.push(place_firing(alloc, variables, statement)?)?;
+    }
+    Ok(placed)
+}
+
+/// A parameter; a constant one reads no name.
+fn place_parameter(
+    alloc: Global,
+    parameter: &Parameter<(), ()>,
+) -> Result<Parameter<usize, Shape>, Refusal>
+    ensures same { IfOk result (λ p. erase_parameter (parameter_of p) ≡ parameter_of parameter.now) }
+    ensures placed { IfOk result (λ p. IsPlacedParameter (parameter_of p)) }
+    ensures number { OnOk result (is_number_constant (parameter_of parameter.now) ≡ true) }
+    ensures names { OnOk result (reads_no_name (parameter_of parameter.now) ≡ true) }
+{
+    match parameter {
+        Parameter::Const(term) => {
+            let placed = place_term(alloc, &Scope::new(alloc), term)?;
+            if !is_number(term) {
+                return Err(Refusal::Row(Row::Sorts));
+            }
+            Ok(Parameter::Const(placed))
+        }
+        Parameter::Declared(name, sort) => Ok(Parameter::Declared(name.try_copy(alloc)?, *sort)),
+    }
+}
+
+/// The parameters of an entry.
+#[tactic(auto, using(crate::proofs::Loops::each_push, crate::proofs::Loops::same_push))]
+fn place_parameters(
+    alloc: Global,
+    parameters: &[Parameter<(), ()>],
+) -> Result<Vec<Parameter<usize, Shape>>, Refusal>
+    ensures same { IfOk result (λ ps. map erase_parameter (map parameter_of ps.items) ≡ map parameter_of parameters.now) }
+    ensures placed { IfOk result (λ ps. ArePlacedParameters (map parameter_of ps.items)) }
+    ensures numbers { OnOk result (list_all is_number_constant (map parameter_of parameters.now) ≡ true) }
+    ensures names { OnOk result (list_all reads_no_name (map parameter_of parameters.now) ≡ true) }
+{
+    let mut placed = Vec::new(alloc);
+    for parameter in parameters {
+        placed.push(place_parameter(alloc, parameter)?)?;
+    }
+    Ok(placed)
+}
+
+/// An entry of a signature.
+pub(crate) fn place_entry(
+    alloc: Global,
+    entry: &Entry<(), ()>,
+) -> Result<Entry<usize, Shape>, Refusal>
+    ensures same { IfOk result (λ e. erase_entry (entry_of e) ≡ entry_of entry.now) }
+    ensures placed { IfOk result (λ e. ArePlacedParameters (entry_of e).parameters) }
+    ensures numbers { OnOk result (list_all is_number_constant (entry_of entry.now).parameters ≡ true) }
+    ensures names { OnOk result (list_all reads_no_name (entry_of entry.now).parameters ≡ true) }
+{
+    let name = entry.name.try_copy(alloc)?;
+    let parameters = place_parameters(alloc, &entry.parameters)?;
+    Ok(Entry {
+        kind: entry.kind,
+        name,
+        parameters,
+    })
+}
+
+/// A state variable; its initial term reads no name.
+fn place_variable(
+    alloc: Global,
+    variable: &Variable<(), ()>,
+) -> Result<Variable<usize, Shape>, Refusal>
+    ensures same { IfOk result (λ v. erase_variable (variable_of v) ≡ variable_of variable.now) }
+    ensures placed { IfOk result (λ v. IsPlacedGuard (variable_of v).initial []) }
+    ensures initial { OnOk result (is_some (variable_of variable.now).initial ≡ true) }
+    ensures number { OnOk result (is_number_term (variable_of variable.now).initial ≡ true) }
+    ensures names { OnOk result (guard_reads_only [] (variable_of variable.now).initial ≡ true) }
+{
+    let Some(initial) = &variable.initial else {
+        return Err(Refusal::Row(Row::NoInitial));
+    };
+    let placed = place_term(alloc, &Scope::new(alloc), initial)?;
+    if !is_number(initial) {
+        return Err(Refusal::Row(Row::Sorts));
+    }
+    Ok(Variable {
+        name: variable.name.try_copy(alloc)?,
+        sort: variable.sort,
+        initial: Some(placed),
+    })
+}
+
+/// The state variables.
+#[tactic(auto, using(crate::proofs::Loops::each_push, crate::proofs::Loops::same_push))]
+pub(crate) fn place_variables(
+    alloc: Global,
+    variables: &[Variable<(), ()>],
+) -> Result<Vec<Variable<usize, Shape>>, Refusal>
+    ensures same { IfOk result (λ vs. map erase_variable (map variable_of vs.items) ≡ map variable_of variables.now) }
+    ensures placed { IfOk result (λ vs. ArePlacedVariables (map variable_of vs.items)) }
+    ensures initials { OnOk result (list_all (λ v. is_some v.initial) (map variable_of variables.now) ≡ true) }
+    ensures numbers { OnOk result (list_all (λ v. is_number_term v.initial) (map variable_of variables.now) ≡ true) }
+    ensures names { OnOk result (list_all (λ v. guard_reads_only [] v.initial) (map variable_of variables.now) ≡ true) }
+{
+    let mut placed = Vec::new(alloc);
+    for variable in variables {
+        placed.push(place_variable(alloc, variable)?)?;
+    }
+    Ok(placed)
+}
+
+/// Whether terms have sort Int.
+fn are_numbers(terms: &[Term]) -> bool
+    ensures { result ≡ list_all is_number (map term_of terms.now) }
+{
+    for term in terms {
+        if !is_number(term) {
+            return false;
+        }
+    }
+    true
+}
+
+/// Whether a term has sort Int.
+fn is_number(term: &Term) -> bool
+    ensures { result ≡ is_number (term_of term.now) }
+{
+    match term {
+        Term::Number(_) => true,
+        Term::Name(_, _) => true,
+        Term::Two(operator, a, b) => match operator {
+            BinaryOperator::Plus => is_number(a) && is_number(b),
+            _ => false,
+        },
+        _ => false,
+    }
+}
+
+/// Whether a term has sort Bool.
+fn is_guard(term: &Term) -> bool
+    ensures { result ≡ is_guard (term_of term.now) }
+{
+    match term {
+        Term::Two(operator, a, b) => match operator {
+            BinaryOperator::Equal => is_number(a) && is_number(b),
+            _ => false,
+        },
+        _ => false,
+    }
+}
+
+/// Whether an operator is of the first form.
+fn is_first(operator: BinaryOperator) -> bool
+    ensures { result ≡ is_first operator }
+{
+    match operator {
+        BinaryOperator::Plus | BinaryOperator::Equal => true,
+        _ => false,
+    }
+}

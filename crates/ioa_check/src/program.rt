@@ -1,0 +1,113 @@
+//! The program of a node: its automaton, made ready to step.
+
+ghost use Rattle.std.specs.Prelude.{◌≡◌, All, map, length};
+ghost use Rattle.ioa_source.specs.View.{statement_of};
+ghost use Rattle.ioa_source.specs.TextView.{variable_of};
+ghost use Rattle.ioa_check.specs.Parts.{parts};
+ghost use Rattle.ioa_check.specs.Placed.{IsPlacedRule, ArePlacedFirings, variable_names};
+
+use crate::scope::Scope;
+use ioa_source::{Entry, Transition, Variable};
+use ioa_terms::{Shape, Statement, Value};
+use std::marker::Model;
+
+/// An entry of a signature with its transition, and the names in view there: the state variables, and
+/// then the entry's own parameters.
+#[derive(Drop)]
+pub struct Rule {
+    /// The entry.
+    pub entry: Entry<usize, Shape>,
+    /// Its transition.
+    pub transition: Transition<usize, Shape>,
+    /// The names that guard and effect may read, each at the place that stands beside it there.
+    pub scope: Scope,
+}
+
+/// A node's program. Its type keeps that each name stands beside the place of its value.
+#[derive(Drop)]
+pub struct Program {
+    node: i64,
+    rules: Vec<Rule>,
+    variables: Vec<Variable<usize, Shape>>,
+    initial: Vec<Value>,
+    schedule: Vec<Statement<usize, Shape>>,
+}
+
+impl Model for Program {
+    ghost use Rattle.ioa_check.specs.Parts.{Parts, parts_code};
+
+    ghost Value = { Parts };
+
+    ghost coded = { parts_code };
+
+    ghost use Rattle.ioa_check.specs.Parts.{parts};
+
+    ghost view = { λ p. parts p.node p.rules.items p.variables.items p.initial.items p.schedule.items };
+
+    ghost use Rattle.ioa_check.specs.Placed.{IsPlacedProgram};
+
+    ghost invariant = { λ p. IsPlacedProgram (parts p.node p.rules.items p.variables.items p.initial.items p.schedule.items) };
+}
+
+impl Program {
+    /// The program of a node with these rules, state variables, initial values and schedule.
+    pub(crate) fn new(
+        node: i64,
+        rules: Vec<Rule>,
+        variables: Vec<Variable<usize, Shape>>,
+        initial: Vec<Value>,
+        schedule: Vec<Statement<usize, Shape>>,
+    ) -> Self
+        requires rules { All (IsPlacedRule (map variable_of variables.items)) rules.items }
+        requires valued { length initial.items ≡ length variables.items }
+        requires schedule { ArePlacedFirings (map statement_of schedule.items)
+            (variable_names (map variable_of variables.items)) }
+        ensures { result ≡ parts node rules.items variables.items initial.items schedule.items }
+    {
+        Program {
+            node,
+            rules,
+            variables,
+            initial,
+            schedule,
+        }
+    }
+
+    /// The number of its node.
+    pub fn node(&self) -> i64
+        ensures { result ≡ self.now.node }
+    {
+        self.node
+    }
+
+    /// The entries with their transitions, in the order of the signature.
+    pub fn rules(&self) -> &[Rule]
+        ensures value { result.now ≡ self.now.rules }
+        ensures placed { All (IsPlacedRule (map variable_of self.now.variables)) result.now }
+    {
+        self.rules.as_slice()
+    }
+
+    /// The state variables, in the order of their declaration.
+    pub fn variables(&self) -> &[Variable<usize, Shape>]
+        ensures { result.now ≡ self.now.variables }
+    {
+        self.variables.as_slice()
+    }
+
+    /// The values of the state variables in the start state.
+    pub fn initial(&self) -> &[Value]
+        ensures value { result.now ≡ self.now.initial }
+        ensures valued { length result.now ≡ length self.now.variables }
+    {
+        self.initial.as_slice()
+    }
+
+    /// The statements of the schedule block.
+    pub fn schedule(&self) -> &[Statement<usize, Shape>]
+        ensures value { result.now ≡ self.now.schedule }
+        ensures placed { ArePlacedFirings (map statement_of result.now) (variable_names (map variable_of self.now.variables)) }
+    {
+        self.schedule.as_slice()
+    }
+}

@@ -1,0 +1,67 @@
+//! A system that was checked.
+
+ghost use Rattle.std.specs.Prelude.{◌≡◌, map};
+ghost use Rattle.std.specs.Arc.{arc_value};
+ghost use Rattle.ioa_check.specs.Systems.{system};
+
+use crate::program::Program;
+use ioa_source::Channel;
+use ioa_terms::Names;
+use std::marker::Model;
+use std::sync::Arc;
+
+/// A system: the programs of its nodes, node 0 first, and its channels as declared.
+#[derive(Drop)]
+pub struct System {
+    names: Names,
+    programs: Vec<Arc<Program>>,
+    channels: Vec<Channel>,
+}
+
+impl Model for System {
+    ghost use Rattle.std.specs.Arc.{arc_value};
+    ghost use Rattle.ioa_check.specs.Systems.{SystemParts, system_code};
+
+    ghost Value = { SystemParts };
+
+    ghost coded = { system_code };
+
+    ghost use Rattle.std.specs.Prelude.{map};
+    ghost use Rattle.ioa_check.specs.Systems.{system};
+
+    ghost view = { λ s. system s.names (map arc_value s.programs.items) s.channels.items };
+}
+
+impl System {
+    /// The system of these programs and channels.
+    pub(crate) fn new(names: Names, programs: Vec<Arc<Program>>, channels: Vec<Channel>) -> Self
+        ensures { result ≡ system names (map arc_value programs.items) channels.items }
+    {
+        System {
+            names,
+            programs,
+            channels,
+        }
+    }
+
+    /// The names of the text's constants.
+    pub fn names(&self) -> &Names
+        ensures { result.now ≡ self.now.names }
+    {
+        &self.names
+    }
+
+    /// The programs of the nodes, node 0 first.
+    pub fn programs(&self) -> &[Arc<Program>]
+        ensures { map arc_value result.now ≡ self.now.programs }
+    {
+        self.programs.as_slice()
+    }
+
+    /// The channels, as declared.
+    pub fn channels(&self) -> &[Channel]
+        ensures { result.now ≡ self.now.channels }
+    {
+        self.channels.as_slice()
+    }
+}

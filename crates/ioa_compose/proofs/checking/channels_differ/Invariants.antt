@@ -1,8 +1,0 @@
-use Rattle.std.proofs.Common.{take}
-use Rattle.std.specs.List.{IsDistinct}
-use Rattle.ioa_compose.specs.Rows as spec
-use Rattle.ioa_compose.proofs.checking.channels_differ.Given as goal
-
--- the channels gone by differ
-abbrev pub invariant-loop-place : goal.invariant-loop-place
-invariant-loop-place l = IsDistinct spec.same_channel (take l.place l.channels)

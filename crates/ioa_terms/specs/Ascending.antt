@@ -1,0 +1,8 @@
+-- Environments in whose values every set and every map, at any depth, ascends.
+use Rattle.std.specs.List.{AllByRecursion}
+use Rattle.ioa_terms.specs.Canonical.{IsCanonical}
+use Rattle.ioa_terms.specs.Bindings.{Bindings}
+
+-- the value of each name is canonical
+abbrev pub IsAscendingEnvironment : Bindings → Type 0
+IsAscendingEnvironment e = AllByRecursion (λ b. IsCanonical b.1) e
