@@ -37,7 +37,7 @@ rest_of_piece (suc left) place c text some =
     ap (λ n. tokens_from n (place + 1) text) less ∙ tokens_from_left left (place + 1) text ∙ ap (λ p. tokens_from 0 p (drop left text)) same
 
 -- a piece, and then the tokens of what comes after it
-next_piece : (place : ℕ) (text : List ℕ) → 0 < length text → tokens_from 0 place text ≡ with_piece place (piece_at text).0 (tokens_from 0 (place + (piece_at text).1) (drop (piece_at text).1 text))
+pub next_piece : (place : ℕ) (text : List ℕ) → 0 < length text → tokens_from 0 place text ≡ with_piece place (piece_at text).0 (tokens_from 0 (place + (piece_at text).1) (drop (piece_at text).1 text))
 next_piece place [] nonempty = absurd (omega arith)
 next_piece place (c ∷ text) nonempty = ap (with_piece place (piece_at (c ∷ text)).0) (rest_of_piece (piece_at (c ∷ text)).1 place c text (piece_sized (c ∷ text) nonempty).0)
 

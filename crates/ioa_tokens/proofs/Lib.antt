@@ -3,3 +3,10 @@ pub mod Tables
 pub mod Numbers
 pub mod Sizes
 pub mod Cuts
+pub mod Spaces
+pub mod Touching
+pub mod Ends
+pub mod Pieces
+pub mod Writings
+pub mod Goods
+pub mod Apart

@@ -67,7 +67,7 @@ in_line : (c : ℕ) → (c == byte "%") ≡ true → is_in_line c ≡ true
 in_line c percent = grind (arith, nat_tests)
 
 -- what begins a word is in the word
-in_word : (c : ℕ) → is_ascii_alphabetic c ≡ true → is_in_word c ≡ true
+pub in_word : (c : ℕ) → is_ascii_alphabetic c ≡ true → is_in_word c ≡ true
 in_word c letter = grind (arith, nat_tests)
 
 -- each piece

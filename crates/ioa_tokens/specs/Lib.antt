@@ -2,3 +2,4 @@
 pub mod Spelling
 pub mod Piece
 pub mod Tokens
+pub mod Written

@@ -9,86 +9,101 @@ use Rattle.ioa_tokens.specs.declared.mark.LeftOut.{LeftOut}
 use Rattle.ioa_tokens.specs.declared.mark.Mark.TheVariants as mark
 use Rattle.ioa_tokens.specs.declared.mark.LeftOut.TheVariants as left_out
 
+-- how a sign or a reserved word is spelled
+abbrev pub mark_text : Mark → List ℕ
+mark_text mark.Equivalent = codes "<=>"
+mark_text mark.And = codes "/\\"
+mark_text mark.Or = codes "\\/"
+mark_text mark.Member = codes "\\in"
+mark_text mark.NotEqual = codes "~="
+mark_text mark.Implies = codes "=>"
+mark_text mark.AtMost = codes "<="
+mark_text mark.AtLeast = codes ">="
+mark_text mark.Arrow = codes "->"
+mark_text mark.Prepend = codes "-|"
+mark_text mark.Append = codes "|-"
+mark_text mark.Concatenate = codes "||"
+mark_text mark.Assign = codes ":="
+mark_text mark.Not = codes "~"
+mark_text mark.Equal = codes "="
+mark_text mark.Less = codes "<"
+mark_text mark.Greater = codes ">"
+mark_text mark.Plus = codes "+"
+mark_text mark.Minus = codes "-"
+mark_text mark.Times = codes "*"
+mark_text mark.Dot = codes "."
+mark_text mark.Comma = codes ","
+mark_text mark.Semicolon = codes ";"
+mark_text mark.Colon = codes ":"
+mark_text mark.OpenRound = codes "("
+mark_text mark.CloseRound = codes ")"
+mark_text mark.OpenSquare = codes "["
+mark_text mark.CloseSquare = codes "]"
+mark_text mark.OpenBrace = codes "{"
+mark_text mark.CloseBrace = codes "}"
+mark_text mark.At = codes "@"
+mark_text mark.Automaton = codes "automaton"
+mark_text mark.Signature = codes "signature"
+mark_text mark.States = codes "states"
+mark_text mark.Transitions = codes "transitions"
+mark_text mark.Schedule = codes "schedule"
+mark_text mark.Input = codes "input"
+mark_text mark.Output = codes "output"
+mark_text mark.Internal = codes "internal"
+mark_text mark.Const = codes "const"
+mark_text mark.Where = codes "where"
+mark_text mark.Pre = codes "pre"
+mark_text mark.Eff = codes "eff"
+mark_text mark.If = codes "if"
+mark_text mark.Then = codes "then"
+mark_text mark.ElseIf = codes "elseif"
+mark_text mark.Else = codes "else"
+mark_text mark.Fi = codes "fi"
+mark_text mark.While = codes "while"
+mark_text mark.Do = codes "do"
+mark_text mark.Od = codes "od"
+mark_text mark.Fire = codes "fire"
+mark_text mark.Type = codes "type"
+mark_text mark.Enumeration = codes "enumeration"
+mark_text mark.Tuple = codes "tuple"
+mark_text mark.Of = codes "of"
+mark_text mark.True = codes "true"
+mark_text mark.False = codes "false"
+mark_text mark.System = codes "system"
+mark_text mark.Node = codes "node"
+mark_text mark.Channel = codes "channel"
+mark_text mark.Script = codes "script"
+mark_text mark.Invariant = codes "invariant"
+mark_text mark.Yield = codes "yield"
+mark_text mark.Unordered = codes "unordered"
+mark_text mark.Bool = codes "Bool"
+mark_text mark.Int = codes "Int"
+mark_text mark.Nat = codes "Nat"
+mark_text mark.Seq = codes "Seq"
+mark_text mark.Set = codes "Set"
+mark_text mark.Map = codes "Map"
+
 -- the signs, longest first, but `\in`, which is spelled with letters
 unfoldable pub signs : List (List ℕ × Mark)
 signs =
-    (codes "<=>", mark.Equivalent)
-    ∷ (codes "/\\", mark.And)
-    ∷ (codes "\\/", mark.Or)
-    ∷ (codes "~=", mark.NotEqual)
-    ∷ (codes "=>", mark.Implies)
-    ∷ (codes "<=", mark.AtMost)
-    ∷ (codes ">=", mark.AtLeast)
-    ∷ (codes "->", mark.Arrow)
-    ∷ (codes "-|", mark.Prepend)
-    ∷ (codes "|-", mark.Append)
-    ∷ (codes "||", mark.Concatenate)
-    ∷ (codes ":=", mark.Assign)
-    ∷ (codes "~", mark.Not)
-    ∷ (codes "=", mark.Equal)
-    ∷ (codes "<", mark.Less)
-    ∷ (codes ">", mark.Greater)
-    ∷ (codes "+", mark.Plus)
-    ∷ (codes "-", mark.Minus)
-    ∷ (codes "*", mark.Times)
-    ∷ (codes ".", mark.Dot)
-    ∷ (codes ",", mark.Comma)
-    ∷ (codes ";", mark.Semicolon)
-    ∷ (codes ":", mark.Colon)
-    ∷ (codes "(", mark.OpenRound)
-    ∷ (codes ")", mark.CloseRound)
-    ∷ (codes "[", mark.OpenSquare)
-    ∷ (codes "]", mark.CloseSquare)
-    ∷ (codes "{", mark.OpenBrace)
-    ∷ (codes "}", mark.CloseBrace)
-    ∷ (codes "@", mark.At)
-    ∷ []
+    map (λ sign. (mark_text sign, sign))
+    (mark.Equivalent ∷ mark.And ∷ mark.Or ∷ mark.NotEqual ∷ mark.Implies ∷ mark.AtMost ∷
+    mark.AtLeast ∷ mark.Arrow ∷ mark.Prepend ∷ mark.Append ∷ mark.Concatenate ∷ mark.Assign ∷
+    mark.Not ∷ mark.Equal ∷ mark.Less ∷ mark.Greater ∷ mark.Plus ∷ mark.Minus ∷ mark.Times ∷
+    mark.Dot ∷ mark.Comma ∷ mark.Semicolon ∷ mark.Colon ∷ mark.OpenRound ∷ mark.CloseRound ∷
+    mark.OpenSquare ∷ mark.CloseSquare ∷ mark.OpenBrace ∷ mark.CloseBrace ∷ mark.At ∷ [])
 
 -- the reserved words, and the sign that is spelled with letters
 unfoldable pub reserved_words : List (List ℕ × Mark)
 reserved_words =
-    (codes "automaton", mark.Automaton)
-    ∷ (codes "signature", mark.Signature)
-    ∷ (codes "states", mark.States)
-    ∷ (codes "transitions", mark.Transitions)
-    ∷ (codes "schedule", mark.Schedule)
-    ∷ (codes "input", mark.Input)
-    ∷ (codes "output", mark.Output)
-    ∷ (codes "internal", mark.Internal)
-    ∷ (codes "const", mark.Const)
-    ∷ (codes "where", mark.Where)
-    ∷ (codes "pre", mark.Pre)
-    ∷ (codes "eff", mark.Eff)
-    ∷ (codes "if", mark.If)
-    ∷ (codes "then", mark.Then)
-    ∷ (codes "elseif", mark.ElseIf)
-    ∷ (codes "else", mark.Else)
-    ∷ (codes "fi", mark.Fi)
-    ∷ (codes "while", mark.While)
-    ∷ (codes "do", mark.Do)
-    ∷ (codes "od", mark.Od)
-    ∷ (codes "fire", mark.Fire)
-    ∷ (codes "type", mark.Type)
-    ∷ (codes "enumeration", mark.Enumeration)
-    ∷ (codes "tuple", mark.Tuple)
-    ∷ (codes "of", mark.Of)
-    ∷ (codes "true", mark.True)
-    ∷ (codes "false", mark.False)
-    ∷ (codes "system", mark.System)
-    ∷ (codes "node", mark.Node)
-    ∷ (codes "channel", mark.Channel)
-    ∷ (codes "script", mark.Script)
-    ∷ (codes "invariant", mark.Invariant)
-    ∷ (codes "yield", mark.Yield)
-    ∷ (codes "unordered", mark.Unordered)
-    ∷ (codes "Bool", mark.Bool)
-    ∷ (codes "Int", mark.Int)
-    ∷ (codes "Nat", mark.Nat)
-    ∷ (codes "Seq", mark.Seq)
-    ∷ (codes "Set", mark.Set)
-    ∷ (codes "Map", mark.Map)
-    ∷ (codes "\\in", mark.Member)
-    ∷ []
+    map (λ word. (mark_text word, word))
+    (mark.Automaton ∷ mark.Signature ∷ mark.States ∷ mark.Transitions ∷ mark.Schedule ∷
+    mark.Input ∷ mark.Output ∷ mark.Internal ∷ mark.Const ∷ mark.Where ∷ mark.Pre ∷ mark.Eff ∷
+    mark.If ∷ mark.Then ∷ mark.ElseIf ∷ mark.Else ∷ mark.Fi ∷ mark.While ∷ mark.Do ∷ mark.Od ∷
+    mark.Fire ∷ mark.Type ∷ mark.Enumeration ∷ mark.Tuple ∷ mark.Of ∷ mark.True ∷ mark.False ∷
+    mark.System ∷ mark.Node ∷ mark.Channel ∷ mark.Script ∷ mark.Invariant ∷ mark.Yield ∷
+    mark.Unordered ∷ mark.Bool ∷ mark.Int ∷ mark.Nat ∷ mark.Seq ∷ mark.Set ∷ mark.Map ∷
+    mark.Member ∷ [])
 
 -- how a left-out word is spelled
 abbrev pub left_out_text : LeftOut → List ℕ

@@ -1,4 +1,5 @@
-//! The tokens of the language: words, numbers, signs and reserved words, each with its place.
+//! The tokens of the language: words, numbers, signs and reserved words, each with its place, and how
+//! they are written.
 #![tactic(auto)]
 
 mod cut;
@@ -8,11 +9,13 @@ mod mark;
 mod piece;
 mod table;
 mod token;
+mod written;
 
 pub use cut::tokens;
 pub use fault::CutFault;
 pub use mark::{LeftOut, Mark};
 pub use token::{Placed, Token, TokenWord};
+pub use written::{Gap, push_mark, push_number, push_word};
 
 #[cfg(test)]
 mod tests;

@@ -1,6 +1,6 @@
-//! What each sign and word is read as, and where a text is refused.
+//! What each sign and word is read as, where a text is refused, and what tokens are written as.
 
-use crate::{CutFault, Placed, Token, tokens};
+use crate::{CutFault, Gap, Mark, Placed, Token, push_mark, push_number, push_word, tokens};
 use std::alloc::{AllocError, Global};
 use std::test::Fail;
 
@@ -175,5 +175,70 @@ fn texts_are_cut(rt: HostRuntime) -> Result<(), Fail> {
         let short = shown(rt.alloc(), text)?;
         assert_eq!(rt; short.as_str(), *wanted, "{text}");
     }
+    Ok(())
+}
+
+/// The marks of a text, one behind the other.
+fn marks_written(alloc: Global, text: &str) -> Result<String, AllocError> {
+    let mut written = String::new(alloc);
+    if let Ok(found) = tokens(alloc, text) {
+        for placed in &found {
+            if let Token::Mark(mark) = &placed.token {
+                push_mark(&mut written, Gap::Joined, *mark)?;
+            }
+        }
+    }
+    Ok(written)
+}
+
+#[test]
+fn marks_are_written_as_they_are_cut(rt: HostRuntime) -> Result<(), Fail> {
+    for (text, _) in ROWS[..71].iter() {
+        let written = marks_written(rt.alloc(), text)?;
+        assert_eq!(rt; written.as_str(), *text);
+    }
+    Ok(())
+}
+
+/// A statement whose tokens stand as close together as they may.
+fn statement(alloc: Global) -> Result<String, AllocError> {
+    let mut text = String::new(alloc);
+    push_word(&mut text, Gap::Joined, "q")?;
+    push_mark(&mut text, Gap::Joined, Mark::OpenSquare)?;
+    push_number(&mut text, Gap::Joined, 0)?;
+    push_mark(&mut text, Gap::Joined, Mark::CloseSquare)?;
+    push_mark(&mut text, Gap::Spaced, Mark::Assign)?;
+    push_word(&mut text, Gap::Spaced, "f")?;
+    push_mark(&mut text, Gap::Joined, Mark::OpenRound)?;
+    push_mark(&mut text, Gap::Joined, Mark::Minus)?;
+    push_number(&mut text, Gap::Joined, 12)?;
+    push_mark(&mut text, Gap::Joined, Mark::Comma)?;
+    push_mark(&mut text, Gap::Spaced, Mark::Not)?;
+    push_mark(&mut text, Gap::Joined, Mark::OpenRound)?;
+    push_word(&mut text, Gap::Joined, "x")?;
+    push_mark(&mut text, Gap::Joined, Mark::Dot)?;
+    push_word(&mut text, Gap::Joined, "y_1")?;
+    push_mark(&mut text, Gap::Joined, Mark::CloseRound)?;
+    push_mark(&mut text, Gap::Joined, Mark::CloseRound)?;
+    push_mark(&mut text, Gap::Joined, Mark::Semicolon)?;
+    push_mark(&mut text, Gap::NewLine(2), Mark::Fi)?;
+    push_number(&mut text, Gap::NewLine(0), 9223372036854775807)?;
+    Ok(text)
+}
+
+#[test]
+fn tokens_that_touch_are_cut_apart(rt: HostRuntime) -> Result<(), Fail> {
+    let text = statement(rt.alloc())?;
+    assert_eq!(rt;
+        text.as_str(),
+        "q[0] := f(-12, ~(x.y_1));\n  fi\n9223372036854775807"
+    );
+    let short = shown(rt.alloc(), text.as_str())?;
+    assert_eq!(rt;
+        short.as_str(),
+        "'q'@0 OpenSquare@1 0@2 CloseSquare@3 Assign@5 'f'@8 OpenRound@9 Minus@10 12@11 Comma@13 \
+        Not@15 OpenRound@16 'x'@17 Dot@18 'y_1'@19 CloseRound@22 CloseRound@23 Semicolon@24 \
+        Fi@28 9223372036854775807@31 "
+    );
     Ok(())
 }

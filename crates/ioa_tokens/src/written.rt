@@ -1,0 +1,83 @@
+//! Tokens written as text.
+
+ghost use Rattle.std.specs.Prelude.{◌≡◌, ◌++◌, OnOk, string_bytes, codes};
+ghost use Rattle.std.specs.List.{repeat};
+ghost use Rattle.ioa_tokens.specs.declared.token.Token.TheVariants as token;
+ghost use Rattle.ioa_tokens.specs.Written as spec;
+
+use crate::mark::Mark;
+use std::alloc::AllocError;
+
+/// What stands before a token that is written. Source: profile.
+#[derive(Clone, Copy, Debug, PartialEq, Eq)]
+pub enum Gap {
+    /// Nothing.
+    Joined,
+    /// A space.
+    Spaced,
+    /// A line feed, and this number of spaces.
+    NewLine(usize),
+}
+
+/// Writes spaces behind a text.
+fn push_spaces(text: &mut String, count: usize) -> Result<(), AllocError>
+    ensures { OnOk result (string_bytes text.new ≡ string_bytes text.old ++ repeat count (codes " ")) }
+{
+    for _space in 0..count {
+        text.push_str(" ")?;
+    }
+    Ok(())
+}
+
+/// Writes a line feed and spaces behind a text.
+fn push_line(text: &mut String, indent: usize) -> Result<(), AllocError>
+    ensures { OnOk result (string_bytes text.new ≡ string_bytes text.old ++ (codes "\n" ++ repeat indent (codes " "))) }
+{
+    text.push_str("\n")?;
+    push_spaces(text, indent)
+}
+
+/// Writes what stands before a token behind a text.
+fn push_gap(text: &mut String, gap: Gap) -> Result<(), AllocError>
+    ensures { OnOk result (string_bytes text.new ≡ string_bytes text.old ++ spec.gap_text gap) }
+{
+    match gap {
+        Gap::Joined => Ok(()),
+        Gap::Spaced => text.push_str(" "),
+        Gap::NewLine(indent) => push_line(text, indent),
+    }
+}
+
+/// Writes the text of a token behind a gap.
+fn push_piece(text: &mut String, gap: Gap, piece: &str) -> Result<(), AllocError>
+    ensures { OnOk result (string_bytes text.new ≡ string_bytes text.old ++ (spec.gap_text gap ++ piece.now)) }
+{
+    push_gap(text, gap)?;
+    text.push_str(piece)
+}
+
+/// Writes a name behind a text. Where memory runs out, a part of it may be written. Source: profile.
+pub fn push_word(text: &mut String, gap: Gap, word: &str) -> Result<(), AllocError>
+    ensures { OnOk result (string_bytes text.new
+        ≡ string_bytes text.old ++ (spec.gap_text gap ++ spec.token_text (token.Word word.now))) }
+{
+    push_piece(text, gap, word)
+}
+
+/// Writes a number behind a text. Where memory runs out, a part of it may be written. Source: profile.
+pub fn push_number(text: &mut String, gap: Gap, number: i64) -> Result<(), AllocError>
+    ensures { OnOk result (string_bytes text.new
+        ≡ string_bytes text.old ++ (spec.gap_text gap ++ spec.token_text (token.Number number))) }
+{
+    push_gap(text, gap)?;
+    write!(text, "{number}")
+}
+
+/// Writes a sign or a reserved word behind a text. Where memory runs out, a part of it may be
+/// written. Source: profile.
+pub fn push_mark(text: &mut String, gap: Gap, mark: Mark) -> Result<(), AllocError>
+    ensures { OnOk result (string_bytes text.new
+        ≡ string_bytes text.old ++ (spec.gap_text gap ++ spec.token_text (token.Mark mark))) }
+{
+    push_piece(text, gap, mark.as_str())
+}
