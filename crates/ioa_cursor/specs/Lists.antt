@@ -1,0 +1,41 @@
+-- The forms of list of the grammar (profile), for any item. `X x xs ys` says that the tokens `xs` are a spelling of `x` and after it `ys`.
+use Rattle.std.specs.Prelude.{List, [], ◌∷◌, ◌++◌, Option, Some, None}
+use Rattle.ioa_tokens.specs.declared.token.Token.{Token}
+use Rattle.ioa_tokens.specs.declared.token.Token.TheVariants as token
+use Rattle.ioa_tokens.specs.declared.mark.Mark.{Mark}
+
+-- {X}: any number of an X
+pub data Several {A : Type 0} (X : A → List Token → List Token → Type 0) : List A → List Token → List Token → Type 0 where
+  none : {xs : List Token} → Several X [] xs xs
+  some : {first : A} {more : List A} {xs ys zs : List Token} → X first xs ys → Several X more ys zs → Several X (first ∷ more) xs zs
+
+-- X {m X}: one or more, with a mark between
+pub data Separated {A : Type 0} (m : Mark) (X : A → List Token → List Token → Type 0) : List A → List Token → List Token → Type 0 where
+  single : {only : A} {xs ys : List Token} → X only xs ys → Separated m X (only ∷ []) xs ys
+  followed : {first : A} {more : List A} {xs ys zs : List Token} → X first xs (token.Mark m ∷ ys) → Separated m X more ys zs → Separated m X (first ∷ more) xs zs
+
+-- X {m X} [m]: one or more, with a mark between, and one at the end where the writer likes
+pub data Ended {A : Type 0} (m : Mark) (X : A → List Token → List Token → Type 0) : List A → List Token → List Token → Type 0 where
+  last : {only : A} {xs ys : List Token} → X only xs ys → Ended m X (only ∷ []) xs ys
+  closed : {only : A} {xs ys : List Token} → X only xs (token.Mark m ∷ ys) → Ended m X (only ∷ []) xs ys
+  continued : {first : A} {more : List A} {xs ys zs : List Token} → X first xs (token.Mark m ∷ ys) → Ended m X more ys zs → Ended m X (first ∷ more) xs zs
+
+-- [m X]: a part behind its word, or nothing
+pub data Section {A : Type 0} (m : Mark) (X : List A → List Token → List Token → Type 0) : List A → List Token → List Token → Type 0 where
+  absent : {xs : List Token} → Section m X [] xs xs
+  present : {items : List A} {xs ys : List Token} → X items xs ys → Section m X items (token.Mark m ∷ xs) ys
+
+-- [m X]: an item behind its word, or nothing
+pub data Optional {A : Type 0} (m : Mark) (X : A → List Token → List Token → Type 0) : Option A → List Token → List Token → Type 0 where
+  left_out : {xs : List Token} → Optional m X None xs xs
+  written : {item : A} {xs ys : List Token} → X item xs ys → Optional m X (Some item) (token.Mark m ∷ xs) ys
+
+-- X {m X}, where each X gives a list: the items of all in order
+pub data Gathered {A : Type 0} (m : Mark) (X : List A → List Token → List Token → Type 0) : List A → List Token → List Token → Type 0 where
+  single_group : {items : List A} {xs ys : List Token} → X items xs ys → Gathered m X items xs ys
+  followed_group : {items others : List A} {xs ys zs : List Token} → X items xs (token.Mark m ∷ ys) → Gathered m X others ys zs → Gathered m X (items ++ others) xs zs
+
+-- {X}, where each X gives a list: the items of all in order
+pub data GatheredSeveral {A : Type 0} (X : List A → List Token → List Token → Type 0) : List A → List Token → List Token → Type 0 where
+  no_group : {xs : List Token} → GatheredSeveral X [] xs xs
+  some_groups : {items others : List A} {xs ys zs : List Token} → X items xs ys → GatheredSeveral X others ys zs → GatheredSeveral X (items ++ others) xs zs

@@ -1,0 +1,274 @@
+//! A place among the tokens of a text, and why they are not read further.
+
+ghost use Rattle.std.specs.Prelude.{ℕ, ◌≡◌, length, map};
+ghost use Rattle.ioa_cursor.specs.Outcome.{IsRefusal, Reads};
+ghost use Rattle.ioa_cursor.specs.declared.cursor.Unread.TheVariants.{TooDeep};
+ghost use Rattle.ioa_cursor.specs.Reading as spec;
+
+use ioa_tokens::{Mark, Placed, Token};
+use ioa_values::Word;
+use std::alloc::{AllocError, AllocFailed, Global};
+use std::marker::Model;
+
+/// Why the tokens are not read further. A place is counted in bytes from 0. Source: profile.
+#[derive(Debug, Drop)]
+pub enum Unread {
+    /// 12: the first token that no text has there, or the text's length.
+    Unexpected(usize),
+    /// 14: a tree is too high, or too many brackets are open.
+    TooDeep(usize),
+    /// 16: a word that the profile leaves out stands there.
+    LeftOut(usize),
+    /// No memory was left.
+    Memory,
+}
+
+impl From<AllocError> for Unread {
+    ghost use Rattle.std.specs.Prelude.{◌≡◌};
+    ghost use Rattle.ioa_cursor.specs.declared.cursor.Unread.TheVariants.{Memory};
+
+    ghost from_gives = { λ _ e. e ≡ Memory };
+
+    fn from(_error: AllocError) -> Self {
+        Unread::Memory
+    }
+}
+
+impl<T: Drop> From<AllocFailed<T>> for Unread {
+    ghost use Rattle.std.specs.Prelude.{◌≡◌};
+    ghost use Rattle.ioa_cursor.specs.declared.cursor.Unread.TheVariants.{Memory};
+
+    ghost from_gives = { λ _ e. e ≡ Memory };
+
+    fn from(_error: AllocFailed<T>) -> Self {
+        Unread::Memory
+    }
+}
+
+/// The tokens that are still to be read, and the place where the text ends.
+#[derive(Drop)]
+pub struct Tokens<'a> {
+    rest: &'a [Placed<'a>],
+    end: usize,
+}
+
+impl<'a> Model for Tokens<'a> {
+    ghost use Rattle.std.specs.Prelude.{List, map};
+    ghost use Rattle.ioa_tokens.specs.declared.token.Token.{Token};
+
+    ghost Value = { List Token };
+
+    ghost view = { λ t. map (λ p. p.token) t.rest.now };
+}
+
+impl<'a> Tokens<'a> {
+    /// All tokens of a text, and the text's length.
+    pub fn new(rest: &'a [Placed<'a>], end: usize) -> Self
+        ensures { result ≡ map (λ p. p.token) rest.now }
+    {
+        Tokens { rest, end }
+    }
+
+    /// How many tokens are left.
+    pub fn len(&self) -> usize
+        ensures { result ≡ length self.now }
+    {
+        self.rest.len()
+    }
+
+    /// The refusal of what comes next, where no text has it there.
+    pub fn refused(&self) -> Unread
+        ensures { IsRefusal self.now result }
+    {
+        match self.rest {
+            [first, ..] => match &first.token {
+                Token::LeftOut(_) => Unread::LeftOut(first.place),
+                Token::Word(_) | Token::Number(_) | Token::Mark(_) => {
+                    Unread::Unexpected(first.place)
+                }
+            },
+            [] => Unread::Unexpected(self.end),
+        }
+    }
+
+    /// The refusal of a part that goes too deep, at what comes next.
+    pub fn too_deep(&self) -> Unread
+        ensures { (place : ℕ) × (result ≡ TooDeep place) }
+    {
+        match self.rest {
+            [first, ..] => Unread::TooDeep(first.place),
+            [] => Unread::TooDeep(self.end),
+        }
+    }
+
+    /// The mark that comes next, if one does.
+    #[tactic(auto, unfolding(crate::specs::Reading::mark_first))]
+    pub fn peek_mark(&self) -> Option<Mark>
+        ensures { result ≡ spec.mark_first self.now }
+    {
+        match self.rest {
+            [first, ..] => match &first.token {
+                Token::Mark(mark) => Some(*mark),
+                Token::Word(_) | Token::Number(_) | Token::LeftOut(_) => None,
+            },
+            [] => None,
+        }
+    }
+
+    /// Takes the token that comes next, whatever it is.
+    #[tactic(auto, unfolding(crate::specs::Reading::behind))]
+    pub fn advance(&mut self)
+        ensures { self.new ≡ spec.behind self.old }
+    {
+        if let [_, rest @ ..] = self.rest {
+            self.rest = rest;
+        }
+    }
+
+    /// Takes a mark, where it comes next.
+    #[tactic(auto, unfolding(crate::specs::Reading::skip))]
+    pub fn skip(&mut self, mark: Mark) -> bool
+        ensures { (result, self.new) ≡ spec.skip mark self.old }
+    {
+        match self.rest {
+            [first, rest @ ..] => match &first.token {
+                Token::Mark(found) => {
+                    if *found == mark {
+                        self.rest = rest;
+                        true
+                    } else {
+                        false
+                    }
+                }
+                Token::Word(_) | Token::Number(_) | Token::LeftOut(_) => false,
+            },
+            [] => false,
+        }
+    }
+
+    /// Takes a mark that has to come next.
+    #[tactic(auto, unfolding(crate::specs::Reading::expected))]
+    pub fn expect(&mut self, mark: Mark) -> Result<(), Unread>
+        ensures { Reads (λ u. u) (spec.expected mark self.old) result self.new }
+    {
+        let refused = self.refused();
+        if self.skip(mark) {
+            Ok(())
+        } else {
+            Err(refused)
+        }
+    }
+
+    /// Takes a word that has to come next.
+    #[tactic(auto, unfolding(crate::specs::Reading::word))]
+    pub fn word(&mut self, alloc: Global) -> Result<Word, Unread>
+        ensures { Reads (λ w. w) (spec.word self.old) result self.new }
+    {
+        match self.rest {
+            [first, rest @ ..] => match &first.token {
+                Token::Word(word) => {
+                    let word = Word::from_ascii(alloc, word.as_bytes())?;
+                    self.rest = rest;
+                    Ok(word)
+                }
+                Token::Mark(_) | Token::Number(_) | Token::LeftOut(_) => Err(self.refused()),
+            },
+            [] => Err(self.refused()),
+        }
+    }
+
+    /// Takes a number that has to come next.
+    #[tactic(auto, unfolding(crate::specs::Reading::numeral))]
+    pub fn number(&mut self) -> Result<i64, Unread>
+        ensures { Reads (λ n. n) (spec.numeral self.old) result self.new }
+    {
+        match self.rest {
+            [first, rest @ ..] => match &first.token {
+                Token::Number(number) => {
+                    let number = *number;
+                    self.rest = rest;
+                    Ok(number)
+                }
+                Token::Word(_) | Token::Mark(_) | Token::LeftOut(_) => Err(self.refused()),
+            },
+            [] => Err(self.refused()),
+        }
+    }
+
+    /// Whether a mark comes next.
+    #[tactic(auto, unfolding(crate::specs::Reading::at))]
+    pub fn at(&self, mark: Mark) -> bool
+        ensures { result ≡ spec.at mark self.now }
+    {
+        match self.rest {
+            [first, ..] => match &first.token {
+                Token::Mark(found) => *found == mark,
+                Token::Word(_) | Token::Number(_) | Token::LeftOut(_) => false,
+            },
+            [] => false,
+        }
+    }
+
+    /// Whether a word comes next.
+    #[tactic(auto, unfolding(crate::specs::Reading::at_word))]
+    pub fn at_word(&self) -> bool
+        ensures { result ≡ spec.at_word self.now }
+    {
+        match self.rest {
+            [first, ..] => match &first.token {
+                Token::Word(_) => true,
+                Token::Mark(_) | Token::Number(_) | Token::LeftOut(_) => false,
+            },
+            [] => false,
+        }
+    }
+
+    /// Whether a number comes next.
+    #[tactic(auto, unfolding(crate::specs::Reading::at_number))]
+    pub fn at_number(&self) -> bool
+        ensures { result ≡ spec.at_number self.now }
+    {
+        match self.rest {
+            [first, ..] => match &first.token {
+                Token::Number(_) => true,
+                Token::Word(_) | Token::Mark(_) | Token::LeftOut(_) => false,
+            },
+            [] => false,
+        }
+    }
+
+    /// Whether a list of items that begin with a word goes on behind a mark; takes the mark.
+    #[tactic(auto, unfolding(crate::specs::Reading::resumed))]
+    pub fn resumes_with_word(&mut self, mark: Mark) -> bool
+        ensures { (result, self.new) ≡ spec.resumed mark spec.at_word self.old }
+    {
+        if self.skip(mark) {
+            self.at_word()
+        } else {
+            false
+        }
+    }
+
+    /// Whether a list of items that begin with `first` goes on behind a mark; takes the mark.
+    #[tactic(auto, unfolding(crate::specs::Reading::resumed))]
+    pub fn resumes_with(&mut self, mark: Mark, first: Mark) -> bool
+        ensures { (result, self.new) ≡ spec.resumed mark (spec.at first) self.old }
+    {
+        if self.skip(mark) {
+            self.at(first)
+        } else {
+            false
+        }
+    }
+
+    /// Takes the end of the text.
+    #[tactic(auto, unfolding(crate::specs::Reading::ended))]
+    pub fn end(&mut self) -> Result<(), Unread>
+        ensures { Reads (λ u. u) (spec.ended self.old) result self.new }
+    {
+        match self.rest {
+            [] => Ok(()),
+            [_, ..] => Err(self.refused()),
+        }
+    }
+}

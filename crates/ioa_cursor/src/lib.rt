@@ -1,0 +1,9 @@
+//! The tokens of a text read one after another, and lists of what is read.
+#![tactic(auto)]
+
+mod cursor;
+
+pub use cursor::{Tokens, Unread};
+
+#[cfg(test)]
+mod tests;
