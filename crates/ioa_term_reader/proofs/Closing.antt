@@ -1,0 +1,112 @@
+-- What may come behind a term. A token that goes on with a term does so behind a term of some level at the loosest,
+-- and a term ends where what comes next goes on only with tighter ones.
+use Rattle.std.proofs.Common.{◌≡◌, ◌≢◌, ℕ, ◌<◌, ◌≤◌, ◌⊎◌, inl, inr, List, [], ◌∷◌, Option, Some, None, ap, arith}
+use Rattle.std.specs.Option.{option_map}
+use Rattle.ioa_tokens.specs.declared.token.Token.{Token}
+use Rattle.ioa_tokens.specs.declared.token.Token.TheVariants as token
+use Rattle.ioa_tokens.specs.declared.mark.Mark.{Mark}
+use Rattle.ioa_tokens.specs.declared.mark.Mark.TheVariants as mark
+use Rattle.ioa_operators.specs.declared.operator.UnaryOperator.{UnaryOperator}
+use Rattle.ioa_operators.specs.declared.operator.UnaryOperator.TheVariants.{Not, Negative}
+use Rattle.ioa_operators.specs.declared.operator.BinaryOperator.{BinaryOperator}
+use Rattle.ioa_operators.specs.declared.operator.BinaryOperator.TheVariants as operator
+use Rattle.ioa_term_reader.specs.Levels.{Grouping, from_left, from_right, no_grouping, infix_of, grouping, left_side, right_side, level, left_level, right_level, prefix_level}
+use Rattle.ioa_term_reader.specs.Reading.{after_of, level_of, left_of}
+use Rattle.ioa_term_reader.specs.declared.after.After.{After}
+use Rattle.ioa_term_reader.specs.declared.after.After.TheVariants.{Infix, Field, Key}
+
+-- the loosest level of a term that goes on so, 0 where it does not go on
+abbrev pub binds_after : Option After → ℕ
+binds_after None = 0
+binds_after (Some a) = left_of a
+
+-- the same for a mark; a bracket behind a word opens a call, which is no term that goes on: it counts as tighter than all levels
+abbrev pub mark_binds : Mark → ℕ
+mark_binds mark.OpenRound = 14
+mark_binds m = binds_after (after_of m)
+
+-- the same for what comes next
+abbrev pub binds : List Token → ℕ
+binds (token.Mark m ∷ xs) = mark_binds m
+binds (token.Word w ∷ xs) = 0
+binds (token.Number n ∷ xs) = 0
+binds (token.LeftOut w ∷ xs) = 0
+binds [] = 0
+
+-- what comes next goes on with no term
+abbrev pub Closes : List Token → Type 0
+Closes xs = binds xs ≡ 0
+
+pub after_binds : (m : Mark) → binds_after (after_of m) ≤ mark_binds m
+after_binds mark.OpenRound = omega arith
+after_binds _ = omega arith
+
+-- a mark between two terms binds as its operator does
+pub binds_infix : (m : Mark) (op : BinaryOperator) → infix_of m ≡ Some op → mark_binds m ≡ left_level op
+binds_infix mark.OpenRound op e = absurd cc
+binds_infix mark.Dot op e = absurd cc
+binds_infix mark.OpenSquare op e = absurd cc
+binds_infix m op e = ap (λ o. binds_after (option_map Infix o)) e
+
+left_side_above : (g : Grouping) (l : ℕ) → l ≤ left_side g l
+left_side_above from_left l = omega arith
+left_side_above from_right l = omega arith
+left_side_above no_grouping l = omega arith
+
+right_side_above : (g : Grouping) (l : ℕ) → l ≤ right_side g l
+right_side_above from_left l = omega arith
+right_side_above from_right l = omega arith
+right_side_above no_grouping l = omega arith
+
+one_side_above : (g : Grouping) (l : ℕ) → left_side g l ≤ l → l < right_side g l
+one_side_above from_left l h = omega arith
+one_side_above from_right l h = absurd (omega arith)
+one_side_above no_grouping l h = absurd (omega arith)
+
+same_or_less : (k l : ℕ) → k ≤ l → (k < l) ⊎ (k ≡ l)
+same_or_less k l h = grind arith
+
+by_order : (k l : ℕ) → (k < l) ⊎ (k ≡ l) → left_side (grouping k) k ≤ l → k < right_side (grouping l) l
+by_order k l (inl less) h = let r = right_side_above (grouping l) l in omega arith
+by_order k l (inr same) h = rw same (one_side_above (grouping l) l (rw same at h))
+
+-- an operator that may stand behind a term of a level does not go on with the right side of an operator of that level
+sides : (k l : ℕ) → left_side (grouping k) k ≤ l → k < right_side (grouping l) l
+sides k l h = let a = left_side_above (grouping k) k in by_order k l (same_or_less k l (omega arith)) h
+
+pub left_level_above : (op : BinaryOperator) → level op ≤ left_level op
+left_level_above op = left_side_above (grouping (level op)) (level op)
+
+pub right_level_above : (op : BinaryOperator) → level op ≤ right_level op
+right_level_above op = right_side_above (grouping (level op)) (level op)
+
+-- what goes on with a term stands at the level of that term, or at a looser one
+pub level_below : (a : After) → level_of a ≤ left_of a
+level_below (Infix op) = left_level_above op
+level_below Field = omega arith
+level_below Key = omega arith
+
+-- the right side of an operator ends where the whole does
+pub ends_right : (op : BinaryOperator) (a : After) → left_of a ≤ level op → level_of a < right_level op
+ends_right op (Infix other) h = sides (level other) (level op) h
+ends_right op Field h = sides 12 (level op) h
+ends_right op Key h = sides 12 (level op) h
+
+-- no operator between two terms stands at the level of one before a term
+apart : (p : UnaryOperator) (op : BinaryOperator) → level op ≢ prefix_level p
+apart Not operator.At = omega arith
+apart Not _ = omega arith
+apart Negative operator.At = omega arith
+apart Negative _ = omega arith
+
+-- so does what an operator stands before
+pub ends_prefix : (p : UnaryOperator) (a : After) → left_of a ≤ prefix_level p → level_of a < prefix_level p
+ends_prefix p (Infix op) h = let b = level_below (Infix op) in let d = apart p op in omega arith
+ends_prefix Not Field h = absurd (omega arith)
+ends_prefix Negative Field h = absurd (omega arith)
+ends_prefix Not Key h = absurd (omega arith)
+ends_prefix Negative Key h = absurd (omega arith)
+
+-- and so does a whole term
+pub ends_whole : (a : After) → left_of a ≤ 0 → level_of a < 1
+ends_whole a h = let b = level_below a in omega arith

@@ -1,0 +1,49 @@
+use Rattle.std.proofs.Common.{◌≡◌, ◌+◌, ◌-◌, ◌*◌, map}
+use Rattle.ioa_tokens.specs.declared.mark.Mark.TheVariants as mark
+use Rattle.ioa_cursor.specs.Reading.{collected, skip}
+use Rattle.ioa_source.specs.View.{term_of}
+use Rattle.ioa_term_reader.specs.Reading as spec
+use Rattle.ioa_term_reader.proofs.reading.+terms.Given as goal
+
+abbrev pub decreases-read : goal.decreases-read
+decreases-read l = 8 * l.depth
+
+abbrev pub decreases-terms_in : goal.decreases-terms_in
+decreases-terms_in l = 8 * l.depth + 1
+
+abbrev pub decreases-grown : goal.decreases-grown
+decreases-grown l = 8 * l.depth + 1
+
+abbrev pub decreases-bracketed : goal.decreases-bracketed
+decreases-bracketed l = 8 * l.depth + 1
+
+abbrev pub decreases-prefixed : goal.decreases-prefixed
+decreases-prefixed l = 8 * l.depth + 1
+
+abbrev pub decreases-climb : goal.decreases-climb
+decreases-climb l = 8 * l.depth + 2
+
+abbrev pub decreases-called : goal.decreases-called
+decreases-called l = 8 * l.depth + 2
+
+abbrev pub decreases-displayed : goal.decreases-displayed
+decreases-displayed l = 8 * l.depth + 2
+
+abbrev pub decreases-braced : goal.decreases-braced
+decreases-braced l = 8 * l.depth + 3
+
+abbrev pub decreases-marked : goal.decreases-marked
+decreases-marked l = 8 * l.depth + 4
+
+abbrev pub decreases-operand : goal.decreases-operand
+decreases-operand l = 8 * l.depth + 5
+
+abbrev pub invariant-climb-loop-turn : goal.invariant-climb-loop-turn
+invariant-climb-loop-turn l =
+    spec.climb (spec.read l.depth) (64 - l._turn) l.room l.least l.most (term_of l.left.tree) l.tokens
+    ≡ spec.climb (spec.read l.fn.depth) 64 l.fn.room l.fn.least l.fn.first.level (term_of l.fn.first.built.tree) l.fn.tokens
+
+abbrev pub invariant-terms_in-loop-turn : goal.invariant-terms_in-loop-turn
+invariant-terms_in-loop-turn l =
+    collected (skip mark.Comma) (spec.read l.depth l.room 1) (l._turn-end - l._turn) (map term_of l.terms.trees.items) l.tokens
+    ≡ spec.terms_in (spec.read l.fn.depth) l.fn.room l.fn.tokens

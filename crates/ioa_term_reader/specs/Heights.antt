@@ -1,0 +1,25 @@
+-- How high the trees of terms are (profile).
+use Rattle.std.specs.Prelude.{ℕ, suc, max}
+use Rattle.ioa_source.specs.PlainTerm.{number, truth, name, one, two, call, display, field, no_terms, term}
+use Rattle.ioa_source.specs.Sides.{SourceTerm, SourceTerms}
+
+-- how high a tree may be
+abbrev pub height_limit : ℕ
+height_limit = 64
+
+abbrev mutual
+  -- a leaf is 1 high, all else one higher than its highest part; round brackets leave no node in the tree
+  pub height : SourceTerm → ℕ
+  height (number n) = 1
+  height (truth b) = 1
+  height (name w at) = 1
+  height (one op a) = suc (height a)
+  height (two op a b) = suc (max (height a) (height b))
+  height (call w ts) = suc (heights ts)
+  height (display form shape ts) = suc (heights ts)
+  height (field a w shape) = suc (height a)
+
+  -- the highest of several terms
+  pub heights : SourceTerms → ℕ
+  heights no_terms = 0
+  heights (term t more) = max (height t) (heights more)

@@ -1,0 +1,13 @@
+//! Terms: from tokens to trees, by precedence climbing.
+#![tactic(auto)]
+
+mod after;
+mod built;
+mod levels;
+mod reading;
+
+pub use built::Built;
+pub use reading::{BRACKET_LIMIT, term};
+
+#[cfg(test)]
+mod tests;
