@@ -1,4 +1,5 @@
 -- the lemmas of this crate
+pub mod Automata
 pub mod Loops
 pub mod Names
 pub mod Nodes

@@ -6,11 +6,10 @@ use Rattle.std.specs.Prelude.{◌&&◌}
 use Rattle.std.specs.List.{AllByRecursion, IsDistinct, list_any}
 use lib.Pointwise.{pointwise}
 use Rattle.ioa_source.specs.PlainText.{const, named}
-use Rattle.ioa_source.specs.declared.declaration.Node.{Node}
 use Rattle.ioa_check.specs.Parts.{Parts}
 use Rattle.ioa_check.specs.Made.{AreNodesOf, nodes_in}
 use Rattle.ioa_source.specs.Erasure.{erase_parameter, erase_entry, erase_variable}
-use Rattle.ioa_source.specs.Sides.{CheckedEntry, CheckedParameter, CheckedVariable, SourceAutomaton, SourceEntry, SourceText, SourceVariable}
+use Rattle.ioa_source.specs.Sides.{CheckedEntry, CheckedParameter, CheckedVariable, SourceAutomaton, SourceEntry, SourceNode, SourceText, SourceVariable}
 use Rattle.ioa_check.specs.Placed.{own_names, variable_names, scope_of}
 use Rattle.ioa_check.specs.Rows.{HasNoEntryRow}
 use Rattle.ioa_check.proofs.Loops.{each_append}
@@ -30,12 +29,12 @@ pointwise_short E (x ∷ xs) (y ∷ ys) h = rw (pointwise_short E xs ys (λ q. h
 own_names-erase : (ps : List CheckedParameter) → own_names (map erase_parameter ps) ≡ own_names ps
 own_names-erase [] = refl
 own_names-erase (const t ∷ ps) = own_names-erase ps
-own_names-erase (named x s ∷ ps) = ap (λ (ns : List (List ℕ)). x ∷ ns) (own_names-erase ps)
+own_names-erase (named d ∷ ps) = ap (λ (ns : List (List ℕ)). d.name ∷ ns) (own_names-erase ps)
 
 -- and so have variables
 variable_names-erase : (vs : List CheckedVariable) → variable_names (map erase_variable vs) ≡ variable_names vs
 variable_names-erase [] = refl
-variable_names-erase (v ∷ vs) = ap (λ (ns : List (List ℕ)). v.name ∷ ns) (variable_names-erase vs)
+variable_names-erase (v ∷ vs) = ap (λ (ns : List (List ℕ)). v.declared.name ∷ ns) (variable_names-erase vs)
 
 -- the names in view are those that the text spells
 pub scope_of-erase : (vs : List CheckedVariable) (placed : CheckedEntry) (e : SourceEntry) (scope : List (List ℕ)) → scope ≡ scope_of placed vs → erase_entry placed ≡ e → scope ≡ variable_names vs ++ own_names e.parameters
@@ -75,18 +74,18 @@ distinct_take-map e f ys i y d h within at =
     rw (take_more ys i y within, map-append f (take i ys) (get_or ys i y ∷ []), ← at) (distinct_push e (map f (take i ys)) (f y) d h)
 
 -- the nodes that have programs are there
-nodes_from : (t : SourceText) (j : ℕ) (ps : List Parts) → AreNodesOf t j ps → (k : ℕ) → k < length ps → (n : Node) × Contains (nodes_in t.system) n × (n.number ≡ pos (j + k))
+nodes_from : (t : SourceText) (j : ℕ) (ps : List Parts) → AreNodesOf t j ps → (k : ℕ) → k < length ps → (n : SourceNode) × Contains (nodes_in t.system) n × (n.number ≡ pos (j + k))
 nodes_from t j [] h k l = absurd (omega arith)
 nodes_from t j (p ∷ ps) h zero l =
     let same : j ≡ j + 0 = omega arith in (h.0.placed.node, h.0.placed.declared, h.0.placed.number ∙ ap pos same)
 nodes_from t j (p ∷ ps) h (suc k) l =
-    let later : (n : Node) × Contains (nodes_in t.system) n × (n.number ≡ pos ((j + 1) + k)) = nodes_from t (j + 1) ps h.1 k (omega arith) in
+    let later : (n : SourceNode) × Contains (nodes_in t.system) n × (n.number ≡ pos ((j + 1) + k)) = nodes_from t (j + 1) ps h.1 k (omega arith) in
     let same : (j + 1) + k ≡ j + suc k = omega arith in (later.0, later.1, later.2 ∙ ap pos same)
 
 -- where each node has a program, the nodes' numbers are 0 to n - 1
-pub numbers_from : (t : SourceText) (ps : List Parts) (many : ℕ) → AreNodesOf t 0 ps → length ps ≡ many → (k : ℕ) → k < many → (n : Node) × Contains (nodes_in t.system) n × (n.number ≡ pos k)
+pub numbers_from : (t : SourceText) (ps : List Parts) (many : ℕ) → AreNodesOf t 0 ps → length ps ≡ many → (k : ℕ) → k < many → (n : SourceNode) × Contains (nodes_in t.system) n × (n.number ≡ pos k)
 numbers_from t ps many h e k l =
-    let there : (n : Node) × Contains (nodes_in t.system) n × (n.number ≡ pos (0 + k)) = nodes_from t 0 ps h k (omega arith) in
+    let there : (n : SourceNode) × Contains (nodes_in t.system) n × (n.number ≡ pos (0 + k)) = nodes_from t 0 ps h k (omega arith) in
     let same : 0 + k ≡ k = omega arith in (there.0, there.1, there.2 ∙ ap pos same)
 
 -- no more items than what they stand for

@@ -1,13 +1,16 @@
 -- When a system is the one that a text describes (profile).
+use Rattle.std.specs.Borrow.{Bor}
 use Rattle.std.specs.Prelude.{◌≡◌, ℕ, pos, Bool, true, false, ◌&&◌, List, [], ◌∷◌, ◌++◌, ◌+◌, Option, Some, None, Result, Ok, Err, map, length, find, Contains}
 use Rattle.ioa_operators.specs.declared.shape.Shape.{Shape}
 use Rattle.std.specs.List.{AllByRecursion}
-use Rattle.std.specs.Option.{option_map}
 use Rattle.ioa_check.specs.Data.{Data}
 use Rattle.ioa_terms.specs.Bindings.{same_name}
 use Rattle.ioa_terms.specs.Meaning.{answer}
 use Rattle.ioa_terms.specs.Performance.{target_shape}
-use Rattle.ioa_operators.specs.Shapes.{integers}
+use Rattle.ioa_operators.specs.Shapes.{PlainShape, integers}
+use Rattle.ioa_operators.specs.ShapeView.{shape_of}
+use Rattle.ioa_source.specs.PlainSort.{PlainSort}
+use Rattle.ioa_source.specs.PlainSort as sort
 use Rattle.ioa_source.specs.PlainTerm.{assign, choose, fire}
 use Rattle.ioa_operators.specs.declared.fault.TermFault.{TermFault}
 use Rattle.ioa_operators.specs.declared.fault.TermFault.TheVariants.{Undefined}
@@ -15,14 +18,13 @@ use Rattle.ioa_source.specs.declared.declaration.Variable.{Variable}
 use Rattle.ioa_terms.specs.declared.tree.Kind.{Kind}
 use Rattle.ioa_terms.specs.declared.tree.Kind.TheVariants.{Input, Output, Internal}
 use Rattle.ioa_source.specs.View.{statement_of}
-use Rattle.ioa_source.specs.TextView.{entry_of, variable_of, transition_of}
+use Rattle.ioa_source.specs.TextView.{entry_of, variable_of, transition_of, node_of}
 use Rattle.ioa_source.specs.Erasure.{erase_entry, erase_variable, erase_transition, erase_statement}
-use Rattle.ioa_source.specs.PlainText.{PlainEntry, PlainTransition, automaton}
-use Rattle.ioa_source.specs.declared.declaration.Placement.{Placement}
-use Rattle.ioa_source.specs.declared.declaration.Placement.TheVariants as placement
+use Rattle.ioa_source.specs.PlainText.{PlainEntry, PlainTransition, const, named}
+use Rattle.ioa_source.specs.PlainText as plain
 use Rattle.ioa_source.specs.declared.declaration.Node.{Node}
 use Rattle.ioa_source.specs.declared.declaration.Channel.{Channel}
-use Rattle.ioa_source.specs.Sides.{CheckedStatement, CheckedTerm, SourceAutomaton, SourceDeclaration, SourceText}
+use Rattle.ioa_source.specs.Sides.{CheckedDeclared, CheckedParameter, CheckedStatement, CheckedTerm, SourceAutomaton, SourceDeclaration, SourceNode, SourcePlacement, SourceText}
 use Rattle.ioa_check.specs.declared.program.Rule.{Rule}
 use Rattle.ioa_check.specs.Parts.{Parts}
 use Rattle.ioa_check.specs.Systems.{SystemParts}
@@ -49,6 +51,20 @@ AssignsInteger (assign p t) = target_shape p ≡ integers
 AssignsInteger (choose arms rest) = ⊥
 AssignsInteger (fire k x ts) = Unit {0}
 
+-- the shape of a sort; in this form there is Int alone
+abbrev pub IsShapeOf : PlainSort → PlainShape → Type 0
+IsShapeOf sort.integers s = s ≡ integers
+IsShapeOf _ s = ⊥
+
+-- beside a declared sort stands its shape
+abbrev pub HasItsShape : CheckedDeclared → Type 0
+HasItsShape d = IsShapeOf d.sort (shape_of d.shape)
+
+-- the same, of a parameter that has a name
+abbrev pub HasParameterShape : CheckedParameter → Type 0
+HasParameterShape (const t) = Unit {0}
+HasParameterShape (named d) = HasItsShape d
+
 -- what a term answers that reads no name; where none is written there is no value
 abbrev pub term_answer : Option CheckedTerm → Result Data TermFault
 term_answer None = Err Undefined
@@ -58,58 +74,67 @@ term_answer (Some t) = answer t []
 abbrev pub IsRuleOf : SourceAutomaton → Rule → Type 0
 IsRuleOf a r = transition_for (erase_entry (entry_of r.entry)) a.transitions ≡ Some (erase_transition (transition_of r.transition))
 
--- a rule of which each assigned variable stands beside its shape
-abbrev pub HasIntegers : Rule → Type 0
-HasIntegers r = AllByRecursion AssignsInteger (transition_of r.transition).effect
+-- a rule in which each named parameter's sort and each assigned variable stand beside their shapes
+pub record HasIntegers (r : Rule) : Type 0 where
+  pub parameters : AllByRecursion HasParameterShape (entry_of r.entry).parameters
+  pub effect : AllByRecursion AssignsInteger (transition_of r.transition).effect
 
 -- what the initial term of a state variable answers; it reads no name
 abbrev pub initial_answer : Variable ℕ Shape → Result Data TermFault
 initial_answer v = term_answer (variable_of v).initial
 
--- a program of an automaton: without what stands beside its names it is what the automaton's text says
+-- a program of an automaton: without what stands beside its names and sorts it is what the automaton's text says, and
+-- beside each sort stands its shape
 pub record IsProgramOf (a : SourceAutomaton) (p : Parts) : Type 0 where
   pub signature : map (λ r. erase_entry (entry_of r.entry)) p.rules ≡ a.signature
   pub transitions : AllByRecursion (IsRuleOf a) p.rules
   pub shapes : AllByRecursion HasIntegers p.rules
   pub states : map erase_variable (map variable_of p.variables) ≡ a.states
+  pub sorts : AllByRecursion (λ v. HasItsShape v.declared) (map variable_of p.variables)
   pub initial : map initial_answer p.variables ≡ map Ok p.initial
   pub schedule : map erase_statement (map statement_of p.schedule) ≡ a.schedule
 
--- whether a declaration is the automaton of a name
-abbrev pub is_named : List ℕ → SourceDeclaration → Bool
-is_named x (automaton a) = same_name a.name x
+-- the automaton that a declaration is, where it is one
+abbrev pub automaton_in : SourceDeclaration → List SourceAutomaton
+automaton_in (plain.type_named t) = []
+automaton_in (plain.automaton a) = a ∷ []
 
--- the automaton that a declaration is
-abbrev pub automaton_in : SourceDeclaration → SourceAutomaton
-automaton_in (automaton a) = a
+-- the automata among declarations, in their order
+abbrev pub automata_in : List SourceDeclaration → List SourceAutomaton
+automata_in [] = []
+automata_in (d ∷ more) = automaton_in d ++ automata_in more
 
 -- the automaton of a name, the first where several bear it
 abbrev pub automaton_named : List ℕ → List SourceDeclaration → Option SourceAutomaton
-automaton_named x ds = option_map automaton_in (find (is_named x) ds)
+automaton_named x ds = find (λ a. same_name a.name x) (automata_in ds)
+
+-- the node that a reference points at
+abbrev pub node_at : Bor (Node (Unit {0}) (Unit {0})) → SourceNode
+node_at n = node_of n.now
 
 -- the node that a placement is, where it is one
-abbrev pub node_in : Placement → List Node
-node_in (placement.Node n) = n ∷ []
-node_in (placement.Channel c) = []
+abbrev pub node_in : SourcePlacement → List SourceNode
+node_in (plain.node n) = n ∷ []
+node_in (plain.channel c) = []
 
 -- the nodes of a system section, as declared
-abbrev pub nodes_in : List Placement → List Node
+abbrev pub nodes_in : List SourcePlacement → List SourceNode
 nodes_in [] = []
 nodes_in (p ∷ more) = node_in p ++ nodes_in more
 
 -- the channel that a placement is, where it is one
-abbrev pub channel_in : Placement → List Channel
-channel_in (placement.Node n) = []
-channel_in (placement.Channel c) = c ∷ []
+abbrev pub channel_in : SourcePlacement → List Channel
+channel_in (plain.node n) = []
+channel_in (plain.channel c) = c ∷ []
 
 -- the channels of a system section, as declared
-abbrev pub channels_in : List Placement → List Channel
+abbrev pub channels_in : List SourcePlacement → List Channel
 channels_in [] = []
 channels_in (p ∷ more) = channel_in p ++ channels_in more
 
 -- a node of a text: one of the system section of this number, on which this automaton is placed
 pub record IsPlacedOn (t : SourceText) (k : ℕ) (a : SourceAutomaton) : Type 0 where
-  pub node : Node
+  pub node : SourceNode
   pub declared : Contains (nodes_in t.system) node
   pub number : node.number ≡ pos k
   pub automaton : automaton_named node.automaton t.declarations ≡ Some a

@@ -13,7 +13,7 @@ use Rattle.ioa_check.specs.declared.program.Rule.{Rule}
 -- the name of a parameter that has one
 abbrev pub own_name : {N D : Type 0} → PlainParameter N D → List (List ℕ)
 own_name (const t) = []
-own_name (named x s) = x ∷ []
+own_name (named d) = d.name ∷ []
 
 -- the names of an entry's own parameters
 abbrev pub own_names : {N D : Type 0} → List (PlainParameter N D) → List (List ℕ)
@@ -22,7 +22,7 @@ own_names (p ∷ more) = own_name p ++ own_names more
 
 -- the names of variables
 abbrev pub variable_names : {N D : Type 0} → List (PlainVariable N D) → List (List ℕ)
-variable_names vs = map (λ v. v.name) vs
+variable_names vs = map (λ v. v.declared.name) vs
 
 -- the names in view in a transition: the state variables, and then the entry's own parameters
 abbrev pub scope_of : {N D M E : Type 0} → PlainEntry N D → List (PlainVariable M E) → List (List ℕ)
@@ -31,7 +31,7 @@ scope_of e vs = variable_names vs ++ own_names e.parameters
 -- a constant parameter reads no name
 abbrev pub IsPlacedParameter : CheckedParameter → Type 0
 IsPlacedParameter (const t) = IsPlaced t []
-IsPlacedParameter (named x s) = Unit {0}
+IsPlacedParameter (named d) = Unit {0}
 
 abbrev pub ArePlacedParameters : List CheckedParameter → Type 0
 ArePlacedParameters ps = AllByRecursion IsPlacedParameter ps

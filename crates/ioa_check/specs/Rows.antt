@@ -13,10 +13,10 @@ use Rattle.ioa_source.specs.PlainTerm.{number, name, two, variable, at_key, at_f
 use Rattle.ioa_source.specs.PlainText.{const, named}
 use Rattle.ioa_check.specs.FirstSorts.{is_first, is_number, is_guard}
 use Rattle.ioa_check.specs.Placed.{own_names, variable_names}
-use Rattle.ioa_check.specs.Made.{same_kind, transition_for, automaton_in, automaton_named, nodes_in, channels_in}
-use Rattle.ioa_source.specs.declared.declaration.Node.{Node}
+use Rattle.ioa_check.specs.FirstForm.{is_first_declaration, is_first_placement, passes}
+use Rattle.ioa_check.specs.Made.{same_kind, transition_for, automata_in, automaton_named, nodes_in, channels_in}
 use Rattle.ioa_source.specs.declared.declaration.Channel.{Channel}
-use Rattle.ioa_source.specs.Sides.{SourceAutomaton, SourceDeclaration, SourceEntry, SourceParameter, SourcePlace, SourceStatement, SourceTerm, SourceText, SourceTransition}
+use Rattle.ioa_source.specs.Sides.{SourceAutomaton, SourceDeclaration, SourceEntry, SourceNode, SourceParameter, SourcePlace, SourceStatement, SourceTerm, SourceText, SourceTransition}
 
 -- 20: a transition is of the name and kind of an entry
 abbrev pub has_entry : List SourceEntry → SourceTransition → Bool
@@ -49,7 +49,7 @@ assigns_number (fire k x ts) = false
 -- 22: a constant is a number
 abbrev pub is_number_constant : SourceParameter → Bool
 is_number_constant (const t) = is_number t
-is_number_constant (named x s) = true
+is_number_constant (named d) = true
 
 -- 22: a guard, where there is one, is a truth value
 abbrev pub is_guard_or_none : Option SourceTerm → Bool
@@ -75,8 +75,8 @@ same_term _ _ = false
 -- 34: an argument of a head repeats its parameter: the same term at a constant, the same name elsewhere
 abbrev pub argument_repeats : SourceParameter → SourceTerm → Bool
 argument_repeats (const t) u = same_term t u
-argument_repeats (named x s) (name y at) = same_name y x
-argument_repeats (named x s) _ = false
+argument_repeats (named d) (name y at) = same_name y d.name
+argument_repeats (named d) _ = false
 
 -- 20: a term is of the first form, and the names that it reads are in view
 abbrev pub reads_only : List (List ℕ) → SourceTerm → Bool
@@ -93,7 +93,7 @@ guard_reads_only names (Some t) = reads_only names t
 -- 20: what a constant reads: no name
 abbrev pub reads_no_name : SourceParameter → Bool
 reads_no_name (const t) = reads_only [] t
-reads_no_name (named x s) = true
+reads_no_name (named d) = true
 
 -- 20: an assignment is to one of these variables
 abbrev pub writes_only : List (List ℕ) → SourcePlace → Bool
@@ -155,20 +155,15 @@ pub record HasNoAutomatonRow (a : SourceAutomaton) : Type 0 where
   -- each entry and its transition
   pub entries : AllByRecursion (HasNoEntryRow (variable_names a.states) a.transitions) a.signature
 
--- the test of what there is
-abbrev pub passes : {A : Type 0} → (A → Bool) → Option A → Bool
-passes test None = false
-passes test (Some x) = test x
-
 -- the parameter at a place is the constant of a number
 abbrev pub is_constant : Option SourceParameter → ℤ → Bool
 is_constant None k = false
 is_constant (Some (const (number n))) k = int_eq n k
 is_constant (Some (const _)) k = false
-is_constant (Some (named x s)) k = false
+is_constant (Some (named d)) k = false
 
 -- 20: the automaton of a node is declared
-abbrev pub is_declared : List SourceDeclaration → Node → Bool
+abbrev pub is_declared : List SourceDeclaration → SourceNode → Bool
 is_declared ds n = is_some (automaton_named n.automaton ds)
 
 -- 34: an entry that is a `send` has its node's number second, and one that is a `receive` has it third
@@ -178,7 +173,7 @@ is_at_home k e =
     && (not (same_name e.name (codes "receive")) || is_constant (slice_get e.parameters 2) k)
 
 -- 34: the sends of a node's automaton are from that node, and its receives to it
-abbrev pub has_its_own : List SourceDeclaration → Node → Bool
+abbrev pub has_its_own : List SourceDeclaration → SourceNode → Bool
 has_its_own ds n = passes (λ a. list_all (is_at_home n.number) a.signature) (automaton_named n.automaton ds)
 
 -- 28: an automaton has a `receive` from a node
@@ -186,19 +181,19 @@ abbrev pub takes_from : ℤ → SourceAutomaton → Bool
 takes_from k a = list_any (λ e. same_name e.name (codes "receive") && is_constant (slice_get e.parameters 1) k) a.signature
 
 -- 28: a node is the receiver of a channel and takes messages of its sender
-abbrev pub is_receiver : List SourceDeclaration → Channel → Node → Bool
+abbrev pub is_receiver : List SourceDeclaration → Channel → SourceNode → Bool
 is_receiver ds c n = int_eq n.number c.to && passes (takes_from c.from) (automaton_named n.automaton ds)
 
 -- 28: the receiver of a channel takes messages of its sender
-abbrev pub has_input : List SourceDeclaration → List Node → Channel → Bool
+abbrev pub has_input : List SourceDeclaration → List SourceNode → Channel → Bool
 has_input ds ns c = list_any (is_receiver ds c) ns
 
 -- 20: a number is that of a node
-abbrev pub is_node : List Node → ℤ → Bool
+abbrev pub is_node : List SourceNode → ℤ → Bool
 is_node ns k = list_any (λ n. int_eq n.number k) ns
 
 -- 20: both ends of a channel are nodes
-abbrev pub joins_nodes : List Node → Channel → Bool
+abbrev pub joins_nodes : List SourceNode → Channel → Bool
 joins_nodes ns c = is_node ns c.from && is_node ns c.to
 
 -- 29: a channel is from a node to another
@@ -206,7 +201,7 @@ abbrev pub joins_two : Channel → Bool
 joins_two c = not (int_eq c.from c.to)
 
 -- 21: two nodes have one number
-abbrev pub same_number : Node → Node → Bool
+abbrev pub same_number : SourceNode → SourceNode → Bool
 same_number m n = int_eq m.number n.number
 
 -- 21: two channels are between the same nodes, in the same direction
@@ -222,7 +217,7 @@ pub record HasNoSystemRow (t : SourceText) : Type 0 where
   pub nodes_differ : IsDistinct same_number (nodes_in t.system)
   pub channels_differ : IsDistinct same_channel (channels_in t.system)
   -- 30: the nodes' numbers are 0 to n - 1
-  pub numbers : (k : ℕ) → k < length (nodes_in t.system) → (n : Node) × Contains (nodes_in t.system) n × (n.number ≡ pos k)
+  pub numbers : (k : ℕ) → k < length (nodes_in t.system) → (n : SourceNode) × Contains (nodes_in t.system) n × (n.number ≡ pos k)
   -- 20: each node's automaton is declared, and the ends of each channel are nodes
   pub declared : list_all (is_declared t.declarations) (nodes_in t.system) ≡ true
   pub ends : list_all (joins_nodes (nodes_in t.system)) (channels_in t.system) ≡ true
@@ -235,9 +230,12 @@ pub record HasNoSystemRow (t : SourceText) : Type 0 where
 
 -- a whole text
 pub record HasNoRow (t : SourceText) : Type 0 where
+  -- 20: each declaration and each part of the system section is of the first form
+  pub first_declarations : list_all is_first_declaration t.declarations ≡ true
+  pub first_placements : list_all is_first_placement t.system ≡ true
   -- 21: the automata's names differ
-  pub automata_differ : IsDistinct same_name (map (λ d. (automaton_in d).name) t.declarations)
+  pub automata_differ : IsDistinct same_name (map (λ a. a.name) (automata_in t.declarations))
   -- each automaton
-  pub automata : AllByRecursion (λ d. HasNoAutomatonRow (automaton_in d)) t.declarations
+  pub automata : AllByRecursion HasNoAutomatonRow (automata_in t.declarations)
   -- the system section
   pub system : HasNoSystemRow t

@@ -52,7 +52,7 @@ fn names_of(alloc: Global, variables: &[Variable<usize, Shape>]) -> Result<Scope
 {
     let mut names = Scope::new(alloc);
     for variable in variables {
-        declare(alloc, &mut names, &variable.name)?;
+        declare(alloc, &mut names, &variable.declared.name)?;
     }
     Ok(names)
 }
@@ -97,7 +97,7 @@ fn declare_parameter(
 {
     match parameter {
         Parameter::Const(_) => Ok(()),
-        Parameter::Declared(name, _) => declare(alloc, names, name),
+        Parameter::Declared(declared) => declare(alloc, names, &declared.name),
     }
 }
 
@@ -263,8 +263,8 @@ fn argument_repeats(parameter: &Parameter<(), ()>, argument: &Term) -> bool
 {
     match parameter {
         Parameter::Const(term) => same_term(term, argument),
-        Parameter::Declared(name, _) => match argument {
-            Tree::Name(word, _) => word == name,
+        Parameter::Declared(declared) => match argument {
+            Tree::Name(word, _) => *word == declared.name,
             _ => false,
         },
     }

@@ -5,14 +5,16 @@ ghost use Rattle.std.specs.List.{AllByRecursion, IsDistinct, list_all, list_any}
 ghost use Rattle.ioa_terms.specs.Bindings.{same_name};
 ghost use Rattle.std.specs.Option.{option_map, option_copied};
 ghost use Rattle.std.specs.Arc.{arc_value};
-ghost use Rattle.ioa_source.specs.TextView.{text_of, declaration_of, automaton_of, entry_of, parameter_of};
+ghost use Rattle.ioa_source.specs.TextView.{text_of, declaration_of, node_of, placement_of, automaton_of, entry_of, parameter_of};
 ghost use Rattle.ioa_source.specs.View.{term_of};
-ghost use Rattle.ioa_source.specs.declared.declaration.Node.{Node};
-ghost use Rattle.ioa_check.specs.Made.{IsSystemOf, IsNodeOf, AreNodesOf, nodes_in, channels_in, automaton_named, automaton_in};
+ghost use Rattle.ioa_source.specs.Sides.{SourceNode};
+ghost use Rattle.ioa_check.specs.Made.{IsSystemOf, IsNodeOf, AreNodesOf, nodes_in, channels_in, automaton_named, automaton_in, automata_in, node_at};
 ghost use Rattle.ioa_check.specs.Rows as spec;
-ghost use Rattle.ioa_check.specs.Rows.{HasNoRow, HasNoSystemRow, HasNoAutomatonRow, passes};
+ghost use Rattle.ioa_check.specs.Rows.{HasNoRow, HasNoSystemRow, HasNoAutomatonRow};
+ghost use Rattle.ioa_check.specs.FirstForm.{is_first_declaration, is_first_placement, passes};
 
 use crate::building::program_of;
+use crate::first_form::{is_first_declaration, is_first_placement};
 use crate::program::Program;
 use crate::refusal::{CheckFault, Refusal, Row};
 use crate::scope::Scope;
@@ -30,7 +32,8 @@ const MOST_NODES: usize = 64;
 const MOST_CHANNELS: usize = 256;
 
 /// Makes the system that a source describes. Where a row of refusal stands in the source, one that
-/// stands is answered, with the place of its declaration. The source is spent, at a refusal too.
+/// stands is answered, with the place of its declaration: 20 for the first declaration that is not of
+/// the first form, where there is one. The source is spent, at a refusal too.
 pub fn check(alloc: Global, source: Source) -> Result<System, CheckFault>
     ensures system { IfOk result (IsSystemOf (text_of source.text)) }
     ensures rows { IfOk result (λ _. HasNoRow (text_of source.text)) }
@@ -43,6 +46,7 @@ fn check_text(alloc: Global, text: &Text<(), ()>) -> Result<System, CheckFault>
     ensures system { IfOk result (IsSystemOf (text_of text.now)) }
     ensures rows { OnOk result (HasNoRow (text_of text.now)) }
 {
+    check_first_form(text)?;
     check_declarations(alloc, &text.declarations)?;
     match check_placements(alloc, text) {
         Ok(system) => Ok(system),
@@ -50,10 +54,46 @@ fn check_text(alloc: Global, text: &Text<(), ()>) -> Result<System, CheckFault>
     }
 }
 
+/// Passes where the whole text is of the first form.
+fn check_first_form(text: &Text<(), ()>) -> Result<(), CheckFault>
+    ensures declarations { OnOk result (list_all is_first_declaration (text_of text.now).declarations ≡ true) }
+    ensures placements { OnOk result (list_all is_first_placement (text_of text.now).system ≡ true) }
+{
+    declarations_are_first(&text.declarations)?;
+    if !placements_are_first(&text.system) {
+        return Err(Refusal::Row(Row::Unknown).at(text.declarations.len()));
+    }
+    Ok(())
+}
+
+/// Passes where each declaration is of the first form.
+fn declarations_are_first(declarations: &[Declaration<(), ()>]) -> Result<(), CheckFault>
+    ensures { OnOk result (list_all is_first_declaration (map declaration_of declarations.now) ≡ true) }
+{
+    for (place, declaration) in declarations.iter().enumerate() {
+        if !is_first_declaration(declaration) {
+            return Err(Refusal::Row(Row::Unknown).at(place));
+        }
+    }
+    Ok(())
+}
+
+/// Whether each part of a system section is of the first form.
+fn placements_are_first(placements: &[Placement<(), ()>]) -> bool
+    ensures { result ≡ list_all is_first_placement (map placement_of placements.now) }
+{
+    for placement in placements {
+        if !is_first_placement(placement) {
+            return false;
+        }
+    }
+    true
+}
+
 /// Passes where no row stands in a declaration before the system.
 fn check_declarations(alloc: Global, declarations: &[Declaration<(), ()>]) -> Result<(), CheckFault>
-    ensures differ { OnOk result (IsDistinct same_name (map (λ d. (automaton_in d).name) (map declaration_of declarations.now))) }
-    ensures rows { OnOk result (AllByRecursion (λ d. HasNoAutomatonRow (automaton_in d)) (map declaration_of declarations.now)) }
+    ensures differ { OnOk result (IsDistinct same_name (map (λ a. a.name) (automata_in (map declaration_of declarations.now)))) }
+    ensures rows { OnOk result (AllByRecursion HasNoAutomatonRow (automata_in (map declaration_of declarations.now))) }
 {
     let mut names = Scope::new(alloc);
     for place in 0..declarations.len() {
@@ -65,17 +105,32 @@ fn check_declarations(alloc: Global, declarations: &[Declaration<(), ()>]) -> Re
     Ok(())
 }
 
-/// Passes where a declaration's name is new and a program can be made of it.
+/// Passes where no row stands in a declaration; an automaton's name is declared.
 fn check_declaration(
     alloc: Global,
     names: &mut Scope,
     declaration: &Declaration<(), ()>,
 ) -> Result<(), Refusal>
-    ensures added { OnOk result (names.new ≡ names.old ++ (automaton_in (declaration_of declaration.now)).name ∷ []) }
+    ensures added { OnOk result (names.new ≡ names.old ++ map (λ a. a.name) (automaton_in (declaration_of declaration.now))) }
     ensures differ { OnOk result (IsDistinct same_name names.old → IsDistinct same_name names.new) }
-    ensures rows { OnOk result (HasNoAutomatonRow (automaton_in (declaration_of declaration.now))) }
+    ensures rows { OnOk result (AllByRecursion HasNoAutomatonRow (automaton_in (declaration_of declaration.now))) }
 {
-    let Declaration::Automaton(automaton) = declaration;
+    match declaration {
+        Declaration::Type(_) => Ok(()),
+        Declaration::Automaton(automaton) => check_named(alloc, names, automaton),
+    }
+}
+
+/// Passes where an automaton's name is new and a program can be made of it.
+fn check_named(
+    alloc: Global,
+    names: &mut Scope,
+    automaton: &Automaton<(), ()>,
+) -> Result<(), Refusal>
+    ensures added { OnOk result (names.new ≡ names.old ++ (automaton_of automaton.now).name ∷ []) }
+    ensures differ { OnOk result (IsDistinct same_name names.old → IsDistinct same_name names.new) }
+    ensures rows { OnOk result (HasNoAutomatonRow (automaton_of automaton.now)) }
+{
     if !names.declare(automaton.name.try_copy(alloc)?)? {
         return Err(Refusal::Row(Row::Twice));
     }
@@ -106,11 +161,11 @@ fn check_placements(alloc: Global, text: &Text<(), ()>) -> Result<System, Refusa
 }
 
 /// The nodes of a text, as declared: at most 64.
-fn nodes_of<'a>(alloc: Global, text: &'a Text<(), ()>) -> Result<Vec<&'a Node>, Refusal>
-    ensures all { IfOk result (λ ns. map (λ n. n.now) ns.items ≡ nodes_in text.now.system.items) }
+fn nodes_of<'a>(alloc: Global, text: &'a Text<(), ()>) -> Result<Vec<&'a Node<(), ()>>, Refusal>
+    ensures all { IfOk result (λ ns. map node_at ns.items ≡ nodes_in (text_of text.now).system) }
     ensures few { IfOk result (λ ns. length ns.items ≤ 64) }
 {
-    let mut nodes: Vec<&'a Node> = Vec::new(alloc);
+    let mut nodes: Vec<&'a Node<(), ()>> = Vec::new(alloc);
     for placement in &text.system {
         if let Placement::Node(node) = placement {
             nodes.push(node)?;
@@ -124,7 +179,7 @@ fn nodes_of<'a>(alloc: Global, text: &'a Text<(), ()>) -> Result<Vec<&'a Node>, 
 
 /// The channels of a text, as declared: at most 256.
 fn channels_of(alloc: Global, text: &Text<(), ()>) -> Result<Vec<Channel>, Refusal>
-    ensures all { IfOk result (λ cs. cs.items ≡ channels_in text.now.system.items) }
+    ensures all { IfOk result (λ cs. cs.items ≡ channels_in (text_of text.now).system) }
     ensures few { IfOk result (λ cs. length cs.items ≤ 256) }
 {
     let mut channels: Vec<Channel> = Vec::new(alloc);
@@ -140,8 +195,8 @@ fn channels_of(alloc: Global, text: &Text<(), ()>) -> Result<Vec<Channel>, Refus
 }
 
 /// Passes where no two nodes have one number.
-fn numbers_differ(nodes: &[&Node]) -> Result<(), Refusal>
-    ensures { OnOk result (IsDistinct spec.same_number (map (λ n. n.now) nodes.now)) }
+fn numbers_differ(nodes: &[&Node<(), ()>]) -> Result<(), Refusal>
+    ensures { OnOk result (IsDistinct spec.same_number (map node_at nodes.now)) }
 {
     for place in 0..nodes.len() {
         let node = nodes[place];
@@ -153,15 +208,15 @@ fn numbers_differ(nodes: &[&Node]) -> Result<(), Refusal>
 }
 
 /// Whether one of these nodes has the number of another.
-fn is_numbered_as(nodes: &[&Node], other: &Node) -> bool
-    ensures { result ≡ list_any (λ n. spec.same_number n other.now) (map (λ n. n.now) nodes.now) }
+fn is_numbered_as(nodes: &[&Node<(), ()>], other: &Node<(), ()>) -> bool
+    ensures { result ≡ list_any (λ n. spec.same_number n (node_of other.now)) (map node_at nodes.now) }
 {
     is_node(nodes, other.number)
 }
 
 /// Whether a number is that of a node.
-fn is_node(nodes: &[&Node], number: i64) -> bool
-    ensures { result ≡ spec.is_node (map (λ n. n.now) nodes.now) number }
+fn is_node(nodes: &[&Node<(), ()>], number: i64) -> bool
+    ensures { result ≡ spec.is_node (map node_at nodes.now) number }
 {
     for node in nodes {
         if node.number == number {
@@ -197,9 +252,9 @@ fn is_channel(channels: &[Channel], channel: &Channel) -> bool
 
 /// Passes where each node's automaton is declared, its sends are from that node and its receives to
 /// it.
-fn check_nodes(text: &Text<(), ()>, nodes: &[&Node]) -> Result<(), Refusal>
-    ensures declared { OnOk result (list_all (spec.is_declared (text_of text.now).declarations) (map (λ n. n.now) nodes.now) ≡ true) }
-    ensures at_home { OnOk result (list_all (spec.has_its_own (text_of text.now).declarations) (map (λ n. n.now) nodes.now) ≡ true) }
+fn check_nodes(text: &Text<(), ()>, nodes: &[&Node<(), ()>]) -> Result<(), Refusal>
+    ensures declared { OnOk result (list_all (spec.is_declared (text_of text.now).declarations) (map node_at nodes.now) ≡ true) }
+    ensures at_home { OnOk result (list_all (spec.has_its_own (text_of text.now).declarations) (map node_at nodes.now) ≡ true) }
 {
     for node in nodes {
         check_node(text, node)?;
@@ -208,9 +263,9 @@ fn check_nodes(text: &Text<(), ()>, nodes: &[&Node]) -> Result<(), Refusal>
 }
 
 /// Passes where a node's automaton is declared, its sends are from that node and its receives to it.
-fn check_node(text: &Text<(), ()>, node: &Node) -> Result<(), Refusal>
-    ensures declared { OnOk result (spec.is_declared (text_of text.now).declarations node.now ≡ true) }
-    ensures at_home { OnOk result (spec.has_its_own (text_of text.now).declarations node.now ≡ true) }
+fn check_node(text: &Text<(), ()>, node: &Node<(), ()>) -> Result<(), Refusal>
+    ensures declared { OnOk result (spec.is_declared (text_of text.now).declarations (node_of node.now) ≡ true) }
+    ensures at_home { OnOk result (spec.has_its_own (text_of text.now).declarations (node_of node.now) ≡ true) }
 {
     match automaton_of_name(&text.declarations, &node.automaton) {
         None => Err(Refusal::Row(Row::Unknown)),
@@ -225,10 +280,14 @@ fn check_node(text: &Text<(), ()>, node: &Node) -> Result<(), Refusal>
 }
 
 /// Passes where each channel joins two nodes and its receiver takes messages of its sender.
-fn check_channels(text: &Text<(), ()>, nodes: &[&Node], channels: &[Channel]) -> Result<(), Refusal>
+fn check_channels(
+    text: &Text<(), ()>,
+    nodes: &[&Node<(), ()>],
+    channels: &[Channel],
+) -> Result<(), Refusal>
     ensures two { OnOk result (list_all spec.joins_two channels.now ≡ true) }
-    ensures ends { OnOk result (list_all (spec.joins_nodes (map (λ n. n.now) nodes.now)) channels.now ≡ true) }
-    ensures inputs { OnOk result (list_all (spec.has_input (text_of text.now).declarations (map (λ n. n.now) nodes.now)) channels.now ≡ true) }
+    ensures ends { OnOk result (list_all (spec.joins_nodes (map node_at nodes.now)) channels.now ≡ true) }
+    ensures inputs { OnOk result (list_all (spec.has_input (text_of text.now).declarations (map node_at nodes.now)) channels.now ≡ true) }
 {
     for channel in channels {
         check_channel(text, nodes, channel)?;
@@ -237,10 +296,14 @@ fn check_channels(text: &Text<(), ()>, nodes: &[&Node], channels: &[Channel]) ->
 }
 
 /// Passes where a channel joins two nodes and its receiver takes messages of its sender.
-fn check_channel(text: &Text<(), ()>, nodes: &[&Node], channel: &Channel) -> Result<(), Refusal>
+fn check_channel(
+    text: &Text<(), ()>,
+    nodes: &[&Node<(), ()>],
+    channel: &Channel,
+) -> Result<(), Refusal>
     ensures two { OnOk result (spec.joins_two channel.now ≡ true) }
-    ensures ends { OnOk result (spec.joins_nodes (map (λ n. n.now) nodes.now) channel.now ≡ true) }
-    ensures inputs { OnOk result (spec.has_input (text_of text.now).declarations (map (λ n. n.now) nodes.now) channel.now ≡ true) }
+    ensures ends { OnOk result (spec.joins_nodes (map node_at nodes.now) channel.now ≡ true) }
+    ensures inputs { OnOk result (spec.has_input (text_of text.now).declarations (map node_at nodes.now) channel.now ≡ true) }
 {
     if channel.from == channel.to {
         return Err(Refusal::Row(Row::SelfChannel));
@@ -258,8 +321,8 @@ fn check_channel(text: &Text<(), ()>, nodes: &[&Node], channel: &Channel) -> Res
 }
 
 /// Whether the receiver of a channel takes messages of its sender.
-fn has_input(text: &Text<(), ()>, nodes: &[&Node], channel: &Channel) -> bool
-    ensures { result ≡ spec.has_input (text_of text.now).declarations (map (λ n. n.now) nodes.now) channel.now }
+fn has_input(text: &Text<(), ()>, nodes: &[&Node<(), ()>], channel: &Channel) -> bool
+    ensures { result ≡ spec.has_input (text_of text.now).declarations (map node_at nodes.now) channel.now }
 {
     for node in nodes {
         if is_receiver(text, node, channel) {
@@ -270,14 +333,14 @@ fn has_input(text: &Text<(), ()>, nodes: &[&Node], channel: &Channel) -> bool
 }
 
 /// Whether a node is the receiver of a channel and takes messages of its sender.
-fn is_receiver(text: &Text<(), ()>, node: &Node, channel: &Channel) -> bool
-    ensures { result ≡ spec.is_receiver (text_of text.now).declarations channel.now node.now }
+fn is_receiver(text: &Text<(), ()>, node: &Node<(), ()>, channel: &Channel) -> bool
+    ensures { result ≡ spec.is_receiver (text_of text.now).declarations channel.now (node_of node.now) }
 {
     node.number == channel.to && node_takes_from(text, node, channel.from)
 }
 
 /// Whether the automaton of a node has a `receive` from a node.
-fn node_takes_from(text: &Text<(), ()>, node: &Node, sender: i64) -> bool
+fn node_takes_from(text: &Text<(), ()>, node: &Node<(), ()>, sender: i64) -> bool
     ensures { result ≡ passes (spec.takes_from sender) (automaton_named node.now.automaton (text_of text.now).declarations) }
 {
     match automaton_of_name(&text.declarations, &node.automaton) {
@@ -289,10 +352,10 @@ fn node_takes_from(text: &Text<(), ()>, node: &Node, sender: i64) -> bool
 /// The automaton that is placed on the node of a number.
 fn automaton_on<'a>(
     text: &'a Text<(), ()>,
-    nodes: &[&'a Node],
+    nodes: &[&'a Node<(), ()>],
     number: i64,
 ) -> Result<&'a Automaton<(), ()>, Refusal>
-    ensures { IfOk result (λ a. (n : Node) × Contains (map (λ n. n.now) nodes.now) n × (n.number ≡ number)
+    ensures { IfOk result (λ a. (n : SourceNode) × Contains (map node_at nodes.now) n × (n.number ≡ number)
         × (automaton_named n.automaton (map declaration_of text.entry.now.declarations.items)
         ≡ Some (automaton_of a.now))) }
 {
@@ -306,9 +369,9 @@ fn automaton_on<'a>(
 }
 
 /// The node of a number.
-fn node_of<'a>(nodes: &[&'a Node], number: i64) -> Option<&'a Node>
+fn node_of<'a>(nodes: &[&'a Node<(), ()>], number: i64) -> Option<&'a Node<(), ()>>
     ensures number { IfSome result (λ n. n.now.number ≡ number) }
-    ensures declared { IfSome result (λ n. Contains (map (λ n. n.now) nodes.now) n.now) }
+    ensures declared { IfSome result (λ n. Contains (map node_at nodes.now) (node_at n)) }
 {
     for node in nodes {
         if node.number == number {
@@ -327,9 +390,10 @@ fn automaton_of_name<'a>(
         ≡ automaton_named name.now (map declaration_of declarations.entry.now) }
 {
     for declaration in declarations {
-        let Declaration::Automaton(automaton) = declaration;
-        if automaton.name == *name {
-            return Some(automaton);
+        if let Declaration::Automaton(automaton) = declaration {
+            if automaton.name == *name {
+                return Some(automaton);
+            }
         }
     }
     None
@@ -339,9 +403,9 @@ fn automaton_of_name<'a>(
 fn programs_of(
     alloc: Global,
     text: &Text<(), ()>,
-    nodes: &[&Node],
+    nodes: &[&Node<(), ()>],
 ) -> Result<Vec<Arc<Program>>, Refusal>
-    requires { map (λ n. n.now) nodes.now ≡ nodes_in text.now.system.items }
+    requires { map node_at nodes.now ≡ nodes_in (text_of text.now).system }
     ensures nodes { IfOk result (λ ps. AreNodesOf (text_of text.now) 0 (map arc_value ps.items)) }
     ensures many { IfOk result (λ ps. length ps.items ≡ length nodes.now) }
 {
@@ -357,10 +421,10 @@ fn programs_of(
 fn node_program(
     alloc: Global,
     text: &Text<(), ()>,
-    nodes: &[&Node],
+    nodes: &[&Node<(), ()>],
     place: usize,
 ) -> Result<Arc<Program>, Refusal>
-    requires nodes { map (λ n. n.now) nodes.now ≡ nodes_in text.now.system.items }
+    requires nodes { map node_at nodes.now ≡ nodes_in (text_of text.now).system }
     requires small { place < 2 ^ 63 }
     ensures { IfOk result (λ p. IsNodeOf (text_of text.now) place (arc_value p)) }
 {
@@ -415,7 +479,7 @@ fn is_constant(parameter: &Parameter<(), ()>, number: i64) -> bool
             Tree::Number(n) => *n == number,
             _ => false,
         },
-        Parameter::Declared(_, _) => false,
+        Parameter::Declared(_) => false,
     }
 }
 
@@ -430,3 +494,6 @@ fn takes_from(automaton: &Automaton<(), ()>, sender: i64) -> bool
     }
     false
 }
+
+#[cfg(test)]
+mod tests;

@@ -3,6 +3,7 @@
 
 mod building;
 mod checking;
+mod first_form;
 mod placing;
 mod program;
 mod refusal;

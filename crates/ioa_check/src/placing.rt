@@ -5,20 +5,23 @@ ghost use Rattle.std.specs.List.{AllByRecursion, list_all, list_any};
 ghost use Rattle.std.specs.Option.{option_map, is_some};
 ghost use Rattle.ioa_source.specs.PlainTerm as plain;
 ghost use Rattle.ioa_source.specs.View.{term_of, place_of, statement_of};
-ghost use Rattle.ioa_source.specs.TextView.{parameter_of, entry_of, variable_of, transition_of};
-ghost use Rattle.ioa_source.specs.Erasure.{erase_term, erase_place, erase_statement, erase_parameter, erase_entry, erase_variable};
+ghost use Rattle.ioa_source.specs.SortView.{sort_of};
+ghost use Rattle.ioa_source.specs.TextView.{declared_of, parameter_of, entry_of, variable_of, transition_of};
+ghost use Rattle.ioa_source.specs.Erasure.{erase_declared, erase_term, erase_place, erase_statement, erase_parameter, erase_entry, erase_variable};
 ghost use Rattle.ioa_terms.specs.Placed.{IsPlaced, IsPlacedPlace, IsPlacedStatement, ArePlaced};
 ghost use Rattle.ioa_terms.specs.Bindings.{same_name};
 ghost use Rattle.ioa_terms.specs.Performance.{target_shape};
 ghost use Rattle.ioa_operators.specs.Shapes.{integers};
+ghost use Rattle.ioa_operators.specs.ShapeView.{shape_of};
 ghost use Rattle.ioa_check.specs.Placed.{IsPlacedGuard, IsPlacedParameter, ArePlacedParameters, ArePlacedTerms, IsPlacedFiring, ArePlacedFirings, ArePlacedVariables};
-ghost use Rattle.ioa_check.specs.Made.{AssignsInteger};
-ghost use Rattle.ioa_check.specs.FirstSorts.{is_first, is_number, is_guard};
+ghost use Rattle.ioa_check.specs.Made.{AssignsInteger, HasItsShape, HasParameterShape, IsShapeOf};
+ghost use Rattle.ioa_check.specs.FirstSorts.{is_number, is_guard};
 ghost use Rattle.ioa_check.specs.Rows.{reads_only, reads_no_name, guard_reads_only, writes_only, assigns_only, assigns_number, fires_only, fires_numbers, is_number_constant, is_number_term, is_guard_or_none};
 
+use crate::first_form::is_first_operator;
 use crate::refusal::{Refusal, Row};
 use crate::scope::Scope;
-use ioa_source::{Entry, Parameter, Variable};
+use ioa_source::{Declared, Entry, Parameter, Sort, Variable};
 use ioa_terms::{BinaryOperator, Checked, Place, Shape, Statement, Term, Word};
 use std::alloc::Global;
 
@@ -32,7 +35,7 @@ pub(crate) fn place_term(alloc: Global, scope: &Scope, term: &Term) -> Result<Ch
         Term::Number(n) => Ok(Checked::Number(*n)),
         Term::Name(name, _) => place_name(alloc, scope, name),
         Term::Two(operator, a, b) => {
-            if !is_first(*operator) {
+            if !is_first_operator(*operator) {
                 return Err(Refusal::Row(Row::Unknown));
             }
             let left = place_term(alloc, scope, a)?;
@@ -228,6 +231,27 @@ pub(crate) fn place_schedule(
     Ok(placed)
 }
 
+/// The shape of a sort of the first form.
+fn shape_of_sort(sort: &Sort) -> Result<Shape, Refusal>
+    ensures { IfOk result (λ s. IsShapeOf (sort_of sort.now) (shape_of s)) }
+{
+    match sort {
+        Sort::Int => Ok(Shape::Integers),
+        _ => Err(Refusal::Row(Row::Unknown)),
+    }
+}
+
+/// A declared name, with its sort's shape beside it.
+fn place_declared(alloc: Global, declared: &Declared<()>) -> Result<Declared<Shape>, Refusal>
+    ensures same { IfOk result (λ d. erase_declared (declared_of d) ≡ declared_of declared.now) }
+    ensures shape { IfOk result (λ d. HasItsShape (declared_of d)) }
+{
+    let shape = shape_of_sort(&declared.sort)?;
+    let name = declared.name.try_copy(alloc)?;
+    let sort = declared.sort.try_copy(alloc)?;
+    Ok(Declared { name, sort, shape })
+}
+
 /// A parameter; a constant one reads no name.
 fn place_parameter(
     alloc: Global,
@@ -235,6 +259,7 @@ fn place_parameter(
 ) -> Result<Parameter<usize, Shape>, Refusal>
     ensures same { IfOk result (λ p. erase_parameter (parameter_of p) ≡ parameter_of parameter.now) }
     ensures placed { IfOk result (λ p. IsPlacedParameter (parameter_of p)) }
+    ensures shape { IfOk result (λ p. HasParameterShape (parameter_of p)) }
     ensures number { OnOk result (is_number_constant (parameter_of parameter.now) ≡ true) }
     ensures names { OnOk result (reads_no_name (parameter_of parameter.now) ≡ true) }
 {
@@ -246,7 +271,9 @@ fn place_parameter(
             }
             Ok(Parameter::Const(placed))
         }
-        Parameter::Declared(name, sort) => Ok(Parameter::Declared(name.try_copy(alloc)?, *sort)),
+        Parameter::Declared(declared) => {
+            Ok(Parameter::Declared(place_declared(alloc, declared)?))
+        }
     }
 }
 
@@ -258,6 +285,7 @@ fn place_parameters(
 ) -> Result<Vec<Parameter<usize, Shape>>, Refusal>
     ensures same { IfOk result (λ ps. map erase_parameter (map parameter_of ps.items) ≡ map parameter_of parameters.now) }
     ensures placed { IfOk result (λ ps. ArePlacedParameters (map parameter_of ps.items)) }
+    ensures shapes { IfOk result (λ ps. AllByRecursion HasParameterShape (map parameter_of ps.items)) }
     ensures numbers { OnOk result (list_all is_number_constant (map parameter_of parameters.now) ≡ true) }
     ensures names { OnOk result (list_all reads_no_name (map parameter_of parameters.now) ≡ true) }
 {
@@ -268,6 +296,16 @@ fn place_parameters(
     Ok(placed)
 }
 
+/// The condition of an entry, which the first form has not.
+fn place_condition(condition: &Option<Term>) -> Result<Option<Checked>, Refusal>
+    ensures { IfOk result (λ t. option_map erase_term (option_map term_of t) ≡ option_map term_of condition.now) }
+{
+    match condition {
+        None => Ok(None),
+        Some(_) => Err(Refusal::Row(Row::Unknown)),
+    }
+}
+
 /// An entry of a signature.
 pub(crate) fn place_entry(
     alloc: Global,
@@ -275,15 +313,18 @@ pub(crate) fn place_entry(
 ) -> Result<Entry<usize, Shape>, Refusal>
     ensures same { IfOk result (λ e. erase_entry (entry_of e) ≡ entry_of entry.now) }
     ensures placed { IfOk result (λ e. ArePlacedParameters (entry_of e).parameters) }
+    ensures shapes { IfOk result (λ e. AllByRecursion HasParameterShape (entry_of e).parameters) }
     ensures numbers { OnOk result (list_all is_number_constant (entry_of entry.now).parameters ≡ true) }
     ensures names { OnOk result (list_all reads_no_name (entry_of entry.now).parameters ≡ true) }
 {
     let name = entry.name.try_copy(alloc)?;
     let parameters = place_parameters(alloc, &entry.parameters)?;
+    let condition = place_condition(&entry.condition)?;
     Ok(Entry {
         kind: entry.kind,
         name,
         parameters,
+        condition,
     })
 }
 
@@ -294,6 +335,7 @@ fn place_variable(
 ) -> Result<Variable<usize, Shape>, Refusal>
     ensures same { IfOk result (λ v. erase_variable (variable_of v) ≡ variable_of variable.now) }
     ensures placed { IfOk result (λ v. IsPlacedGuard (variable_of v).initial []) }
+    ensures shape { IfOk result (λ v. HasItsShape (variable_of v).declared) }
     ensures initial { OnOk result (is_some (variable_of variable.now).initial ≡ true) }
     ensures number { OnOk result (is_number_term (variable_of variable.now).initial ≡ true) }
     ensures names { OnOk result (guard_reads_only [] (variable_of variable.now).initial ≡ true) }
@@ -305,9 +347,9 @@ fn place_variable(
     if !is_number(initial) {
         return Err(Refusal::Row(Row::Sorts));
     }
+    let declared = place_declared(alloc, &variable.declared)?;
     Ok(Variable {
-        name: variable.name.try_copy(alloc)?,
-        sort: variable.sort,
+        declared,
         initial: Some(placed),
     })
 }
@@ -320,6 +362,7 @@ pub(crate) fn place_variables(
 ) -> Result<Vec<Variable<usize, Shape>>, Refusal>
     ensures same { IfOk result (λ vs. map erase_variable (map variable_of vs.items) ≡ map variable_of variables.now) }
     ensures placed { IfOk result (λ vs. ArePlacedVariables (map variable_of vs.items)) }
+    ensures shapes { IfOk result (λ vs. AllByRecursion (λ v. HasItsShape v.declared) (map variable_of vs.items)) }
     ensures initials { OnOk result (list_all (λ v. is_some v.initial) (map variable_of variables.now) ≡ true) }
     ensures numbers { OnOk result (list_all (λ v. is_number_term v.initial) (map variable_of variables.now) ≡ true) }
     ensures names { OnOk result (list_all (λ v. guard_reads_only [] v.initial) (map variable_of variables.now) ≡ true) }
@@ -367,16 +410,6 @@ fn is_guard(term: &Term) -> bool
             BinaryOperator::Equal => is_number(a) && is_number(b),
             _ => false,
         },
-        _ => false,
-    }
-}
-
-/// Whether an operator is of the first form.
-fn is_first(operator: BinaryOperator) -> bool
-    ensures { result ≡ is_first operator }
-{
-    match operator {
-        BinaryOperator::Plus | BinaryOperator::Equal => true,
         _ => false,
     }
 }

@@ -7,7 +7,8 @@ use thiserror::Error;
 /// What is wrong with a text that is spelled as the language asks (profile).
 #[derive(Clone, Copy, Debug, PartialEq, Eq)]
 pub enum Row {
-    /// 20: a name, an action of that kind, or a node is not declared, or may not be assigned there.
+    /// 20: a name, an action of that kind, or a node is not declared, or may not be assigned there; or what stands
+    /// there is not of the first form.
     Unknown,
     /// 21: a second automaton, variable, parameter, entry, transition, node or channel of one name.
     Twice,
@@ -78,7 +79,7 @@ impl fmt::Display for Row {
 #[derive(Debug, Drop, Error)]
 pub enum CheckFault {
     /// 20 to 34: a row stands in the top declaration of this place, counted from 0; the system comes
-    /// after the automata.
+    /// after the others.
     #[error("{row} in {place}")]
     Refused {
         /// Which row.

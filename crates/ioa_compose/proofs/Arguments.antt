@@ -48,8 +48,8 @@ own_values_named [] [] h = refl
 own_values_named [] (v ∷ vs) h = absurd (cc)
 own_values_named (p ∷ ps) [] h = absurd (cc)
 own_values_named (const t ∷ ps) (v ∷ vs) h = own_values_named ps vs (second_true (parameter_agrees (const t) v) (arguments_agree ps vs) h)
-own_values_named (named x s ∷ ps) (v ∷ vs) h =
-    let more = own_values_named ps vs (second_true (parameter_agrees (named x s) v) (arguments_agree ps vs) h) in omega arith
+own_values_named (named d ∷ ps) (v ∷ vs) h =
+    let more = own_values_named ps vs (second_true (parameter_agrees (named d) v) (arguments_agree ps vs) h) in omega arith
 
 -- an action that is one of an entry's gives a value to each name in view
 pub named_scope : (e : CheckedEntry) (variables : List CheckedVariable) (vs : List Data) (a : Action) → entry_agrees a e ≡ true → length vs ≡ length variables → length (scope_of e variables) ≡ length (vs ++ own_values e.parameters (action_arguments a))
@@ -58,5 +58,5 @@ named_scope e variables vs a h n =
     let own = own_values_named e.parameters (action_arguments a) agree in
     let left = length-append (variable_names variables) (own_names e.parameters) in
     let right = length-append vs (own_values e.parameters (action_arguments a)) in
-    let many = length-map variables (λ (v : CheckedVariable). v.name) in
+    let many = length-map variables (λ (v : CheckedVariable). v.declared.name) in
     omega arith

@@ -4,7 +4,6 @@ use Rattle.std.specs.List.{zip}
 use Rattle.ioa_compose.specs.Data.{Data, number, as_truth}
 use Rattle.ioa_compose.specs.Outcome.{and_then}
 use Rattle.ioa_values.specs.DataOrder.{same}
-use Rattle.ioa_values.specs.Sorts.{has_sort}
 use Rattle.ioa_terms.specs.Bindings.{Bindings, same_name}
 use Rattle.ioa_terms.specs.Meaning.{answer}
 use Rattle.ioa_terms.specs.Performance.{answer_by}
@@ -12,6 +11,8 @@ use Rattle.ioa_terms.specs.declared.tree.Kind.{Kind}
 use Rattle.ioa_terms.specs.declared.tree.Kind.TheVariants.{Input, Output, Internal}
 use Rattle.ioa_terms.specs.declared.action.Action.{Action}
 use Rattle.ioa_terms.specs.declared.action.Action.TheVariants.{Send, Receive, Local, Stimulus}
+use Rattle.ioa_operators.specs.Shapes.{has_shape}
+use Rattle.ioa_operators.specs.ShapeView.{shape_of}
 use Rattle.ioa_operators.specs.declared.fault.TermFault.{TermFault}
 use Rattle.ioa_source.specs.PlainText.{const, named}
 use Rattle.ioa_source.specs.TextView.{entry_of, transition_of, variable_of}
@@ -59,10 +60,10 @@ abbrev pub is_constant : Result Data TermFault → Data → Bool
 is_constant (Ok u) v = same u v
 is_constant (Err f) v = false
 
--- whether a value fits a parameter: it is the constant, or has the sort
+-- whether a value fits a parameter: it is the constant, or has the shape of the sort
 abbrev pub parameter_agrees : CheckedParameter → Data → Bool
 parameter_agrees (const t) v = is_constant (answer t []) v
-parameter_agrees (named x s) v = has_sort s v
+parameter_agrees (named d) v = has_shape (shape_of d.shape) v
 
 -- whether arguments fit an entry's parameters: as many, and each fits its own
 abbrev pub arguments_agree : List CheckedParameter → List Data → Bool
@@ -78,7 +79,7 @@ entry_agrees a e = same_name e.name (action_name a) && (kind_agrees a e.kind && 
 -- the argument of a parameter that has a name of its own
 abbrev pub own_value : CheckedParameter → Data → List Data
 own_value (const t) v = []
-own_value (named x s) v = v ∷ []
+own_value (named d) v = v ∷ []
 
 -- the arguments that have names of their own
 abbrev pub own_values : List CheckedParameter → List Data → List Data

@@ -94,7 +94,7 @@ fn parameter_agrees(
 {
     match parameter {
         Parameter::Const(term) => is_constant(alloc, term, value),
-        Parameter::Declared(_, sort) => Ok(value.has_sort(*sort)),
+        Parameter::Declared(declared) => Ok(declared.shape.admits(value)),
     }
 }
 
@@ -273,7 +273,7 @@ fn push_own(
 {
     match parameter {
         Parameter::Const(_) => Ok(()),
-        Parameter::Declared(_, _) => {
+        Parameter::Declared(_) => {
             values.push(argument.try_copy(alloc)?)?;
             Ok(())
         }

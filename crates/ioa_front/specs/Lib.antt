@@ -1,7 +1,3 @@
--- what the contracts of this crate and of those above it cite
-pub mod Calls
-pub mod Grammar
-pub mod Outcome
-pub mod Parsing
-pub mod Reading
-pub mod Texts
+-- how texts are read, which the crates above cite here
+pub use Rattle.ioa_text_reader.specs.Grammar
+pub use Rattle.ioa_text_reader.specs.Texts

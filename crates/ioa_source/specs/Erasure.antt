@@ -1,10 +1,10 @@
--- A checked text without what stands beside its names, displays, fields and assigned variables: the text as it is
--- spelled.
+-- A checked text without what stands beside its names, displays, fields, assigned variables and declared sorts: the text
+-- as it is spelled.
 use Rattle.std.specs.Prelude.{map}
 use Rattle.std.specs.Option.{option_map}
 use Rattle.ioa_source.specs.PlainTerm.{PlainTerm, PlainTerms, number, truth, name, one, two, call, display, field, no_terms, term, PlainPlace, variable, at_key, at_field, PlainStatement, PlainStatements, PlainArms, assign, choose, fire, no_statements, statement, no_arms, arm}
-use Rattle.ioa_source.specs.PlainText.{PlainParameter, const, named, PlainEntry, PlainVariable, PlainTransition, PlainAutomaton, PlainDeclaration, automaton, PlainText}
-use Rattle.ioa_source.specs.Sides.{SourceTerm, SourceTerms, SourcePlace, SourceStatement, SourceStatements, SourceArms, SourceParameter, SourceEntry, SourceVariable, SourceTransition, SourceAutomaton, SourceDeclaration, SourceText}
+use Rattle.ioa_source.specs.PlainText.{PlainDeclared, PlainParameter, const, named, PlainEntry, PlainVariable, PlainTransition, PlainAutomaton, PlainForm, enumeration, tuple_of, PlainType, PlainDeclaration, type_named, automaton, PlainNode, PlainPlacement, node, channel, PlainText}
+use Rattle.ioa_source.specs.Sides.{SourceTerm, SourceTerms, SourcePlace, SourceStatement, SourceStatements, SourceArms, SourceDeclared, SourceParameter, SourceEntry, SourceVariable, SourceTransition, SourceAutomaton, SourceForm, SourceType, SourceDeclaration, SourceNode, SourcePlacement, SourceText}
 
 abbrev mutual
   -- a term without annotations
@@ -42,15 +42,18 @@ abbrev mutual
   erase_arms no_arms = no_arms
   erase_arms (arm t ss more) = arm (erase_term t) (erase_statements ss) (erase_arms more)
 
+abbrev pub erase_declared : {D : Type 0} → PlainDeclared D → SourceDeclared
+erase_declared d = record { name = d.name; sort = d.sort; shape = tt }
+
 abbrev pub erase_parameter : {N D : Type 0} → PlainParameter N D → SourceParameter
 erase_parameter (const t) = const (erase_term t)
-erase_parameter (named w s) = named w s
+erase_parameter (named d) = named (erase_declared d)
 
 abbrev pub erase_entry : {N D : Type 0} → PlainEntry N D → SourceEntry
-erase_entry e = record { kind = e.kind; name = e.name; parameters = map erase_parameter e.parameters }
+erase_entry e = record { kind = e.kind; name = e.name; parameters = map erase_parameter e.parameters; condition = option_map erase_term e.condition }
 
 abbrev pub erase_variable : {N D : Type 0} → PlainVariable N D → SourceVariable
-erase_variable v = record { name = v.name; sort = v.sort; initial = option_map erase_term v.initial }
+erase_variable v = record { declared = erase_declared v.declared; initial = option_map erase_term v.initial }
 
 abbrev pub erase_transition : {N D : Type 0} → PlainTransition N D → SourceTransition
 erase_transition t = record {
@@ -64,14 +67,30 @@ erase_transition t = record {
 abbrev pub erase_automaton : {N D : Type 0} → PlainAutomaton N D → SourceAutomaton
 erase_automaton a = record {
   name = a.name;
+  parameters = map erase_declared a.parameters;
   signature = map erase_entry a.signature;
   states = map erase_variable a.states;
   transitions = map erase_transition a.transitions;
   schedule = map erase_statement a.schedule;
 }
 
+abbrev pub erase_form : {D : Type 0} → PlainForm D → SourceForm
+erase_form (enumeration ws) = enumeration ws
+erase_form (tuple_of ds) = tuple_of (map erase_declared ds)
+
+abbrev pub erase_type : {D : Type 0} → PlainType D → SourceType
+erase_type t = record { name = t.name; form = erase_form t.form }
+
 abbrev pub erase_declaration : {N D : Type 0} → PlainDeclaration N D → SourceDeclaration
+erase_declaration (type_named t) = type_named (erase_type t)
 erase_declaration (automaton a) = automaton (erase_automaton a)
 
+abbrev pub erase_node : {N D : Type 0} → PlainNode N D → SourceNode
+erase_node n = record { number = n.number; automaton = n.automaton; arguments = map erase_term n.arguments }
+
+abbrev pub erase_placement : {N D : Type 0} → PlainPlacement N D → SourcePlacement
+erase_placement (node n) = node (erase_node n)
+erase_placement (channel c) = channel c
+
 abbrev pub erase : {N D : Type 0} → PlainText N D → SourceText
-erase t = record { declarations = map erase_declaration t.declarations; system = t.system }
+erase t = record { declarations = map erase_declaration t.declarations; system = map erase_placement t.system }

@@ -1,26 +1,32 @@
--- What a text declares, without where it lies in memory. `N` stands beside a name, `D` beside a display, a field and an
--- assigned variable.
-use Rattle.std.specs.Prelude.{ℕ, List, Option}
-use Rattle.ioa_values.specs.declared.sort.Sort.{Sort}
+-- What a text declares, without where it lies in memory. `N` stands beside a name, `D` beside a display, a field, an
+-- assigned variable and a declared sort.
+use Rattle.std.specs.Prelude.{ℕ, ℤ, List, Option}
 use Rattle.ioa_terms.specs.declared.tree.Kind.{Kind}
 use Rattle.ioa_source.specs.PlainTerm.{PlainTerm, PlainStatement}
-use Rattle.ioa_source.specs.declared.declaration.Placement.{Placement}
+use Rattle.ioa_source.specs.PlainSort.{PlainSort}
+use Rattle.ioa_source.specs.declared.declaration.Channel.{Channel}
+
+-- a name for any value of a sort
+pub record PlainDeclared (D : Type 0) : Type 0 where
+  pub name : List ℕ
+  pub sort : PlainSort
+  pub shape : D
 
 -- a parameter of an entry: a term whose value the argument has to be, or a name for any value of a sort
 pub data PlainParameter (N D : Type 0) : Type 0 where
   const : PlainTerm N D → PlainParameter N D
-  named : List ℕ → Sort → PlainParameter N D
+  named : PlainDeclared D → PlainParameter N D
 
--- an entry of a signature
+-- an entry of a signature, with the condition behind `where`, where one is written
 pub record PlainEntry (N D : Type 0) : Type 0 where
   pub kind : Kind
   pub name : List ℕ
   pub parameters : List (PlainParameter N D)
+  pub condition : Option (PlainTerm N D)
 
 -- a state variable, with the term of its value in the start state, where one is written
 pub record PlainVariable (N D : Type 0) : Type 0 where
-  pub name : List ℕ
-  pub sort : Sort
+  pub declared : PlainDeclared D
   pub initial : Option (PlainTerm N D)
 
 -- a transition
@@ -34,16 +40,39 @@ pub record PlainTransition (N D : Type 0) : Type 0 where
 -- an automaton with its schedule block
 pub record PlainAutomaton (N D : Type 0) : Type 0 where
   pub name : List ℕ
+  pub parameters : List (PlainDeclared D)
   pub signature : List (PlainEntry N D)
   pub states : List (PlainVariable N D)
   pub transitions : List (PlainTransition N D)
   pub schedule : List (PlainStatement N D)
 
+-- what a type's values are: the constants of these names, or a value for each of these fields
+pub data PlainForm (D : Type 0) : Type 0 where
+  enumeration : List (List ℕ) → PlainForm D
+  tuple_of : List (PlainDeclared D) → PlainForm D
+
+-- a name for an enumeration or a tuple type
+pub record PlainType (D : Type 0) : Type 0 where
+  pub name : List ℕ
+  pub form : PlainForm D
+
 -- what stands before the system
 pub data PlainDeclaration (N D : Type 0) : Type 0 where
+  type_named : PlainType D → PlainDeclaration N D
   automaton : PlainAutomaton N D → PlainDeclaration N D
+
+-- an automaton placed on a node, with the values of its parameters
+pub record PlainNode (N D : Type 0) : Type 0 where
+  pub number : ℤ
+  pub automaton : List ℕ
+  pub arguments : List (PlainTerm N D)
+
+-- what stands in the system section
+pub data PlainPlacement (N D : Type 0) : Type 0 where
+  node : PlainNode N D → PlainPlacement N D
+  channel : Channel → PlainPlacement N D
 
 -- a whole text
 pub record PlainText (N D : Type 0) : Type 0 where
   pub declarations : List (PlainDeclaration N D)
-  pub system : List Placement
+  pub system : List (PlainPlacement N D)

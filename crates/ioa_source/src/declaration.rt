@@ -1,8 +1,20 @@
 //! What a text declares. `N` stands beside each name that a term or a place reads: nothing in a text,
-//! the place of its value in a checked system. `D` stands beside a display, a field and an assigned
-//! variable: nothing in a text, a shape in a checked system.
+//! the place of its value in a checked system. `D` stands beside a display, a field, an assigned
+//! variable and a declared sort: nothing in a text, a shape in a checked system.
 
-use ioa_terms::{Kind, Sort, Statement, Tree, Word};
+use crate::sort::Sort;
+use ioa_terms::{Kind, Statement, Tree, Word};
+
+/// `x: S`: a name for any value of a sort.
+#[derive(Drop)]
+pub struct Declared<D> {
+    /// The name.
+    pub name: Word,
+    /// The sort of its values, as it is spelled.
+    pub sort: Sort,
+    /// What the sort stands for, where it is known.
+    pub shape: D,
+}
 
 /// A parameter of a signature's entry (profile).
 #[derive(Drop)]
@@ -10,7 +22,7 @@ pub enum Parameter<N, D> {
     /// A term whose value the argument has to be.
     Const(Tree<N, D>),
     /// A name for any value of a sort.
-    Declared(Word, Sort),
+    Declared(Declared<D>),
 }
 
 /// An entry of a signature: the actions of one name (Lynch 8.1).
@@ -22,15 +34,15 @@ pub struct Entry<N, D> {
     pub name: Word,
     /// What their arguments are.
     pub parameters: Vec<Parameter<N, D>>,
+    /// Which of them the actions are, where it is written: behind `where`.
+    pub condition: Option<Tree<N, D>>,
 }
 
 /// A state variable.
 #[derive(Drop)]
 pub struct Variable<N, D> {
-    /// Its name.
-    pub name: Word,
-    /// Its sort.
-    pub sort: Sort,
+    /// Its name and sort.
+    pub declared: Declared<D>,
     /// The term of its value in the start state, where one is written.
     pub initial: Option<Tree<N, D>>,
 }
@@ -55,6 +67,8 @@ pub struct Transition<N, D> {
 pub struct Automaton<N, D> {
     /// Its name.
     pub name: Word,
+    /// Its parameters, which a node gives values.
+    pub parameters: Vec<Declared<D>>,
     /// The entries of its signature.
     pub signature: Vec<Entry<N, D>>,
     /// Its state variables.
@@ -65,20 +79,42 @@ pub struct Automaton<N, D> {
     pub schedule: Vec<Statement<N, D>>,
 }
 
+/// What a type's values are.
+#[derive(Drop)]
+pub enum TypeForm<D> {
+    /// The constants of these names.
+    Enumeration(Vec<Word>),
+    /// A value for each of these fields.
+    Tuple(Vec<Declared<D>>),
+}
+
+/// `type T = ..`: a name for an enumeration or a tuple type.
+#[derive(Drop)]
+pub struct TypeDeclaration<D> {
+    /// The type's name.
+    pub name: Word,
+    /// What its values are.
+    pub form: TypeForm<D>,
+}
+
 /// What stands in a text before its system.
 #[derive(Drop)]
 pub enum Declaration<N, D> {
+    /// A type.
+    Type(TypeDeclaration<D>),
     /// An automaton.
     Automaton(Automaton<N, D>),
 }
 
-/// `node k: A`: an automaton placed on a node.
-#[derive(Debug, Drop)]
-pub struct Node {
+/// `node k: A(t, u)`: an automaton placed on a node.
+#[derive(Drop)]
+pub struct Node<N, D> {
     /// The node's number.
     pub number: i64,
     /// The automaton's name.
     pub automaton: Word,
+    /// The values of the automaton's parameters.
+    pub arguments: Vec<Tree<N, D>>,
 }
 
 /// `channel i -> j`: a reliable FIFO channel (Lynch 14.1).
@@ -91,10 +127,10 @@ pub struct Channel {
 }
 
 /// What stands in the system section.
-#[derive(Debug, Drop)]
-pub enum Placement {
+#[derive(Drop)]
+pub enum Placement<N, D> {
     /// A node.
-    Node(Node),
+    Node(Node<N, D>),
     /// A channel.
     Channel(Channel),
 }
@@ -105,5 +141,5 @@ pub struct Text<N, D> {
     /// What it declares before the system, in order.
     pub declarations: Vec<Declaration<N, D>>,
     /// What the system section places, in order.
-    pub system: Vec<Placement>,
+    pub system: Vec<Placement<N, D>>,
 }

@@ -1,8 +1,11 @@
-//! Texts as trees: automata with their schedules, and the system that places them.
+//! Texts as trees: types, automata with their schedules, and the system that places them.
 #![tactic(auto)]
 
 mod declaration;
+mod sort;
 
 pub use declaration::{
-    Automaton, Channel, Declaration, Entry, Node, Parameter, Placement, Text, Transition, Variable,
+    Automaton, Channel, Declaration, Declared, Entry, Node, Parameter, Placement, Text, Transition,
+    TypeDeclaration, TypeForm, Variable,
 };
+pub use sort::Sort;

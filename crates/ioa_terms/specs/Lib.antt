@@ -3,7 +3,6 @@ pub use Rattle.ioa_values.specs.Collections
 pub use Rattle.ioa_values.specs.Data
 pub use Rattle.ioa_values.specs.DataOrder
 pub use Rattle.ioa_values.specs.Outcome
-pub use Rattle.ioa_values.specs.Sorts
 pub use Rattle.ioa_values.specs.Text
 pub use Rattle.ioa_operators.specs.Canonical
 pub use Rattle.ioa_operators.specs.Judged

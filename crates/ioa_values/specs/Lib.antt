@@ -9,5 +9,4 @@ pub mod Node
 pub mod NodeFalls
 pub mod Outcome
 pub mod Places
-pub mod Sorts
 pub mod Text

@@ -1,13 +1,11 @@
-//! Words, values and sorts of the language, and the words in which every contract tells an outcome.
+//! Words and values of the language, and the words in which every contract tells an outcome.
 #![tactic(auto)]
 
 pub mod collections;
 mod names;
-mod sort;
 mod value;
 mod word;
 
 pub use names::{Names, push_shown, show};
-pub use sort::Sort;
 pub use value::{Node, Value};
 pub use word::Word;

@@ -4,9 +4,7 @@ ghost use Rattle.std.specs.Prelude.{◌≡◌, ◌↔◌, IfOk, IsTrue, true};
 ghost use Rattle.std.specs.Ordering.{ordering_then};
 ghost use Rattle.ioa_values.specs.Data.{number, truth, constant, tuple, sequence, items_of, entries_of, as_number, as_truth, is_within};
 ghost use Rattle.ioa_values.specs.DataOrder.{same, data_cmp, items_cmp, entries_cmp, kind};
-ghost use Rattle.ioa_values.specs.Sorts.{has_sort};
 
-use crate::sort::Sort;
 use std::alloc::{AllocError, Global};
 use std::cmp::Ordering;
 use std::marker::Model;
@@ -124,15 +122,6 @@ impl Value {
         match &self.node {
             Node::Truth(b) => Some(*b),
             _ => None,
-        }
-    }
-
-    /// Whether the value has a sort.
-    pub fn has_sort(&self, sort: Sort) -> bool
-        ensures { result ≡ has_sort sort self.now }
-    {
-        match sort {
-            Sort::Int => self.as_number().is_some(),
         }
     }
 

@@ -38,7 +38,7 @@ variable_line names i x v =
 abbrev pub variable_lines : List (List ℕ) → ℤ → List Data → List (Variable ℕ Shape) → List ℕ
 variable_lines names i [] xs = []
 variable_lines names i (v ∷ vs) [] = []
-variable_lines names i (v ∷ vs) (x ∷ xs) = variable_line names i x.name v ++ variable_lines names i vs xs
+variable_lines names i (v ∷ vs) (x ∷ xs) = variable_line names i x.declared.name v ++ variable_lines names i vs xs
 
 -- an item of a queue
 abbrev pub item_text : List (List ℕ) → Item → List ℕ

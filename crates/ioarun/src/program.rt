@@ -80,7 +80,9 @@ fn show_front_fault<W: fmt::Write>(fault: &FrontFault, f: &mut fmt::Formatter<W>
         FrontFault::BadCharacter(place) => write!(f, "refused 11 BadCharacter at {place}"),
         FrontFault::Unexpected(place) => write!(f, "refused 12 Unexpected at {place}"),
         FrontFault::NumberTooLarge(place) => write!(f, "refused 13 NumberTooLarge at {place}"),
+        FrontFault::TooDeep(place) => write!(f, "refused 14 TooDeep at {place}"),
         FrontFault::TooLong => write!(f, "refused 15 TooLong at 1048576"),
+        FrontFault::LeftOut(place) => write!(f, "refused 16 LeftOut at {place}"),
         FrontFault::Memory => write!(f, "refused 3 Memory"),
     }
 }

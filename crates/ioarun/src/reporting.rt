@@ -112,7 +112,14 @@ fn push_variables(
         let Some(variable) = variables.get(place) else {
             return Ok(());
         };
-        push_variable(alloc, names, node, variable.name.as_str(), value, report)?;
+        push_variable(
+            alloc,
+            names,
+            node,
+            variable.declared.name.as_str(),
+            value,
+            report,
+        )?;
     }
     Ok(())
 }

@@ -76,7 +76,7 @@ fn names_of(alloc: Global, variables: &[Variable<usize, Shape>]) -> Result<Vec<W
 {
     let mut names = Vec::new(alloc);
     for variable in variables {
-        names.push(variable.name.try_copy(alloc)?)?;
+        names.push(variable.declared.name.try_copy(alloc)?)?;
     }
     Ok(names)
 }

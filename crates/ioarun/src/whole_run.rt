@@ -15,7 +15,7 @@ use thiserror::Error;
 /// Why a whole run wrote no report.
 #[derive(Debug, Drop, Error)]
 pub enum RunFault {
-    /// 10 to 15: the text has no source.
+    /// 10 to 16: the text has no source.
     #[error("{0}")]
     Front(FrontFault),
     /// 20 to 34: the source describes no system.

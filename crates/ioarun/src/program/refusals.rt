@@ -135,6 +135,18 @@ fn each_row_of_the_check_is_told_with_its_place(rt: HostRuntime) -> Result<(), F
         ),
         (
             "automaton A ",
+            SENDS,
+            "transitions output send(m, 0, 1) pre m system",
+            "22 Sorts in 0",
+        ),
+        (
+            "automaton A ",
+            SENDS,
+            "states n: Int := 0 transitions output send(m, 0, 1) eff n := (n = 1) system",
+            "22 Sorts in 0",
+        ),
+        (
+            "automaton A ",
             RECEIVES,
             "transitions input receive(m, 0, 1) pre m = 1 system",
             "24 InputPre in 0",
@@ -214,51 +226,108 @@ fn more_nodes_or_channels_than_the_limits_are_told(rt: HostRuntime) -> Result<()
 }
 
 #[test]
-fn later_forms_are_unexpected(rt: HostRuntime) -> Result<(), Fail> {
+fn later_forms_are_refused(rt: HostRuntime) -> Result<(), Fail> {
     let rows = [
-        ("type T = enumeration of a system", 0),
-        ("automaton A(i: Nat) system", 11),
-        ("automaton A signature internal t system", 22),
+        ("type T = enumeration of a system", "20 Unknown in 0"),
+        (
+            "automaton A type T = tuple of a: Int system",
+            "20 Unknown in 1",
+        ),
+        (
+            "automaton A automaton A type T = enumeration of a system",
+            "20 Unknown in 2",
+        ),
+        ("automaton A(i: Nat) system", "20 Unknown in 0"),
+        ("automaton A signature internal t system", "20 Unknown in 0"),
         (
             "automaton A signature output go(m: Int, const 0, const 1) system",
-            29,
+            "20 Unknown in 0",
+        ),
+        (
+            "automaton A signature input send(m: Int, const 0, const 1) system",
+            "20 Unknown in 0",
         ),
         (
             "automaton A signature output send(m: Nat, const 0, const 1) system",
-            37,
+            "20 Unknown in 0",
         ),
         (
             "automaton A signature output send(m: Int, j: Int, const 1) system",
-            42,
+            "20 Unknown in 0",
+        ),
+        (
+            "automaton A signature output send(m: Int, const 0, const 1 + 1) system",
+            "20 Unknown in 0",
+        ),
+        (
+            "automaton A signature output send(m: Int, const 0) system",
+            "20 Unknown in 0",
         ),
         (
             "automaton A signature output send(m: Int, const 0, const 1) where true system",
-            60,
+            "20 Unknown in 0",
         ),
-        ("automaton A states x: Bool := true system", 22),
-        ("automaton A states x: Int system", 26),
-        ("automaton A transitions internal t system", 24),
-        ("automaton A transitions output t pre x < 1 system", 39),
-        ("automaton A transitions output t pre x = 1 - 1 system", 43),
+        (
+            "automaton A states x: Bool := true system",
+            "20 Unknown in 0",
+        ),
+        (
+            "automaton A states x: Int := 1 + 1 system",
+            "20 Unknown in 0",
+        ),
+        ("automaton A states x: Int system", "23 NoInitial in 0"),
+        (
+            "automaton A transitions internal t system",
+            "20 Unknown in 0",
+        ),
+        (
+            "automaton A transitions output t pre x < 1 system",
+            "20 Unknown in 0",
+        ),
+        (
+            "automaton A transitions output t pre x = 1 - 1 system",
+            "20 Unknown in 0",
+        ),
         (
             "automaton A transitions output t eff if true then x := 1 fi system",
-            37,
+            "20 Unknown in 0",
         ),
-        ("automaton A transitions output t eff x[1] := 1 system", 38),
-        ("automaton A schedule states c: Int := 0 do od system", 21),
-        ("automaton A schedule do while true do od od system", 24),
-        ("automaton A schedule do x := 1 od system", 24),
-        ("automaton A schedule do fire output t od system", 29),
-        ("automaton A system node 0: A()", 28),
-        ("automaton A system script 0: go", 19),
-        ("automaton A system unordered channel 0 -> 1", 19),
-        ("automaton A system invariant I: true", 19),
-        ("automaton A uses", 12),
-        ("automaton A choose", 12),
+        (
+            "automaton A transitions output t eff x[1] := 1 system",
+            "20 Unknown in 0",
+        ),
+        (
+            "automaton A schedule do fire output t od system",
+            "20 Unknown in 0",
+        ),
+        ("automaton A system node 0: A(1)", "20 Unknown in 1"),
+        (
+            "automaton A schedule states c: Int := 0 do od system",
+            "12 Unexpected at 21",
+        ),
+        (
+            "automaton A schedule do while true do od od system",
+            "12 Unexpected at 24",
+        ),
+        (
+            "automaton A schedule do x := 1 od system",
+            "12 Unexpected at 24",
+        ),
+        ("automaton A system script 0: go", "12 Unexpected at 19"),
+        (
+            "automaton A system unordered channel 0 -> 1",
+            "12 Unexpected at 19",
+        ),
+        (
+            "automaton A system invariant I: true",
+            "12 Unexpected at 19",
+        ),
+        ("automaton A uses", "16 LeftOut at 12"),
+        ("automaton A choose", "16 LeftOut at 12"),
     ];
-    for (text, place) in rows {
+    for (text, refusal) in rows {
         let (status, line) = line_of(&rt, text)?;
-        let expected = format!(in rt.alloc(); "refused 12 Unexpected at {place}\n")?;
+        let expected = format!(in rt.alloc(); "refused {refusal}\n")?;
         assert_eq!(rt; line.as_str(), expected.as_str(), "{text}");
         assert_eq!(rt; status, 1, "{text}");
     }

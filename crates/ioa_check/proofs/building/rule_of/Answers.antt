@@ -17,7 +17,7 @@ returns-clause-rows c =
     let own = own_names (entry_of c.args.entry.now).parameters in
     let names : scope ≡ variable_names vs ++ own =
     scope_of-erase vs (entry_of c.in_ok-entry.entry) (entry_of c.args.entry.now) scope c.in_ok-scope.ensures.names c.in_ok-entry.ensures.same in
-    let many : length c.args.variables.now ≡ length (variable_names vs) = sym (length-map vs (λ (v : CheckedVariable). v.name) ∙ length-map c.args.variables.now variable_of) in
+    let many : length c.args.variables.now ≡ length (variable_names vs) = sym (length-map vs (λ (v : CheckedVariable). v.declared.name) ∙ length-map c.args.variables.now variable_of) in
     let first : take (length c.args.variables.now) (variable_names vs ++ own) ≡ variable_names vs = take_first (length c.args.variables.now) (variable_names vs) own many in
     let written : list_all (assigns_only (take (length c.args.variables.now) (variable_names vs ++ own)) (variable_names vs ++ own)) t.effect ≡ true =
     subst (λ (ns : List (List ℕ)). list_all (assigns_only (take (length c.args.variables.now) ns) ns) t.effect ≡ true) names c.in_ok-transition.ensures.names in

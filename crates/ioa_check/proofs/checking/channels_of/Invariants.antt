@@ -1,7 +1,8 @@
-use Rattle.std.proofs.Common.{◌≡◌, ◌++◌, drop}
+use Rattle.std.proofs.Common.{◌≡◌, ◌++◌, map, drop}
+use Rattle.ioa_source.specs.TextView.{placement_of}
 use Rattle.ioa_check.specs.Made.{channels_in}
 use Rattle.ioa_check.proofs.checking.channels_of.Given as goal
 
 -- the channels gone by, and those that are left
 abbrev pub invariant-loop-placement : goal.invariant-loop-placement
-invariant-loop-placement l = l.channels.items ++ channels_in (drop l.placement-index l.text.system.items) ≡ channels_in l.text.system.items
+invariant-loop-placement l = l.channels.items ++ channels_in (map placement_of (drop l.placement-index l.text.system.items)) ≡ channels_in (map placement_of l.text.system.items)

@@ -1,8 +1,7 @@
 use Rattle.std.proofs.Common.{◌≡◌, map, drop}
 use Rattle.std.specs.List.{list_all}
-use Rattle.std.specs.Borrow.{Bor}
-use Rattle.ioa_source.specs.declared.declaration.Node.{Node}
 use Rattle.ioa_source.specs.TextView.{text_of}
+use Rattle.ioa_check.specs.Made.{node_at}
 use Rattle.ioa_check.specs.Rows as spec
 use Rattle.ioa_check.proofs.checking.check_channels.Given as goal
 
@@ -10,6 +9,6 @@ use Rattle.ioa_check.proofs.checking.check_channels.Given as goal
 abbrev pub invariant-loop-channel : goal.invariant-loop-channel
 invariant-loop-channel l = record {
   two : list_all spec.joins_two (drop l.channel-index l.channels) ≡ list_all spec.joins_two l.channels;
-  ends : list_all (spec.joins_nodes (map (λ (n : Bor Node). n.now) l.nodes)) (drop l.channel-index l.channels) ≡ list_all (spec.joins_nodes (map (λ (n : Bor Node). n.now) l.nodes)) l.channels;
-  inputs : list_all (spec.has_input (text_of l.text).declarations (map (λ (n : Bor Node). n.now) l.nodes)) (drop l.channel-index l.channels) ≡ list_all (spec.has_input (text_of l.text).declarations (map (λ (n : Bor Node). n.now) l.nodes)) l.channels;
+  ends : list_all (spec.joins_nodes (map node_at l.nodes)) (drop l.channel-index l.channels) ≡ list_all (spec.joins_nodes (map node_at l.nodes)) l.channels;
+  inputs : list_all (spec.has_input (text_of l.text).declarations (map node_at l.nodes)) (drop l.channel-index l.channels) ≡ list_all (spec.has_input (text_of l.text).declarations (map node_at l.nodes)) l.channels;
 }

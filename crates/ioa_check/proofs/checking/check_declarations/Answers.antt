@@ -1,17 +1,21 @@
-use Rattle.std.proofs.Common.{◌++◌, ◌∷◌, ◌∙◌, [], ℕ, List, ap, arith}
+use Rattle.std.proofs.Common.{◌++◌, ◌∙◌, ℕ, List, sym, ap, map, take, arith}
+use Rattle.std.proofs.lemmas.List.{map-append}
 use Rattle.ioa_source.specs.TextView.{declaration_of}
-use Rattle.ioa_source.specs.Sides.{SourceDeclaration}
-use Rattle.ioa_check.specs.Made.{automaton_in}
+use Rattle.ioa_source.specs.Sides.{SourceAutomaton}
+use Rattle.ioa_check.specs.Made.{automaton_in, automata_in}
 use Rattle.ioa_check.specs.Rows as spec
-use Rattle.ioa_check.proofs.Loops.{map_take, each_take}
+use Rattle.ioa_check.proofs.Automata.{automata_take, each_concat}
 use Rattle.ioa_check.proofs.checking.check_declarations.Goals as goal
 
 pub loop-place-preserved : goal.loop-place-preserved
 loop-place-preserved c =
     let d = c.index-declarations-place.result in
-    let at_name : List (List ℕ) → List (List ℕ) = λ ns. ns ++ (automaton_in (declaration_of d)).name ∷ [] in
+    let own : List SourceAutomaton = automaton_in (declaration_of d) in
+    let before : List SourceAutomaton = automata_in (map declaration_of (take c.loop-place.place c.args.declarations.now)) in
+    let more = automata_take c.args.declarations.now c.loop-place.place d (omega arith) c.index-declarations-place.is in
+    let at_name : List (List ℕ) → List (List ℕ) = λ ns. ns ++ map (λ (a : SourceAutomaton). a.name) own in
     record {
-      names = c.in-Ok.ensures.added ∙ ap at_name c.loop-place.invariant.names ∙ map_take (λ (e : SourceDeclaration). (automaton_in e).name) declaration_of c.args.declarations.now c.loop-place.place d (omega arith) c.index-declarations-place.is;
+      names = rw more (c.in-Ok.ensures.added ∙ ap at_name c.loop-place.invariant.names ∙ sym (map-append (λ (a : SourceAutomaton). a.name) before own));
       differ = c.in-Ok.ensures.differ c.loop-place.invariant.differ;
-      rows = each_take (λ (e : SourceDeclaration). spec.HasNoAutomatonRow (automaton_in e)) declaration_of c.args.declarations.now c.loop-place.place d c.loop-place.invariant.rows c.in-Ok.ensures.rows (omega arith) c.index-declarations-place.is;
+      rows = rw more (each_concat spec.HasNoAutomatonRow before own c.loop-place.invariant.rows c.in-Ok.ensures.rows);
     }

@@ -1,7 +1,6 @@
 use Rattle.std.proofs.Common.{◌≡◌, false, sym, map, take, arith}
 use Rattle.std.specs.List.{list_any, IsDistinct}
-use Rattle.std.specs.Borrow.{Bor}
-use Rattle.ioa_source.specs.declared.declaration.Node.{Node}
+use Rattle.ioa_check.specs.Made.{node_at}
 use Rattle.ioa_check.specs.Rows as spec
 use Rattle.ioa_check.proofs.Rows.{distinct_take-map}
 use Rattle.ioa_check.proofs.checking.numbers_differ.Goals as goal
@@ -15,5 +14,5 @@ loop-place-preserved c =
     let nodes = c.args.nodes.now in
     let i = c.loop-place.place in
     let node = c.index-nodes-place.result in
-    let none : list_any (λ n. spec.same_number n node.now) (map (λ (n : Bor Node). n.now) (take i nodes)) ≡ false = sym c.if-is_numbered_as.ensures in
-    distinct_take-map spec.same_number (λ (n : Bor Node). n.now) nodes i node c.loop-place.invariant none (omega arith) c.index-nodes-place.is
+    let none : list_any (λ n. spec.same_number n (node_at node)) (map node_at (take i nodes)) ≡ false = sym c.if-is_numbered_as.ensures in
+    distinct_take-map spec.same_number node_at nodes i node c.loop-place.invariant none (omega arith) c.index-nodes-place.is

@@ -1,9 +1,10 @@
 use Rattle.std.proofs.Common.{◌≡◌, map, take, drop}
-use Rattle.std.specs.List.{list_all}
+use Rattle.std.specs.List.{AllByRecursion, list_all}
 use Rattle.ioa_check.specs.Rows.{reads_no_name, is_number_constant}
 use Rattle.ioa_source.specs.TextView.{parameter_of}
 use Rattle.ioa_source.specs.Erasure.{erase_parameter}
 use Rattle.ioa_check.specs.Placed.{ArePlacedParameters}
+use Rattle.ioa_check.specs.Made.{HasParameterShape}
 use Rattle.ioa_check.proofs.placing.place_parameters.Given as goal
 
 -- what is gone by is placed
@@ -11,6 +12,7 @@ abbrev pub invariant-loop-parameter : goal.invariant-loop-parameter
 invariant-loop-parameter l = record {
   same : map erase_parameter (map parameter_of l.placed.items) ≡ map parameter_of (take l.parameter-index l.parameters);
   placed : ArePlacedParameters (map parameter_of l.placed.items);
+  shapes : AllByRecursion HasParameterShape (map parameter_of l.placed.items);
   numbers : list_all is_number_constant (map parameter_of (drop l.parameter-index l.parameters)) ≡ list_all is_number_constant (map parameter_of l.parameters);
   names : list_all reads_no_name (map parameter_of (drop l.parameter-index l.parameters)) ≡ list_all reads_no_name (map parameter_of l.parameters);
 }

@@ -1,0 +1,114 @@
+-- The first form of the language (profile): what a checked system can be made of. What stands outside it is refused 20.
+use Rattle.std.specs.Prelude.{ℕ, Bool, true, false, ◌&&◌, not, nat_eq, codes, slice_get, List, Option, Some, None, length}
+use Rattle.std.specs.List.{list_all}
+use Rattle.std.specs.Option.{is_some}
+use Rattle.ioa_terms.specs.Bindings.{same_name}
+use Rattle.ioa_terms.specs.declared.tree.Kind.{Kind}
+use Rattle.ioa_terms.specs.declared.tree.Kind.TheVariants.{Input, Output, Internal}
+use Rattle.ioa_source.specs.PlainSort.{PlainSort, integers}
+use Rattle.ioa_source.specs.PlainTerm.{number, name, two, variable, at_key, at_field, assign, choose, fire}
+use Rattle.ioa_source.specs.PlainText.{const, named, type_named, automaton, node, channel}
+use Rattle.ioa_source.specs.Sides.{SourceAutomaton, SourceDeclaration, SourceEntry, SourceParameter, SourcePlace, SourcePlacement, SourceStatement, SourceTerm, SourceTransition, SourceVariable}
+use Rattle.ioa_check.specs.FirstSorts.{is_first}
+
+-- the test of what there is
+abbrev pub passes : {A : Type 0} → (A → Bool) → Option A → Bool
+passes test None = false
+passes test (Some x) = test x
+
+-- the test of what there may be
+abbrev pub passes_or_none : {A : Type 0} → (A → Bool) → Option A → Bool
+passes_or_none test None = true
+passes_or_none test (Some x) = test x
+
+-- the sort Int
+abbrev pub is_first_sort : PlainSort → Bool
+is_first_sort integers = true
+is_first_sort _ = false
+
+-- a number as it is written
+abbrev pub is_numeral : SourceTerm → Bool
+is_numeral (number n) = true
+is_numeral _ = false
+
+-- a number, a name, or `+` or `=` between two terms of the first form
+abbrev pub is_first_term : SourceTerm → Bool
+is_first_term (number n) = true
+is_first_term (name x at) = true
+is_first_term (two f a b) = is_first f && (is_first_term a && is_first_term b)
+is_first_term _ = false
+
+-- a message: a name of sort Int
+abbrev pub is_message : SourceParameter → Bool
+is_message (const t) = false
+is_message (named d) = is_first_sort d.sort
+
+-- an end of a channel: a constant number
+abbrev pub is_end : SourceParameter → Bool
+is_end (const t) = is_numeral t
+is_end (named d) = false
+
+-- a message and the two ends of its channel
+abbrev pub are_first_parameters : List SourceParameter → Bool
+are_first_parameters ps =
+    nat_eq (length ps) 3 && (passes is_message (slice_get ps 0) && (passes is_end (slice_get ps 1) && passes is_end (slice_get ps 2)))
+
+-- an input is named `receive` and an output `send`; there are no others
+abbrev pub is_first_name : Kind → List ℕ → Bool
+is_first_name Input w = same_name w (codes "receive")
+is_first_name Output w = same_name w (codes "send")
+is_first_name Internal w = false
+
+-- an entry without a condition
+abbrev pub is_first_entry : SourceEntry → Bool
+is_first_entry e = is_first_name e.kind e.name && (are_first_parameters e.parameters && not (is_some e.condition))
+
+-- a state variable of sort Int; its initial term, where one is written, is a number
+abbrev pub is_first_variable : SourceVariable → Bool
+is_first_variable v = is_first_sort v.declared.sort && passes_or_none is_numeral v.initial
+
+-- a state variable as a whole
+abbrev pub is_first_place : SourcePlace → Bool
+is_first_place (variable x at d) = true
+is_first_place (at_key x at d t) = false
+is_first_place (at_field x at d f) = false
+
+-- a statement of an effect: an assignment to a variable
+abbrev pub is_first_assignment : SourceStatement → Bool
+is_first_assignment (assign p t) = is_first_place p && is_first_term t
+is_first_assignment (choose arms rest) = false
+is_first_assignment (fire k x ts) = false
+
+-- a statement of a schedule block: a firing without a kind
+abbrev pub is_first_firing : SourceStatement → Bool
+is_first_firing (assign p t) = false
+is_first_firing (choose arms rest) = false
+is_first_firing (fire k x ts) = not (is_some k) && list_all is_first_term ts
+
+-- an input or an output
+abbrev pub is_first_kind : Kind → Bool
+is_first_kind Input = true
+is_first_kind Output = true
+is_first_kind Internal = false
+
+-- a transition
+abbrev pub is_first_transition : SourceTransition → Bool
+is_first_transition t =
+    is_first_kind t.kind && (list_all is_first_term t.arguments && (passes_or_none is_first_term t.pre && list_all is_first_assignment t.effect))
+
+-- an automaton without parameters
+abbrev pub is_first_automaton : SourceAutomaton → Bool
+is_first_automaton a =
+    nat_eq (length a.parameters) 0
+    && (list_all is_first_entry a.signature
+    && (list_all is_first_variable a.states && (list_all is_first_transition a.transitions && list_all is_first_firing a.schedule)))
+
+-- a declaration: an automaton
+abbrev pub is_first_declaration : SourceDeclaration → Bool
+is_first_declaration (type_named t) = false
+is_first_declaration (automaton a) = is_first_automaton a
+
+-- a part of the system section: a node without arguments, or a channel
+abbrev pub is_first_placement : SourcePlacement → Bool
+is_first_placement (node n) = nat_eq (length n.arguments) 0
+is_first_placement (channel c) = true

@@ -1,0 +1,307 @@
+//! Which texts are of the first form of the language.
+
+ghost use Rattle.std.specs.Prelude.{◌≡◌, map, slice_get};
+ghost use Rattle.std.specs.List.{list_all};
+ghost use Rattle.std.specs.Option.{option_map};
+ghost use Rattle.ioa_source.specs.SortView.{sort_of};
+ghost use Rattle.ioa_source.specs.View.{term_of, place_of, statement_of};
+ghost use Rattle.ioa_source.specs.TextView.{automaton_of, declaration_of, entry_of, parameter_of, placement_of, transition_of, variable_of};
+ghost use Rattle.ioa_check.specs.FirstForm as spec;
+ghost use Rattle.ioa_check.specs.FirstSorts as sorts;
+
+use ioa_source::{Automaton, Declaration, Entry, Parameter, Placement, Sort, Transition, Variable};
+use ioa_terms::{BinaryOperator, Kind, Place, Statement, Term, Word};
+
+/// Whether a declaration is an automaton of the first form.
+pub(crate) fn is_first_declaration(declaration: &Declaration<(), ()>) -> bool
+    ensures { result ≡ spec.is_first_declaration (declaration_of declaration.now) }
+{
+    match declaration {
+        Declaration::Type(_) => false,
+        Declaration::Automaton(automaton) => is_first_automaton(automaton),
+    }
+}
+
+/// Whether a part of the system section is a node without arguments, or a channel.
+pub(crate) fn is_first_placement(placement: &Placement<(), ()>) -> bool
+    ensures { result ≡ spec.is_first_placement (placement_of placement.now) }
+{
+    match placement {
+        Placement::Node(node) => node.arguments.is_empty(),
+        Placement::Channel(_) => true,
+    }
+}
+
+/// Whether an operator is of the first form.
+pub(crate) fn is_first_operator(operator: BinaryOperator) -> bool
+    ensures { result ≡ sorts.is_first operator }
+{
+    match operator {
+        BinaryOperator::Plus | BinaryOperator::Equal => true,
+        _ => false,
+    }
+}
+
+/// Whether an automaton is of the first form.
+fn is_first_automaton(automaton: &Automaton<(), ()>) -> bool
+    ensures { result ≡ spec.is_first_automaton (automaton_of automaton.now) }
+{
+    automaton.parameters.is_empty()
+        && are_first_entries(&automaton.signature)
+        && are_first_variables(&automaton.states)
+        && are_first_transitions(&automaton.transitions)
+        && are_first_firings(&automaton.schedule)
+}
+
+/// Whether the entries of a signature are of the first form.
+fn are_first_entries(entries: &[Entry<(), ()>]) -> bool
+    ensures { result ≡ list_all spec.is_first_entry (map entry_of entries.now) }
+{
+    for entry in entries {
+        if !is_first_entry(entry) {
+            return false;
+        }
+    }
+    true
+}
+
+/// Whether an entry is of the first form.
+fn is_first_entry(entry: &Entry<(), ()>) -> bool
+    ensures { result ≡ spec.is_first_entry (entry_of entry.now) }
+{
+    is_first_name(entry.kind, &entry.name)
+        && are_first_parameters(&entry.parameters)
+        && entry.condition.is_none()
+}
+
+/// Whether an action of a kind has this name in the first form.
+fn is_first_name(kind: Kind, name: &Word) -> bool
+    ensures { result ≡ spec.is_first_name kind name.now }
+{
+    match kind {
+        Kind::Input => name.as_str() == "receive",
+        Kind::Output => name.as_str() == "send",
+        Kind::Internal => false,
+    }
+}
+
+/// Whether parameters are a message and the two ends of its channel.
+fn are_first_parameters(parameters: &[Parameter<(), ()>]) -> bool
+    ensures { result ≡ spec.are_first_parameters (map parameter_of parameters.now) }
+{
+    parameters.len() == 3
+        && has_message(parameters)
+        && has_end(parameters, 1)
+        && has_end(parameters, 2)
+}
+
+/// Whether the first parameter is a message.
+fn has_message(parameters: &[Parameter<(), ()>]) -> bool
+    ensures { result ≡ spec.passes spec.is_message (slice_get (map parameter_of parameters.now) 0) }
+{
+    match parameters.get(0) {
+        None => false,
+        Some(parameter) => is_message(parameter),
+    }
+}
+
+/// Whether the parameter at a place is an end of a channel.
+fn has_end(parameters: &[Parameter<(), ()>], place: usize) -> bool
+    ensures { result ≡ spec.passes spec.is_end (slice_get (map parameter_of parameters.now) place) }
+{
+    match parameters.get(place) {
+        None => false,
+        Some(parameter) => is_end(parameter),
+    }
+}
+
+/// Whether a parameter is a name of sort Int.
+fn is_message(parameter: &Parameter<(), ()>) -> bool
+    ensures { result ≡ spec.is_message (parameter_of parameter.now) }
+{
+    match parameter {
+        Parameter::Const(_) => false,
+        Parameter::Declared(declared) => is_first_sort(&declared.sort),
+    }
+}
+
+/// Whether a parameter is a constant number.
+fn is_end(parameter: &Parameter<(), ()>) -> bool
+    ensures { result ≡ spec.is_end (parameter_of parameter.now) }
+{
+    match parameter {
+        Parameter::Const(term) => is_numeral(term),
+        Parameter::Declared(_) => false,
+    }
+}
+
+/// Whether a sort is Int.
+fn is_first_sort(sort: &Sort) -> bool
+    ensures { result ≡ spec.is_first_sort (sort_of sort.now) }
+{
+    match sort {
+        Sort::Int => true,
+        _ => false,
+    }
+}
+
+/// Whether state variables are of the first form.
+fn are_first_variables(variables: &[Variable<(), ()>]) -> bool
+    ensures { result ≡ list_all spec.is_first_variable (map variable_of variables.now) }
+{
+    for variable in variables {
+        if !is_first_variable(variable) {
+            return false;
+        }
+    }
+    true
+}
+
+/// Whether a state variable is of sort Int and begins with a number, or with nothing.
+fn is_first_variable(variable: &Variable<(), ()>) -> bool
+    ensures { result ≡ spec.is_first_variable (variable_of variable.now) }
+{
+    is_first_sort(&variable.declared.sort) && is_numeral_or_none(&variable.initial)
+}
+
+/// Whether a term is a number, where there is one.
+fn is_numeral_or_none(term: &Option<Term>) -> bool
+    ensures { result ≡ spec.passes_or_none spec.is_numeral (option_map term_of term.now) }
+{
+    match term {
+        None => true,
+        Some(term) => is_numeral(term),
+    }
+}
+
+/// Whether a term is a number as it is written.
+fn is_numeral(term: &Term) -> bool
+    ensures { result ≡ spec.is_numeral (term_of term.now) }
+{
+    match term {
+        Term::Number(_) => true,
+        _ => false,
+    }
+}
+
+/// Whether transitions are of the first form.
+fn are_first_transitions(transitions: &[Transition<(), ()>]) -> bool
+    ensures { result ≡ list_all spec.is_first_transition (map transition_of transitions.now) }
+{
+    for transition in transitions {
+        if !is_first_transition(transition) {
+            return false;
+        }
+    }
+    true
+}
+
+/// Whether a transition is of the first form.
+fn is_first_transition(transition: &Transition<(), ()>) -> bool
+    ensures { result ≡ spec.is_first_transition (transition_of transition.now) }
+{
+    is_first_kind(transition.kind)
+        && are_first_terms(&transition.arguments)
+        && is_first_or_none(&transition.pre)
+        && are_first_assignments(&transition.effect)
+}
+
+/// Whether a kind is of the first form.
+fn is_first_kind(kind: Kind) -> bool
+    ensures { result ≡ spec.is_first_kind kind }
+{
+    match kind {
+        Kind::Input | Kind::Output => true,
+        Kind::Internal => false,
+    }
+}
+
+/// Whether terms are of the first form.
+fn are_first_terms(terms: &[Term]) -> bool
+    ensures { result ≡ list_all spec.is_first_term (map term_of terms.now) }
+{
+    for term in terms {
+        if !is_first_term(term) {
+            return false;
+        }
+    }
+    true
+}
+
+/// Whether a term is of the first form, where there is one.
+fn is_first_or_none(term: &Option<Term>) -> bool
+    ensures { result ≡ spec.passes_or_none spec.is_first_term (option_map term_of term.now) }
+{
+    match term {
+        None => true,
+        Some(term) => is_first_term(term),
+    }
+}
+
+/// Whether a term is of the first form.
+fn is_first_term(term: &Term) -> bool
+    ensures { result ≡ spec.is_first_term (term_of term.now) }
+{
+    match term {
+        Term::Number(_) => true,
+        Term::Name(_, _) => true,
+        Term::Two(operator, a, b) => {
+            is_first_operator(*operator) && is_first_term(a) && is_first_term(b)
+        }
+        _ => false,
+    }
+}
+
+/// Whether the statements of an effect are of the first form.
+fn are_first_assignments(statements: &[Statement<(), ()>]) -> bool
+    ensures { result ≡ list_all spec.is_first_assignment (map statement_of statements.now) }
+{
+    for statement in statements {
+        if !is_first_assignment(statement) {
+            return false;
+        }
+    }
+    true
+}
+
+/// Whether a statement is an assignment to a variable.
+fn is_first_assignment(statement: &Statement<(), ()>) -> bool
+    ensures { result ≡ spec.is_first_assignment (statement_of statement.now) }
+{
+    match statement {
+        Statement::Assign(place, term) => is_first_place(place) && is_first_term(term),
+        _ => false,
+    }
+}
+
+/// Whether a place is a variable as a whole.
+fn is_first_place(place: &Place<(), ()>) -> bool
+    ensures { result ≡ spec.is_first_place (place_of place.now) }
+{
+    match place {
+        Place::Variable(_, _, _) => true,
+        _ => false,
+    }
+}
+
+/// Whether the statements of a schedule block are of the first form.
+fn are_first_firings(statements: &[Statement<(), ()>]) -> bool
+    ensures { result ≡ list_all spec.is_first_firing (map statement_of statements.now) }
+{
+    for statement in statements {
+        if !is_first_firing(statement) {
+            return false;
+        }
+    }
+    true
+}
+
+/// Whether a statement is a firing without a kind.
+fn is_first_firing(statement: &Statement<(), ()>) -> bool
+    ensures { result ≡ spec.is_first_firing (statement_of statement.now) }
+{
+    match statement {
+        Statement::Fire(kind, _, arguments) => kind.is_none() && are_first_terms(arguments),
+        _ => false,
+    }
+}

@@ -1,8 +1,0 @@
-use Rattle.std.proofs.Common.{◌≡◌, ◌-◌, map}
-use Rattle.ioa_tokens.specs.declared.mark.Mark.TheVariants as mark
-use Rattle.ioa_source.specs.View.{statement_of}
-use Rattle.ioa_front.specs.Reading.{at, collected, firing, firings, resumed}
-use Rattle.ioa_front.proofs.automaton.firings.Given as goal
-
-abbrev pub invariant-loop-turn : goal.invariant-loop-turn
-invariant-loop-turn l = collected (resumed mark.Semicolon (at mark.Fire)) (firing) (l._turn-end - l._turn) (map statement_of l.firings.items) l.tokens ≡ firings l.fn.tokens

@@ -1,7 +1,0 @@
-use Rattle.std.proofs.Common.{◌≡◌, ◌-◌, map}
-use Rattle.ioa_source.specs.TextView.{transition_of}
-use Rattle.ioa_front.specs.Reading.{at_kind, begun, collected, transition, transitions}
-use Rattle.ioa_front.proofs.automaton.transitions.Given as goal
-
-abbrev pub invariant-loop-turn : goal.invariant-loop-turn
-invariant-loop-turn l = collected (begun at_kind) (transition) (l._turn-end - l._turn) (map transition_of l.transitions.items) l.tokens ≡ transitions l.fn.tokens

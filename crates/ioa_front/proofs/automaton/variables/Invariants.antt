@@ -1,8 +1,0 @@
-use Rattle.std.proofs.Common.{◌≡◌, ◌-◌, map}
-use Rattle.ioa_tokens.specs.declared.mark.Mark.TheVariants as mark
-use Rattle.ioa_source.specs.TextView.{variable_of}
-use Rattle.ioa_front.specs.Reading.{collected, skip, variable, variables}
-use Rattle.ioa_front.proofs.automaton.variables.Given as goal
-
-abbrev pub invariant-loop-turn : goal.invariant-loop-turn
-invariant-loop-turn l = collected (skip mark.Comma) (variable) (l._turn-end - l._turn) (map variable_of l.variables.items) l.tokens ≡ variables l.fn.tokens

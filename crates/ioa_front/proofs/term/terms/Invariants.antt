@@ -1,8 +1,0 @@
-use Rattle.std.proofs.Common.{◌≡◌, ◌-◌, map}
-use Rattle.ioa_tokens.specs.declared.mark.Mark.TheVariants as mark
-use Rattle.ioa_source.specs.View.{term_of}
-use Rattle.ioa_front.specs.Reading.{collected, skip, term, terms}
-use Rattle.ioa_front.proofs.term.terms.Given as goal
-
-abbrev pub invariant-loop-turn : goal.invariant-loop-turn
-invariant-loop-turn l = collected (skip mark.Comma) (term 127) (l._turn-end - l._turn) (map term_of l.terms.items) l.tokens ≡ terms l.fn.tokens

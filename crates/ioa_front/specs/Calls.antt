@@ -1,8 +1,0 @@
--- What a call of the code stands for.
-use Rattle.std.specs.Prelude.{map}
-use Rattle.ioa_source.specs.View.{term_of}
-use Rattle.ioa_front.specs.Grammar as grammar
-use Rattle.ioa_front.specs.declared.term.ActionCall.{ActionCall}
-
-abbrev pub call_of : ActionCall → grammar.Call
-call_of c = record { name = c.name; arguments = map term_of c.arguments.items }

@@ -1,0 +1,282 @@
+-- A text is read as it is spelled, a production at a time.
+use Rattle.std.proofs.Common.{◌≡◌, ℕ, ℤ, ◌<◌, Bool, true, false, List, [], ◌∷◌, Option, Some, None, refl, arith}
+use Rattle.ioa_tokens.specs.declared.token.Token.{Token}
+use Rattle.ioa_tokens.specs.declared.token.Token.TheVariants as token
+use Rattle.ioa_tokens.specs.declared.mark.Mark.TheVariants as mark
+use Rattle.ioa_terms.specs.declared.tree.Kind.{Kind}
+use Rattle.ioa_source.specs.PlainTerm as plain
+use Rattle.ioa_source.specs.PlainSort.{PlainSort}
+use Rattle.ioa_source.specs.PlainText as declarations
+use Rattle.ioa_source.specs.Sides.{SourceTerm as Term, SourceStatement as Statement, SourceDeclared as Declared, SourceEntry as Entry, SourceVariable as Variable, SourceTransition as Transition, SourceForm as Form, SourceType as TypeOf, SourceAutomaton as Automaton, SourceDeclaration as Declaration, SourceNode as Node, SourcePlacement as Placement, SourceText}
+use Rattle.ioa_cursor.specs.Lists.{Several, Separated, Ended, Section, Optional, GatheredSeveral}
+use Rattle.ioa_cursor.specs.Reading.{bind, choose, skip, expected, word, numeral, at, mark_first, ended}
+use Rattle.ioa_cursor.proofs.Steps.{read_next, stays}
+use Rattle.ioa_cursor.proofs.Follow.{skip_same, skip_other, ended_starts, optional_starts, section_starts}
+use Rattle.ioa_cursor.proofs.CompleteLists.{several_complete, separated_complete, ended_complete, section_complete, optional_complete}
+use Rattle.ioa_term_reader.specs.Grammar.{bracket_limit, SpellsTerm}
+use Rattle.ioa_term_reader.specs.Reading.{term}
+use Rattle.ioa_text_reader.specs.Grammar as grammar
+use Rattle.ioa_text_reader.specs.Grammar.{inner_limit, Call, SpellsCall, SpellsGroup, SpellsVariable, SpellsEffect, SpellsGuard, SpellsTransition, SpellsFire, SpellsBlock, SpellsHead, SpellsForm, SpellsDeclaration, SpellsPlacement, Spells}
+use Rattle.ioa_text_reader.specs.Reading as reading
+use Rattle.ioa_text_reader.specs.Reading.{kind_first, at_kind, at_declaration, at_placement}
+use Rattle.ioa_text_reader.proofs.Closing.{Below, level, at_below, skip_below, at_kind_below, at_declaration_below, at_placement_below}
+use Rattle.ioa_text_reader.proofs.Shorter.{variable_shorter, transition_shorter, firing_shorter, declaration_shorter, placement_shorter}
+use Rattle.ioa_text_reader.proofs.CompleteSorts.{sort_complete, words_complete, declared_names_complete}
+use Rattle.ioa_text_reader.proofs.CompleteSignatures.{whole_term, call_complete, kind_complete, kind_begins, kind_level, signature_complete}
+use Rattle.ioa_text_reader.proofs.CompleteStatements.{effect_complete}
+
+-- trees of their parts
+
+abbrev variable_with : List ℕ → PlainSort → Option Term → Variable
+variable_with w s i = record { declared = record { name = w; sort = s; shape = tt }; initial = i }
+
+abbrev transition_with : Kind → Call → Option Term → List Statement → Transition
+transition_with k c g ss = record { kind = k; name = c.name; arguments = c.arguments; pre = g; effect = ss }
+
+abbrev automaton_with : List ℕ → List Declared → List Entry → List Variable → List Transition → List Statement → Automaton
+automaton_with w ds es vs ts ss = record { name = w; parameters = ds; signature = es; states = vs; transitions = ts; schedule = ss }
+
+abbrev type_with : List ℕ → Form → TypeOf
+type_with w f = record { name = w; form = f }
+
+abbrev node_with : ℤ → Call → Node
+node_with n c = record { number = n; automaton = c.name; arguments = c.arguments }
+
+abbrev text_with : List Declaration → List Placement → SourceText
+text_with ds ps = record { declarations = ds; system = ps }
+
+-- states
+
+initial_complete : (i : Option Term) (xs ys : List Token) → Optional mark.Assign (SpellsTerm bracket_limit) i xs ys → level ys < 13 → reading.initial xs ≡ read_next i ys
+unfolding reading.initial
+initial_complete i xs ys d h =
+    optional_complete (Below 14) (SpellsTerm bracket_limit) (term bracket_limit) whole_term mark.Assign i xs ys d (omega arith) (at_below mark.Assign ys h)
+
+variable_read : (w : List ℕ) (s : PlainSort) (i : Option Term) (xs ys zs : List Token) → reading.sort bracket_limit xs ≡ read_next s ys → reading.initial ys ≡ read_next i zs →
+    reading.variable (token.Word w ∷ token.Mark mark.Colon ∷ xs) ≡ read_next (variable_with w s i) zs
+unfolding reading.variable word expected skip bind
+variable_read w s i xs ys zs e f = rw e (rw f refl)
+
+variable_complete : (x : Variable) (xs ys : List Token) → SpellsVariable x xs ys → level ys < 13 → reading.variable xs ≡ read_next x ys
+variable_complete _ _ zs (grammar.of_sort {w = w} {s = s} {initial = i} {xs = xs} {ys = ys} sd id) h =
+    variable_read w s i xs ys zs (sort_complete bracket_limit s xs ys sd) (initial_complete i ys zs id h)
+
+variables_complete : (vs : List Variable) (xs ys : List Token) → Separated mark.Comma SpellsVariable vs xs ys → level ys < 11 → reading.variables xs ≡ read_next vs ys
+unfolding reading.variables
+variables_complete vs xs ys d h =
+    separated_complete (Below 13) SpellsVariable reading.variable variable_complete variable_shorter mark.Comma (λ zs. omega arith) vs xs ys d (omega arith) (at_below mark.Comma ys h)
+
+states_complete : (vs : List Variable) (xs ys : List Token) → Section mark.States (Separated mark.Comma SpellsVariable) vs xs ys → level ys < 6 → reading.states_part xs ≡ read_next vs ys
+unfolding reading.states_part
+states_complete vs xs ys d h =
+    section_complete (Below 11) (Separated mark.Comma SpellsVariable) reading.variables variables_complete mark.States vs xs ys d (omega arith) (at_below mark.States ys h)
+
+-- transitions
+
+guard_read : (t : Term) (xs ys zs : List Token) (b : Bool) → term bracket_limit xs ≡ read_next t ys → skip mark.Semicolon ys ≡ stays b zs → reading.guard xs ≡ read_next t zs
+unfolding reading.guard bind
+guard_read t xs ys zs b e f = rw e (rw f refl)
+
+guard_complete : (t : Term) (xs ys : List Token) → SpellsGuard t xs ys → level ys < 11 → reading.guard xs ≡ read_next t ys
+guard_complete t xs ys (grammar.guard d) h = guard_read t xs ys ys false (whole_term t xs ys d (omega arith)) (skip_below mark.Semicolon ys h)
+guard_complete t xs ys (grammar.closed_guard d) h = guard_read t xs _ ys true (whole_term t xs _ d (omega arith)) (skip_same mark.Semicolon ys)
+
+guard_part_complete : (g : Option Term) (xs ys : List Token) → Optional mark.Pre SpellsGuard g xs ys → level ys < 10 → reading.guard_part xs ≡ read_next g ys
+unfolding reading.guard_part
+guard_part_complete g xs ys d h = optional_complete (Below 11) SpellsGuard reading.guard guard_complete mark.Pre g xs ys d (omega arith) (at_below mark.Pre ys h)
+
+transition_read : (k : Kind) (c : Call) (g : Option Term) (ss : List Statement) (xs ps qs rs ys : List Token) →
+    reading.kind xs ≡ read_next k ps → reading.call ps ≡ read_next c qs → reading.guard_part qs ≡ read_next g rs → reading.effect rs ≡ read_next ss ys →
+    reading.transition xs ≡ read_next (transition_with k c g ss) ys
+unfolding reading.transition bind
+transition_read k c g ss xs ps qs rs ys e f i j = rw e (rw f (rw i (rw j refl)))
+
+transition_complete : (x : Transition) (xs ys : List Token) → SpellsTransition x xs ys → level ys < 9 → reading.transition xs ≡ read_next x ys
+transition_complete _ xs ys (grammar.transition {k = k} {head = c} {pre = g} {effect = ss} {ps = ps} {qs = qs} {rs = rs} kd cd gd ed) h =
+    let below = section_starts (Below 10) mark.Eff SpellsEffect (λ zs. omega arith) ss rs ys ed (omega arith) in
+    let low = optional_starts (Below 14) mark.Pre SpellsGuard (λ zs. omega arith) g qs rs gd (omega arith) in
+    transition_read k c g ss xs ps qs rs ys (kind_complete k xs ps kd) (call_complete c ps qs cd low) (guard_part_complete g qs rs gd below) (effect_complete ss rs ys ed h)
+
+transition_begins : (x : Transition) (xs ys : List Token) → SpellsTransition x xs ys → at_kind xs ≡ true
+transition_begins _ _ _ (grammar.transition kd cd gd ed) = kind_begins _ _ _ kd
+
+transition_level : (x : Transition) (xs ys : List Token) → SpellsTransition x xs ys → level xs < 9
+transition_level _ _ _ (grammar.transition kd cd gd ed) = kind_level _ _ _ kd
+
+transitions_complete : (ts : List Transition) (xs ys : List Token) → Several SpellsTransition ts xs ys → level ys < 8 → reading.transitions xs ≡ read_next ts ys
+unfolding reading.transitions
+transitions_complete ts xs ys d h =
+    several_complete (Below 9) SpellsTransition reading.transition transition_complete transition_shorter at_kind transition_begins transition_level ts xs ys d (omega arith) (at_kind_below ys h)
+
+transitions_part_complete : (ts : List Transition) (xs ys : List Token) → Section mark.Transitions (Several SpellsTransition) ts xs ys → level ys < 5 → reading.transitions_part xs ≡ read_next ts ys
+unfolding reading.transitions_part
+transitions_part_complete ts xs ys d h =
+    section_complete (Below 8) (Several SpellsTransition) reading.transitions transitions_complete mark.Transitions ts xs ys d (omega arith) (at_below mark.Transitions ys h)
+
+-- schedules
+
+firing_read : (c : Call) (xs ys : List Token) → at_kind xs ≡ false → reading.call xs ≡ read_next c ys → reading.firing (token.Mark mark.Fire ∷ xs) ≡ read_next (plain.fire None c.name c.arguments) ys
+unfolding reading.firing expected skip bind choose
+firing_read c xs ys e f = rw e (rw f refl)
+
+kind_firing_read : (k : Kind) (c : Call) (xs ys zs : List Token) → at_kind xs ≡ true → reading.kind xs ≡ read_next k ys → reading.call ys ≡ read_next c zs →
+    reading.firing (token.Mark mark.Fire ∷ xs) ≡ read_next (plain.fire (Some k) c.name c.arguments) zs
+unfolding reading.firing expected skip bind choose
+kind_firing_read k c xs ys zs e f g = rw e (rw f (rw g refl))
+
+call_no_kind : (c : Call) (xs ys : List Token) → SpellsCall c xs ys → at_kind xs ≡ false
+unfolding at_kind kind_first mark_first bind
+call_no_kind _ _ _ (grammar.called d) = refl
+
+firing_complete : (x : Statement) (xs ys : List Token) → SpellsFire x xs ys → level ys < 14 → reading.firing xs ≡ read_next x ys
+firing_complete _ _ ys (grammar.firing {call = c} {xs = xs} d) h = firing_read c xs ys (call_no_kind c xs ys d) (call_complete c xs ys d h)
+firing_complete _ _ zs (grammar.kind_firing {k = k} {call = c} {xs = xs} {ys = ys} kd d) h =
+    kind_firing_read k c xs ys zs (kind_begins k xs ys kd) (kind_complete k xs ys kd) (call_complete c ys zs d h)
+
+firing_begins : (x : Statement) (xs ys : List Token) → SpellsFire x xs ys → at mark.Fire xs ≡ true
+unfolding at
+firing_begins _ _ _ (grammar.firing d) = refl
+firing_begins _ _ _ (grammar.kind_firing kd d) = refl
+
+firing_not_over : (x : Statement) (xs ys : List Token) → SpellsFire x xs ys → at mark.Od xs ≡ false
+unfolding at
+firing_not_over _ _ _ (grammar.firing d) = refl
+firing_not_over _ _ _ (grammar.kind_firing kd d) = refl
+
+firings_complete : (ss : List Statement) (xs ys : List Token) → Ended mark.Semicolon SpellsFire ss xs ys → level ys < 11 → reading.firings xs ≡ read_next ss ys
+unfolding reading.firings
+firings_complete ss xs ys d h =
+    ended_complete (Below 14) SpellsFire reading.firing firing_complete firing_shorter mark.Semicolon (at mark.Fire) firing_begins (λ zs. omega arith) ss xs ys d (omega arith)
+    (at_below mark.Semicolon ys h) (at_below mark.Fire ys h)
+
+idle_block : (xs : List Token) → reading.block (token.Mark mark.Do ∷ token.Mark mark.Od ∷ xs) ≡ read_next [] xs
+unfolding reading.block expected skip bind choose
+idle_block xs = refl
+
+busy_block : (ss : List Statement) (xs ys : List Token) → skip mark.Od xs ≡ stays false xs → reading.firings xs ≡ read_next ss (token.Mark mark.Od ∷ ys) →
+    reading.block (token.Mark mark.Do ∷ xs) ≡ read_next ss ys
+unfolding reading.block expected bind choose
+busy_block ss xs ys e f = rw (skip_same mark.Do xs) (rw e (rw f (rw (skip_same mark.Od ys) refl)))
+
+block_complete : (ss : List Statement) (xs ys : List Token) → SpellsBlock ss xs ys → level ys < 14 → reading.block xs ≡ read_next ss ys
+block_complete _ _ ys grammar.idle h = idle_block ys
+block_complete ss _ ys (grammar.busy {xs = xs} d) h =
+    busy_block ss xs ys (skip_other mark.Od xs (ended_starts (λ us. at mark.Od us ≡ false) SpellsFire firing_not_over d)) (firings_complete ss xs _ d (omega arith))
+
+schedule_complete : (ss : List Statement) (xs ys : List Token) → Section mark.Schedule SpellsBlock ss xs ys → level ys < 4 → reading.schedule_part xs ≡ read_next ss ys
+unfolding reading.schedule_part
+schedule_complete ss xs ys d h = section_complete (Below 14) SpellsBlock reading.block block_complete mark.Schedule ss xs ys d (omega arith) (at_below mark.Schedule ys h)
+
+-- automata
+
+no_head : (xs : List Token) → skip mark.OpenRound xs ≡ stays false xs → reading.head xs ≡ read_next [] xs
+unfolding reading.head choose
+no_head xs e = rw e refl
+
+some_head : (ds : List Declared) (xs ys : List Token) → reading.declared_names inner_limit xs ≡ read_next ds (token.Mark mark.CloseRound ∷ ys) →
+    reading.head (token.Mark mark.OpenRound ∷ xs) ≡ read_next ds ys
+unfolding reading.head expected skip bind choose
+some_head ds xs ys e = rw e refl
+
+head_complete : (ds : List Declared) (xs ys : List Token) → SpellsHead ds xs ys → level ys < 14 → reading.head xs ≡ read_next ds ys
+head_complete _ _ ys grammar.no_parameters h = no_head ys (skip_below mark.OpenRound ys h)
+head_complete ds _ ys (grammar.parameters {xs = xs} d) h = some_head ds xs ys (declared_names_complete inner_limit ds xs _ d (omega arith))
+
+automaton_read : (w : List ℕ) (ds : List Declared) (es : List Entry) (vs : List Variable) (ts : List Transition) (ss : List Statement) (xs os ps qs rs ys : List Token) →
+    reading.head xs ≡ read_next ds os → reading.signature_part os ≡ read_next es ps → reading.states_part ps ≡ read_next vs qs → reading.transitions_part qs ≡ read_next ts rs →
+    reading.schedule_part rs ≡ read_next ss ys → reading.automaton (token.Word w ∷ xs) ≡ read_next (automaton_with w ds es vs ts ss) ys
+unfolding reading.automaton word bind
+automaton_read w ds es vs ts ss xs os ps qs rs ys e f i j k = rw e (rw f (rw i (rw j (rw k refl))))
+
+declared_automaton : (a : Automaton) (xs ys : List Token) → reading.automaton xs ≡ read_next a ys → reading.declaration (token.Mark mark.Automaton ∷ xs) ≡ read_next (declarations.automaton a) ys
+unfolding reading.declaration expected skip bind choose
+declared_automaton a xs ys e = rw e refl
+
+-- types
+
+constants_read : (ws : List (List ℕ)) (xs ys : List Token) → reading.words xs ≡ read_next ws ys → reading.form (token.Mark mark.Enumeration ∷ token.Mark mark.Of ∷ xs) ≡ read_next (declarations.enumeration ws) ys
+unfolding reading.form expected skip bind choose
+constants_read ws xs ys e = rw e refl
+
+fields_read : (ds : List Declared) (xs ys : List Token) → reading.declared_names bracket_limit xs ≡ read_next ds ys →
+    reading.form (token.Mark mark.Tuple ∷ token.Mark mark.Of ∷ xs) ≡ read_next (declarations.tuple_of ds) ys
+unfolding reading.form expected skip bind choose
+fields_read ds xs ys e = rw e refl
+
+form_complete : (f : Form) (xs ys : List Token) → SpellsForm f xs ys → level ys < 11 → reading.form xs ≡ read_next f ys
+form_complete _ _ ys (grammar.constants {ws = ws} {xs = xs} d) h = constants_read ws xs ys (words_complete ws xs ys d h)
+form_complete _ _ ys (grammar.fields {ds = ds} {xs = xs} d) h = fields_read ds xs ys (declared_names_complete bracket_limit ds xs ys d h)
+
+type_read : (w : List ℕ) (f : Form) (xs ys : List Token) → reading.form xs ≡ read_next f ys →
+    reading.declaration (token.Mark mark.Type ∷ token.Word w ∷ token.Mark mark.Equal ∷ xs) ≡ read_next (declarations.type_named (type_with w f)) ys
+unfolding reading.declaration reading.type_declaration word expected skip bind choose
+type_read w f xs ys e = rw e refl
+
+-- declarations
+
+declaration_complete : (x : Declaration) (xs ys : List Token) → SpellsDeclaration x xs ys → level ys < 4 → reading.declaration xs ≡ read_next x ys
+declaration_complete _ _ ys (grammar.type_form {w = w} {f = f} {xs = xs} d) h = type_read w f xs ys (form_complete f xs ys d (omega arith))
+declaration_complete _ _ ys (grammar.automaton_parts {w = w} {head = ds} {entries = es} {variables = vs} {transitions = ts} {block = ss} {xs = xs} {os = os} {ps = ps} {qs = qs} {rs = rs} hd ed vd td sd) h =
+    let a = section_starts (Below 5) mark.Schedule SpellsBlock (λ zs. omega arith) ss rs ys sd (omega arith) in
+    let b = section_starts (Below 6) mark.Transitions (Several SpellsTransition) (λ zs. omega arith) ts qs rs td (omega arith) in
+    let c = section_starts (Below 7) mark.States (Separated mark.Comma SpellsVariable) (λ zs. omega arith) vs ps qs vd (omega arith) in
+    let e = section_starts (Below 14) mark.Signature (GatheredSeveral SpellsGroup) (λ zs. omega arith) es os ps ed (omega arith) in
+    declared_automaton (automaton_with w ds es vs ts ss) (token.Word w ∷ xs) ys
+    (automaton_read w ds es vs ts ss xs os ps qs rs ys (head_complete ds xs os hd e) (signature_complete es os ps ed c) (states_complete vs ps qs vd b) (transitions_part_complete ts qs rs td a)
+    (schedule_complete ss rs ys sd h))
+
+declaration_begins : (x : Declaration) (xs ys : List Token) → SpellsDeclaration x xs ys → at_declaration xs ≡ true
+unfolding at_declaration at
+declaration_begins _ _ _ (grammar.type_form d) = refl
+declaration_begins _ _ _ (grammar.automaton_parts hd ed vd td sd) = refl
+
+declaration_level : (x : Declaration) (xs ys : List Token) → SpellsDeclaration x xs ys → level xs < 4
+declaration_level _ _ _ (grammar.type_form d) = omega arith
+declaration_level _ _ _ (grammar.automaton_parts hd ed vd td sd) = omega arith
+
+declared_complete : (ds : List Declaration) (xs ys : List Token) → Several SpellsDeclaration ds xs ys → level ys < 3 → reading.declared xs ≡ read_next ds ys
+unfolding reading.declared
+declared_complete ds xs ys d h =
+    several_complete (Below 4) SpellsDeclaration reading.declaration declaration_complete declaration_shorter at_declaration declaration_begins declaration_level ds xs ys d (omega arith)
+    (at_declaration_below ys h)
+
+-- systems
+
+node_read : (n : ℤ) (c : Call) (xs ys : List Token) → reading.call xs ≡ read_next c ys →
+    reading.placement (token.Mark mark.Node ∷ token.Number n ∷ token.Mark mark.Colon ∷ xs) ≡ read_next (declarations.node (node_with n c)) ys
+unfolding reading.placement reading.node numeral expected skip bind choose
+node_read n c xs ys e = rw e refl
+
+channel_read : (i j : ℤ) (xs : List Token) → reading.placement (token.Mark mark.Channel ∷ token.Number i ∷ token.Mark mark.Arrow ∷ token.Number j ∷ xs)
+    ≡ read_next (declarations.channel (record { from = i; to = j })) xs
+unfolding reading.placement numeral expected skip bind choose
+channel_read i j xs = refl
+
+placement_complete : (x : Placement) (xs ys : List Token) → SpellsPlacement x xs ys → level ys < 14 → reading.placement xs ≡ read_next x ys
+placement_complete _ _ ys (grammar.node {n = n} {call = c} {xs = xs} d) h = node_read n c xs ys (call_complete c xs ys d h)
+placement_complete _ _ ys (grammar.channel {i = i} {j = j}) h = channel_read i j ys
+
+placement_begins : (x : Placement) (xs ys : List Token) → SpellsPlacement x xs ys → at_placement xs ≡ true
+unfolding at_placement at
+placement_begins _ _ _ (grammar.node d) = refl
+placement_begins _ _ _ grammar.channel = refl
+
+placement_level : (x : Placement) (xs ys : List Token) → SpellsPlacement x xs ys → level xs < 14
+placement_level _ _ _ (grammar.node d) = omega arith
+placement_level _ _ _ grammar.channel = omega arith
+
+placed_complete : (ps : List Placement) (xs : List Token) → Several SpellsPlacement ps xs [] → reading.placed xs ≡ read_next ps []
+unfolding reading.placed
+placed_complete ps xs d =
+    several_complete (Below 14) SpellsPlacement reading.placement placement_complete placement_shorter at_placement placement_begins placement_level ps xs [] d (omega arith)
+    (at_placement_below [] (omega arith))
+
+text_read : (ds : List Declaration) (ps : List Placement) (xs ys : List Token) → reading.declared xs ≡ read_next ds (token.Mark mark.System ∷ ys) → reading.placed ys ≡ read_next ps [] →
+    reading.whole xs ≡ read_next (text_with ds ps) []
+unfolding reading.whole ended expected bind
+text_read ds ps xs ys e f = rw e (rw (skip_same mark.System ys) (rw f refl))
+
+-- a text is read as it is spelled
+pub whole_complete : (xs : List Token) (p : SourceText) → Spells p xs → reading.whole xs ≡ read_next p []
+whole_complete xs _ (grammar.text {declarations = ds} {system = ps} {ys = ys} dd pd) =
+    text_read ds ps xs ys (declared_complete ds xs _ dd (omega arith)) (placed_complete ps ys pd)

@@ -1,0 +1,157 @@
+-- What is read of statements is spelled, and none of them is too high.
+use Rattle.std.proofs.Common.{◌≡◌, ◌≤◌, ℕ, zero, suc, Bool, true, false, List, ◌∷◌, Option, Some, None, nat_le, if◌then◌else◌, refl, arith}
+use Rattle.std.proofs.Math.Nat.{max-le}
+use Rattle.std.proofs.lemmas.Option.{some_pair_parts}
+use Rattle.std.proofs.lemmas.Bool.{leb-true}
+use Rattle.ioa_tokens.specs.declared.token.Token.{Token}
+use Rattle.ioa_tokens.specs.declared.token.Token.TheVariants as token
+use Rattle.ioa_tokens.specs.declared.mark.Mark.TheVariants as mark
+use Rattle.ioa_source.specs.PlainTerm.{statements_of, arms_of}
+use Rattle.ioa_source.specs.Sides.{SourceTerm as Term, SourcePlace as Place, SourceStatement as Statement, SourceStatements as Statements}
+use Rattle.ioa_cursor.specs.Lists.{Separated, single, followed, Ended, last, closed, continued}
+use Rattle.ioa_cursor.proofs.Steps.{read_next, chosen, bound, skip_taken, skip_left, expected_taken, word_taken}
+use Rattle.ioa_cursor.proofs.SoundLists.{separated_sound, ended_sound}
+use Rattle.ioa_term_reader.specs.Heights.{height_limit}
+use Rattle.ioa_term_reader.specs.Grammar.{SpellsTerm, bracket_limit}
+use Rattle.ioa_text_reader.specs.StatementHeights.{place_height, statement_height}
+use Rattle.ioa_text_reader.specs.Grammar as grammar
+use Rattle.ioa_text_reader.specs.Grammar.{SpellsPlace, SpellsStatement, SpellsStatements, SpellsArms, SpellsRest, SpellsEffect}
+use Rattle.ioa_text_reader.specs.Reading as reading
+use Rattle.ioa_term_reader.proofs.Sound.{term_sound}
+
+-- a place, and how high the term in it is
+record LowPlace (p : Place) (xs ys : List Token) : Type 0 where
+  spelled : SpellsPlace p xs ys
+  low : place_height p ≤ height_limit
+
+key_place_sound : (w : List ℕ) (xs ys : List Token) (p : Place) → reading.key_place w xs ≡ read_next p ys → LowPlace p (token.Word w ∷ token.Mark mark.OpenSquare ∷ xs) ys
+unfolding reading.key_place
+key_place_sound w xs ys x e =
+    let P : Type 0 = LowPlace x (token.Word w ∷ token.Mark mark.OpenSquare ∷ xs) ys in
+    bound P e (λ t t_is e1. bound P e1 (λ c c_is done.
+    let p = some_pair_parts _ _ _ _ done in
+    let d = rw (expected_taken mark.CloseSquare t.1 c c_is) at (term_sound grammar.inner_limit xs t.1 t.0 t_is) in
+    rw (← p.0, ← p.1) (record { spelled = grammar.at_a_key d; low = d.low })))
+
+nothing_low : 0 ≤ height_limit
+nothing_low = omega arith
+
+place_sound : (xs ys : List Token) (p : Place) → reading.place xs ≡ read_next p ys → LowPlace p xs ys
+unfolding reading.place
+place_sound xs ys x e =
+    let P : Type 0 = LowPlace x xs ys in
+    bound P e (λ w w_is e1.
+    chosen P e1
+    (λ keyed more. rw (word_taken xs w w_is, skip_taken mark.OpenSquare w.1 keyed) (key_place_sound w.0 _ ys x more))
+    (λ no_key more.
+    chosen P more
+    (λ dotted last.
+    bound P last (λ f f_is done.
+    let p = some_pair_parts _ _ _ _ done in
+    rw (word_taken xs w w_is, ← skip_left mark.OpenSquare w.1 no_key, skip_taken mark.Dot _ dotted, word_taken _ f f_is, ← p.0, ← p.1)
+    (record { spelled = grammar.at_a_field; low = nothing_low })))
+    (λ no_dot done.
+    let p = some_pair_parts _ _ _ _ done in
+    rw (word_taken xs w w_is, ← p.0, ← p.1, skip_left mark.Dot _ no_dot, skip_left mark.OpenSquare w.1 no_key)
+    (record { spelled = grammar.whole; low = nothing_low }))))
+
+-- a statement that is not too high
+record LowStatement (s : Statement) (xs ys : List Token) : Type 0 where
+  spelled : SpellsStatement s xs ys
+  low : statement_height s ≤ height_limit
+
+assignment_sound : (xs ys : List Token) (s : Statement) → reading.assignment xs ≡ read_next s ys → LowStatement s xs ys
+unfolding reading.assignment
+assignment_sound xs ys s e =
+    let P : Type 0 = LowStatement s xs ys in
+    bound P e (λ q q_is e1. bound P e1 (λ a a_is e2. bound P e2 (λ t t_is done.
+    let p = some_pair_parts _ _ _ _ done in
+    let place = rw (expected_taken mark.Assign q.1 a a_is) at (place_sound xs q.1 q.0 q_is) in
+    let value = term_sound bracket_limit a.1 t.1 t.0 t_is in
+    rw (← p.0, ← p.1) (record { spelled = grammar.assignment place.spelled value; low = max-le place.low value.low }))))
+
+limited_if : (b : Bool) (s r : Statement) → (b ≡ true → statement_height s ≤ height_limit) → (if b then Some s else None) ≡ Some r →
+    (s ≡ r) × (statement_height s ≤ height_limit)
+limited_if true s r low e = (cc, low refl)
+limited_if false s r low e = absurd cc
+
+limited_taken : (s r : Statement) → reading.limited_statement s ≡ Some r → (s ≡ r) × (statement_height s ≤ height_limit)
+unfolding reading.limited_statement
+limited_taken s r e = limited_if (nat_le (statement_height s) height_limit) s r (leb-true (statement_height s) height_limit) e
+
+-- one arm: its test and its statements
+record SpellsArm (a : Term × Statements) (xs ys : List Token) : Type 0 where
+  inner : List Token
+  test : SpellsTerm bracket_limit a.0 xs (token.Mark mark.Then ∷ inner)
+  body : SpellsStatements a.1 inner ys
+
+arms_from : {arms : List (Term × Statements)} {xs ys : List Token} → Separated mark.ElseIf SpellsArm arms xs ys → SpellsArms (arms_of arms) xs ys
+arms_from (single a) = grammar.one_arm a.test a.body
+arms_from (followed a more) = grammar.more_arms a.test a.body (arms_from more)
+
+effect_from : {statements : List Statement} {xs ys : List Token} → Ended mark.Semicolon LowStatement statements xs ys → SpellsEffect statements xs ys
+effect_from (last s) = record { spelled = grammar.last_statement s.spelled; low = max-le s.low nothing_low }
+effect_from (closed s) = record { spelled = grammar.closed_statement s.spelled; low = max-le s.low nothing_low }
+effect_from (continued s more) =
+    let rest = effect_from more in
+    record { spelled = grammar.more_statements s.spelled rest.spelled; low = max-le s.low rest.low }
+
+module _ (next : List Token → Option (List Statement × List Token))
+    (sound : (xs ys : List Token) (ss : List Statement) → next xs ≡ read_next ss ys → SpellsEffect ss xs ys) where
+  one_arm_sound : (xs ys : List Token) (a : Term × Statements) → reading.one_arm next xs ≡ read_next a ys → SpellsArm a xs ys
+  unfolding reading.one_arm
+  one_arm_sound xs ys a e =
+      let P : Type 0 = SpellsArm a xs ys in
+      bound P e (λ t t_is e1. bound P e1 (λ c c_is e2. bound P e2 (λ ss ss_is done.
+      let p = some_pair_parts _ _ _ _ done in
+      let test = rw (expected_taken mark.Then t.1 c c_is) at (term_sound bracket_limit xs t.1 t.0 t_is) in
+      let body = sound c.1 ss.1 ss.0 ss_is in
+      rw (← p.0, ← p.1) (record { inner = c.1; test = test; body = body.spelled }))))
+
+  all_arms_sound : (xs ys : List Token) (arms : List (Term × Statements)) → reading.all_arms next xs ≡ read_next arms ys → SpellsArms (arms_of arms) xs ys
+  unfolding reading.all_arms
+  all_arms_sound xs ys arms e = arms_from (separated_sound SpellsArm (reading.one_arm next) one_arm_sound mark.ElseIf xs ys arms e)
+
+  rest_sound : (xs ys : List Token) (ss : List Statement) → reading.rest_of next xs ≡ read_next ss ys → SpellsRest (statements_of ss) xs ys
+  unfolding reading.rest_of
+  rest_sound xs ys ss e =
+      let P : Type 0 = SpellsRest (statements_of ss) xs ys in
+      chosen P e
+      (λ is_else more.
+      bound P more (λ r r_is e1. bound P e1 (λ c c_is done.
+      let p = some_pair_parts _ _ _ _ done in
+      let body = rw (expected_taken mark.Fi r.1 c c_is) at (sound _ r.1 r.0 r_is) in
+      rw (skip_taken mark.Else xs is_else, ← p.0, ← p.1) (grammar.otherwise body.spelled))))
+      (λ no_else more.
+      bound P more (λ c c_is done.
+      let p = some_pair_parts _ _ _ _ done in
+      rw (← skip_left mark.Else xs no_else, expected_taken mark.Fi _ c c_is, ← p.0, ← p.1) grammar.no_else))
+
+  choice_sound : (xs ys : List Token) (s : Statement) → reading.choice next xs ≡ read_next s ys → LowStatement s (token.Mark mark.If ∷ xs) ys
+  unfolding reading.choice
+  choice_sound xs ys s e =
+      let P : Type 0 = LowStatement s (token.Mark mark.If ∷ xs) ys in
+      bound P e (λ a a_is e1. bound P e1 (λ r r_is e2. bound P e2 (λ l l_is done.
+      let p = some_pair_parts _ _ _ _ done in
+      let limited = limited_taken _ l l_is in
+      rw (← p.0, ← limited.0, ← p.1)
+      (record { spelled = grammar.choice (all_arms_sound xs a.1 a.0 a_is) (rest_sound a.1 r.1 r.0 r_is); low = limited.1 }))))
+
+  one_statement_sound : (xs ys : List Token) (s : Statement) → reading.one_statement next xs ≡ read_next s ys → LowStatement s xs ys
+  unfolding reading.one_statement
+  one_statement_sound xs ys s e =
+      let P : Type 0 = LowStatement s xs ys in
+      chosen P e
+      (λ is_if more. rw (skip_taken mark.If xs is_if) (choice_sound _ ys s more))
+      (λ no_if more. rw (← skip_left mark.If xs no_if) (assignment_sound _ ys s more))
+
+statements_in_sound : (depth : ℕ) (xs ys : List Token) (ss : List Statement) → reading.statements_in depth xs ≡ read_next ss ys → SpellsEffect ss xs ys
+unfolding reading.statements_in
+statements_in_sound zero xs ys ss e = absurd cc
+statements_in_sound (suc depth) xs ys ss e =
+    effect_from (ended_sound LowStatement (reading.one_statement (reading.statements_in depth)) (one_statement_sound (reading.statements_in depth) (statements_in_sound depth))
+    mark.Semicolon reading.begins_statement xs ys ss e)
+
+pub statements_sound : (xs ys : List Token) (ss : List Statement) → reading.statements xs ≡ read_next ss ys → SpellsEffect ss xs ys
+unfolding reading.statements
+statements_sound xs ys ss e = statements_in_sound height_limit xs ys ss e

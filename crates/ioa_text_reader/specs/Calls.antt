@@ -1,0 +1,8 @@
+-- What a call of the code stands for.
+use Rattle.std.specs.Prelude.{map}
+use Rattle.ioa_source.specs.View.{term_of}
+use Rattle.ioa_text_reader.specs.Grammar as grammar
+use Rattle.ioa_text_reader.specs.declared.call.ActionCall.{ActionCall}
+
+abbrev pub call_of : ActionCall → grammar.Call
+call_of c = record { name = c.name; arguments = map term_of c.arguments.items }

@@ -1,0 +1,10 @@
+-- What the code's names of one sort stand for.
+use Rattle.std.specs.Prelude.{List}
+use Rattle.ioa_source.specs.Sides.{SourceDeclared}
+use Rattle.ioa_source.specs.SortView.{sort_of}
+use Rattle.ioa_text_reader.specs.Grammar.{declare}
+use Rattle.ioa_text_reader.specs.declared.declared.NamesOfSort.{NamesOfSort}
+
+-- each name with the sort
+abbrev pub group_of : NamesOfSort → List SourceDeclared
+group_of g = declare (sort_of g.sort) g.names.items

@@ -1,0 +1,345 @@
+-- How the reader goes through the tokens: a definition for each production, which answers the tree and what comes after it.
+use Rattle.std.specs.Prelude.{ℕ, zero, suc, Bool, true, false, List, [], ◌∷◌, map, Option, Some, None, nat_le, if◌then◌else◌}
+use Rattle.ioa_tokens.specs.declared.token.Token.{Token}
+use Rattle.ioa_tokens.specs.declared.mark.Mark.{Mark}
+use Rattle.ioa_tokens.specs.declared.mark.Mark.TheVariants as mark
+use Rattle.ioa_terms.specs.declared.tree.Kind.{Kind}
+use Rattle.ioa_terms.specs.declared.tree.Kind.TheVariants as kinds
+use Rattle.ioa_source.specs.PlainTerm as plain
+use Rattle.ioa_source.specs.PlainTerm.{statements_of, arms_of}
+use Rattle.ioa_source.specs.PlainSort.{PlainSort, booleans, integers, naturals, sequences, sets, maps, named_type}
+use Rattle.ioa_source.specs.PlainText as declarations
+use Rattle.ioa_source.specs.Sides.{SourceTerm as Term, SourcePlace as Place, SourceStatement as Statement, SourceStatements as Statements, SourceDeclared as Declared, SourceParameter as Parameter, SourceEntry as Entry, SourceVariable as Variable, SourceTransition as Transition, SourceForm as Form, SourceType as TypeOf, SourceAutomaton as Automaton, SourceDeclaration as Declaration, SourceNode as Node, SourcePlacement as Placement, SourceText}
+use Rattle.ioa_cursor.specs.Reading.{◌>>=◌, choose, skip, expected, word, numeral, at, at_word, mark_first, behind, begun, resumed, several, several_more, section, optional, gathered_several, gathered_more, ended}
+use Rattle.ioa_term_reader.specs.Heights.{height_limit}
+use Rattle.ioa_term_reader.specs.Grammar.{bracket_limit}
+use Rattle.ioa_term_reader.specs.Reading.{term}
+use Rattle.ioa_text_reader.specs.Grammar.{Call, declare, inner_limit}
+use Rattle.ioa_text_reader.specs.StatementHeights.{statement_height}
+
+-- a sort is read by what reads the sorts in its brackets
+module _ (next : List Token → Option (PlainSort × List Token)) where
+  -- [ Sort ]
+  unfoldable pub item_sort : List Token → Option (PlainSort × List Token)
+  item_sort xs = expected mark.OpenSquare xs >>= λ o. next o.1 >>= λ s. expected mark.CloseSquare s.1 >>= λ c. Some (s.0, c.1)
+
+  -- [ Sort , Sort ]
+  unfoldable pub map_sort : List Token → Option (PlainSort × List Token)
+  map_sort xs =
+      expected mark.OpenSquare xs >>= λ o. next o.1 >>= λ k. expected mark.Comma k.1 >>= λ m. next m.1 >>= λ v.
+      expected mark.CloseSquare v.1 >>= λ c. Some (maps k.0 v.0, c.1)
+
+  -- the sort that a mark begins, behind it
+  unfoldable pub marked_sort : Mark → List Token → Option (PlainSort × List Token)
+  marked_sort mark.Bool xs = Some (booleans, xs)
+  marked_sort mark.Int xs = Some (integers, xs)
+  marked_sort mark.Nat xs = Some (naturals, xs)
+  marked_sort mark.Seq xs = item_sort xs >>= λ s. Some (sequences s.0, s.1)
+  marked_sort mark.Set xs = item_sort xs >>= λ s. Some (sets s.0, s.1)
+  marked_sort mark.Map xs = map_sort xs
+  marked_sort _ xs = None
+
+  unfoldable pub sort_by : List Token → Option (PlainSort × List Token)
+  sort_by xs =
+      choose (at_word xs)
+      (word xs >>= λ w. Some (named_type w.0, w.1))
+      (mark_first xs >>= λ m. marked_sort m (behind xs))
+
+-- Sort; one bracket less may be open within than it is deep
+unfoldable pub sort_in : ℕ → List Token → Option (PlainSort × List Token)
+sort_in zero xs = None
+sort_in (suc depth) xs = sort_by (sort_in depth) xs
+
+-- Sort, where so many brackets more may be opened
+abbrev pub sort : ℕ → List Token → Option (PlainSort × List Token)
+sort room xs = sort_in (suc room) xs
+
+-- Word {, Word}
+unfoldable pub words : List Token → Option (List (List ℕ) × List Token)
+words xs = several_more (skip mark.Comma) word [] xs
+
+-- Word {, Word} : Sort
+unfoldable pub declared_group : ℕ → List Token → Option (List Declared × List Token)
+declared_group room xs = words xs >>= λ ws. expected mark.Colon ws.1 >>= λ c. sort room c.1 >>= λ s. Some (declare s.0 ws.0, s.1)
+
+-- Declared {, Declared}
+unfoldable pub declared_names : ℕ → List Token → Option (List Declared × List Token)
+declared_names room xs = gathered_more (skip mark.Comma) (declared_group room) xs
+
+-- const Term, or Declared
+unfoldable pub parameter_group : ℕ → List Token → Option (List Parameter × List Token)
+parameter_group room xs =
+    choose (skip mark.Const xs).0
+    (term room (skip mark.Const xs).1 >>= λ t. Some (declarations.const t.0 ∷ [], t.1))
+    (declared_group room (skip mark.Const xs).1 >>= λ ds. Some (map declarations.named ds.0, ds.1))
+
+-- Param {, Param}
+unfoldable pub parameters : ℕ → List Token → Option (List Parameter × List Token)
+parameters room xs = gathered_more (skip mark.Comma) (parameter_group room) xs
+
+-- [ ( [X] ) ]
+abbrev pub in_brackets : {A : Type 0} → (List Token → Option (List A × List Token)) → List Token → Option (List A × List Token)
+in_brackets read xs =
+    choose (skip mark.OpenRound xs).0
+    (choose (skip mark.CloseRound (skip mark.OpenRound xs).1).0
+    (Some ([], (skip mark.CloseRound (skip mark.OpenRound xs).1).1))
+    (read (skip mark.CloseRound (skip mark.OpenRound xs).1).1 >>= λ r. expected mark.CloseRound r.1 >>= λ c. Some (r.0, c.1)))
+    (Some ([], (skip mark.OpenRound xs).1))
+
+-- Term {, Term}, in brackets
+unfoldable pub terms : List Token → Option (List Term × List Token)
+terms xs = several_more (skip mark.Comma) (term inner_limit) [] xs
+
+-- [ ( [Term {, Term}] ) ]
+unfoldable pub arguments : List Token → Option (List Term × List Token)
+arguments xs = in_brackets terms xs
+
+-- Word and its arguments
+unfoldable pub call : List Token → Option (Call × List Token)
+call xs = word xs >>= λ w. arguments w.1 >>= λ ts. Some (record { name = w.0; arguments = ts.0 }, ts.1)
+
+-- the kind that a mark is
+abbrev pub kind_of : Mark → Option Kind
+kind_of mark.Input = Some kinds.Input
+kind_of mark.Output = Some kinds.Output
+kind_of mark.Internal = Some kinds.Internal
+kind_of _ = None
+
+-- the kind that comes first, where one does
+unfoldable pub kind_first : List Token → Option Kind
+kind_first xs = mark_first xs >>= λ m. kind_of m
+
+-- whether a kind comes first
+unfoldable pub at_kind : List Token → Bool
+at_kind xs = elim (kind_first xs) [ None ↦ false | Some k ↦ true ]
+
+-- input, output or internal
+unfoldable pub kind : List Token → Option (Kind × List Token)
+kind xs = kind_first xs >>= λ k. Some (k, behind xs)
+
+-- [ ( [Param {, Param}] ) ]
+unfoldable pub entry_parameters : List Token → Option (List Parameter × List Token)
+entry_parameters xs = in_brackets (parameters inner_limit) xs
+
+-- [where Term]
+unfoldable pub condition : List Token → Option (Option Term × List Token)
+condition xs = optional mark.Where (term bracket_limit) xs
+
+-- Word [ ( [Param {, Param}] ) ] [where Term]
+unfoldable pub entry : Kind → List Token → Option (Entry × List Token)
+entry k xs =
+    word xs >>= λ w. entry_parameters w.1 >>= λ ps. condition ps.1 >>= λ c.
+    Some (record { kind = k; name = w.0; parameters = ps.0; condition = c.0 }, c.1)
+
+-- Entry {, Entry} [,]
+unfoldable pub entries : Kind → List Token → Option (List Entry × List Token)
+entries k xs = several_more (resumed mark.Comma at_word) (entry k) [] xs
+
+-- Kind Entry {, Entry} [,]
+unfoldable pub group : List Token → Option (List Entry × List Token)
+group xs = kind xs >>= λ k. entries k.0 k.1
+
+-- {Kind Entry {, Entry} [,]}
+unfoldable pub groups : List Token → Option (List Entry × List Token)
+groups xs = gathered_several (begun at_kind) group xs
+
+-- [:= Term]
+unfoldable pub initial : List Token → Option (Option Term × List Token)
+initial xs = optional mark.Assign (term bracket_limit) xs
+
+-- Word : Sort [:= Term]
+unfoldable pub variable : List Token → Option (Variable × List Token)
+variable xs =
+    word xs >>= λ w. expected mark.Colon w.1 >>= λ c. sort bracket_limit c.1 >>= λ s. initial s.1 >>= λ i.
+    Some (record { declared = record { name = w.0; sort = s.0; shape = tt }; initial = i.0 }, i.1)
+
+-- Variable {, Variable}
+unfoldable pub variables : List Token → Option (List Variable × List Token)
+variables xs = several_more (skip mark.Comma) variable [] xs
+
+-- Term ], behind the word and the first bracket of a place
+unfoldable pub key_place : List ℕ → List Token → Option (Place × List Token)
+key_place w xs = term inner_limit xs >>= λ t. expected mark.CloseSquare t.1 >>= λ c. Some (plain.at_key w tt tt t.0, c.1)
+
+-- Word, Word [ Term ], or Word . Word
+unfoldable pub place : List Token → Option (Place × List Token)
+place xs =
+    word xs >>= λ w.
+    choose (skip mark.OpenSquare w.1).0
+    (key_place w.0 (skip mark.OpenSquare w.1).1)
+    (choose (skip mark.Dot (skip mark.OpenSquare w.1).1).0
+    (word (skip mark.Dot (skip mark.OpenSquare w.1).1).1 >>= λ f. Some (plain.at_field w.0 tt tt f.0, f.1))
+    (Some (plain.variable w.0 tt tt, (skip mark.Dot (skip mark.OpenSquare w.1).1).1)))
+
+-- Place := Term
+unfoldable pub assignment : List Token → Option (Statement × List Token)
+assignment xs = place xs >>= λ p. expected mark.Assign p.1 >>= λ a. term bracket_limit a.1 >>= λ t. Some (plain.assign p.0 t.0, t.1)
+
+-- a statement, where it is not too high
+unfoldable pub limited_statement : Statement → Option Statement
+limited_statement s = if nat_le (statement_height s) height_limit then Some s else None
+
+-- whether a statement begins
+unfoldable pub begins_statement : List Token → Bool
+begins_statement xs = if at_word xs then true else at mark.If xs
+
+-- a statement is read by what reads the statements in it
+module _ (next : List Token → Option (List Statement × List Token)) where
+  -- Term then Statements
+  unfoldable pub one_arm : List Token → Option ((Term × Statements) × List Token)
+  one_arm xs = term bracket_limit xs >>= λ t. expected mark.Then t.1 >>= λ e. next e.1 >>= λ ss. Some ((t.0, statements_of ss.0), ss.1)
+
+  -- Term then Statements {elseif Term then Statements}
+  unfoldable pub all_arms : List Token → Option (List (Term × Statements) × List Token)
+  all_arms xs = several_more (skip mark.ElseIf) one_arm [] xs
+
+  -- [else Statements] fi
+  unfoldable pub rest_of : List Token → Option (List Statement × List Token)
+  rest_of xs =
+      choose (skip mark.Else xs).0
+      (next (skip mark.Else xs).1 >>= λ ss. expected mark.Fi ss.1 >>= λ c. Some (ss.0, c.1))
+      (expected mark.Fi (skip mark.Else xs).1 >>= λ c. Some ([], c.1))
+
+  -- if Arms [else Statements] fi, behind the first word
+  unfoldable pub choice : List Token → Option (Statement × List Token)
+  choice xs =
+      all_arms xs >>= λ arms. rest_of arms.1 >>= λ r. limited_statement (plain.choose (arms_of arms.0) (statements_of r.0)) >>= λ s. Some (s, r.1)
+
+  -- Place := Term, or if Arms [else Statements] fi
+  unfoldable pub one_statement : List Token → Option (Statement × List Token)
+  one_statement xs = choose (skip mark.If xs).0 (choice (skip mark.If xs).1) (assignment (skip mark.If xs).1)
+
+-- Statement {; Statement} [;]; the statements in a statement are one less deep
+unfoldable pub statements_in : ℕ → List Token → Option (List Statement × List Token)
+statements_in zero xs = None
+statements_in (suc depth) xs = several_more (resumed mark.Semicolon begins_statement) (one_statement (statements_in depth)) [] xs
+
+-- the statements of an effect
+unfoldable pub statements : List Token → Option (List Statement × List Token)
+statements xs = statements_in height_limit xs
+
+-- [eff Statements]
+unfoldable pub effect : List Token → Option (List Statement × List Token)
+effect xs = section mark.Eff statements xs
+
+-- Term [;]
+unfoldable pub guard : List Token → Option (Term × List Token)
+guard xs = term bracket_limit xs >>= λ t. Some (t.0, (skip mark.Semicolon t.1).1)
+
+-- [pre Term [;]]
+unfoldable pub guard_part : List Token → Option (Option Term × List Token)
+guard_part xs = optional mark.Pre guard xs
+
+-- Kind Call [pre Term [;]] [eff Statements]
+unfoldable pub transition : List Token → Option (Transition × List Token)
+transition xs =
+    kind xs >>= λ k. call k.1 >>= λ h. guard_part h.1 >>= λ g. effect g.1 >>= λ e.
+    Some (record { kind = k.0; name = h.0.name; arguments = h.0.arguments; pre = g.0; effect = e.0 }, e.1)
+
+-- {Transition}
+unfoldable pub transitions : List Token → Option (List Transition × List Token)
+transitions xs = several (begun at_kind) transition xs
+
+-- fire [Kind] Call
+unfoldable pub firing : List Token → Option (Statement × List Token)
+firing xs =
+    expected mark.Fire xs >>= λ f.
+    choose (at_kind f.1)
+    (kind f.1 >>= λ k. call k.1 >>= λ c. Some (plain.fire (Some k.0) c.0.name c.0.arguments, c.1))
+    (call f.1 >>= λ c. Some (plain.fire None c.0.name c.0.arguments, c.1))
+
+-- Fire {; Fire} [;]
+unfoldable pub firings : List Token → Option (List Statement × List Token)
+firings xs = several_more (resumed mark.Semicolon (at mark.Fire)) firing [] xs
+
+-- do [Fire {; Fire} [;]] od
+unfoldable pub block : List Token → Option (List Statement × List Token)
+block xs =
+    expected mark.Do xs >>= λ d.
+    choose (skip mark.Od d.1).0
+    (Some ([], (skip mark.Od d.1).1))
+    (firings (skip mark.Od d.1).1 >>= λ fs. expected mark.Od fs.1 >>= λ o. Some (fs.0, o.1))
+
+-- [signature Groups]
+unfoldable pub signature_part : List Token → Option (List Entry × List Token)
+signature_part xs = section mark.Signature groups xs
+
+-- [states Variables]
+unfoldable pub states_part : List Token → Option (List Variable × List Token)
+states_part xs = section mark.States variables xs
+
+-- [transitions {Transition}]
+unfoldable pub transitions_part : List Token → Option (List Transition × List Token)
+transitions_part xs = section mark.Transitions transitions xs
+
+-- [schedule Block]
+unfoldable pub schedule_part : List Token → Option (List Statement × List Token)
+schedule_part xs = section mark.Schedule block xs
+
+-- [ ( Declared {, Declared} ) ]
+unfoldable pub head : List Token → Option (List Declared × List Token)
+head xs =
+    choose (skip mark.OpenRound xs).0
+    (declared_names inner_limit (skip mark.OpenRound xs).1 >>= λ ds. expected mark.CloseRound ds.1 >>= λ c. Some (ds.0, c.1))
+    (Some ([], (skip mark.OpenRound xs).1))
+
+-- an automaton behind its first word: Word, and its five parts
+unfoldable pub automaton : List Token → Option (Automaton × List Token)
+automaton xs =
+    word xs >>= λ w. head w.1 >>= λ h. signature_part h.1 >>= λ g. states_part g.1 >>= λ v. transitions_part v.1 >>= λ t. schedule_part t.1 >>= λ b.
+    Some (record { name = w.0; parameters = h.0; signature = g.0; states = v.0; transitions = t.0; schedule = b.0 }, b.1)
+
+-- enumeration of Word {, Word}, or tuple of Declared {, Declared}
+unfoldable pub form : List Token → Option (Form × List Token)
+form xs =
+    choose (skip mark.Enumeration xs).0
+    (expected mark.Of (skip mark.Enumeration xs).1 >>= λ o. words o.1 >>= λ ws. Some (declarations.enumeration ws.0, ws.1))
+    (expected mark.Tuple (skip mark.Enumeration xs).1 >>= λ t. expected mark.Of t.1 >>= λ o. declared_names bracket_limit o.1 >>= λ ds.
+    Some (declarations.tuple_of ds.0, ds.1))
+
+-- a type behind its first word: Word = Form
+unfoldable pub type_declaration : List Token → Option (TypeOf × List Token)
+type_declaration xs = word xs >>= λ w. expected mark.Equal w.1 >>= λ e. form e.1 >>= λ f. Some (record { name = w.0; form = f.0 }, f.1)
+
+-- whether a declaration begins
+unfoldable pub at_declaration : List Token → Bool
+at_declaration xs = if at mark.Type xs then true else at mark.Automaton xs
+
+-- Type or Automaton
+unfoldable pub declaration : List Token → Option (Declaration × List Token)
+declaration xs =
+    choose (skip mark.Type xs).0
+    (type_declaration (skip mark.Type xs).1 >>= λ t. Some (declarations.type_named t.0, t.1))
+    (expected mark.Automaton (skip mark.Type xs).1 >>= λ m. automaton m.1 >>= λ a. Some (declarations.automaton a.0, a.1))
+
+-- {Type or Automaton}
+unfoldable pub declared : List Token → Option (List Declaration × List Token)
+declared xs = several (begun at_declaration) declaration xs
+
+-- whether node or channel comes first
+unfoldable pub at_placement : List Token → Bool
+at_placement xs = if at mark.Node xs then true else at mark.Channel xs
+
+-- Number : Call, behind the first word
+unfoldable pub node : List Token → Option (Node × List Token)
+node xs =
+    numeral xs >>= λ n. expected mark.Colon n.1 >>= λ c. call c.1 >>= λ a.
+    Some (record { number = n.0; automaton = a.0.name; arguments = a.0.arguments }, a.1)
+
+-- node Number : Call, or channel Number -> Number
+unfoldable pub placement : List Token → Option (Placement × List Token)
+placement xs =
+    choose (skip mark.Node xs).0
+    (node (skip mark.Node xs).1 >>= λ n. Some (declarations.node n.0, n.1))
+    (expected mark.Channel (skip mark.Node xs).1 >>= λ c. numeral c.1 >>= λ i. expected mark.Arrow i.1 >>= λ a. numeral a.1 >>= λ j.
+    Some (declarations.channel (record { from = i.0; to = j.0 }), j.1))
+
+-- {Placement}
+unfoldable pub placed : List Token → Option (List Placement × List Token)
+placed xs = several (begun at_placement) placement xs
+
+-- a whole text
+unfoldable pub whole : List Token → Option (SourceText × List Token)
+whole xs =
+    declared xs >>= λ d. expected mark.System d.1 >>= λ s. placed s.1 >>= λ p. ended p.1 >>= λ e.
+    Some (record { declarations = d.0; system = p.0 }, e.1)

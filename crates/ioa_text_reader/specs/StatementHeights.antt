@@ -1,0 +1,28 @@
+-- How high the trees of statements are (profile).
+use Rattle.std.specs.Prelude.{ℕ, suc, max}
+use Rattle.ioa_source.specs.PlainTerm.{terms_of, variable, at_key, at_field, assign, choose, fire, no_statements, statement, no_arms, arm}
+use Rattle.ioa_source.specs.Sides.{SourcePlace, SourceStatement, SourceStatements, SourceArms}
+use Rattle.ioa_term_reader.specs.Heights.{height, heights}
+
+-- the term in a place
+abbrev pub place_height : SourcePlace → ℕ
+place_height (variable w at shape) = 0
+place_height (at_key w at shape t) = height t
+place_height (at_field w at shape f) = 0
+
+abbrev mutual
+  -- an assignment or a firing is as high as its highest part, and at least 1; an `if` is one higher than its highest part
+  pub statement_height : SourceStatement → ℕ
+  statement_height (assign p t) = max (place_height p) (height t)
+  statement_height (choose arms rest) = suc (max (arms_height arms) (statements_height rest))
+  statement_height (fire k w ts) = max 1 (heights (terms_of ts))
+
+  -- the highest of several statements
+  pub statements_height : SourceStatements → ℕ
+  statements_height no_statements = 0
+  statements_height (statement s more) = max (statement_height s) (statements_height more)
+
+  -- the highest of the tests and statements of several arms
+  pub arms_height : SourceArms → ℕ
+  arms_height no_arms = 0
+  arms_height (arm t ss more) = max (max (height t) (statements_height ss)) (arms_height more)

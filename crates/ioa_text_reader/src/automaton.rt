@@ -1,0 +1,238 @@
+//! Automata: their parameters, state variables, transitions and schedule blocks.
+
+ghost use Rattle.std.specs.Prelude.{◌≡◌, map};
+ghost use Rattle.std.specs.Option.{option_map};
+ghost use Rattle.ioa_cursor.specs.Outcome.{Reads};
+ghost use Rattle.ioa_source.specs.TextView.{declared_of, variable_of, transition_of, automaton_of};
+ghost use Rattle.ioa_source.specs.View.{term_of, statement_of};
+ghost use Rattle.ioa_text_reader.specs.Reading as spec;
+
+use crate::call::{INNER_LIMIT, at_kind, call, kind};
+use crate::declared::declared_names;
+use crate::signature::signature_part;
+use crate::sort::sort;
+use crate::statement::effect;
+use ioa_cursor::{Tokens, Unread};
+use ioa_source::{Automaton, Declared, Transition, Variable};
+use ioa_term_reader::{BRACKET_LIMIT, term};
+use ioa_terms::{Statement, Term};
+use ioa_tokens::Mark;
+use std::alloc::Global;
+
+/// [`:=` Term]
+#[tactic(auto, unfolding(crate::specs::Reading::initial, ioa_cursor::specs::Reading::bind, ioa_cursor::specs::Reading::choose))]
+fn initial(alloc: Global, tokens: &mut Tokens<'_>) -> Result<Option<Term>, Unread>
+    ensures { Reads (option_map term_of) (spec.initial tokens.old) result tokens.new }
+{
+    if !tokens.skip(Mark::Assign) {
+        return Ok(None);
+    }
+    let initial = term(alloc, tokens, BRACKET_LIMIT)?;
+    Ok(Some(initial.into_tree()))
+}
+
+/// Word `:` Sort [`:=` Term]
+#[tactic(auto, unfolding(crate::specs::Reading::variable, ioa_cursor::specs::Reading::bind))]
+fn variable(alloc: Global, tokens: &mut Tokens<'_>) -> Result<Variable<(), ()>, Unread>
+    ensures { Reads variable_of (spec.variable tokens.old) result tokens.new }
+{
+    let name = tokens.word(alloc)?;
+    tokens.expect(Mark::Colon)?;
+    let sort = sort(alloc, tokens, BRACKET_LIMIT)?;
+    let initial = initial(alloc, tokens)?;
+    Ok(Variable {
+        declared: Declared {
+            name,
+            sort,
+            shape: (),
+        },
+        initial,
+    })
+}
+
+/// Variable {`,` Variable}
+#[tactic(auto, unfolding(crate::specs::Reading::variables, ioa_cursor::specs::Reading::bind))]
+fn variables(alloc: Global, tokens: &mut Tokens<'_>) -> Result<Vec<Variable<(), ()>>, Unread>
+    ensures { Reads (λ v. map variable_of v.items) (spec.variables tokens.old) result tokens.new }
+{
+    let mut variables = Vec::new(alloc);
+    variables.push(variable(alloc, tokens)?)?;
+    for _turn in 0..tokens.len() {
+        if !tokens.skip(Mark::Comma) {
+            return Ok(variables);
+        }
+        variables.push(variable(alloc, tokens)?)?;
+    }
+    Ok(variables)
+}
+
+/// Term [`;`]
+#[tactic(auto, unfolding(crate::specs::Reading::guard, ioa_cursor::specs::Reading::bind))]
+fn guard(alloc: Global, tokens: &mut Tokens<'_>) -> Result<Term, Unread>
+    ensures { Reads term_of (spec.guard tokens.old) result tokens.new }
+{
+    let guard = term(alloc, tokens, BRACKET_LIMIT)?;
+    let _closed = tokens.skip(Mark::Semicolon);
+    Ok(guard.into_tree())
+}
+
+/// [`pre` Term [`;`]]
+#[tactic(auto, unfolding(crate::specs::Reading::guard_part, ioa_cursor::specs::Reading::bind, ioa_cursor::specs::Reading::choose))]
+fn guard_part(alloc: Global, tokens: &mut Tokens<'_>) -> Result<Option<Term>, Unread>
+    ensures { Reads (option_map term_of) (spec.guard_part tokens.old) result tokens.new }
+{
+    if !tokens.skip(Mark::Pre) {
+        return Ok(None);
+    }
+    let guard = guard(alloc, tokens)?;
+    Ok(Some(guard))
+}
+
+/// Kind Call [`pre` Term [`;`]] [`eff` Statements]
+#[tactic(auto, unfolding(crate::specs::Reading::transition, ioa_cursor::specs::Reading::bind))]
+fn transition(alloc: Global, tokens: &mut Tokens<'_>) -> Result<Transition<(), ()>, Unread>
+    ensures { Reads transition_of (spec.transition tokens.old) result tokens.new }
+{
+    let kind = kind(tokens)?;
+    let head = call(alloc, tokens)?;
+    let pre = guard_part(alloc, tokens)?;
+    let effect = effect(alloc, tokens)?;
+    Ok(Transition {
+        kind,
+        name: head.name,
+        arguments: head.arguments,
+        pre,
+        effect,
+    })
+}
+
+/// {Transition}
+#[tactic(auto, unfolding(crate::specs::Reading::transitions))]
+fn transitions(alloc: Global, tokens: &mut Tokens<'_>) -> Result<Vec<Transition<(), ()>>, Unread>
+    ensures { Reads (λ v. map transition_of v.items) (spec.transitions tokens.old) result tokens.new }
+{
+    let mut transitions = Vec::new(alloc);
+    for _turn in 0..tokens.len() {
+        if !at_kind(tokens) {
+            return Ok(transitions);
+        }
+        transitions.push(transition(alloc, tokens)?)?;
+    }
+    Ok(transitions)
+}
+
+/// `fire` [Kind] Call
+#[tactic(auto, unfolding(crate::specs::Reading::firing, ioa_cursor::specs::Reading::bind, ioa_cursor::specs::Reading::choose))]
+fn firing(alloc: Global, tokens: &mut Tokens<'_>) -> Result<Statement<(), ()>, Unread>
+    ensures { Reads statement_of (spec.firing tokens.old) result tokens.new }
+{
+    tokens.expect(Mark::Fire)?;
+    if !at_kind(tokens) {
+        let fired = call(alloc, tokens)?;
+        return Ok(Statement::Fire(None, fired.name, fired.arguments));
+    }
+    let kind = kind(tokens)?;
+    let fired = call(alloc, tokens)?;
+    Ok(Statement::Fire(Some(kind), fired.name, fired.arguments))
+}
+
+/// Fire {`;` Fire} [`;`]
+#[tactic(auto, unfolding(crate::specs::Reading::firings, ioa_cursor::specs::Reading::bind))]
+fn firings(alloc: Global, tokens: &mut Tokens<'_>) -> Result<Vec<Statement<(), ()>>, Unread>
+    ensures { Reads (λ v. map statement_of v.items) (spec.firings tokens.old) result tokens.new }
+{
+    let mut firings = Vec::new(alloc);
+    firings.push(firing(alloc, tokens)?)?;
+    for _turn in 0..tokens.len() {
+        if !tokens.resumes_with(Mark::Semicolon, Mark::Fire) {
+            return Ok(firings);
+        }
+        firings.push(firing(alloc, tokens)?)?;
+    }
+    Ok(firings)
+}
+
+/// `do` [Fire {`;` Fire} [`;`]] `od`
+#[tactic(auto, unfolding(crate::specs::Reading::block, ioa_cursor::specs::Reading::bind, ioa_cursor::specs::Reading::choose))]
+fn block(alloc: Global, tokens: &mut Tokens<'_>) -> Result<Vec<Statement<(), ()>>, Unread>
+    ensures { Reads (λ v. map statement_of v.items) (spec.block tokens.old) result tokens.new }
+{
+    tokens.expect(Mark::Do)?;
+    if tokens.skip(Mark::Od) {
+        return Ok(Vec::new(alloc));
+    }
+    let firings = firings(alloc, tokens)?;
+    tokens.expect(Mark::Od)?;
+    Ok(firings)
+}
+
+/// [`states` Variable {`,` Variable}]
+#[tactic(auto, unfolding(crate::specs::Reading::states_part, ioa_cursor::specs::Reading::choose))]
+fn states_part(alloc: Global, tokens: &mut Tokens<'_>) -> Result<Vec<Variable<(), ()>>, Unread>
+    ensures { Reads (λ v. map variable_of v.items) (spec.states_part tokens.old) result tokens.new }
+{
+    if !tokens.skip(Mark::States) {
+        return Ok(Vec::new(alloc));
+    }
+    variables(alloc, tokens)
+}
+
+/// [`transitions` {Transition}]
+#[tactic(auto, unfolding(crate::specs::Reading::transitions_part, ioa_cursor::specs::Reading::choose))]
+fn transitions_part(
+    alloc: Global,
+    tokens: &mut Tokens<'_>,
+) -> Result<Vec<Transition<(), ()>>, Unread>
+    ensures { Reads (λ v. map transition_of v.items) (spec.transitions_part tokens.old) result tokens.new }
+{
+    if !tokens.skip(Mark::Transitions) {
+        return Ok(Vec::new(alloc));
+    }
+    transitions(alloc, tokens)
+}
+
+/// [`schedule` Block]
+#[tactic(auto, unfolding(crate::specs::Reading::schedule_part, ioa_cursor::specs::Reading::choose))]
+fn schedule_part(alloc: Global, tokens: &mut Tokens<'_>) -> Result<Vec<Statement<(), ()>>, Unread>
+    ensures { Reads (λ v. map statement_of v.items) (spec.schedule_part tokens.old) result tokens.new }
+{
+    if !tokens.skip(Mark::Schedule) {
+        return Ok(Vec::new(alloc));
+    }
+    block(alloc, tokens)
+}
+
+/// [`(` Declared {`,` Declared} `)`]
+#[tactic(auto, unfolding(crate::specs::Reading::head, ioa_cursor::specs::Reading::bind, ioa_cursor::specs::Reading::choose))]
+fn head(alloc: Global, tokens: &mut Tokens<'_>) -> Result<Vec<Declared<()>>, Unread>
+    ensures { Reads (λ v. map declared_of v.items) (spec.head tokens.old) result tokens.new }
+{
+    if !tokens.skip(Mark::OpenRound) {
+        return Ok(Vec::new(alloc));
+    }
+    let parameters = declared_names(alloc, tokens, INNER_LIMIT)?;
+    tokens.expect(Mark::CloseRound)?;
+    Ok(parameters)
+}
+
+/// Word [`(` Declared {`,` Declared} `)`] [Signature] [States] [Transitions] [Schedule], behind
+/// `automaton`
+#[tactic(auto, unfolding(crate::specs::Reading::automaton, ioa_cursor::specs::Reading::bind))]
+pub(crate) fn automaton(alloc: Global, tokens: &mut Tokens<'_>) -> Result<Automaton<(), ()>, Unread>
+    ensures { Reads automaton_of (spec.automaton tokens.old) result tokens.new }
+{
+    let name = tokens.word(alloc)?;
+    let parameters = head(alloc, tokens)?;
+    let signature = signature_part(alloc, tokens)?;
+    let states = states_part(alloc, tokens)?;
+    let transitions = transitions_part(alloc, tokens)?;
+    let schedule = schedule_part(alloc, tokens)?;
+    Ok(Automaton {
+        name,
+        parameters,
+        signature,
+        states,
+        transitions,
+        schedule,
+    })
+}

@@ -1,0 +1,112 @@
+//! Calls and kinds of actions.
+
+ghost use Rattle.std.specs.Prelude.{◌≡◌, map};
+ghost use Rattle.ioa_cursor.specs.Outcome.{Reads};
+ghost use Rattle.ioa_source.specs.View.{term_of};
+ghost use Rattle.ioa_text_reader.specs.Calls.{call_of};
+ghost use Rattle.ioa_text_reader.specs.Reading as spec;
+
+use ioa_cursor::{Tokens, Unread};
+use ioa_term_reader::term;
+use ioa_terms::{Kind, Term, Word};
+use ioa_tokens::Mark;
+use std::alloc::Global;
+
+/// How many brackets may be open at once within the brackets of a call, an entry, an automaton or a
+/// place, which are open too.
+pub(crate) const INNER_LIMIT: usize = 127;
+
+/// An action as a text writes it.
+#[derive(Drop)]
+pub(crate) struct ActionCall {
+    /// Its name.
+    pub(crate) name: Word,
+    /// Its arguments, none where it has no brackets.
+    pub(crate) arguments: Vec<Term>,
+}
+
+/// Term {`,` Term}, in brackets
+#[tactic(auto, unfolding(crate::specs::Reading::terms, ioa_cursor::specs::Reading::bind))]
+fn terms(alloc: Global, tokens: &mut Tokens<'_>) -> Result<Vec<Term>, Unread>
+    ensures { Reads (λ v. map term_of v.items) (spec.terms tokens.old) result tokens.new }
+{
+    let mut terms = Vec::new(alloc);
+    terms.push(term(alloc, tokens, INNER_LIMIT)?.into_tree())?;
+    for _turn in 0..tokens.len() {
+        if !tokens.skip(Mark::Comma) {
+            return Ok(terms);
+        }
+        let next = term(alloc, tokens, INNER_LIMIT)?;
+        terms.push(next.into_tree())?;
+    }
+    Ok(terms)
+}
+
+/// [`(` [Term {`,` Term}] `)`]
+#[tactic(auto, unfolding(crate::specs::Reading::arguments, ioa_cursor::specs::Reading::bind, ioa_cursor::specs::Reading::choose))]
+fn arguments(alloc: Global, tokens: &mut Tokens<'_>) -> Result<Vec<Term>, Unread>
+    ensures { Reads (λ v. map term_of v.items) (spec.arguments tokens.old) result tokens.new }
+{
+    if !tokens.skip(Mark::OpenRound) {
+        return Ok(Vec::new(alloc));
+    }
+    if tokens.skip(Mark::CloseRound) {
+        return Ok(Vec::new(alloc));
+    }
+    let arguments = terms(alloc, tokens)?;
+    tokens.expect(Mark::CloseRound)?;
+    Ok(arguments)
+}
+
+/// Word [`(` [Term {`,` Term}] `)`]
+#[tactic(auto, unfolding(crate::specs::Reading::call, ioa_cursor::specs::Reading::bind))]
+pub(crate) fn call(alloc: Global, tokens: &mut Tokens<'_>) -> Result<ActionCall, Unread>
+    ensures { Reads call_of (spec.call tokens.old) result tokens.new }
+{
+    let name = tokens.word(alloc)?;
+    let arguments = arguments(alloc, tokens)?;
+    Ok(ActionCall { name, arguments })
+}
+
+/// The kind that a mark is.
+fn kind_of(mark: Mark) -> Option<Kind>
+    ensures { result ≡ spec.kind_of mark }
+{
+    match mark {
+        Mark::Input => Some(Kind::Input),
+        Mark::Output => Some(Kind::Output),
+        Mark::Internal => Some(Kind::Internal),
+        _ => None,
+    }
+}
+
+/// The kind that comes first, where one does.
+#[tactic(auto, unfolding(crate::specs::Reading::kind_first, ioa_cursor::specs::Reading::bind))]
+fn kind_first(tokens: &Tokens<'_>) -> Option<Kind>
+    ensures { result ≡ spec.kind_first tokens.now }
+{
+    kind_of(tokens.peek_mark()?)
+}
+
+/// Whether a kind comes first.
+#[tactic(auto, unfolding(crate::specs::Reading::at_kind))]
+pub(crate) fn at_kind(tokens: &Tokens<'_>) -> bool
+    ensures { result ≡ spec.at_kind tokens.now }
+{
+    kind_first(tokens).is_some()
+}
+
+/// `input`, `output` or `internal`
+#[tactic(auto, unfolding(crate::specs::Reading::kind, ioa_cursor::specs::Reading::bind))]
+pub(crate) fn kind(tokens: &mut Tokens<'_>) -> Result<Kind, Unread>
+    ensures { Reads (λ k. k) (spec.kind tokens.old) result tokens.new }
+{
+    let refused = tokens.refused();
+    match kind_first(tokens) {
+        None => Err(refused),
+        Some(kind) => {
+            tokens.advance();
+            Ok(kind)
+        }
+    }
+}

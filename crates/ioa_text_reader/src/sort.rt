@@ -1,0 +1,106 @@
+//! Sorts.
+
+ghost use Rattle.std.specs.Prelude.{◌≡◌, suc};
+ghost use Rattle.ioa_cursor.specs.Outcome.{Reads};
+ghost use Rattle.ioa_source.specs.SortView.{sort_of};
+ghost use Rattle.ioa_text_reader.specs.Reading as spec;
+
+use ioa_cursor::{Tokens, Unread};
+use ioa_source::Sort;
+use ioa_tokens::Mark;
+use std::alloc::Global;
+
+/// Sort. `room` is how many brackets more may be opened.
+#[cycle(sort)]
+#[tactic(auto, unfolding(crate::specs::Reading::sort_in, crate::specs::Reading::sort_by, ioa_cursor::specs::Reading::bind, ioa_cursor::specs::Reading::choose))]
+pub(crate) fn sort(alloc: Global, tokens: &mut Tokens<'_>, room: usize) -> Result<Sort, Unread>
+    ensures { Reads sort_of (spec.sort room tokens.old) result tokens.new }
+{
+    if tokens.at_word() {
+        let name = tokens.word(alloc)?;
+        return Ok(Sort::Named(name));
+    }
+    let refused = tokens.refused();
+    match tokens.peek_mark() {
+        None => Err(refused),
+        Some(mark) => {
+            tokens.advance();
+            marked_sort(alloc, tokens, room, mark, refused)
+        }
+    }
+}
+
+/// The sort that a mark begins, behind it. `refused` is the refusal of the mark.
+#[cycle(sort)]
+#[tactic(auto, unfolding(crate::specs::Reading::marked_sort, ioa_cursor::specs::Reading::bind))]
+fn marked_sort(
+    alloc: Global,
+    tokens: &mut Tokens<'_>,
+    room: usize,
+    mark: Mark,
+    refused: Unread,
+) -> Result<Sort, Unread>
+    ensures { Reads sort_of (spec.marked_sort (spec.sort_in room) mark tokens.old) result tokens.new }
+{
+    match mark {
+        Mark::Bool => Ok(Sort::Bool),
+        Mark::Int => Ok(Sort::Int),
+        Mark::Nat => Ok(Sort::Nat),
+        Mark::Seq => {
+            let items = item_sort(alloc, tokens, room)?;
+            Ok(Sort::Seq(Box::new(alloc, items)?))
+        }
+        Mark::Set => {
+            let members = item_sort(alloc, tokens, room)?;
+            Ok(Sort::Set(Box::new(alloc, members)?))
+        }
+        Mark::Map => map_sort(alloc, tokens, room),
+        _ => Err(refused),
+    }
+}
+
+/// `[` Sort `]`
+#[cycle(sort)]
+#[tactic(auto, unfolding(crate::specs::Reading::item_sort, ioa_cursor::specs::Reading::bind))]
+fn item_sort(alloc: Global, tokens: &mut Tokens<'_>, room: usize) -> Result<Sort, Unread>
+    ensures { Reads sort_of (spec.item_sort (spec.sort_in room) tokens.old) result tokens.new }
+{
+    let deep = tokens.too_deep();
+    tokens.expect(Mark::OpenSquare)?;
+    let items = inner_sort(alloc, tokens, room, deep)?;
+    tokens.expect(Mark::CloseSquare)?;
+    Ok(items)
+}
+
+/// `[` Sort `,` Sort `]`
+#[cycle(sort)]
+#[tactic(auto, unfolding(crate::specs::Reading::map_sort, ioa_cursor::specs::Reading::bind))]
+fn map_sort(alloc: Global, tokens: &mut Tokens<'_>, room: usize) -> Result<Sort, Unread>
+    ensures { Reads sort_of (spec.map_sort (spec.sort_in room) tokens.old) result tokens.new }
+{
+    let deep = tokens.too_deep();
+    tokens.expect(Mark::OpenSquare)?;
+    let keys = inner_sort(alloc, tokens, room, deep)?;
+    let deep = tokens.too_deep();
+    tokens.expect(Mark::Comma)?;
+    let values = inner_sort(alloc, tokens, room, deep)?;
+    tokens.expect(Mark::CloseSquare)?;
+    Ok(Sort::Map(Box::new(alloc, keys)?, Box::new(alloc, values)?))
+}
+
+/// A sort behind a bracket, for which there may be no room: then the refusal is `deep`.
+#[cycle(sort)]
+#[tactic(auto, unfolding(crate::specs::Reading::sort_in))]
+fn inner_sort(
+    alloc: Global,
+    tokens: &mut Tokens<'_>,
+    room: usize,
+    deep: Unread,
+) -> Result<Sort, Unread>
+    ensures { Reads sort_of (spec.sort_in room tokens.old) result tokens.new }
+{
+    if room == 0 {
+        return Err(deep);
+    }
+    sort(alloc, tokens, room - 1)
+}

@@ -1,0 +1,32 @@
+//! The tree of a text.
+
+ghost use Rattle.std.specs.Prelude.{◌≡◌};
+ghost use Rattle.ioa_text_reader.specs.Texts.{IsSource};
+ghost use Rattle.ioa_source.specs.TextView.{text_of};
+
+use ioa_source::Text;
+
+/// What a text spells. Each value is spelled by some text; `parse` makes them. Source: profile.
+#[derive(Drop)]
+pub struct Source {
+    text: Text<(), ()>,
+    ghost spelled: { ∥ IsSource (text_of text) ∥₁ },
+}
+
+impl Source {
+    /// The source of a tree that some text spells.
+    pub(crate) fn new(text: Text<(), ()>) -> Self
+        requires { ∥ IsSource (text_of text) ∥₁ }
+        ensures { result.text ≡ text }
+    {
+        Source { text }
+    }
+
+    /// The tree.
+    pub fn text(&self) -> &Text<(), ()>
+        ensures same { result.now ≡ self.now.text }
+        ensures spelled { ∥ IsSource (text_of result.now) ∥₁ }
+    {
+        &self.text
+    }
+}

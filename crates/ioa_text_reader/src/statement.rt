@@ -1,0 +1,203 @@
+//! Places and the statements of an effect.
+
+ghost use Rattle.std.specs.Prelude.{◌≡◌, map};
+ghost use Rattle.ioa_cursor.specs.Outcome.{Reads};
+ghost use Rattle.ioa_cursor.specs.Reading as cursor;
+ghost use Rattle.ioa_source.specs.View.{place_of, statement_of, arm_of};
+ghost use Rattle.ioa_tokens.specs.declared.mark.Mark.TheVariants as mark;
+ghost use Rattle.ioa_text_reader.specs.Reading as spec;
+
+use crate::built::{
+    BuiltArm, BuiltArms, BuiltPlace, BuiltStatement, BuiltStatements, HEIGHT_LIMIT,
+};
+use crate::call::INNER_LIMIT;
+use ioa_cursor::{Tokens, Unread};
+use ioa_term_reader::{BRACKET_LIMIT, term};
+use ioa_terms::{Statement, Word};
+use ioa_tokens::Mark;
+use std::alloc::Global;
+
+/// Term `]`, behind the word and the first bracket of a place
+#[tactic(auto, unfolding(crate::specs::Reading::key_place, ioa_cursor::specs::Reading::bind))]
+fn key_place(alloc: Global, tokens: &mut Tokens<'_>, name: Word) -> Result<BuiltPlace, Unread>
+    ensures { Reads (λ b. place_of b.place) (spec.key_place name tokens.old) result tokens.new }
+{
+    let key = term(alloc, tokens, INNER_LIMIT)?;
+    tokens.expect(Mark::CloseSquare)?;
+    Ok(BuiltPlace::at_key(name, key))
+}
+
+/// Word, Word `[` Term `]`, or Word `.` Word
+#[tactic(auto, unfolding(crate::specs::Reading::place, ioa_cursor::specs::Reading::bind, ioa_cursor::specs::Reading::choose))]
+fn place(alloc: Global, tokens: &mut Tokens<'_>) -> Result<BuiltPlace, Unread>
+    ensures { Reads (λ b. place_of b.place) (spec.place tokens.old) result tokens.new }
+{
+    let name = tokens.word(alloc)?;
+    if tokens.skip(Mark::OpenSquare) {
+        return key_place(alloc, tokens, name);
+    }
+    if !tokens.skip(Mark::Dot) {
+        return Ok(BuiltPlace::variable(name));
+    }
+    let field = tokens.word(alloc)?;
+    Ok(BuiltPlace::field(name, field))
+}
+
+/// Place `:=` Term
+#[tactic(auto, unfolding(crate::specs::Reading::assignment, ioa_cursor::specs::Reading::bind))]
+fn assignment(alloc: Global, tokens: &mut Tokens<'_>) -> Result<BuiltStatement, Unread>
+    ensures { Reads (λ b. statement_of b.statement) (spec.assignment tokens.old) result tokens.new }
+{
+    let place = place(alloc, tokens)?;
+    tokens.expect(Mark::Assign)?;
+    let value = term(alloc, tokens, BRACKET_LIMIT)?;
+    Ok(BuiltStatement::assignment(place, value))
+}
+
+/// Whether a statement begins.
+#[tactic(auto, unfolding(crate::specs::Reading::begins_statement))]
+fn begins_statement(tokens: &Tokens<'_>) -> bool
+    ensures { result ≡ spec.begins_statement tokens.now }
+{
+    tokens.at_word() || tokens.at(Mark::If)
+}
+
+/// Whether statements go on behind a semicolon; takes the semicolon.
+#[tactic(auto, unfolding(ioa_cursor::specs::Reading::resumed))]
+fn resumes_with_statement(tokens: &mut Tokens<'_>) -> bool
+    ensures { (result, tokens.new) ≡ cursor.resumed mark.Semicolon spec.begins_statement tokens.old }
+{
+    if tokens.skip(Mark::Semicolon) {
+        begins_statement(tokens)
+    } else {
+        false
+    }
+}
+
+/// Statement {`;` Statement} [`;`]; the statements in a statement are one less deep.
+#[cycle(statements)]
+#[tactic(auto, unfolding(crate::specs::Reading::statements_in, ioa_cursor::specs::Reading::bind))]
+fn statements_in(
+    alloc: Global,
+    tokens: &mut Tokens<'_>,
+    depth: usize,
+) -> Result<BuiltStatements, Unread>
+    ensures { Reads (λ l. map statement_of l.statements.items) (spec.statements_in depth tokens.old) result tokens.new }
+{
+    if depth == 0 {
+        return Err(tokens.too_deep());
+    }
+    let first = one_statement(alloc, tokens, depth - 1)?;
+    let mut statements = BuiltStatements::new(alloc).with_statement(first)?;
+    for _turn in 0..tokens.len() {
+        if !resumes_with_statement(tokens) {
+            return Ok(statements);
+        }
+        let next = one_statement(alloc, tokens, depth - 1)?;
+        statements = statements.with_statement(next)?;
+    }
+    Ok(statements)
+}
+
+/// Place `:=` Term, or `if` Arms [`else` Statements] `fi`
+#[cycle(statements)]
+#[tactic(auto, unfolding(crate::specs::Reading::one_statement, ioa_cursor::specs::Reading::choose))]
+fn one_statement(
+    alloc: Global,
+    tokens: &mut Tokens<'_>,
+    depth: usize,
+) -> Result<BuiltStatement, Unread>
+    ensures { Reads (λ b. statement_of b.statement) (spec.one_statement (spec.statements_in depth) tokens.old) result tokens.new }
+{
+    let deep = tokens.too_deep();
+    if tokens.skip(Mark::If) {
+        choice(alloc, tokens, depth, deep)
+    } else {
+        assignment(alloc, tokens)
+    }
+}
+
+/// `if` Arms [`else` Statements] `fi`, behind the first word. `deep` is the refusal of a tree that is
+/// too high.
+#[cycle(statements)]
+#[tactic(auto, unfolding(crate::specs::Reading::choice, ioa_cursor::specs::Reading::bind))]
+fn choice(
+    alloc: Global,
+    tokens: &mut Tokens<'_>,
+    depth: usize,
+    deep: Unread,
+) -> Result<BuiltStatement, Unread>
+    ensures { Reads (λ b. statement_of b.statement) (spec.choice (spec.statements_in depth) tokens.old) result tokens.new }
+{
+    let arms = all_arms(alloc, tokens, depth)?;
+    let rest = rest_of(alloc, tokens, depth)?;
+    BuiltStatement::choice(arms, rest, deep)
+}
+
+/// Term `then` Statements {`elseif` Term `then` Statements}
+#[cycle(statements)]
+#[tactic(auto, unfolding(crate::specs::Reading::all_arms, ioa_cursor::specs::Reading::bind))]
+fn all_arms(alloc: Global, tokens: &mut Tokens<'_>, depth: usize) -> Result<BuiltArms, Unread>
+    ensures { Reads (λ l. map arm_of l.arms.items) (spec.all_arms (spec.statements_in depth) tokens.old) result tokens.new }
+{
+    let first = one_arm(alloc, tokens, depth)?;
+    let mut arms = BuiltArms::new(alloc).with_arm(first)?;
+    for _turn in 0..tokens.len() {
+        if !tokens.skip(Mark::ElseIf) {
+            return Ok(arms);
+        }
+        let next = one_arm(alloc, tokens, depth)?;
+        arms = arms.with_arm(next)?;
+    }
+    Ok(arms)
+}
+
+/// Term `then` Statements
+#[cycle(statements)]
+#[tactic(auto, unfolding(crate::specs::Reading::one_arm, ioa_cursor::specs::Reading::bind))]
+fn one_arm(alloc: Global, tokens: &mut Tokens<'_>, depth: usize) -> Result<BuiltArm, Unread>
+    ensures { Reads (λ b. arm_of b.arm) (spec.one_arm (spec.statements_in depth) tokens.old) result tokens.new }
+{
+    let test = term(alloc, tokens, BRACKET_LIMIT)?;
+    tokens.expect(Mark::Then)?;
+    let body = statements_in(alloc, tokens, depth)?;
+    Ok(BuiltArm::new(test, body))
+}
+
+/// [`else` Statements] `fi`
+#[cycle(statements)]
+#[tactic(auto, unfolding(crate::specs::Reading::rest_of, ioa_cursor::specs::Reading::bind, ioa_cursor::specs::Reading::choose))]
+fn rest_of(alloc: Global, tokens: &mut Tokens<'_>, depth: usize) -> Result<BuiltStatements, Unread>
+    ensures { Reads (λ l. map statement_of l.statements.items) (spec.rest_of (spec.statements_in depth) tokens.old) result tokens.new }
+{
+    if !tokens.skip(Mark::Else) {
+        tokens.expect(Mark::Fi)?;
+        return Ok(BuiltStatements::new(alloc));
+    }
+    let rest = statements_in(alloc, tokens, depth)?;
+    tokens.expect(Mark::Fi)?;
+    Ok(rest)
+}
+
+/// The statements of an effect.
+#[tactic(auto, unfolding(crate::specs::Reading::statements))]
+fn statements(alloc: Global, tokens: &mut Tokens<'_>) -> Result<Vec<Statement<(), ()>>, Unread>
+    ensures { Reads (λ v. map statement_of v.items) (spec.statements tokens.old) result tokens.new }
+{
+    let statements = statements_in(alloc, tokens, HEIGHT_LIMIT)?;
+    Ok(statements.into_statements())
+}
+
+/// [`eff` Statements]
+#[tactic(auto, unfolding(crate::specs::Reading::effect, ioa_cursor::specs::Reading::choose))]
+pub(crate) fn effect(
+    alloc: Global,
+    tokens: &mut Tokens<'_>,
+) -> Result<Vec<Statement<(), ()>>, Unread>
+    ensures { Reads (λ v. map statement_of v.items) (spec.effect tokens.old) result tokens.new }
+{
+    if !tokens.skip(Mark::Eff) {
+        return Ok(Vec::new(alloc));
+    }
+    statements(alloc, tokens)
+}

@@ -1,0 +1,148 @@
+//! Types, systems, and whole texts.
+
+ghost use Rattle.std.specs.Prelude.{◌≡◌, map};
+ghost use Rattle.ioa_cursor.specs.Outcome.{Reads};
+ghost use Rattle.ioa_source.specs.TextView.{form_of, type_of, declaration_of, node_of, placement_of, text_of};
+ghost use Rattle.ioa_text_reader.specs.Reading as spec;
+
+use crate::automaton::automaton;
+use crate::call::call;
+use crate::declared::{declared_names, words};
+use ioa_cursor::{Tokens, Unread};
+use ioa_source::{Channel, Declaration, Node, Placement, Text, TypeDeclaration, TypeForm};
+use ioa_term_reader::BRACKET_LIMIT;
+use ioa_tokens::Mark;
+use std::alloc::Global;
+
+/// `enumeration` `of` Word {`,` Word}, or `tuple` `of` Declared {`,` Declared}
+#[tactic(auto, unfolding(crate::specs::Reading::form, ioa_cursor::specs::Reading::bind, ioa_cursor::specs::Reading::choose))]
+fn form(alloc: Global, tokens: &mut Tokens<'_>) -> Result<TypeForm<()>, Unread>
+    ensures { Reads form_of (spec.form tokens.old) result tokens.new }
+{
+    if tokens.skip(Mark::Enumeration) {
+        tokens.expect(Mark::Of)?;
+        let constants = words(alloc, tokens)?;
+        return Ok(TypeForm::Enumeration(constants));
+    }
+    tokens.expect(Mark::Tuple)?;
+    tokens.expect(Mark::Of)?;
+    let fields = declared_names(alloc, tokens, BRACKET_LIMIT)?;
+    Ok(TypeForm::Tuple(fields))
+}
+
+/// Word `=` Form, behind `type`
+#[tactic(auto, unfolding(crate::specs::Reading::type_declaration, ioa_cursor::specs::Reading::bind))]
+fn type_declaration(alloc: Global, tokens: &mut Tokens<'_>) -> Result<TypeDeclaration<()>, Unread>
+    ensures { Reads type_of (spec.type_declaration tokens.old) result tokens.new }
+{
+    let name = tokens.word(alloc)?;
+    tokens.expect(Mark::Equal)?;
+    let form = form(alloc, tokens)?;
+    Ok(TypeDeclaration { name, form })
+}
+
+/// Whether a declaration begins.
+#[tactic(auto, unfolding(crate::specs::Reading::at_declaration))]
+fn at_declaration(tokens: &Tokens<'_>) -> bool
+    ensures { result ≡ spec.at_declaration tokens.now }
+{
+    tokens.at(Mark::Type) || tokens.at(Mark::Automaton)
+}
+
+/// Type or Automaton
+#[tactic(auto, unfolding(crate::specs::Reading::declaration, ioa_cursor::specs::Reading::bind, ioa_cursor::specs::Reading::choose))]
+fn declaration(alloc: Global, tokens: &mut Tokens<'_>) -> Result<Declaration<(), ()>, Unread>
+    ensures { Reads declaration_of (spec.declaration tokens.old) result tokens.new }
+{
+    if tokens.skip(Mark::Type) {
+        let declared = type_declaration(alloc, tokens)?;
+        return Ok(Declaration::Type(declared));
+    }
+    tokens.expect(Mark::Automaton)?;
+    let declared = automaton(alloc, tokens)?;
+    Ok(Declaration::Automaton(declared))
+}
+
+/// {Type or Automaton}
+#[tactic(auto, unfolding(crate::specs::Reading::declared))]
+fn declarations(alloc: Global, tokens: &mut Tokens<'_>) -> Result<Vec<Declaration<(), ()>>, Unread>
+    ensures { Reads (λ v. map declaration_of v.items) (spec.declared tokens.old) result tokens.new }
+{
+    let mut declarations = Vec::new(alloc);
+    for _turn in 0..tokens.len() {
+        if !at_declaration(tokens) {
+            return Ok(declarations);
+        }
+        declarations.push(declaration(alloc, tokens)?)?;
+    }
+    Ok(declarations)
+}
+
+/// Whether a placement comes next.
+#[tactic(auto, unfolding(crate::specs::Reading::at_placement))]
+fn at_placement(tokens: &Tokens<'_>) -> bool
+    ensures { result ≡ spec.at_placement tokens.now }
+{
+    tokens.at(Mark::Node) || tokens.at(Mark::Channel)
+}
+
+/// Number `:` Call, behind `node`
+#[tactic(auto, unfolding(crate::specs::Reading::node, ioa_cursor::specs::Reading::bind))]
+fn node(alloc: Global, tokens: &mut Tokens<'_>) -> Result<Node<(), ()>, Unread>
+    ensures { Reads node_of (spec.node tokens.old) result tokens.new }
+{
+    let number = tokens.number()?;
+    tokens.expect(Mark::Colon)?;
+    let placed = call(alloc, tokens)?;
+    Ok(Node {
+        number,
+        automaton: placed.name,
+        arguments: placed.arguments,
+    })
+}
+
+/// `node` Number `:` Call, or `channel` Number `->` Number
+#[tactic(auto, unfolding(crate::specs::Reading::placement, ioa_cursor::specs::Reading::bind, ioa_cursor::specs::Reading::choose))]
+fn one_placement(alloc: Global, tokens: &mut Tokens<'_>) -> Result<Placement<(), ()>, Unread>
+    ensures { Reads placement_of (spec.placement tokens.old) result tokens.new }
+{
+    if tokens.skip(Mark::Node) {
+        let node = node(alloc, tokens)?;
+        return Ok(Placement::Node(node));
+    }
+    tokens.expect(Mark::Channel)?;
+    let from = tokens.number()?;
+    tokens.expect(Mark::Arrow)?;
+    let to = tokens.number()?;
+    Ok(Placement::Channel(Channel { from, to }))
+}
+
+/// {Node or Channel}
+#[tactic(auto, unfolding(crate::specs::Reading::placed))]
+fn placements(alloc: Global, tokens: &mut Tokens<'_>) -> Result<Vec<Placement<(), ()>>, Unread>
+    ensures { Reads (λ v. map placement_of v.items) (spec.placed tokens.old) result tokens.new }
+{
+    let mut placements = Vec::new(alloc);
+    for _turn in 0..tokens.len() {
+        if !at_placement(tokens) {
+            return Ok(placements);
+        }
+        placements.push(one_placement(alloc, tokens)?)?;
+    }
+    Ok(placements)
+}
+
+/// {Type or Automaton} `system` {Node or Channel}, and then the end
+#[tactic(auto, unfolding(crate::specs::Reading::whole, ioa_cursor::specs::Reading::bind))]
+pub(crate) fn whole(alloc: Global, tokens: &mut Tokens<'_>) -> Result<Text<(), ()>, Unread>
+    ensures { Reads text_of (spec.whole tokens.old) result tokens.new }
+{
+    let declarations = declarations(alloc, tokens)?;
+    tokens.expect(Mark::System)?;
+    let system = placements(alloc, tokens)?;
+    tokens.end()?;
+    Ok(Text {
+        declarations,
+        system,
+    })
+}
