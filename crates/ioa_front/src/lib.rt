@@ -1,4 +1,17 @@
-//! The front of the language: texts read.
+//! The front of the language: texts read and printed.
 #![tactic(auto)]
 
+mod declarations;
+mod layout;
+mod piece;
+mod printing;
+mod statements;
+mod terms;
+mod texts;
+mod writing;
+
 pub use ioa_text_reader::{FrontFault, Source, one_source, parse};
+pub use printing::{print, printed_source};
+
+#[cfg(test)]
+mod tests;

@@ -1,0 +1,173 @@
+-- Statements and blocks as they are printed.
+use Rattle.std.proofs.Common.{◌≡◌, List, [], ◌∷◌, ◌++◌, refl, ap, append_assoc, append-nil}
+use Rattle.ioa_tokens.specs.declared.token.Token.{Token}
+use Rattle.ioa_tokens.specs.declared.token.Token.TheVariants as token
+use Rattle.ioa_tokens.specs.declared.mark.Mark.TheVariants as mark
+use Rattle.ioa_source.specs.PlainTerm.{statements_of}
+use Rattle.ioa_source.specs.Sides.{SourcePlace as Place, SourceStatement as Statement, SourceStatements as Statements, SourceArms as Arms}
+use Rattle.ioa_term_reader.specs.Spelling.{spelling}
+use Rattle.ioa_term_reader.proofs.PrintedGood.{tokens_joined}
+use Rattle.ioa_text_reader.specs.Grammar as grammar
+use Rattle.ioa_text_reader.specs.Grammar.{SpellsPlace, SpellsStatement, SpellsArms, SpellsRest, SpellsStatements, SpellsEffect, SpellsFire, SpellsBlock}
+use Rattle.ioa_front.specs.Spelling.{more_separated, separated, place_spelling, else_spelling, statement_spelling, statements_spelling, more_statements_spelling, arms_spelling, more_arms_spelling, effect_spelling, block_spelling}
+use Rattle.ioa_front.proofs.PrintedLists.{Prints, ended_prints}
+use Rattle.ioa_front.proofs.PrintedDeclared.{inner_term, outer_term, call_prints, kind_again, kind_good}
+
+place_prints : {p : Place} {xs ys : List Token} → SpellsPlace p xs ys → Prints SpellsPlace place_spelling p xs ys
+place_prints grammar.whole = record { again = λ zs. grammar.whole; good = λ h. ((h.0, tt), h.1) }
+place_prints (grammar.at_a_key {t = t} d) =
+    let p = inner_term t _ _ d in
+    let end = token.Mark mark.CloseSquare ∷ [] in
+    record {
+      again = λ zs. rw (append_assoc (spelling t) end zs) (grammar.at_a_key (p.again (token.Mark mark.CloseSquare ∷ zs)));
+      good = λ h. let g = p.good h.1.1 in ((h.0, (tt, tokens_joined (spelling t) end g.0 (tt, tt))), g.1.1);
+    }
+place_prints grammar.at_a_field = record { again = λ zs. grammar.at_a_field; good = λ h. ((h.0, (tt, (h.1.1.0, tt))), h.1.1.1) }
+
+-- behind a statement, an arm and the arms, what is spelled comes after its mark
+
+statements_go_on : {ss : Statements} {xs ys : List Token} → SpellsStatements ss xs ys → more_statements_spelling ss ≡ token.Mark mark.Semicolon ∷ statements_spelling ss
+statements_go_on (grammar.last_statement d) = refl
+statements_go_on (grammar.closed_statement d) = refl
+statements_go_on (grammar.more_statements d rest) = refl
+
+arms_go_on : {arms : Arms} {xs ys : List Token} → SpellsArms arms xs ys → more_arms_spelling arms ≡ token.Mark mark.ElseIf ∷ arms_spelling arms
+arms_go_on (grammar.one_arm d body) = refl
+arms_go_on (grammar.more_arms d body rest) = refl
+
+else_goes_on : {ss : Statements} {xs ys : List Token} → SpellsStatements ss xs ys → (zs : List Token) → else_spelling ss zs ≡ token.Mark mark.Else ∷ zs
+else_goes_on (grammar.last_statement d) zs = refl
+else_goes_on (grammar.closed_statement d) zs = refl
+else_goes_on (grammar.more_statements d rest) zs = refl
+
+-- [else Statements] fi
+abbrev rest_spelling : Statements → List Token
+rest_spelling ss = else_spelling ss (statements_spelling ss) ++ token.Mark mark.Fi ∷ []
+
+mutual
+  statement_prints : {s : Statement} {xs ys : List Token} → SpellsStatement s xs ys → Prints SpellsStatement statement_spelling s xs ys
+  statement_prints (grammar.assignment {p = p} {t = t} d e) =
+      let a = place_prints d in
+      let b = outer_term t _ _ e in
+      let right = token.Mark mark.Assign ∷ spelling t in
+      record {
+        again = λ zs. rw (append_assoc (place_spelling p) right zs) (grammar.assignment (a.again (token.Mark mark.Assign ∷ (spelling t ++ zs))) (b.again zs));
+        good = λ h. let g = a.good h in let i = b.good g.1.1 in (tokens_joined (place_spelling p) right g.0 (tt, i.0), i.1);
+      }
+  statement_prints (grammar.choice {arms = arms} {rest = rest} d e) =
+      let a = arms_print d in
+      let b = rest_prints e in
+      record {
+        again = λ zs. rw (append_assoc (arms_spelling arms) (rest_spelling rest) zs) (grammar.choice (a.again (rest_spelling rest ++ zs)) (b.again zs));
+        good = λ h. let g = a.good h.1 in let i = b.good g.1 in ((tt, tokens_joined (arms_spelling arms) (rest_spelling rest) g.0 i.0), i.1);
+      }
+
+  arms_print : {arms : Arms} {xs ys : List Token} → SpellsArms arms xs ys → Prints SpellsArms arms_spelling arms xs ys
+  arms_print (grammar.one_arm {t = t} {body = body} d e) =
+      let a = outer_term t _ _ d in
+      let b = statements_print e in
+      let right = token.Mark mark.Then ∷ statements_spelling body in
+      record {
+        again = λ zs.
+            rw (append-nil (statements_spelling body), append_assoc (spelling t) right zs)
+            (grammar.one_arm (a.again (token.Mark mark.Then ∷ (statements_spelling body ++ zs))) (b.again zs));
+        good = λ h.
+            let g = a.good h in
+            let i = b.good g.1.1 in
+            (rw (append-nil (statements_spelling body)) (tokens_joined (spelling t) right g.0 (tt, i.0)), i.1);
+      }
+  arms_print (grammar.more_arms {t = t} {body = body} {others = others} d e rest) =
+      let a = outer_term t _ _ d in
+      let b = statements_print e in
+      let c = arms_print rest in
+      let on = arms_go_on rest in
+      let more = token.Mark mark.ElseIf ∷ arms_spelling others in
+      let right = token.Mark mark.Then ∷ (statements_spelling body ++ more) in
+      record {
+        again = λ zs.
+            let behind = token.Mark mark.ElseIf ∷ (arms_spelling others ++ zs) in
+            rw (on, append_assoc (spelling t) right zs, append_assoc (statements_spelling body) more zs)
+            (grammar.more_arms (a.again (token.Mark mark.Then ∷ (statements_spelling body ++ behind))) (b.again behind) (c.again zs));
+        good = λ h.
+            let g = a.good h in
+            let i = b.good g.1.1 in
+            let k = c.good i.1.1 in
+            (rw on (tokens_joined (spelling t) right g.0 (tt, tokens_joined (statements_spelling body) more i.0 (tt, k.0))), k.1);
+      }
+
+  rest_prints : {ss : Statements} {xs ys : List Token} → SpellsRest ss xs ys → Prints SpellsRest rest_spelling ss xs ys
+  rest_prints grammar.no_else = record { again = λ zs. grammar.no_else; good = λ h. ((tt, tt), h.1) }
+  rest_prints (grammar.otherwise {rest = ss} d) =
+      let p = statements_print d in
+      let on = else_goes_on d (statements_spelling ss) in
+      let end = token.Mark mark.Fi ∷ [] in
+      record {
+        again = λ zs. rw (on, append_assoc (statements_spelling ss) end zs) (grammar.otherwise (p.again (token.Mark mark.Fi ∷ zs)));
+        good = λ h. let g = p.good h.1 in (rw on (tt, tokens_joined (statements_spelling ss) end g.0 (tt, tt)), g.1.1);
+      }
+
+  statements_print : {ss : Statements} {xs ys : List Token} → SpellsStatements ss xs ys → Prints SpellsStatements statements_spelling ss xs ys
+  statements_print (grammar.last_statement {s = s} d) =
+      let p = statement_prints d in
+      record {
+        again = λ zs. rw (append-nil (statement_spelling s)) (grammar.last_statement (p.again zs));
+        good = λ h. let g = p.good h in (tokens_joined (statement_spelling s) [] g.0 tt, g.1);
+      }
+  statements_print (grammar.closed_statement {s = s} d) =
+      let p = statement_prints d in
+      record {
+        again = λ zs. rw (append-nil (statement_spelling s)) (grammar.last_statement (p.again zs));
+        good = λ h. let g = p.good h in (tokens_joined (statement_spelling s) [] g.0 tt, g.1.1);
+      }
+  statements_print (grammar.more_statements {s = s} {others = others} d rest) =
+      let p = statement_prints d in
+      let q = statements_print rest in
+      let on = statements_go_on rest in
+      let right = token.Mark mark.Semicolon ∷ statements_spelling others in
+      record {
+        again = λ zs.
+            rw (on, append_assoc (statement_spelling s) right zs)
+            (grammar.more_statements (p.again (token.Mark mark.Semicolon ∷ (statements_spelling others ++ zs))) (q.again zs));
+        good = λ h.
+            let g = p.good h in
+            let i = q.good g.1.1 in
+            (rw on (tokens_joined (statement_spelling s) right g.0 (tt, i.0)), i.1);
+      }
+
+pub effect_prints : (ss : List Statement) (xs ys : List Token) → SpellsEffect ss xs ys → Prints SpellsEffect effect_spelling ss xs ys
+effect_prints ss xs ys d =
+    let p = statements_print d.spelled in
+    record { again = λ zs. record { spelled = p.again zs; low = d.low }; good = p.good }
+
+-- firings, and blocks of them
+
+fire_prints : (s : Statement) (xs ys : List Token) → SpellsFire s xs ys → Prints SpellsFire statement_spelling s xs ys
+fire_prints s xs ys (grammar.firing {call = c} d) =
+    let p = call_prints d in
+    record { again = λ zs. grammar.firing {call = c} (p.again zs); good = λ h. let g = p.good h.1 in ((tt, g.0), g.1) }
+fire_prints s xs ys (grammar.kind_firing {k = k} {call = c} kinded d) =
+    let p = call_prints d in
+    record {
+      again = λ zs. grammar.kind_firing {call = c} (kind_again k _) (p.again zs);
+      good = λ h. let g = p.good (kind_good kinded h.1) in ((tt, (tt, g.0)), g.1);
+    }
+
+-- the statements of a list have semicolons between
+more_separated_is : (ss : List Statement) → more_statements_spelling (statements_of ss) ≡ more_separated mark.Semicolon statement_spelling ss
+more_separated_is [] = refl
+more_separated_is (s ∷ more) = ap (λ l. token.Mark mark.Semicolon ∷ (statement_spelling s ++ l)) (more_separated_is more)
+
+separated_is : (ss : List Statement) → effect_spelling ss ≡ separated mark.Semicolon statement_spelling ss
+separated_is [] = refl
+separated_is (s ∷ more) = ap (λ l. statement_spelling s ++ l) (more_separated_is more)
+
+pub block_prints : (ss : List Statement) (xs ys : List Token) → SpellsBlock ss xs ys → Prints SpellsBlock block_spelling ss xs ys
+block_prints ss xs ys grammar.idle = record { again = λ zs. grammar.idle; good = λ h. ((tt, (tt, tt)), h.1.1) }
+block_prints ss xs ys (grammar.busy {fires = fires} d) =
+    let p = ended_prints SpellsFire statement_spelling fire_prints mark.Semicolon d in
+    let inside = separated mark.Semicolon statement_spelling fires in
+    let end = token.Mark mark.Od ∷ [] in
+    record {
+      again = λ zs. rw (separated_is fires, append_assoc inside end zs) (grammar.busy (p.again (token.Mark mark.Od ∷ zs)));
+      good = λ h. let g = p.good h.1 in ((tt, rw (separated_is fires) (tokens_joined inside end g.0 (tt, tt))), g.1.1);
+    }

@@ -1,0 +1,166 @@
+-- How a text is printed, as tokens: each name with its own sort, each entry with its own kind, no mark at the end of a list
+-- (profile).
+use Rattle.std.specs.Prelude.{ℕ, List, [], ◌∷◌, ◌++◌, Option, Some, None}
+use Rattle.ioa_tokens.specs.declared.token.Token.{Token}
+use Rattle.ioa_tokens.specs.declared.token.Token.TheVariants as token
+use Rattle.ioa_tokens.specs.declared.mark.Mark.{Mark}
+use Rattle.ioa_tokens.specs.declared.mark.Mark.TheVariants as mark
+use Rattle.ioa_terms.specs.declared.tree.Kind.{Kind}
+use Rattle.ioa_terms.specs.declared.tree.Kind.TheVariants as kind
+use Rattle.ioa_source.specs.PlainTerm.{variable, at_key, at_field, assign, choose, fire, no_statements, statement, statements_of, no_arms, arm}
+use Rattle.ioa_source.specs.PlainSort.{PlainSort, booleans, integers, naturals, sequences, sets, maps, named_type}
+use Rattle.ioa_source.specs.PlainText.{const, named, enumeration, tuple_of, type_named, automaton, node, channel}
+use Rattle.ioa_source.specs.Sides.{SourceTerm as Term, SourcePlace as Place, SourceStatement as Statement, SourceStatements as Statements, SourceArms as Arms, SourceDeclared as Declared, SourceParameter as Parameter, SourceEntry as Entry, SourceVariable as Variable, SourceTransition as Transition, SourceForm as Form, SourceDeclaration as Declaration, SourcePlacement as Placement, SourceText}
+use Rattle.ioa_term_reader.specs.Spelling.{spelling}
+
+-- a mark before each item
+abbrev pub more_separated : {A : Type 0} → Mark → (A → List Token) → List A → List Token
+more_separated m spell [] = []
+more_separated m spell (a ∷ more) = token.Mark m ∷ (spell a ++ more_separated m spell more)
+
+-- items with a mark between
+abbrev pub separated : {A : Type 0} → Mark → (A → List Token) → List A → List Token
+separated m spell [] = []
+separated m spell (a ∷ more) = spell a ++ more_separated m spell more
+
+-- items one after another
+abbrev pub joined : {A : Type 0} → (A → List Token) → List A → List Token
+joined spell [] = []
+joined spell (a ∷ more) = spell a ++ joined spell more
+
+-- items with commas between in round brackets, and nothing where there is no item
+abbrev pub bracketed : {A : Type 0} → (A → List Token) → List A → List Token
+bracketed spell [] = []
+bracketed spell (a ∷ more) = token.Mark mark.OpenRound ∷ (separated mark.Comma spell (a ∷ more) ++ token.Mark mark.CloseRound ∷ [])
+
+-- a part behind its word, and nothing where it has no item
+abbrev pub section : {A : Type 0} → Mark → (List A → List Token) → List A → List Token
+section m spell [] = []
+section m spell (a ∷ more) = token.Mark m ∷ spell (a ∷ more)
+
+-- an item behind its word, and nothing where there is none
+abbrev pub optional : {A : Type 0} → Mark → (A → List Token) → Option A → List Token
+optional m spell None = []
+optional m spell (Some a) = token.Mark m ∷ spell a
+
+abbrev pub word_spelling : List ℕ → List Token
+word_spelling w = token.Word w ∷ []
+
+abbrev pub sort_spelling : PlainSort → List Token
+sort_spelling booleans = token.Mark mark.Bool ∷ []
+sort_spelling integers = token.Mark mark.Int ∷ []
+sort_spelling naturals = token.Mark mark.Nat ∷ []
+sort_spelling (sequences s) = token.Mark mark.Seq ∷ token.Mark mark.OpenSquare ∷ (sort_spelling s ++ token.Mark mark.CloseSquare ∷ [])
+sort_spelling (sets s) = token.Mark mark.Set ∷ token.Mark mark.OpenSquare ∷ (sort_spelling s ++ token.Mark mark.CloseSquare ∷ [])
+sort_spelling (maps k v) =
+    token.Mark mark.Map ∷ token.Mark mark.OpenSquare ∷ (sort_spelling k ++ (token.Mark mark.Comma ∷ (sort_spelling v ++ token.Mark mark.CloseSquare ∷ [])))
+sort_spelling (named_type w) = token.Word w ∷ []
+
+-- Word : Sort
+abbrev pub declared_spelling : Declared → List Token
+declared_spelling d = token.Word d.name ∷ token.Mark mark.Colon ∷ sort_spelling d.sort
+
+-- const Term, or Word : Sort
+abbrev pub parameter_spelling : Parameter → List Token
+parameter_spelling (const t) = token.Mark mark.Const ∷ spelling t
+parameter_spelling (named d) = declared_spelling d
+
+abbrev pub kind_mark : Kind → Mark
+kind_mark kind.Input = mark.Input
+kind_mark kind.Output = mark.Output
+kind_mark kind.Internal = mark.Internal
+
+-- Word [ ( Term {, Term} ) ]
+abbrev pub call_spelling : List ℕ → List Term → List Token
+call_spelling w ts = token.Word w ∷ bracketed spelling ts
+
+-- Kind Word [ ( Param {, Param} ) ] [where Term]
+abbrev pub entry_spelling : Entry → List Token
+entry_spelling e =
+    token.Mark (kind_mark e.kind) ∷ token.Word e.name ∷ (bracketed parameter_spelling e.parameters ++ optional mark.Where spelling e.condition)
+
+-- Word : Sort [:= Term]
+abbrev pub variable_spelling : Variable → List Token
+variable_spelling v = declared_spelling v.declared ++ optional mark.Assign spelling v.initial
+
+-- Word, Word [ Term ], or Word . Word
+abbrev pub place_spelling : Place → List Token
+place_spelling (variable w at shape) = token.Word w ∷ []
+place_spelling (at_key w at shape t) = token.Word w ∷ token.Mark mark.OpenSquare ∷ (spelling t ++ token.Mark mark.CloseSquare ∷ [])
+place_spelling (at_field w at shape f) = token.Word w ∷ token.Mark mark.Dot ∷ token.Word f ∷ []
+
+-- a kind, where it is written
+abbrev pub kind_spelling : Option Kind → List Token
+kind_spelling None = []
+kind_spelling (Some k) = token.Mark (kind_mark k) ∷ []
+
+-- what stands between an `if` without an `else` and with one and its `fi`
+abbrev pub else_spelling : Statements → List Token → List Token
+else_spelling no_statements xs = []
+else_spelling (statement s more) xs = token.Mark mark.Else ∷ xs
+
+abbrev mutual
+  -- Place := Term, if Term then Statements {elseif Term then Statements} [else Statements] fi, or fire [Kind] Call
+  pub statement_spelling : Statement → List Token
+  statement_spelling (assign p t) = place_spelling p ++ (token.Mark mark.Assign ∷ spelling t)
+  statement_spelling (choose arms rest) =
+      token.Mark mark.If ∷ (arms_spelling arms ++ (else_spelling rest (statements_spelling rest) ++ token.Mark mark.Fi ∷ []))
+  statement_spelling (fire k w ts) = token.Mark mark.Fire ∷ (kind_spelling k ++ call_spelling w ts)
+
+  -- Statement {; Statement}
+  pub statements_spelling : Statements → List Token
+  statements_spelling no_statements = []
+  statements_spelling (statement s more) = statement_spelling s ++ more_statements_spelling more
+
+  -- a semicolon before each statement
+  pub more_statements_spelling : Statements → List Token
+  more_statements_spelling no_statements = []
+  more_statements_spelling (statement s more) = token.Mark mark.Semicolon ∷ (statement_spelling s ++ more_statements_spelling more)
+
+  -- Term then Statements {elseif Term then Statements}
+  pub arms_spelling : Arms → List Token
+  arms_spelling no_arms = []
+  arms_spelling (arm t body more) = spelling t ++ (token.Mark mark.Then ∷ (statements_spelling body ++ more_arms_spelling more))
+
+  -- `elseif` before each arm
+  pub more_arms_spelling : Arms → List Token
+  more_arms_spelling no_arms = []
+  more_arms_spelling (arm t body more) =
+      token.Mark mark.ElseIf ∷ (spelling t ++ (token.Mark mark.Then ∷ (statements_spelling body ++ more_arms_spelling more)))
+
+-- the statements of an effect
+abbrev pub effect_spelling : List Statement → List Token
+effect_spelling ss = statements_spelling (statements_of ss)
+
+-- Kind Call [pre Term] [eff Statements]
+abbrev pub transition_spelling : Transition → List Token
+transition_spelling t =
+    token.Mark (kind_mark t.kind) ∷ (call_spelling t.name t.arguments ++ (optional mark.Pre spelling t.pre ++ section mark.Eff effect_spelling t.effect))
+
+-- do Statements od
+abbrev pub block_spelling : List Statement → List Token
+block_spelling ss = token.Mark mark.Do ∷ (effect_spelling ss ++ token.Mark mark.Od ∷ [])
+
+-- enumeration of Word {, Word}, or tuple of Declared {, Declared}
+abbrev pub form_spelling : Form → List Token
+form_spelling (enumeration ws) = token.Mark mark.Enumeration ∷ token.Mark mark.Of ∷ separated mark.Comma word_spelling ws
+form_spelling (tuple_of ds) = token.Mark mark.Tuple ∷ token.Mark mark.Of ∷ separated mark.Comma declared_spelling ds
+
+-- type Word = Form, or automaton Word [ ( Declared {, Declared} ) ] [Signature] [States] [Transitions] [Schedule]
+abbrev pub declaration_spelling : Declaration → List Token
+declaration_spelling (type_named t) = token.Mark mark.Type ∷ token.Word t.name ∷ token.Mark mark.Equal ∷ form_spelling t.form
+declaration_spelling (automaton a) =
+    token.Mark mark.Automaton ∷ token.Word a.name ∷ (bracketed declared_spelling a.parameters
+    ++ (section mark.Signature (joined entry_spelling) a.signature
+    ++ (section mark.States (separated mark.Comma variable_spelling) a.states
+    ++ (section mark.Transitions (joined transition_spelling) a.transitions
+    ++ section mark.Schedule block_spelling a.schedule))))
+
+-- node Number : Call, or channel Number -> Number
+abbrev pub placement_spelling : Placement → List Token
+placement_spelling (node n) = token.Mark mark.Node ∷ token.Number n.number ∷ token.Mark mark.Colon ∷ call_spelling n.automaton n.arguments
+placement_spelling (channel c) = token.Mark mark.Channel ∷ token.Number c.from ∷ token.Mark mark.Arrow ∷ token.Number c.to ∷ []
+
+-- a whole text
+abbrev pub text_spelling : SourceText → List Token
+text_spelling p = joined declaration_spelling p.declarations ++ (token.Mark mark.System ∷ joined placement_spelling p.system)

@@ -1,0 +1,53 @@
+-- Where a token may stand right behind another: a test that is enough for what print joins.
+use Rattle.std.specs.Prelude.{Bool, true, false, ◌||◌, ◌&&◌}
+use Rattle.ioa_tokens.specs.declared.token.Token.{Token}
+use Rattle.ioa_tokens.specs.declared.token.Token.TheVariants as token
+use Rattle.ioa_tokens.specs.declared.mark.Mark.TheVariants as mark
+
+-- the brackets that open
+abbrev pub is_opening : Token → Bool
+is_opening (token.Mark mark.OpenRound) = true
+is_opening (token.Mark mark.OpenSquare) = true
+is_opening (token.Mark mark.OpenBrace) = true
+is_opening _ = false
+
+-- the brackets that close, and the signs that end a part
+abbrev pub is_end : Token → Bool
+is_end (token.Mark mark.CloseRound) = true
+is_end (token.Mark mark.CloseSquare) = true
+is_end (token.Mark mark.CloseBrace) = true
+is_end (token.Mark mark.Dot) = true
+is_end (token.Mark mark.Comma) = true
+is_end (token.Mark mark.Semicolon) = true
+is_end (token.Mark mark.Colon) = true
+is_end _ = false
+
+-- the tokens that may stand right behind any
+abbrev pub follows_any : Token → Bool
+follows_any t = is_opening t || is_end t
+
+-- the tokens behind which any may stand
+abbrev pub precedes_any : Token → Bool
+precedes_any (token.Mark mark.OpenRound) = true
+precedes_any (token.Mark mark.OpenSquare) = true
+precedes_any (token.Mark mark.OpenBrace) = true
+precedes_any (token.Mark mark.Dot) = true
+precedes_any _ = false
+
+-- the operators before a term
+abbrev pub is_prefix : Token → Bool
+is_prefix (token.Mark mark.Minus) = true
+is_prefix (token.Mark mark.Not) = true
+is_prefix _ = false
+
+-- names, numbers and truth values
+abbrev pub is_plain : Token → Bool
+is_plain (token.Word word) = true
+is_plain (token.Number number) = true
+is_plain (token.Mark mark.True) = true
+is_plain (token.Mark mark.False) = true
+is_plain _ = false
+
+-- whether the second token may stand right behind the first by one of these rules
+abbrev pub touches : Token → Token → Bool
+touches before after = follows_any after || (precedes_any before || (is_prefix before && is_plain after))

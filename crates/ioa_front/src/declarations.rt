@@ -1,0 +1,373 @@
+//! The pieces of declarations.
+
+ghost use Rattle.std.specs.Prelude.{◌≡◌, ◌++◌, ◌∷◌, OnOk, map};
+ghost use Rattle.ioa_tokens.specs.declared.mark.Mark.TheVariants as mark;
+ghost use Rattle.ioa_source.specs.SortView.{sort_of};
+ghost use Rattle.ioa_source.specs.View.{statement_of};
+ghost use Rattle.ioa_source.specs.TextView.{declared_of, parameter_of, entry_of, variable_of, transition_of, automaton_of, form_of, type_of, declaration_of};
+ghost use Rattle.ioa_source.specs.PlainText as plain;
+ghost use Rattle.ioa_front.specs.Spelling as spec;
+
+use crate::piece::Pieces;
+use crate::statements::{kind_mark, put_call, put_statements};
+use crate::terms::{put_optional, put_term};
+use ioa_source::{
+    Automaton, Declaration, Declared, Entry, Parameter, Sort, Transition, TypeDeclaration,
+    TypeForm, Variable,
+};
+use ioa_terms::Statement;
+use ioa_tokens::Mark;
+use ioa_values::Word;
+use std::alloc::AllocError;
+
+/// Puts a sort.
+fn put_sort<'a>(out: &mut Pieces<'a>, sort: &'a Sort) -> Result<(), AllocError>
+    ensures { OnOk result (out.new ≡ out.old ++ spec.sort_spelling (sort_of sort.now)) }
+{
+    match sort {
+        Sort::Bool => out.put_mark(Mark::Bool),
+        Sort::Int => out.put_mark(Mark::Int),
+        Sort::Nat => out.put_mark(Mark::Nat),
+        Sort::Seq(items) => {
+            out.put_mark(Mark::Seq)?;
+            out.put_mark(Mark::OpenSquare)?;
+            put_sort(out, items)?;
+            out.put_mark(Mark::CloseSquare)
+        }
+        Sort::Set(members) => {
+            out.put_mark(Mark::Set)?;
+            out.put_mark(Mark::OpenSquare)?;
+            put_sort(out, members)?;
+            out.put_mark(Mark::CloseSquare)
+        }
+        Sort::Map(keys, values) => {
+            out.put_mark(Mark::Map)?;
+            out.put_mark(Mark::OpenSquare)?;
+            put_sort(out, keys)?;
+            out.put_mark(Mark::Comma)?;
+            put_sort(out, values)?;
+            out.put_mark(Mark::CloseSquare)
+        }
+        Sort::Named(name) => out.put_word(name),
+    }
+}
+
+/// Puts a name with its sort.
+fn put_declared<'a>(out: &mut Pieces<'a>, declared: &'a Declared<()>) -> Result<(), AllocError>
+    ensures { OnOk result (out.new ≡ out.old ++ spec.declared_spelling (declared_of declared.now)) }
+{
+    out.put_word(&declared.name)?;
+    out.put_mark(Mark::Colon)?;
+    put_sort(out, &declared.sort)
+}
+
+/// Puts names with their sorts, with commas between.
+fn put_all_declared<'a>(
+    out: &mut Pieces<'a>,
+    declarations: &'a [Declared<()>],
+) -> Result<(), AllocError>
+    ensures { OnOk result (out.new ≡ out.old ++ spec.separated mark.Comma spec.declared_spelling (map declared_of declarations.now)) }
+{
+    let mut first = true;
+    for declared in declarations {
+        out.put_between(Mark::Comma, first)?;
+        put_declared(out, declared)?;
+        first = false;
+    }
+    Ok(())
+}
+
+/// Puts an automaton's parameters in round brackets, and nothing where it has none.
+fn put_head<'a>(out: &mut Pieces<'a>, parameters: &'a [Declared<()>]) -> Result<(), AllocError>
+    ensures { OnOk result (out.new ≡ out.old ++ spec.bracketed spec.declared_spelling (map declared_of parameters.now)) }
+{
+    match parameters {
+        [] => Ok(()),
+        [_, ..] => {
+            out.put_mark(Mark::OpenRound)?;
+            put_all_declared(out, parameters)?;
+            out.put_mark(Mark::CloseRound)
+        }
+    }
+}
+
+/// Puts a parameter of an entry.
+fn put_parameter<'a>(
+    out: &mut Pieces<'a>,
+    parameter: &'a Parameter<(), ()>,
+) -> Result<(), AllocError>
+    ensures { OnOk result (out.new ≡ out.old ++ spec.parameter_spelling (parameter_of parameter.now)) }
+{
+    match parameter {
+        Parameter::Const(term) => {
+            out.put_mark(Mark::Const)?;
+            put_term(out, term)
+        }
+        Parameter::Declared(declared) => put_declared(out, declared),
+    }
+}
+
+/// Puts an entry's parameters with commas between.
+fn put_all_parameters<'a>(
+    out: &mut Pieces<'a>,
+    parameters: &'a [Parameter<(), ()>],
+) -> Result<(), AllocError>
+    ensures { OnOk result (out.new ≡ out.old ++ spec.separated mark.Comma spec.parameter_spelling (map parameter_of parameters.now)) }
+{
+    let mut first = true;
+    for parameter in parameters {
+        out.put_between(Mark::Comma, first)?;
+        put_parameter(out, parameter)?;
+        first = false;
+    }
+    Ok(())
+}
+
+/// Puts an entry's parameters in round brackets, and nothing where it has none.
+fn put_parameters<'a>(
+    out: &mut Pieces<'a>,
+    parameters: &'a [Parameter<(), ()>],
+) -> Result<(), AllocError>
+    ensures { OnOk result (out.new ≡ out.old ++ spec.bracketed spec.parameter_spelling (map parameter_of parameters.now)) }
+{
+    match parameters {
+        [] => Ok(()),
+        [_, ..] => {
+            out.put_mark(Mark::OpenRound)?;
+            put_all_parameters(out, parameters)?;
+            out.put_mark(Mark::CloseRound)
+        }
+    }
+}
+
+/// Puts an entry of a signature.
+fn put_entry<'a>(out: &mut Pieces<'a>, entry: &'a Entry<(), ()>) -> Result<(), AllocError>
+    ensures { OnOk result (out.new ≡ out.old ++ spec.entry_spelling (entry_of entry.now)) }
+{
+    out.put_mark(kind_mark(entry.kind))?;
+    out.put_word(&entry.name)?;
+    put_parameters(out, &entry.parameters)?;
+    put_optional(out, Mark::Where, &entry.condition)
+}
+
+/// Puts the entries of a signature.
+fn put_entries<'a>(out: &mut Pieces<'a>, entries: &'a [Entry<(), ()>]) -> Result<(), AllocError>
+    ensures { OnOk result (out.new ≡ out.old ++ spec.joined spec.entry_spelling (map entry_of entries.now)) }
+{
+    for entry in entries {
+        put_entry(out, entry)?;
+    }
+    Ok(())
+}
+
+/// Puts a signature, where it has an entry.
+fn put_signature<'a>(out: &mut Pieces<'a>, entries: &'a [Entry<(), ()>]) -> Result<(), AllocError>
+    ensures { OnOk result (out.new ≡ out.old ++ spec.section mark.Signature (spec.joined spec.entry_spelling) (map entry_of entries.now)) }
+{
+    match entries {
+        [] => Ok(()),
+        [_, ..] => {
+            out.put_mark(Mark::Signature)?;
+            put_entries(out, entries)
+        }
+    }
+}
+
+/// Puts a state variable.
+fn put_variable<'a>(out: &mut Pieces<'a>, variable: &'a Variable<(), ()>) -> Result<(), AllocError>
+    ensures { OnOk result (out.new ≡ out.old ++ spec.variable_spelling (variable_of variable.now)) }
+{
+    put_declared(out, &variable.declared)?;
+    put_optional(out, Mark::Assign, &variable.initial)
+}
+
+/// Puts state variables with commas between.
+fn put_variables<'a>(
+    out: &mut Pieces<'a>,
+    variables: &'a [Variable<(), ()>],
+) -> Result<(), AllocError>
+    ensures { OnOk result (out.new ≡ out.old ++ spec.separated mark.Comma spec.variable_spelling (map variable_of variables.now)) }
+{
+    let mut first = true;
+    for variable in variables {
+        out.put_between(Mark::Comma, first)?;
+        put_variable(out, variable)?;
+        first = false;
+    }
+    Ok(())
+}
+
+/// Puts the state variables of an automaton, where it has one.
+fn put_states<'a>(out: &mut Pieces<'a>, variables: &'a [Variable<(), ()>]) -> Result<(), AllocError>
+    ensures { OnOk result (out.new ≡ out.old ++ spec.section mark.States (spec.separated mark.Comma spec.variable_spelling) (map variable_of variables.now)) }
+{
+    match variables {
+        [] => Ok(()),
+        [_, ..] => {
+            out.put_mark(Mark::States)?;
+            put_variables(out, variables)
+        }
+    }
+}
+
+/// Puts an effect, where it has a statement.
+fn put_effect<'a>(
+    out: &mut Pieces<'a>,
+    effect: &'a Vec<Statement<(), ()>>,
+) -> Result<(), AllocError>
+    ensures { OnOk result (out.new ≡ out.old ++ spec.section mark.Eff spec.effect_spelling (map statement_of effect.now.items)) }
+{
+    match effect.as_slice() {
+        [] => Ok(()),
+        [_, ..] => {
+            out.put_mark(Mark::Eff)?;
+            put_statements(out, effect)
+        }
+    }
+}
+
+/// Puts a transition.
+fn put_transition<'a>(
+    out: &mut Pieces<'a>,
+    transition: &'a Transition<(), ()>,
+) -> Result<(), AllocError>
+    ensures { OnOk result (out.new ≡ out.old ++ spec.transition_spelling (transition_of transition.now)) }
+{
+    out.put_mark(kind_mark(transition.kind))?;
+    put_call(out, &transition.name, &transition.arguments)?;
+    put_optional(out, Mark::Pre, &transition.pre)?;
+    put_effect(out, &transition.effect)
+}
+
+/// Puts transitions.
+fn put_all_transitions<'a>(
+    out: &mut Pieces<'a>,
+    transitions: &'a [Transition<(), ()>],
+) -> Result<(), AllocError>
+    ensures { OnOk result (out.new ≡ out.old ++ spec.joined spec.transition_spelling (map transition_of transitions.now)) }
+{
+    for transition in transitions {
+        put_transition(out, transition)?;
+    }
+    Ok(())
+}
+
+/// Puts the transitions of an automaton, where it has one.
+fn put_transitions<'a>(
+    out: &mut Pieces<'a>,
+    transitions: &'a [Transition<(), ()>],
+) -> Result<(), AllocError>
+    ensures { OnOk result (out.new ≡ out.old ++ spec.section mark.Transitions (spec.joined spec.transition_spelling) (map transition_of transitions.now)) }
+{
+    match transitions {
+        [] => Ok(()),
+        [_, ..] => {
+            out.put_mark(Mark::Transitions)?;
+            put_all_transitions(out, transitions)
+        }
+    }
+}
+
+/// Puts a schedule block, where it has a statement.
+fn put_schedule<'a>(
+    out: &mut Pieces<'a>,
+    schedule: &'a Vec<Statement<(), ()>>,
+) -> Result<(), AllocError>
+    ensures { OnOk result (out.new ≡ out.old ++ spec.section mark.Schedule spec.block_spelling (map statement_of schedule.now.items)) }
+{
+    match schedule.as_slice() {
+        [] => Ok(()),
+        [_, ..] => {
+            out.put_mark(Mark::Schedule)?;
+            out.put_mark(Mark::Do)?;
+            put_statements(out, schedule)?;
+            out.put_mark(Mark::Od)
+        }
+    }
+}
+
+/// Puts an automaton.
+fn put_automaton<'a>(
+    out: &mut Pieces<'a>,
+    automaton: &'a Automaton<(), ()>,
+) -> Result<(), AllocError>
+    ensures { OnOk result (out.new ≡ out.old ++ spec.declaration_spelling (plain.automaton (automaton_of automaton.now))) }
+{
+    out.put_mark(Mark::Automaton)?;
+    out.put_word(&automaton.name)?;
+    put_head(out, &automaton.parameters)?;
+    put_signature(out, &automaton.signature)?;
+    put_states(out, &automaton.states)?;
+    put_transitions(out, &automaton.transitions)?;
+    put_schedule(out, &automaton.schedule)
+}
+
+/// Puts names with commas between.
+fn put_words<'a>(out: &mut Pieces<'a>, words: &'a [Word]) -> Result<(), AllocError>
+    ensures { OnOk result (out.new ≡ out.old ++ spec.separated mark.Comma spec.word_spelling words.now) }
+{
+    let mut first = true;
+    for word in words {
+        out.put_between(Mark::Comma, first)?;
+        out.put_word(word)?;
+        first = false;
+    }
+    Ok(())
+}
+
+/// Puts what a type's values are.
+fn put_form<'a>(out: &mut Pieces<'a>, form: &'a TypeForm<()>) -> Result<(), AllocError>
+    ensures { OnOk result (out.new ≡ out.old ++ spec.form_spelling (form_of form.now)) }
+{
+    match form {
+        TypeForm::Enumeration(words) => {
+            out.put_mark(Mark::Enumeration)?;
+            out.put_mark(Mark::Of)?;
+            put_words(out, words)
+        }
+        TypeForm::Tuple(fields) => {
+            out.put_mark(Mark::Tuple)?;
+            out.put_mark(Mark::Of)?;
+            put_all_declared(out, fields)
+        }
+    }
+}
+
+/// Puts a type.
+fn put_type<'a>(
+    out: &mut Pieces<'a>,
+    declaration: &'a TypeDeclaration<()>,
+) -> Result<(), AllocError>
+    ensures { OnOk result (out.new ≡ out.old ++ spec.declaration_spelling (plain.type_named (type_of declaration.now))) }
+{
+    out.put_mark(Mark::Type)?;
+    out.put_word(&declaration.name)?;
+    out.put_mark(Mark::Equal)?;
+    put_form(out, &declaration.form)
+}
+
+/// Puts a declaration.
+fn put_declaration<'a>(
+    out: &mut Pieces<'a>,
+    declaration: &'a Declaration<(), ()>,
+) -> Result<(), AllocError>
+    ensures { OnOk result (out.new ≡ out.old ++ spec.declaration_spelling (declaration_of declaration.now)) }
+{
+    match declaration {
+        Declaration::Type(declaration) => put_type(out, declaration),
+        Declaration::Automaton(automaton) => put_automaton(out, automaton),
+    }
+}
+
+/// Puts declarations.
+pub(crate) fn put_declarations<'a>(
+    out: &mut Pieces<'a>,
+    declarations: &'a [Declaration<(), ()>],
+) -> Result<(), AllocError>
+    ensures { OnOk result (out.new ≡ out.old ++ spec.joined spec.declaration_spelling (map declaration_of declarations.now)) }
+{
+    for declaration in declarations {
+        put_declaration(out, declaration)?;
+    }
+    Ok(())
+}

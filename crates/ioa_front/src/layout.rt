@@ -1,0 +1,263 @@
+//! Which gap stands before each piece of a text.
+
+ghost use Rattle.std.specs.Prelude.{◌≡◌, true};
+ghost use Rattle.std.specs.Option.{option_map};
+ghost use Rattle.ioa_tokens.specs.Written.{may_follow};
+ghost use Rattle.ioa_front.specs.Pieces.{piece_token};
+ghost use Rattle.ioa_front.specs.Printed.{may_begin};
+ghost use Rattle.ioa_front.specs.Touching as spec;
+
+use crate::piece::Piece;
+use ioa_tokens::{Gap, Mark};
+
+/// How far the parts of a declaration and what the system places are indented.
+const PART: usize = 2;
+
+/// How far entries, variables, transitions and a block are indented.
+const ITEM: usize = 4;
+
+/// How far a guard, an effect and the statements of a block are indented.
+const INNER: usize = 6;
+
+/// How far the statements of an effect are indented.
+const DEEPEST: usize = 8;
+
+/// How much further the statements of an arm are indented.
+const STEP: usize = 2;
+
+/// Where in a text the next piece stands.
+#[derive(Drop)]
+pub(crate) struct Layout {
+    /// Whether state variables are declared.
+    in_states: bool,
+    /// How many brackets are open.
+    depth: usize,
+    /// How far statements are indented.
+    indent: usize,
+    /// Whether the last piece is an operator before a term.
+    behind_prefix: bool,
+}
+
+impl Layout {
+    /// The beginning of a text.
+    pub(crate) fn new() -> Self {
+        Layout {
+            in_states: false,
+            depth: 0,
+            indent: 0,
+            behind_prefix: false,
+        }
+    }
+
+    /// What stands before a piece, behind the one before it, if there is one. Nothing stands between two
+    /// pieces only where they stay apart so.
+    pub(crate) fn gap(&self, before: Option<Piece<'_>>, after: Piece<'_>) -> Gap
+        ensures { may_begin (option_map piece_token before.entry) (result, piece_token after.entry) ≡ true }
+    {
+        match before {
+            None => Gap::Joined,
+            Some(before) => self.gap_between(before, after),
+        }
+    }
+
+    /// What stands between two pieces.
+    fn gap_between(&self, before: Piece<'_>, after: Piece<'_>) -> Gap
+        ensures { may_follow (piece_token before.entry) (result, piece_token after.entry) ≡ true }
+    {
+        match self.line(before, after) {
+            Some(indent) => Gap::NewLine(indent),
+            None => self.gap_within(before, after),
+        }
+    }
+
+    /// What stands between two pieces of a line.
+    fn gap_within(&self, before: Piece<'_>, after: Piece<'_>) -> Gap
+        ensures { may_follow (piece_token before.entry) (result, piece_token after.entry) ≡ true }
+    {
+        if self.is_close(before, after) {
+            joined(before, after)
+        } else {
+            Gap::Spaced
+        }
+    }
+
+    /// Goes past a piece, behind the one before it.
+    pub(crate) fn pass(&mut self, before: Option<Piece<'_>>, piece: Piece<'_>) {
+        self.behind_prefix = is_prefix(piece) && !is_behind_term(before);
+        if let Piece::Mark(mark) = piece {
+            self.pass_mark(mark);
+        }
+    }
+
+    /// Goes past a sign or a reserved word.
+    fn pass_mark(&mut self, mark: Mark) {
+        match mark {
+            Mark::OpenRound | Mark::OpenSquare | Mark::OpenBrace => {
+                self.depth = self.depth.saturating_add(1);
+            }
+            Mark::CloseRound | Mark::CloseSquare | Mark::CloseBrace => {
+                self.depth = self.depth.saturating_sub(1);
+            }
+            Mark::States => self.in_states = true,
+            Mark::Transitions | Mark::Schedule | Mark::Automaton | Mark::Type | Mark::System => {
+                self.in_states = false;
+            }
+            Mark::Eff => self.indent = DEEPEST,
+            Mark::Do => self.indent = INNER,
+            Mark::Then => self.indent = self.indent.saturating_add(STEP),
+            Mark::ElseIf | Mark::Fi => self.indent = self.indent.saturating_sub(STEP),
+            _ => {}
+        }
+    }
+
+    /// How far a piece is indented that begins a line.
+    fn line(&self, before: Piece<'_>, after: Piece<'_>) -> Option<usize> {
+        match self.line_behind(before) {
+            Some(indent) => Some(indent),
+            None => self.line_before(before, after),
+        }
+    }
+
+    /// How far what follows a piece is indented, where a line ends behind the piece.
+    fn line_behind(&self, piece: Piece<'_>) -> Option<usize> {
+        match piece {
+            Piece::Mark(Mark::States) => Some(ITEM),
+            Piece::Mark(Mark::Comma) if self.in_states && self.depth == 0 => Some(ITEM),
+            Piece::Mark(Mark::Eff | Mark::Do | Mark::Semicolon | Mark::Then | Mark::Else) => {
+                Some(self.indent)
+            }
+            _ => None,
+        }
+    }
+
+    /// How far a piece is indented, where it always begins a line.
+    fn line_before(&self, before: Piece<'_>, after: Piece<'_>) -> Option<usize> {
+        match after {
+            Piece::Mark(Mark::Type | Mark::Automaton | Mark::System) => Some(0),
+            Piece::Mark(Mark::Signature | Mark::States | Mark::Transitions | Mark::Schedule) => {
+                Some(PART)
+            }
+            Piece::Mark(Mark::Node | Mark::Channel) => Some(PART),
+            Piece::Mark(Mark::Input | Mark::Output | Mark::Internal) if !is_fire(before) => {
+                Some(ITEM)
+            }
+            Piece::Mark(Mark::Do | Mark::Od) => Some(ITEM),
+            Piece::Mark(Mark::Pre | Mark::Eff) => Some(INNER),
+            Piece::Mark(Mark::ElseIf | Mark::Else | Mark::Fi) => {
+                Some(self.indent.saturating_sub(STEP))
+            }
+            _ => None,
+        }
+    }
+
+    /// Whether two pieces of a line stand close together.
+    fn is_close(&self, before: Piece<'_>, after: Piece<'_>) -> bool {
+        self.behind_prefix
+            || precedes_any(before)
+            || is_end(after)
+            || (is_opening(after) && ends_term(before))
+    }
+}
+
+/// Nothing between two pieces, or a space where they would not stay apart.
+#[tactic(auto, using(crate::proofs::Touching::touches_may))]
+fn joined(before: Piece<'_>, after: Piece<'_>) -> Gap
+    ensures { may_follow (piece_token before.entry) (result, piece_token after.entry) ≡ true }
+{
+    if touches(before, after) {
+        Gap::Joined
+    } else {
+        Gap::Spaced
+    }
+}
+
+/// Whether the second of two pieces may stand right behind the first.
+fn touches(before: Piece<'_>, after: Piece<'_>) -> bool
+    ensures { result ≡ spec.touches (piece_token before.entry) (piece_token after.entry) }
+{
+    follows_any(after) || precedes_any(before) || (is_prefix(before) && is_plain(after))
+}
+
+/// Whether a piece may stand right behind any other.
+fn follows_any(piece: Piece<'_>) -> bool
+    ensures { result ≡ spec.follows_any (piece_token piece.entry) }
+{
+    is_opening(piece) || is_end(piece)
+}
+
+/// Whether a piece is a bracket that opens.
+fn is_opening(piece: Piece<'_>) -> bool
+    ensures { result ≡ spec.is_opening (piece_token piece.entry) }
+{
+    match piece {
+        Piece::Mark(Mark::OpenRound | Mark::OpenSquare | Mark::OpenBrace) => true,
+        _ => false,
+    }
+}
+
+/// Whether a piece stands close behind any other: a bracket that closes, or a sign that ends a part.
+fn is_end(piece: Piece<'_>) -> bool
+    ensures { result ≡ spec.is_end (piece_token piece.entry) }
+{
+    match piece {
+        Piece::Mark(Mark::CloseRound | Mark::CloseSquare | Mark::CloseBrace) => true,
+        Piece::Mark(Mark::Dot | Mark::Comma | Mark::Semicolon | Mark::Colon) => true,
+        _ => false,
+    }
+}
+
+/// Whether any other piece stands close behind a piece.
+fn precedes_any(piece: Piece<'_>) -> bool
+    ensures { result ≡ spec.precedes_any (piece_token piece.entry) }
+{
+    match piece {
+        Piece::Mark(Mark::OpenRound | Mark::OpenSquare | Mark::OpenBrace | Mark::Dot) => true,
+        _ => false,
+    }
+}
+
+/// Whether a piece may be an operator before a term.
+fn is_prefix(piece: Piece<'_>) -> bool
+    ensures { result ≡ spec.is_prefix (piece_token piece.entry) }
+{
+    match piece {
+        Piece::Mark(Mark::Minus | Mark::Not) => true,
+        _ => false,
+    }
+}
+
+/// Whether a piece is a name, a number or a truth value.
+fn is_plain(piece: Piece<'_>) -> bool
+    ensures { result ≡ spec.is_plain (piece_token piece.entry) }
+{
+    match piece {
+        Piece::Word(_) | Piece::Number(_) => true,
+        Piece::Mark(Mark::True | Mark::False) => true,
+        _ => false,
+    }
+}
+
+/// Whether a term, or the word of a sort with parts, ends with a piece.
+fn ends_term(piece: Piece<'_>) -> bool {
+    match piece {
+        Piece::Mark(Mark::CloseRound | Mark::CloseSquare | Mark::CloseBrace) => true,
+        Piece::Mark(Mark::Seq | Mark::Set | Mark::Map) => true,
+        _ => is_plain(piece),
+    }
+}
+
+/// Whether there is a piece, and a term ends with it.
+fn is_behind_term(before: Option<Piece<'_>>) -> bool {
+    match before {
+        None => false,
+        Some(piece) => ends_term(piece),
+    }
+}
+
+/// Whether a piece is the word of a firing.
+fn is_fire(piece: Piece<'_>) -> bool {
+    match piece {
+        Piece::Mark(Mark::Fire) => true,
+        _ => false,
+    }
+}

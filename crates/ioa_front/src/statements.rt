@@ -1,0 +1,164 @@
+//! The pieces of statements.
+
+ghost use Rattle.std.specs.Prelude.{◌≡◌, ◌++◌, ◌∷◌, OnOk, map};
+ghost use Rattle.std.specs.Option.{option_map};
+ghost use Rattle.ioa_tokens.specs.declared.token.Token.TheVariants as token;
+ghost use Rattle.ioa_tokens.specs.declared.mark.Mark.TheVariants as mark;
+ghost use Rattle.ioa_term_reader.specs.Spelling.{spelling};
+ghost use Rattle.ioa_source.specs.PlainTerm.{statements_of, arms_of, assign, fire};
+ghost use Rattle.ioa_source.specs.View.{term_of, place_of, statement_of, arm_of};
+ghost use Rattle.ioa_front.specs.Spelling as spec;
+
+use crate::piece::Pieces;
+use crate::terms::{put_bracketed, put_term};
+use ioa_terms::{Arm, Kind, Place, Statement, Term};
+use ioa_tokens::Mark;
+use ioa_values::Word;
+use std::alloc::AllocError;
+
+/// The word of a kind.
+pub(crate) fn kind_mark(kind: Kind) -> Mark
+    ensures { result ≡ spec.kind_mark kind }
+{
+    match kind {
+        Kind::Input => Mark::Input,
+        Kind::Output => Mark::Output,
+        Kind::Internal => Mark::Internal,
+    }
+}
+
+/// Puts a kind, where it is written.
+fn put_kind<'a>(out: &mut Pieces<'a>, kind: Option<Kind>) -> Result<(), AllocError>
+    ensures { OnOk result (out.new ≡ out.old ++ spec.kind_spelling kind) }
+{
+    match kind {
+        None => Ok(()),
+        Some(kind) => out.put_mark(kind_mark(kind)),
+    }
+}
+
+/// Puts a name with its arguments.
+pub(crate) fn put_call<'a>(
+    out: &mut Pieces<'a>,
+    name: &'a Word,
+    arguments: &'a [Term],
+) -> Result<(), AllocError>
+    ensures { OnOk result (out.new ≡ out.old ++ spec.call_spelling name.now (map term_of arguments.now)) }
+{
+    out.put_word(name)?;
+    put_bracketed(out, arguments)
+}
+
+/// Puts what an assignment writes to.
+fn put_place<'a>(out: &mut Pieces<'a>, place: &'a Place<(), ()>) -> Result<(), AllocError>
+    ensures { OnOk result (out.new ≡ out.old ++ spec.place_spelling (place_of place.now)) }
+{
+    match place {
+        Place::Variable(name, _, _) => out.put_word(name),
+        Place::At(name, _, _, key) => {
+            out.put_word(name)?;
+            out.put_mark(Mark::OpenSquare)?;
+            put_term(out, key)?;
+            out.put_mark(Mark::CloseSquare)
+        }
+        Place::Field(name, _, _, field) => {
+            out.put_word(name)?;
+            out.put_mark(Mark::Dot)?;
+            out.put_word(field)
+        }
+    }
+}
+
+/// Puts an assignment.
+fn put_assignment<'a>(
+    out: &mut Pieces<'a>,
+    place: &'a Place<(), ()>,
+    term: &'a Term,
+) -> Result<(), AllocError>
+    ensures { OnOk result (out.new ≡ out.old ++ spec.statement_spelling (assign (place_of place.now) (term_of term.now))) }
+{
+    put_place(out, place)?;
+    out.put_mark(Mark::Assign)?;
+    put_term(out, term)
+}
+
+/// Puts the firing of an action.
+fn put_firing<'a>(
+    out: &mut Pieces<'a>,
+    kind: Option<Kind>,
+    name: &'a Word,
+    arguments: &'a [Term],
+) -> Result<(), AllocError>
+    ensures { OnOk result (out.new ≡ out.old ++ spec.statement_spelling (fire kind name.now (map term_of arguments.now))) }
+{
+    out.put_mark(Mark::Fire)?;
+    put_kind(out, kind)?;
+    put_call(out, name, arguments)
+}
+
+/// Puts a statement.
+#[cycle(statements)]
+fn put_statement<'a>(
+    out: &mut Pieces<'a>,
+    statement: &'a Statement<(), ()>,
+) -> Result<(), AllocError>
+    ensures { OnOk result (out.new ≡ out.old ++ spec.statement_spelling (statement_of statement.now)) }
+{
+    match statement {
+        Statement::Assign(place, term) => put_assignment(out, place, term),
+        Statement::If(arms, rest) => {
+            out.put_mark(Mark::If)?;
+            put_arms(out, arms)?;
+            put_else(out, rest)?;
+            out.put_mark(Mark::Fi)
+        }
+        Statement::Fire(kind, name, arguments) => put_firing(out, *kind, name, arguments),
+    }
+}
+
+/// Puts the arms of an `if`, up to its `else`.
+#[cycle(statements)]
+fn put_arms<'a>(out: &mut Pieces<'a>, arms: &'a Vec<Arm<(), ()>>) -> Result<(), AllocError>
+    ensures { OnOk result (out.new ≡ out.old ++ spec.arms_spelling (arms_of (map arm_of arms.now.items))) }
+{
+    let mut first = true;
+    for arm in arms {
+        out.put_between(Mark::ElseIf, first)?;
+        put_term(out, &arm.test)?;
+        out.put_mark(Mark::Then)?;
+        put_statements(out, &arm.body)?;
+        first = false;
+    }
+    Ok(())
+}
+
+/// Puts the last part of an `if`, where it has one.
+#[cycle(statements)]
+fn put_else<'a>(out: &mut Pieces<'a>, rest: &'a Vec<Statement<(), ()>>) -> Result<(), AllocError>
+    ensures { OnOk result (out.new ≡ out.old ++ spec.else_spelling (statements_of (map statement_of rest.now.items)) (spec.statements_spelling (statements_of (map statement_of rest.now.items)))) }
+{
+    match rest.as_slice() {
+        [] => Ok(()),
+        [_, ..] => {
+            out.put_mark(Mark::Else)?;
+            put_statements(out, rest)
+        }
+    }
+}
+
+/// Puts statements with semicolons between.
+#[cycle(statements)]
+pub(crate) fn put_statements<'a>(
+    out: &mut Pieces<'a>,
+    statements: &'a Vec<Statement<(), ()>>,
+) -> Result<(), AllocError>
+    ensures { OnOk result (out.new ≡ out.old ++ spec.statements_spelling (statements_of (map statement_of statements.now.items))) }
+{
+    let mut first = true;
+    for statement in statements {
+        out.put_between(Mark::Semicolon, first)?;
+        put_statement(out, statement)?;
+        first = false;
+    }
+    Ok(())
+}

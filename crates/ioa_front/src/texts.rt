@@ -1,0 +1,60 @@
+//! The pieces of a whole text.
+
+ghost use Rattle.std.specs.Prelude.{◌≡◌, ◌++◌, IfOk, OnOk, map};
+ghost use Rattle.ioa_source.specs.View.{term_of};
+ghost use Rattle.ioa_source.specs.TextView.{placement_of, text_of};
+ghost use Rattle.ioa_front.specs.Spelling as spec;
+
+use crate::declarations::put_declarations;
+use crate::piece::Pieces;
+use crate::statements::put_call;
+use ioa_source::{Placement, Text};
+use ioa_tokens::Mark;
+use std::alloc::{AllocError, Global};
+
+/// Puts a node or a channel.
+fn put_placement<'a>(
+    out: &mut Pieces<'a>,
+    placement: &'a Placement<(), ()>,
+) -> Result<(), AllocError>
+    ensures { OnOk result (out.new ≡ out.old ++ spec.placement_spelling (placement_of placement.now)) }
+{
+    match placement {
+        Placement::Node(node) => {
+            out.put_mark(Mark::Node)?;
+            out.put_number(node.number)?;
+            out.put_mark(Mark::Colon)?;
+            put_call(out, &node.automaton, &node.arguments)
+        }
+        Placement::Channel(channel) => {
+            out.put_mark(Mark::Channel)?;
+            out.put_number(channel.from)?;
+            out.put_mark(Mark::Arrow)?;
+            out.put_number(channel.to)
+        }
+    }
+}
+
+/// Puts nodes and channels.
+fn put_placements<'a>(
+    out: &mut Pieces<'a>,
+    placements: &'a [Placement<(), ()>],
+) -> Result<(), AllocError>
+    ensures { OnOk result (out.new ≡ out.old ++ spec.joined spec.placement_spelling (map placement_of placements.now)) }
+{
+    for placement in placements {
+        put_placement(out, placement)?;
+    }
+    Ok(())
+}
+
+/// The pieces of a text.
+pub(crate) fn pieces_of<'a>(alloc: Global, text: &'a Text<(), ()>) -> Result<Pieces<'a>, AllocError>
+    ensures { IfOk result (λ p. p ≡ spec.text_spelling (text_of text.now)) }
+{
+    let mut out = Pieces::new(alloc);
+    put_declarations(&mut out, &text.declarations)?;
+    out.put_mark(Mark::System)?;
+    put_placements(&mut out, &text.system)?;
+    Ok(out)
+}
