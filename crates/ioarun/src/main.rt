@@ -1,24 +1,9 @@
 //! The program `ioarun`: system text on standard input, report on standard output.
 #![tactic(auto)]
 
-mod ending;
-mod input;
-mod options;
-mod out;
-mod program;
-mod record;
-mod reporting;
-mod running;
-mod turn;
-mod whole_run;
-
-use crate::out::Over;
-use crate::program::command;
+use ioa_workers::{BAD_WORDS, Over, command};
 use std::process::ExitCode;
 use std::{env, io};
-
-/// The status where the command line could not be read.
-const BAD_WORDS: u8 = 2;
 
 fn main(rt: HostRuntime) -> ExitCode {
     match run_on_streams(rt) {
@@ -36,3 +21,6 @@ fn run_on_streams(rt: HostRuntime) -> io::Result<u8> {
     let mut err = Over::new(rt.stderr());
     Ok(command(alloc, &words, &mut rt.reader(), &mut out, &mut err))
 }
+
+#[cfg(test)]
+mod tests;

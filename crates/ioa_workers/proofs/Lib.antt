@@ -1,0 +1,4 @@
+-- lemmas of workers
+mod Appended
+mod Elements
+mod Runs

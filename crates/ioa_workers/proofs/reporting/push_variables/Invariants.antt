@@ -1,0 +1,9 @@
+use Rattle.std.proofs.Common.{◌≡◌, ◌++◌, drop, string_bytes}
+use Rattle.ioa_workers.specs.Reports.{variable_lines}
+use Rattle.ioa_workers.proofs.reporting.push_variables.Given as goal
+
+-- what is written so far, and then the lines that are left
+abbrev pub invariant-loop-place : goal.invariant-loop-place
+invariant-loop-place l =
+    string_bytes l.report ++ variable_lines l.names l.node (drop l.place l.values) (drop l.place l.variables)
+    ≡ string_bytes l.initial.report ++ variable_lines l.names l.node l.values l.variables

@@ -1,0 +1,81 @@
+-- Attempts of a node in a run by one worker (profile).
+use Rattle.std.specs.Prelude.{◌≡◌, ℕ, ℤ, ◌+◌, ◌<◌, ◌^◌, nat_lt, if◌then◌else◌, List, Option, Some, None, Result, Ok, Err, length}
+use Rattle.std.specs.Ordering.{int_eq}
+use Rattle.ioa_terms.specs.declared.action.Action.{Action}
+use Rattle.ioa_terms.specs.declared.component.Component.TheVariants as component
+use Rattle.ioa_operators.specs.declared.fault.TermFault.{TermFault}
+use Rattle.ioa_compose.specs.declared.configuration.Conf.{Conf}
+use Rattle.ioa_compose.specs.declared.configuration.Conf.TheVariants.{Node, Queue}
+use Rattle.ioa_compose.specs.declared.fault.StepFault.{StepFault}
+use Rattle.ioa_compose.specs.declared.fault.StepFault.TheVariants as step
+use Rattle.ioa_compose.specs.Composition.{find_conf, joint_answer}
+use Rattle.ioa_workers.specs.declared.ending.Fault.{Fault}
+use Rattle.ioa_workers.specs.declared.ending.Fault.TheVariants.{Undefined, Range, Memory, NotMine, NoChannel, Full}
+use Rattle.ioa_workers.specs.declared.turn.Turn.{Turn}
+use Rattle.ioa_workers.specs.declared.turn.Turn.TheVariants as turn
+use Rattle.ioa_workers.specs.declared.running.Course.{Course}
+use Rattle.ioa_workers.specs.declared.running.Progress.{Progress}
+use Rattle.ioa_workers.specs.declared.running.Tried.{Tried}
+use Rattle.ioa_workers.specs.declared.running.Tried.TheVariants as tried
+use Rattle.ioa_workers.specs.Faults.{term_fault}
+use Rattle.ioa_workers.specs.Turns.{node_turn, node_of}
+
+-- what an attempt of a node comes to, where it meets no fault: nothing is left of its block, the action is missed, or
+-- the action is taken and leads to these configurations
+pub data PlainTried : Type 0 where
+  finished : PlainTried
+  missed : PlainTried
+  take : Action → List Conf → PlainTried
+
+abbrev pub tried_of : Tried → PlainTried
+tried_of tried.Finished = finished
+tried_of tried.Missed = missed
+tried_of (tried.Taken a next) = take a next.items
+
+-- the turn of a node among configurations; a node that has none has no block
+abbrev pub turn_on : Option Conf → ℕ → Result Turn TermFault
+turn_on None passed = Ok turn.Done
+turn_on (Some (Node c)) passed = node_turn c passed
+turn_on (Some (Queue q)) passed = Ok turn.Done
+
+abbrev pub turn_at : List Conf → ℤ → ℕ → Result Turn TermFault
+turn_at states k passed = turn_on (find_conf (component.Node k) states) passed
+
+-- what is made of the composition's answer to an action: an action that is not enabled is missed, another fault stands,
+-- and a step is taken where the schedule is shorter than the limit
+abbrev pub taken : ℕ → List Action → Action → Result (List Conf) StepFault → Result PlainTried Fault
+taken limit schedule a (Ok next) = if nat_lt (length schedule) limit then Ok (take a next) else Err Full
+taken limit schedule a (Err step.NotEnabled) = Ok missed
+taken limit schedule a (Err step.Undefined) = Err Undefined
+taken limit schedule a (Err step.Range) = Err Range
+taken limit schedule a (Err step.Memory) = Err Memory
+taken limit schedule a (Err step.NotMine) = Err NotMine
+taken limit schedule a (Err step.NoChannel) = Err NoChannel
+
+-- what firing an action at node k comes to: an action of another node is not the node's own
+abbrev pub fire_answer : ℕ → List Action → List Conf → ℤ → Action → Result PlainTried Fault
+fire_answer limit schedule states k a =
+    if int_eq (node_of a) k then taken limit schedule a (joint_answer a states) else Err NotMine
+
+-- what is made of a turn of node k
+abbrev pub turned : ℕ → List Action → List Conf → ℤ → Result Turn TermFault → Result PlainTried Fault
+turned limit schedule states k (Ok turn.Done) = Ok finished
+turned limit schedule states k (Ok (turn.Fire a)) = fire_answer limit schedule states k a
+turned limit schedule states k (Err f) = Err (term_fault f)
+
+-- what an attempt of a node comes to on the present configurations
+abbrev pub attempt_answer : ℕ → List Action → List Conf → Progress → Result PlainTried Fault
+attempt_answer limit schedule states p = turned limit schedule states p.node (turn_at states p.node p.passed)
+
+-- the place behind a statement that is passed is a number of the machine
+abbrev pub Counts : ℕ → Tried → Type 0
+Counts passed tried.Finished = Unit {0}
+Counts passed tried.Missed = passed + 1 < 2 ^ 64
+Counts passed (tried.Taken a next) = passed + 1 < 2 ^ 64
+
+-- an action that is taken is a step, for which the schedule has room
+abbrev pub IsStepOf : ℕ → Course → Tried → Type 0
+IsStepOf limit c tried.Finished = Unit {0}
+IsStepOf limit c tried.Missed = Unit {0}
+IsStepOf limit c (tried.Taken a next) =
+    (joint_answer a c.states.items ≡ Ok next.items) × (length c.schedule.items < limit)

@@ -1,0 +1,13 @@
+-- What is said of an input that is no text, where its bytes are known (profile).
+use Rattle.std.specs.Prelude.{ℕ, ◌≡◌, ◌<◌, ◌≤◌, List, length, ⊤}
+use Rattle.std.specs.Str.Lossy.{utf8_valid_len}
+use Rattle.ioa_workers.specs.declared.input.InputFault.{InputFault}
+use Rattle.ioa_workers.specs.declared.input.InputFault.TheVariants.{Read, TooLong, BadCharacter, Memory}
+
+-- a length is tested before characters are, and a bad character stands right after the longest beginning that
+-- is UTF-8; a failed read and want of memory say nothing of the bytes
+abbrev pub IsFaultOf : InputFault → List ℕ → Type 0
+IsFaultOf Read bytes = ⊤
+IsFaultOf TooLong bytes = 8388608 < length bytes
+IsFaultOf (BadCharacter place) bytes = (length bytes ≤ 8388608) × (place ≡ utf8_valid_len bytes)
+IsFaultOf Memory bytes = ⊤

@@ -1,0 +1,28 @@
+-- What a run leaves: an execution of the system, and an ending a node.
+use Rattle.std.specs.Prelude.{◌≡◌, ℕ, ◌≤◌, List, Some, length}
+use Rattle.ioa_terms.specs.declared.action.Action.{Action}
+use Rattle.ioa_compose.specs.declared.configuration.Conf.{Conf}
+use Rattle.ioa_compose.specs.Executions.{replay}
+use Rattle.ioa_compose.specs.Start.{start}
+use Rattle.ioa_check.specs.Systems.{SystemParts}
+use Rattle.ioa_workers.specs.declared.ending.Ending.{Ending}
+use Rattle.ioa_workers.specs.declared.record.Record.{Record}
+use Rattle.ioa_workers.specs.declared.running.Course.{Course}
+
+-- a schedule within the limit is an execution from the start that leads to these configurations (Lynch 8.1)
+pub record IsExecution (limit : ℕ) (from : List Conf) (schedule : List Action) (states : List Conf) : Type 0 where
+  pub leads : replay schedule from ≡ Some states
+  pub within : length schedule ≤ limit
+
+-- whatever start the one leads from, the other leads from it too
+abbrev pub Continues : ℕ → Course → Course → Type 0
+Continues limit old new =
+    (from : List Conf) → IsExecution limit from old.schedule.items old.states.items
+    → IsExecution limit from new.schedule.items new.states.items
+
+-- a record and endings of a run of a system: the schedule is an execution from the system's start, and the worker
+-- recorded each of its actions; there is one ending a node
+pub record IsRunOf (s : SystemParts) (limit : ℕ) (r : Record) (endings : List Ending) : Type 0 where
+  pub execution : IsExecution limit (start s) r.schedule.items r.states.items
+  pub counted : r.commits ≡ length r.schedule.items
+  pub ended : length endings ≡ length s.programs

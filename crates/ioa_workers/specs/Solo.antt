@@ -1,0 +1,57 @@
+-- *Solo* (profile): the run by one worker, who goes round the nodes in order until each has an ending.
+use Rattle.std.specs.Prelude.{ℕ, zero, suc, ◌+◌, ◌-◌, nat_eq, if◌then◌else◌, List, [], ◌∷◌, ◌++◌, Some, None, is_some, Result, Ok, Err, map}
+use Rattle.ioa_terms.specs.declared.action.Action.{Action}
+use Rattle.ioa_compose.specs.declared.configuration.Conf.{Conf}
+use Rattle.ioa_check.specs.Parts.{Parts}
+use Rattle.ioa_compose.specs.Start.{start}
+use Rattle.ioa_check.specs.Systems.{SystemParts}
+use Rattle.ioa_workers.specs.declared.ending.Ending.TheVariants.{Done, Spent, Fault}
+use Rattle.ioa_workers.specs.declared.ending.Fault.{Fault as NodeFault}
+use Rattle.ioa_workers.specs.declared.running.Progress.{Progress}
+use Rattle.ioa_workers.specs.Attempts.{PlainTried, finished, missed, take, attempt_answer}
+
+-- a node before the run: before its block, with all its attempts
+abbrev pub progress_at : ℕ → Parts → Progress
+progress_at attempts p = record { node = p.node; passed = 0; attempts = attempts; ending = None }
+
+-- a run under way: the schedule so far, and the configurations that it leads to
+pub record Situation : Type 0 where
+  pub schedule : List Action
+  pub states : List Conf
+
+-- what an attempt leaves of the run and of its node: a node that is done has an ending, and so has one that met a
+-- fault; a missed or a taken action is passed, and a taken one stands behind the schedule
+abbrev pub after_attempt : Result PlainTried NodeFault → Situation → Progress → Situation × Progress
+after_attempt (Ok finished) s p = (s, record p { ending = Some Done })
+after_attempt (Ok missed) s p = (s, record p { passed = p.passed + 1 })
+after_attempt (Ok (take a next)) s p =
+    (record { schedule = s.schedule ++ a ∷ []; states = next }, record p { passed = p.passed + 1 })
+after_attempt (Err f) s p = (s, record p { ending = Some (Fault f) })
+
+-- a visit of a node that has no ending: it is spent where no attempt is left, else one is used
+abbrev pub visit : ℕ → Situation → Progress → Situation × Progress
+visit limit s p =
+    if nat_eq p.attempts 0 then (s, record p { ending = Some Spent })
+    else after_attempt (attempt_answer limit s.schedule s.states p) s (record p { attempts = p.attempts - 1 })
+
+-- a node that has an ending is not visited again
+abbrev pub visit_unless_ended : ℕ → Situation → Progress → Situation × Progress
+visit_unless_ended limit s p = if is_some p.ending then (s, p) else visit limit s p
+
+-- the nodes in order, each from where the one before left the run
+abbrev pub then_others : Situation × Progress → (Situation → Situation × List Progress) → Situation × List Progress
+then_others first others = ((others first.0).0, first.1 ∷ (others first.0).1)
+
+abbrev pub round : ℕ → Situation → List Progress → Situation × List Progress
+round limit s [] = (s, [])
+round limit s (p ∷ more) = then_others (visit_unless_ended limit s p) (λ t. round limit t more)
+
+-- n further rounds
+unfoldable pub rounds : ℕ → ℕ → Situation → List Progress → Situation × List Progress
+rounds limit zero s ps = (s, ps)
+rounds limit (suc n) s ps = rounds limit n (round limit s ps).0 (round limit s ps).1
+
+-- the whole run: a node uses an attempt each round, and the round after its last attempt ends it
+abbrev pub solo : SystemParts → ℕ → ℕ → Situation × List Progress
+solo s attempts limit =
+    rounds limit (attempts + 1) (record { schedule = []; states = start s }) (map (progress_at attempts) s.programs)

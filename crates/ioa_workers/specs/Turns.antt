@@ -1,0 +1,74 @@
+-- Turns of a schedule block of firings (profile).
+use Rattle.std.specs.Prelude.{ℕ, ℤ, ◌+◌, ◌^◌, ◌<◌, if◌then◌else◌, List, [], ◌∷◌, Option, Some, None, Result, Ok, Err, map, drop, codes}
+use Rattle.std.specs.List.{zip}
+use Rattle.std.specs.Option.{option_and_then, option_map}
+use Rattle.ioa_values.specs.Data.{Data, as_number}
+use Rattle.ioa_values.specs.Outcome.{and_then}
+use Rattle.ioa_terms.specs.Bindings.{Bindings, same_name}
+use Rattle.ioa_terms.specs.Meaning.{answer}
+use Rattle.ioa_terms.specs.PlainTerm.{assign, choose, fire}
+use Rattle.ioa_terms.specs.declared.action.Action.{Action}
+use Rattle.ioa_terms.specs.declared.action.Action.TheVariants.{Send, Receive, Local, Stimulus}
+use Rattle.ioa_operators.specs.declared.fault.TermFault.{TermFault}
+use Rattle.ioa_operators.specs.declared.fault.TermFault.TheVariants.{Undefined}
+use Rattle.ioa_source.specs.View.{statement_of}
+use Rattle.ioa_source.specs.TextView.{variable_of}
+use Rattle.ioa_source.specs.Sides.{CheckedStatement, CheckedTerm}
+use Rattle.ioa_check.specs.Placed.{variable_names}
+use Rattle.ioa_compose.specs.NodeState.{NodeState}
+use Rattle.ioa_workers.specs.declared.turn.Turn.{Turn}
+use Rattle.ioa_workers.specs.declared.turn.Turn.TheVariants.{Fire, Done}
+
+-- what a block reads: the node's variables with their values
+abbrev pub view_of : NodeState → Bindings
+view_of c = zip (variable_names (map variable_of c.program.variables)) c.variables
+
+-- the values of terms in order, or the first fault among them
+abbrev pub answers : List CheckedTerm → Bindings → Result (List Data) TermFault
+answers [] e = Ok []
+answers (t ∷ more) e = and_then (answer t e) (λ v. and_then (answers more e) (λ vs. Ok (v ∷ vs)))
+
+-- a message and the two ends of its channel, where arguments are these
+abbrev pub message_of : List Data → Option (Data × ℤ × ℤ)
+message_of (m ∷ x ∷ y ∷ []) = option_and_then (λ i. option_map (λ j. (m, i, j)) (as_number y)) (as_number x)
+message_of _ = None
+
+-- the action of node k of a name and arguments, where they are a message and its ends, or not
+abbrev pub action_by : ℤ → List ℕ → List Data → Option (Data × ℤ × ℤ) → Action
+action_by k name vs None = Local (record { node = k; name = name; arguments = vs })
+action_by k name vs (Some (m, i, j)) =
+    if same_name name (codes "send") then Send m i j
+    else (if same_name name (codes "receive") then Receive m i j
+    else Local (record { node = k; name = name; arguments = vs }))
+
+-- the action that a firing at node k names: a send, a receive, or another action of the node
+abbrev pub action_at : ℤ → List ℕ → List Data → Action
+action_at k name vs = action_by k name vs (message_of vs)
+
+-- what a turn of node k answers where this statement stands next: a firing is the action whose arguments are the
+-- values of its terms; other statements do not come in this form
+abbrev pub statement_answer : ℤ → Bindings → CheckedStatement → Result Turn TermFault
+statement_answer k e (assign p t) = Err Undefined
+statement_answer k e (choose arms rest) = Err Undefined
+statement_answer k e (fire kind name ts) = and_then (answers ts e) (λ vs. Ok (Fire (action_at k name vs)))
+
+-- what a turn of node k answers, by the statements that are left of its block: Done where there are none
+abbrev pub turn_answer : ℤ → Bindings → List CheckedStatement → Result Turn TermFault
+turn_answer k e [] = Ok Done
+turn_answer k e (s ∷ more) = statement_answer k e s
+
+-- what a turn of a node answers where it has passed the first n statements of its block
+abbrev pub node_turn : NodeState → ℕ → Result Turn TermFault
+node_turn c n = turn_answer c.program.node (view_of c) (map statement_of (drop n c.program.schedule))
+
+-- the node of an action
+abbrev pub node_of : Action → ℤ
+node_of (Send m i j) = i
+node_of (Receive m i j) = j
+node_of (Local a) = a.node
+node_of (Stimulus a) = a.node
+
+-- the place behind a firing is a number of the machine
+abbrev pub IsCounted : ℕ → Turn → Type 0
+IsCounted passed Done = Unit {0}
+IsCounted passed (Fire a) = passed + 1 < 2 ^ 64

@@ -1,0 +1,198 @@
+//! The report of a run.
+
+ghost use Rattle.std.specs.Prelude.{◌≡◌, ◌++◌, IfOk, OnOk, ℕ, List, map, string_bytes};
+ghost use Rattle.std.specs.List.{flat_map};
+ghost use Rattle.ioa_values.specs.Text.{with_commas};
+ghost use Rattle.ioa_workers.specs.Reports.{action_lines, schedule_part, variable_line, variable_lines, item_text, queue_line, component_lines, states_part, ending_lines, commits_part, report_text};
+
+use crate::ending::Ending;
+use crate::record::Record;
+use ioa_compose::{Conf, Item, NodeConf, Queue, System};
+use ioa_source::Variable;
+use ioa_terms::{
+    Action, Component, Names, Shape, Value, push_listed, show, show_action, show_node_action,
+};
+use std::alloc::{AllocError, Global};
+
+/// The report of a run that left a record, with an ending for each node, node 0 first (profile): the
+/// schedule, the nodes' variables, the channels' queues, the endings and the commits.
+pub fn report(
+    alloc: Global,
+    system: &System,
+    run_record: &Record,
+    endings: &[Ending],
+) -> Result<String, AllocError>
+    ensures { IfOk result (λ s. string_bytes s ≡ report_text system.now.names run_record.now endings.now) }
+{
+    let names = system.names();
+    let mut report = String::new(alloc);
+    push_schedule(alloc, names, &run_record.schedule, &mut report)?;
+    push_states(alloc, names, &run_record.states, &mut report)?;
+    push_endings(endings, &mut report)?;
+    push_commits(run_record.commits, &mut report)?;
+    Ok(report)
+}
+
+/// Writes the schedule: its length, and then its actions.
+fn push_schedule(
+    alloc: Global,
+    names: &Names,
+    schedule: &[Action],
+    report: &mut String,
+) -> Result<(), AllocError>
+    ensures { OnOk result (string_bytes report.new ≡ string_bytes report.old ++ schedule_part names.now schedule.now) }
+{
+    let count = schedule.len();
+    write!(report, "schedule {count}\n")?;
+    push_actions(alloc, names, schedule, report)
+}
+
+/// Writes the actions, each with its place.
+fn push_actions(
+    alloc: Global,
+    names: &Names,
+    schedule: &[Action],
+    report: &mut String,
+) -> Result<(), AllocError>
+    ensures { OnOk result (string_bytes report.new ≡ string_bytes report.old ++ action_lines names.now 0 schedule.now) }
+{
+    for (place, action) in schedule.iter().enumerate() {
+        let action = show_action(alloc, names, action)?;
+        write!(report, "{place} {action}\n")?;
+    }
+    Ok(())
+}
+
+/// Writes the components, as they stand.
+fn push_states(
+    alloc: Global,
+    names: &Names,
+    states: &[Conf],
+    report: &mut String,
+) -> Result<(), AllocError>
+    ensures { OnOk result (string_bytes report.new ≡ string_bytes report.old ++ states_part names.now states.now) }
+{
+    for state in states {
+        push_component(alloc, names, state, report)?;
+    }
+    Ok(())
+}
+
+/// Writes a node's variables or a channel's queue.
+fn push_component(
+    alloc: Global,
+    names: &Names,
+    state: &Conf,
+    report: &mut String,
+) -> Result<(), AllocError>
+    ensures { OnOk result (string_bytes report.new ≡ string_bytes report.old ++ component_lines names.now state.now) }
+{
+    match state {
+        Conf::Node(node) => {
+            let values = node.variables().as_slice();
+            let variables = node.program().variables();
+            push_variables(alloc, names, node.node(), values, variables, report)
+        }
+        Conf::Queue(queue) => push_queue(alloc, names, queue, report),
+    }
+}
+
+/// Writes a node's variables with their values, as declared.
+fn push_variables(
+    alloc: Global,
+    names: &Names,
+    node: i64,
+    values: &[Value],
+    variables: &[Variable<usize, Shape>],
+    report: &mut String,
+) -> Result<(), AllocError>
+    ensures { OnOk result (string_bytes report.new ≡ string_bytes report.old ++ variable_lines names.now node values.now variables.now) }
+{
+    for (place, value) in values.iter().enumerate() {
+        let Some(variable) = variables.get(place) else {
+            return Ok(());
+        };
+        push_variable(
+            alloc,
+            names,
+            node,
+            variable.declared.name.as_str(),
+            value,
+            report,
+        )?;
+    }
+    Ok(())
+}
+
+/// Writes a variable with its value.
+fn push_variable(
+    alloc: Global,
+    names: &Names,
+    node: i64,
+    name: &str,
+    value: &Value,
+    report: &mut String,
+) -> Result<(), AllocError>
+    ensures { OnOk result (string_bytes report.new ≡ string_bytes report.old ++ variable_line names.now node name.now value.now) }
+{
+    let value = show(alloc, names, value)?;
+    write!(report, "node {node} {name} = {value}\n")
+}
+
+/// Writes a channel's queue; nothing for the queue of a script.
+fn push_queue(
+    alloc: Global,
+    names: &Names,
+    queue: &Queue,
+    report: &mut String,
+) -> Result<(), AllocError>
+    ensures { OnOk result (string_bytes report.new ≡ string_bytes report.old ++ queue_line names.now queue.now.component queue.now.items) }
+{
+    match queue.component() {
+        Component::Node(_) => Ok(()),
+        Component::Channel(from, to) => {
+            let items = show_items(alloc, names, queue.items())?;
+            write!(report, "channel {from} -> {to} {{{items}}}\n")
+        }
+        Component::Script(_) => Ok(()),
+    }
+}
+
+/// The texts of a queue's items, with a comma and a space between.
+fn show_items(alloc: Global, names: &Names, items: &[Item]) -> Result<String, AllocError>
+    ensures { IfOk result (λ s. string_bytes s ≡ with_commas (map (item_text names.now) items.now)) }
+{
+    let mut list = String::new(alloc);
+    for (place, item) in items.iter().enumerate() {
+        let piece = show_item(alloc, names, item)?;
+        push_listed(&mut list, place, piece.as_str())?;
+    }
+    Ok(list)
+}
+
+/// The text of a queue's item.
+fn show_item(alloc: Global, names: &Names, item: &Item) -> Result<String, AllocError>
+    ensures { IfOk result (λ s. string_bytes s ≡ item_text names.now item.now) }
+{
+    match item {
+        Item::Message(message) => show(alloc, names, message),
+        Item::Stimulus(stimulus) => show_node_action(alloc, names, stimulus),
+    }
+}
+
+/// Writes the endings, node 0 first.
+fn push_endings(endings: &[Ending], report: &mut String) -> Result<(), AllocError>
+    ensures { OnOk result (string_bytes report.new ≡ string_bytes report.old ++ ending_lines 0 endings.now) }
+{
+    for (node, ending) in endings.iter().enumerate() {
+        write!(report, "ending {node} {ending}\n")?;
+    }
+    Ok(())
+}
+
+/// Writes how many actions the one worker recorded, and their total.
+fn push_commits(commits: u64, report: &mut String) -> Result<(), AllocError>
+    ensures { OnOk result (string_bytes report.new ≡ string_bytes report.old ++ commits_part commits) }
+{
+    write!(report, "worker 0 commits {commits}\ntotal {commits}\n")
+}

@@ -1,0 +1,259 @@
+//! Runs of a system by one worker.
+
+ghost use Rattle.std.specs.Prelude.{◌≡◌, ◌⊎◌, ◌+◌, ◌<◌, ◌^◌, ◌≤◌, ◌++◌, [], ◌∷◌, Some, IfOk, OnOk, OnErr, IfSome, map, length};
+ghost use Rattle.std.specs.Arc.{arc_value};
+ghost use Rattle.ioa_values.specs.Outcome.{Answers};
+ghost use Rattle.ioa_compose.specs.Composition.{joint_answer};
+ghost use Rattle.std.specs.Ordering.{int_eq};
+ghost use Rattle.ioa_workers.specs.Turns.{IsCounted, node_of};
+ghost use Rattle.ioa_workers.specs.Attempts.{tried_of, turn_at, taken, fire_answer, attempt_answer, Counts, IsStepOf};
+ghost use Rattle.ioa_workers.specs.Recorded.{Continues, IsRunOf};
+ghost use Rattle.ioa_workers.specs.Solo.{progress_at};
+
+use crate::ending::{Ending, Fault};
+use crate::options::Options;
+use crate::record::Record;
+use crate::turn::{Turn, next, node_of};
+use ioa_compose::{Conf, Program, StepFault, System, find_conf, joint_step, start};
+use ioa_terms::{Action, Component, TermFault};
+use std::alloc::{AllocError, Global};
+use std::sync::Arc;
+
+/// A run under way: the schedule so far, and the configurations that it leads to.
+#[derive(Drop)]
+struct Course {
+    schedule: Vec<Action>,
+    states: Vec<Conf>,
+}
+
+/// How far a node has come: how many statements of its block it has passed, how many attempts it has
+/// left, and how it ended, if it did.
+#[derive(Clone, Copy, Debug, PartialEq, Eq)]
+struct Progress {
+    node: i64,
+    passed: usize,
+    attempts: u64,
+    ending: Option<Ending>,
+}
+
+/// What an attempt of a node comes to, where it meets no fault.
+#[derive(Drop)]
+enum Tried {
+    /// Nothing is left of the block.
+    Finished,
+    /// The action that was fired is not enabled.
+    Missed,
+    /// The action is a step, and leads to these configurations.
+    Taken(Action, Vec<Conf>),
+}
+
+impl From<TermFault> for Fault {
+    ghost use Rattle.std.specs.Prelude.{◌≡◌};
+    ghost use Rattle.ioa_workers.specs.Faults.{term_fault};
+
+    ghost from_gives = { λ t f. f ≡ term_fault t };
+
+    fn from(fault: TermFault) -> Self {
+        match fault {
+            TermFault::Undefined => Fault::Undefined,
+            TermFault::Range => Fault::Range,
+            TermFault::Memory => Fault::Memory,
+        }
+    }
+}
+
+/// Runs a system by one worker (profile): it goes round the nodes in order until each has an ending. A
+/// visit with no attempt left ends the node; else one attempt is used, and one turn is made on the
+/// present configurations. Gives the record, and an ending for each node, node 0 first. Where memory
+/// runs out on the way, each node without an ending gets that fault; `AllocError` comes only where a
+/// run cannot begin, or its endings not be listed.
+pub fn run(
+    alloc: Global,
+    system: &System,
+    options: &Options,
+) -> Result<(Record, Vec<Ending>), AllocError>
+    ensures { IfOk result (λ r. IsRunOf system.now options.now.steps r.0 r.1.items) }
+{
+    let mut course = Course {
+        schedule: Vec::new(alloc),
+        states: start(alloc, system)?,
+    };
+    let mut nodes = progress_of(alloc, system.programs(), options.attempts())?;
+    for _round in 0..=options.attempts() {
+        go_round(alloc, options.steps(), &mut course, &mut nodes);
+        if nodes.iter().all(|node| node.ending.is_some()) {
+            break;
+        }
+    }
+    let endings = endings_of(alloc, &nodes)?;
+    let commits = course.schedule.len() as u64;
+    let record = Record {
+        schedule: course.schedule,
+        states: course.states,
+        commits,
+    };
+    Ok((record, endings))
+}
+
+/// Where the nodes stand before a run: before their blocks, with all their attempts.
+fn progress_of(
+    alloc: Global,
+    programs: &[Arc<Program>],
+    attempts: u64,
+) -> Result<Vec<Progress>, AllocError>
+    ensures { IfOk result (λ v. v.items ≡ map (progress_at attempts) (map arc_value programs.now)) }
+{
+    let mut nodes = Vec::new(alloc);
+    for program in programs {
+        nodes.push(Progress {
+            node: program.node(),
+            passed: 0,
+            attempts,
+            ending: None,
+        })?;
+    }
+    Ok(nodes)
+}
+
+/// Visits each node that has no ending, in order.
+fn go_round(alloc: Global, limit: u64, course: &mut Course, nodes: &mut [Progress])
+    ensures { Continues limit course.old course.new }
+{
+    for place in 0..nodes.len() {
+        if nodes[place].ending.is_none() {
+            visit(alloc, limit, course, &mut nodes[place]);
+            if nodes[place].ending == Some(Ending::Fault(Fault::Memory)) {
+                end_all(nodes);
+            }
+        }
+    }
+}
+
+/// Ends each node that has no ending, for want of memory.
+fn end_all(nodes: &mut [Progress]) {
+    for node in nodes.iter_mut() {
+        if node.ending.is_none() {
+            node.ending = Some(Ending::Fault(Fault::Memory));
+        }
+    }
+}
+
+/// One visit of a node: an attempt, where one is left.
+fn visit(alloc: Global, limit: u64, course: &mut Course, node: &mut Progress)
+    ensures { Continues limit course.old course.new }
+{
+    if node.attempts == 0 {
+        node.ending = Some(Ending::Spent);
+        return;
+    }
+    node.attempts -= 1;
+    match attempt(alloc, limit, course, node) {
+        Ok(Tried::Finished) => node.ending = Some(Ending::Done),
+        Ok(Tried::Missed) => node.passed += 1,
+        Ok(Tried::Taken(action, states)) => match commit(course, action, states) {
+            Ok(()) => node.passed += 1,
+            Err(_) => node.ending = Some(Ending::Fault(Fault::Memory)),
+        },
+        Err(fault) => node.ending = Some(Ending::Fault(fault)),
+    }
+}
+
+/// Puts an action behind the schedule, and the configurations that it leads to in place of those held.
+/// Where there is no memory for that, both stay.
+fn commit(course: &mut Course, action: Action, states: Vec<Conf>) -> Result<(), AllocError>
+    ensures schedule { OnOk result (course.new.schedule.items ≡ course.old.schedule.items ++ action ∷ []) }
+    ensures states { OnOk result (course.new.states.items ≡ states.items) }
+    ensures same_schedule { OnErr result (course.new.schedule.items ≡ course.old.schedule.items) }
+    ensures same_states { OnErr result (course.new.states.items ≡ course.old.states.items) }
+{
+    course.schedule.push(action)?;
+    course.states = states;
+    Ok(())
+}
+
+/// One turn of a node on the present configurations, and the step of the action that it fires.
+fn attempt(alloc: Global, limit: u64, course: &Course, node: &Progress) -> Result<Tried, Fault>
+    ensures answer { Answers Fault.Memory tried_of result
+        (attempt_answer limit course.now.schedule.items course.now.states.items node.now) }
+    ensures step { IfOk result (IsStepOf limit course.now) }
+    ensures counts { IfOk result (Counts node.now.passed) }
+{
+    match turn_of(alloc, &course.states, node)? {
+        Turn::Done => Ok(Tried::Finished),
+        Turn::Fire(action) => fire(alloc, limit, course, node.node, action),
+    }
+}
+
+/// The turn of a node, whose configuration is among these. A node that has none has no block.
+fn turn_of(alloc: Global, states: &[Conf], node: &Progress) -> Result<Turn, TermFault>
+    ensures answer { Answers TermFault.Memory (λ t. t) result (turn_at states.now node.now.node node.now.passed) }
+    ensures counts { IfOk result (IsCounted node.now.passed) }
+{
+    match find_conf(states, Component::Node(node.node)) {
+        Some(Conf::Node(conf)) => next(alloc, conf, node.passed),
+        Some(Conf::Queue(_)) => Ok(Turn::Done),
+        None => Ok(Turn::Done),
+    }
+}
+
+/// The step of an action that a node fires: `NotMine` where the action is another node's, else what the
+/// composition answers.
+fn fire(
+    alloc: Global,
+    limit: u64,
+    course: &Course,
+    node: i64,
+    action: Action,
+) -> Result<Tried, Fault>
+    ensures answer { Answers Fault.Memory tried_of result
+        (fire_answer limit course.now.schedule.items course.now.states.items node action) }
+    ensures step { IfOk result (IsStepOf limit course.now) }
+{
+    if is_fired_by(&action, node) {
+        take(alloc, limit, course, action)
+    } else {
+        Err(Fault::NotMine)
+    }
+}
+
+/// Whether an action is fired by this node's program.
+fn is_fired_by(action: &Action, node: i64) -> bool
+    ensures { result ≡ int_eq (node_of action.now) node }
+{
+    node_of(action) == node
+}
+
+/// The step of an action by the composition's answer. An action that is not enabled is missed; a step is
+/// `Full` where the schedule is as long as the limit allows.
+fn take(alloc: Global, limit: u64, course: &Course, action: Action) -> Result<Tried, Fault>
+    ensures answer { Answers Fault.Memory tried_of result
+        (taken limit course.now.schedule.items action (joint_answer action course.now.states.items)) }
+    ensures step { IfOk result (IsStepOf limit course.now) }
+{
+    match joint_step(alloc, &course.states, &action) {
+        Ok(states) => {
+            if (course.schedule.len() as u64) < limit {
+                Ok(Tried::Taken(action, states))
+            } else {
+                Err(Fault::Full)
+            }
+        }
+        Err(StepFault::NotEnabled) => Ok(Tried::Missed),
+        Err(StepFault::Undefined) => Err(Fault::Undefined),
+        Err(StepFault::Range) => Err(Fault::Range),
+        Err(StepFault::Memory) => Err(Fault::Memory),
+        Err(StepFault::NotMine) => Err(Fault::NotMine),
+        Err(StepFault::NoChannel) => Err(Fault::NoChannel),
+    }
+}
+
+/// The endings of the nodes, in order.
+fn endings_of(alloc: Global, nodes: &[Progress]) -> Result<Vec<Ending>, AllocError>
+    ensures { IfOk result (λ v. length v.items ≡ length nodes.now) }
+{
+    let mut endings = Vec::new(alloc);
+    for node in nodes {
+        endings.push(node.ending.unwrap_or(Ending::Spent))?;
+    }
+    Ok(endings)
+}

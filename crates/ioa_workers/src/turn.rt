@@ -1,0 +1,140 @@
+//! Turns of a schedule block.
+
+ghost use Rattle.std.specs.Prelude.{◌≡◌, IfOk, map};
+ghost use Rattle.std.specs.Option.{option_map};
+ghost use Rattle.ioa_values.specs.Outcome.{Answers};
+ghost use Rattle.ioa_terms.specs.Bindings.{names_of};
+ghost use Rattle.ioa_terms.specs.View.{term_of, statement_of};
+ghost use Rattle.ioa_source.specs.TextView.{variable_of};
+ghost use Rattle.ioa_check.specs.Placed.{ArePlacedTerms, IsPlacedFiring, variable_names};
+ghost use Rattle.ioa_workers.specs.Turns.{view_of, answers, message_of, action_at, statement_answer, node_turn, node_of, IsCounted};
+
+use ioa_compose::NodeConf;
+use ioa_source::Variable;
+use ioa_terms::{
+    Action, Checked, Env, NodeAction, Shape, Statement, TermFault, Value, Values, Word, eval,
+};
+use std::alloc::{AllocError, Global};
+
+/// What a turn comes to (profile).
+#[derive(Debug, Drop)]
+pub enum Turn {
+    /// The block fires this action.
+    Fire(Action),
+    /// Nothing is left of the block.
+    Done,
+}
+
+/// The turn of a node that has passed the first `passed` statements of its block (profile): `Done` where
+/// nothing is left, else the action that is fired next. Its arguments are evaluated over the node's
+/// variables, from left to right, and the first fault met is answered.
+pub fn next(alloc: Global, node: &NodeConf, passed: usize) -> Result<Turn, TermFault>
+    ensures answer { Answers TermFault.Memory (λ t. t) result (node_turn node.now passed) }
+    ensures counts { IfOk result (IsCounted passed) }
+{
+    match node.program().schedule().get(passed) {
+        None => Ok(Turn::Done),
+        Some(statement) => fire(alloc, node, statement),
+    }
+}
+
+/// The turn where this statement stands next.
+fn fire(
+    alloc: Global,
+    node: &NodeConf,
+    statement: &Statement<usize, Shape>,
+) -> Result<Turn, TermFault>
+    requires { IsPlacedFiring (statement_of statement.now)
+        (variable_names (map variable_of node.now.program.variables)) }
+    ensures { Answers TermFault.Memory (λ t. t) result
+        (statement_answer node.now.program.node (view_of node.now) (statement_of statement.now)) }
+{
+    match statement {
+        Statement::Fire(_, name, terms) => {
+            let arguments = arguments_of(alloc, node, terms)?;
+            Ok(Turn::Fire(action_at(alloc, node.node(), name, arguments)?))
+        }
+        _ => Err(TermFault::Undefined),
+    }
+}
+
+/// The values of terms over a node's variables, in order.
+fn arguments_of(alloc: Global, node: &NodeConf, terms: &[Checked]) -> Result<Vec<Value>, TermFault>
+    requires { ArePlacedTerms (map term_of terms.now)
+        (variable_names (map variable_of node.now.program.variables)) }
+    ensures { Answers TermFault.Memory (λ v. v.items) result
+        (answers (map term_of terms.now) (view_of node.now)) }
+{
+    let names = names_of(alloc, node.program().variables())?;
+    let env = Env::new(&names, node.variables().as_slice());
+    values_of(alloc, terms, &env)
+}
+
+/// The names of variables, in order.
+fn names_of(alloc: Global, variables: &[Variable<usize, Shape>]) -> Result<Vec<Word>, AllocError>
+    ensures { IfOk result (λ v. v.items ≡ variable_names (map variable_of variables.now)) }
+{
+    let mut names = Vec::new(alloc);
+    for variable in variables {
+        names.push(variable.declared.name.try_copy(alloc)?)?;
+    }
+    Ok(names)
+}
+
+/// The values of terms in an environment, in order.
+fn values_of(alloc: Global, terms: &[Checked], env: &Env) -> Result<Vec<Value>, TermFault>
+    requires { ArePlacedTerms (map term_of terms.now) (names_of env.now) }
+    ensures { Answers TermFault.Memory (λ v. v.items) result (answers (map term_of terms.now) env.now) }
+{
+    let mut values = Vec::new(alloc);
+    for term in terms {
+        values.push(eval(alloc, term, env)?)?;
+    }
+    Ok(values)
+}
+
+/// A message and the two ends of its channel, where arguments are these.
+fn message_of(arguments: &[Value]) -> Option<(&Value, i64, i64)>
+    ensures { option_map (λ p. (p.0.now, p.1, p.2)) result ≡ message_of arguments.now }
+{
+    match arguments {
+        [message, from, to] => Some((message, from.as_number()?, to.as_number()?)),
+        _ => None,
+    }
+}
+
+/// The action that a firing at a node names: a send, a receive, or another action of the node.
+fn action_at(
+    alloc: Global,
+    node: i64,
+    name: &Word,
+    arguments: Vec<Value>,
+) -> Result<Action, AllocError>
+    ensures { IfOk result (λ a. a ≡ action_at node name.now arguments.items) }
+{
+    if let Some((message, from, to)) = message_of(&arguments) {
+        if name.as_str() == "send" {
+            return Ok(Action::Send(message.try_copy(alloc)?, from, to));
+        }
+        if name.as_str() == "receive" {
+            return Ok(Action::Receive(message.try_copy(alloc)?, from, to));
+        }
+    }
+    Ok(Action::Local(NodeAction {
+        node,
+        name: name.try_copy(alloc)?,
+        arguments: Values::from_vec(arguments),
+    }))
+}
+
+/// The node whose program an action is fired by.
+pub fn node_of(action: &Action) -> i64
+    ensures { result ≡ node_of action.now }
+{
+    match action {
+        Action::Send(_, from, _) => *from,
+        Action::Receive(_, _, to) => *to,
+        Action::Local(action) => action.node,
+        Action::Stimulus(action) => action.node,
+    }
+}

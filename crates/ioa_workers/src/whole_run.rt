@@ -1,0 +1,104 @@
+//! Whole runs: from a text to its report.
+
+ghost use Rattle.std.specs.Prelude.{◌≡◌, false, IfOk, IfErr, string_bytes};
+ghost use Rattle.ioa_workers.specs.WholeRun.{IsDescribed, IsReport, IsEarly, WritesReport};
+
+use crate::options::Options;
+use crate::output::{Out, OutFailed, put_all};
+use crate::reporting::report;
+use crate::running::run;
+use ioa_compose::{CheckFault, System, check};
+use ioa_front::{FrontFault, parse};
+use std::alloc::{AllocError, Global};
+use thiserror::Error;
+
+/// Why a whole run wrote no report.
+#[derive(Debug, Drop, Error)]
+pub enum RunFault {
+    /// 10 to 16: the text has no source.
+    #[error("{0}")]
+    Front(FrontFault),
+    /// 20 to 34: the source describes no system.
+    #[error("{0}")]
+    Check(CheckFault),
+    /// 3: no memory was left.
+    #[error("3 Memory")]
+    Memory,
+    /// 71: the output failed, or took nothing more. A beginning of the report went out.
+    #[error("71 Write")]
+    Write,
+}
+
+impl From<FrontFault> for RunFault {
+    ghost use Rattle.ioa_workers.specs.WholeRun.{IsEarly};
+
+    ghost from_gives = { λ _ f. IsEarly f };
+
+    fn from(fault: FrontFault) -> Self {
+        match fault {
+            FrontFault::Memory => RunFault::Memory,
+            refusal => RunFault::Front(refusal),
+        }
+    }
+}
+
+impl From<CheckFault> for RunFault {
+    ghost use Rattle.ioa_workers.specs.WholeRun.{IsEarly};
+
+    ghost from_gives = { λ _ f. IsEarly f };
+
+    fn from(fault: CheckFault) -> Self {
+        match fault {
+            CheckFault::Memory => RunFault::Memory,
+            refusal => RunFault::Check(refusal),
+        }
+    }
+}
+
+impl From<AllocError> for RunFault {
+    ghost use Rattle.std.specs.Prelude.{◌≡◌};
+    ghost use Rattle.ioa_workers.specs.declared.whole_run.RunFault.TheVariants.{Memory};
+
+    ghost from_gives = { λ _ f. f ≡ Memory };
+
+    fn from(_error: AllocError) -> Self {
+        RunFault::Memory
+    }
+}
+
+/// Runs the system that a text describes, and writes the report.
+pub fn run_system<O: Out>(
+    alloc: Global,
+    text: &str,
+    options: &Options,
+    out: &mut O,
+) -> Result<(), RunFault>
+    requires { O.failed out.old ≡ false }
+    ensures { WritesReport text.now options.now.steps (O.bytes out.old) (O.bytes out.new) (O.failed out.new)
+        result }
+{
+    let report = report_of(alloc, text, options)?;
+    match put_all(out, report.as_bytes()) {
+        Ok(()) => Ok(()),
+        Err(OutFailed) => Err(RunFault::Write),
+    }
+}
+
+/// The report of a run of the system that a text describes.
+fn report_of(alloc: Global, text: &str, options: &Options) -> Result<String, RunFault>
+    ensures report { IfOk result (λ s. IsReport text.now options.now.steps (string_bytes s)) }
+    ensures early { IfErr result (λ f. IsEarly f) }
+{
+    let system = system_of(alloc, text)?;
+    let (record, endings) = run(alloc, &system, options)?;
+    Ok(report(alloc, &system, &record, &endings)?)
+}
+
+/// The system that a text describes.
+fn system_of(alloc: Global, text: &str) -> Result<System, RunFault>
+    ensures described { IfOk result (IsDescribed text.now) }
+    ensures early { IfErr result (λ f. IsEarly f) }
+{
+    let source = parse(alloc, text)?;
+    Ok(check(alloc, source)?)
+}

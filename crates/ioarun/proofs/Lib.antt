@@ -1,4 +1,0 @@
--- lemmas of the program
-mod Appended
-mod Elements
-mod Runs

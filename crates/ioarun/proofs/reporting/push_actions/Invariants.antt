@@ -1,9 +1,0 @@
-use Rattle.std.proofs.Common.{◌≡◌, ◌++◌, drop, string_bytes}
-use Rattle.ioarun.specs.Reports.{action_lines}
-use Rattle.ioarun.proofs.reporting.push_actions.Given as goal
-
--- what is written so far, and then the lines that are left
-abbrev pub invariant-loop-place : goal.invariant-loop-place
-invariant-loop-place l =
-    string_bytes l.report ++ action_lines l.names l.place-counter (drop l.place-counter l.schedule)
-    ≡ string_bytes l.initial.report ++ action_lines l.names 0 l.schedule

@@ -1,6 +1,0 @@
-use Rattle.ioarun.specs.Recorded.{Continues}
-use Rattle.ioarun.proofs.running.go_round.Given as goal
-
--- the schedule goes on from where the round began
-abbrev pub invariant-loop-place : goal.invariant-loop-place
-invariant-loop-place l = Continues l.limit l.initial.course l.course
