@@ -11,7 +11,7 @@ mod texts;
 mod writing;
 
 pub use ioa_text_reader::{FrontFault, Source, one_source, parse};
-pub use printing::{print, printed_source};
+pub use printing::print;
 
 #[cfg(test)]
 mod tests;

@@ -1,7 +1,6 @@
 //! Texts printed.
 
-ghost use Rattle.std.specs.Prelude.{IfOk, List, ℕ, string_bytes};
-ghost use Rattle.ioa_source.specs.Sides.{SourceText};
+ghost use Rattle.std.specs.Prelude.{IfOk, string_bytes};
 ghost use Rattle.ioa_source.specs.TextView.{text_of};
 ghost use Rattle.ioa_text_reader.specs.Texts.{TextSpells};
 ghost use Rattle.ioa_front.specs.Spelling.{text_spelling};
@@ -27,12 +26,7 @@ pub(crate) fn print_text(alloc: Global, text: &Text<(), ()>) -> Result<String, A
 /// allocation is answered; the source stays as it is. Source: profile.
 pub fn print(alloc: Global, source: &Source) -> Result<String, AllocError>
     ensures written { IfOk result (λ s. IsPrinted (text_spelling (text_of source.now.text)) (string_bytes s)) }
-    ensures spelled { IfOk result (λ s. ∥ TextSpells (text_of source.now.text) (string_bytes s) ∥₁) }
+    ensures spelled { IfOk result (λ s. TextSpells (text_of source.now.text) (string_bytes s)) }
 {
     print_text(alloc, source.text())
 }
-
-/// The law that what is printed of a source that some text spells spells that source.
-pub fn printed_source()
-    ensures { (p : SourceText) (text printed : List ℕ) → TextSpells p text → IsPrinted (text_spelling p) printed → TextSpells p printed }
-{}

@@ -11,3 +11,4 @@ pub data PlainSort : Type 0 where
   sets : PlainSort → PlainSort
   maps : PlainSort → PlainSort → PlainSort
   named_type : List ℕ → PlainSort
+  deriving IsSet as PlainSort-set

@@ -19,6 +19,7 @@ mutual
     call : List ℕ → PlainTerms N D → PlainTerm N D
     display : DisplayForm → D → PlainTerms N D → PlainTerm N D
     field : PlainTerm N D → List ℕ → D → PlainTerm N D
+    deriving IsSet as PlainTerm-set
 
   -- terms one after another
   pub data PlainTerms (N D : Type 0) : Type 0 where
@@ -34,6 +35,7 @@ pub data PlainPlace (N D : Type 0) : Type 0 where
   variable : List ℕ → N → D → PlainPlace N D
   at_key : List ℕ → N → D → PlainTerm N D → PlainPlace N D
   at_field : List ℕ → N → D → List ℕ → PlainPlace N D
+  deriving IsSet as PlainPlace-set
 
 mutual
   -- a statement (profile): an assignment, an `if` of arms and the rest, or in a schedule the firing of an action, with
@@ -42,6 +44,7 @@ mutual
     assign : PlainPlace N D → PlainTerm N D → PlainStatement N D
     choose : PlainArms N D → PlainStatements N D → PlainStatement N D
     fire : Option Kind → List ℕ → List (PlainTerm N D) → PlainStatement N D
+    deriving IsSet as PlainStatement-set
 
   -- statements one after another
   pub data PlainStatements (N D : Type 0) : Type 0 where

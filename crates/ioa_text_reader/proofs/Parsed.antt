@@ -1,7 +1,8 @@
 -- What the answer of the reader tells about the sources that a text spells.
-use Rattle.std.proofs.Common.{◌≡◌, ◌⊎◌, inl, inr, ℕ, ◌<◌, ◌≤◌, true, List, [], length, Option, Some, None, Result, Ok, Err, refl, sym, ◌∙◌, arith}
+use Rattle.std.proofs.Common.{◌≡◌, ◌⊎◌, inl, inr, ℕ, ◌<◌, ◌≤◌, true, List, [], length, Option, Some, None, Result, Ok, Err, refl, sym, ap, ◌∙◌, arith}
 use Rattle.std.specs.Prelude.{IfOk, IfErr, MatchResult}
 use Rattle.std.proofs.lemmas.Option.{some_pair_parts}
+use Rattle.std.proofs.Math.Logic.{∥∥₁_elim}
 use Rattle.ioa_tokens.specs.declared.token.Token.{Token}
 use Rattle.ioa_tokens.specs.declared.token.Placed.{Placed}
 use Rattle.ioa_tokens.specs.declared.fault.CutFault.{CutFault}
@@ -9,6 +10,7 @@ use Rattle.ioa_tokens.specs.declared.fault.CutFault.TheVariants as cut
 use Rattle.ioa_tokens.specs.Tokens.{tokens}
 use Rattle.ioa_source.specs.TextView.{text_of}
 use Rattle.ioa_source.specs.Sides.{SourceText}
+use Rattle.ioa_source.proofs.Sets.{Option-set, text_set}
 use Rattle.ioa_text_reader.specs.Grammar.{Spells}
 use Rattle.ioa_cursor.specs.Reading.{expected, skip, collected, bind}
 use Rattle.ioa_text_reader.specs.Reading.{whole, declared}
@@ -140,3 +142,30 @@ parses_exact (Err Empty) text h Empty x s = inr refl
 parses_exact (Err (Unexpected at)) text h e x s = not_exact text h.0 h.1 e x s
 parses_exact (Err (TooDeep at)) text h e x s = not_exact text h.0 h.1 e x s
 parses_exact (Err (LeftOut at)) text h e x s = not_exact text h.0 h.1 e x s
+
+-- what was read, without what comes after it
+abbrev read_part : Option (SourceText × List Token) → Option SourceText
+read_part None = None
+read_part (Some r) = Some r.0
+
+-- what is read of tokens, where a text could be cut into some
+abbrev cut_part : Result (List Placed) CutFault → Option SourceText
+cut_part (Err e) = None
+cut_part (Ok placed) = read_part (whole (bare placed))
+
+spelled_source : (p : SourceText) (text : List ℕ) → TextSpells p text → cut_part (tokens text) ≡ Some p
+spelled_source p text d = ap cut_part d.1 ∙ ap read_part (whole_complete (bare d.0) p d.2)
+
+from_whole : (p : SourceText) (text : List ℕ) (placed : List Placed) → tokens text ≡ Ok placed → (o : Option (SourceText × List Token)) → whole (bare placed) ≡ o →
+    read_part o ≡ Some p → TextSpells p text
+from_whole p text placed cut None same is = absurd cc
+from_whole p text placed cut (Some r) same is = (placed, cut, whole_sound (bare placed) r.1 p (same ∙ ap (λ q. read_next q r.1) cc))
+
+from_tokens : (p : SourceText) (text : List ℕ) (r : Result (List Placed) CutFault) → tokens text ≡ r → cut_part r ≡ Some p → TextSpells p text
+from_tokens p text (Err e) same is = absurd cc
+from_tokens p text (Ok placed) same is = from_whole p text placed same (whole (bare placed)) refl is
+
+-- what is merely spelled is spelled, since two proofs that two texts are the same are the same
+pub truly_spelled : (p : SourceText) (text : List ℕ) → ∥ TextSpells p text ∥₁ → TextSpells p text
+truly_spelled p text h =
+    from_tokens p text (tokens text) refl (∥∥₁_elim h (Option-set text_set (cut_part (tokens text)) (Some p)) (spelled_source p text))

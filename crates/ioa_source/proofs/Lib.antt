@@ -1,0 +1,2 @@
+-- the lemmas of this crate, which the crates above cite
+pub mod Sets
