@@ -4,4 +4,3 @@ pub mod Loops
 pub mod Names
 pub mod Nodes
 pub mod Rows
-pub mod Scopes

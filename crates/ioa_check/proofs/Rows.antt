@@ -6,11 +6,11 @@ use Rattle.std.specs.Prelude.{◌&&◌}
 use Rattle.std.specs.List.{AllByRecursion, IsDistinct, list_any}
 use lib.Pointwise.{pointwise}
 use Rattle.ioa_source.specs.PlainText.{const, named}
-use Rattle.ioa_check.specs.Parts.{Parts}
+use Rattle.ioa_system.specs.Parts.{Parts}
 use Rattle.ioa_check.specs.Made.{AreNodesOf, nodes_in}
 use Rattle.ioa_source.specs.Erasure.{erase_parameter, erase_entry, erase_variable}
 use Rattle.ioa_source.specs.Sides.{CheckedEntry, CheckedParameter, CheckedVariable, SourceAutomaton, SourceEntry, SourceNode, SourceText, SourceVariable}
-use Rattle.ioa_check.specs.Placed.{own_names, variable_names, scope_of}
+use Rattle.ioa_system.specs.Placed.{own_names, variable_names, scope_of}
 use Rattle.ioa_check.specs.Rows.{HasNoEntryRow}
 use Rattle.ioa_check.proofs.Loops.{each_append}
 

@@ -4,7 +4,4 @@ pub use Rattle.ioa_terms.specs.Data
 pub mod FirstForm
 pub mod FirstSorts
 pub mod Made
-pub mod Parts
-pub mod Placed
 pub mod Rows
-pub mod Systems

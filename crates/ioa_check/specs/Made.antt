@@ -25,9 +25,9 @@ use Rattle.ioa_source.specs.PlainText as plain
 use Rattle.ioa_source.specs.declared.declaration.Node.{Node}
 use Rattle.ioa_source.specs.declared.declaration.Channel.{Channel}
 use Rattle.ioa_source.specs.Sides.{CheckedDeclared, CheckedParameter, CheckedStatement, CheckedTerm, SourceAutomaton, SourceDeclaration, SourceNode, SourcePlacement, SourceText}
-use Rattle.ioa_check.specs.declared.program.Rule.{Rule}
-use Rattle.ioa_check.specs.Parts.{Parts}
-use Rattle.ioa_check.specs.Systems.{SystemParts}
+use Rattle.ioa_system.specs.declared.program.Rule.{Rule}
+use Rattle.ioa_system.specs.Parts.{Parts}
+use Rattle.ioa_system.specs.Systems.{SystemParts}
 
 -- whether two kinds are the same
 abbrev pub same_kind : Kind → Kind → Bool

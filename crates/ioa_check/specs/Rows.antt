@@ -12,7 +12,7 @@ use Rattle.ioa_terms.specs.declared.tree.Kind.TheVariants.{Input}
 use Rattle.ioa_source.specs.PlainTerm.{number, name, two, variable, at_key, at_field, assign, choose, fire}
 use Rattle.ioa_source.specs.PlainText.{const, named}
 use Rattle.ioa_check.specs.FirstSorts.{is_first, is_number, is_guard}
-use Rattle.ioa_check.specs.Placed.{own_names, variable_names}
+use Rattle.ioa_system.specs.Placed.{own_names, variable_names}
 use Rattle.ioa_check.specs.FirstForm.{is_first_declaration, is_first_placement, passes}
 use Rattle.ioa_check.specs.Made.{same_kind, transition_for, automata_in, automaton_named, nodes_in, channels_in}
 use Rattle.ioa_source.specs.declared.declaration.Channel.{Channel}

@@ -11,14 +11,14 @@ ghost use Rattle.ioa_check.specs.Made.{AssignsInteger, HasIntegers, IsProgramOf,
 ghost use Rattle.ioa_source.specs.View.{term_of, statement_of};
 ghost use Rattle.ioa_source.specs.TextView.{automaton_of, parameter_of, entry_of, transition_of, variable_of};
 ghost use Rattle.ioa_terms.specs.Placed.{ArePlaced};
-ghost use Rattle.ioa_check.specs.Placed.{IsPlacedRule, ArePlacedVariables, IsPlacedGuard, own_name, variable_names, scope_of};
+ghost use Rattle.ioa_system.specs.Placed.{IsPlacedRule, ArePlacedVariables, IsPlacedGuard, own_name, variable_names, scope_of};
 
 use crate::placing::{
     place_effect, place_entry, place_guard, place_schedule, place_terms, place_variables,
 };
-use crate::program::{Program, Rule};
+use ioa_system::{Program, Rule};
 use crate::refusal::{Refusal, Row};
-use crate::scope::Scope;
+use ioa_system::Scope;
 use ioa_source::{Automaton, Entry, Parameter, Transition, Variable};
 use ioa_terms::{Checked, Env, Kind, Shape, Statement, Term, TermFault, Tree, Value, Word, eval};
 use std::alloc::Global;

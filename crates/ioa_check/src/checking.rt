@@ -15,11 +15,11 @@ ghost use Rattle.ioa_check.specs.FirstForm.{is_first_declaration, is_first_place
 
 use crate::building::program_of;
 use crate::first_form::{is_first_declaration, is_first_placement};
-use crate::program::Program;
+use ioa_system::Program;
 use crate::refusal::{CheckFault, Refusal, Row};
-use crate::scope::Scope;
-use crate::system::System;
-use ioa_front::Source;
+use ioa_system::Scope;
+use ioa_system::System;
+use ioa_text_reader::Source;
 use ioa_source::{Automaton, Channel, Declaration, Entry, Node, Parameter, Placement, Text};
 use ioa_terms::{Names, Tree, Word};
 use std::alloc::Global;

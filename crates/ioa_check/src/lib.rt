@@ -5,13 +5,7 @@ mod building;
 mod checking;
 mod first_form;
 mod placing;
-mod program;
 mod refusal;
-mod scope;
-mod system;
 
 pub use checking::check;
-pub use program::{Program, Rule};
 pub use refusal::{CheckFault, Row};
-pub use scope::Scope;
-pub use system::System;

@@ -13,14 +13,14 @@ ghost use Rattle.ioa_terms.specs.Bindings.{same_name};
 ghost use Rattle.ioa_terms.specs.Performance.{target_shape};
 ghost use Rattle.ioa_operators.specs.Shapes.{integers};
 ghost use Rattle.ioa_operators.specs.ShapeView.{shape_of};
-ghost use Rattle.ioa_check.specs.Placed.{IsPlacedGuard, IsPlacedParameter, ArePlacedParameters, ArePlacedTerms, IsPlacedFiring, ArePlacedFirings, ArePlacedVariables};
+ghost use Rattle.ioa_system.specs.Placed.{IsPlacedGuard, IsPlacedParameter, ArePlacedParameters, ArePlacedTerms, IsPlacedFiring, ArePlacedFirings, ArePlacedVariables};
 ghost use Rattle.ioa_check.specs.Made.{AssignsInteger, HasItsShape, HasParameterShape, IsShapeOf};
 ghost use Rattle.ioa_check.specs.FirstSorts.{is_number, is_guard};
 ghost use Rattle.ioa_check.specs.Rows.{reads_only, reads_no_name, guard_reads_only, writes_only, assigns_only, assigns_number, fires_only, fires_numbers, is_number_constant, is_number_term, is_guard_or_none};
 
 use crate::first_form::is_first_operator;
 use crate::refusal::{Refusal, Row};
-use crate::scope::Scope;
+use ioa_system::Scope;
 use ioa_source::{Declared, Entry, Parameter, Sort, Variable};
 use ioa_terms::{BinaryOperator, Checked, Place, Shape, Statement, Term, Word};
 use std::alloc::Global;

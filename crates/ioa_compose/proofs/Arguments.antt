@@ -9,7 +9,7 @@ use Rattle.ioa_terms.specs.Bindings.{same_name}
 use Rattle.ioa_terms.specs.declared.action.Action.{Action}
 use Rattle.ioa_source.specs.PlainText.{const, named}
 use Rattle.ioa_source.specs.Sides.{CheckedEntry, CheckedParameter, CheckedVariable}
-use Rattle.ioa_check.specs.Placed.{own_names, variable_names, scope_of}
+use Rattle.ioa_system.specs.Placed.{own_names, variable_names, scope_of}
 use Rattle.ioa_compose.specs.NodeStep.{left_by, arguments_agree, parameter_agrees, own_values, entry_agrees, kind_agrees, action_name, action_arguments}
 
 and_false : (b : Bool) → b && false ≡ false

@@ -14,7 +14,7 @@ use Rattle.ioa_compose.specs.declared.configuration.Conf.TheVariants as conf
 use Rattle.ioa_compose.specs.declared.fault.StepFault.{StepFault}
 use Rattle.ioa_compose.specs.declared.queue.Item.{Item}
 use Rattle.ioa_compose.specs.declared.queue.Item.TheVariants as item
-use Rattle.ioa_check.specs.Parts.{Parts}
+use Rattle.ioa_system.specs.Parts.{Parts}
 use Rattle.ioa_compose.specs.NodeState.{NodeState, node_state}
 use Rattle.ioa_compose.specs.NodeStep.{node_answer, program_answer}
 use Rattle.ioa_compose.specs.Queues.{QueueState, queue_state, queue_answer, behind, with_last, without_first}

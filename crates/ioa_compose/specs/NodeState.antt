@@ -2,7 +2,7 @@
 use Rattle.std.specs.Prelude.{◌≡◌, List, length, refl}
 use Rattle.std.specs.Coded.{Coded, code_by, coded×, coded_list}
 use Rattle.ioa_compose.specs.Data.{Data}
-use Rattle.ioa_check.specs.Parts.{Parts, parts_code}
+use Rattle.ioa_system.specs.Parts.{Parts, parts_code}
 use Rattle.ioa_values.specs.contracts.value.Value as value
 
 -- a program and the values of its state variables

@@ -17,11 +17,11 @@ use Rattle.ioa_operators.specs.declared.fault.TermFault.{TermFault}
 use Rattle.ioa_source.specs.PlainText.{const, named}
 use Rattle.ioa_source.specs.TextView.{entry_of, transition_of, variable_of}
 use Rattle.ioa_source.specs.Sides.{CheckedEntry, CheckedParameter, CheckedTerm, CheckedTransition, CheckedVariable}
-use Rattle.ioa_check.specs.Parts.{Parts}
-use Rattle.ioa_check.specs.Placed.{scope_of}
+use Rattle.ioa_system.specs.Parts.{Parts}
+use Rattle.ioa_system.specs.Placed.{scope_of}
 use Rattle.ioa_compose.specs.NodeState.{NodeState, node_state}
 use Rattle.ioa_compose.specs.StepFaults.{step_fault}
-use Rattle.ioa_check.specs.declared.program.Rule.{Rule}
+use Rattle.ioa_system.specs.declared.program.Rule.{Rule}
 use Rattle.ioa_compose.specs.declared.fault.StepFault.{StepFault}
 use Rattle.ioa_compose.specs.declared.fault.StepFault.TheVariants.{NotEnabled, NotMine}
 

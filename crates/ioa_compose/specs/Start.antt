@@ -5,9 +5,9 @@ use Rattle.ioa_source.specs.declared.declaration.Channel.{Channel}
 use Rattle.ioa_compose.specs.declared.configuration.Conf.{Conf}
 use Rattle.ioa_compose.specs.declared.configuration.Conf.TheVariants.{Node, Queue}
 use Rattle.ioa_compose.specs.NodeState.{node_state}
-use Rattle.ioa_check.specs.Parts.{Parts}
+use Rattle.ioa_system.specs.Parts.{Parts}
 use Rattle.ioa_compose.specs.Queues.{queue_state}
-use Rattle.ioa_check.specs.Systems.{SystemParts}
+use Rattle.ioa_system.specs.Systems.{SystemParts}
 
 -- a node starts with the initial values of its variables
 abbrev pub node_start : Parts → Conf

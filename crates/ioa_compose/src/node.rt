@@ -8,7 +8,7 @@ ghost use Rattle.ioa_compose.specs.NodeState.{node_state};
 
 use crate::fault::StepFault;
 use crate::rule::values_after;
-use ioa_check::Program;
+use ioa_system::Program;
 use ioa_terms::{Action, Values, copies};
 use std::alloc::{AllocError, Global};
 use std::marker::Model;

@@ -8,7 +8,7 @@ use crate::composition::joint_step;
 use crate::configuration::Conf;
 use crate::fault::StepFault;
 use crate::starting::start;
-use ioa_check::System;
+use ioa_system::System;
 use ioa_terms::Action;
 use std::alloc::Global;
 use thiserror::Error;

@@ -7,7 +7,7 @@ ghost use Rattle.ioa_source.specs.TextView.{entry_of, transition_of, variable_of
 ghost use Rattle.ioa_source.specs.View.{term_of, statement_of};
 ghost use Rattle.ioa_compose.specs.Data.{number};
 ghost use Rattle.ioa_compose.specs.Outcome.{Answers};
-ghost use Rattle.ioa_check.specs.Placed.{IsPlacedRule, IsPlacedGuard, IsPlacedParameter, ArePlacedParameters};
+ghost use Rattle.ioa_system.specs.Placed.{IsPlacedRule, IsPlacedGuard, IsPlacedParameter, ArePlacedParameters};
 ghost use Rattle.ioa_compose.specs.NodeStep as spec;
 ghost use Rattle.ioa_terms.specs.Meaning.{answer};
 ghost use Rattle.ioa_terms.specs.Performance.{answer_by};
@@ -15,7 +15,7 @@ ghost use Rattle.ioa_terms.specs.Placed.{ArePlaced, IsPlaced};
 ghost use Rattle.ioa_terms.specs.Bindings.{names_of};
 
 use crate::fault::StepFault;
-use ioa_check::{Program, Rule};
+use ioa_system::{Program, Rule};
 use ioa_source::{Entry, Parameter};
 use ioa_terms::{
     Action, Checked, Env, Kind, Shape, Statement, TermFault, Value, Word, copies, eval, perform,

@@ -4,7 +4,7 @@ use Rattle.ioa_terms.specs.declared.action.Action.{Action}
 use Rattle.ioa_compose.specs.declared.configuration.Conf.{Conf}
 use Rattle.ioa_compose.specs.Executions.{replay}
 use Rattle.ioa_compose.specs.Start.{start}
-use Rattle.ioa_check.specs.Systems.{SystemParts}
+use Rattle.ioa_system.specs.Systems.{SystemParts}
 use Rattle.ioa_workers.specs.declared.ending.Ending.{Ending}
 use Rattle.ioa_workers.specs.declared.record.Record.{Record}
 use Rattle.ioa_workers.specs.declared.running.Course.{Course}

@@ -2,9 +2,9 @@
 use Rattle.std.specs.Prelude.{ℕ, zero, suc, ◌+◌, ◌-◌, nat_eq, if◌then◌else◌, List, [], ◌∷◌, ◌++◌, Some, None, is_some, Result, Ok, Err, map}
 use Rattle.ioa_terms.specs.declared.action.Action.{Action}
 use Rattle.ioa_compose.specs.declared.configuration.Conf.{Conf}
-use Rattle.ioa_check.specs.Parts.{Parts}
+use Rattle.ioa_system.specs.Parts.{Parts}
 use Rattle.ioa_compose.specs.Start.{start}
-use Rattle.ioa_check.specs.Systems.{SystemParts}
+use Rattle.ioa_system.specs.Systems.{SystemParts}
 use Rattle.ioa_workers.specs.declared.ending.Ending.TheVariants.{Done, Spent, Fault}
 use Rattle.ioa_workers.specs.declared.ending.Fault.{Fault as NodeFault}
 use Rattle.ioa_workers.specs.declared.running.Progress.{Progress}

@@ -14,7 +14,7 @@ use Rattle.ioa_operators.specs.declared.fault.TermFault.TheVariants.{Undefined}
 use Rattle.ioa_source.specs.View.{statement_of}
 use Rattle.ioa_source.specs.TextView.{variable_of}
 use Rattle.ioa_source.specs.Sides.{CheckedStatement, CheckedTerm}
-use Rattle.ioa_check.specs.Placed.{variable_names}
+use Rattle.ioa_system.specs.Placed.{variable_names}
 use Rattle.ioa_compose.specs.NodeState.{NodeState}
 use Rattle.ioa_workers.specs.declared.turn.Turn.{Turn}
 use Rattle.ioa_workers.specs.declared.turn.Turn.TheVariants.{Fire, Done}

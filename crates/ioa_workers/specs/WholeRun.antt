@@ -1,10 +1,10 @@
 -- What a whole run writes (profile).
 use Rattle.std.specs.Prelude.{◌≡◌, ℕ, Bool, true, false, List, Option, Result, Ok, Err, ⊤}
 use Rattle.std.specs.Io.KnownBytes.{Keeps, Appends}
-use Rattle.ioa_front.specs.Texts.{TextSpells}
+use Rattle.ioa_text_reader.specs.Texts.{TextSpells}
 use Rattle.ioa_check.specs.Made.{IsSystemOf}
 use Rattle.ioa_check.specs.Rows.{HasNoRow}
-use Rattle.ioa_check.specs.Systems.{SystemParts}
+use Rattle.ioa_system.specs.Systems.{SystemParts}
 use Rattle.ioa_workers.specs.declared.ending.Ending.{Ending}
 use Rattle.ioa_workers.specs.declared.record.Record.{Record}
 use Rattle.ioa_workers.specs.declared.whole_run.RunFault.{RunFault}

@@ -6,7 +6,7 @@ ghost use Rattle.ioa_values.specs.Outcome.{Answers};
 ghost use Rattle.ioa_terms.specs.Bindings.{names_of};
 ghost use Rattle.ioa_terms.specs.View.{term_of, statement_of};
 ghost use Rattle.ioa_source.specs.TextView.{variable_of};
-ghost use Rattle.ioa_check.specs.Placed.{ArePlacedTerms, IsPlacedFiring, variable_names};
+ghost use Rattle.ioa_system.specs.Placed.{ArePlacedTerms, IsPlacedFiring, variable_names};
 ghost use Rattle.ioa_workers.specs.Turns.{view_of, answers, message_of, action_at, statement_answer, node_turn, node_of, IsCounted};
 
 use ioa_compose::NodeConf;

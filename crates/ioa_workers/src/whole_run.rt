@@ -7,8 +7,9 @@ use crate::options::Options;
 use crate::output::{Out, OutFailed, put_all};
 use crate::reporting::report;
 use crate::running::run;
-use ioa_compose::{CheckFault, System, check};
-use ioa_front::{FrontFault, parse};
+use ioa_check::{CheckFault, check};
+use ioa_compose::System;
+use ioa_text_reader::{FrontFault, parse};
 use std::alloc::{AllocError, Global};
 use thiserror::Error;
 

@@ -1,8 +1,9 @@
 //! Texts that are refused, one at least for each refusal of the check that this form can meet and for
 //! each form of the later language.
 
-use ioa_compose::{Conf, Item, Queue, check, project, replay};
-use ioa_front::parse;
+use ioa_check::check;
+use ioa_compose::{Conf, Item, Queue, project, replay};
+use ioa_text_reader::parse;
 use ioa_terms::{Action, Component, Value};
 use ioa_workers::{Over, command};
 use std::test::Fail;

@@ -1,6 +1,6 @@
 use Rattle.std.proofs.Common.{◌≡◌, map, take, drop, length, Ok}
 use Rattle.ioa_source.specs.TextView.{variable_of}
-use Rattle.ioa_check.specs.Placed.{ArePlacedVariables}
+use Rattle.ioa_system.specs.Placed.{ArePlacedVariables}
 use Rattle.ioa_check.specs.Made.{initial_answer}
 use Rattle.ioa_check.proofs.building.initial_values.Given as goal
 

@@ -1,6 +1,6 @@
 use Rattle.std.proofs.Common.{◌≡◌, ◌∙◌, ℕ, List, true, subst, map}
 use Rattle.std.specs.List.{list_all}
-use Rattle.ioa_check.specs.Placed.{variable_names}
+use Rattle.ioa_system.specs.Placed.{variable_names}
 use Rattle.ioa_check.specs.Rows.{fires_only}
 use Rattle.ioa_source.specs.TextView.{automaton_of, variable_of}
 use Rattle.ioa_check.proofs.Rows.{entries_erased, variables_erased}

@@ -4,7 +4,7 @@ use Rattle.std.specs.List.{IsDistinct, list_all}
 use Rattle.ioa_terms.specs.Bindings.{same_name}
 use Rattle.ioa_source.specs.TextView.{entry_of, transition_of, variable_of}
 use Rattle.ioa_source.specs.Sides.{CheckedVariable}
-use Rattle.ioa_check.specs.Placed.{variable_names, own_names}
+use Rattle.ioa_system.specs.Placed.{variable_names, own_names}
 use Rattle.ioa_check.specs.Rows.{guard_reads_only, assigns_only}
 use Rattle.ioa_check.proofs.Rows.{scope_of-erase, take_first}
 use Rattle.ioa_check.proofs.building.rule_of.Goals as goal

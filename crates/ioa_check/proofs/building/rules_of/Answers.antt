@@ -2,8 +2,8 @@ use Rattle.std.proofs.Common.{◌<◌, map, length}
 use Rattle.std.proofs.lemmas.List.Elements.{All-push}
 use Rattle.ioa_source.specs.Erasure.{erase_entry}
 use Rattle.ioa_source.specs.TextView.{automaton_of, entry_of, variable_of}
-use Rattle.ioa_check.specs.declared.program.Rule.{Rule}
-use Rattle.ioa_check.specs.Placed.{IsPlacedRule, variable_names}
+use Rattle.ioa_system.specs.declared.program.Rule.{Rule}
+use Rattle.ioa_system.specs.Placed.{IsPlacedRule, variable_names}
 use Rattle.ioa_check.specs.Rows.{HasNoEntryRow}
 use Rattle.ioa_check.specs.Made.{HasIntegers, IsRuleOf}
 use Rattle.ioa_check.proofs.Loops.{each_append, each_take, next_push}

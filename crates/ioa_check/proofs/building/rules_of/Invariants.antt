@@ -2,7 +2,7 @@ use Rattle.std.proofs.Common.{◌≡◌, All, map, take}
 use Rattle.std.specs.List.{AllByRecursion}
 use Rattle.ioa_source.specs.TextView.{automaton_of, entry_of, variable_of}
 use Rattle.ioa_source.specs.Erasure.{erase_entry}
-use Rattle.ioa_check.specs.Placed.{IsPlacedRule, variable_names}
+use Rattle.ioa_system.specs.Placed.{IsPlacedRule, variable_names}
 use Rattle.ioa_check.specs.Rows.{HasNoEntryRow}
 use Rattle.ioa_check.specs.Made.{HasIntegers, IsRuleOf}
 use Rattle.ioa_check.proofs.building.rules_of.Given as goal

@@ -2,7 +2,7 @@ use Rattle.std.proofs.Common.{◌∷◌, [], map, arith, Global}
 use Rattle.std.proofs.lemmas.List.{map-append, length-map}
 use Rattle.std.specs.Arc.{arc_value}
 use Rattle.ioa_source.specs.TextView.{text_of}
-use Rattle.ioa_check.specs.declared.program.Program.{Program}
+use Rattle.ioa_system.specs.declared.program.Program.{Program}
 use Rattle.ioa_check.proofs.Nodes.{nodes_push}
 use Rattle.ioa_check.proofs.checking.programs_of.Goals as goal
 

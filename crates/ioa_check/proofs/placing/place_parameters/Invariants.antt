@@ -3,7 +3,7 @@ use Rattle.std.specs.List.{AllByRecursion, list_all}
 use Rattle.ioa_check.specs.Rows.{reads_no_name, is_number_constant}
 use Rattle.ioa_source.specs.TextView.{parameter_of}
 use Rattle.ioa_source.specs.Erasure.{erase_parameter}
-use Rattle.ioa_check.specs.Placed.{ArePlacedParameters}
+use Rattle.ioa_system.specs.Placed.{ArePlacedParameters}
 use Rattle.ioa_check.specs.Made.{HasParameterShape}
 use Rattle.ioa_check.proofs.placing.place_parameters.Given as goal
 

@@ -4,7 +4,7 @@ use Rattle.std.specs.Option.{is_some}
 use Rattle.ioa_check.specs.Rows.{guard_reads_only, is_number_term}
 use Rattle.ioa_source.specs.TextView.{variable_of}
 use Rattle.ioa_source.specs.Erasure.{erase_variable}
-use Rattle.ioa_check.specs.Placed.{ArePlacedVariables}
+use Rattle.ioa_system.specs.Placed.{ArePlacedVariables}
 use Rattle.ioa_check.specs.Made.{HasItsShape}
 use Rattle.ioa_check.proofs.placing.place_variables.Given as goal
 

@@ -1,6 +1,6 @@
 use Rattle.std.proofs.Common.{◌≡◌, length, map, drop}
 use Rattle.ioa_source.specs.TextView.{parameter_of}
-use Rattle.ioa_check.specs.Placed.{ArePlacedParameters}
+use Rattle.ioa_system.specs.Placed.{ArePlacedParameters}
 use Rattle.ioa_compose.specs.NodeStep as spec
 use Rattle.ioa_compose.proofs.rule.arguments_agree.Given as goal
 

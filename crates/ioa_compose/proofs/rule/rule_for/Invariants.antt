@@ -1,6 +1,6 @@
 use Rattle.std.proofs.Common.{◌≡◌, All, map, drop}
 use Rattle.ioa_source.specs.TextView.{variable_of}
-use Rattle.ioa_check.specs.Placed.{IsPlacedRule}
+use Rattle.ioa_system.specs.Placed.{IsPlacedRule}
 use Rattle.ioa_compose.specs.NodeStep as spec
 use Rattle.ioa_compose.proofs.rule.rule_for.Given as goal
 

@@ -1,6 +1,6 @@
 use Rattle.std.proofs.Common.{◌≡◌, map, take}
 use Rattle.ioa_source.specs.TextView.{variable_of}
-use Rattle.ioa_check.specs.Placed.{variable_names}
+use Rattle.ioa_system.specs.Placed.{variable_names}
 use Rattle.ioa_workers.proofs.turn.names_of.Given as goal
 
 -- the names so far are those of the variables gone by

@@ -2,7 +2,7 @@ use Rattle.std.proofs.Common.{ℕ, map}
 use Rattle.ioa_operators.specs.declared.shape.Shape.{Shape}
 use Rattle.ioa_terms.specs.View.{statement_of}
 use Rattle.ioa_source.specs.TextView.{variable_of}
-use Rattle.ioa_check.specs.Placed.{IsPlacedFiring, variable_names}
+use Rattle.ioa_system.specs.Placed.{IsPlacedFiring, variable_names}
 use Rattle.ioa_workers.proofs.Elements.{AllByRecursion-get_or}
 use Rattle.ioa_workers.proofs.turn.next.Goals as goal
 

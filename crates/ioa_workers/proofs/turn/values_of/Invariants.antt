@@ -2,7 +2,7 @@ use Rattle.std.proofs.Common.{◌≡◌, ◌++◌, map, drop, Ok}
 use Rattle.ioa_values.specs.Outcome.{and_then}
 use Rattle.ioa_terms.specs.Bindings.{names_of}
 use Rattle.ioa_terms.specs.View.{term_of}
-use Rattle.ioa_check.specs.Placed.{ArePlacedTerms}
+use Rattle.ioa_system.specs.Placed.{ArePlacedTerms}
 use Rattle.ioa_workers.specs.Turns.{answers}
 use Rattle.ioa_workers.proofs.turn.values_of.Given as goal
 

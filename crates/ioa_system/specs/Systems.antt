@@ -3,7 +3,7 @@ use Rattle.std.specs.Prelude.{ℕ, List, refl}
 use Rattle.std.specs.Coded.{Coded, code_by, coded×, coded_ℕ, coded_list}
 use Rattle.ioa_source.specs.declared.declaration.Channel.{Channel}
 use Rattle.ioa_source.specs.contracts.declaration.Channel as channel
-use Rattle.ioa_check.specs.Parts.{Parts, parts_code}
+use Rattle.ioa_system.specs.Parts.{Parts, parts_code}
 
 -- the names of the constants, the programs of the nodes from node 0 on, and the channels as declared
 pub record SystemParts : Type 0 where

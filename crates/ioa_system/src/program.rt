@@ -3,8 +3,8 @@
 ghost use Rattle.std.specs.Prelude.{◌≡◌, All, map, length};
 ghost use Rattle.ioa_source.specs.View.{statement_of};
 ghost use Rattle.ioa_source.specs.TextView.{variable_of};
-ghost use Rattle.ioa_check.specs.Parts.{parts};
-ghost use Rattle.ioa_check.specs.Placed.{IsPlacedRule, ArePlacedFirings, variable_names};
+ghost use Rattle.ioa_system.specs.Parts.{parts};
+ghost use Rattle.ioa_system.specs.Placed.{IsPlacedRule, ArePlacedFirings, variable_names};
 
 use crate::scope::Scope;
 use ioa_source::{Entry, Transition, Variable};
@@ -34,24 +34,24 @@ pub struct Program {
 }
 
 impl Model for Program {
-    ghost use Rattle.ioa_check.specs.Parts.{Parts, parts_code};
+    ghost use Rattle.ioa_system.specs.Parts.{Parts, parts_code};
 
     ghost Value = { Parts };
 
     ghost coded = { parts_code };
 
-    ghost use Rattle.ioa_check.specs.Parts.{parts};
+    ghost use Rattle.ioa_system.specs.Parts.{parts};
 
     ghost view = { λ p. parts p.node p.rules.items p.variables.items p.initial.items p.schedule.items };
 
-    ghost use Rattle.ioa_check.specs.Placed.{IsPlacedProgram};
+    ghost use Rattle.ioa_system.specs.Placed.{IsPlacedProgram};
 
     ghost invariant = { λ p. IsPlacedProgram (parts p.node p.rules.items p.variables.items p.initial.items p.schedule.items) };
 }
 
 impl Program {
     /// The program of a node with these rules, state variables, initial values and schedule.
-    pub(crate) fn new(
+    pub fn new(
         node: i64,
         rules: Vec<Rule>,
         variables: Vec<Variable<usize, Shape>>,

@@ -4,9 +4,9 @@ use Rattle.ioa_operators.specs.declared.shape.Shape.{Shape}
 use Rattle.ioa_operators.specs.contracts.shape.Shape as shape
 use Rattle.std.specs.Coded.{Coded, code_by, coded×, coded_ℤ, coded_list}
 use Rattle.std.specs.Borrow.{usize}
-use Rattle.ioa_check.specs.Data.{Data}
-use Rattle.ioa_check.specs.declared.program.Rule.{Rule}
-use Rattle.ioa_check.specs.contracts.program.Rule as rule
+use Rattle.ioa_system.specs.Data.{Data}
+use Rattle.ioa_system.specs.declared.program.Rule.{Rule}
+use Rattle.ioa_system.specs.contracts.program.Rule as rule
 use Rattle.ioa_source.specs.declared.declaration.Variable.{Variable}
 use Rattle.ioa_source.specs.contracts.declaration.Variable as variable
 use Rattle.ioa_terms.specs.declared.tree.Statement.{Statement}

@@ -2,7 +2,7 @@
 
 ghost use Rattle.std.specs.Prelude.{◌≡◌, map};
 ghost use Rattle.std.specs.Arc.{arc_value};
-ghost use Rattle.ioa_check.specs.Systems.{system};
+ghost use Rattle.ioa_system.specs.Systems.{system};
 
 use crate::program::Program;
 use ioa_source::Channel;
@@ -20,21 +20,21 @@ pub struct System {
 
 impl Model for System {
     ghost use Rattle.std.specs.Arc.{arc_value};
-    ghost use Rattle.ioa_check.specs.Systems.{SystemParts, system_code};
+    ghost use Rattle.ioa_system.specs.Systems.{SystemParts, system_code};
 
     ghost Value = { SystemParts };
 
     ghost coded = { system_code };
 
     ghost use Rattle.std.specs.Prelude.{map};
-    ghost use Rattle.ioa_check.specs.Systems.{system};
+    ghost use Rattle.ioa_system.specs.Systems.{system};
 
     ghost view = { λ s. system s.names (map arc_value s.programs.items) s.channels.items };
 }
 
 impl System {
     /// The system of these programs and channels.
-    pub(crate) fn new(names: Names, programs: Vec<Arc<Program>>, channels: Vec<Channel>) -> Self
+    pub fn new(names: Names, programs: Vec<Arc<Program>>, channels: Vec<Channel>) -> Self
         ensures { result ≡ system names (map arc_value programs.items) channels.items }
     {
         System {

@@ -7,8 +7,8 @@ use Rattle.ioa_source.specs.View.{statement_of}
 use Rattle.ioa_source.specs.PlainText.{PlainParameter, const, named, PlainEntry, PlainVariable}
 use Rattle.ioa_source.specs.TextView.{entry_of, variable_of, transition_of}
 use Rattle.ioa_source.specs.Sides.{CheckedParameter, CheckedStatement, CheckedTerm, CheckedVariable}
-use Rattle.ioa_check.specs.Parts.{Parts}
-use Rattle.ioa_check.specs.declared.program.Rule.{Rule}
+use Rattle.ioa_system.specs.Parts.{Parts}
+use Rattle.ioa_system.specs.declared.program.Rule.{Rule}
 
 -- the name of a parameter that has one
 abbrev pub own_name : {N D : Type 0} → PlainParameter N D → List (List ℕ)

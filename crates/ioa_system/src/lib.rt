@@ -1,0 +1,10 @@
+//! Checked systems: the programs of nodes, whose names stand beside the places of their values, and channels.
+#![tactic(auto)]
+
+mod program;
+mod scope;
+mod system;
+
+pub use program::{Program, Rule};
+pub use scope::Scope;
+pub use system::System;
