@@ -1,6 +1,6 @@
 //! Terms and statements of a text, with each name's place beside it.
 
-ghost use Rattle.std.specs.Prelude.{◌≡◌, IfOk, OnOk, map, take, [], true};
+ghost use Rattle.std.specs.Prelude.{◌≡◌, IfOk, OnOk, map, take, [], true, List, ℕ};
 ghost use Rattle.std.specs.List.{AllByRecursion, list_all, list_any};
 ghost use Rattle.std.specs.Option.{option_map, is_some};
 ghost use Rattle.ioa_source.specs.PlainTerm as plain;
@@ -298,7 +298,8 @@ fn place_parameters(
 
 /// The condition of an entry, which the first form has not.
 fn place_condition(condition: &Option<Term>) -> Result<Option<Checked>, Refusal>
-    ensures { IfOk result (λ t. option_map erase_term (option_map term_of t) ≡ option_map term_of condition.now) }
+    ensures same { IfOk result (λ t. option_map erase_term (option_map term_of t) ≡ option_map term_of condition.now) }
+    ensures placed { IfOk result (λ t. (names : List (List ℕ)) → IsPlacedGuard (option_map term_of t) names) }
 {
     match condition {
         None => Ok(None),
@@ -313,6 +314,7 @@ pub(crate) fn place_entry(
 ) -> Result<Entry<usize, Shape>, Refusal>
     ensures same { IfOk result (λ e. erase_entry (entry_of e) ≡ entry_of entry.now) }
     ensures placed { IfOk result (λ e. ArePlacedParameters (entry_of e).parameters) }
+    ensures condition { IfOk result (λ e. (names : List (List ℕ)) → IsPlacedGuard (entry_of e).condition names) }
     ensures shapes { IfOk result (λ e. AllByRecursion HasParameterShape (entry_of e).parameters) }
     ensures numbers { OnOk result (list_all is_number_constant (entry_of entry.now).parameters ≡ true) }
     ensures names { OnOk result (list_all reads_no_name (entry_of entry.now).parameters ≡ true) }

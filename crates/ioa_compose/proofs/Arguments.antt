@@ -10,7 +10,7 @@ use Rattle.ioa_terms.specs.declared.action.Action.{Action}
 use Rattle.ioa_source.specs.PlainText.{const, named}
 use Rattle.ioa_source.specs.Sides.{CheckedEntry, CheckedParameter, CheckedVariable}
 use Rattle.ioa_system.specs.Placed.{own_names, variable_names, scope_of}
-use Rattle.ioa_compose.specs.NodeStep.{left_by, arguments_agree, parameter_agrees, own_values, entry_agrees, kind_agrees, action_name, action_arguments}
+use Rattle.ioa_compose.specs.NodeStep.{left_by, arguments_agree, parameter_agrees, are_natural, own_values, entry_agrees, kind_agrees, action_name, action_arguments}
 
 and_false : (b : Bool) → b && false ≡ false
 and_false true = refl
@@ -37,6 +37,15 @@ own_values_end f (p ∷ ps) [] zero h = refl
 own_values_end f (p ∷ ps) [] (suc i) h = absurd (omega arith)
 own_values_end f (p ∷ ps) (v ∷ vs) zero h = absurd (omega arith)
 own_values_end f (p ∷ ps) (v ∷ vs) (suc i) h = own_values_end f ps vs i (omega arith)
+
+-- where the parameters or the arguments end, no negative number is left
+pub are_natural_end : {A : Type 0} (f : A → CheckedParameter) (ps : List A) (vs : List Data) (i : ℕ) → i ≡ min (length ps) (length vs) → are_natural (map f (drop i ps)) (drop i vs) ≡ true
+are_natural_end f [] vs zero h = refl
+are_natural_end f [] vs (suc i) h = refl
+are_natural_end f (p ∷ ps) [] zero h = refl
+are_natural_end f (p ∷ ps) [] (suc i) h = absurd (omega arith)
+are_natural_end f (p ∷ ps) (v ∷ vs) zero h = absurd (omega arith)
+are_natural_end f (p ∷ ps) (v ∷ vs) (suc i) h = are_natural_end f ps vs i (omega arith)
 
 -- the first n values that an effect leaves
 pub left_by_zip : (n : ℕ) (names : List (List ℕ)) (vs : List Data) → length names ≡ length vs → left_by n (Ok (zip names vs)) ≡ Ok (take n vs)

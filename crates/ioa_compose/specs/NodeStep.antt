@@ -1,5 +1,5 @@
 -- Steps of a node's automaton (Lynch 8.1).
-use Rattle.std.specs.Prelude.{ℕ, Bool, true, false, not, ◌&&◌, List, [], ◌∷◌, ◌++◌, Option, Some, None, Result, Ok, Err, map, length, take, find, codes}
+use Rattle.std.specs.Prelude.{ℕ, Bool, true, false, not, ◌&&◌, if◌then◌else◌, List, [], ◌∷◌, ◌++◌, Option, Some, None, Result, Ok, Err, map, length, take, find, codes}
 use Rattle.std.specs.List.{zip}
 use Rattle.ioa_compose.specs.Data.{Data, number, as_truth}
 use Rattle.ioa_compose.specs.Outcome.{and_then}
@@ -11,7 +11,7 @@ use Rattle.ioa_terms.specs.declared.tree.Kind.{Kind}
 use Rattle.ioa_terms.specs.declared.tree.Kind.TheVariants.{Input, Output, Internal}
 use Rattle.ioa_terms.specs.declared.action.Action.{Action}
 use Rattle.ioa_terms.specs.declared.action.Action.TheVariants.{Send, Receive, Local, Stimulus}
-use Rattle.ioa_operators.specs.Shapes.{has_shape}
+use Rattle.ioa_operators.specs.Shapes.{has_shape, widened}
 use Rattle.ioa_operators.specs.ShapeView.{shape_of}
 use Rattle.ioa_operators.specs.declared.fault.TermFault.{TermFault}
 use Rattle.ioa_source.specs.PlainText.{const, named}
@@ -23,7 +23,7 @@ use Rattle.ioa_compose.specs.NodeState.{NodeState, node_state}
 use Rattle.ioa_compose.specs.StepFaults.{step_fault}
 use Rattle.ioa_system.specs.declared.program.Rule.{Rule}
 use Rattle.ioa_compose.specs.declared.fault.StepFault.{StepFault}
-use Rattle.ioa_compose.specs.declared.fault.StepFault.TheVariants.{NotEnabled, NotMine}
+use Rattle.ioa_compose.specs.declared.fault.StepFault.TheVariants.{NotEnabled, NotMine, Undefined}
 
 -- the name of an action
 abbrev pub action_name : Action → List ℕ
@@ -60,17 +60,33 @@ abbrev pub is_constant : Result Data TermFault → Data → Bool
 is_constant (Ok u) v = same u v
 is_constant (Err f) v = false
 
--- whether a value fits a parameter: it is the constant, or has the shape of the sort
+-- whether a value is one of a parameter's: it is the constant, or is of the sort, where a negative number passes for a
+-- natural
 abbrev pub parameter_agrees : CheckedParameter → Data → Bool
 parameter_agrees (const t) v = is_constant (answer t []) v
-parameter_agrees (named d) v = has_shape (shape_of d.shape) v
+parameter_agrees (named d) v = has_shape (widened (shape_of d.shape)) v
 
--- whether arguments fit an entry's parameters: as many, and each fits its own
+-- whether arguments are those of an entry's parameters: as many, and each one of its own parameter's
 abbrev pub arguments_agree : List CheckedParameter → List Data → Bool
 arguments_agree [] [] = true
 arguments_agree [] (v ∷ vs) = false
 arguments_agree (p ∷ more) [] = false
 arguments_agree (p ∷ more) (v ∷ vs) = parameter_agrees p v && arguments_agree more vs
+
+-- whether no negative number stands for a natural in an argument
+abbrev pub is_natural : CheckedParameter → Data → Bool
+is_natural (const t) v = true
+is_natural (named d) v = has_shape (shape_of d.shape) v
+
+-- whether none does in arguments beside their parameters
+abbrev pub are_natural : List CheckedParameter → List Data → Bool
+are_natural [] vs = true
+are_natural (p ∷ more) [] = true
+are_natural (p ∷ more) (v ∷ vs) = is_natural p v && are_natural more vs
+
+-- what arguments answer: a negative number is no value of a natural's
+abbrev pub naturals_answer : List CheckedParameter → List Data → Result (Unit {0}) StepFault
+naturals_answer ps vs = if are_natural ps vs then Ok tt else Err Undefined
 
 -- whether an action is one of an entry's
 abbrev pub entry_agrees : Action → CheckedEntry → Bool
@@ -115,6 +131,12 @@ left_by n (Err f) = Err (step_fault f)
 abbrev pub transition_answer : ℕ → CheckedTransition → Bindings → Result (List Data) StepFault
 transition_answer n t b = and_then (guard_answer t.pre b) (λ _. left_by n (answer_by t.effect b))
 
+-- what an entry and its transition answer to arguments over n state variables: the first fault of the arguments, the
+-- entry's condition, guard and effect, or the new values
+abbrev pub step_answer : ℕ → CheckedEntry → CheckedTransition → List Data → Bindings → Result (List Data) StepFault
+step_answer n e t args b =
+    and_then (naturals_answer e.parameters args) (λ _. and_then (guard_answer e.condition b) (λ _. transition_answer n t b))
+
 -- the rule of an action: the first whose entry it is one of
 abbrev pub rule_for : Action → List Rule → Option Rule
 rule_for a rules = find (λ r. entry_agrees a (entry_of r.entry)) rules
@@ -123,7 +145,8 @@ rule_for a rules = find (λ r. entry_agrees a (entry_of r.entry)) rules
 abbrev pub rule_answer : Parts → List Data → Action → Option Rule → Result (List Data) StepFault
 rule_answer p vs a None = Err NotMine
 rule_answer p vs a (Some r) =
-    transition_answer (length vs) (transition_of r.transition) (view_of (entry_of r.entry) (map variable_of p.variables) a vs)
+    step_answer (length vs) (entry_of r.entry) (transition_of r.transition) (action_arguments a)
+    (view_of (entry_of r.entry) (map variable_of p.variables) a vs)
 
 -- what a program leaves of its variables' values by an action, or why the action is no step
 abbrev pub program_answer : Parts → List Data → Action → Result (List Data) StepFault

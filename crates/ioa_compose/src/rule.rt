@@ -83,7 +83,7 @@ fn kind_agrees(action: &Action, kind: Kind) -> bool
     }
 }
 
-/// Whether a value fits a parameter.
+/// Whether a value is one of a parameter's, where a negative number passes for a natural.
 fn parameter_agrees(
     alloc: Global,
     parameter: &Parameter<usize, Shape>,
@@ -94,7 +94,7 @@ fn parameter_agrees(
 {
     match parameter {
         Parameter::Const(term) => is_constant(alloc, term, value),
-        Parameter::Declared(declared) => Ok(declared.shape.admits(value)),
+        Parameter::Declared(declared) => Ok(declared.shape.admits_negative(value)),
     }
 }
 
@@ -129,6 +129,31 @@ fn arguments_agree(
         }
     }
     Ok(true)
+}
+
+/// Passes where no negative number stands for a natural in an argument.
+fn pass_naturals(
+    parameters: &[Parameter<usize, Shape>],
+    arguments: &[Value],
+) -> Result<(), StepFault>
+    ensures { result ≡ spec.naturals_answer (map parameter_of parameters.now) arguments.now }
+{
+    for i in 0..parameters.len().min(arguments.len()) {
+        if !is_natural(&parameters[i], &arguments[i]) {
+            return Err(StepFault::Undefined);
+        }
+    }
+    Ok(())
+}
+
+/// Whether no negative number stands for a natural in an argument.
+fn is_natural(parameter: &Parameter<usize, Shape>, argument: &Value) -> bool
+    ensures { result ≡ spec.is_natural (parameter_of parameter.now) argument.now }
+{
+    match parameter {
+        Parameter::Const(_) => true,
+        Parameter::Declared(declared) => declared.shape.admits(argument),
+    }
 }
 
 /// Whether an action, with these arguments, is one of an entry's.
@@ -190,30 +215,30 @@ pub fn values_after(
     }
 }
 
-/// What a transition leaves of the state variables: guard first, then effect.
+/// What a transition leaves of the state variables: arguments first, then the entry's condition, guard
+/// and effect.
 fn take_transition(
     alloc: Global,
     rule: &Rule,
     arguments: &[Value],
     variables: &[Value],
 ) -> Result<Vec<Value>, StepFault>
+    requires condition { IsPlacedGuard (entry_of rule.now.entry).condition rule.now.scope }
     requires guard { IsPlacedGuard (transition_of rule.now.transition).pre rule.now.scope }
     requires effect { ArePlaced (transition_of rule.now.transition).effect rule.now.scope rule.now.scope }
     requires named { length rule.now.scope
         ≡ length (variables.now ++ spec.own_values (entry_of rule.now.entry).parameters arguments.now) }
     ensures after { Answers StepFault.Memory (λ v. v.items) result
-        (spec.transition_answer (length variables.now) (transition_of rule.now.transition)
+        (spec.step_answer (length variables.now) (entry_of rule.now.entry) (transition_of rule.now.transition) arguments.now
         (zip rule.now.scope
         (variables.now ++ spec.own_values (entry_of rule.now.entry).parameters arguments.now))) }
     ensures valued { IfOk result (λ v. length v.items ≡ length variables.now) }
 {
+    pass_naturals(&rule.entry.parameters, arguments)?;
     let values = values_in_view(alloc, &rule.entry, arguments, variables)?;
-    pass_guard(
-        alloc,
-        &rule.transition.pre,
-        &Env::new(rule.scope.as_slice(), &values),
-    )?;
     let scope = rule.scope.as_slice();
+    pass_guard(alloc, &rule.entry.condition, &Env::new(scope, &values))?;
+    pass_guard(alloc, &rule.transition.pre, &Env::new(scope, &values))?;
     take_effect(
         alloc,
         &rule.transition.effect,
@@ -280,7 +305,7 @@ fn push_own(
     }
 }
 
-/// Passes where a guard is true.
+/// Passes where a guard is true, or the condition of an entry.
 fn pass_guard(alloc: Global, pre: &Option<Checked>, env: &Env) -> Result<(), StepFault>
     requires { IsPlacedGuard (option_map term_of pre.now) (names_of env.now) }
     ensures { Answers StepFault.Memory (λ _. tt) result (spec.guard_answer (option_map term_of pre.now) env.now) }

@@ -4,3 +4,4 @@ pub mod NamedParts
 pub mod ShapeLists
 pub mod Canonicals
 pub mod Ascents
+pub mod Widened

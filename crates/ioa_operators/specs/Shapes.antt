@@ -60,6 +60,26 @@ abbrev mutual
   entries_have k v no_entries = true
   entries_have k v (entry d e es) = has_shape k d && (has_shape v e && entries_have k v es)
 
+-- a shape in which integers stand for naturals where `also` says so, in all its parts
+abbrev mutual
+  pub widened_by : Bool → PlainShape → PlainShape
+  widened_by also truths = truths
+  widened_by also integers = integers
+  widened_by also naturals = if also then integers else naturals
+  widened_by also (constants w from many) = constants w from many
+  widened_by also (tuples w names ss) = tuples w names (shapes_widened_by also ss)
+  widened_by also (sequences s) = sequences (widened_by also s)
+  widened_by also (sets s) = sets (widened_by also s)
+  widened_by also (maps k v) = maps (widened_by also k) (widened_by also v)
+
+  pub shapes_widened_by : Bool → PlainShapes → PlainShapes
+  shapes_widened_by also no_shapes = no_shapes
+  shapes_widened_by also (shape s ss) = shape (widened_by also s) (shapes_widened_by also ss)
+
+-- a shape in which integers stand for naturals, in all its parts: what a value's sort is when its sign is not looked at
+abbrev pub widened : PlainShape → PlainShape
+widened s = widened_by true s
+
 -- the place of a name among the names of fields
 abbrev pub field_place : List ℕ → List (List ℕ) → Option ℕ
 field_place w names = position (pointwise nat_eq w) names

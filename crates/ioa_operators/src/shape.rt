@@ -2,7 +2,7 @@
 
 ghost use Rattle.std.specs.Prelude.{◌≡◌, ◌+◌, [], ◌&&◌, IfOk, map, nat_le, nat_lt};
 ghost use Rattle.ioa_operators.specs.Data.{items_of};
-ghost use Rattle.ioa_operators.specs.Shapes.{naturals, constants, has_shape, have_shapes, all_have, shapes_of};
+ghost use Rattle.ioa_operators.specs.Shapes.{naturals, constants, has_shape, have_shapes, all_have, shapes_of, widened, widened_by, shapes_widened_by};
 ghost use Rattle.ioa_operators.specs.ShapeView.{shape_of};
 
 use ioa_values::{Node, Value, Word};
@@ -70,31 +70,47 @@ impl Shape {
     }
 
     /// Whether a value has the shape. Costs time in proportion to the value.
-    #[cycle(admitting)]
+    #[tactic(auto, using(crate::proofs::Widened::narrow))]
     pub fn admits(&self, value: &Value) -> bool
         ensures { result ≡ has_shape (shape_of self.now) value.now }
+    {
+        self.fits(value, false)
+    }
+
+    /// Whether a value has the shape when no sign is looked at: a negative number passes for a natural
+    /// too, wherever it stands. Costs time in proportion to the value.
+    pub fn admits_negative(&self, value: &Value) -> bool
+        ensures { result ≡ has_shape (widened (shape_of self.now)) value.now }
+    {
+        self.fits(value, true)
+    }
+
+    /// Whether a value has the shape, where a negative number passes for a natural or not.
+    #[cycle(admitting)]
+    fn fits(&self, value: &Value, negative: bool) -> bool
+        ensures { result ≡ has_shape (widened_by negative (shape_of self.now)) value.now }
     {
         match self {
             Shape::Truths => matches!(&value.node, Node::Truth(_)),
             Shape::Integers => matches!(&value.node, Node::Number(_)),
-            Shape::Naturals => is_natural(value),
+            Shape::Naturals => is_natural(value, negative),
             Shape::Constants(_, from, many) => is_constant(value, *from, *many),
             Shape::Tuples(_, _, shapes) => match &value.node {
-                Node::Tuple(parts) => all_admit(shapes, parts),
+                Node::Tuple(parts) => all_fit(shapes, parts, negative),
                 _ => false,
             },
             Shape::Sequences(items) => match &value.node {
-                Node::Sequence(values) => admits_all(items, values),
+                Node::Sequence(values) => fits_all(items, values, negative),
                 _ => false,
             },
             Shape::Sets(members) => match &value.node {
-                Node::Set(values) => admits_all(members, values),
+                Node::Set(values) => fits_all(members, values, negative),
                 _ => false,
             },
             Shape::Maps(keys, values) => match &value.node {
                 Node::Map(entries) => {
                     for (key, value) in entries {
-                        if !keys.admits(key) || !values.admits(value) {
+                        if !keys.fits(key, negative) || !values.fits(value, negative) {
                             return false;
                         }
                     }
@@ -106,12 +122,12 @@ impl Shape {
     }
 }
 
-/// Whether a value is a number that is not negative.
-fn is_natural(value: &Value) -> bool
-    ensures { result ≡ has_shape naturals value.now }
+/// Whether a value is a number, which is not negative unless that passes.
+fn is_natural(value: &Value, negative: bool) -> bool
+    ensures { result ≡ has_shape (widened_by negative naturals) value.now }
 {
     match &value.node {
-        Node::Number(n) => 0 <= *n,
+        Node::Number(n) => negative || 0 <= *n,
         _ => false,
     }
 }
@@ -133,25 +149,33 @@ fn lies_among(place: usize, from: usize, many: usize) -> bool
 }
 
 /// Whether values have shapes, one by one.
-#[cycle(admitting)]
+#[tactic(auto, using(crate::proofs::Widened::all_narrow))]
 pub(crate) fn all_admit(shapes: &Vec<Shape>, values: &Vec<Value>) -> bool
     ensures { result ≡ have_shapes (shapes_of (map shape_of shapes.now.items)) (items_of values.now.items) }
 {
+    all_fit(shapes, values, false)
+}
+
+/// Whether values have shapes, one by one, where a negative number passes for a natural or not.
+#[cycle(admitting)]
+fn all_fit(shapes: &Vec<Shape>, values: &Vec<Value>, negative: bool) -> bool
+    ensures { result ≡ have_shapes (shapes_widened_by negative (shapes_of (map shape_of shapes.now.items))) (items_of values.now.items) }
+{
     for place in 0..shapes.len().min(values.len()) {
-        if !shapes[place].admits(&values[place]) {
+        if !shapes[place].fits(&values[place], negative) {
             return false;
         }
     }
     shapes.len() == values.len()
 }
 
-/// Whether values all have a shape.
+/// Whether values all have a shape, where a negative number passes for a natural or not.
 #[cycle(admitting)]
-fn admits_all(shape: &Shape, values: &Vec<Value>) -> bool
-    ensures { result ≡ all_have (shape_of shape.now) (items_of values.now.items) }
+fn fits_all(shape: &Shape, values: &Vec<Value>, negative: bool) -> bool
+    ensures { result ≡ all_have (widened_by negative (shape_of shape.now)) (items_of values.now.items) }
 {
     for value in values {
-        if !shape.admits(value) {
+        if !shape.fits(value, negative) {
             return false;
         }
     }

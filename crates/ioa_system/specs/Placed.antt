@@ -44,6 +44,7 @@ IsPlacedGuard (Some t) names = IsPlaced t names
 pub record IsPlacedRule (vs : List CheckedVariable) (r : Rule) : Type 0 where
   pub scope : r.scope ≡ scope_of (entry_of r.entry) vs
   pub parameters : ArePlacedParameters (entry_of r.entry).parameters
+  pub condition : IsPlacedGuard (entry_of r.entry).condition r.scope
   pub guard : IsPlacedGuard (transition_of r.transition).pre r.scope
   pub effect : ArePlaced (transition_of r.transition).effect r.scope r.scope
 

@@ -9,6 +9,15 @@ use Rattle.ioa_check.specs.Rows.{guard_reads_only, assigns_only}
 use Rattle.ioa_check.proofs.Rows.{scope_of-erase, take_first}
 use Rattle.ioa_check.proofs.building.rule_of.Goals as goal
 
+pub returns-clause-placed : goal.returns-clause-placed
+returns-clause-placed c = record {
+  scope = c.in_ok-scope.ensures.names;
+  parameters = c.in_ok-entry.ensures.placed;
+  condition = c.in_ok-entry.ensures.condition c.in_ok-scope.scope;
+  guard = c.in_ok-transition.ensures.guard;
+  effect = c.in_ok-transition.ensures.effect;
+}
+
 pub returns-clause-rows : goal.returns-clause-rows
 returns-clause-rows c =
     let scope = c.in_ok-scope.scope in
