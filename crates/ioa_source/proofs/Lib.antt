@@ -1,2 +1,3 @@
 -- the lemmas of this crate, which the crates above cite
+pub mod Erased
 pub mod Sets

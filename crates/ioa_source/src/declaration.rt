@@ -5,7 +5,7 @@
 use crate::sort::Sort;
 use ioa_terms::{Kind, Statement, Tree, Word};
 
-/// `x: S`: a name for any value of a sort.
+/// `x: S`: a name for any value of a sort (profile).
 #[derive(Drop)]
 pub struct Declared<D> {
     /// The name.
@@ -38,7 +38,7 @@ pub struct Entry<N, D> {
     pub condition: Option<Tree<N, D>>,
 }
 
-/// A state variable.
+/// A state variable (Lynch 8.1; sorts and initial terms: profile).
 #[derive(Drop)]
 pub struct Variable<N, D> {
     /// Its name and sort.
@@ -62,7 +62,7 @@ pub struct Transition<N, D> {
     pub effect: Vec<Statement<N, D>>,
 }
 
-/// An automaton with its schedule block.
+/// An automaton (Lynch 8.1) with its schedule block (profile).
 #[derive(Drop)]
 pub struct Automaton<N, D> {
     /// Its name.
@@ -79,7 +79,7 @@ pub struct Automaton<N, D> {
     pub schedule: Vec<Statement<N, D>>,
 }
 
-/// What a type's values are.
+/// What a type's values are (profile).
 #[derive(Drop)]
 pub enum TypeForm<D> {
     /// The constants of these names.
@@ -88,7 +88,7 @@ pub enum TypeForm<D> {
     Tuple(Vec<Declared<D>>),
 }
 
-/// `type T = ..`: a name for an enumeration or a tuple type.
+/// `type T = ..`: a name for an enumeration or a tuple type (profile).
 #[derive(Drop)]
 pub struct TypeDeclaration<D> {
     /// The type's name.
@@ -97,7 +97,7 @@ pub struct TypeDeclaration<D> {
     pub form: TypeForm<D>,
 }
 
-/// What stands in a text before its system.
+/// What stands in a text before its system (profile).
 #[derive(Drop)]
 pub enum Declaration<N, D> {
     /// A type.
@@ -106,7 +106,7 @@ pub enum Declaration<N, D> {
     Automaton(Automaton<N, D>),
 }
 
-/// `node k: A(t, u)`: an automaton placed on a node.
+/// `node k: A(t, u)`: an automaton placed on a node (profile).
 #[derive(Drop)]
 pub struct Node<N, D> {
     /// The node's number.
@@ -126,7 +126,7 @@ pub struct Channel {
     pub to: i64,
 }
 
-/// What stands in the system section.
+/// What stands in the system section (profile).
 #[derive(Drop)]
 pub enum Placement<N, D> {
     /// A node.
@@ -135,7 +135,7 @@ pub enum Placement<N, D> {
     Channel(Channel),
 }
 
-/// A whole text.
+/// A whole text (profile).
 #[derive(Drop)]
 pub struct Text<N, D> {
     /// What it declares before the system, in order.

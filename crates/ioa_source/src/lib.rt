@@ -2,10 +2,12 @@
 #![tactic(auto)]
 
 mod declaration;
+mod laws;
 mod sort;
 
 pub use declaration::{
     Automaton, Channel, Declaration, Declared, Entry, Node, Parameter, Placement, Text, Transition,
     TypeDeclaration, TypeForm, Variable,
 };
+pub use laws::erasure_law;
 pub use sort::Sort;

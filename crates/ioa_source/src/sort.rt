@@ -26,7 +26,7 @@ pub enum Sort {
 }
 
 impl Sort {
-    /// The same sort once more.
+    /// An equal sort with its own memory.
     pub fn try_copy(&self, alloc: Global) -> Result<Self, AllocError>
         ensures { IfOk result (λ s. sort_of s ≡ sort_of self.now) }
     {

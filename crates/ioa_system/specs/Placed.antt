@@ -1,4 +1,4 @@
--- When each name of a program stands beside the place of its value.
+-- When each name that a step reads stands beside the place of its value.
 use Rattle.std.specs.Prelude.{◌≡◌, ℕ, List, [], ◌∷◌, ◌++◌, Option, Some, None, map, length, All}
 use Rattle.std.specs.List.{AllByRecursion}
 use Rattle.ioa_terms.specs.Placed.{IsPlaced, ArePlaced}
@@ -40,7 +40,8 @@ abbrev pub IsPlacedGuard : Option CheckedTerm → List (List ℕ) → Type 0
 IsPlacedGuard None names = Unit {0}
 IsPlacedGuard (Some t) names = IsPlaced t names
 
--- a rule whose names stand beside the places of their values
+-- a rule in which the names that its step reads or assigns stand beside the places of their values: those of constant
+-- parameters, of the entry's condition, of guard and of effect. No step reads the arguments of the head.
 pub record IsPlacedRule (vs : List CheckedVariable) (r : Rule) : Type 0 where
   pub scope : r.scope ≡ scope_of (entry_of r.entry) vs
   pub parameters : ArePlacedParameters (entry_of r.entry).parameters
@@ -48,10 +49,11 @@ pub record IsPlacedRule (vs : List CheckedVariable) (r : Rule) : Type 0 where
   pub guard : IsPlacedGuard (transition_of r.transition).pre r.scope
   pub effect : ArePlaced (transition_of r.transition).effect r.scope r.scope
 
--- the arguments of each firing, placed among the variables
+-- each of terms is placed among these names
 abbrev pub ArePlacedTerms : List CheckedTerm → List (List ℕ) → Type 0
 ArePlacedTerms ts names = AllByRecursion (λ t. IsPlaced t names) ts
 
+-- each argument of a firing is placed among the variables; of another statement of a schedule nothing is said
 abbrev pub IsPlacedFiring : CheckedStatement → List (List ℕ) → Type 0
 IsPlacedFiring (assign p t) names = Unit {0}
 IsPlacedFiring (choose arms rest) names = Unit {0}
@@ -60,7 +62,8 @@ IsPlacedFiring (fire k a ts) names = ArePlacedTerms ts names
 abbrev pub ArePlacedFirings : List CheckedStatement → List (List ℕ) → Type 0
 ArePlacedFirings ss names = AllByRecursion (λ s. IsPlacedFiring s names) ss
 
--- a program whose names stand beside the places of their values
+-- a program with an initial value for each variable, in which the names that a step or a firing of the schedule reads
+-- stand beside the places of their values
 pub record IsPlacedProgram (p : Parts) : Type 0 where
   pub rules : All (IsPlacedRule (map variable_of p.variables)) p.rules
   pub valued : length p.initial ≡ length p.variables

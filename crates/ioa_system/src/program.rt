@@ -11,8 +11,8 @@ use ioa_source::{Entry, Transition, Variable};
 use ioa_terms::{Shape, Statement, Value};
 use std::marker::Model;
 
-/// An entry of a signature with its transition, and the names in view there: the state variables, and
-/// then the entry's own parameters.
+/// An entry of a signature with its transition (Lynch 8.1), and the names in view there: the state
+/// variables, and then the entry's own parameters.
 #[derive(Drop)]
 pub struct Rule {
     /// The entry.
@@ -23,7 +23,8 @@ pub struct Rule {
     pub scope: Scope,
 }
 
-/// A node's program. Its type keeps that each name stands beside the place of its value.
+/// A node's program. Its type keeps that each name that a step or a firing of the schedule reads
+/// stands beside the place of its value, and that each state variable has an initial value.
 #[derive(Drop)]
 pub struct Program {
     node: i64,

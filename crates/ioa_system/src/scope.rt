@@ -1,6 +1,6 @@
 //! Names in view, numbered in the order in which they are first declared.
 
-ghost use Rattle.std.specs.Prelude.{◌≡◌, ◌++◌, [], ◌∷◌, IfOk, OnOk, MatchBool, not};
+ghost use Rattle.std.specs.Prelude.{◌≡◌, ◌++◌, [], ◌∷◌, IfOk, OnOk, OnErr, MatchBool, not};
 ghost use Rattle.std.specs.List.{list_any, IsDistinct};
 ghost use Rattle.ioa_terms.specs.Bindings.{place_in, same_name};
 
@@ -33,11 +33,13 @@ impl Scope {
         }
     }
 
-    /// Declares a name behind the others, where it is new; tells whether it was.
+    /// Declares a name behind the others, where it is new; tells whether it was. Where memory runs
+    /// out the names stay as they were.
     pub fn declare(&mut self, name: Word) -> Result<bool, AllocError>
         ensures ok { IfOk result (λ fresh. MatchBool fresh (self.new ≡ self.old ++ name ∷ []) (self.new ≡ self.old)) }
         ensures fresh { IfOk result (λ fresh. fresh ≡ not (list_any (same_name name) self.old)) }
         ensures differ { OnOk result (IsDistinct same_name self.old → IsDistinct same_name self.new) }
+        ensures err { OnErr result (self.new ≡ self.old) }
     {
         let (_, fresh) = self.names.insert_full(name)?;
         Ok(fresh)

@@ -96,7 +96,7 @@ pub without_key_ascends : (k : Data) (es : List (Data × Data)) → IsAscending 
 without_key_ascends k es a = rw (keys_without k es) (without_member_ascends k (keys_of es) a)
 
 -- a value before all of them is no member
-none_same : (d : Data) (xs : List Data) → AllByRecursion (λ y. data_cmp d y ≡ Less) xs → is_member d xs ≡ false
+pub none_same : (d : Data) (xs : List Data) → AllByRecursion (λ y. data_cmp d y ≡ Less) xs → is_member d xs ≡ false
 none_same d [] h = refl
 none_same d (x ∷ xs) h = rw h.0 (none_same d xs h.1)
 

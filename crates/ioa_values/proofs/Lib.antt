@@ -5,5 +5,6 @@ pub mod Endings
 pub mod Equality
 pub mod Falls
 pub mod Halves
+pub mod Members
 pub mod Merging
 pub mod Places

@@ -2,7 +2,7 @@
 use Rattle.std.specs.Prelude.{ℕ, ◌+◌, max}
 use Rattle.ioa_values.specs.Data.{Data, number, truth, constant, tuple, sequence, finite_set, finite_map, Items, no_items, item, Entries, no_entries, entry}
 
--- the greatest number of collections round a part of a value
+-- how many collections stand one in another, at most
 abbrev mutual
   pub depth : Data → ℕ
   depth (number z) = 0

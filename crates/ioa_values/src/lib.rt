@@ -2,10 +2,12 @@
 #![tactic(auto)]
 
 pub mod collections;
+mod laws;
 mod names;
 mod value;
 mod word;
 
+pub use laws::{maps_law, sets_law};
 pub use names::{Names, push_shown, show};
 pub use value::{Node, Value};
 pub use word::Word;

@@ -61,7 +61,8 @@ pub fn show(alloc: Global, names: &Names, value: &Value) -> Result<String, Alloc
     Ok(output)
 }
 
-/// Writes the text of a value behind what is written.
+/// Writes the text of a value behind what is written. Where memory runs out a part of the text may
+/// stand there.
 #[cycle(showing)]
 #[tactic(auto, using(crate::proofs::Falls::most_items, crate::proofs::Falls::most_entries))]
 pub fn push_shown(output: &mut String, names: &Names, value: &Value) -> Result<(), AllocError>

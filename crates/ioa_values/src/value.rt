@@ -125,7 +125,8 @@ impl Value {
         }
     }
 
-    /// An equal value with its own memory. Costs time and memory in proportion to the value.
+    /// An equal value with its own memory. Costs time and memory in proportion to the value. Whatever
+    /// it answers, a value of the code that is a number lies in 64 bits.
     #[cycle(copying)]
     #[tactic(auto, using(crate::proofs::Falls::most_items, crate::proofs::Falls::most_entries))]
     pub fn try_copy(&self, alloc: Global) -> Result<Self, AllocError>
