@@ -9,12 +9,11 @@ use Rattle.ioa_values.proofs.Ascending.{by_each, with_member_ascends, without_me
 use Rattle.ioa_operators.specs.Data.{Data, Items, Entries, number, truth, constant, tuple, sequence, finite_set, finite_map, no_items, item, no_entries, entry, list_of, pairs_of, items_of, entries_of, as_number, as_truth, is_within}
 use Rattle.ioa_operators.specs.DataOrder.{data_cmp}
 use Rattle.ioa_operators.specs.Collections.{IsAscending, keys_of, with_member, without_member, set_of, union, value_at, with_entry, without_key}
-use Rattle.ioa_operators.specs.Operators.{sequence_of, finite_set_of, finite_map_of, as_tuple, as_sequence, as_set, as_map, on_numbers, on_truths, on_division, divided, unary_value, binary_value, has_member, first, rest, count, size_value, is_there, call_one, call_two, call_three, call_value, same_truth}
+use Rattle.ioa_operators.specs.Operators.{sequence_of, finite_set_of, finite_map_of, as_sequence, as_set, as_map, on_numbers, on_truths, on_division, divided, unary_value, binary_value, has_member, first, rest, count, size_value, is_there, call_one, call_two, call_three, call_value, same_truth}
 use Rattle.ioa_operators.specs.Shapes.{PlainShape, tuples, sequences, sets, maps, display_value, field_value, with_field, field_place, have_shapes}
-use Rattle.ioa_operators.specs.Judged.{kept}
-use Rattle.ioa_operators.specs.Outcome.{Answers}
+use Rattle.ioa_operators.specs.Judged.{AnswersOrLacks, kept}
 use Rattle.ioa_operators.specs.declared.fault.TermFault.{TermFault}
-use Rattle.ioa_operators.specs.declared.fault.TermFault.TheVariants.{Memory, Range}
+use Rattle.ioa_operators.specs.declared.fault.TermFault.TheVariants.{Range}
 use Rattle.ioa_operators.specs.declared.operator.UnaryOperator.{UnaryOperator}
 use Rattle.ioa_operators.specs.declared.operator.UnaryOperator.TheVariants as one
 use Rattle.ioa_operators.specs.declared.operator.BinaryOperator.{BinaryOperator}
@@ -99,15 +98,6 @@ value_at_canonical k (e ∷ es) h =
     (λ l. tt) (λ l. h.0.1) (λ l. value_at_canonical k es h.1)
 
 -- the parts of a canonical value
-tuple_parts : (x : Data) → IsCanonical x → IfSome (as_tuple x) AllCanonical
-tuple_parts (number z) h = tt
-tuple_parts (truth b) h = tt
-tuple_parts (constant k) h = tt
-tuple_parts (tuple ds) h = all_items ds h
-tuple_parts (sequence ds) h = tt
-tuple_parts (finite_set ds) h = tt
-tuple_parts (finite_map es) h = tt
-
 sequence_items : (x : Data) → IsCanonical x → IfSome (as_sequence x) AllCanonical
 sequence_items (number z) h = tt
 sequence_items (truth b) h = tt
@@ -143,20 +133,20 @@ made_map : (es : List (Data × Data)) → IsAscending (keys_of es) → AllEntrie
 made_map es a h = (rw (pairs_of_entries es) a, entries_all es h)
 
 -- what is made of what is there, if anything is
-mapped : {A B : Type 0} (P : A → Type 0) (Q : B → Type 0) (f : A → B) (o : Option A) → IfSome o P → ((a : A) → P a → Q (f a)) → IfSome (option_map f o) Q
+pub mapped : {A B : Type 0} (P : A → Type 0) (Q : B → Type 0) (f : A → B) (o : Option A) → IfSome o P → ((a : A) → P a → Q (f a)) → IfSome (option_map f o) Q
 mapped P Q f None h g = tt
 mapped P Q f (Some a) h g = g a h
 
-chained : {A B : Type 0} (P : A → Type 0) (Q : B → Type 0) (f : A → Option B) (o : Option A) → IfSome o P → ((a : A) → P a → IfSome (f a) Q) → IfSome (option_and_then f o) Q
+pub chained : {A B : Type 0} (P : A → Type 0) (Q : B → Type 0) (f : A → Option B) (o : Option A) → IfSome o P → ((a : A) → P a → IfSome (f a) Q) → IfSome (option_and_then f o) Q
 chained P Q f None h g = tt
 chained P Q f (Some a) h g = g a h
 
 -- the same of anything that is there
-mapped_any : {A B : Type 0} (Q : B → Type 0) (f : A → B) (o : Option A) → ((a : A) → Q (f a)) → IfSome (option_map f o) Q
+pub mapped_any : {A B : Type 0} (Q : B → Type 0) (f : A → B) (o : Option A) → ((a : A) → Q (f a)) → IfSome (option_map f o) Q
 mapped_any Q f None g = tt
 mapped_any Q f (Some a) g = g a
 
-chained_any : {A B : Type 0} (Q : B → Type 0) (f : A → Option B) (o : Option A) → ((a : A) → IfSome (f a) Q) → IfSome (option_and_then f o) Q
+pub chained_any : {A B : Type 0} (Q : B → Type 0) (f : A → Option B) (o : Option A) → ((a : A) → IfSome (f a) Q) → IfSome (option_and_then f o) Q
 chained_any Q f None g = tt
 chained_any Q f (Some a) g = g a
 
@@ -296,6 +286,6 @@ told : (o : Option Data) (v : Data) → kept o ≡ Ok v → IfSome o IsCanonical
 told None v a h = absurd (cc)
 told (Some d) v a h = told_by (is_within d) d v a h
 
-pub answered : (r : Result Data TermFault) (o : Option Data) → Answers Memory (λ v. v) r (kept o) → IfSome o IsCanonical → IfOk r IsCanonical
-answered (Err e) o a h = tt
-answered (Ok v) o a h = told o v a h
+pub answered : (takes : Bool) (r : Result Data TermFault) (o : Option Data) → AnswersOrLacks takes r (kept o) → IfSome o IsCanonical → IfOk r IsCanonical
+answered takes (Err e) o a h = tt
+answered takes (Ok v) o a h = told o v a h

@@ -5,3 +5,4 @@ pub mod ShapeLists
 pub mod Canonicals
 pub mod Ascents
 pub mod Widened
+pub mod Memory

@@ -1,10 +1,11 @@
 -- A value judged by the results on the way to it.
-use Rattle.std.specs.Prelude.{List, [], ◌∷◌, Option, Some, None, Result, Err, if◌then◌else◌}
+use Rattle.std.specs.Prelude.{◌≡◌, ◌⊎◌, Bool, true, List, [], ◌∷◌, Option, Some, None, Result, Ok, Err, if◌then◌else◌}
 use Rattle.std.specs.Option.{ok_or}
+use Rattle.std.specs.Result.{IfErr, IsOk}
 use Rattle.std.specs.List.{list_all}
 use Rattle.ioa_operators.specs.Data.{Data, is_within}
 use Rattle.ioa_operators.specs.declared.fault.TermFault.{TermFault}
-use Rattle.ioa_operators.specs.declared.fault.TermFault.TheVariants.{Undefined, Range}
+use Rattle.ioa_operators.specs.declared.fault.TermFault.TheVariants.{Undefined, Range, Memory}
 
 -- the value, where there is one, as a list
 abbrev pub result_of : Option Data → List Data
@@ -18,3 +19,12 @@ judged ds v = if list_all is_within ds then ok_or v Undefined else Err Range
 -- a result, judged alone
 abbrev pub kept : Option Data → Result Data TermFault
 kept v = judged (result_of v) v
+
+-- the call computes `meant`; where it takes memory, and a value is meant, it may answer 3 in the value's place
+abbrev pub AnswersOrLacks : Bool → Result Data TermFault → Result Data TermFault → Type 0
+AnswersOrLacks takes (Ok v) meant = meant ≡ Ok v
+AnswersOrLacks takes (Err e) meant = (meant ≡ Err e) ⊎ ((e ≡ Memory) × (takes ≡ true) × IsOk meant)
+
+-- 3 is answered only by a call that takes memory, and only in the place of a value
+abbrev pub LacksMemoryOnlyIf : Bool → Result Data TermFault → Result Data TermFault → Type 0
+LacksMemoryOnlyIf takes answer meant = IfErr answer (λ e. e ≡ Memory → (takes ≡ true) × IsOk meant)

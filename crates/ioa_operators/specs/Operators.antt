@@ -116,6 +116,14 @@ binary_value two.Minus x y = on_numbers (λ m n. number (m -ℤ n)) x y
 binary_value two.Times x y = on_numbers (λ m n. number (m *ℤ n)) x y
 binary_value two.At x y = option_and_then (value_at y) (as_map x)
 
+-- whether an operator between two values asks for memory beyond that of the values
+abbrev pub operator_takes_memory : BinaryOperator → Bool
+operator_takes_memory two.Prepend = true
+operator_takes_memory two.Append = true
+operator_takes_memory two.Concatenate = true
+operator_takes_memory two.At = true
+operator_takes_memory _ = false
+
 -- the quotient rounded down and the rest, of a divisor that is at least 1
 abbrev pub divided : (ℤ → ℤ → ℤ) → ℤ → ℤ → Option Data
 divided f m n = if int_le (pos 1) n then Some (number (f m n)) else None
@@ -182,6 +190,13 @@ call_value f (x ∷ []) = call_one f x
 call_value f (x ∷ y ∷ []) = call_two f x y
 call_value f (x ∷ y ∷ z ∷ []) = call_three f x y z
 call_value f (x ∷ y ∷ z ∷ u ∷ more) = None
+
+-- whether a function asks for memory beyond that of its parts
+abbrev pub call_takes_memory : Function → Bool
+call_takes_memory fun.Insert = true
+call_takes_memory fun.Union = true
+call_takes_memory fun.Update = true
+call_takes_memory _ = false
 
 -- the function of a name
 abbrev pub function_named : List ℕ → Option Function

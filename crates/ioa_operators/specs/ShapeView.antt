@@ -3,6 +3,7 @@ use Rattle.ioa_operators.specs.Shapes.{PlainShape, truths, integers, naturals, c
 use Rattle.ioa_operators.specs.declared.shape.Shape.{Shape, fold-Shape}
 use Rattle.ioa_operators.specs.declared.shape.Shape.TheOpen.{Shape-F}
 
+-- a shape whose parts are plain ones
 abbrev pub shape_step : Shape-F PlainShape → PlainShape
 shape_step Shape-F.Truths = truths
 shape_step Shape-F.Integers = integers

@@ -94,10 +94,16 @@ abbrev pub with_field : PlainShape → List ℕ → Data → Data → Option Dat
 with_field (tuples type names ss) w v (tuple ds) = option_and_then (λ i. option_map (λ old. tuple (items_of (slice_set (list_of ds) i v))) (slice_get (list_of ds) i)) (field_place w names)
 with_field _ _ _ _ = None
 
--- a display `{..}` or `[..]` that has a shape, of the values of its parts
+-- a display `{..}` or `[..]` that has a shape, of the values of its parts: those of a tuple have the shapes of its
+-- fields, those of a sequence or a set are not asked, and that of a map has none
 abbrev pub display_value : DisplayForm → PlainShape → List Data → Option Data
 display_value Braces (sequences s) ds = Some (sequence_of ds)
 display_value Braces (sets s) ds = Some (finite_set_of (set_of ds))
 display_value Braces (maps k v) [] = Some (finite_map_of [])
 display_value Brackets (tuples type names ss) ds = if have_shapes ss (items_of ds) then Some (tuple (items_of ds)) else None
 display_value _ _ _ = None
+
+-- whether a display asks for memory beyond that of its parts: that of a set, to put its members in order
+abbrev pub display_takes_memory : DisplayForm → PlainShape → Bool
+display_takes_memory Braces (sets s) = true
+display_takes_memory _ _ = false

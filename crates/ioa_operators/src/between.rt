@@ -1,10 +1,10 @@
 //! The operators of the language between values.
 
-ghost use Rattle.std.specs.Prelude.{IfOk};
+ghost use Rattle.std.specs.Prelude.{IfOk, false};
 ghost use Rattle.ioa_operators.specs.Canonical.{IsCanonical};
 ghost use Rattle.ioa_operators.specs.Outcome.{Answers};
-ghost use Rattle.ioa_operators.specs.Judged.{kept};
-ghost use Rattle.ioa_operators.specs.Operators.{unary_value, binary_value};
+ghost use Rattle.ioa_operators.specs.Judged.{AnswersOrLacks, LacksMemoryOnlyIf, kept};
+ghost use Rattle.ioa_operators.specs.Operators.{unary_value, binary_value, operator_takes_memory};
 
 use crate::fault::TermFault;
 use crate::lists::{appended, concatenated, membership, prepended};
@@ -15,16 +15,18 @@ use crate::truths::{conjunction, disjunction, equivalence, implication, negation
 use ioa_values::Value;
 use std::alloc::Global;
 
-/// The value of an operator before a value (profile).
+/// The value of an operator before a value (profile). Answers 1 Undefined where the value is of a wrong
+/// sort, and 2 Range where its negative lies outside 64 bits. Takes no memory.
 pub fn unary(operator: UnaryOperator, value: &Value) -> Result<Value, TermFault>
     ensures value { Answers TermFault.Memory (λ v. v) result (kept (unary_value operator value.now)) }
+    ensures memory { LacksMemoryOnlyIf false result (kept (unary_value operator value.now)) }
     ensures canonical { IfOk result IsCanonical }
 {
     before_value(operator, value)
 }
 
 fn before_value(operator: UnaryOperator, value: &Value) -> Result<Value, TermFault>
-    ensures { Answers TermFault.Memory (λ v. v) result (kept (unary_value operator value.now)) }
+    ensures { AnswersOrLacks false result (kept (unary_value operator value.now)) }
 {
     match operator {
         UnaryOperator::Not => negation(value),
@@ -32,7 +34,9 @@ fn before_value(operator: UnaryOperator, value: &Value) -> Result<Value, TermFau
     }
 }
 
-/// The value of an operator between two values (profile). Takes the values over, and their memory where
+/// The value of an operator between two values (profile). Answers 1 Undefined where a value is of a wrong
+/// sort or a map lacks the key, 2 Range where the result lies outside 64 bits, and 3 Memory where none is
+/// left for `-|`, `|-`, `||` or the copy that `m[k]` makes. Takes the values over, and their memory where
 /// the result is made of it: costs time in proportion to the values, and `|-` that of one more item.
 pub fn binary(
     alloc: Global,
@@ -41,6 +45,7 @@ pub fn binary(
     right: Value,
 ) -> Result<Value, TermFault>
     ensures value { Answers TermFault.Memory (λ v. v) result (kept (binary_value operator left right)) }
+    ensures memory { LacksMemoryOnlyIf (operator_takes_memory operator) result (kept (binary_value operator left right)) }
     ensures canonical { IsCanonical left → IsCanonical right → IfOk result IsCanonical }
 {
     between_values(alloc, operator, left, right)
@@ -52,7 +57,7 @@ fn between_values(
     left: Value,
     right: Value,
 ) -> Result<Value, TermFault>
-    ensures { Answers TermFault.Memory (λ v. v) result (kept (binary_value operator left right)) }
+    ensures { AnswersOrLacks (operator_takes_memory operator) result (kept (binary_value operator left right)) }
 {
     match operator {
         BinaryOperator::Equivalent => equivalence(&left, &right),

@@ -3,8 +3,8 @@
 ghost use Rattle.std.specs.Prelude.{IfOk};
 ghost use Rattle.ioa_operators.specs.Canonical.{AllCanonical, IsCanonical};
 ghost use Rattle.ioa_operators.specs.Outcome.{Answers};
-ghost use Rattle.ioa_operators.specs.Judged.{kept};
-ghost use Rattle.ioa_operators.specs.Shapes.{display_value};
+ghost use Rattle.ioa_operators.specs.Judged.{AnswersOrLacks, LacksMemoryOnlyIf, kept};
+ghost use Rattle.ioa_operators.specs.Shapes.{display_value, display_takes_memory};
 ghost use Rattle.ioa_operators.specs.ShapeView.{shape_of};
 
 use crate::fault::TermFault;
@@ -14,8 +14,11 @@ use crate::shape::{DisplayForm, Shape, all_admit};
 use ioa_values::Value;
 use std::alloc::Global;
 
-/// The value of a display of these parts where it has a shape (profile). Takes over the parts and their
-/// memory. Costs time in proportion to the parts, and at a set what `collections::set_of` costs.
+/// The value of a display of these parts where it has a shape (profile). Answers 1 Undefined where no such
+/// display has the shape, where that of a map has parts, and where those of a tuple are not as many as its
+/// fields or lack their shapes; 3 Memory where none is left to put a set in order. The items of a sequence
+/// or a set are not asked for their shape. Takes over the parts and their memory. Costs time in proportion
+/// to the parts, and at a set what `collections::set_of` costs.
 pub fn display(
     alloc: Global,
     form: DisplayForm,
@@ -23,6 +26,7 @@ pub fn display(
     parts: Vec<Value>,
 ) -> Result<Value, TermFault>
     ensures value { Answers TermFault.Memory (λ v. v) result (kept (display_value form (shape_of shape.now) parts.items)) }
+    ensures memory { LacksMemoryOnlyIf (display_takes_memory form (shape_of shape.now)) result (kept (display_value form (shape_of shape.now) parts.items)) }
     ensures canonical { AllCanonical parts.items → IfOk result IsCanonical }
 {
     displayed(alloc, form, shape, parts)
@@ -34,7 +38,7 @@ fn displayed(
     shape: &Shape,
     parts: Vec<Value>,
 ) -> Result<Value, TermFault>
-    ensures { Answers TermFault.Memory (λ v. v) result (kept (display_value form (shape_of shape.now) parts.items)) }
+    ensures { AnswersOrLacks (display_takes_memory form (shape_of shape.now)) result (kept (display_value form (shape_of shape.now) parts.items)) }
 {
     match form {
         DisplayForm::Braces => braces(alloc, shape, parts),
@@ -44,7 +48,7 @@ fn displayed(
 
 /// The value of `{..}`.
 fn braces(alloc: Global, shape: &Shape, parts: Vec<Value>) -> Result<Value, TermFault>
-    ensures { Answers TermFault.Memory (λ v. v) result (kept (display_value DisplayForm.Braces (shape_of shape.now) parts.items)) }
+    ensures { AnswersOrLacks (display_takes_memory DisplayForm.Braces (shape_of shape.now)) result (kept (display_value DisplayForm.Braces (shape_of shape.now) parts.items)) }
 {
     match shape {
         Shape::Sequences(_) => Ok(Value::sequence(parts)),
@@ -59,7 +63,7 @@ fn braces(alloc: Global, shape: &Shape, parts: Vec<Value>) -> Result<Value, Term
 
 /// The value of `[..]`: a tuple whose parts have the shapes of its fields.
 fn brackets(shape: &Shape, parts: Vec<Value>) -> Result<Value, TermFault>
-    ensures { Answers TermFault.Memory (λ v. v) result (kept (display_value DisplayForm.Brackets (shape_of shape.now) parts.items)) }
+    ensures { AnswersOrLacks (display_takes_memory DisplayForm.Brackets (shape_of shape.now)) result (kept (display_value DisplayForm.Brackets (shape_of shape.now) parts.items)) }
 {
     match shape {
         Shape::Tuples(_, _, shapes) => {

@@ -1,20 +1,33 @@
 //! What evaluation answers where there is no value.
 
 use std::alloc::{AllocError, AllocFailed};
+use std::fmt;
 use thiserror::Error;
 
 /// Why a term, a list of statements or an operator has no value here.
 #[derive(Debug, Drop, Error)]
 pub enum TermFault {
     /// 1: a part that is taken has no value.
-    #[error("1 Undefined")]
     Undefined,
     /// 2: a number met lies outside 64 bits, an intermediate one too.
-    #[error("2 Range")]
     Range,
     /// 3: no memory was left.
-    #[error("3 Memory")]
     Memory,
+}
+
+impl fmt::Display for TermFault {
+    ghost use Rattle.std.specs.Prelude.{Some};
+    ghost use Rattle.ioa_operators.specs.FaultText.{fault_text};
+
+    ghost output = { λ f. Some (fault_text f) };
+
+    fn fmt<W: fmt::Write>(&self, f: &mut fmt::Formatter<W>) -> fmt::Result {
+        match self {
+            TermFault::Undefined => f.write_str("1 Undefined"),
+            TermFault::Range => f.write_str("2 Range"),
+            TermFault::Memory => f.write_str("3 Memory"),
+        }
+    }
 }
 
 impl From<AllocError> for TermFault {

@@ -1,9 +1,9 @@
 //! The fields of tuples.
 
-ghost use Rattle.std.specs.Prelude.{◌≡◌, IfOk, slice_set, ◌<◌, length};
+ghost use Rattle.std.specs.Prelude.{◌≡◌, IfOk, slice_set, ◌<◌, length, false};
 ghost use Rattle.ioa_operators.specs.Canonical.{IsCanonical};
 ghost use Rattle.ioa_operators.specs.Outcome.{Answers};
-ghost use Rattle.ioa_operators.specs.Judged.{kept};
+ghost use Rattle.ioa_operators.specs.Judged.{AnswersOrLacks, LacksMemoryOnlyIf, kept};
 ghost use Rattle.ioa_operators.specs.Shapes.{field_place, field_value, with_field};
 ghost use Rattle.ioa_operators.specs.ShapeView.{shape_of};
 ghost use Rattle.ioa_operators.specs.Parts.{part_named, with_part};
@@ -14,10 +14,13 @@ use crate::shape::Shape;
 use ioa_values::{Value, Word};
 use std::mem;
 
-/// The field of a name, of a value of a tuple type (profile). Takes the value over; its other fields are
-/// dropped. Costs time in proportion to the names of the fields and the value.
+/// The field of a name, of a value of a tuple type (profile). Answers 1 Undefined where the shape is no
+/// tuple type's or has no such field, and where the value is no tuple or ends before that field. Takes the
+/// value over; its other fields are dropped. Takes no memory. Costs time in proportion to the names of the
+/// fields and the value.
 pub fn field(shape: &Shape, name: &Word, value: Value) -> Result<Value, TermFault>
     ensures value { Answers TermFault.Memory (λ v. v) result (kept (field_value (shape_of shape.now) name.now value)) }
+    ensures memory { LacksMemoryOnlyIf false result (kept (field_value (shape_of shape.now) name.now value)) }
     ensures canonical { IsCanonical value → IfOk result IsCanonical }
 {
     field_of(shape, name, value)
@@ -25,7 +28,7 @@ pub fn field(shape: &Shape, name: &Word, value: Value) -> Result<Value, TermFaul
 
 #[tactic(auto, using(crate::proofs::NamedParts::field_value_tuples))]
 fn field_of(shape: &Shape, name: &Word, value: Value) -> Result<Value, TermFault>
-    ensures { Answers TermFault.Memory (λ v. v) result (kept (field_value (shape_of shape.now) name.now value)) }
+    ensures { AnswersOrLacks false result (kept (field_value (shape_of shape.now) name.now value)) }
 {
     match shape {
         Shape::Tuples(_, names, _) => field_among(names, name, value),
@@ -33,8 +36,10 @@ fn field_of(shape: &Shape, name: &Word, value: Value) -> Result<Value, TermFault
     }
 }
 
-/// The tuple in which the field of a name has another value (profile). Takes the values over, and the
-/// tuple's memory. Costs time in proportion to the names of the fields and to what is replaced.
+/// The tuple in which the field of a name has another value (profile). Answers 1 Undefined where the shape
+/// is no tuple type's or has no such field, and where the value is no tuple or ends before that field. The
+/// new value is not asked for its shape. Takes the values over, and the tuple's memory. Costs time in
+/// proportion to the names of the fields and to what is replaced.
 pub fn replace_field(
     shape: &Shape,
     name: &Word,
@@ -42,6 +47,7 @@ pub fn replace_field(
     value: Value,
 ) -> Result<Value, TermFault>
     ensures value { Answers TermFault.Memory (λ v. v) result (kept (with_field (shape_of shape.now) name.now new value)) }
+    ensures memory { LacksMemoryOnlyIf false result (kept (with_field (shape_of shape.now) name.now new value)) }
     ensures canonical { IsCanonical new → IsCanonical value → IfOk result IsCanonical }
 {
     field_replaced(shape, name, new, value)
@@ -49,7 +55,7 @@ pub fn replace_field(
 
 #[tactic(auto, using(crate::proofs::NamedParts::with_field_tuples))]
 fn field_replaced(shape: &Shape, name: &Word, new: Value, value: Value) -> Result<Value, TermFault>
-    ensures { Answers TermFault.Memory (λ v. v) result (kept (with_field (shape_of shape.now) name.now new value)) }
+    ensures { AnswersOrLacks false result (kept (with_field (shape_of shape.now) name.now new value)) }
 {
     match shape {
         Shape::Tuples(_, names, _) => replace_among(names, name, new, value),
@@ -58,7 +64,7 @@ fn field_replaced(shape: &Shape, name: &Word, new: Value, value: Value) -> Resul
 }
 
 fn field_among(names: &Vec<Word>, name: &Word, value: Value) -> Result<Value, TermFault>
-    ensures { Answers TermFault.Memory (λ v. v) result (kept (part_named names.now.items name.now value)) }
+    ensures { AnswersOrLacks false result (kept (part_named names.now.items name.now value)) }
 {
     let mut parts = parts_of_tuple(value)?;
     match place_of(names, name) {
@@ -73,7 +79,7 @@ fn replace_among(
     new: Value,
     value: Value,
 ) -> Result<Value, TermFault>
-    ensures { Answers TermFault.Memory (λ v. v) result (kept (with_part names.now.items name.now new value)) }
+    ensures { AnswersOrLacks false result (kept (with_part names.now.items name.now new value)) }
 {
     let mut parts = parts_of_tuple(value)?;
     match place_of(names, name) {

@@ -3,9 +3,9 @@
 ghost use Rattle.std.specs.Prelude.{◌≡◌, IfOk, None, MatchOption};
 ghost use Rattle.ioa_operators.specs.Canonical.{AllCanonical, IsCanonical};
 ghost use Rattle.ioa_operators.specs.Outcome.{Answers};
-ghost use Rattle.ioa_operators.specs.Judged.{kept};
+ghost use Rattle.ioa_operators.specs.Judged.{AnswersOrLacks, LacksMemoryOnlyIf, kept};
 ghost use Rattle.ioa_operators.specs.Parts.{listed};
-ghost use Rattle.ioa_operators.specs.Operators.{call_one, call_two, call_three, call_value, function_named};
+ghost use Rattle.ioa_operators.specs.Operators.{call_one, call_two, call_three, call_value, call_takes_memory, function_named};
 
 use crate::fault::TermFault;
 use crate::lists::{head, length, size, tail};
@@ -17,7 +17,7 @@ use ioa_values::{Value, Word};
 use std::alloc::Global;
 
 impl Function {
-    /// The function of a name (profile).
+    /// The function that a call names (profile), and none where no function has the name.
     pub fn named(name: &Word) -> Option<Function>
         ensures { result ≡ function_named name.now }
     {
@@ -47,17 +47,21 @@ enum Parts {
     Three(Value, Value, Value),
 }
 
-/// The value of a function at the values of its parts (profile). Takes the values over, and their memory
-/// where the result is made of it: costs time in proportion to the values.
+/// The value of a function at the values of its parts (profile). Answers 1 Undefined where there are more
+/// or fewer parts than the function has, one is of a wrong sort, a sequence is empty whose `head` or `tail`
+/// is taken, or a divisor is below 1; 2 Range where the result lies outside 64 bits; and 3 Memory where none
+/// is left for `insert`, `union` or `update`. Takes the values over, and their memory where the result is
+/// made of it: costs time in proportion to the values.
 pub fn call(alloc: Global, function: Function, parts: Vec<Value>) -> Result<Value, TermFault>
     ensures value { Answers TermFault.Memory (λ v. v) result (kept (call_value function parts.items)) }
+    ensures memory { LacksMemoryOnlyIf (call_takes_memory function) result (kept (call_value function parts.items)) }
     ensures canonical { AllCanonical parts.items → IfOk result IsCanonical }
 {
     called(alloc, function, parts)
 }
 
 fn called(alloc: Global, function: Function, parts: Vec<Value>) -> Result<Value, TermFault>
-    ensures { Answers TermFault.Memory (λ v. v) result (kept (call_value function parts.items)) }
+    ensures { AnswersOrLacks (call_takes_memory function) result (kept (call_value function parts.items)) }
 {
     match few(parts) {
         Some(Parts::One(value)) => call_of_one(function, value),
@@ -89,7 +93,7 @@ fn few(parts: Vec<Value>) -> Option<Parts>
 
 /// The value of a function of one value.
 fn call_of_one(function: Function, value: Value) -> Result<Value, TermFault>
-    ensures { Answers TermFault.Memory (λ v. v) result (kept (call_one function value)) }
+    ensures { AnswersOrLacks (call_takes_memory function) result (kept (call_one function value)) }
 {
     match function {
         Function::Head => head(value),
@@ -107,7 +111,7 @@ fn call_of_two(
     left: Value,
     right: Value,
 ) -> Result<Value, TermFault>
-    ensures { Answers TermFault.Memory (λ v. v) result (kept (call_two function left right)) }
+    ensures { AnswersOrLacks (call_takes_memory function) result (kept (call_two function left right)) }
 {
     match function {
         Function::Quotient => quotient(&left, &right),
@@ -128,7 +132,7 @@ fn call_of_three(
     second: Value,
     third: Value,
 ) -> Result<Value, TermFault>
-    ensures { Answers TermFault.Memory (λ v. v) result (kept (call_three function first second third)) }
+    ensures { AnswersOrLacks (call_takes_memory function) result (kept (call_three function first second third)) }
 {
     match function {
         Function::Update => updated(first, second, third),

@@ -1,9 +1,8 @@
 //! Operators and functions of finite maps.
 
-ghost use Rattle.std.specs.Prelude.{◌≡◌};
+ghost use Rattle.std.specs.Prelude.{◌≡◌, true, false};
 ghost use Rattle.ioa_operators.specs.Data.{finite_map, entries_of};
-ghost use Rattle.ioa_operators.specs.Outcome.{Answers};
-ghost use Rattle.ioa_operators.specs.Judged.{kept};
+ghost use Rattle.ioa_operators.specs.Judged.{AnswersOrLacks, kept};
 ghost use Rattle.ioa_operators.specs.Operators.{binary_value, call_two, call_three};
 
 use crate::fault::TermFault;
@@ -24,7 +23,7 @@ pub(crate) fn map(entries: Vec<(Value, Value)>) -> Value
 /// A copy of the value of a map at a key. Costs time in proportion to the map's entries and to that value.
 #[tactic(auto, using(crate::proofs::ItemLists::pairs_of_entries))]
 pub(crate) fn at_key(alloc: Global, whole: &Value, key: &Value) -> Result<Value, TermFault>
-    ensures { Answers TermFault.Memory (λ v. v) result (kept (binary_value BinaryOperator.At whole.now key.now)) }
+    ensures { AnswersOrLacks true result (kept (binary_value BinaryOperator.At whole.now key.now)) }
 {
     match &whole.node {
         Node::Map(entries) => match collections::get(entries, key) {
@@ -37,7 +36,7 @@ pub(crate) fn at_key(alloc: Global, whole: &Value, key: &Value) -> Result<Value,
 
 /// A map in which a key has a value. Costs time in proportion to the map, whose memory is taken over.
 pub(crate) fn updated(whole: Value, key: Value, value: Value) -> Result<Value, TermFault>
-    ensures { Answers TermFault.Memory (λ v. v) result (kept (call_three Function.Update whole key value)) }
+    ensures { AnswersOrLacks true result (kept (call_three Function.Update whole key value)) }
 {
     let entries = entries_of_map(whole)?;
     let entries = collections::update(entries, key, value)?;
@@ -46,7 +45,7 @@ pub(crate) fn updated(whole: Value, key: Value, value: Value) -> Result<Value, T
 
 /// A map without a key. Costs time in proportion to the map, and takes no memory.
 pub(crate) fn removed(whole: Value, key: &Value) -> Result<Value, TermFault>
-    ensures { Answers TermFault.Memory (λ v. v) result (kept (call_two Function.Remove whole key.now)) }
+    ensures { AnswersOrLacks false result (kept (call_two Function.Remove whole key.now)) }
 {
     let entries = entries_of_map(whole)?;
     Ok(map(collections::remove_key(entries, key)))
@@ -55,7 +54,7 @@ pub(crate) fn removed(whole: Value, key: &Value) -> Result<Value, TermFault>
 /// Whether a map has a key. Costs time in proportion to the map's entries.
 #[tactic(auto, using(crate::proofs::ItemLists::pairs_of_entries))]
 pub(crate) fn defined(whole: &Value, key: &Value) -> Result<Value, TermFault>
-    ensures { Answers TermFault.Memory (λ v. v) result (kept (call_two Function.Defined whole.now key.now)) }
+    ensures { AnswersOrLacks false result (kept (call_two Function.Defined whole.now key.now)) }
 {
     match &whole.node {
         Node::Map(entries) => Ok(Value::truth(collections::get(entries, key).is_some())),

@@ -1,10 +1,9 @@
 //! The parts that operators take, as what they have to be.
 
-ghost use Rattle.std.specs.Prelude.{Some, pos};
+ghost use Rattle.std.specs.Prelude.{Some, pos, false};
 ghost use Rattle.ioa_operators.specs.Data.{number, as_number, as_truth};
 ghost use Rattle.ioa_operators.specs.Operators.{as_tuple, as_sequence, as_set, as_map};
-ghost use Rattle.ioa_operators.specs.Outcome.{Answers};
-ghost use Rattle.ioa_operators.specs.Judged.{kept};
+ghost use Rattle.ioa_operators.specs.Judged.{AnswersOrLacks, kept};
 ghost use Rattle.ioa_operators.specs.Parts.{Takes};
 
 use crate::fault::TermFault;
@@ -70,7 +69,7 @@ pub(crate) fn parts_of_tuple(value: Value) -> Result<Vec<Value>, TermFault>
 
 /// A part itself as the value of the whole: a number in it is kept in 64 bits, so that it is in range.
 pub(crate) fn part(value: Value) -> Result<Value, TermFault>
-    ensures { Answers TermFault.Memory (λ v. v) result (kept (Some value)) }
+    ensures { AnswersOrLacks false result (kept (Some value)) }
 {
     match value.node {
         Node::Number(n) => Ok(Value::number(n)),
@@ -80,7 +79,7 @@ pub(crate) fn part(value: Value) -> Result<Value, TermFault>
 
 /// How many there are, as a value.
 pub(crate) fn counted(many: usize) -> Result<Value, TermFault>
-    ensures { Answers TermFault.Memory (λ v. v) result (kept (Some (number (pos many)))) }
+    ensures { AnswersOrLacks false result (kept (Some (number (pos many)))) }
 {
     match i64::try_from(many) {
         Ok(n) => Ok(Value::number(n)),

@@ -1,10 +1,9 @@
 //! Functions of finite sets.
 
-ghost use Rattle.std.specs.Prelude.{◌≡◌, ◌↔◌, IfOk, IsTrue, Some};
+ghost use Rattle.std.specs.Prelude.{◌≡◌, ◌↔◌, IfOk, IsTrue, Some, true, false};
 ghost use Rattle.ioa_operators.specs.Collections.{IsAscending, set_of, union};
-ghost use Rattle.ioa_operators.specs.Outcome.{Answers};
 ghost use Rattle.ioa_operators.specs.Data.{finite_set, items_of};
-ghost use Rattle.ioa_operators.specs.Judged.{kept};
+ghost use Rattle.ioa_operators.specs.Judged.{AnswersOrLacks, kept};
 ghost use Rattle.ioa_operators.specs.Operators.{call_two, finite_set_of};
 
 use crate::fault::TermFault;
@@ -25,7 +24,7 @@ fn set(members: Vec<Value>) -> Value
 
 /// A set with one more member. Costs time in proportion to the set, whose memory is taken over.
 pub(crate) fn inserted(member: Value, whole: Value) -> Result<Value, TermFault>
-    ensures { Answers TermFault.Memory (λ v. v) result (kept (call_two Function.Insert member whole)) }
+    ensures { AnswersOrLacks true result (kept (call_two Function.Insert member whole)) }
 {
     let members = members_of_set(whole)?;
     let members = collections::insert(members, member)?;
@@ -34,7 +33,7 @@ pub(crate) fn inserted(member: Value, whole: Value) -> Result<Value, TermFault>
 
 /// A set without a member. Costs time in proportion to the set, and takes no memory.
 pub(crate) fn deleted(member: &Value, whole: Value) -> Result<Value, TermFault>
-    ensures { Answers TermFault.Memory (λ v. v) result (kept (call_two Function.Delete member.now whole)) }
+    ensures { AnswersOrLacks false result (kept (call_two Function.Delete member.now whole)) }
 {
     let members = members_of_set(whole)?;
     Ok(set(collections::remove(members, member)))
@@ -42,7 +41,7 @@ pub(crate) fn deleted(member: &Value, whole: Value) -> Result<Value, TermFault>
 
 /// The members of either of two sets. Costs time in proportion to both, as their members ascend.
 pub(crate) fn united(alloc: Global, left: Value, right: Value) -> Result<Value, TermFault>
-    ensures { Answers TermFault.Memory (λ v. v) result (kept (call_two Function.Union left right)) }
+    ensures { AnswersOrLacks true result (kept (call_two Function.Union left right)) }
 {
     let left = members_of_set(left)?;
     let right = members_of_set(right)?;
@@ -52,7 +51,7 @@ pub(crate) fn united(alloc: Global, left: Value, right: Value) -> Result<Value, 
 
 /// The set of values, doubles dropped. Costs what `collections::set_of` costs.
 pub(crate) fn set_of_values(alloc: Global, values: Vec<Value>) -> Result<Value, TermFault>
-    ensures { Answers TermFault.Memory (λ v. v) result (kept (Some (finite_set_of (set_of values.items)))) }
+    ensures { AnswersOrLacks true result (kept (Some (finite_set_of (set_of values.items)))) }
 {
     let members = collections::set_of(alloc, values)?;
     Ok(set(members))

@@ -244,6 +244,47 @@ fn sets_and_maps(rt: HostRuntime) -> Result<(), Fail> {
     Ok(())
 }
 
+/// Whether a copy of a shape admits the one value and not the other.
+fn copy_tells(
+    alloc: Global,
+    shape: &Shape,
+    one: &Value,
+    other: &Value,
+) -> Result<bool, AllocError> {
+    let copy = shape.try_copy(alloc)?;
+    Ok(copy.admits(one) && !copy.admits(other))
+}
+
+#[test]
+fn copied_shapes(rt: HostRuntime) -> Result<(), Fail> {
+    let alloc = rt.alloc();
+    let number = Value::number(-7);
+    let truth = Value::truth(true);
+    let natural = Value::number(7);
+    assert!(rt; copy_tells(alloc, &Shape::Truths, &truth, &number)?);
+    assert!(rt; copy_tells(alloc, &Shape::Integers, &number, &truth)?);
+    assert!(rt; copy_tells(alloc, &Shape::Naturals, &natural, &number)?);
+    let name = Word::from_ascii(alloc, b"Color")?;
+    let colors = Shape::Constants(name, 2, 3);
+    let last = Value::constant(4);
+    let next = Value::constant(5);
+    assert!(rt; copy_tells(alloc, &colors, &last, &next)?);
+    let naturals = Arc::new(alloc, Shape::Naturals)?;
+    let some = sequence(alloc, &[1, 2])?;
+    let bad = sequence(alloc, &[1, -2])?;
+    assert!(rt; copy_tells(alloc, &Shape::Sequences(naturals), &some, &bad)?);
+    let naturals = Arc::new(alloc, Shape::Naturals)?;
+    let some = set(alloc, &[1, 2])?;
+    let bad = set(alloc, &[1, -2])?;
+    assert!(rt; copy_tells(alloc, &Shape::Sets(naturals), &some, &bad)?);
+    let keys = Arc::new(alloc, Shape::Naturals)?;
+    let values = Arc::new(alloc, Shape::Integers)?;
+    let some = update(alloc, map(alloc)?, 4, -40)?;
+    let bad = update(alloc, map(alloc)?, -4, 40)?;
+    assert!(rt; copy_tells(alloc, &Shape::Maps(keys, values), &some, &bad)?);
+    Ok(())
+}
+
 #[test]
 fn tuples(rt: HostRuntime) -> Result<(), Fail> {
     let alloc = rt.alloc();

@@ -1,10 +1,9 @@
 //! Operators between truth values.
 
-ghost use Rattle.std.specs.Prelude.{◌≡◌};
+ghost use Rattle.std.specs.Prelude.{◌≡◌, false};
 ghost use Rattle.std.specs.Option.{option_map};
 ghost use Rattle.ioa_operators.specs.Data.{truth};
-ghost use Rattle.ioa_operators.specs.Outcome.{Answers};
-ghost use Rattle.ioa_operators.specs.Judged.{kept};
+ghost use Rattle.ioa_operators.specs.Judged.{AnswersOrLacks, kept};
 ghost use Rattle.ioa_operators.specs.Operators.{unary_value, binary_value, decided};
 
 use crate::fault::TermFault;
@@ -14,7 +13,7 @@ use ioa_values::{Node, Value};
 
 /// The other truth value.
 pub(crate) fn negation(value: &Value) -> Result<Value, TermFault>
-    ensures { Answers TermFault.Memory (λ v. v) result (kept (unary_value UnaryOperator.Not value.now)) }
+    ensures { AnswersOrLacks false result (kept (unary_value UnaryOperator.Not value.now)) }
 {
     let b = truth_of(value)?;
     Ok(Value::truth(!b))
@@ -22,7 +21,7 @@ pub(crate) fn negation(value: &Value) -> Result<Value, TermFault>
 
 /// Whether two truth values are the same.
 pub(crate) fn equivalence(left: &Value, right: &Value) -> Result<Value, TermFault>
-    ensures { Answers TermFault.Memory (λ v. v) result (kept (binary_value BinaryOperator.Equivalent left.now right.now)) }
+    ensures { AnswersOrLacks false result (kept (binary_value BinaryOperator.Equivalent left.now right.now)) }
 {
     let a = truth_of(left)?;
     let b = truth_of(right)?;
@@ -31,7 +30,7 @@ pub(crate) fn equivalence(left: &Value, right: &Value) -> Result<Value, TermFaul
 
 /// Whether the left side is false or the right side is true.
 pub(crate) fn implication(left: &Value, right: &Value) -> Result<Value, TermFault>
-    ensures { Answers TermFault.Memory (λ v. v) result (kept (binary_value BinaryOperator.Implies left.now right.now)) }
+    ensures { AnswersOrLacks false result (kept (binary_value BinaryOperator.Implies left.now right.now)) }
 {
     let a = truth_of(left)?;
     let b = truth_of(right)?;
@@ -40,7 +39,7 @@ pub(crate) fn implication(left: &Value, right: &Value) -> Result<Value, TermFaul
 
 /// Whether either side is true.
 pub(crate) fn disjunction(left: &Value, right: &Value) -> Result<Value, TermFault>
-    ensures { Answers TermFault.Memory (λ v. v) result (kept (binary_value BinaryOperator.Or left.now right.now)) }
+    ensures { AnswersOrLacks false result (kept (binary_value BinaryOperator.Or left.now right.now)) }
 {
     let a = truth_of(left)?;
     let b = truth_of(right)?;
@@ -49,7 +48,7 @@ pub(crate) fn disjunction(left: &Value, right: &Value) -> Result<Value, TermFaul
 
 /// Whether both sides are true.
 pub(crate) fn conjunction(left: &Value, right: &Value) -> Result<Value, TermFault>
-    ensures { Answers TermFault.Memory (λ v. v) result (kept (binary_value BinaryOperator.And left.now right.now)) }
+    ensures { AnswersOrLacks false result (kept (binary_value BinaryOperator.And left.now right.now)) }
 {
     let a = truth_of(left)?;
     let b = truth_of(right)?;

@@ -1,7 +1,17 @@
 use Rattle.ioa_operators.proofs.Canonicals.{answered, display_canonical}
+use Rattle.ioa_operators.proofs.Memory.{answers, lacks_only_if}
+use Rattle.ioa_operators.specs.Shapes.{display_takes_memory, display_value}
 use Rattle.ioa_operators.specs.ShapeView.{shape_of}
 use Rattle.ioa_operators.proofs.displays.display.Goals as goal
 
+-- the value is what is meant
+pub returns-clause-value : goal.returns-clause-value
+returns-clause-value c = answers (display_takes_memory c.args.form (shape_of c.args.shape.now)) c.displayed.result _ c.displayed.ensures
+
+-- memory is lacked only where it is taken
+pub returns-clause-memory : goal.returns-clause-memory
+returns-clause-memory c = lacks_only_if (display_takes_memory c.args.form (shape_of c.args.shape.now)) c.displayed.result (display_value c.args.form (shape_of c.args.shape.now) c.args.parts.items) c.displayed.ensures
+
 -- what is meant is canonical
 pub returns-clause-canonical : goal.returns-clause-canonical
-returns-clause-canonical c = λ h. answered c.displayed.result _ c.displayed.ensures (display_canonical c.args.form (shape_of c.args.shape.now) c.args.parts.items h)
+returns-clause-canonical c = λ h. answered (display_takes_memory c.args.form (shape_of c.args.shape.now)) c.displayed.result _ c.displayed.ensures (display_canonical c.args.form (shape_of c.args.shape.now) c.args.parts.items h)

@@ -1,7 +1,18 @@
+use Rattle.std.proofs.Common.{false}
 use Rattle.ioa_operators.proofs.Canonicals.{answered, with_field_canonical}
+use Rattle.ioa_operators.proofs.Memory.{answers, lacks_only_if}
 use Rattle.ioa_operators.specs.ShapeView.{shape_of}
+use Rattle.ioa_operators.specs.Shapes.{with_field}
 use Rattle.ioa_operators.proofs.fields.replace_field.Goals as goal
+
+-- the value is what is meant
+pub returns-clause-value : goal.returns-clause-value
+returns-clause-value c = answers false c.field_replaced.result _ c.field_replaced.ensures
+
+-- no memory is taken
+pub returns-clause-memory : goal.returns-clause-memory
+returns-clause-memory c = lacks_only_if false c.field_replaced.result (with_field (shape_of c.args.shape.now) c.args.name.now c.args.new c.args.value) c.field_replaced.ensures
 
 -- what is meant is canonical
 pub returns-clause-canonical : goal.returns-clause-canonical
-returns-clause-canonical c = λ h k. answered c.field_replaced.result _ c.field_replaced.ensures (with_field_canonical (shape_of c.args.shape.now) c.args.name.now c.args.new c.args.value h k)
+returns-clause-canonical c = λ h k. answered false c.field_replaced.result _ c.field_replaced.ensures (with_field_canonical (shape_of c.args.shape.now) c.args.name.now c.args.new c.args.value h k)
