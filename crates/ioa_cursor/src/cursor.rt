@@ -1,8 +1,9 @@
 //! A place among the tokens of a text, and why they are not read further.
 
-ghost use Rattle.std.specs.Prelude.{ℕ, ◌≡◌, length, map};
+ghost use Rattle.std.specs.Prelude.{ℕ, ◌≡◌, ◌⊎◌, IfErr, length, map};
+ghost use Rattle.ioa_cursor.specs.Outcome as outcome;
 ghost use Rattle.ioa_cursor.specs.Outcome.{IsRefusal, Reads};
-ghost use Rattle.ioa_cursor.specs.declared.cursor.Unread.TheVariants.{TooDeep};
+ghost use Rattle.ioa_cursor.specs.declared.cursor.Unread.TheVariants.{Memory, TooDeep};
 ghost use Rattle.ioa_cursor.specs.Reading as spec;
 
 use ioa_tokens::{Mark, Placed, Token};
@@ -45,6 +46,30 @@ impl<T: Drop> From<AllocFailed<T>> for Unread {
     }
 }
 
+/// Where the token that comes next stands, or where the text ends.
+fn next_place(rest: &[Placed<'_>], end: usize) -> usize
+    ensures { result ≡ outcome.next_place rest.now end }
+{
+    match rest {
+        [first, ..] => first.place,
+        [] => end,
+    }
+}
+
+/// The refusal of what comes next, at its place.
+fn refusal(rest: &[Placed<'_>], end: usize) -> Unread
+    ensures place { result ≡ outcome.refusal rest.now end }
+    ensures kind { IsRefusal (map (λ p. p.token) rest.now) result }
+{
+    match rest {
+        [first, ..] => match &first.token {
+            Token::LeftOut(_) => Unread::LeftOut(first.place),
+            Token::Word(_) | Token::Number(_) | Token::Mark(_) => Unread::Unexpected(first.place),
+        },
+        [] => Unread::Unexpected(end),
+    }
+}
+
 /// The tokens that are still to be read, and the place where the text ends.
 #[derive(Drop)]
 pub struct Tokens<'a> {
@@ -62,7 +87,7 @@ impl<'a> Model for Tokens<'a> {
 }
 
 impl<'a> Tokens<'a> {
-    /// All tokens of a text, and the text's length.
+    /// All tokens of a text, and the text's length in bytes.
     pub fn new(rest: &'a [Placed<'a>], end: usize) -> Self
         ensures { result ≡ map (λ p. p.token) rest.now }
     {
@@ -76,29 +101,21 @@ impl<'a> Tokens<'a> {
         self.rest.len()
     }
 
-    /// The refusal of what comes next, where no text has it there.
+    /// The refusal of what comes next, where no text has it there: 16 of a word that the profile
+    /// leaves out, else 12. Its place is the token's, or the text's length where no token is left.
+    /// Source: profile.
     pub fn refused(&self) -> Unread
         ensures { IsRefusal self.now result }
     {
-        match self.rest {
-            [first, ..] => match &first.token {
-                Token::LeftOut(_) => Unread::LeftOut(first.place),
-                Token::Word(_) | Token::Number(_) | Token::Mark(_) => {
-                    Unread::Unexpected(first.place)
-                }
-            },
-            [] => Unread::Unexpected(self.end),
-        }
+        refusal(self.rest, self.end)
     }
 
-    /// The refusal of a part that goes too deep, at what comes next.
+    /// The refusal of a part that goes too deep, 14. Its place is that of the token that comes next,
+    /// or the text's length where no token is left. Source: profile.
     pub fn too_deep(&self) -> Unread
         ensures { (place : ℕ) × (result ≡ TooDeep place) }
     {
-        match self.rest {
-            [first, ..] => Unread::TooDeep(first.place),
-            [] => Unread::TooDeep(self.end),
-        }
+        Unread::TooDeep(next_place(self.rest, self.end))
     }
 
     /// The mark that comes next, if one does.
@@ -146,10 +163,12 @@ impl<'a> Tokens<'a> {
         }
     }
 
-    /// Takes a mark that has to come next.
-    #[tactic(auto, unfolding(crate::specs::Reading::expected))]
+    /// Takes a mark that has to come next. What else comes there is refused, as `refused` says.
+    #[tactic(auto, unfolding(crate::specs::Reading::expected), using(crate::proofs::Steps::skip_left))]
     pub fn expect(&mut self, mark: Mark) -> Result<(), Unread>
-        ensures { Reads (λ u. u) (spec.expected mark self.old) result self.new }
+        ensures reads { Reads (λ u. u) (spec.expected mark self.old) result self.new }
+        ensures refused { IfErr result (λ e. IsRefusal self.old e) }
+        ensures kept { IfErr result (λ _. self.new ≡ self.old) }
     {
         let refused = self.refused();
         if self.skip(mark) {
@@ -159,10 +178,13 @@ impl<'a> Tokens<'a> {
         }
     }
 
-    /// Takes a word that has to come next.
+    /// Takes a word that has to come next. What else comes there is refused, as `refused` says;
+    /// `Unread::Memory` where there is not memory enough for the word.
     #[tactic(auto, unfolding(crate::specs::Reading::word))]
     pub fn word(&mut self, alloc: Global) -> Result<Word, Unread>
-        ensures { Reads (λ w. w) (spec.word self.old) result self.new }
+        ensures reads { Reads (λ w. w) (spec.word self.old) result self.new }
+        ensures refused { IfErr result (λ e. (e ≡ Memory) ⊎ IsRefusal self.old e) }
+        ensures kept { IfErr result (λ _. self.new ≡ self.old) }
     {
         match self.rest {
             [first, rest @ ..] => match &first.token {
@@ -177,10 +199,12 @@ impl<'a> Tokens<'a> {
         }
     }
 
-    /// Takes a number that has to come next.
+    /// Takes a number that has to come next. What else comes there is refused, as `refused` says.
     #[tactic(auto, unfolding(crate::specs::Reading::numeral))]
     pub fn number(&mut self) -> Result<i64, Unread>
-        ensures { Reads (λ n. n) (spec.numeral self.old) result self.new }
+        ensures reads { Reads (λ n. n) (spec.numeral self.old) result self.new }
+        ensures refused { IfErr result (λ e. IsRefusal self.old e) }
+        ensures kept { IfErr result (λ _. self.new ≡ self.old) }
     {
         match self.rest {
             [first, rest @ ..] => match &first.token {
@@ -261,10 +285,12 @@ impl<'a> Tokens<'a> {
         }
     }
 
-    /// Takes the end of the text.
+    /// Takes the end of the text. A token that is left is refused, as `refused` says.
     #[tactic(auto, unfolding(crate::specs::Reading::ended))]
     pub fn end(&mut self) -> Result<(), Unread>
-        ensures { Reads (λ u. u) (spec.ended self.old) result self.new }
+        ensures reads { Reads (λ u. u) (spec.ended self.old) result self.new }
+        ensures refused { IfErr result (λ e. IsRefusal self.old e) }
+        ensures kept { IfErr result (λ _. self.new ≡ self.old) }
     {
         match self.rest {
             [] => Ok(()),

@@ -3,6 +3,6 @@ use Rattle.std.specs.List.{AllByRecursion}
 use Rattle.ioa_terms.specs.Canonical.{IsCanonical}
 use Rattle.ioa_terms.specs.Bindings.{Bindings}
 
--- the value of each name is canonical
+-- each value is canonical, also one whose name an earlier pair has
 abbrev pub IsAscendingEnvironment : Bindings → Type 0
 IsAscendingEnvironment e = AllByRecursion (λ b. IsCanonical b.1) e

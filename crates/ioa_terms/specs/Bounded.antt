@@ -23,6 +23,7 @@ with_right op x (Some d) right = kept (Some d)
 with_right op x None right = and_then right (λ y. kept (binary_value op x y))
 
 abbrev mutual
+  -- the value of a term, each part judged before the next is taken
   pub bounded : {N : Type 0} → PlainTerm N Shape → Bindings → Result Data TermFault
   bounded (plain.number n) e = kept (Some (number n))
   bounded (plain.truth b) e = kept (Some (truth b))
@@ -33,6 +34,7 @@ abbrev mutual
   bounded (display form d ts) e = and_then (all_bounded ts e) (λ vs. kept (display_value form (shape_of d) vs))
   bounded (field a w d) e = and_then (bounded a e) (λ x. kept (field_value (shape_of d) w x))
 
+  -- the values of terms, one after another
   pub all_bounded : {N : Type 0} → PlainTerms N Shape → Bindings → Result (List Data) TermFault
   all_bounded no_terms e = Ok []
   all_bounded (term t more) e = and_then (bounded t e) (λ v. and_then (all_bounded more e) (λ vs. Ok (v ∷ vs)))
@@ -58,15 +60,18 @@ if_answered (Ok false) held other = other
 if_answered (Err f) held other = Err f
 
 abbrev mutual
+  -- the environment after one statement; a firing is no part of an effect
   pub bounded_one : {N : Type 0} → PlainStatement N Shape → Bindings → Result Bindings TermFault
   bounded_one (assign p t) e = and_then (bounded_assigned p t e) (put_fitted (target p) (target_shape p) e)
   bounded_one (choose arms rest) e = bounded_choice arms (bounded_all rest e) e
   bounded_one (fire kind action arguments) e = Err Undefined
 
+  -- the environment after the first arm whose test is true, or what the rest answers where none is
   pub bounded_choice : {N : Type 0} → PlainArms N Shape → Result Bindings TermFault → Bindings → Result Bindings TermFault
   bounded_choice no_arms rest e = rest
   bounded_choice (arm t body more) rest e = if_answered (bounded_test t e) (bounded_all body e) (bounded_choice more rest e)
 
+  -- the environment after statements in order, each seeing what the one before left
   pub bounded_all : {N : Type 0} → PlainStatements N Shape → Bindings → Result Bindings TermFault
   bounded_all no_statements e = Ok e
   bounded_all (statement s more) e = and_then (bounded_one s e) (bounded_all more)

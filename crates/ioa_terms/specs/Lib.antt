@@ -23,4 +23,5 @@ pub mod Ascending
 pub mod Actions
 pub mod ActionText
 pub mod ComponentText
+pub mod ComponentOrder
 pub mod ValuesOrder

@@ -29,8 +29,8 @@ IsPlacedPlace (at_key x at d k) variables names = (place_in x variables ≡ Some
 IsPlacedPlace (at_field x at d f) variables names = place_in x variables ≡ Some at
 
 abbrev mutual
-  -- the same of a statement: what it assigns are variables, and what it reads are names in view; a firing is none of an
-  -- effect's
+  -- the same of a statement: what it assigns are variables, and what it reads are names in view; nothing is asked of a
+  -- firing, which is no part of an effect
   pub IsPlacedStatement : {D : Type 0} → PlainStatement ℕ D → List (List ℕ) → List (List ℕ) → Type 0
   IsPlacedStatement (assign p t) variables names = IsPlacedPlace p variables names × IsPlaced t names
   IsPlacedStatement (choose arms rest) variables names = AreArmsPlaced arms variables names × AreAllPlaced rest variables names

@@ -74,7 +74,8 @@ pub data FunctionIs : Function → List PlainShape → PlainShape → Type 0 whe
   removed : {k v : PlainShape} → FunctionIs Remove (maps k v ∷ k ∷ []) (maps k v)
   defined : {k v : PlainShape} → FunctionIs Defined (maps k v ∷ k ∷ []) truths
 
--- the shapes of the names in view; the first of a name counts
+-- the shapes of the names in view; the first of a name counts. A term reads a natural as an integer where its name is given
+-- a `counted` shape here
 abbrev pub Shaped : Type 0
 Shaped = List (List ℕ × PlainShape)
 

@@ -1,7 +1,7 @@
 //! The actions of a system.
 
 ghost use Rattle.std.specs.Prelude.{◌≡◌, ◌↔◌, IfOk, IsTrue, [], map, length};
-ghost use Rattle.ioa_terms.specs.Actions.{same_node_action, same_action};
+ghost use Rattle.ioa_terms.specs.Actions.{same_node_action, same_action, node_action_cmp, action_cmp};
 
 use ioa_values::{Value, Word};
 use std::alloc::{AllocError, Global};
@@ -143,6 +143,13 @@ impl NodeAction {
         self == other
     }
 
+    /// How two actions compare: by node, by name and by arguments.
+    pub fn compare(&self, other: &Self) -> Ordering
+        ensures { result ≡ node_action_cmp self.now other.now }
+    {
+        self.cmp(other)
+    }
+
     /// An equal action with its own memory.
     pub fn try_copy(&self, alloc: Global) -> Result<Self, AllocError>
         ensures { IfOk result (λ a. a ≡ self.now) }
@@ -172,6 +179,13 @@ impl Action {
         ensures { result ≡ same_action self.now other.now }
     {
         self == other
+    }
+
+    /// How two actions compare: by kind, and then by their parts from left to right.
+    pub fn compare(&self, other: &Self) -> Ordering
+        ensures { result ≡ action_cmp self.now other.now }
+    {
+        self.cmp(other)
     }
 
     /// An equal action with its own memory.

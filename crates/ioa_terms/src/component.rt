@@ -1,9 +1,14 @@
 //! The components of a system.
 
+ghost use Rattle.std.specs.Prelude.{◌≡◌};
+ghost use Rattle.ioa_terms.specs.ComponentOrder.{component_cmp};
+
+use std::cmp::Ordering;
 use std::fmt;
 
 /// The name of a component: a node's automaton, the queue of a declared channel, or the queue of a
-/// node's scripted stimuli (Lynch 8.2 and 14.1, and profile for scripts).
+/// node's scripted stimuli (Lynch 8.2 and 14.1, and profile for scripts). Components are ordered by
+/// kind, as the kinds stand here, and then by their nodes from left to right.
 #[derive(Clone, Copy, Debug, PartialEq, Eq, PartialOrd, Ord)]
 pub enum Component {
     /// The node of a number.
@@ -12,6 +17,15 @@ pub enum Component {
     Channel(i64, i64),
     /// The script of a node.
     Script(i64),
+}
+
+impl Component {
+    /// How two components compare: by kind, and then by their nodes from left to right.
+    pub fn compare(&self, other: &Self) -> Ordering
+        ensures { result ≡ component_cmp self.now other.now }
+    {
+        self.cmp(other)
+    }
 }
 
 impl fmt::Display for Component {

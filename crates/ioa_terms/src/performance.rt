@@ -23,9 +23,11 @@ use std::mem;
 
 /// The values after statements in order, each seeing what the one before left (profile). `names` are
 /// the names of the values, in the same order; `constants` are those of the text's constants, which
-/// terms may read too. The first fault met is answered, and the values are dropped then. A firing is
-/// no part of an effect: it has no value. Costs time in proportion to the statements performed and to
-/// the values that they read and make.
+/// terms may read too. The first fault met is answered, and the values are dropped then: `Undefined`
+/// where a term has no value, a test no truth value, or a new value not the variable's shape, `Range`
+/// where a number lies outside 64 bits, an intermediate one too, `Memory` where none is left. A firing
+/// is no part of an effect: it is `Undefined`. Costs time in proportion to the statements performed and
+/// to the values that they read and make.
 #[tactic(auto, using(crate::proofs::Performed::bounded_by_is, crate::proofs::Performed::all_placed))]
 pub fn perform(
     alloc: Global,

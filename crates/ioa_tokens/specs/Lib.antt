@@ -3,3 +3,4 @@ pub mod Spelling
 pub mod Piece
 pub mod Tokens
 pub mod Written
+pub mod Faults

@@ -1,20 +1,35 @@
 //! Why a text has no tokens.
 
 use std::alloc::{AllocError, AllocFailed};
+use std::fmt;
 use thiserror::Error;
 
-/// Why a text is not cut into tokens. A place is counted in bytes from 0.
+/// Why a text is not cut into tokens. A place is counted in bytes from 0. Source: profile.
 #[derive(Debug, Drop, Error)]
 pub enum CutFault {
     /// 11: the character at this place begins no token.
-    #[error("the character at byte {0} begins no token")]
     BadCharacter(usize),
     /// 13: the number that begins at this place is above 9223372036854775807.
-    #[error("the number at byte {0} is too large")]
     NumberTooLarge(usize),
     /// 3: there was not memory enough.
-    #[error("out of memory")]
     Memory,
+}
+
+impl fmt::Display for CutFault {
+    ghost use Rattle.std.specs.Prelude.{Some};
+    ghost use Rattle.ioa_tokens.specs.Faults.{fault_text};
+
+    ghost output = { λ fault. Some (fault_text fault) };
+
+    fn fmt<W: fmt::Write>(&self, f: &mut fmt::Formatter<W>) -> fmt::Result {
+        match self {
+            CutFault::BadCharacter(place) => {
+                write!(f, "the character at byte {place} begins no token")
+            }
+            CutFault::NumberTooLarge(place) => write!(f, "the number at byte {place} is too large"),
+            CutFault::Memory => f.write_str("out of memory"),
+        }
+    }
 }
 
 impl From<AllocError> for CutFault {

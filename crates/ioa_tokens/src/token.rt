@@ -45,7 +45,7 @@ pub enum Token<'a> {
     LeftOut(LeftOut),
 }
 
-/// A token, and where it stands in a text.
+/// A token, and where it stands in a text. Source: profile.
 #[derive(Debug, Drop)]
 pub struct Placed<'a> {
     /// The token.
