@@ -4,6 +4,7 @@ pub mod Components
 pub mod Deliveries
 pub mod Items
 pub mod JointSteps
+pub mod NodeSteps
 pub mod Places
 pub mod Projections
 pub mod Runs

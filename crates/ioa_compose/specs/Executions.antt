@@ -1,11 +1,13 @@
 -- Executions, their replay and their projections (Lynch 8.1 and 8.2).
-use Rattle.std.specs.Prelude.{◌≡◌, ◌⊎◌, ℕ, ◌+◌, List, [], ◌∷◌, Option, Some, None, Result, Ok, Err, filter}
+use Rattle.std.specs.Prelude.{◌≡◌, ◌⊎◌, ℕ, ◌+◌, List, [], ◌∷◌, ◌++◌, Option, Some, None, Result, Ok, Err, codes, filter}
+use Rattle.std.specs.Fmt.{decimal}
 use Rattle.ioa_terms.specs.declared.component.Component.{Component}
 use Rattle.ioa_terms.specs.declared.action.Action.{Action}
 use Rattle.ioa_compose.specs.declared.configuration.Conf.{Conf}
 use Rattle.ioa_compose.specs.declared.fault.StepFault.{StepFault}
 use Rattle.ioa_compose.specs.declared.fault.StepFault.TheVariants.{Memory}
 use Rattle.ioa_compose.specs.declared.replaying.ReplayFault.{ReplayFault}
+use Rattle.ioa_compose.specs.StepFaults.{step_fault_text}
 use Rattle.ioa_compose.specs.Participants.{takes_part}
 use Rattle.ioa_compose.specs.Composition.{conf_answer, joint_answer, find_conf}
 
@@ -38,6 +40,10 @@ replay_after_step n steps (Err e) = Err (record { place = n; fault = e })
 abbrev pub replay_answer : ℕ → List Action → List Conf → Result (List Conf) ReplayFault
 replay_answer n [] cs = Ok cs
 replay_answer n (a ∷ more) cs = replay_after_step n (replay_answer (n + 1) more) (joint_answer a cs)
+
+-- a fault of a replay as text: the step's, and its place (profile)
+abbrev pub replay_fault_text : ReplayFault → List ℕ
+replay_fault_text f = step_fault_text f.fault ++ (codes " at " ++ decimal f.place)
 
 -- a replay computes `meant`, or memory ran out at some place
 abbrev pub IsReplay : {X : Type 0} → (X → List Conf) → Result X ReplayFault → Result (List Conf) ReplayFault → Type 0

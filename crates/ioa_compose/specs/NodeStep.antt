@@ -1,7 +1,7 @@
 -- Steps of a node's automaton (Lynch 8.1).
-use Rattle.std.specs.Prelude.{ℕ, Bool, true, false, not, ◌&&◌, if◌then◌else◌, List, [], ◌∷◌, ◌++◌, Option, Some, None, Result, Ok, Err, map, length, take, find, codes}
+use Rattle.std.specs.Prelude.{◌≡◌, ℕ, Bool, true, false, not, ◌&&◌, if◌then◌else◌, List, [], ◌∷◌, ◌++◌, Option, Some, None, Result, Ok, Err, map, length, take, find, codes}
 use Rattle.std.specs.List.{zip}
-use Rattle.ioa_compose.specs.Data.{Data, number, as_truth}
+use Rattle.ioa_compose.specs.Data.{Data, number, truth, as_truth}
 use Rattle.ioa_compose.specs.Outcome.{and_then}
 use Rattle.ioa_values.specs.DataOrder.{same}
 use Rattle.ioa_terms.specs.Bindings.{Bindings, same_name}
@@ -113,11 +113,12 @@ passed None = Err NotEnabled
 passed (Some true) = Ok tt
 passed (Some false) = Err NotEnabled
 
--- what a guard answers: nothing where it is true
+-- what a guard answers by its value: nothing where that is true
 abbrev pub guarded : Result Data TermFault → Result (Unit {0}) StepFault
 guarded (Err f) = Err (step_fault f)
 guarded (Ok v) = passed (as_truth v)
 
+-- what a guard answers: nothing where it is true, or where there is none
 abbrev pub guard_answer : Option CheckedTerm → Bindings → Result (Unit {0}) StepFault
 guard_answer None e = Ok tt
 guard_answer (Some t) e = guarded (answer t e)
@@ -155,3 +156,25 @@ program_answer p vs a = rule_answer p vs a (rule_for a p.rules)
 -- what a node answers to an action: its new configuration, or why there is none
 unfoldable pub node_answer : NodeState → Action → Result NodeState StepFault
 node_answer c a = and_then (program_answer c.program c.variables a) (λ vs. Ok (node_state c.program vs))
+
+-- what the condition, the guard and the effect of a rule read by an action
+abbrev pub read_by : Rule → Action → NodeState → Bindings
+read_by r a c = view_of (entry_of r.entry) (map variable_of c.program.variables) a c.variables
+
+-- a guard or a condition holds: there is none, or its value is true
+abbrev pub GuardHolds : Option CheckedTerm → Bindings → Type 0
+GuardHolds None e = Unit {0}
+GuardHolds (Some t) e = answer t e ≡ Ok (truth true)
+
+-- a step of a node from one configuration to another (Lynch 8.1): a rule has the action, no argument is negative for a
+-- natural, the entry's condition and the guard hold, and each state variable has the value that the effect leaves it;
+-- the program stays
+pub record IsNodeStep (a : Action) (c d : NodeState) : Type 0 where
+  pub rule : Rule
+  pub mine : rule_for a c.program.rules ≡ Some rule
+  pub natural : are_natural (entry_of rule.entry).parameters (action_arguments a) ≡ true
+  pub condition : GuardHolds (entry_of rule.entry).condition (read_by rule a c)
+  pub guard : GuardHolds (transition_of rule.transition).pre (read_by rule a c)
+  pub left : Bindings
+  pub effect : answer_by (transition_of rule.transition).effect (read_by rule a c) ≡ Ok left
+  pub after : d ≡ node_state c.program (take (length c.variables) (map (λ b. b.1) left))

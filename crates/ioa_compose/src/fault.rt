@@ -2,30 +2,46 @@
 
 use ioa_terms::TermFault;
 use std::alloc::{AllocError, AllocFailed};
-use thiserror::Error;
+use std::error::Error;
+use std::fmt;
 
 /// Why an action is no step of a configuration.
-#[derive(Debug, Drop, Error)]
+#[derive(Debug, Drop)]
 pub enum StepFault {
-    /// 1: the guard or the effect meets a part that has no value.
-    #[error("1 Undefined")]
+    /// 1: the condition of the entry, the guard or the effect meets a part that has no value, or a negative
+    /// number stands for a natural in an argument.
     Undefined,
-    /// 2: the guard or the effect meets a number outside 64 bits.
-    #[error("2 Range")]
+    /// 2: the condition of the entry, the guard or the effect meets a number outside 64 bits.
     Range,
     /// 3: no memory was left.
-    #[error("3 Memory")]
     Memory,
     /// 40: the action is not enabled.
-    #[error("40 NotEnabled")]
     NotEnabled,
     /// 41: the action is not in the node's signature, or is none that a queue takes part in.
-    #[error("41 NotMine")]
     NotMine,
     /// 42: a participant of the action is no component of the system.
-    #[error("42 NoChannel")]
     NoChannel,
 }
+
+impl fmt::Display for StepFault {
+    ghost use Rattle.std.specs.Prelude.{Some};
+    ghost use Rattle.ioa_compose.specs.StepFaults.{step_fault_text};
+
+    ghost output = { λ f. Some (step_fault_text f) };
+
+    fn fmt<W: fmt::Write>(&self, f: &mut fmt::Formatter<W>) -> fmt::Result {
+        match self {
+            StepFault::Undefined => f.write_str("1 Undefined"),
+            StepFault::Range => f.write_str("2 Range"),
+            StepFault::Memory => f.write_str("3 Memory"),
+            StepFault::NotEnabled => f.write_str("40 NotEnabled"),
+            StepFault::NotMine => f.write_str("41 NotMine"),
+            StepFault::NoChannel => f.write_str("42 NoChannel"),
+        }
+    }
+}
+
+impl Error for StepFault {}
 
 impl From<AllocError> for StepFault {
     ghost use Rattle.std.specs.Prelude.{◌≡◌};

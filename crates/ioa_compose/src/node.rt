@@ -78,8 +78,10 @@ impl NodeConf {
     }
 
     /// The configuration after an action (Lynch 8.1). `NotMine` where the action is not in the node's
-    /// signature; else the first fault of guard and effect: `Range` where a number met lies outside 64
-    /// bits, `Undefined` where a part has no value, `NotEnabled` where the guard is not true.
+    /// signature; else the first fault of the arguments, the entry's condition, the guard and the effect:
+    /// `Range` where a number met lies outside 64 bits, `Undefined` where a part has no value or a negative
+    /// number stands for a natural, `NotEnabled` where condition or guard is not true. It is meant for an
+    /// action in which the node takes part, and does not test that.
     #[tactic(auto, unfolding(crate::specs::NodeStep::node_answer))]
     pub fn step(&self, alloc: Global, action: &Action) -> Result<Self, StepFault>
         ensures { Answers StepFault.Memory (λ c. c) result (node_answer self.now action.now) }

@@ -156,7 +156,8 @@ impl Queue {
 
     /// The queue after an action (Lynch 8.1 and 14.1): a send puts its message in, a receive takes its
     /// message out, and a stimulus takes itself out. `NotEnabled` where what is to come out does not
-    /// stand first, `NotMine` for an action that has no queue.
+    /// stand first, `NotMine` for an action that has no queue. It is meant for an action in which the
+    /// queue takes part, and does not test that.
     pub fn step(&self, alloc: Global, action: &Action) -> Result<Self, StepFault>
         ensures { Answers StepFault.Memory (λ q. q) result (queue_answer self.now action.now) }
     {

@@ -11,17 +11,31 @@ use crate::starting::start;
 use ioa_system::System;
 use ioa_terms::Action;
 use std::alloc::Global;
-use thiserror::Error;
+use std::error::Error;
+use std::fmt;
 
 /// Why a list of actions has no execution.
-#[derive(Debug, Drop, Error)]
-#[error("{fault} at {place}")]
+#[derive(Debug, Drop)]
 pub struct ReplayFault {
     /// The place of the first action that is no step, counted from 0.
     pub place: usize,
     /// Why it is none.
     pub fault: StepFault,
 }
+
+impl fmt::Display for ReplayFault {
+    ghost use Rattle.std.specs.Prelude.{Some};
+    ghost use Rattle.ioa_compose.specs.Executions.{replay_fault_text};
+
+    ghost output = { λ f. Some (replay_fault_text f) };
+
+    fn fmt<W: fmt::Write>(&self, f: &mut fmt::Formatter<W>) -> fmt::Result {
+        let ReplayFault { place, fault } = self;
+        write!(f, "{fault} at {place}")
+    }
+}
+
+impl Error for ReplayFault {}
 
 /// The joint steps by a list of actions, one after another.
 fn steps(alloc: Global, start: Vec<Conf>, actions: &[Action]) -> Result<Vec<Conf>, ReplayFault>
@@ -57,6 +71,7 @@ pub fn replay_from(
 pub fn replay(alloc: Global, system: &System, actions: &[Action]) -> Result<Vec<Conf>, ReplayFault>
     ensures answer { IsReplay (λ v. v.items) result (replay_answer 0 actions.now (start system.now)) }
     ensures execution { IfOk result (λ v. replay actions.now (start system.now) ≡ Some v.items) }
+    ensures no_execution { IfErr result (λ e. (e.fault ≡ StepFault.Memory) ⊎ (replay actions.now (start system.now) ≡ None)) }
 {
     match start(alloc, system) {
         Ok(confs) => replay_from(alloc, confs, actions),

@@ -15,8 +15,8 @@ ghost use Rattle.ioa_terms.specs.Placed.{ArePlaced, IsPlaced};
 ghost use Rattle.ioa_terms.specs.Bindings.{names_of};
 
 use crate::fault::StepFault;
-use ioa_system::{Program, Rule};
 use ioa_source::{Entry, Parameter};
+use ioa_system::{Program, Rule};
 use ioa_terms::{
     Action, Checked, Env, Kind, Shape, Statement, TermFault, Value, Word, copies, eval, perform,
 };
