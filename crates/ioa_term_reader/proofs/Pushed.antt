@@ -5,7 +5,7 @@ use Rattle.ioa_source.specs.PlainTerm.{terms_of}
 use Rattle.ioa_source.specs.Sides.{SourceTerm}
 use Rattle.ioa_term_reader.specs.Heights.{height, heights}
 
-max_assoc : (a b c : ℕ) → max a (max b c) ≡ max (max a b) c
+pub max_assoc : (a b c : ℕ) → max a (max b c) ≡ max (max a b) c
 max_assoc a b c = omega arith
 
 pub heights_push : (ts : List SourceTerm) (t : SourceTerm) → heights (terms_of (ts ++ t ∷ [])) ≡ max (heights (terms_of ts)) (height t)

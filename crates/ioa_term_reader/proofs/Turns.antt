@@ -59,7 +59,7 @@ module _ (next : ℕ → ℕ → List Token → Option (SourceTerm × List Token
   unfolding climb
   climb_all turns turn room least most left xs h = rw (none_left turns turn h) refl
 
-above_zero : (n : ℕ) → (n ≡ 0 → ⊥) → n ≡ suc (n - 1)
+pub above_zero : (n : ℕ) → (n ≡ 0 → ⊥) → n ≡ suc (n - 1)
 above_zero n h = omega arith
 
 abbrev pub deeper : ℕ → ℕ → ℕ → List Token → Option (SourceTerm × List Token)

@@ -1,6 +1,6 @@
 //! Trees within the limit of height, each with its height.
 
-ghost use Rattle.std.specs.Prelude.{◌≡◌, ◌≤◌, [], ◌∷◌, ◌++◌, Some, map};
+ghost use Rattle.std.specs.Prelude.{◌≡◌, ◌≤◌, ◌⊎◌, [], ◌∷◌, ◌++◌, Some, IfErr, map};
 ghost use Rattle.ioa_cursor.specs.declared.cursor.Unread.TheVariants.{Memory};
 ghost use Rattle.ioa_source.specs.PlainTerm as plain;
 ghost use Rattle.ioa_source.specs.PlainTerm.{terms_of};
@@ -63,7 +63,8 @@ impl Built {
     #[tactic(auto, unfolding(crate::specs::Reading::limited))]
     fn limited(tree: Term, high: usize, deep: Unread) -> Result<Built, Unread>
         requires { high ≡ height (term_of tree) }
-        ensures { Matches Memory (λ b. term_of b.tree) result (spec.limited (term_of tree)) }
+        ensures meant { Matches Memory (λ b. term_of b.tree) result (spec.limited (term_of tree)) }
+        ensures told { IfErr result (λ e. e ≡ deep) }
     {
         if high <= HEIGHT_LIMIT {
             Ok(Built { tree, high })
@@ -109,7 +110,8 @@ impl Built {
         part: Built,
         deep: Unread,
     ) -> Result<Built, Unread>
-        ensures { Matches Memory (λ b. term_of b.tree) result (spec.limited (plain.one operator (term_of part.tree))) }
+        ensures meant { Matches Memory (λ b. term_of b.tree) result (spec.limited (plain.one operator (term_of part.tree))) }
+        ensures told { IfErr result (λ e. (e ≡ Memory) ⊎ (e ≡ deep)) }
     {
         let high = part.high + 1;
         let part = Box::new(alloc, part.tree)?;
@@ -124,7 +126,8 @@ impl Built {
         right: Built,
         deep: Unread,
     ) -> Result<Built, Unread>
-        ensures { Matches Memory (λ b. term_of b.tree) result (spec.limited (plain.two operator (term_of left.tree) (term_of right.tree))) }
+        ensures meant { Matches Memory (λ b. term_of b.tree) result (spec.limited (plain.two operator (term_of left.tree) (term_of right.tree))) }
+        ensures told { IfErr result (λ e. (e ≡ Memory) ⊎ (e ≡ deep)) }
     {
         let high = left.high.max(right.high) + 1;
         let left = Box::new(alloc, left.tree)?;
@@ -134,7 +137,8 @@ impl Built {
 
     /// A function of terms.
     pub(crate) fn call(name: Word, parts: BuiltList, deep: Unread) -> Result<Built, Unread>
-        ensures { Matches Memory (λ b. term_of b.tree) result (spec.limited (plain.call name (terms_of (map term_of parts.trees.items)))) }
+        ensures meant { Matches Memory (λ b. term_of b.tree) result (spec.limited (plain.call name (terms_of (map term_of parts.trees.items)))) }
+        ensures told { IfErr result (λ e. (e ≡ Memory) ⊎ (e ≡ deep)) }
     {
         let high = parts.high + 1;
         Built::limited(Tree::Call(name, parts.trees), high, deep)
@@ -146,7 +150,8 @@ impl Built {
         parts: BuiltList,
         deep: Unread,
     ) -> Result<Built, Unread>
-        ensures { Matches Memory (λ b. term_of b.tree) result (spec.limited (plain.display form tt (terms_of (map term_of parts.trees.items)))) }
+        ensures meant { Matches Memory (λ b. term_of b.tree) result (spec.limited (plain.display form tt (terms_of (map term_of parts.trees.items)))) }
+        ensures told { IfErr result (λ e. (e ≡ Memory) ⊎ (e ≡ deep)) }
     {
         let high = parts.high + 1;
         Built::limited(Tree::Display(form, (), parts.trees), high, deep)
@@ -169,7 +174,8 @@ impl Built {
         name: Word,
         deep: Unread,
     ) -> Result<Built, Unread>
-        ensures { Matches Memory (λ b. term_of b.tree) result (spec.limited (plain.field (term_of part.tree) name tt)) }
+        ensures meant { Matches Memory (λ b. term_of b.tree) result (spec.limited (plain.field (term_of part.tree) name tt)) }
+        ensures told { IfErr result (λ e. (e ≡ Memory) ⊎ (e ≡ deep)) }
     {
         let high = part.high + 1;
         let part = Box::new(alloc, part.tree)?;

@@ -16,11 +16,11 @@ use ioa_tokens::Mark;
 use ioa_values::Word;
 use std::alloc::Global;
 
-/// How many brackets may be open at once.
+/// How many brackets may be open at once, of all kinds. Source: profile.
 pub const BRACKET_LIMIT: usize = 128;
 
 /// How deep a term within the limits goes: each part of it is less high, or in one bracket more.
-const DEPTH_LIMIT: usize = 192;
+const DEPTH_LIMIT: usize = HEIGHT_LIMIT + BRACKET_LIMIT;
 
 /// A term that was read, and the tightest level that it stands at.
 #[derive(Drop)]
@@ -44,7 +44,7 @@ impl Reached {
 
 /// A term. `room` is how many brackets more may be opened. Refused 12 at the first token that no term
 /// has there, 16 where that is a word that the profile leaves out, and 14 where the tree would be more
-/// than 64 high or more brackets are opened. Source: profile.
+/// than 64 high or more brackets are opened; or as Memory, where none is left. Source: profile.
 #[tactic(auto, unfolding(crate::specs::Reading::term))]
 pub fn term(alloc: Global, tokens: &mut Tokens<'_>, room: usize) -> Result<Built, Unread>
     ensures { Reads (λ b. term_of b.tree) (spec.term room tokens.old) result tokens.new }

@@ -316,7 +316,7 @@ fn each_pair_groups(rt: HostRuntime) -> Result<(), Fail> {
 }
 
 #[test]
-fn limits(rt: HostRuntime) -> Result<(), Fail> {
+fn heights(rt: HostRuntime) -> Result<(), Fail> {
     let alloc = rt.alloc();
     let ones = around(alloc, "", "1", "+1", 63)?;
     assert_eq!(rt; height(alloc, ones.as_str()), 64);
@@ -326,27 +326,37 @@ fn limits(rt: HostRuntime) -> Result<(), Fail> {
     assert_eq!(rt; height(alloc, fields.as_str()), 64);
     let fields = around(alloc, "", "r", ".x", 64)?;
     assert_eq!(rt; answer(alloc, fields.as_str())?.as_str(), "14@127");
-    let brackets = around(alloc, "(", "1", ")", 128)?;
-    assert_eq!(rt; answer(alloc, brackets.as_str())?.as_str(), "1");
-    let brackets = around(alloc, "(", "1", ")", 129)?;
-    assert_eq!(rt; answer(alloc, brackets.as_str())?.as_str(), "14@128");
     let calls = around(alloc, "f(", "1", ")", 63)?;
     assert_eq!(rt; height(alloc, calls.as_str()), 64);
     let calls = around(alloc, "f(", "1", ")", 64)?;
     assert_eq!(rt; answer(alloc, calls.as_str())?.as_str(), "14@0");
-    let deep = around(alloc, "(", "f(1)", ")", 127)?;
-    assert_eq!(rt; answer(alloc, deep.as_str())?.as_str(), "f(1)");
-    let deep = around(alloc, "(", "f(1)", ")", 128)?;
-    assert_eq!(rt; answer(alloc, deep.as_str())?.as_str(), "14@128");
-    let empty = around(alloc, "(", "{}", ")", 128)?;
-    assert_eq!(rt; answer(alloc, empty.as_str())?.as_str(), "14@128");
-    let key = around(alloc, "(", "m[1]", ")", 128)?;
-    assert_eq!(rt; answer(alloc, key.as_str())?.as_str(), "14@129");
     let signs = around(alloc, "-", "1", "", 63)?;
     assert_eq!(rt; height(alloc, signs.as_str()), 64);
     let signs = around(alloc, "-", "1", "", 64)?;
     assert_eq!(rt; answer(alloc, signs.as_str())?.as_str(), "14@0");
     let signs = around(alloc, "-", "1", "", 300)?;
     assert_eq!(rt; answer(alloc, signs.as_str())?.as_str(), "14@192");
+    Ok(())
+}
+
+#[test]
+fn brackets(rt: HostRuntime) -> Result<(), Fail> {
+    let alloc = rt.alloc();
+    let round = around(alloc, "(", "1", ")", 128)?;
+    assert_eq!(rt; answer(alloc, round.as_str())?.as_str(), "1");
+    let round = around(alloc, "(", "1", ")", 129)?;
+    assert_eq!(rt; answer(alloc, round.as_str())?.as_str(), "14@128");
+    let call = around(alloc, "(", "f(1)", ")", 127)?;
+    assert_eq!(rt; answer(alloc, call.as_str())?.as_str(), "f(1)");
+    let call = around(alloc, "(", "f(1)", ")", 128)?;
+    assert_eq!(rt; answer(alloc, call.as_str())?.as_str(), "14@128");
+    let tuple = around(alloc, "(", "[1]", ")", 127)?;
+    assert_eq!(rt; answer(alloc, tuple.as_str())?.as_str(), "[1]");
+    let tuple = around(alloc, "(", "[1]", ")", 128)?;
+    assert_eq!(rt; answer(alloc, tuple.as_str())?.as_str(), "14@128");
+    let empty = around(alloc, "(", "{}", ")", 128)?;
+    assert_eq!(rt; answer(alloc, empty.as_str())?.as_str(), "14@128");
+    let key = around(alloc, "(", "m[1]", ")", 128)?;
+    assert_eq!(rt; answer(alloc, key.as_str())?.as_str(), "14@129");
     Ok(())
 }

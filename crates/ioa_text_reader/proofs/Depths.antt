@@ -1,13 +1,11 @@
 -- Sorts and statements where more may stand within.
-use Rattle.std.proofs.Common.{◌≡◌, ℕ, suc, ◌-◌, List, [], Option, Some, refl, ap, ◌∙◌, arith}
+use Rattle.std.proofs.Common.{◌≡◌, ℕ, suc, ◌-◌, List, [], Option, refl, ap, ◌∙◌}
 use Rattle.ioa_tokens.specs.declared.token.Token.{Token}
 use Rattle.ioa_tokens.specs.declared.mark.Mark.TheVariants as mark
 use Rattle.ioa_source.specs.Sides.{SourceStatement}
 use Rattle.ioa_cursor.specs.Reading.{resumed, several_more}
+use Rattle.ioa_term_reader.proofs.Turns.{above_zero}
 use Rattle.ioa_text_reader.specs.Reading.{sort_in, statements_in, one_statement, begins_statement}
-
-above_zero : (n : ℕ) → (n ≡ 0 → ⊥) → n ≡ suc (n - 1)
-above_zero n h = omega arith
 
 pub sort_deeper : (room : ℕ) (xs : List Token) → (room ≡ 0 → ⊥) → sort_in room xs ≡ sort_in (suc (room - 1)) xs
 sort_deeper room xs h = ap (λ n. sort_in n xs) (above_zero room h)
@@ -21,6 +19,3 @@ at_depth depth xs = refl
 
 pub statements_deeper : (depth : ℕ) (xs : List Token) → (depth ≡ 0 → ⊥) → statements_in depth xs ≡ deeper_statements (depth - 1) xs
 statements_deeper depth xs h = ap (λ n. statements_in n xs) (above_zero depth h) ∙ at_depth (depth - 1) xs
-
-pub some_same : {A : Type 0} {a b : A} → Some a ≡ Some b → a ≡ b
-some_same e = cc

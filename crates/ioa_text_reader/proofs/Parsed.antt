@@ -143,6 +143,18 @@ parses_exact (Err (Unexpected at)) text h e x s = not_exact text h.0 h.1 e x s
 parses_exact (Err (TooDeep at)) text h e x s = not_exact text h.0 h.1 e x s
 parses_exact (Err (LeftOut at)) text h e x s = not_exact text h.0 h.1 e x s
 
+-- a text above the limit is refused as such, and takes no memory
+pub parses_long : (r : Result Source FrontFault) (text : List ℕ) → Parses r text → length_limit < length text → MatchResult r (λ _. ⊥) (λ e. e ≡ TooLong)
+parses_long (Ok s) text h l = too_long text l h.0
+parses_long (Err TooLong) text h l = refl
+parses_long (Err (BadCharacter place)) text h l = too_long text l h.0
+parses_long (Err (NumberTooLarge place)) text h l = too_long text l h.0
+parses_long (Err Empty) text h l = too_long text l h.0
+parses_long (Err (Unexpected place)) text h l = too_long text l h.0
+parses_long (Err (TooDeep place)) text h l = too_long text l h.0
+parses_long (Err (LeftOut place)) text h l = too_long text l h.0
+parses_long (Err Memory) text h l = too_long text l h
+
 -- what was read, without what comes after it
 abbrev read_part : Option (SourceText × List Token) → Option SourceText
 read_part None = None

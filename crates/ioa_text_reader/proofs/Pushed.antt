@@ -1,13 +1,11 @@
 -- The heights of several statements or arms and one more behind them.
-use Rattle.std.proofs.Common.{◌≡◌, ℕ, max, List, [], ◌∷◌, ◌++◌, arith}
+use Rattle.std.proofs.Common.{◌≡◌, max, List, [], ◌∷◌, ◌++◌}
 use Rattle.std.proofs.Math.Nat.{max_comm}
 use Rattle.ioa_source.specs.PlainTerm.{statements_of, arms_of}
 use Rattle.ioa_source.specs.Sides.{SourceTerm, SourceStatement, SourceStatements}
 use Rattle.ioa_term_reader.specs.Heights.{height}
+use Rattle.ioa_term_reader.proofs.Pushed.{max_assoc}
 use Rattle.ioa_text_reader.specs.StatementHeights.{statement_height, statements_height, arms_height}
-
-max_assoc : (a b c : ℕ) → max a (max b c) ≡ max (max a b) c
-max_assoc a b c = omega arith
 
 pub statements_push : (ss : List SourceStatement) (s : SourceStatement) → statements_height (statements_of (ss ++ s ∷ [])) ≡ max (statements_height (statements_of ss)) (statement_height s)
 statements_push [] s = max_comm (statement_height s) 0

@@ -1,6 +1,6 @@
 //! Trees of statements within the limit of height, each with its height.
 
-ghost use Rattle.std.specs.Prelude.{◌≡◌, ◌≤◌, [], ◌∷◌, ◌++◌, Some, map, max};
+ghost use Rattle.std.specs.Prelude.{◌≡◌, ◌≤◌, [], ◌∷◌, ◌++◌, Some, IfErr, map, max};
 ghost use Rattle.ioa_cursor.specs.declared.cursor.Unread.TheVariants.{Memory};
 ghost use Rattle.ioa_source.specs.PlainTerm as plain;
 ghost use Rattle.ioa_source.specs.PlainTerm.{statements_of, arms_of};
@@ -110,7 +110,8 @@ impl BuiltStatement {
         rest: BuiltStatements,
         deep: Unread,
     ) -> Result<Self, Unread>
-        ensures { Matches Memory (λ b. statement_of b.statement) result (spec.limited_statement (plain.choose (arms_of (map arm_of arms.arms.items)) (statements_of (map statement_of rest.statements.items)))) }
+        ensures meant { Matches Memory (λ b. statement_of b.statement) result (spec.limited_statement (plain.choose (arms_of (map arm_of arms.arms.items)) (statements_of (map statement_of rest.statements.items)))) }
+        ensures told { IfErr result (λ e. e ≡ deep) }
     {
         let high = arms.high.max(rest.high) + 1;
         if high > HEIGHT_LIMIT {

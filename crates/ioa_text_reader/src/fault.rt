@@ -1,32 +1,47 @@
 //! Why a text has no source.
 
-use thiserror::Error;
+use std::error::Error;
+use std::fmt;
 
 /// Why a text is refused. A place is counted in bytes from 0. Source: profile.
-#[derive(Debug, Drop, Error)]
+#[derive(Debug, Drop)]
 pub enum FrontFault {
     /// 10: the text has no token. Its place is 0.
-    #[error("10 Empty")]
     Empty,
     /// 11: the character at this place begins no token.
-    #[error("11 BadCharacter at {0}")]
     BadCharacter(usize),
     /// 12: no text has the token at this place there, or the text ends too early, and the place is its length.
-    #[error("12 Unexpected at {0}")]
     Unexpected(usize),
     /// 13: the number that begins at this place is above 9223372036854775807.
-    #[error("13 NumberTooLarge at {0}")]
     NumberTooLarge(usize),
     /// 14: a term or a statement with the token at this place is more than 64 high, or there more than 128 brackets are open.
-    #[error("14 TooDeep at {0}")]
     TooDeep(usize),
     /// 15: the text is longer than 1048576 bytes. Its place is 1048576.
-    #[error("15 TooLong")]
     TooLong,
     /// 16: at this place stands a word that the profile leaves out.
-    #[error("16 LeftOut at {0}")]
     LeftOut(usize),
     /// 3: there was not memory enough.
-    #[error("3 Memory")]
     Memory,
 }
+
+impl fmt::Display for FrontFault {
+    ghost use Rattle.std.specs.Prelude.{Some};
+    ghost use Rattle.ioa_text_reader.specs.FaultText.{fault_text};
+
+    ghost output = { λ f. Some (fault_text f) };
+
+    fn fmt<W: fmt::Write>(&self, f: &mut fmt::Formatter<W>) -> fmt::Result {
+        match self {
+            FrontFault::Empty => write!(f, "10 Empty"),
+            FrontFault::BadCharacter(place) => write!(f, "11 BadCharacter at {place}"),
+            FrontFault::Unexpected(place) => write!(f, "12 Unexpected at {place}"),
+            FrontFault::NumberTooLarge(place) => write!(f, "13 NumberTooLarge at {place}"),
+            FrontFault::TooDeep(place) => write!(f, "14 TooDeep at {place}"),
+            FrontFault::TooLong => write!(f, "15 TooLong"),
+            FrontFault::LeftOut(place) => write!(f, "16 LeftOut at {place}"),
+            FrontFault::Memory => write!(f, "3 Memory"),
+        }
+    }
+}
+
+impl Error for FrontFault {}

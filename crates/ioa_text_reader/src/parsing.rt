@@ -1,6 +1,6 @@
 //! From a text to its source.
 
-ghost use Rattle.std.specs.Prelude.{◌≡◌, ◌≤◌, ◌⊎◌, List, length, true, IfOk, IfErr, MatchResult};
+ghost use Rattle.std.specs.Prelude.{◌≡◌, ◌<◌, ◌≤◌, ◌⊎◌, List, length, true, IfOk, IfErr, MatchResult};
 ghost use Rattle.ioa_text_reader.specs.Grammar.{Spells};
 ghost use Rattle.ioa_text_reader.specs.Parsing.{Parses};
 ghost use Rattle.ioa_text_reader.specs.Texts.{length_limit, TextSpells, Stands, is_exact};
@@ -48,11 +48,13 @@ fn read(alloc: Global, text: &str) -> Result<Source, FrontFault>
 /// The source that a text spells. A text that spells none is refused: 15 where it is longer than
 /// 1048576 bytes, else 11 or 13 by the first character or number that is no token, else 10 where it
 /// has no token, else 12 at the first token that no text has there, 16 where that is a word that the
-/// profile leaves out, or 14 within a part that is too high. Source: profile.
+/// profile leaves out, or 14 within a part that is too high. 3 may come in place of any of these but 15,
+/// where memory runs out. Source: profile.
 pub fn parse(alloc: Global, text: &str) -> Result<Source, FrontFault>
     ensures found { IfOk result (λ s. TextSpells (text_of s.text) text.now) }
     ensures refused { IfErr result (λ e. Stands e text.now) }
     ensures exact { (e : FrontFault) → is_exact e ≡ true → Stands e text.now → MatchResult result (λ _. ⊥) (λ f. (f ≡ FrontFault.Memory) ⊎ (f ≡ e)) }
+    ensures long { length_limit < length text.now → MatchResult result (λ _. ⊥) (λ e. e ≡ FrontFault.TooLong) }
     ensures only { (p : SourceText) → length text.now ≤ length_limit → TextSpells p text.now → MatchResult result (λ s. text_of s.text ≡ p) (λ e. e ≡ FrontFault.Memory) }
 {
     read(alloc, text)

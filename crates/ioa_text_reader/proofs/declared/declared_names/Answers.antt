@@ -6,7 +6,7 @@ use Rattle.ioa_cursor.specs.Reading.{skip}
 use Rattle.ioa_cursor.proofs.Exits.{none_of_part}
 use Rattle.ioa_cursor.proofs.Lists.{gathered_turn, gathered_done, gathered_none, gathered_all}
 use Rattle.ioa_text_reader.specs.Reading.{declared_group}
-use Rattle.ioa_text_reader.proofs.Depths.{some_same}
+use Rattle.ioa_term_reader.proofs.Turns.{some_same}
 use Rattle.ioa_text_reader.proofs.declared.declared_names.Goals as goal
 
 pub returns-then-not-skip : goal.returns-then-not-skip

@@ -16,12 +16,12 @@ returns-in_err-word-2 c =
     rw (p.1, p.2)
     (none_of_part
     (λ n. sym c.loop-turn.invariant ∙ collected_none (skip mark.Comma) (word) _ _ _ _ _ c.loop-turn-test.true (sym c.if-not-skip.ensures) n)
-    c.in_err-word-2.ensures)
+    c.in_err-word-2.ensures.reads)
 
 pub loop-turn-preserved : goal.loop-turn-preserved
 loop-turn-preserved c =
     rw (c.in_ok-push-2.ensures.items)
-    (sym (collected_more (skip mark.Comma) (word) _ _ _ _ _ _ _ c.loop-turn-test.true (sym c.if-not-skip.ensures) c.in_ok-word-2.ensures)
+    (sym (collected_more (skip mark.Comma) (word) _ _ _ _ _ _ _ c.loop-turn-test.true (sym c.if-not-skip.ensures) c.in_ok-word-2.ensures.reads)
     ∙ c.loop-turn.invariant)
 
 pub returns : goal.returns

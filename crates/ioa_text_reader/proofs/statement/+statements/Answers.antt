@@ -5,7 +5,7 @@ use Rattle.ioa_cursor.specs.Reading.{resumed, skip}
 use Rattle.ioa_cursor.proofs.Exits.{none_of_part}
 use Rattle.ioa_cursor.proofs.Lists.{collected_more, collected_done, collected_none, collected_all}
 use Rattle.ioa_text_reader.specs.Reading.{statements_in, one_statement, one_arm, begins_statement}
-use Rattle.ioa_text_reader.proofs.Depths.{some_same}
+use Rattle.ioa_term_reader.proofs.Turns.{some_same}
 use Rattle.ioa_text_reader.proofs.statement.+statements.Goals as goal
 
 pub all_arms-returns-then-not-skip : goal.all_arms-returns-then-not-skip
