@@ -1,5 +1,5 @@
 -- The value of a term has the term's shape.
-use Rattle.std.proofs.Common.{◌≡◌, List, [], ◌∷◌, Option, Some, None, refl, true}
+use Rattle.std.proofs.Common.{◌≡◌, ℕ, List, [], ◌∷◌, Option, Some, None, refl, subst, true}
 use Rattle.std.specs.Option.{IfSome, option_and_then, option_map, option_or}
 use Rattle.ioa_terms.specs.Data.{Data}
 use Rattle.ioa_terms.specs.Operators.{unary_value, binary_value, decided}
@@ -9,19 +9,26 @@ use Rattle.ioa_terms.specs.Bindings.{Bindings, lookup}
 use Rattle.ioa_terms.specs.PlainTerm as plain
 use Rattle.ioa_terms.specs.PlainTerm.{PlainTerm, PlainTerms, name, one, two, call, display, field, no_terms, term}
 use Rattle.ioa_terms.specs.Meaning.{value, values, called}
-use Rattle.ioa_terms.specs.Sorted.{Shaped, HasShape, HaveShapes, IsShaped}
-use Rattle.ioa_terms.proofs.ShapesKept.{Has, HaveEach, mapped, chained, one_or_other, unary_has, decided_has, binary_has, function_has, display_has, field_has}
+use Rattle.ioa_terms.specs.Sorted.{Shaped, shape_named, counted, HasShape, HaveShapes, IsShaped}
+use Rattle.ioa_terms.proofs.ShapesKept.{Has, HaveEach, counted_has, mapped, chained, one_or_other, unary_has, decided_has, binary_has, function_has, display_has, field_has}
 use Rattle.ioa_operators.specs.declared.shape.Shape.{Shape}
 
 each : (P : Data → Type 0) (o : Option Data) → ((v : Data) → o ≡ Some v → P v) → IfSome o P
 each P None g = tt
 each P (Some v) g = g v refl
 
+-- what a name has
+named_has : (names : Shaped) (e : Bindings) → IsShaped names e → (x : List ℕ) (s : PlainShape) (v : Data) (o : Option PlainShape) → shape_named x names ≡ o → option_map counted o ≡ Some s → lookup x e ≡ Some v → Has s v
+named_has names e g x s v (Some z) q h k =
+    let f : counted z ≡ s = cc in
+    subst (λ (y : PlainShape). Has y v) f (counted_has z v (g x z v q k))
+named_has names e g x s v None q h k = absurd (cc)
+
 mutual
   sound : {N : Type 0} (names : Shaped) (e : Bindings) → IsShaped names e → (t : PlainTerm N Shape) (s : PlainShape) → HasShape names t s → IfSome (value t e) (Has s)
   sound names e g (plain.number n) s h = rw h refl
   sound names e g (plain.truth b) s h = rw h refl
-  sound names e g (name x at) s h = each (Has s) (lookup x e) (λ v k. g x s v h k)
+  sound names e g (name x at) s h = each (Has s) (lookup x e) (λ v k. named_has names e g x s v (shape_named x names) refl h k)
   sound names e g (one op a) s h = chained (Has h.0) (Has s) (unary_value op) (value a e) (sound names e g a h.0 h.1) (λ v k. unary_has h.2 v)
   sound names e g (two op a b) s h =
       chained (Has h.0) (Has s) (λ v. option_or (decided op v) (option_and_then (binary_value op v) (value b e))) (value a e) (sound names e g a h.0 h.2)

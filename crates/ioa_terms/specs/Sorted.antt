@@ -74,8 +74,7 @@ pub data FunctionIs : Function → List PlainShape → PlainShape → Type 0 whe
   removed : {k v : PlainShape} → FunctionIs Remove (maps k v ∷ k ∷ []) (maps k v)
   defined : {k v : PlainShape} → FunctionIs Defined (maps k v ∷ k ∷ []) truths
 
--- the shapes of the names in view; the first of a name counts. A term reads a natural as an integer where its name is given
--- a `counted` shape here
+-- the shapes of the names in view, as declared; the first of a name counts
 abbrev pub Shaped : Type 0
 Shaped = List (List ℕ × PlainShape)
 
@@ -107,11 +106,11 @@ DisplayIs Brackets xs (tuples type names fields) = xs ≡ map counted (listed_sh
 DisplayIs form xs s = ⊥
 
 abbrev mutual
-  -- a term has a shape; a display has the one that stands beside it
+  -- a term has a shape; a name has its own, where naturals count as integers; a display has the one that stands beside it
   pub HasShape : {N : Type 0} → Shaped → PlainTerm N Shape → PlainShape → Type 0
   HasShape names (plain.number n) s = s ≡ integers
   HasShape names (plain.truth b) s = s ≡ truths
-  HasShape names (name x at) s = shape_named x names ≡ Some s
+  HasShape names (name x at) s = option_map counted (shape_named x names) ≡ Some s
   HasShape names (one op a) s = (x : PlainShape) × HasShape names a x × UnaryIs op x s
   HasShape names (two op a b) s = (x : PlainShape) × (y : PlainShape) × HasShape names a x × HasShape names b y × BinaryIs op x y s
   HasShape names (call w ts) s = (f : Function) × (xs : List PlainShape) × (function_named w ≡ Some f) × HaveShapes names ts xs × FunctionIs f xs s

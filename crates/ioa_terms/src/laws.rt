@@ -13,8 +13,8 @@ ghost use Rattle.ioa_terms.specs.Ascending.{IsAscendingEnvironment};
 ghost use Rattle.ioa_operators.specs.declared.shape.Shape.{Shape};
 
 /// Where each value of an environment has the shape of its name, the value of a term has the shape of
-/// the term. A value that has a shape has it too where naturals count as integers, so that variables
-/// may be read.
+/// the term. A value that has a shape has it too where naturals count as integers, as they do where a
+/// name is read.
 pub fn shapes_law()
     ensures kept { (names : Shaped) (e : Bindings) → IsShaped names e → (t : PlainTerm ℕ Shape) (s : PlainShape) → HasShape names t s →
         (v : Data) → value t e ≡ Some v → has_shape s v ≡ true }
