@@ -3,4 +3,6 @@ pub mod Automata
 pub mod Loops
 pub mod Names
 pub mod Nodes
+pub mod Parts
+pub mod Refused
 pub mod Rows

@@ -29,7 +29,7 @@ each_take P f ys i y h p within at =
     rw (take_more ys i y within, map-append f (take i ys) (get_or ys i y ∷ []), ← at) (each_append P (map f (take i ys)) (f y) h p)
 
 -- the items of a list that are left begin with the next one
-next_left : {A : Type 0} (ys : List A) (i : ℕ) (y : A) → i < length ys → y ≡ get_or ys i y → drop i ys ≡ y ∷ drop (i + 1) ys
+pub next_left : {A : Type 0} (ys : List A) (i : ℕ) (y : A) → i < length ys → y ≡ get_or ys i y → drop i ys ≡ y ∷ drop (i + 1) ys
 next_left ys i y within at = rw (add-one, drop-cons ys i y, ← at) refl
 
 -- where the next one passes, the others decide
@@ -46,8 +46,3 @@ any_left {A} p f ys i y {any} h fails within at =
 pub any_next : {A B : Type 0} (p : B → Bool) (f : A → B) (ys : List A) (i : ℕ) (y : A) {any : Bool} → list_any p (map f (drop i ys)) ≡ any → p (f y) ≡ true → i < length ys → y ≡ get_or ys i y → true ≡ any
 any_next {A} p f ys i y {any} h passes within at =
     rw passes at (subst (λ (zs : List A). list_any p (map f zs) ≡ any) (next_left ys i y within at) h)
-
--- what one more item stands for
-pub map_take : {A B C : Type 0} (g : B → C) (f : A → B) (ys : List A) (i : ℕ) (y : A) → i < length ys → y ≡ get_or ys i y → map g (map f (take i ys)) ++ g (f y) ∷ [] ≡ map g (map f (take (i + 1) ys))
-map_take g f ys i y within at =
-    rw (take_more ys i y within, map-append f (take i ys) (get_or ys i y ∷ []), map-append g (map f (take i ys)) (f (get_or ys i y) ∷ []), ← at) refl

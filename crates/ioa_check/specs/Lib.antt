@@ -4,4 +4,6 @@ pub use Rattle.ioa_terms.specs.Data
 pub mod FirstForm
 pub mod FirstSorts
 pub mod Made
+pub mod Refusals
 pub mod Rows
+pub mod Standing

@@ -1,6 +1,6 @@
 //! A node's program, made of its automaton.
 
-ghost use Rattle.std.specs.Prelude.{◌≡◌, ◌&&◌, true, nat_eq, ◌++◌, All, [], ◌∷◌, IfOk, OnOk, Ok, map, take, length};
+ghost use Rattle.std.specs.Prelude.{◌≡◌, ◌&&◌, true, nat_eq, ◌++◌, All, [], ◌∷◌, IfOk, IfErr, OnOk, Ok, false, map, take, length};
 ghost use Rattle.std.specs.Option.{option_map, option_copied, is_some};
 ghost use lib.Pointwise.{pointwise};
 ghost use Rattle.std.specs.List.{AllByRecursion, IsDistinct, list_all, list_any};
@@ -8,6 +8,7 @@ ghost use Rattle.ioa_terms.specs.Bindings.{same_name};
 ghost use Rattle.ioa_check.specs.Rows.{HasNoEntryRow, HasNoAutomatonRow, has_entry, fires_entry, fires_as_many, guard_reads_only, assigns_only, assigns_number, is_guard_or_none, argument_repeats, same_term};
 ghost use Rattle.ioa_source.specs.Erasure.{erase_entry, erase_transition};
 ghost use Rattle.ioa_check.specs.Made.{AssignsInteger, HasIntegers, IsProgramOf, IsRuleOf, initial_answer, term_answer, transition_for, same_kind};
+ghost use Rattle.ioa_check.specs.Standing.{Fails, Only, Refuses, StandsInAutomaton, StandsInEntries, StandsInEntry, StandsInInitial, StandsInInitials, is_known_transition, is_sorted_transition};
 ghost use Rattle.ioa_source.specs.View.{term_of, statement_of};
 ghost use Rattle.ioa_source.specs.TextView.{automaton_of, parameter_of, entry_of, transition_of, variable_of};
 ghost use Rattle.ioa_terms.specs.Placed.{ArePlaced};
@@ -16,10 +17,9 @@ ghost use Rattle.ioa_system.specs.Placed.{IsPlacedRule, ArePlacedVariables, IsPl
 use crate::placing::{
     place_effect, place_entry, place_guard, place_schedule, place_terms, place_variables,
 };
-use ioa_system::{Program, Rule};
 use crate::refusal::{Refusal, Row};
-use ioa_system::Scope;
 use ioa_source::{Automaton, Entry, Parameter, Transition, Variable};
+use ioa_system::{Program, Rule, Scope};
 use ioa_terms::{Checked, Env, Kind, Shape, Statement, Term, TermFault, Tree, Value, Word, eval};
 use std::alloc::Global;
 
@@ -32,6 +32,7 @@ pub(crate) fn program_of(
     ensures node { IfOk result (λ p. p.node ≡ node) }
     ensures made { IfOk result (IsProgramOf (automaton_of automaton.now)) }
     ensures rows { OnOk result (HasNoAutomatonRow (automaton_of automaton.now)) }
+    ensures refused { IfErr result (Refuses (StandsInAutomaton (automaton_of automaton.now))) }
 {
     entries_differ(alloc, automaton)?;
     transitions_differ(alloc, automaton)?;
@@ -49,6 +50,7 @@ pub(crate) fn program_of(
 fn names_of(alloc: Global, variables: &[Variable<usize, Shape>]) -> Result<Scope, Refusal>
     ensures names { IfOk result (λ s. s ≡ variable_names (map variable_of variables.now)) }
     ensures differ { IfOk result (IsDistinct same_name) }
+    ensures refused { IfErr result (Refuses (Only Row.Twice (IsDistinct same_name (variable_names (map variable_of variables.now)) → ⊥))) }
 {
     let mut names = Scope::new(alloc);
     for variable in variables {
@@ -58,11 +60,13 @@ fn names_of(alloc: Global, variables: &[Variable<usize, Shape>]) -> Result<Scope
 }
 
 /// Declares a name that is new.
-fn declare(alloc: Global, names: &mut Scope, name: &Word) -> Result<(), Refusal>
+pub(crate) fn declare(alloc: Global, names: &mut Scope, name: &Word) -> Result<(), Refusal>
     ensures added { OnOk result (names.new ≡ names.old ++ name.now ∷ []) }
     ensures differ { OnOk result (IsDistinct same_name names.old → IsDistinct same_name names.new) }
+    ensures refused { IfErr result (Refuses (Only Row.Twice (IsDistinct same_name (names.old ++ name.now ∷ []) → ⊥))) }
 {
-    if names.declare(name.try_copy(alloc)?)? {
+    let fresh = names.declare(name.try_copy(alloc)?)?;
+    if fresh {
         Ok(())
     } else {
         Err(Refusal::Row(Row::Twice))
@@ -78,6 +82,7 @@ fn scope_for(
 ) -> Result<Scope, Refusal>
     ensures names { IfOk result (λ s. s ≡ scope_of (entry_of entry.now) (map variable_of variables.now)) }
     ensures differ { IfOk result (IsDistinct same_name) }
+    ensures refused { IfErr result (Refuses (Only Row.Twice (IsDistinct same_name (scope_of (entry_of entry.now) (map variable_of variables.now)) → ⊥))) }
 {
     let mut names = names_of(alloc, variables)?;
     for parameter in &entry.parameters {
@@ -94,6 +99,7 @@ fn declare_parameter(
 ) -> Result<(), Refusal>
     ensures added { OnOk result (names.new ≡ names.old ++ own_name (parameter_of parameter.now)) }
     ensures differ { OnOk result (IsDistinct same_name names.old → IsDistinct same_name names.new) }
+    ensures refused { IfErr result (Refuses (Only Row.Twice (IsDistinct same_name (names.old ++ own_name (parameter_of parameter.now)) → ⊥))) }
 {
     match parameter {
         Parameter::Const(_) => Ok(()),
@@ -109,6 +115,7 @@ fn initial_values(
     requires { ArePlacedVariables (map variable_of variables.now) }
     ensures many { IfOk result (λ vs. length vs.items ≡ length variables.now) }
     ensures values { IfOk result (λ vs. map initial_answer variables.now ≡ map Ok vs.items) }
+    ensures refused { IfErr result (Refuses (StandsInInitials variables.now)) }
 {
     let mut values = Vec::new(alloc);
     for variable in variables {
@@ -121,7 +128,8 @@ fn initial_values(
 /// The value of an initial term.
 fn initial_value(alloc: Global, initial: &Option<Checked>) -> Result<Value, Refusal>
     requires { IsPlacedGuard (option_map term_of initial.now) [] }
-    ensures { IfOk result (λ v. term_answer (option_map term_of initial.now) ≡ Ok v) }
+    ensures value { IfOk result (λ v. term_answer (option_map term_of initial.now) ≡ Ok v) }
+    ensures refused { IfErr result (Refuses (StandsInInitial (option_map term_of initial.now))) }
 {
     let Some(term) = initial else {
         return Err(Refusal::Row(Row::NoInitial));
@@ -146,6 +154,7 @@ fn rules_of(
     ensures shapes { IfOk result (λ rs. AllByRecursion HasIntegers rs.items) }
     ensures rows { OnOk result (AllByRecursion (HasNoEntryRow (variable_names (map variable_of variables.now)) (automaton_of automaton.now).transitions)
         (automaton_of automaton.now).signature) }
+    ensures refused { IfErr result (Refuses (StandsInEntries (variable_names (map variable_of variables.now)) (automaton_of automaton.now).transitions (automaton_of automaton.now).signature)) }
 {
     let mut rules = Vec::new(alloc);
     for entry in &automaton.signature {
@@ -167,6 +176,7 @@ fn rule_of(
     ensures transition { IfOk result (IsRuleOf (automaton_of automaton.now)) }
     ensures shapes { IfOk result HasIntegers }
     ensures rows { OnOk result (HasNoEntryRow (variable_names (map variable_of variables.now)) (automaton_of automaton.now).transitions (entry_of entry.now)) }
+    ensures refused { IfErr result (Refuses (StandsInEntry (variable_names (map variable_of variables.now)) (automaton_of automaton.now).transitions (entry_of entry.now))) }
 {
     let Some(transition) = transition_for(automaton, entry) else {
         return Err(Refusal::Row(Row::NoTransition));
@@ -212,6 +222,7 @@ fn place_transition(
     ensures guard_names { OnOk result (guard_reads_only scope.now (transition_of transition.now).pre ≡ true) }
     ensures numbers { OnOk result (list_all assigns_number (transition_of transition.now).effect ≡ true) }
     ensures names { OnOk result (list_all (assigns_only (take count scope.now) scope.now) (transition_of transition.now).effect ≡ true) }
+    ensures refused { IfErr result (Refuses (Fails (is_known_transition (take count scope.now) scope.now (transition_of transition.now)) (is_sorted_transition (transition_of transition.now)))) }
 {
     let name = transition.name.try_copy(alloc)?;
     let arguments = place_terms(alloc, scope, &transition.arguments)?;
@@ -284,7 +295,8 @@ fn same_term(left: &Term, right: &Term) -> bool
 
 /// Passes where no two entries have one name.
 fn entries_differ(alloc: Global, automaton: &Automaton<(), ()>) -> Result<(), Refusal>
-    ensures { OnOk result (IsDistinct same_name (map (λ e. e.name) (automaton_of automaton.now).signature)) }
+    ensures differ { OnOk result (IsDistinct same_name (map (λ e. e.name) (automaton_of automaton.now).signature)) }
+    ensures refused { IfErr result (Refuses (Only Row.Twice (IsDistinct same_name (map (λ e. e.name) (automaton_of automaton.now).signature) → ⊥))) }
 {
     let mut names = Scope::new(alloc);
     for entry in &automaton.signature {
@@ -295,7 +307,8 @@ fn entries_differ(alloc: Global, automaton: &Automaton<(), ()>) -> Result<(), Re
 
 /// Passes where no two transitions have one name.
 fn transitions_differ(alloc: Global, automaton: &Automaton<(), ()>) -> Result<(), Refusal>
-    ensures { OnOk result (IsDistinct same_name (map (λ t. t.name) (automaton_of automaton.now).transitions)) }
+    ensures differ { OnOk result (IsDistinct same_name (map (λ t. t.name) (automaton_of automaton.now).transitions)) }
+    ensures refused { IfErr result (Refuses (Only Row.Twice (IsDistinct same_name (map (λ t. t.name) (automaton_of automaton.now).transitions) → ⊥))) }
 {
     let mut names = Scope::new(alloc);
     for transition in &automaton.transitions {
@@ -306,7 +319,8 @@ fn transitions_differ(alloc: Global, automaton: &Automaton<(), ()>) -> Result<()
 
 /// Passes where each transition is of an entry's name and kind.
 fn transitions_have_entries(automaton: &Automaton<(), ()>) -> Result<(), Refusal>
-    ensures { OnOk result (list_all (has_entry (automaton_of automaton.now).signature) (automaton_of automaton.now).transitions ≡ true) }
+    ensures known { OnOk result (list_all (has_entry (automaton_of automaton.now).signature) (automaton_of automaton.now).transitions ≡ true) }
+    ensures refused { IfErr result (Refuses (Only Row.Unknown (list_all (has_entry (automaton_of automaton.now).signature) (automaton_of automaton.now).transitions ≡ false))) }
 {
     for transition in &automaton.transitions {
         if !has_entry(automaton, transition) {
@@ -332,6 +346,7 @@ fn has_entry(automaton: &Automaton<(), ()>, transition: &Transition<(), ()>) -> 
 fn firings_have_entries(automaton: &Automaton<(), ()>) -> Result<(), Refusal>
     ensures known { OnOk result (list_all (fires_entry (automaton_of automaton.now).signature) (automaton_of automaton.now).schedule ≡ true) }
     ensures many { OnOk result (list_all (fires_as_many (automaton_of automaton.now).signature) (automaton_of automaton.now).schedule ≡ true) }
+    ensures refused { IfErr result (Refuses (Fails (list_all (fires_entry (automaton_of automaton.now).signature) (automaton_of automaton.now).schedule) (list_all (fires_as_many (automaton_of automaton.now).signature) (automaton_of automaton.now).schedule))) }
 {
     for statement in &automaton.schedule {
         if !fires_entry(automaton, statement) {

@@ -1,6 +1,6 @@
 //! From a text to a system, or the first row of refusal found in it.
 
-ghost use Rattle.std.specs.Prelude.{◌≡◌, ◌<◌, ◌≤◌, ◌^◌, ◌++◌, ◌∷◌, [], ◌&&◌, ◌||◌, not, true, codes, slice_get, Some, Contains, IfOk, OnOk, IfSome, map, length};
+ghost use Rattle.std.specs.Prelude.{◌≡◌, ◌<◌, ◌≤◌, ◌^◌, ◌++◌, ◌∷◌, [], ◌&&◌, ◌||◌, not, true, false, codes, slice_get, pos, Some, Contains, IfOk, IfErr, OnOk, IfSome, IfNone, ◌⊎◌, map, length};
 ghost use Rattle.std.specs.List.{AllByRecursion, IsDistinct, list_all, list_any};
 ghost use Rattle.ioa_terms.specs.Bindings.{same_name};
 ghost use Rattle.std.specs.Option.{option_map, option_copied};
@@ -12,16 +12,15 @@ ghost use Rattle.ioa_check.specs.Made.{IsSystemOf, IsNodeOf, AreNodesOf, nodes_i
 ghost use Rattle.ioa_check.specs.Rows as spec;
 ghost use Rattle.ioa_check.specs.Rows.{HasNoRow, HasNoSystemRow, HasNoAutomatonRow};
 ghost use Rattle.ioa_check.specs.FirstForm.{is_first_declaration, is_first_placement, passes};
+ghost use Rattle.ioa_check.specs.Standing.{Answered, FailsOfChannels, FailsOfNodes, Only, Refuses, Stands, StandsIn, StandsInAutomata, StandsInAutomaton};
 
-use crate::building::program_of;
+use crate::building::{declare, program_of};
 use crate::first_form::{is_first_declaration, is_first_placement};
-use ioa_system::Program;
 use crate::refusal::{CheckFault, Refusal, Row};
-use ioa_system::Scope;
-use ioa_system::System;
-use ioa_text_reader::Source;
 use ioa_source::{Automaton, Channel, Declaration, Entry, Node, Parameter, Placement, Text};
+use ioa_system::{Program, Scope, System};
 use ioa_terms::{Names, Tree, Word};
+use ioa_text_reader::Source;
 use std::alloc::Global;
 use std::sync::Arc;
 
@@ -37,6 +36,7 @@ const MOST_CHANNELS: usize = 256;
 pub fn check(alloc: Global, source: Source) -> Result<System, CheckFault>
     ensures system { IfOk result (IsSystemOf (text_of source.text)) }
     ensures rows { IfOk result (λ _. HasNoRow (text_of source.text)) }
+    ensures refused { IfErr result (λ f. Stands f (text_of source.text)) }
 {
     check_text(alloc, source.text())
 }
@@ -45,6 +45,7 @@ pub fn check(alloc: Global, source: Source) -> Result<System, CheckFault>
 fn check_text(alloc: Global, text: &Text<(), ()>) -> Result<System, CheckFault>
     ensures system { IfOk result (IsSystemOf (text_of text.now)) }
     ensures rows { OnOk result (HasNoRow (text_of text.now)) }
+    ensures refused { IfErr result (λ f. Stands f (text_of text.now)) }
 {
     check_first_form(text)?;
     check_declarations(alloc, &text.declarations)?;
@@ -58,6 +59,7 @@ fn check_text(alloc: Global, text: &Text<(), ()>) -> Result<System, CheckFault>
 fn check_first_form(text: &Text<(), ()>) -> Result<(), CheckFault>
     ensures declarations { OnOk result (list_all is_first_declaration (text_of text.now).declarations ≡ true) }
     ensures placements { OnOk result (list_all is_first_placement (text_of text.now).system ≡ true) }
+    ensures refused { IfErr result (Answered (Only Row.Unknown ((list_all is_first_declaration (text_of text.now).declarations && list_all is_first_placement (text_of text.now).system) ≡ false))) }
 {
     declarations_are_first(&text.declarations)?;
     if !placements_are_first(&text.system) {
@@ -68,7 +70,8 @@ fn check_first_form(text: &Text<(), ()>) -> Result<(), CheckFault>
 
 /// Passes where each declaration is of the first form.
 fn declarations_are_first(declarations: &[Declaration<(), ()>]) -> Result<(), CheckFault>
-    ensures { OnOk result (list_all is_first_declaration (map declaration_of declarations.now) ≡ true) }
+    ensures first { OnOk result (list_all is_first_declaration (map declaration_of declarations.now) ≡ true) }
+    ensures refused { IfErr result (Answered (Only Row.Unknown (list_all is_first_declaration (map declaration_of declarations.now) ≡ false))) }
 {
     for (place, declaration) in declarations.iter().enumerate() {
         if !is_first_declaration(declaration) {
@@ -94,6 +97,7 @@ fn placements_are_first(placements: &[Placement<(), ()>]) -> bool
 fn check_declarations(alloc: Global, declarations: &[Declaration<(), ()>]) -> Result<(), CheckFault>
     ensures differ { OnOk result (IsDistinct same_name (map (λ a. a.name) (automata_in (map declaration_of declarations.now)))) }
     ensures rows { OnOk result (AllByRecursion HasNoAutomatonRow (automata_in (map declaration_of declarations.now))) }
+    ensures refused { IfErr result (Answered (StandsInAutomata [] (automata_in (map declaration_of declarations.now)))) }
 {
     let mut names = Scope::new(alloc);
     for place in 0..declarations.len() {
@@ -114,6 +118,7 @@ fn check_declaration(
     ensures added { OnOk result (names.new ≡ names.old ++ map (λ a. a.name) (automaton_in (declaration_of declaration.now))) }
     ensures differ { OnOk result (IsDistinct same_name names.old → IsDistinct same_name names.new) }
     ensures rows { OnOk result (AllByRecursion HasNoAutomatonRow (automaton_in (declaration_of declaration.now))) }
+    ensures refused { IfErr result (Refuses (StandsInAutomata names.old (automaton_in (declaration_of declaration.now)))) }
 {
     match declaration {
         Declaration::Type(_) => Ok(()),
@@ -130,16 +135,16 @@ fn check_named(
     ensures added { OnOk result (names.new ≡ names.old ++ (automaton_of automaton.now).name ∷ []) }
     ensures differ { OnOk result (IsDistinct same_name names.old → IsDistinct same_name names.new) }
     ensures rows { OnOk result (HasNoAutomatonRow (automaton_of automaton.now)) }
+    ensures refused { IfErr result (Refuses (StandsInAutomata names.old (automaton_of automaton.now ∷ []))) }
 {
-    if !names.declare(automaton.name.try_copy(alloc)?)? {
-        return Err(Refusal::Row(Row::Twice));
-    }
+    declare(alloc, names, &automaton.name)?;
     check_automaton(alloc, automaton)
 }
 
 /// Passes where a program can be made of an automaton.
 fn check_automaton(alloc: Global, automaton: &Automaton<(), ()>) -> Result<(), Refusal>
-    ensures { OnOk result (HasNoAutomatonRow (automaton_of automaton.now)) }
+    ensures rows { OnOk result (HasNoAutomatonRow (automaton_of automaton.now)) }
+    ensures refused { IfErr result (Refuses (StandsInAutomaton (automaton_of automaton.now))) }
 {
     let _program = program_of(alloc, 0, automaton)?;
     Ok(())
@@ -149,6 +154,7 @@ fn check_automaton(alloc: Global, automaton: &Automaton<(), ()>) -> Result<(), R
 fn check_placements(alloc: Global, text: &Text<(), ()>) -> Result<System, Refusal>
     ensures system { IfOk result (IsSystemOf (text_of text.now)) }
     ensures rows { OnOk result (HasNoSystemRow (text_of text.now)) }
+    ensures refused { IfErr result (Refuses (StandsIn (text_of text.now))) }
 {
     let nodes = nodes_of(alloc, text)?;
     let channels = channels_of(alloc, text)?;
@@ -164,6 +170,7 @@ fn check_placements(alloc: Global, text: &Text<(), ()>) -> Result<System, Refusa
 fn nodes_of<'a>(alloc: Global, text: &'a Text<(), ()>) -> Result<Vec<&'a Node<(), ()>>, Refusal>
     ensures all { IfOk result (λ ns. map node_at ns.items ≡ nodes_in (text_of text.now).system) }
     ensures few { IfOk result (λ ns. length ns.items ≤ 64) }
+    ensures refused { IfErr result (Refuses (Only Row.Limit (length (nodes_in (text_of text.now).system) ≤ 64 → ⊥))) }
 {
     let mut nodes: Vec<&'a Node<(), ()>> = Vec::new(alloc);
     for placement in &text.system {
@@ -181,6 +188,7 @@ fn nodes_of<'a>(alloc: Global, text: &'a Text<(), ()>) -> Result<Vec<&'a Node<()
 fn channels_of(alloc: Global, text: &Text<(), ()>) -> Result<Vec<Channel>, Refusal>
     ensures all { IfOk result (λ cs. cs.items ≡ channels_in (text_of text.now).system) }
     ensures few { IfOk result (λ cs. length cs.items ≤ 256) }
+    ensures refused { IfErr result (Refuses (Only Row.Limit (length (channels_in (text_of text.now).system) ≤ 256 → ⊥))) }
 {
     let mut channels: Vec<Channel> = Vec::new(alloc);
     for placement in &text.system {
@@ -196,7 +204,8 @@ fn channels_of(alloc: Global, text: &Text<(), ()>) -> Result<Vec<Channel>, Refus
 
 /// Passes where no two nodes have one number.
 fn numbers_differ(nodes: &[&Node<(), ()>]) -> Result<(), Refusal>
-    ensures { OnOk result (IsDistinct spec.same_number (map node_at nodes.now)) }
+    ensures differ { OnOk result (IsDistinct spec.same_number (map node_at nodes.now)) }
+    ensures refused { IfErr result (Refuses (Only Row.Twice (IsDistinct spec.same_number (map node_at nodes.now) → ⊥))) }
 {
     for place in 0..nodes.len() {
         let node = nodes[place];
@@ -228,7 +237,8 @@ fn is_node(nodes: &[&Node<(), ()>], number: i64) -> bool
 
 /// Passes where no two channels are between the same nodes in the same direction.
 fn channels_differ(channels: &[Channel]) -> Result<(), Refusal>
-    ensures { OnOk result (IsDistinct spec.same_channel channels.now) }
+    ensures differ { OnOk result (IsDistinct spec.same_channel channels.now) }
+    ensures refused { IfErr result (Refuses (Only Row.Twice (IsDistinct spec.same_channel channels.now → ⊥))) }
 {
     for (place, channel) in channels.iter().enumerate() {
         if is_channel(&channels[..place], channel) {
@@ -255,6 +265,7 @@ fn is_channel(channels: &[Channel], channel: &Channel) -> bool
 fn check_nodes(text: &Text<(), ()>, nodes: &[&Node<(), ()>]) -> Result<(), Refusal>
     ensures declared { OnOk result (list_all (spec.is_declared (text_of text.now).declarations) (map node_at nodes.now) ≡ true) }
     ensures at_home { OnOk result (list_all (spec.has_its_own (text_of text.now).declarations) (map node_at nodes.now) ≡ true) }
+    ensures refused { IfErr result (Refuses (FailsOfNodes (list_all (spec.is_declared (text_of text.now).declarations) (map node_at nodes.now)) (list_all (spec.has_its_own (text_of text.now).declarations) (map node_at nodes.now)))) }
 {
     for node in nodes {
         check_node(text, node)?;
@@ -266,6 +277,7 @@ fn check_nodes(text: &Text<(), ()>, nodes: &[&Node<(), ()>]) -> Result<(), Refus
 fn check_node(text: &Text<(), ()>, node: &Node<(), ()>) -> Result<(), Refusal>
     ensures declared { OnOk result (spec.is_declared (text_of text.now).declarations (node_of node.now) ≡ true) }
     ensures at_home { OnOk result (spec.has_its_own (text_of text.now).declarations (node_of node.now) ≡ true) }
+    ensures refused { IfErr result (Refuses (FailsOfNodes (spec.is_declared (text_of text.now).declarations (node_of node.now)) (spec.has_its_own (text_of text.now).declarations (node_of node.now)))) }
 {
     match automaton_of_name(&text.declarations, &node.automaton) {
         None => Err(Refusal::Row(Row::Unknown)),
@@ -288,6 +300,7 @@ fn check_channels(
     ensures two { OnOk result (list_all spec.joins_two channels.now ≡ true) }
     ensures ends { OnOk result (list_all (spec.joins_nodes (map node_at nodes.now)) channels.now ≡ true) }
     ensures inputs { OnOk result (list_all (spec.has_input (text_of text.now).declarations (map node_at nodes.now)) channels.now ≡ true) }
+    ensures refused { IfErr result (Refuses (FailsOfChannels (list_all spec.joins_two channels.now) (list_all (spec.joins_nodes (map node_at nodes.now)) channels.now) (list_all (spec.has_input (text_of text.now).declarations (map node_at nodes.now)) channels.now))) }
 {
     for channel in channels {
         check_channel(text, nodes, channel)?;
@@ -304,6 +317,7 @@ fn check_channel(
     ensures two { OnOk result (spec.joins_two channel.now ≡ true) }
     ensures ends { OnOk result (spec.joins_nodes (map node_at nodes.now) channel.now ≡ true) }
     ensures inputs { OnOk result (spec.has_input (text_of text.now).declarations (map node_at nodes.now) channel.now ≡ true) }
+    ensures refused { IfErr result (Refuses (FailsOfChannels (spec.joins_two channel.now) (spec.joins_nodes (map node_at nodes.now) channel.now) (spec.has_input (text_of text.now).declarations (map node_at nodes.now) channel.now))) }
 {
     if channel.from == channel.to {
         return Err(Refusal::Row(Row::SelfChannel));
@@ -355,9 +369,10 @@ fn automaton_on<'a>(
     nodes: &[&'a Node<(), ()>],
     number: i64,
 ) -> Result<&'a Automaton<(), ()>, Refusal>
-    ensures { IfOk result (λ a. (n : SourceNode) × Contains (map node_at nodes.now) n × (n.number ≡ number)
+    ensures placed { IfOk result (λ a. (n : SourceNode) × Contains (map node_at nodes.now) n × (n.number ≡ number)
         × (automaton_named n.automaton (map declaration_of text.entry.now.declarations.items)
         ≡ Some (automaton_of a.now))) }
+    ensures refused { IfErr result (Refuses (λ r. Only Row.NodeGap (spec.is_node (map node_at nodes.now) number ≡ false) r ⊎ Only Row.Unknown (list_all (spec.is_declared (text_of text.now).declarations) (map node_at nodes.now) ≡ false) r)) }
 {
     let Some(node) = node_of(nodes, number) else {
         return Err(Refusal::Row(Row::NodeGap));
@@ -372,6 +387,7 @@ fn automaton_on<'a>(
 fn node_of<'a>(nodes: &[&'a Node<(), ()>], number: i64) -> Option<&'a Node<(), ()>>
     ensures number { IfSome result (λ n. n.now.number ≡ number) }
     ensures declared { IfSome result (λ n. Contains (map node_at nodes.now) (node_at n)) }
+    ensures none { IfNone result (spec.is_node (map node_at nodes.now) number ≡ false) }
 {
     for node in nodes {
         if node.number == number {
@@ -408,6 +424,7 @@ fn programs_of(
     requires { map node_at nodes.now ≡ nodes_in (text_of text.now).system }
     ensures nodes { IfOk result (λ ps. AreNodesOf (text_of text.now) 0 (map arc_value ps.items)) }
     ensures many { IfOk result (λ ps. length ps.items ≡ length nodes.now) }
+    ensures refused { IfErr result (Refuses (StandsIn (text_of text.now))) }
 {
     let mut programs = Vec::new(alloc);
     for place in 0..nodes.len() {
@@ -426,7 +443,8 @@ fn node_program(
 ) -> Result<Arc<Program>, Refusal>
     requires nodes { map node_at nodes.now ≡ nodes_in (text_of text.now).system }
     requires small { place < 2 ^ 63 }
-    ensures { IfOk result (λ p. IsNodeOf (text_of text.now) place (arc_value p)) }
+    ensures node { IfOk result (λ p. IsNodeOf (text_of text.now) place (arc_value p)) }
+    ensures refused { IfErr result (Refuses (λ r. Only Row.NodeGap (spec.is_node (map node_at nodes.now) (pos place) ≡ false) r ⊎ StandsIn (text_of text.now) r)) }
 {
     let number = place as i64;
     let automaton = automaton_on(text, nodes, number)?;

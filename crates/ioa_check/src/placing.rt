@@ -1,6 +1,6 @@
 //! Terms and statements of a text, with each name's place beside it.
 
-ghost use Rattle.std.specs.Prelude.{◌≡◌, IfOk, OnOk, map, take, [], true, List, ℕ};
+ghost use Rattle.std.specs.Prelude.{◌≡◌, IfOk, IfErr, OnOk, map, take, [], ◌∷◌, true, not, List, ℕ};
 ghost use Rattle.std.specs.List.{AllByRecursion, list_all, list_any};
 ghost use Rattle.std.specs.Option.{option_map, is_some};
 ghost use Rattle.ioa_source.specs.PlainTerm as plain;
@@ -15,13 +15,15 @@ ghost use Rattle.ioa_operators.specs.Shapes.{integers};
 ghost use Rattle.ioa_operators.specs.ShapeView.{shape_of};
 ghost use Rattle.ioa_system.specs.Placed.{IsPlacedGuard, IsPlacedParameter, ArePlacedParameters, ArePlacedTerms, IsPlacedFiring, ArePlacedFirings, ArePlacedVariables};
 ghost use Rattle.ioa_check.specs.Made.{AssignsInteger, HasItsShape, HasParameterShape, IsShapeOf};
+ghost use Rattle.ioa_check.specs.FirstForm.{is_first_sort};
 ghost use Rattle.ioa_check.specs.FirstSorts.{is_number, is_guard};
+ghost use Rattle.ioa_check.specs.Standing.{Fails, Refuses, StandsInVariables, assigns_in, fires_in, is_known_entry, is_known_parameter};
 ghost use Rattle.ioa_check.specs.Rows.{reads_only, reads_no_name, guard_reads_only, writes_only, assigns_only, assigns_number, fires_only, fires_numbers, is_number_constant, is_number_term, is_guard_or_none};
 
 use crate::first_form::is_first_operator;
 use crate::refusal::{Refusal, Row};
-use ioa_system::Scope;
 use ioa_source::{Declared, Entry, Parameter, Sort, Variable};
+use ioa_system::Scope;
 use ioa_terms::{BinaryOperator, Checked, Place, Shape, Statement, Term, Word};
 use std::alloc::Global;
 
@@ -30,6 +32,7 @@ pub(crate) fn place_term(alloc: Global, scope: &Scope, term: &Term) -> Result<Ch
     ensures same { IfOk result (λ t. erase_term (term_of t) ≡ term_of term.now) }
     ensures placed { IfOk result (λ t. IsPlaced (term_of t) scope.now) }
     ensures names { OnOk result (reads_only scope.now (term_of term.now) ≡ true) }
+    ensures refused { IfErr result (Refuses (Fails (reads_only scope.now (term_of term.now)) true)) }
 {
     match term {
         Term::Number(n) => Ok(Checked::Number(*n)),
@@ -47,11 +50,12 @@ pub(crate) fn place_term(alloc: Global, scope: &Scope, term: &Term) -> Result<Ch
 }
 
 /// A name with its place among those in view.
-#[tactic(auto, using(crate::proofs::Names::any_place))]
+#[tactic(auto, using(crate::proofs::Names::any_place, crate::proofs::Refused::none_place))]
 fn place_name(alloc: Global, scope: &Scope, name: &Word) -> Result<Checked, Refusal>
     ensures same { IfOk result (λ t. erase_term (term_of t) ≡ plain.name name.now tt) }
     ensures placed { IfOk result (λ t. IsPlaced (term_of t) scope.now) }
     ensures names { OnOk result (list_any (same_name name.now) scope.now ≡ true) }
+    ensures refused { IfErr result (Refuses (Fails (list_any (same_name name.now) scope.now) true)) }
 {
     match scope.place_of(name) {
         Some(at) => Ok(Checked::Name(name.try_copy(alloc)?, at)),
@@ -69,6 +73,7 @@ pub(crate) fn place_terms(
     ensures same { IfOk result (λ ts. map erase_term (map term_of ts.items) ≡ map term_of terms.now) }
     ensures placed { IfOk result (λ ts. ArePlacedTerms (map term_of ts.items) scope.now) }
     ensures names { OnOk result (list_all (reads_only scope.now) (map term_of terms.now) ≡ true) }
+    ensures refused { IfErr result (Refuses (Fails (list_all (reads_only scope.now) (map term_of terms.now)) true)) }
 {
     let mut placed = Vec::new(alloc);
     for term in terms {
@@ -78,7 +83,7 @@ pub(crate) fn place_terms(
 }
 
 /// The place that an assignment writes: one of the first `count` names, those of the state variables.
-#[tactic(auto, using(crate::proofs::Names::any_first_place))]
+#[tactic(auto, using(crate::proofs::Names::any_first_place, crate::proofs::Refused::none_first_place))]
 fn place_target(
     alloc: Global,
     scope: &Scope,
@@ -89,6 +94,7 @@ fn place_target(
     ensures placed { IfOk result (λ p. IsPlacedPlace (place_of p) scope.now scope.now) }
     ensures shape { IfOk result (λ p. target_shape (place_of p) ≡ integers) }
     ensures written { OnOk result (writes_only (take count scope.now) (place_of place.now) ≡ true) }
+    ensures refused { IfErr result (Refuses (Fails (writes_only (take count scope.now) (place_of place.now)) true)) }
 {
     let Place::Variable(name, _, _) = place else {
         return Err(Refusal::Row(Row::Unknown));
@@ -115,6 +121,7 @@ fn place_assignment(
     ensures shape { IfOk result (λ s. AssignsInteger (statement_of s)) }
     ensures number { OnOk result (assigns_number (statement_of statement.now) ≡ true) }
     ensures names { OnOk result (assigns_only (take count scope.now) scope.now (statement_of statement.now) ≡ true) }
+    ensures refused { IfErr result (Refuses (Fails (assigns_in (take count scope.now) scope.now (statement_of statement.now)) (assigns_number (statement_of statement.now)))) }
 {
     match statement {
         Statement::Assign(place, term) => place_assigned(alloc, scope, count, place, term),
@@ -135,6 +142,7 @@ fn place_assigned(
     ensures shape { IfOk result (λ s. AssignsInteger (statement_of s)) }
     ensures number { OnOk result (is_number (term_of term.now) ≡ true) }
     ensures names { OnOk result (assigns_only (take count scope.now) scope.now (plain.assign (place_of place.now) (term_of term.now)) ≡ true) }
+    ensures refused { IfErr result (Refuses (Fails (assigns_in (take count scope.now) scope.now (plain.assign (place_of place.now) (term_of term.now))) (is_number (term_of term.now)))) }
 {
     let place = place_target(alloc, scope, count, place)?;
     let value = place_term(alloc, scope, term)?;
@@ -157,6 +165,7 @@ pub(crate) fn place_effect(
     ensures shapes { IfOk result (λ ss. AllByRecursion AssignsInteger (map statement_of ss.items)) }
     ensures numbers { OnOk result (list_all assigns_number (map statement_of effect.now) ≡ true) }
     ensures names { OnOk result (list_all (assigns_only (take count scope.now) scope.now) (map statement_of effect.now) ≡ true) }
+    ensures refused { IfErr result (Refuses (Fails (list_all (assigns_in (take count scope.now) scope.now) (map statement_of effect.now)) (list_all assigns_number (map statement_of effect.now)))) }
 {
     let mut placed = Vec::new(alloc);
     for statement in effect {
@@ -175,6 +184,7 @@ pub(crate) fn place_guard(
     ensures placed { IfOk result (λ g. IsPlacedGuard (option_map term_of g) scope.now) }
     ensures sort { OnOk result (is_guard_or_none (option_map term_of pre.now) ≡ true) }
     ensures names { OnOk result (guard_reads_only scope.now (option_map term_of pre.now) ≡ true) }
+    ensures refused { IfErr result (Refuses (Fails (guard_reads_only scope.now (option_map term_of pre.now)) (is_guard_or_none (option_map term_of pre.now)))) }
 {
     match pre {
         None => Ok(None),
@@ -198,6 +208,7 @@ fn place_firing(
     ensures placed { IfOk result (λ s. IsPlacedFiring (statement_of s) variables.now) }
     ensures numbers { OnOk result (fires_numbers (statement_of statement.now) ≡ true) }
     ensures names { OnOk result (fires_only variables.now (statement_of statement.now) ≡ true) }
+    ensures refused { IfErr result (Refuses (Fails (fires_in variables.now (statement_of statement.now)) (fires_numbers (statement_of statement.now)))) }
 {
     match statement {
         Statement::Fire(kind, name, arguments) => {
@@ -223,6 +234,7 @@ pub(crate) fn place_schedule(
     ensures placed { IfOk result (λ ss. ArePlacedFirings (map statement_of ss.items) variables.now) }
     ensures numbers { OnOk result (list_all fires_numbers (map statement_of schedule.now) ≡ true) }
     ensures names { OnOk result (list_all (fires_only variables.now) (map statement_of schedule.now) ≡ true) }
+    ensures refused { IfErr result (Refuses (Fails (list_all (fires_in variables.now) (map statement_of schedule.now)) (list_all fires_numbers (map statement_of schedule.now)))) }
 {
     let mut placed = Vec::new(alloc);
     for statement in schedule {
@@ -233,7 +245,8 @@ pub(crate) fn place_schedule(
 
 /// The shape of a sort of the first form.
 fn shape_of_sort(sort: &Sort) -> Result<Shape, Refusal>
-    ensures { IfOk result (λ s. IsShapeOf (sort_of sort.now) (shape_of s)) }
+    ensures shape { IfOk result (λ s. IsShapeOf (sort_of sort.now) (shape_of s)) }
+    ensures refused { IfErr result (Refuses (Fails (is_first_sort (sort_of sort.now)) true)) }
 {
     match sort {
         Sort::Int => Ok(Shape::Integers),
@@ -245,6 +258,7 @@ fn shape_of_sort(sort: &Sort) -> Result<Shape, Refusal>
 fn place_declared(alloc: Global, declared: &Declared<()>) -> Result<Declared<Shape>, Refusal>
     ensures same { IfOk result (λ d. erase_declared (declared_of d) ≡ declared_of declared.now) }
     ensures shape { IfOk result (λ d. HasItsShape (declared_of d)) }
+    ensures refused { IfErr result (Refuses (Fails (is_first_sort (declared_of declared.now).sort) true)) }
 {
     let shape = shape_of_sort(&declared.sort)?;
     let name = declared.name.try_copy(alloc)?;
@@ -262,6 +276,7 @@ fn place_parameter(
     ensures shape { IfOk result (λ p. HasParameterShape (parameter_of p)) }
     ensures number { OnOk result (is_number_constant (parameter_of parameter.now) ≡ true) }
     ensures names { OnOk result (reads_no_name (parameter_of parameter.now) ≡ true) }
+    ensures refused { IfErr result (Refuses (Fails (is_known_parameter (parameter_of parameter.now)) (is_number_constant (parameter_of parameter.now)))) }
 {
     match parameter {
         Parameter::Const(term) => {
@@ -288,6 +303,7 @@ fn place_parameters(
     ensures shapes { IfOk result (λ ps. AllByRecursion HasParameterShape (map parameter_of ps.items)) }
     ensures numbers { OnOk result (list_all is_number_constant (map parameter_of parameters.now) ≡ true) }
     ensures names { OnOk result (list_all reads_no_name (map parameter_of parameters.now) ≡ true) }
+    ensures refused { IfErr result (Refuses (Fails (list_all is_known_parameter (map parameter_of parameters.now)) (list_all is_number_constant (map parameter_of parameters.now)))) }
 {
     let mut placed = Vec::new(alloc);
     for parameter in parameters {
@@ -300,6 +316,7 @@ fn place_parameters(
 fn place_condition(condition: &Option<Term>) -> Result<Option<Checked>, Refusal>
     ensures same { IfOk result (λ t. option_map erase_term (option_map term_of t) ≡ option_map term_of condition.now) }
     ensures placed { IfOk result (λ t. (names : List (List ℕ)) → IsPlacedGuard (option_map term_of t) names) }
+    ensures refused { IfErr result (Refuses (Fails (not (is_some (option_map term_of condition.now))) true)) }
 {
     match condition {
         None => Ok(None),
@@ -318,6 +335,7 @@ pub(crate) fn place_entry(
     ensures shapes { IfOk result (λ e. AllByRecursion HasParameterShape (entry_of e).parameters) }
     ensures numbers { OnOk result (list_all is_number_constant (entry_of entry.now).parameters ≡ true) }
     ensures names { OnOk result (list_all reads_no_name (entry_of entry.now).parameters ≡ true) }
+    ensures refused { IfErr result (Refuses (Fails (is_known_entry (entry_of entry.now)) (list_all is_number_constant (entry_of entry.now).parameters))) }
 {
     let name = entry.name.try_copy(alloc)?;
     let parameters = place_parameters(alloc, &entry.parameters)?;
@@ -341,6 +359,7 @@ fn place_variable(
     ensures initial { OnOk result (is_some (variable_of variable.now).initial ≡ true) }
     ensures number { OnOk result (is_number_term (variable_of variable.now).initial ≡ true) }
     ensures names { OnOk result (guard_reads_only [] (variable_of variable.now).initial ≡ true) }
+    ensures refused { IfErr result (Refuses (StandsInVariables (variable_of variable.now ∷ []))) }
 {
     let Some(initial) = &variable.initial else {
         return Err(Refusal::Row(Row::NoInitial));
@@ -368,6 +387,7 @@ pub(crate) fn place_variables(
     ensures initials { OnOk result (list_all (λ v. is_some v.initial) (map variable_of variables.now) ≡ true) }
     ensures numbers { OnOk result (list_all (λ v. is_number_term v.initial) (map variable_of variables.now) ≡ true) }
     ensures names { OnOk result (list_all (λ v. guard_reads_only [] v.initial) (map variable_of variables.now) ≡ true) }
+    ensures refused { IfErr result (Refuses (StandsInVariables (map variable_of variables.now))) }
 {
     let mut placed = Vec::new(alloc);
     for variable in variables {

@@ -1,5 +1,9 @@
 //! Why a text is no system.
 
+ghost use Rattle.std.specs.Prelude.{◌≡◌};
+ghost use Rattle.ioa_check.specs.Refusals.{row_name, row_number};
+ghost use Rattle.ioa_check.specs.Standing.{fault_at};
+
 use std::alloc::{AllocError, AllocFailed};
 use std::fmt;
 use thiserror::Error;
@@ -35,7 +39,9 @@ pub enum Row {
 
 impl Row {
     /// The number of the refusal.
-    pub fn number(self) -> u8 {
+    pub fn number(self) -> u8
+        ensures { result ≡ row_number self }
+    {
         match self {
             Row::Unknown => 20,
             Row::Twice => 21,
@@ -52,7 +58,9 @@ impl Row {
     }
 
     /// The name of the refusal.
-    pub fn name(self) -> &'static str {
+    pub fn name(self) -> &'static str
+        ensures { result.now ≡ row_name self }
+    {
         match self {
             Row::Unknown => "Unknown",
             Row::Twice => "Twice",
@@ -70,6 +78,10 @@ impl Row {
 }
 
 impl fmt::Display for Row {
+    ghost use Rattle.std.specs.Prelude.{Some};
+
+    ghost output = { λ row. Some (row_name row) };
+
     fn fmt<W: fmt::Write>(&self, f: &mut fmt::Formatter<W>) -> fmt::Result {
         f.write_str(self.name())
     }
@@ -103,17 +115,13 @@ pub(crate) enum Refusal {
 
 impl Refusal {
     /// The refusal in the top declaration of a place.
-    pub(crate) fn at(self, place: usize) -> CheckFault {
+    pub(crate) fn at(self, place: usize) -> CheckFault
+        ensures { result ≡ fault_at self place }
+    {
         match self {
             Refusal::Row(row) => CheckFault::Refused { row, place },
             Refusal::Memory => CheckFault::Memory,
         }
-    }
-}
-
-impl From<Row> for Refusal {
-    fn from(row: Row) -> Self {
-        Refusal::Row(row)
     }
 }
 

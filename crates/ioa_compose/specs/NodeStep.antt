@@ -166,9 +166,9 @@ abbrev pub GuardHolds : Option CheckedTerm → Bindings → Type 0
 GuardHolds None e = Unit {0}
 GuardHolds (Some t) e = answer t e ≡ Ok (truth true)
 
--- a step of a node from one configuration to another (Lynch 8.1): a rule has the action, no argument is negative for a
--- natural, the entry's condition and the guard hold, and each state variable has the value that the effect leaves it;
--- the program stays
+-- a step of a node from one configuration to another (Lynch 8.1): by the first rule that has the action, no argument is
+-- negative for a natural, the entry's condition and the guard hold, and each state variable has the value that the
+-- effect leaves it; the program stays
 pub record IsNodeStep (a : Action) (c d : NodeState) : Type 0 where
   pub rule : Rule
   pub mine : rule_for a c.program.rules ≡ Some rule

@@ -1,5 +1,5 @@
 -- A text with one more token.
-use Rattle.std.proofs.Common.{◌≡◌, ℕ, List, [], ◌∷◌, ◌++◌, true, Option, Some, None, map, codes, refl, ap, ◌∙◌, ◌+◌, ◌<◌, length, take, get_or, append-nil}
+use Rattle.std.proofs.Common.{◌≡◌, ℕ, List, [], ◌∷◌, ◌++◌, true, Option, Some, None, map, refl, ap, ◌∙◌, ◌+◌, ◌<◌, length, take, get_or, append-nil}
 use Rattle.std.proofs.lemmas.List.{take_more, map-append}
 use Rattle.ioa_tokens.specs.declared.token.Token.{Token}
 use Rattle.ioa_tokens.specs.declared.written.Gap.{Gap}
@@ -7,7 +7,7 @@ use Rattle.ioa_tokens.specs.Written.{gap_text, token_text, AreApart}
 use Rattle.ioa_tokens.proofs.Apart.{written_appended}
 use Rattle.ioa_front.specs.declared.piece.Piece.{Piece}
 use Rattle.ioa_front.specs.Pieces.{piece_token}
-use Rattle.ioa_front.specs.Printed.{may_begin, last_token, IsWritten, IsPrinted}
+use Rattle.ioa_front.specs.Printed.{may_begin, last_token, IsWritten}
 
 -- the last of more tokens
 pub last_more : (before : Option Token) (ts : List Token) (t : Token) → last_token before (ts ++ t ∷ []) ≡ Some t
@@ -33,10 +33,6 @@ written_more ts text w written may =
       map-append (λ (v : Gap × Token). v.1) ws (w ∷ []) ∙ ap (λ us. us ++ w.1 ∷ []) names,
       apart_more ws w written.3 (rw names may),
     )
-
--- a line feed at the end
-pub printed_line : (ts : List Token) (text : List ℕ) → IsWritten ts text → IsPrinted ts (text ++ codes "\n")
-printed_line ts text written = (written.0, rw written.1 refl, written.2, written.3)
 
 -- the tokens of one more piece
 pub tokens_more : (ps : List Piece) (i : ℕ) (p : Piece) → i < length ps → p ≡ get_or ps i p → map piece_token (take (i + 1) ps) ≡ map piece_token (take i ps) ++ piece_token p ∷ []

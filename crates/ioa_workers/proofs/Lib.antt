@@ -1,4 +1,6 @@
 -- lemmas of workers
 mod Appended
 mod Elements
+mod Ends
+mod Rounds
 mod Runs

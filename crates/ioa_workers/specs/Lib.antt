@@ -1,5 +1,6 @@
 -- what the contracts of workers cite
 pub mod Attempts
+pub mod Command
 pub mod Endings
 pub mod Faults
 pub mod Input

@@ -1,13 +1,20 @@
 -- *Solo* (profile): the run by one worker, who goes round the nodes in order until each has an ending.
-use Rattle.std.specs.Prelude.{ℕ, zero, suc, ◌+◌, ◌-◌, nat_eq, if◌then◌else◌, List, [], ◌∷◌, ◌++◌, Some, None, is_some, Result, Ok, Err, map}
+use Rattle.std.specs.Prelude.{◌≡◌, ◌⊎◌, ℕ, zero, suc, ◌+◌, ◌-◌, nat_eq, if◌then◌else◌, Bool, true, false, not, List, [], ◌∷◌, ◌++◌, Some, None, is_some, Result, Ok, Err, map}
+use Rattle.std.specs.List.{list_any}
+use Rattle.std.specs.Option.{unwrap_or}
 use Rattle.ioa_terms.specs.declared.action.Action.{Action}
 use Rattle.ioa_compose.specs.declared.configuration.Conf.{Conf}
 use Rattle.ioa_system.specs.Parts.{Parts}
 use Rattle.ioa_compose.specs.Start.{start}
 use Rattle.ioa_system.specs.Systems.{SystemParts}
+use Rattle.ioa_workers.specs.declared.ending.Ending.{Ending}
 use Rattle.ioa_workers.specs.declared.ending.Ending.TheVariants.{Done, Spent, Fault}
 use Rattle.ioa_workers.specs.declared.ending.Fault.{Fault as NodeFault}
+use Rattle.ioa_workers.specs.declared.ending.Fault.TheVariants as fault
+use Rattle.ioa_workers.specs.declared.record.Record.{Record}
+use Rattle.ioa_workers.specs.declared.running.Course.{Course}
 use Rattle.ioa_workers.specs.declared.running.Progress.{Progress}
+use Rattle.ioa_workers.specs.Options.{Settings}
 use Rattle.ioa_workers.specs.Attempts.{PlainTried, finished, missed, take, attempt_answer}
 
 -- a node before the run: before its block, with all its attempts
@@ -18,6 +25,10 @@ progress_at attempts p = record { node = p.node; passed = 0; attempts = attempts
 pub record Situation : Type 0 where
   pub schedule : List Action
   pub states : List Conf
+
+-- where the run stands that the code carries on
+abbrev pub situation_of : Course → Situation
+situation_of c = record { schedule = c.schedule.items; states = c.states.items }
 
 -- what an attempt leaves of the run and of its node: a node that is done has an ending, and so has one that met a
 -- fault; a missed or a taken action is passed, and a taken one stands behind the schedule
@@ -55,3 +66,43 @@ rounds limit (suc n) s ps = rounds limit n (round limit s ps).0 (round limit s p
 abbrev pub solo : SystemParts → ℕ → ℕ → Situation × List Progress
 solo s attempts limit =
     rounds limit (attempts + 1) (record { schedule = []; states = start s }) (map (progress_at attempts) s.programs)
+
+-- whether a node has an ending, and whether it has none
+abbrev pub has_ended : Progress → Bool
+has_ended p = is_some p.ending
+
+abbrev pub is_under_way : Progress → Bool
+is_under_way p = not (has_ended p)
+
+-- the ending that is reported of a node
+abbrev pub ending_of : Progress → Ending
+ending_of p = unwrap_or p.ending Spent
+
+-- a node that ends for want of memory, where it has no ending yet
+abbrev pub short_of_memory : Progress → Progress
+short_of_memory p = if is_some p.ending then p else record p { ending = Some (Fault fault.Memory) }
+
+-- whether a fault is want of memory, and whether an ending is that fault
+abbrev pub is_memory : NodeFault → Bool
+is_memory fault.Memory = true
+is_memory fault.Undefined = false
+is_memory fault.Range = false
+is_memory fault.NotMine = false
+is_memory fault.NoChannel = false
+is_memory fault.Full = false
+
+abbrev pub is_cut_short : Ending → Bool
+is_cut_short (Fault f) = is_memory f
+is_cut_short Done = false
+is_cut_short Spent = false
+
+-- what a record and a list of endings tell is what a run leaves: the schedule, the configurations, and the ending of
+-- each node, which each of them has
+pub record IsLeftBy (left : Situation × List Progress) (r : Record) (endings : List Ending) : Type 0 where
+  pub schedule : r.schedule.items ≡ left.0.schedule
+  pub states : r.states.items ≡ left.0.states
+  pub each : map Some endings ≡ map (λ p. p.ending) left.1
+
+-- the run that is told is the worker's own, unless an ending tells that memory ran out
+abbrev pub IsSoloRun : SystemParts → Settings → Record → List Ending → Type 0
+IsSoloRun s o r endings = (list_any is_cut_short endings ≡ true) ⊎ IsLeftBy (solo s o.attempts o.steps) r endings

@@ -1,7 +1,11 @@
 -- What a whole run writes (profile).
 use Rattle.std.specs.Prelude.{◌≡◌, ℕ, Bool, true, false, List, Option, Result, Ok, Err, ⊤}
 use Rattle.std.specs.Io.KnownBytes.{Keeps, Appends}
-use Rattle.ioa_text_reader.specs.Texts.{TextSpells}
+use Rattle.ioa_text_reader.specs.declared.fault.FrontFault.{FrontFault}
+use Rattle.ioa_text_reader.specs.declared.fault.FrontFault.TheVariants as front
+use Rattle.ioa_text_reader.specs.Texts.{TextSpells, Stands}
+use Rattle.ioa_check.specs.declared.refusal.CheckFault.{CheckFault}
+use Rattle.ioa_check.specs.declared.refusal.CheckFault.TheVariants as check
 use Rattle.ioa_check.specs.Made.{IsSystemOf}
 use Rattle.ioa_check.specs.Rows.{HasNoRow}
 use Rattle.ioa_system.specs.Systems.{SystemParts}
@@ -9,9 +13,11 @@ use Rattle.ioa_workers.specs.declared.ending.Ending.{Ending}
 use Rattle.ioa_workers.specs.declared.record.Record.{Record}
 use Rattle.ioa_workers.specs.declared.whole_run.RunFault.{RunFault}
 use Rattle.ioa_workers.specs.declared.whole_run.RunFault.TheVariants.{Front, Check, Memory, Write}
+use Rattle.ioa_workers.specs.Options.{Settings}
 use Rattle.ioa_workers.specs.Output.{AppendsBeginning}
 use Rattle.ioa_workers.specs.Reports.{report_text}
 use Rattle.ioa_workers.specs.Recorded.{IsRunOf}
+use Rattle.ioa_workers.specs.Solo.{IsSoloRun}
 use Rattle.ioa_source.specs.Sides.{SourceText}
 
 -- a system that a text describes: the tokens of the text spell a source in which no row of refusal stands, and the
@@ -22,14 +28,39 @@ pub record IsDescribed (text : List ℕ) (s : SystemParts) : Type 0 where
   pub rows : HasNoRow source
   pub system : IsSystemOf source s
 
--- the report of a run of a system that a text describes, with at most `limit` steps
-pub record IsReport (text : List ℕ) (limit : ℕ) (report : List ℕ) : Type 0 where
+-- the report of the worker's run of a system that a text describes, with these options
+pub record IsReport (text : List ℕ) (options : Settings) (report : List ℕ) : Type 0 where
   pub parts : SystemParts
   pub described : IsDescribed text parts
   pub left : Record
   pub endings : List Ending
-  pub run : IsRunOf parts limit left endings
+  pub run : IsRunOf parts options.steps left endings
+  pub solo : IsSoloRun parts options left endings
   pub written : report ≡ report_text parts.names left endings
+
+-- a fault of reading as a run bears it: want of memory is one fault wherever it comes
+abbrev pub of_front : FrontFault → RunFault
+of_front front.Empty = Front front.Empty
+of_front (front.BadCharacter place) = Front (front.BadCharacter place)
+of_front (front.Unexpected place) = Front (front.Unexpected place)
+of_front (front.NumberTooLarge place) = Front (front.NumberTooLarge place)
+of_front (front.TooDeep place) = Front (front.TooDeep place)
+of_front front.TooLong = Front front.TooLong
+of_front (front.LeftOut place) = Front (front.LeftOut place)
+of_front front.Memory = Memory
+
+-- a fault of the check as a run bears it
+abbrev pub of_check : CheckFault → RunFault
+of_check (check.Refused row place) = Check (check.Refused row place)
+of_check check.Memory = Memory
+
+-- what a fault says of the text: a fault of reading stands in it, and one of the check comes only where it spells a
+-- source; want of memory and a failed write say nothing of it
+abbrev pub IsRefusalOf : RunFault → List ℕ → Type 0
+IsRefusalOf (Front f) text = (f ≡ front.Memory → ⊥) × Stands f text
+IsRefusalOf (Check f) text = (f ≡ check.Memory → ⊥) × (p : SourceText) × TextSpells p text
+IsRefusalOf Memory text = ⊤
+IsRefusalOf Write text = ⊤
 
 -- whether nothing was written yet where this fault comes
 abbrev pub IsEarly : RunFault → Type 0
@@ -40,11 +71,11 @@ IsEarly Write = ⊥
 
 -- known bytes grow by a report, which goes out whole where the call passes; a beginning of one went out where writing
 -- failed, and then the output tells so; after every other fault nothing was written
-abbrev pub WritesReport : List ℕ → ℕ → Option (List ℕ) → Option (List ℕ) → Bool → Result (Unit {0}) RunFault → Type 0
-WritesReport text limit old new failed (Ok x) =
-    (failed ≡ false) × ((report : List ℕ) × IsReport text limit report × Appends old new report)
-WritesReport text limit old new failed (Err Write) =
-    (failed ≡ true) × ((report : List ℕ) × IsReport text limit report × AppendsBeginning old new report)
-WritesReport text limit old new failed (Err (Front f)) = (failed ≡ false) × Keeps old new
-WritesReport text limit old new failed (Err (Check f)) = (failed ≡ false) × Keeps old new
-WritesReport text limit old new failed (Err Memory) = (failed ≡ false) × Keeps old new
+abbrev pub WritesReport : List ℕ → Settings → Option (List ℕ) → Option (List ℕ) → Bool → Result (Unit {0}) RunFault → Type 0
+WritesReport text options old new failed (Ok x) =
+    (failed ≡ false) × ((report : List ℕ) × IsReport text options report × Appends old new report)
+WritesReport text options old new failed (Err Write) =
+    (failed ≡ true) × ((report : List ℕ) × IsReport text options report × AppendsBeginning old new report)
+WritesReport text options old new failed (Err (Front f)) = (failed ≡ false) × Keeps old new
+WritesReport text options old new failed (Err (Check f)) = (failed ≡ false) × Keeps old new
+WritesReport text options old new failed (Err Memory) = (failed ≡ false) × Keeps old new

@@ -1,6 +1,10 @@
 //! The program as a function of its words and its streams.
 
-ghost use Rattle.std.specs.Prelude.{◌≡◌, false};
+ghost use Rattle.std.specs.Prelude.{◌≡◌, ◌⊎◌, false, length, Ok, Err, Result, Some};
+ghost use Rattle.std.specs.Fmt.{DisplaysOnOk};
+ghost use Rattle.std.specs.Io.KnownBytes.{Keeps};
+ghost use Rattle.ioa_workers.specs.declared.program.CommandFault.{CommandFault};
+ghost use Rattle.ioa_workers.specs.Command.{Executes, RunsText, Tells, check_line, fault_status, front_line, input_line, input_status, run_line, run_status};
 
 use crate::input::{InputFault, read_input};
 use crate::options::Options;
@@ -37,34 +41,67 @@ enum CommandFault {
 
 impl CommandFault {
     /// The status with which the program ends.
-    fn status(&self) -> u8 {
+    fn status(&self) -> u8
+        ensures { result ≡ fault_status self.now }
+    {
         match self {
             CommandFault::Words => BAD_WORDS,
-            CommandFault::Input(InputFault::TooLong) => REFUSED,
-            CommandFault::Input(InputFault::BadCharacter(_)) => REFUSED,
-            CommandFault::Input(_) => FAILED,
-            CommandFault::Run(RunFault::Front(_)) => REFUSED,
-            CommandFault::Run(RunFault::Check(_)) => REFUSED,
-            CommandFault::Run(_) => FAILED,
+            CommandFault::Input(fault) => input_status(fault),
+            CommandFault::Run(fault) => run_status(fault),
         }
+    }
+}
+
+/// The status where the input gives no text.
+fn input_status(fault: &InputFault) -> u8
+    ensures { result ≡ input_status fault.now }
+{
+    match fault {
+        InputFault::TooLong | InputFault::BadCharacter(_) => REFUSED,
+        InputFault::Read | InputFault::Memory => FAILED,
+    }
+}
+
+/// The status where the text gave no report.
+fn run_status(fault: &RunFault) -> u8
+    ensures { result ≡ run_status fault.now }
+{
+    match fault {
+        RunFault::Front(_) | RunFault::Check(_) => REFUSED,
+        RunFault::Memory | RunFault::Write => FAILED,
     }
 }
 
 impl fmt::Display for CommandFault {
+    ghost use Rattle.ioa_workers.specs.Command.{fault_line};
+
+    ghost output = { λ f. fault_line f };
+
     fn fmt<W: fmt::Write>(&self, f: &mut fmt::Formatter<W>) -> fmt::Result {
         match self {
             CommandFault::Words => write!(f, "ioarun takes no words"),
             CommandFault::Input(fault) => show_input_fault(fault, f),
-            CommandFault::Run(RunFault::Front(fault)) => show_front_fault(fault, f),
-            CommandFault::Run(RunFault::Check(fault)) => show_check_fault(fault, f),
-            CommandFault::Run(RunFault::Memory) => write!(f, "refused 3 Memory"),
-            CommandFault::Run(RunFault::Write) => write!(f, "failed 71 Write"),
+            CommandFault::Run(fault) => show_run_fault(fault, f),
         }
     }
 }
 
+/// The line of a text that gave no report.
+fn show_run_fault<W: fmt::Write>(fault: &RunFault, f: &mut fmt::Formatter<W>) -> fmt::Result
+    ensures { DisplaysOnOk W.write_str_gives f.old result (run_line fault.now) f.new }
+{
+    match fault {
+        RunFault::Front(fault) => show_front_fault(fault, f),
+        RunFault::Check(fault) => show_check_fault(fault, f),
+        RunFault::Memory => write!(f, "refused 3 Memory"),
+        RunFault::Write => write!(f, "failed 71 Write"),
+    }
+}
+
 /// The line of an input that gives no text.
-fn show_input_fault<W: fmt::Write>(fault: &InputFault, f: &mut fmt::Formatter<W>) -> fmt::Result {
+fn show_input_fault<W: fmt::Write>(fault: &InputFault, f: &mut fmt::Formatter<W>) -> fmt::Result
+    ensures { DisplaysOnOk W.write_str_gives f.old result (Some (input_line fault.now)) f.new }
+{
     match fault {
         InputFault::Read => write!(f, "failed 70 Read"),
         InputFault::TooLong => write!(f, "refused 15 TooLong at 8388608"),
@@ -74,7 +111,9 @@ fn show_input_fault<W: fmt::Write>(fault: &InputFault, f: &mut fmt::Formatter<W>
 }
 
 /// The line of a text that has no source.
-fn show_front_fault<W: fmt::Write>(fault: &FrontFault, f: &mut fmt::Formatter<W>) -> fmt::Result {
+fn show_front_fault<W: fmt::Write>(fault: &FrontFault, f: &mut fmt::Formatter<W>) -> fmt::Result
+    ensures { DisplaysOnOk W.write_str_gives f.old result (Some (front_line fault.now)) f.new }
+{
     match fault {
         FrontFault::Empty => write!(f, "refused 10 Empty at 0"),
         FrontFault::BadCharacter(place) => write!(f, "refused 11 BadCharacter at {place}"),
@@ -88,7 +127,9 @@ fn show_front_fault<W: fmt::Write>(fault: &FrontFault, f: &mut fmt::Formatter<W>
 }
 
 /// The line of a source that describes no system.
-fn show_check_fault<W: fmt::Write>(fault: &CheckFault, f: &mut fmt::Formatter<W>) -> fmt::Result {
+fn show_check_fault<W: fmt::Write>(fault: &CheckFault, f: &mut fmt::Formatter<W>) -> fmt::Result
+    ensures { DisplaysOnOk W.write_str_gives f.old result (check_line fault.now) f.new }
+{
     match fault {
         CheckFault::Refused { row, place } => {
             let number = row.number();
@@ -101,8 +142,8 @@ fn show_check_fault<W: fmt::Write>(fault: &CheckFault, f: &mut fmt::Formatter<W>
 /// The program (profile): reads a text, runs its system with the default options, and writes the report.
 /// It takes no words beyond its own name. Gives the status: 0 where the report was written, 1 where the
 /// text was refused, 2 where the words were, and 3 where memory, reading or writing failed. Where it is
-/// not 0 one line on `err` says why; a fault of `err` is ignored. It has no `ensures`: statuses and lines
-/// are shown by tests, and what a report is stands on `run_system`.
+/// not 0 one line on `err` says why; a fault of `err` is ignored. The last clause tells of which fault the
+/// status and the line are: where there is no memory for its line, the status is 3 and another line says so.
 pub fn command<R: Read, O: Out, E: Out>(
     alloc: Global,
     words: &[&str],
@@ -112,6 +153,11 @@ pub fn command<R: Read, O: Out, E: Out>(
 ) -> u8
     requires out { O.failed out.old ≡ false }
     requires err { E.failed err.old ≡ false }
+    ensures report { result ≡ 0 → RunsText (R.remaining reader.old) (O.bytes out.old) (O.bytes out.new) (O.failed out.new) (Ok tt) }
+    ensures refused { (result ≡ 1) ⊎ (result ≡ 2) → Keeps (O.bytes out.old) (O.bytes out.new) }
+    ensures outcome { (outcome : Result (Unit {0}) CommandFault)
+        × Executes (length words.now) (R.remaining reader.old) (O.bytes out.old) (O.bytes out.new) (O.failed out.new) outcome
+        × Tells outcome result (E.bytes err.old) (E.bytes err.new) (E.failed err.new) }
 {
     match execute(alloc, words, reader, out) {
         Ok(()) => DONE,
@@ -127,6 +173,7 @@ fn execute<R: Read, O: Out>(
     out: &mut O,
 ) -> Result<(), CommandFault>
     requires { O.failed out.old ≡ false }
+    ensures { Executes (length words.now) (R.remaining reader.old) (O.bytes out.old) (O.bytes out.new) (O.failed out.new) result }
 {
     if words.len() > 1 {
         return Err(CommandFault::Words);
@@ -139,6 +186,7 @@ fn execute<R: Read, O: Out>(
 /// Shows the line of a fault, and gives its status. Where there is no memory for the line, that is said.
 fn tell<E: Out>(alloc: Global, fault: &CommandFault, err: &mut E) -> u8
     requires { E.failed err.old ≡ false }
+    ensures { Tells (Err fault.now) result (E.bytes err.old) (E.bytes err.new) (E.failed err.new) }
 {
     match format!(in alloc; "{fault}\n") {
         Ok(line) => {

@@ -1,6 +1,7 @@
 //! Runs of a system by one worker.
 
-ghost use Rattle.std.specs.Prelude.{◌≡◌, ◌⊎◌, ◌+◌, ◌<◌, ◌^◌, ◌≤◌, ◌++◌, [], ◌∷◌, Some, IfOk, OnOk, OnErr, IfSome, map, length};
+ghost use Rattle.std.specs.Prelude.{◌≡◌, ◌⊎◌, ◌+◌, ◌<◌, ◌^◌, ◌≤◌, ◌++◌, [], ◌∷◌, Some, true, IfOk, OnOk, OnErr, IfSome, MatchResult, map, length};
+ghost use Rattle.std.specs.List.{list_all, list_any};
 ghost use Rattle.std.specs.Arc.{arc_value};
 ghost use Rattle.ioa_values.specs.Outcome.{Answers};
 ghost use Rattle.ioa_compose.specs.Composition.{joint_answer};
@@ -8,7 +9,7 @@ ghost use Rattle.std.specs.Ordering.{int_eq};
 ghost use Rattle.ioa_workers.specs.Turns.{IsCounted, node_of};
 ghost use Rattle.ioa_workers.specs.Attempts.{tried_of, turn_at, taken, fire_answer, attempt_answer, Counts, IsStepOf};
 ghost use Rattle.ioa_workers.specs.Recorded.{Continues, IsRunOf};
-ghost use Rattle.ioa_workers.specs.Solo.{progress_at};
+ghost use Rattle.ioa_workers.specs.Solo.{IsSoloRun, ending_of, has_ended, is_cut_short, is_under_way, progress_at, round, rounds, short_of_memory, situation_of, visit};
 
 use crate::ending::{Ending, Fault};
 use crate::options::Options;
@@ -72,19 +73,15 @@ pub fn run(
     system: &System,
     options: &Options,
 ) -> Result<(Record, Vec<Ending>), AllocError>
-    ensures { IfOk result (λ r. IsRunOf system.now options.now.steps r.0 r.1.items) }
+    ensures run { IfOk result (λ r. IsRunOf system.now options.now.steps r.0 r.1.items) }
+    ensures solo { IfOk result (λ r. IsSoloRun system.now options.now r.0 r.1.items) }
 {
     let mut course = Course {
         schedule: Vec::new(alloc),
         states: start(alloc, system)?,
     };
     let mut nodes = progress_of(alloc, system.programs(), options.attempts())?;
-    for _round in 0..=options.attempts() {
-        go_round(alloc, options.steps(), &mut course, &mut nodes);
-        if nodes.iter().all(|node| node.ending.is_some()) {
-            break;
-        }
-    }
+    go_on(alloc, options, &mut course, &mut nodes);
     let endings = endings_of(alloc, &nodes)?;
     let commits = course.schedule.len() as u64;
     let record = Record {
@@ -93,6 +90,36 @@ pub fn run(
         commits,
     };
     Ok((record, endings))
+}
+
+/// Goes round the nodes until each has an ending, at most once more than they have attempts. Where
+/// memory runs out, each node without an ending gets that fault.
+fn go_on(alloc: Global, options: &Options, course: &mut Course, nodes: &mut [Progress])
+    ensures execution { Continues options.now.steps course.old course.new }
+    ensures solo { (list_any is_cut_short (map ending_of nodes.new) ≡ true)
+        ⊎ ((situation_of course.new, nodes.new) ≡ rounds options.now.steps (options.now.attempts + 1) (situation_of course.old) nodes.old) }
+{
+    for _round in 0..options.attempts() + 1 {
+        if go_round(alloc, options.steps(), course, nodes).is_err() {
+            end_all(nodes);
+            return;
+        }
+        if have_all_ended(nodes) {
+            return;
+        }
+    }
+}
+
+/// Whether each node has an ending.
+fn have_all_ended(nodes: &[Progress]) -> bool
+    ensures { result ≡ list_all has_ended nodes.now }
+{
+    for node in nodes {
+        if node.ending.is_none() {
+            return false;
+        }
+    }
+    true
 }
 
 /// Where the nodes stand before a run: before their blocks, with all their attempts.
@@ -115,46 +142,100 @@ fn progress_of(
     Ok(nodes)
 }
 
-/// Visits each node that has no ending, in order.
-fn go_round(alloc: Global, limit: u64, course: &mut Course, nodes: &mut [Progress])
-    ensures { Continues limit course.old course.new }
+/// Visits each node that has no ending, in order, until memory runs out at one.
+fn go_round(
+    alloc: Global,
+    limit: u64,
+    course: &mut Course,
+    nodes: &mut [Progress],
+) -> Result<(), AllocError>
+    ensures execution { Continues limit course.old course.new }
+    ensures round { OnOk result ((situation_of course.new, nodes.new) ≡ round limit (situation_of course.old) nodes.old) }
+    ensures stopped { OnErr result (list_any is_under_way nodes.new ≡ true) }
 {
     for place in 0..nodes.len() {
-        if nodes[place].ending.is_none() {
-            visit(alloc, limit, course, &mut nodes[place]);
-            if nodes[place].ending == Some(Ending::Fault(Fault::Memory)) {
-                end_all(nodes);
-            }
+        let node = nodes[place];
+        if node.ending.is_none() {
+            nodes[place] = visit(alloc, limit, course, node)?;
         }
     }
+    Ok(())
 }
 
 /// Ends each node that has no ending, for want of memory.
-fn end_all(nodes: &mut [Progress]) {
-    for node in nodes.iter_mut() {
-        if node.ending.is_none() {
-            node.ending = Some(Ending::Fault(Fault::Memory));
-        }
+fn end_all(nodes: &mut [Progress])
+    ensures { nodes.new ≡ map short_of_memory nodes.old }
+{
+    for place in 0..nodes.len() {
+        nodes[place] = short_of_memory(nodes[place]);
     }
 }
 
-/// One visit of a node: an attempt, where one is left.
-fn visit(alloc: Global, limit: u64, course: &mut Course, node: &mut Progress)
-    ensures { Continues limit course.old course.new }
+/// A node that ends for want of memory, where it has no ending yet.
+fn short_of_memory(node: Progress) -> Progress
+    ensures { result ≡ short_of_memory node }
+{
+    match node.ending {
+        Some(_) => node,
+        None => Progress {
+            ending: Some(Ending::Fault(Fault::Memory)),
+            ..node
+        },
+    }
+}
+
+/// One visit of a node: an attempt, where one is left. Gives how far the node has come then. Where
+/// memory runs out, the visit does not count.
+fn visit(
+    alloc: Global,
+    limit: u64,
+    course: &mut Course,
+    node: Progress,
+) -> Result<Progress, AllocError>
+    ensures execution { Continues limit course.old course.new }
+    ensures visited { IfOk result (λ p. visit limit (situation_of course.old) node ≡ (situation_of course.new, p)) }
 {
     if node.attempts == 0 {
-        node.ending = Some(Ending::Spent);
-        return;
+        return Ok(Progress {
+            ending: Some(Ending::Spent),
+            ..node
+        });
     }
-    node.attempts -= 1;
-    match attempt(alloc, limit, course, node) {
-        Ok(Tried::Finished) => node.ending = Some(Ending::Done),
-        Ok(Tried::Missed) => node.passed += 1,
-        Ok(Tried::Taken(action, states)) => match commit(course, action, states) {
-            Ok(()) => node.passed += 1,
-            Err(_) => node.ending = Some(Ending::Fault(Fault::Memory)),
-        },
-        Err(fault) => node.ending = Some(Ending::Fault(fault)),
+    let outcome = attempt(alloc, limit, course, &node);
+    let used = Progress {
+        attempts: node.attempts - 1,
+        ..node
+    };
+    match outcome {
+        Ok(Tried::Finished) => Ok(Progress {
+            ending: Some(Ending::Done),
+            ..used
+        }),
+        Ok(Tried::Missed) => Ok(Progress {
+            passed: used.passed + 1,
+            ..used
+        }),
+        Ok(Tried::Taken(action, states)) => {
+            commit(course, action, states)?;
+            Ok(Progress {
+                passed: used.passed + 1,
+                ..used
+            })
+        }
+        Err(fault) => ended_by(used, fault),
+    }
+}
+
+/// A node that a fault ends. Want of memory ends no single node.
+fn ended_by(node: Progress, fault: Fault) -> Result<Progress, AllocError>
+    ensures { MatchResult result (λ p. (fault ≡ Fault.Memory → ⊥) × (p ≡ record node { ending = Some (Ending.Fault fault) })) (λ _. fault ≡ Fault.Memory) }
+{
+    match fault {
+        Fault::Memory => Err(AllocError),
+        fault => Ok(Progress {
+            ending: Some(Ending::Fault(fault)),
+            ..node
+        }),
     }
 }
 
@@ -249,7 +330,7 @@ fn take(alloc: Global, limit: u64, course: &Course, action: Action) -> Result<Tr
 
 /// The endings of the nodes, in order.
 fn endings_of(alloc: Global, nodes: &[Progress]) -> Result<Vec<Ending>, AllocError>
-    ensures { IfOk result (λ v. length v.items ≡ length nodes.now) }
+    ensures { IfOk result (λ v. v.items ≡ map ending_of nodes.now) }
 {
     let mut endings = Vec::new(alloc);
     for node in nodes {

@@ -1,7 +1,7 @@
 //! Whole runs: from a text to its report.
 
 ghost use Rattle.std.specs.Prelude.{◌≡◌, false, IfOk, IfErr, string_bytes};
-ghost use Rattle.ioa_workers.specs.WholeRun.{IsDescribed, IsReport, IsEarly, WritesReport};
+ghost use Rattle.ioa_workers.specs.WholeRun.{IsDescribed, IsReport, IsEarly, IsRefusalOf, WritesReport};
 
 use crate::options::Options;
 use crate::output::{Out, OutFailed, put_all};
@@ -31,9 +31,10 @@ pub enum RunFault {
 }
 
 impl From<FrontFault> for RunFault {
-    ghost use Rattle.ioa_workers.specs.WholeRun.{IsEarly};
+    ghost use Rattle.std.specs.Prelude.{◌≡◌};
+    ghost use Rattle.ioa_workers.specs.WholeRun.{of_front};
 
-    ghost from_gives = { λ _ f. IsEarly f };
+    ghost from_gives = { λ e f. f ≡ of_front e };
 
     fn from(fault: FrontFault) -> Self {
         match fault {
@@ -44,9 +45,10 @@ impl From<FrontFault> for RunFault {
 }
 
 impl From<CheckFault> for RunFault {
-    ghost use Rattle.ioa_workers.specs.WholeRun.{IsEarly};
+    ghost use Rattle.std.specs.Prelude.{◌≡◌};
+    ghost use Rattle.ioa_workers.specs.WholeRun.{of_check};
 
-    ghost from_gives = { λ _ f. IsEarly f };
+    ghost from_gives = { λ e f. f ≡ of_check e };
 
     fn from(fault: CheckFault) -> Self {
         match fault {
@@ -75,8 +77,9 @@ pub fn run_system<O: Out>(
     out: &mut O,
 ) -> Result<(), RunFault>
     requires { O.failed out.old ≡ false }
-    ensures { WritesReport text.now options.now.steps (O.bytes out.old) (O.bytes out.new) (O.failed out.new)
+    ensures written { WritesReport text.now options.now (O.bytes out.old) (O.bytes out.new) (O.failed out.new)
         result }
+    ensures refused { IfErr result (λ f. IsRefusalOf f text.now) }
 {
     let report = report_of(alloc, text, options)?;
     match put_all(out, report.as_bytes()) {
@@ -87,8 +90,9 @@ pub fn run_system<O: Out>(
 
 /// The report of a run of the system that a text describes.
 fn report_of(alloc: Global, text: &str, options: &Options) -> Result<String, RunFault>
-    ensures report { IfOk result (λ s. IsReport text.now options.now.steps (string_bytes s)) }
+    ensures report { IfOk result (λ s. IsReport text.now options.now (string_bytes s)) }
     ensures early { IfErr result (λ f. IsEarly f) }
+    ensures refused { IfErr result (λ f. IsRefusalOf f text.now) }
 {
     let system = system_of(alloc, text)?;
     let (record, endings) = run(alloc, &system, options)?;
@@ -99,6 +103,7 @@ fn report_of(alloc: Global, text: &str, options: &Options) -> Result<String, Run
 fn system_of(alloc: Global, text: &str) -> Result<System, RunFault>
     ensures described { IfOk result (IsDescribed text.now) }
     ensures early { IfErr result (λ f. IsEarly f) }
+    ensures refused { IfErr result (λ f. IsRefusalOf f text.now) }
 {
     let source = parse(alloc, text)?;
     Ok(check(alloc, source)?)

@@ -1,11 +1,14 @@
-use Rattle.std.proofs.Common.{◌≡◌, ◌++◌, ℕ, List, true, sym, subst, ◌∙◌, map, take, length, rules}
+use Rattle.std.proofs.Common.{◌≡◌, ◌++◌, ℕ, List, true, false, refl, sym, subst, ◌∙◌, map, take, length, rules}
+use Rattle.std.proofs.lemmas.Result.{err_from_is_err_and}
 use Rattle.std.proofs.lemmas.List.{length-map}
 use Rattle.std.specs.List.{IsDistinct, list_all}
 use Rattle.ioa_terms.specs.Bindings.{same_name}
-use Rattle.ioa_source.specs.TextView.{entry_of, transition_of, variable_of}
+use Rattle.ioa_source.specs.TextView.{automaton_of, entry_of, transition_of, variable_of}
 use Rattle.ioa_source.specs.Sides.{CheckedVariable}
-use Rattle.ioa_system.specs.Placed.{variable_names, own_names}
+use Rattle.ioa_system.specs.Placed.{variable_names, own_names, scope_of}
 use Rattle.ioa_check.specs.Rows.{guard_reads_only, assigns_only}
+use Rattle.ioa_check.specs.Standing.{StandsInEntry, is_known_transition}
+use Rattle.ioa_check.proofs.Refused.{fails_weaker, only_weaker, refuses_weaker, right_fails}
 use Rattle.ioa_check.proofs.Rows.{scope_of-erase, take_first}
 use Rattle.ioa_check.proofs.building.rule_of.Goals as goal
 
@@ -43,3 +46,41 @@ returns-clause-rows c =
       guard_names = subst (λ (ns : List (List ℕ)). guard_reads_only ns t.pre ≡ true) names c.in_ok-transition.ensures.guard_names;
       effect_names = subst (λ (ns : List (List ℕ)). list_all (assigns_only ns (variable_names vs ++ own)) t.effect ≡ true) first written;
     }
+
+pub returns-in_err-scope-clause-refused : goal.returns-in_err-scope-clause-refused
+returns-in_err-scope-clause-refused c =
+    let p = err_from_is_err_and c.from_residual-in_err-scope.result c.from_residual-in_err-scope.ensures.1 in
+    let vs = map variable_of c.args.variables.now in
+    let e = entry_of c.args.entry.now in
+    let placed = entry_of c.in_ok-entry.entry in
+    let names : scope_of placed vs ≡ variable_names vs ++ own_names e.parameters = scope_of-erase vs placed e (scope_of placed vs) refl c.in_ok-entry.ensures.same in
+    rw (p.1, p.2)
+    (refuses_weaker
+    (only_weaker (StandsInEntry (variable_names vs) (automaton_of c.args.automaton.now).transitions e) (λ wrong d. wrong (subst (λ (ns : List (List ℕ)). IsDistinct same_name ns) (sym names) d)))
+    _ c.in_err-scope.ensures.refused)
+
+pub returns-in_err-transition-clause-refused : goal.returns-in_err-transition-clause-refused
+returns-in_err-transition-clause-refused c =
+    let p = err_from_is_err_and c.from_residual-in_err-transition.result c.from_residual-in_err-transition.ensures.1 in
+    let scope = c.in_ok-scope.scope in
+    let t = transition_of c.in-Some.transition.now in
+    let vs = map variable_of c.args.variables.now in
+    let e = entry_of c.args.entry.now in
+    let own = own_names e.parameters in
+    let n = length c.args.variables.now in
+    let names : scope ≡ variable_names vs ++ own =
+    scope_of-erase vs (entry_of c.in_ok-entry.entry) e scope c.in_ok-scope.ensures.names c.in_ok-entry.ensures.same in
+    let many : n ≡ length (variable_names vs) = sym (length-map vs (λ (v : CheckedVariable). v.declared.name) ∙ length-map c.args.variables.now variable_of) in
+    let first : take n (variable_names vs ++ own) ≡ variable_names vs = take_first n (variable_names vs) own many in
+    rw (p.1, p.2)
+    (refuses_weaker
+    (fails_weaker (StandsInEntry (variable_names vs) (automaton_of c.args.automaton.now).transitions e)
+    (λ form. (
+      t,
+      sym c.in-Some.ensures,
+      right_fails _ _
+          (subst (λ (ns : List (List ℕ)). is_known_transition ns (variable_names vs ++ own) t ≡ false) first
+          (subst (λ (ns : List (List ℕ)). is_known_transition (take n ns) ns t ≡ false) names form)),
+    ))
+    (λ sort. (t, sym c.in-Some.ensures, right_fails _ _ sort)))
+    _ c.in_err-transition.ensures.refused)

@@ -6,7 +6,10 @@ use Rattle.ioa_system.specs.declared.program.Rule.{Rule}
 use Rattle.ioa_system.specs.Placed.{IsPlacedRule, variable_names}
 use Rattle.ioa_check.specs.Rows.{HasNoEntryRow}
 use Rattle.ioa_check.specs.Made.{HasIntegers, IsRuleOf}
+use Rattle.std.proofs.lemmas.Result.{err_from_is_err_and}
 use Rattle.ioa_check.proofs.Loops.{each_append, each_take, next_push}
+use Rattle.ioa_check.specs.Standing.{StandsInEntries}
+use Rattle.ioa_check.proofs.Refused.{contained, refuses_weaker}
 use Rattle.ioa_check.proofs.building.rules_of.Goals as goal
 
 pub loop-entry-preserved : goal.loop-entry-preserved
@@ -21,3 +24,12 @@ loop-entry-preserved c =
       shapes = rw c.in_ok-push.ensures.items (each_append HasIntegers rules c.in_ok-rule.rule c.loop-entry.invariant.shapes c.in_ok-rule.ensures.shapes);
       rows = each_take (HasNoEntryRow (variable_names (map variable_of c.args.variables.now)) (automaton_of c.args.automaton.now).transitions) entry_of c.args.automaton.now.signature.items i c.entry-item.result c.loop-entry.invariant.rows c.in_ok-rule.ensures.rows within (rw c.deref-entry-items.ensures.value at c.entry-item.is);
     }
+
+pub returns-in_err-rule-clause-refused : goal.returns-in_err-rule-clause-refused
+returns-in_err-rule-clause-refused c =
+    let p = err_from_is_err_and c.from_residual.result c.from_residual.ensures.1 in
+    let entries = c.args.automaton.now.signature.items in
+    rw (p.1, p.2)
+    (refuses_weaker {Q = StandsInEntries (variable_names (map variable_of c.args.variables.now)) (automaton_of c.args.automaton.now).transitions (automaton_of c.args.automaton.now).signature}
+    (λ r h. (entry_of c.entry-item.result, contained entry_of entries c.loop-entry.entry-index c.entry-item.result (rw c.deref-entry-items.ensures.value at c.loop-entry-test.true) (rw c.deref-entry-items.ensures.value at c.entry-item.is), h))
+    _ c.in_err-rule.ensures.refused)

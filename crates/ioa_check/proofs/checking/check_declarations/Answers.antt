@@ -5,6 +5,8 @@ use Rattle.ioa_source.specs.Sides.{SourceAutomaton}
 use Rattle.ioa_check.specs.Made.{automaton_in, automata_in}
 use Rattle.ioa_check.specs.Rows as spec
 use Rattle.ioa_check.proofs.Automata.{automata_take, each_concat}
+use Rattle.ioa_check.proofs.Parts.{declaration_stands}
+use Rattle.ioa_check.proofs.Refused.{answered_at}
 use Rattle.ioa_check.proofs.checking.check_declarations.Goals as goal
 
 pub loop-place-preserved : goal.loop-place-preserved
@@ -19,3 +21,7 @@ loop-place-preserved c =
       differ = c.in-Ok.ensures.differ c.loop-place.invariant.differ;
       rows = rw more (each_concat spec.HasNoAutomatonRow before own c.loop-place.invariant.rows c.in-Ok.ensures.rows);
     }
+
+pub returns-in-Err-clause-refused : goal.returns-in-Err-clause-refused
+returns-in-Err-clause-refused c =
+    rw c.at.ensures (answered_at (declaration_stands c.loop-place.names c.args.declarations.now c.loop-place.place c.index-declarations-place.result c.loop-place.invariant.names (omega arith) c.index-declarations-place.is) _ _ c.in-Err.ensures.refused)

@@ -19,8 +19,8 @@ returns-clause-rows c =
     record {
       few_nodes = few_map node_at ns nodes 64 all c.in_ok-nodes.ensures.few;
       few_channels = rw c.in_ok-channels.ensures.all at c.in_ok-channels.ensures.few;
-      nodes_differ = rw (c.deref.ensures.value, all) at c.in_ok-numbers_differ.ensures;
-      channels_differ = rw (c.deref-2.ensures.value, c.in_ok-channels.ensures.all) at c.in_ok-channels_differ.ensures;
+      nodes_differ = rw (c.deref.ensures.value, all) at c.in_ok-numbers_differ.ensures.differ;
+      channels_differ = rw (c.deref-2.ensures.value, c.in_ok-channels.ensures.all) at c.in_ok-channels_differ.ensures.differ;
       numbers = numbers_from (text_of c.args.text.now) (map (arc_value {X = Program} {Z = Global}) ps) (length nodes) c.in_ok-programs.ensures.nodes
           (length-map ps (arc_value {X = Program} {Z = Global}) ∙ many ∙ sym (length-map ns node_at) ∙ ap (λ (xs : List SourceNode). length xs) all);
       declared = rw (c.deref-3.ensures.value, all) at c.in_ok-check_nodes.ensures.declared;

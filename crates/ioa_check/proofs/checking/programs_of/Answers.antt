@@ -12,6 +12,6 @@ loop-place-preserved c =
     let many = length-map ps (arc_value {X = Program} {Z = Global}) in
     record {
       nodes = rw (c.in_ok-push.ensures.items, map-append (arc_value {X = Program} {Z = Global}) ps (c.in_ok-program.program ∷ []))
-          (nodes_push (text_of c.args.text.now) 0 c.loop-place.place (map arc_value ps) (arc_value c.in_ok-program.program) c.loop-place.invariant.nodes (omega (arith, c.loop-place.invariant.many)) c.in_ok-program.ensures);
+          (nodes_push (text_of c.args.text.now) 0 c.loop-place.place (map arc_value ps) (arc_value c.in_ok-program.program) c.loop-place.invariant.nodes (omega (arith, c.loop-place.invariant.many)) c.in_ok-program.ensures.node);
       many = omega (arith, c.in_ok-push.ensures.len, c.loop-place.invariant.many);
     }

@@ -1,6 +1,7 @@
-use Rattle.std.proofs.Common.{◌≡◌, vec_len}
+use Rattle.std.proofs.Common.{◌≡◌, map, take}
+use Rattle.ioa_workers.specs.Solo.{ending_of}
 use Rattle.ioa_workers.proofs.running.endings_of.Given as goal
 
--- there is an ending for each node gone by
+-- the endings so far are those of the nodes gone by
 abbrev pub invariant-loop-node : goal.invariant-loop-node
-invariant-loop-node l = vec_len l.endings ≡ l.node-index
+invariant-loop-node l = l.endings.items ≡ map ending_of (take l.node-index l.nodes)

@@ -6,6 +6,7 @@ returns-clause-report c = record {
   described = c.in_ok-system.ensures.described;
   left = c.in_ok-record.record;
   endings = c.in_ok-record.endings.items;
-  run = c.in_ok-record.ensures;
+  run = c.in_ok-record.ensures.run;
+  solo = c.in_ok-record.ensures.solo;
   written = rw (← c.deref.ensures.value) c.in_ok-report.ensures;
 }

@@ -1,0 +1,197 @@
+-- Which rows of refusal stand in a text of the language (profile): what each number says.
+use Rattle.std.specs.Prelude.{◌≡◌, ◌≤◌, ◌<◌, ◌⊎◌, ℕ, pos, Bool, true, false, ◌&&◌, not, List, [], ◌++◌, Option, Some, None, Err, map, length, Contains}
+use Rattle.std.specs.List.{IsDistinct, list_all}
+use Rattle.std.specs.Option.{is_some}
+use lib.Pointwise.{pointwise}
+use Rattle.ioa_operators.specs.declared.fault.TermFault.{TermFault}
+use Rattle.ioa_operators.specs.declared.shape.Shape.{Shape}
+use Rattle.ioa_terms.specs.Bindings.{same_name}
+use Rattle.ioa_terms.specs.declared.tree.Kind.TheVariants.{Input}
+use Rattle.ioa_source.specs.Erasure.{erase_variable}
+use Rattle.ioa_source.specs.PlainTerm.{assign, choose, fire}
+use Rattle.ioa_source.specs.PlainText.{const, named}
+use Rattle.ioa_source.specs.Sides.{CheckedTerm, CheckedVariable, SourceAutomaton, SourceEntry, SourceParameter, SourceStatement, SourceText, SourceTransition, SourceVariable}
+use Rattle.ioa_source.specs.TextView.{variable_of}
+use Rattle.ioa_source.specs.declared.declaration.Variable.{Variable}
+use Rattle.ioa_system.specs.Placed.{own_names, variable_names}
+use Rattle.ioa_check.specs.declared.refusal.CheckFault.{CheckFault}
+use Rattle.ioa_check.specs.declared.refusal.CheckFault.TheVariants as fault
+use Rattle.ioa_check.specs.declared.refusal.Refusal.{Refusal}
+use Rattle.ioa_check.specs.declared.refusal.Refusal.TheVariants as refusal
+use Rattle.ioa_check.specs.declared.refusal.Row.{Row}
+use Rattle.ioa_check.specs.declared.refusal.Row.TheVariants as row
+use Rattle.ioa_check.specs.FirstForm.{is_first_declaration, is_first_placement, is_first_sort, passes_or_none}
+use Rattle.ioa_check.specs.FirstSorts.{is_number}
+use Rattle.ioa_check.specs.Made.{automata_in, channels_in, nodes_in, same_kind, term_answer, transition_for}
+use Rattle.ioa_check.specs.Rows as rows
+
+-- this stands where a row is refused; a refusal for want of memory says nothing
+abbrev pub Refuses : (Row → Type 0) → Refusal → Type 0
+Refuses stands (refusal.Row r) = stands r
+Refuses stands refusal.Memory = Unit {0}
+
+-- the row is this one, and this stands
+abbrev pub Only : Row → Type 0 → Row → Type 0
+Only k stands r = (k ≡ r) × stands
+
+-- of a test of forms and names and a test of sorts, the one that fails gives the row
+abbrev pub Fails : (form sort : Bool) → Row → Type 0
+Fails form sort row.Unknown = form ≡ false
+Fails form sort row.Sorts = sort ≡ false
+Fails form sort _ = ⊥
+
+-- 20: a statement of an effect assigns to one of these variables and reads what is in view
+abbrev pub assigns_in : (variables names : List (List ℕ)) → SourceStatement → Bool
+assigns_in variables names (assign p t) = rows.writes_only variables p && rows.reads_only names t
+assigns_in variables names (choose arms rest) = false
+assigns_in variables names (fire k x ts) = false
+
+-- 20: a statement of a schedule block fires an action and reads these names
+abbrev pub fires_in : List (List ℕ) → SourceStatement → Bool
+fires_in names (assign p t) = false
+fires_in names (choose arms rest) = false
+fires_in names (fire k x ts) = list_all (rows.reads_only names) ts
+
+-- 20: a constant reads no name, and a parameter with a name is of sort Int
+abbrev pub is_known_parameter : SourceParameter → Bool
+is_known_parameter (const t) = rows.reads_only [] t
+is_known_parameter (named d) = is_first_sort d.sort
+
+-- 20: a state variable is of sort Int, and its initial term reads no name
+abbrev pub is_known_variable : SourceVariable → Bool
+is_known_variable v = rows.guard_reads_only [] v.initial && is_first_sort v.declared.sort
+
+-- 22: the initial term of a state variable, where there is one, is a number
+abbrev pub begins_with_number : SourceVariable → Bool
+begins_with_number v = passes_or_none is_number v.initial
+
+-- the rows of a state variable
+abbrev pub StandsInVariables : List SourceVariable → Row → Type 0
+StandsInVariables vs row.Unknown = list_all is_known_variable vs ≡ false
+StandsInVariables vs row.Sorts = list_all begins_with_number vs ≡ false
+StandsInVariables vs row.NoInitial = list_all (λ v. is_some v.initial) vs ≡ false
+StandsInVariables vs _ = ⊥
+
+-- an entry has a transition, of which this holds
+abbrev pub HasTransition : SourceEntry → List SourceTransition → (SourceTransition → Type 0) → Type 0
+HasTransition e ts holds = (t : SourceTransition) × (transition_for e ts ≡ Some t) × holds t
+
+-- 20: the terms of a head and a guard read what is in view, and so does an effect, which assigns to the variables
+abbrev pub is_known_transition : (variables names : List (List ℕ)) → SourceTransition → Bool
+is_known_transition variables names t =
+    list_all (rows.reads_only names) t.arguments
+    && (rows.guard_reads_only names t.pre && list_all (assigns_in variables names) t.effect)
+
+-- 22: a guard is a truth value, and assigned terms are numbers
+abbrev pub is_sorted_transition : SourceTransition → Bool
+is_sorted_transition t = rows.is_guard_or_none t.pre && list_all rows.assigns_number t.effect
+
+-- 20: what is_known_parameter says of the parameters of an entry, which has no condition
+abbrev pub is_known_entry : SourceEntry → Bool
+is_known_entry e = list_all is_known_parameter e.parameters && not (is_some e.condition)
+
+-- the rows of an entry and its transition, where the state variables have these names
+abbrev pub StandsInEntry : List (List ℕ) → List SourceTransition → SourceEntry → Row → Type 0
+StandsInEntry names ts e row.Unknown =
+    HasTransition e ts (λ t. (is_known_entry e && is_known_transition names (names ++ own_names e.parameters) t) ≡ false)
+StandsInEntry names ts e row.Twice = IsDistinct same_name (names ++ own_names e.parameters) → ⊥
+StandsInEntry names ts e row.Sorts = HasTransition e ts (λ t. (list_all rows.is_number_constant e.parameters && is_sorted_transition t) ≡ false)
+StandsInEntry names ts e row.InputPre = HasTransition e ts (λ t. (is_some t.pre && same_kind e.kind Input) ≡ true)
+StandsInEntry names ts e row.NoTransition = transition_for e ts ≡ None
+StandsInEntry names ts e row.BadArgument = HasTransition e ts (λ t. pointwise rows.argument_repeats e.parameters t.arguments ≡ false)
+StandsInEntry names ts e _ = ⊥
+
+-- the rows of entries
+abbrev pub StandsInEntries : List (List ℕ) → List SourceTransition → List SourceEntry → Row → Type 0
+StandsInEntries names ts es r = (e : SourceEntry) × Contains es e × StandsInEntry names ts e r
+
+-- the rows of an initial term, with the places of its names beside them: 23 where there is none, 34 where it has no value
+abbrev pub StandsInInitial : Option CheckedTerm → Row → Type 0
+StandsInInitial t row.NoInitial = is_some t ≡ false
+StandsInInitial t row.BadArgument = (f : TermFault) × (term_answer t ≡ Err f)
+StandsInInitial t _ = ⊥
+
+-- the rows of the initial terms of state variables
+abbrev pub StandsInInitials : List (Variable ℕ Shape) → Row → Type 0
+StandsInInitials vs r = (v : Variable ℕ Shape) × Contains vs v × StandsInInitial (variable_of v).initial r
+
+-- 34: the initial term of a state variable has no value
+abbrev pub HasNoValue : List SourceVariable → Type 0
+HasNoValue vs = (v : CheckedVariable) × Contains vs (erase_variable v) × StandsInInitial v.initial row.BadArgument
+
+-- the rows of an automaton without those of its entries
+abbrev pub StandsInParts : SourceAutomaton → Row → Type 0
+StandsInParts a row.Unknown =
+    (list_all (rows.has_entry a.signature) a.transitions
+    && (list_all (rows.fires_entry a.signature) a.schedule
+    && (list_all (fires_in (variable_names a.states)) a.schedule && list_all is_known_variable a.states))) ≡ false
+StandsInParts a row.Twice =
+    IsDistinct same_name (map (λ e. e.name) a.signature)
+    × IsDistinct same_name (map (λ t. t.name) a.transitions)
+    × IsDistinct same_name (variable_names a.states) → ⊥
+StandsInParts a row.Sorts =
+    (list_all (rows.fires_as_many a.signature) a.schedule
+    && (list_all rows.fires_numbers a.schedule && list_all begins_with_number a.states)) ≡ false
+StandsInParts a row.NoInitial = list_all (λ v. is_some v.initial) a.states ≡ false
+StandsInParts a row.BadArgument = HasNoValue a.states
+StandsInParts a _ = ⊥
+
+-- the rows of an automaton
+abbrev pub StandsInAutomaton : SourceAutomaton → Row → Type 0
+StandsInAutomaton a r =
+    StandsInParts a r ⊎ StandsInEntries (variable_names a.states) a.transitions a.signature r
+
+-- the rows of a text without those of its automata
+abbrev pub StandsInWhole : SourceText → Row → Type 0
+StandsInWhole t row.Unknown =
+    (list_all is_first_declaration t.declarations
+    && (list_all is_first_placement t.system
+    && (list_all (rows.is_declared t.declarations) (nodes_in t.system)
+    && list_all (rows.joins_nodes (nodes_in t.system)) (channels_in t.system)))) ≡ false
+StandsInWhole t row.Twice =
+    IsDistinct same_name (map (λ a. a.name) (automata_in t.declarations))
+    × IsDistinct rows.same_number (nodes_in t.system)
+    × IsDistinct rows.same_channel (channels_in t.system) → ⊥
+StandsInWhole t row.InputMissing = list_all (rows.has_input t.declarations (nodes_in t.system)) (channels_in t.system) ≡ false
+StandsInWhole t row.SelfChannel = list_all rows.joins_two (channels_in t.system) ≡ false
+StandsInWhole t row.NodeGap = (k : ℕ) × (k < length (nodes_in t.system)) × (rows.is_node (nodes_in t.system) (pos k) ≡ false)
+StandsInWhole t row.Limit = (length (nodes_in t.system) ≤ 64) × (length (channels_in t.system) ≤ 256) → ⊥
+StandsInWhole t row.BadArgument = list_all (rows.has_its_own t.declarations) (nodes_in t.system) ≡ false
+StandsInWhole t _ = ⊥
+
+-- the rows of a text
+abbrev pub StandsIn : SourceText → Row → Type 0
+StandsIn t r = StandsInWhole t r ⊎ ((a : SourceAutomaton) × Contains (automata_in t.declarations) a × StandsInAutomaton a r)
+
+-- the same of automata, each after those before it
+abbrev pub StandsInAutomata : List (List ℕ) → List SourceAutomaton → Row → Type 0
+StandsInAutomata names automata r =
+    Only row.Twice (IsDistinct same_name (names ++ map (λ a. a.name) automata) → ⊥) r
+    ⊎ ((a : SourceAutomaton) × Contains automata a × StandsInAutomaton a r)
+
+-- of two tests of nodes, the one that fails gives the row
+abbrev pub FailsOfNodes : (declared at_home : Bool) → Row → Type 0
+FailsOfNodes declared at_home row.Unknown = declared ≡ false
+FailsOfNodes declared at_home row.BadArgument = at_home ≡ false
+FailsOfNodes declared at_home _ = ⊥
+
+-- of three tests of channels, the one that fails gives the row
+abbrev pub FailsOfChannels : (two ends inputs : Bool) → Row → Type 0
+FailsOfChannels two ends inputs row.Unknown = ends ≡ false
+FailsOfChannels two ends inputs row.InputMissing = inputs ≡ false
+FailsOfChannels two ends inputs row.SelfChannel = two ≡ false
+FailsOfChannels two ends inputs _ = ⊥
+
+-- the refusal in the top declaration of a place
+abbrev pub fault_at : Refusal → ℕ → CheckFault
+fault_at (refusal.Row r) place = fault.Refused r place
+fault_at refusal.Memory place = fault.Memory
+
+-- this stands where a row is answered; a fault for want of memory says nothing
+abbrev pub Answered : (Row → Type 0) → CheckFault → Type 0
+Answered stands (fault.Refused r place) = stands r
+Answered stands fault.Memory = Unit {0}
+
+-- where a fault stands: its row stands in the text. Memory may be refused anywhere.
+abbrev pub Stands : CheckFault → SourceText → Type 0
+Stands f t = Answered (StandsIn t) f

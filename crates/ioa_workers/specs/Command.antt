@@ -1,0 +1,109 @@
+-- What the program does with its words, its input and its two outputs (profile).
+use Rattle.std.specs.Prelude.{◌≡◌, ◌⊎◌, ◌<◌, ◌≤◌, ◌++◌, ℕ, Bool, true, false, List, codes, Option, Some, None, Result, Ok, Err, IfSome, IfErr}
+use Rattle.std.specs.Fmt.{decimal, with_newline}
+use Rattle.std.specs.Io.KnownBytes.{Keeps, Appends}
+use Rattle.ioa_text_reader.specs.declared.fault.FrontFault.{FrontFault}
+use Rattle.ioa_text_reader.specs.declared.fault.FrontFault.TheVariants as front
+use Rattle.ioa_check.specs.declared.refusal.CheckFault.{CheckFault}
+use Rattle.ioa_check.specs.declared.refusal.CheckFault.TheVariants as check
+use Rattle.ioa_workers.specs.declared.input.InputFault.{InputFault}
+use Rattle.ioa_workers.specs.declared.input.InputFault.TheVariants as input
+use Rattle.ioa_workers.specs.declared.whole_run.RunFault.{RunFault}
+use Rattle.ioa_workers.specs.declared.whole_run.RunFault.TheVariants as run
+use Rattle.ioa_workers.specs.declared.program.CommandFault.{CommandFault}
+use Rattle.ioa_workers.specs.declared.program.CommandFault.TheVariants.{Words, Input, Run}
+use Rattle.ioa_workers.specs.Input.{IsFaultOf}
+use Rattle.ioa_workers.specs.Options.{Settings}
+use Rattle.ioa_workers.specs.Output.{AppendsBeginning}
+use Rattle.ioa_workers.specs.WholeRun.{IsRefusalOf, WritesReport}
+
+-- a text is the input's, where the bytes of the input are known
+abbrev pub IsTextOf : Option (List ℕ) → List ℕ → Type 0
+IsTextOf given text = IfSome given (λ bytes. text ≡ bytes)
+
+-- the options of the program's runs
+abbrev pub default_options : Settings
+default_options = record { steps = 10000; attempts = 1000 }
+
+-- a text of the input was run with the default options; a fault says what stands in that text
+abbrev pub RunsText : Option (List ℕ) → Option (List ℕ) → Option (List ℕ) → Bool → Result (Unit {0}) RunFault → Type 0
+RunsText given old new failed result =
+    (text : List ℕ) × IsTextOf given text × WritesReport text default_options old new failed result × IfErr result (λ f. IsRefusalOf f text)
+
+-- what the program read and what it wrote as its report, where it ends so: no report is written where there are words
+-- beyond its name, or where the input gives no text
+abbrev pub Executes : ℕ → Option (List ℕ) → Option (List ℕ) → Option (List ℕ) → Bool → Result (Unit {0}) CommandFault → Type 0
+Executes words given old new failed (Ok x) = (words ≤ 1) × RunsText given old new failed (Ok x)
+Executes words given old new failed (Err Words) = (1 < words) × (failed ≡ false) × Keeps old new
+Executes words given old new failed (Err (Input f)) =
+    (words ≤ 1) × IfSome given (IsFaultOf f) × (failed ≡ false) × Keeps old new
+Executes words given old new failed (Err (Run f)) = (words ≤ 1) × RunsText given old new failed (Err f)
+
+-- 1 where the input is refused, and 3 where memory or reading failed
+abbrev pub input_status : InputFault → ℕ
+input_status input.Read = 3
+input_status input.TooLong = 1
+input_status (input.BadCharacter place) = 1
+input_status input.Memory = 3
+
+-- 1 where the text is refused, and 3 where memory or writing failed
+abbrev pub run_status : RunFault → ℕ
+run_status (run.Front f) = 1
+run_status (run.Check f) = 1
+run_status run.Memory = 3
+run_status run.Write = 3
+
+-- the status of a fault: 2 where the command line is refused
+abbrev pub fault_status : CommandFault → ℕ
+fault_status Words = 2
+fault_status (Input f) = input_status f
+fault_status (Run f) = run_status f
+
+-- the line of an input that gives no text
+abbrev pub input_line : InputFault → List ℕ
+input_line input.Read = codes "failed 70 Read"
+input_line input.TooLong = codes "refused 15 TooLong at 8388608"
+input_line (input.BadCharacter place) = codes "refused 11 BadCharacter at " ++ decimal place
+input_line input.Memory = codes "refused 3 Memory"
+
+-- the line of a text that has no source
+abbrev pub front_line : FrontFault → List ℕ
+front_line front.Empty = codes "refused 10 Empty at 0"
+front_line (front.BadCharacter place) = codes "refused 11 BadCharacter at " ++ decimal place
+front_line (front.Unexpected place) = codes "refused 12 Unexpected at " ++ decimal place
+front_line (front.NumberTooLarge place) = codes "refused 13 NumberTooLarge at " ++ decimal place
+front_line (front.TooDeep place) = codes "refused 14 TooDeep at " ++ decimal place
+front_line front.TooLong = codes "refused 15 TooLong at 1048576"
+front_line (front.LeftOut place) = codes "refused 16 LeftOut at " ++ decimal place
+front_line front.Memory = codes "refused 3 Memory"
+
+-- the line of a source that describes no system, where the names of the rows are known
+abbrev pub check_line : CheckFault → Option (List ℕ)
+check_line (check.Refused row place) = None
+check_line check.Memory = Some (codes "refused 3 Memory")
+
+-- the line of a text that gave no report
+abbrev pub run_line : RunFault → Option (List ℕ)
+run_line (run.Front f) = Some (front_line f)
+run_line (run.Check f) = check_line f
+run_line run.Memory = Some (codes "refused 3 Memory")
+run_line run.Write = Some (codes "failed 71 Write")
+
+-- the line of a fault
+abbrev pub fault_line : CommandFault → Option (List ℕ)
+fault_line Words = Some (codes "ioarun takes no words")
+fault_line (Input f) = Some (input_line f)
+fault_line (Run f) = run_line f
+
+-- known bytes grow by a line, where it is known: by all of it, or by a beginning of it where the output failed
+abbrev pub Shows : Option (List ℕ) → Option (List ℕ) → Option (List ℕ) → Bool → Type 0
+Shows line old new false = IfSome line (Appends old new)
+Shows line old new true = IfSome line (AppendsBeginning old new)
+
+-- the status that the program gives, and what it shows, where it ends so: nothing where it did what it was asked, else
+-- the fault's line with the fault's status; for want of memory for that line, one that says so, with status 3
+abbrev pub Tells : Result (Unit {0}) CommandFault → ℕ → Option (List ℕ) → Option (List ℕ) → Bool → Type 0
+Tells (Ok x) status old new failed = (status ≡ 0) × (failed ≡ false) × Keeps old new
+Tells (Err f) status old new failed =
+    ((status ≡ fault_status f) × Shows (with_newline (fault_line f)) old new failed)
+    ⊎ ((status ≡ 3) × Shows (Some (codes "refused 3 Memory\n")) old new failed)
