@@ -1,11 +1,12 @@
 -- What the program does with its words, its input and its two outputs (profile).
 use Rattle.std.specs.Prelude.{◌≡◌, ◌⊎◌, ◌<◌, ◌≤◌, ◌++◌, ℕ, Bool, true, false, List, codes, Option, Some, None, Result, Ok, Err, IfSome, IfErr}
-use Rattle.std.specs.Fmt.{decimal, with_newline}
+use Rattle.std.specs.Fmt.{decimal}
 use Rattle.std.specs.Io.KnownBytes.{Keeps, Appends}
 use Rattle.ioa_text_reader.specs.declared.fault.FrontFault.{FrontFault}
 use Rattle.ioa_text_reader.specs.declared.fault.FrontFault.TheVariants as front
 use Rattle.ioa_check.specs.declared.refusal.CheckFault.{CheckFault}
 use Rattle.ioa_check.specs.declared.refusal.CheckFault.TheVariants as check
+use Rattle.ioa_check.specs.Refusals.{row_name, row_number}
 use Rattle.ioa_workers.specs.declared.input.InputFault.{InputFault}
 use Rattle.ioa_workers.specs.declared.input.InputFault.TheVariants as input
 use Rattle.ioa_workers.specs.declared.whole_run.RunFault.{RunFault}
@@ -77,33 +78,34 @@ front_line front.TooLong = codes "refused 15 TooLong at 1048576"
 front_line (front.LeftOut place) = codes "refused 16 LeftOut at " ++ decimal place
 front_line front.Memory = codes "refused 3 Memory"
 
--- the line of a source that describes no system, where the names of the rows are known
-abbrev pub check_line : CheckFault → Option (List ℕ)
-check_line (check.Refused row place) = None
-check_line check.Memory = Some (codes "refused 3 Memory")
+-- the line of a source that describes no system
+abbrev pub check_line : CheckFault → List ℕ
+check_line (check.Refused row place) =
+    codes "refused " ++ (decimal (row_number row) ++ (codes " " ++ (row_name row ++ (codes " in " ++ decimal place))))
+check_line check.Memory = codes "refused 3 Memory"
 
 -- the line of a text that gave no report
-abbrev pub run_line : RunFault → Option (List ℕ)
-run_line (run.Front f) = Some (front_line f)
+abbrev pub run_line : RunFault → List ℕ
+run_line (run.Front f) = front_line f
 run_line (run.Check f) = check_line f
-run_line run.Memory = Some (codes "refused 3 Memory")
-run_line run.Write = Some (codes "failed 71 Write")
+run_line run.Memory = codes "refused 3 Memory"
+run_line run.Write = codes "failed 71 Write"
 
 -- the line of a fault
-abbrev pub fault_line : CommandFault → Option (List ℕ)
-fault_line Words = Some (codes "ioarun takes no words")
-fault_line (Input f) = Some (input_line f)
+abbrev pub fault_line : CommandFault → List ℕ
+fault_line Words = codes "ioarun takes no words"
+fault_line (Input f) = input_line f
 fault_line (Run f) = run_line f
 
--- known bytes grow by a line, where it is known: by all of it, or by a beginning of it where the output failed
-abbrev pub Shows : Option (List ℕ) → Option (List ℕ) → Option (List ℕ) → Bool → Type 0
-Shows line old new false = IfSome line (Appends old new)
-Shows line old new true = IfSome line (AppendsBeginning old new)
+-- known bytes grow by a line: by all of it, or by a beginning of it where the output failed
+abbrev pub Shows : List ℕ → Option (List ℕ) → Option (List ℕ) → Bool → Type 0
+Shows line old new false = Appends old new line
+Shows line old new true = AppendsBeginning old new line
 
 -- the status that the program gives, and what it shows, where it ends so: nothing where it did what it was asked, else
 -- the fault's line with the fault's status; for want of memory for that line, one that says so, with status 3
 abbrev pub Tells : Result (Unit {0}) CommandFault → ℕ → Option (List ℕ) → Option (List ℕ) → Bool → Type 0
 Tells (Ok x) status old new failed = (status ≡ 0) × (failed ≡ false) × Keeps old new
 Tells (Err f) status old new failed =
-    ((status ≡ fault_status f) × Shows (with_newline (fault_line f)) old new failed)
-    ⊎ ((status ≡ 3) × Shows (Some (codes "refused 3 Memory\n")) old new failed)
+    ((status ≡ fault_status f) × Shows (fault_line f ++ codes "\n") old new failed)
+    ⊎ ((status ≡ 3) × Shows (codes "refused 3 Memory\n") old new failed)

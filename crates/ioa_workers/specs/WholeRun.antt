@@ -8,6 +8,7 @@ use Rattle.ioa_check.specs.declared.refusal.CheckFault.{CheckFault}
 use Rattle.ioa_check.specs.declared.refusal.CheckFault.TheVariants as check
 use Rattle.ioa_check.specs.Made.{IsSystemOf}
 use Rattle.ioa_check.specs.Rows.{HasNoRow}
+use Rattle.ioa_check.specs.Standing as standing
 use Rattle.ioa_system.specs.Systems.{SystemParts}
 use Rattle.ioa_workers.specs.declared.ending.Ending.{Ending}
 use Rattle.ioa_workers.specs.declared.record.Record.{Record}
@@ -54,11 +55,11 @@ abbrev pub of_check : CheckFault → RunFault
 of_check (check.Refused row place) = Check (check.Refused row place)
 of_check check.Memory = Memory
 
--- what a fault says of the text: a fault of reading stands in it, and one of the check comes only where it spells a
--- source; want of memory and a failed write say nothing of it
+-- what a fault says of the text: a fault of reading stands in it, and one of the check stands in a source that it
+-- spells; want of memory and a failed write say nothing of it
 abbrev pub IsRefusalOf : RunFault → List ℕ → Type 0
 IsRefusalOf (Front f) text = (f ≡ front.Memory → ⊥) × Stands f text
-IsRefusalOf (Check f) text = (f ≡ check.Memory → ⊥) × (p : SourceText) × TextSpells p text
+IsRefusalOf (Check f) text = (f ≡ check.Memory → ⊥) × (p : SourceText) × TextSpells p text × standing.Stands f p
 IsRefusalOf Memory text = ⊤
 IsRefusalOf Write text = ⊤
 

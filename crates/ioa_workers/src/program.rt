@@ -73,9 +73,10 @@ fn run_status(fault: &RunFault) -> u8
 }
 
 impl fmt::Display for CommandFault {
+    ghost use Rattle.std.specs.Prelude.{Some};
     ghost use Rattle.ioa_workers.specs.Command.{fault_line};
 
-    ghost output = { λ f. fault_line f };
+    ghost output = { λ f. Some (fault_line f) };
 
     fn fmt<W: fmt::Write>(&self, f: &mut fmt::Formatter<W>) -> fmt::Result {
         match self {
@@ -88,7 +89,7 @@ impl fmt::Display for CommandFault {
 
 /// The line of a text that gave no report.
 fn show_run_fault<W: fmt::Write>(fault: &RunFault, f: &mut fmt::Formatter<W>) -> fmt::Result
-    ensures { DisplaysOnOk W.write_str_gives f.old result (run_line fault.now) f.new }
+    ensures { DisplaysOnOk W.write_str_gives f.old result (Some (run_line fault.now)) f.new }
 {
     match fault {
         RunFault::Front(fault) => show_front_fault(fault, f),
@@ -128,7 +129,7 @@ fn show_front_fault<W: fmt::Write>(fault: &FrontFault, f: &mut fmt::Formatter<W>
 
 /// The line of a source that describes no system.
 fn show_check_fault<W: fmt::Write>(fault: &CheckFault, f: &mut fmt::Formatter<W>) -> fmt::Result
-    ensures { DisplaysOnOk W.write_str_gives f.old result (check_line fault.now) f.new }
+    ensures { DisplaysOnOk W.write_str_gives f.old result (Some (check_line fault.now)) f.new }
 {
     match fault {
         CheckFault::Refused { row, place } => {
