@@ -101,15 +101,15 @@ writes_only variables (variable x at d) = list_any (same_name x) variables
 writes_only variables (at_key x at d t) = false
 writes_only variables (at_field x at d f) = false
 
--- 20: the variable that an assignment writes, and the names that it reads
+-- 20: a statement of an effect assigns to one of these variables and reads these names
 abbrev pub assigns_only : List (List ℕ) → List (List ℕ) → SourceStatement → Bool
 assigns_only variables names (assign p t) = writes_only variables p && reads_only names t
 assigns_only variables names (choose arms rest) = false
-assigns_only variables names (fire k x ts) = true
+assigns_only variables names (fire k x ts) = false
 
--- 20: the names that a firing reads
+-- 20: a statement of a schedule block fires an action and reads these names
 abbrev pub fires_only : List (List ℕ) → SourceStatement → Bool
-fires_only names (assign p t) = true
+fires_only names (assign p t) = false
 fires_only names (choose arms rest) = false
 fires_only names (fire k x ts) = list_all (reads_only names) ts
 

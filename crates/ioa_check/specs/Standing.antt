@@ -40,18 +40,6 @@ Fails form sort row.Unknown = form ≡ false
 Fails form sort row.Sorts = sort ≡ false
 Fails form sort _ = ⊥
 
--- 20: a statement of an effect assigns to one of these variables and reads what is in view
-abbrev pub assigns_in : (variables names : List (List ℕ)) → SourceStatement → Bool
-assigns_in variables names (assign p t) = rows.writes_only variables p && rows.reads_only names t
-assigns_in variables names (choose arms rest) = false
-assigns_in variables names (fire k x ts) = false
-
--- 20: a statement of a schedule block fires an action and reads these names
-abbrev pub fires_in : List (List ℕ) → SourceStatement → Bool
-fires_in names (assign p t) = false
-fires_in names (choose arms rest) = false
-fires_in names (fire k x ts) = list_all (rows.reads_only names) ts
-
 -- 20: a constant reads no name, and a parameter with a name is of sort Int
 abbrev pub is_known_parameter : SourceParameter → Bool
 is_known_parameter (const t) = rows.reads_only [] t
@@ -80,7 +68,7 @@ HasTransition e ts holds = (t : SourceTransition) × (transition_for e ts ≡ So
 abbrev pub is_known_transition : (variables names : List (List ℕ)) → SourceTransition → Bool
 is_known_transition variables names t =
     list_all (rows.reads_only names) t.arguments
-    && (rows.guard_reads_only names t.pre && list_all (assigns_in variables names) t.effect)
+    && (rows.guard_reads_only names t.pre && list_all (rows.assigns_only variables names) t.effect)
 
 -- 22: a guard is a truth value, and assigned terms are numbers
 abbrev pub is_sorted_transition : SourceTransition → Bool
@@ -124,7 +112,7 @@ abbrev pub StandsInParts : SourceAutomaton → Row → Type 0
 StandsInParts a row.Unknown =
     (list_all (rows.has_entry a.signature) a.transitions
     && (list_all (rows.fires_entry a.signature) a.schedule
-    && (list_all (fires_in (variable_names a.states)) a.schedule && list_all is_known_variable a.states))) ≡ false
+    && (list_all (rows.fires_only (variable_names a.states)) a.schedule && list_all is_known_variable a.states))) ≡ false
 StandsInParts a row.Twice =
     IsDistinct same_name (map (λ e. e.name) a.signature)
     × IsDistinct same_name (map (λ t. t.name) a.transitions)

@@ -17,7 +17,7 @@ ghost use Rattle.ioa_system.specs.Placed.{IsPlacedGuard, IsPlacedParameter, AreP
 ghost use Rattle.ioa_check.specs.Made.{AssignsInteger, HasItsShape, HasParameterShape, IsShapeOf};
 ghost use Rattle.ioa_check.specs.FirstForm.{is_first_sort};
 ghost use Rattle.ioa_check.specs.FirstSorts.{is_number, is_guard};
-ghost use Rattle.ioa_check.specs.Standing.{Fails, Refuses, StandsInVariables, assigns_in, fires_in, is_known_entry, is_known_parameter};
+ghost use Rattle.ioa_check.specs.Standing.{Fails, Refuses, StandsInVariables, is_known_entry, is_known_parameter};
 ghost use Rattle.ioa_check.specs.Rows.{reads_only, reads_no_name, guard_reads_only, writes_only, assigns_only, assigns_number, fires_only, fires_numbers, is_number_constant, is_number_term, is_guard_or_none};
 
 use crate::first_form::is_first_operator;
@@ -121,7 +121,7 @@ fn place_assignment(
     ensures shape { IfOk result (λ s. AssignsInteger (statement_of s)) }
     ensures number { OnOk result (assigns_number (statement_of statement.now) ≡ true) }
     ensures names { OnOk result (assigns_only (take count scope.now) scope.now (statement_of statement.now) ≡ true) }
-    ensures refused { IfErr result (Refuses (Fails (assigns_in (take count scope.now) scope.now (statement_of statement.now)) (assigns_number (statement_of statement.now)))) }
+    ensures refused { IfErr result (Refuses (Fails (assigns_only (take count scope.now) scope.now (statement_of statement.now)) (assigns_number (statement_of statement.now)))) }
 {
     match statement {
         Statement::Assign(place, term) => place_assigned(alloc, scope, count, place, term),
@@ -142,7 +142,7 @@ fn place_assigned(
     ensures shape { IfOk result (λ s. AssignsInteger (statement_of s)) }
     ensures number { OnOk result (is_number (term_of term.now) ≡ true) }
     ensures names { OnOk result (assigns_only (take count scope.now) scope.now (plain.assign (place_of place.now) (term_of term.now)) ≡ true) }
-    ensures refused { IfErr result (Refuses (Fails (assigns_in (take count scope.now) scope.now (plain.assign (place_of place.now) (term_of term.now))) (is_number (term_of term.now)))) }
+    ensures refused { IfErr result (Refuses (Fails (assigns_only (take count scope.now) scope.now (plain.assign (place_of place.now) (term_of term.now))) (is_number (term_of term.now)))) }
 {
     let place = place_target(alloc, scope, count, place)?;
     let value = place_term(alloc, scope, term)?;
@@ -165,7 +165,7 @@ pub(crate) fn place_effect(
     ensures shapes { IfOk result (λ ss. AllByRecursion AssignsInteger (map statement_of ss.items)) }
     ensures numbers { OnOk result (list_all assigns_number (map statement_of effect.now) ≡ true) }
     ensures names { OnOk result (list_all (assigns_only (take count scope.now) scope.now) (map statement_of effect.now) ≡ true) }
-    ensures refused { IfErr result (Refuses (Fails (list_all (assigns_in (take count scope.now) scope.now) (map statement_of effect.now)) (list_all assigns_number (map statement_of effect.now)))) }
+    ensures refused { IfErr result (Refuses (Fails (list_all (assigns_only (take count scope.now) scope.now) (map statement_of effect.now)) (list_all assigns_number (map statement_of effect.now)))) }
 {
     let mut placed = Vec::new(alloc);
     for statement in effect {
@@ -208,7 +208,7 @@ fn place_firing(
     ensures placed { IfOk result (λ s. IsPlacedFiring (statement_of s) variables.now) }
     ensures numbers { OnOk result (fires_numbers (statement_of statement.now) ≡ true) }
     ensures names { OnOk result (fires_only variables.now (statement_of statement.now) ≡ true) }
-    ensures refused { IfErr result (Refuses (Fails (fires_in variables.now (statement_of statement.now)) (fires_numbers (statement_of statement.now)))) }
+    ensures refused { IfErr result (Refuses (Fails (fires_only variables.now (statement_of statement.now)) (fires_numbers (statement_of statement.now)))) }
 {
     match statement {
         Statement::Fire(kind, name, arguments) => {
@@ -234,7 +234,7 @@ pub(crate) fn place_schedule(
     ensures placed { IfOk result (λ ss. ArePlacedFirings (map statement_of ss.items) variables.now) }
     ensures numbers { OnOk result (list_all fires_numbers (map statement_of schedule.now) ≡ true) }
     ensures names { OnOk result (list_all (fires_only variables.now) (map statement_of schedule.now) ≡ true) }
-    ensures refused { IfErr result (Refuses (Fails (list_all (fires_in variables.now) (map statement_of schedule.now)) (list_all fires_numbers (map statement_of schedule.now)))) }
+    ensures refused { IfErr result (Refuses (Fails (list_all (fires_only variables.now) (map statement_of schedule.now)) (list_all fires_numbers (map statement_of schedule.now)))) }
 {
     let mut placed = Vec::new(alloc);
     for statement in schedule {

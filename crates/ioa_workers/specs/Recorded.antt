@@ -9,7 +9,7 @@ use Rattle.ioa_workers.specs.declared.ending.Ending.{Ending}
 use Rattle.ioa_workers.specs.declared.record.Record.{Record}
 use Rattle.ioa_workers.specs.declared.running.Course.{Course}
 
--- a schedule within the limit is an execution from the start that leads to these configurations (Lynch 8.1)
+-- a schedule within the limit is an execution from the first configurations that leads to the second (Lynch 8.1)
 pub record IsExecution (limit : ℕ) (from : List Conf) (schedule : List Action) (states : List Conf) : Type 0 where
   pub leads : replay schedule from ≡ Some states
   pub within : length schedule ≤ limit

@@ -3,8 +3,8 @@
 
 use ioa_check::check;
 use ioa_compose::{Conf, Item, Queue, project, replay};
-use ioa_text_reader::parse;
 use ioa_terms::{Action, Component, Value};
+use ioa_text_reader::parse;
 use ioa_workers::{Over, command};
 use std::test::Fail;
 

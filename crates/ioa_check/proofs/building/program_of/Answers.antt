@@ -5,7 +5,7 @@ use Rattle.ioa_terms.specs.Bindings.{same_name}
 use Rattle.ioa_system.specs.Placed.{variable_names}
 use Rattle.ioa_check.specs.Rows.{fires_only}
 use Rattle.ioa_source.specs.TextView.{automaton_of, variable_of}
-use Rattle.ioa_check.specs.Standing.{StandsInAutomaton, StandsInEntries, fires_in}
+use Rattle.ioa_check.specs.Standing.{StandsInAutomaton, StandsInEntries}
 use Rattle.ioa_check.proofs.Parts.{initial_stands}
 use Rattle.ioa_check.proofs.Refused.{fails_weaker, left_fails, only_weaker, refuses_weaker, right_fails}
 use Rattle.ioa_check.proofs.Rows.{entries_erased, variables_erased}
@@ -68,6 +68,6 @@ returns-in_err-schedule-clause-refused c =
     rw (p.1, p.2)
     (refuses_weaker
     (fails_weaker (StandsInAutomaton a)
-    (λ form. inl (right_fails _ _ (right_fails _ _ (left_fails _ _ (subst (λ (ns : List (List ℕ)). list_all (fires_in ns) a.schedule ≡ false) names form)))))
+    (λ form. inl (right_fails _ _ (right_fails _ _ (left_fails _ _ (subst (λ (ns : List (List ℕ)). list_all (fires_only ns) a.schedule ≡ false) names form)))))
     (λ sort. inl (right_fails _ _ (left_fails _ _ sort))))
     _ (rw c.deref-5.ensures.value at c.in_err-schedule.ensures.refused))

@@ -6,7 +6,6 @@ use Rattle.ioa_source.specs.View.{statement_of}
 use Rattle.ioa_terms.specs.Placed.{IsPlacedStatement}
 use Rattle.ioa_check.specs.Made.{AssignsInteger}
 use Rattle.ioa_check.specs.Rows.{assigns_number, assigns_only}
-use Rattle.ioa_check.specs.Standing.{assigns_in}
 use Rattle.ioa_check.proofs.Loops.{all_left, each_push, same_push}
 use Rattle.ioa_check.proofs.Refused.{fails_each}
 use Rattle.ioa_check.proofs.placing.place_effect.Goals as goal
@@ -14,7 +13,7 @@ use Rattle.ioa_check.proofs.placing.place_effect.Goals as goal
 pub returns-in_err-place_assignment-clause-refused : goal.returns-in_err-place_assignment-clause-refused
 returns-in_err-place_assignment-clause-refused c =
     let p = err_from_is_err_and c.from_residual.result c.from_residual.ensures.1 in
-    rw (p.1, p.2) (fails_each (assigns_in (take c.args.count c.args.scope.now) c.args.scope.now) assigns_number statement_of c.args.effect.now c.loop-statement.statement-index c.statement-item.result _ c.in_err-place_assignment.ensures.refused (omega arith) c.statement-item.is)
+    rw (p.1, p.2) (fails_each (assigns_only (take c.args.count c.args.scope.now) c.args.scope.now) assigns_number statement_of c.args.effect.now c.loop-statement.statement-index c.statement-item.result _ c.in_err-place_assignment.ensures.refused (omega arith) c.statement-item.is)
 
 pub loop-statement-preserved : goal.loop-statement-preserved
 loop-statement-preserved c =

@@ -5,7 +5,6 @@ use Rattle.ioa_source.specs.Sides.{CheckedStatement}
 use Rattle.ioa_source.specs.View.{statement_of}
 use Rattle.ioa_system.specs.Placed.{IsPlacedFiring}
 use Rattle.ioa_check.specs.Rows.{fires_numbers, fires_only}
-use Rattle.ioa_check.specs.Standing.{fires_in}
 use Rattle.ioa_check.proofs.Loops.{all_left, each_push, same_push}
 use Rattle.ioa_check.proofs.Refused.{fails_each}
 use Rattle.ioa_check.proofs.placing.place_schedule.Goals as goal
@@ -13,7 +12,7 @@ use Rattle.ioa_check.proofs.placing.place_schedule.Goals as goal
 pub returns-in_err-place_firing-clause-refused : goal.returns-in_err-place_firing-clause-refused
 returns-in_err-place_firing-clause-refused c =
     let p = err_from_is_err_and c.from_residual.result c.from_residual.ensures.1 in
-    rw (p.1, p.2) (fails_each (fires_in c.args.variables.now) fires_numbers statement_of c.args.schedule.now c.loop-statement.statement-index c.statement-item.result _ c.in_err-place_firing.ensures.refused (omega arith) c.statement-item.is)
+    rw (p.1, p.2) (fails_each (fires_only c.args.variables.now) fires_numbers statement_of c.args.schedule.now c.loop-statement.statement-index c.statement-item.result _ c.in_err-place_firing.ensures.refused (omega arith) c.statement-item.is)
 
 pub loop-statement-preserved : goal.loop-statement-preserved
 loop-statement-preserved c =
