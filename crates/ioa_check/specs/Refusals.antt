@@ -1,5 +1,8 @@
--- The numbers and the names of the rows of refusal (profile).
-use Rattle.std.specs.Prelude.{ℕ, List, codes}
+-- The numbers and the names of the rows of refusal, and the faults of the check as text (profile).
+use Rattle.std.specs.Prelude.{ℕ, List, ◌++◌, codes}
+use Rattle.std.specs.Fmt.{decimal}
+use Rattle.ioa_check.specs.declared.refusal.CheckFault.{CheckFault}
+use Rattle.ioa_check.specs.declared.refusal.CheckFault.TheVariants as fault
 use Rattle.ioa_check.specs.declared.refusal.Row.{Row}
 use Rattle.ioa_check.specs.declared.refusal.Row.TheVariants as row
 
@@ -30,3 +33,9 @@ row_name row.SelfChannel = codes "SelfChannel"
 row_name row.NodeGap = codes "NodeGap"
 row_name row.Limit = codes "Limit"
 row_name row.BadArgument = codes "BadArgument"
+
+-- a fault: the number and the name of its row, and the place of the declaration
+abbrev pub check_fault_text : CheckFault → List ℕ
+check_fault_text (fault.Refused r place) =
+    decimal (row_number r) ++ (codes " " ++ (row_name r ++ (codes " in " ++ decimal place)))
+check_fault_text fault.Memory = codes "3 Memory"

@@ -8,9 +8,8 @@ use Rattle.ioa_operators.specs.declared.shape.Shape.{Shape}
 use Rattle.ioa_terms.specs.Bindings.{same_name}
 use Rattle.ioa_terms.specs.declared.tree.Kind.TheVariants.{Input}
 use Rattle.ioa_source.specs.Erasure.{erase_variable}
-use Rattle.ioa_source.specs.PlainTerm.{assign, choose, fire}
 use Rattle.ioa_source.specs.PlainText.{const, named}
-use Rattle.ioa_source.specs.Sides.{CheckedTerm, CheckedVariable, SourceAutomaton, SourceEntry, SourceParameter, SourceStatement, SourceText, SourceTransition, SourceVariable}
+use Rattle.ioa_source.specs.Sides.{CheckedTerm, CheckedVariable, SourceAutomaton, SourceEntry, SourceParameter, SourceText, SourceTransition, SourceVariable}
 use Rattle.ioa_source.specs.TextView.{variable_of}
 use Rattle.ioa_source.specs.declared.declaration.Variable.{Variable}
 use Rattle.ioa_system.specs.Placed.{own_names, variable_names}

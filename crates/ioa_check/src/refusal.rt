@@ -92,7 +92,6 @@ impl fmt::Display for Row {
 pub enum CheckFault {
     /// 20 to 34: a row stands in the top declaration of this place, counted from 0; the system comes
     /// after the others.
-    #[error("{row} in {place}")]
     Refused {
         /// Which row.
         row: Row,
@@ -100,8 +99,24 @@ pub enum CheckFault {
         place: usize,
     },
     /// 3: no memory was left.
-    #[error("3 Memory")]
     Memory,
+}
+
+impl fmt::Display for CheckFault {
+    ghost use Rattle.std.specs.Prelude.{Some};
+    ghost use Rattle.ioa_check.specs.Refusals.{check_fault_text};
+
+    ghost output = { λ f. Some (check_fault_text f) };
+
+    fn fmt<W: fmt::Write>(&self, f: &mut fmt::Formatter<W>) -> fmt::Result {
+        match self {
+            CheckFault::Refused { row, place } => {
+                let number = row.number();
+                write!(f, "{number} {row} in {place}")
+            }
+            CheckFault::Memory => write!(f, "3 Memory"),
+        }
+    }
 }
 
 /// A refusal whose place is still to be told.

@@ -2,11 +2,11 @@
 
 use ioa_terms::TermFault;
 use std::alloc::{AllocError, AllocFailed};
-use std::error::Error;
 use std::fmt;
+use thiserror::Error;
 
 /// Why an action is no step of a configuration.
-#[derive(Debug, Drop)]
+#[derive(Debug, Drop, Error)]
 pub enum StepFault {
     /// 1: the condition of the entry, the guard or the effect meets a part that has no value, or a negative
     /// number stands for a natural in an argument.
@@ -40,8 +40,6 @@ impl fmt::Display for StepFault {
         }
     }
 }
-
-impl Error for StepFault {}
 
 impl From<AllocError> for StepFault {
     ghost use Rattle.std.specs.Prelude.{◌≡◌};

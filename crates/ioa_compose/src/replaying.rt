@@ -11,11 +11,11 @@ use crate::starting::start;
 use ioa_system::System;
 use ioa_terms::Action;
 use std::alloc::Global;
-use std::error::Error;
 use std::fmt;
+use thiserror::Error;
 
 /// Why a list of actions has no execution.
-#[derive(Debug, Drop)]
+#[derive(Debug, Drop, Error)]
 pub struct ReplayFault {
     /// The place of the first action that is no step, counted from 0.
     pub place: usize,
@@ -34,8 +34,6 @@ impl fmt::Display for ReplayFault {
         write!(f, "{fault} at {place}")
     }
 }
-
-impl Error for ReplayFault {}
 
 /// The joint steps by a list of actions, one after another.
 fn steps(alloc: Global, start: Vec<Conf>, actions: &[Action]) -> Result<Vec<Conf>, ReplayFault>

@@ -1,10 +1,10 @@
 //! Why a text has no source.
 
-use std::error::Error;
 use std::fmt;
+use thiserror::Error;
 
 /// Why a text is refused. A place is counted in bytes from 0. Source: profile.
-#[derive(Debug, Drop)]
+#[derive(Debug, Drop, Error)]
 pub enum FrontFault {
     /// 10: the text has no token. Its place is 0.
     Empty,
@@ -32,16 +32,14 @@ impl fmt::Display for FrontFault {
 
     fn fmt<W: fmt::Write>(&self, f: &mut fmt::Formatter<W>) -> fmt::Result {
         match self {
-            FrontFault::Empty => write!(f, "10 Empty"),
+            FrontFault::Empty => write!(f, "10 Empty at 0"),
             FrontFault::BadCharacter(place) => write!(f, "11 BadCharacter at {place}"),
             FrontFault::Unexpected(place) => write!(f, "12 Unexpected at {place}"),
             FrontFault::NumberTooLarge(place) => write!(f, "13 NumberTooLarge at {place}"),
             FrontFault::TooDeep(place) => write!(f, "14 TooDeep at {place}"),
-            FrontFault::TooLong => write!(f, "15 TooLong"),
+            FrontFault::TooLong => write!(f, "15 TooLong at 1048576"),
             FrontFault::LeftOut(place) => write!(f, "16 LeftOut at {place}"),
             FrontFault::Memory => write!(f, "3 Memory"),
         }
     }
 }
-
-impl Error for FrontFault {}

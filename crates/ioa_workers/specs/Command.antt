@@ -1,22 +1,16 @@
 -- What the program does with its words, its input and its two outputs (profile).
-use Rattle.std.specs.Prelude.{◌≡◌, ◌⊎◌, ◌<◌, ◌≤◌, ◌++◌, ℕ, Bool, true, false, List, codes, Option, Some, None, Result, Ok, Err, IfSome, IfErr}
-use Rattle.std.specs.Fmt.{decimal}
+use Rattle.std.specs.Prelude.{◌≡◌, ◌⊎◌, ◌<◌, ◌≤◌, ◌++◌, ℕ, Bool, true, false, List, codes, Option, Result, Ok, Err, IfSome, IfErr}
 use Rattle.std.specs.Io.KnownBytes.{Keeps, Appends}
-use Rattle.ioa_text_reader.specs.declared.fault.FrontFault.{FrontFault}
-use Rattle.ioa_text_reader.specs.declared.fault.FrontFault.TheVariants as front
-use Rattle.ioa_check.specs.declared.refusal.CheckFault.{CheckFault}
-use Rattle.ioa_check.specs.declared.refusal.CheckFault.TheVariants as check
-use Rattle.ioa_check.specs.Refusals.{row_name, row_number}
 use Rattle.ioa_workers.specs.declared.input.InputFault.{InputFault}
 use Rattle.ioa_workers.specs.declared.input.InputFault.TheVariants as input
 use Rattle.ioa_workers.specs.declared.whole_run.RunFault.{RunFault}
 use Rattle.ioa_workers.specs.declared.whole_run.RunFault.TheVariants as run
 use Rattle.ioa_workers.specs.declared.program.CommandFault.{CommandFault}
 use Rattle.ioa_workers.specs.declared.program.CommandFault.TheVariants.{Words, Input, Run}
-use Rattle.ioa_workers.specs.Input.{IsFaultOf}
+use Rattle.ioa_workers.specs.Input.{IsFaultOf, input_fault_text}
 use Rattle.ioa_workers.specs.Options.{Settings}
 use Rattle.ioa_workers.specs.Output.{AppendsBeginning}
-use Rattle.ioa_workers.specs.WholeRun.{IsRefusalOf, WritesReport}
+use Rattle.ioa_workers.specs.WholeRun.{IsRefusalOf, WritesReport, run_fault_text}
 
 -- a text is the input's, where the bytes of the input are known
 abbrev pub IsTextOf : Option (List ℕ) → List ℕ → Type 0
@@ -60,36 +54,19 @@ fault_status Words = 2
 fault_status (Input f) = input_status f
 fault_status (Run f) = run_status f
 
--- the line of an input that gives no text
+-- the line of an input that gives no text: a read failed, and all else is refused
 abbrev pub input_line : InputFault → List ℕ
-input_line input.Read = codes "failed 70 Read"
-input_line input.TooLong = codes "refused 15 TooLong at 8388608"
-input_line (input.BadCharacter place) = codes "refused 11 BadCharacter at " ++ decimal place
-input_line input.Memory = codes "refused 3 Memory"
+input_line input.Read = codes "failed " ++ input_fault_text input.Read
+input_line input.TooLong = codes "refused " ++ input_fault_text input.TooLong
+input_line (input.BadCharacter place) = codes "refused " ++ input_fault_text (input.BadCharacter place)
+input_line input.Memory = codes "refused " ++ input_fault_text input.Memory
 
--- the line of a text that has no source
-abbrev pub front_line : FrontFault → List ℕ
-front_line front.Empty = codes "refused 10 Empty at 0"
-front_line (front.BadCharacter place) = codes "refused 11 BadCharacter at " ++ decimal place
-front_line (front.Unexpected place) = codes "refused 12 Unexpected at " ++ decimal place
-front_line (front.NumberTooLarge place) = codes "refused 13 NumberTooLarge at " ++ decimal place
-front_line (front.TooDeep place) = codes "refused 14 TooDeep at " ++ decimal place
-front_line front.TooLong = codes "refused 15 TooLong at 1048576"
-front_line (front.LeftOut place) = codes "refused 16 LeftOut at " ++ decimal place
-front_line front.Memory = codes "refused 3 Memory"
-
--- the line of a source that describes no system
-abbrev pub check_line : CheckFault → List ℕ
-check_line (check.Refused row place) =
-    codes "refused " ++ (decimal (row_number row) ++ (codes " " ++ (row_name row ++ (codes " in " ++ decimal place))))
-check_line check.Memory = codes "refused 3 Memory"
-
--- the line of a text that gave no report
+-- the line of a text that gave no report: a write failed, and all else is refused
 abbrev pub run_line : RunFault → List ℕ
-run_line (run.Front f) = front_line f
-run_line (run.Check f) = check_line f
-run_line run.Memory = codes "refused 3 Memory"
-run_line run.Write = codes "failed 71 Write"
+run_line (run.Front f) = codes "refused " ++ run_fault_text (run.Front f)
+run_line (run.Check f) = codes "refused " ++ run_fault_text (run.Check f)
+run_line run.Memory = codes "refused " ++ run_fault_text run.Memory
+run_line run.Write = codes "failed " ++ run_fault_text run.Write
 
 -- the line of a fault
 abbrev pub fault_line : CommandFault → List ℕ

@@ -1,12 +1,14 @@
 -- What a whole run writes (profile).
-use Rattle.std.specs.Prelude.{◌≡◌, ℕ, Bool, true, false, List, Option, Result, Ok, Err, ⊤}
+use Rattle.std.specs.Prelude.{◌≡◌, ℕ, Bool, true, false, List, Option, Result, Ok, Err, ⊤, codes}
 use Rattle.std.specs.Io.KnownBytes.{Keeps, Appends}
 use Rattle.ioa_text_reader.specs.declared.fault.FrontFault.{FrontFault}
 use Rattle.ioa_text_reader.specs.declared.fault.FrontFault.TheVariants as front
+use Rattle.ioa_text_reader.specs.FaultText.{fault_text}
 use Rattle.ioa_text_reader.specs.Texts.{TextSpells, Stands}
 use Rattle.ioa_check.specs.declared.refusal.CheckFault.{CheckFault}
 use Rattle.ioa_check.specs.declared.refusal.CheckFault.TheVariants as check
 use Rattle.ioa_check.specs.Made.{IsSystemOf}
+use Rattle.ioa_check.specs.Refusals.{check_fault_text}
 use Rattle.ioa_check.specs.Rows.{HasNoRow}
 use Rattle.ioa_check.specs.Standing as standing
 use Rattle.ioa_system.specs.Systems.{SystemParts}
@@ -62,6 +64,13 @@ IsRefusalOf (Front f) text = (f ≡ front.Memory → ⊥) × Stands f text
 IsRefusalOf (Check f) text = (f ≡ check.Memory → ⊥) × (p : SourceText) × TextSpells p text × standing.Stands f p
 IsRefusalOf Memory text = ⊤
 IsRefusalOf Write text = ⊤
+
+-- a fault as text: its number, its name, and its place where it has one
+abbrev pub run_fault_text : RunFault → List ℕ
+run_fault_text (Front f) = fault_text f
+run_fault_text (Check f) = check_fault_text f
+run_fault_text Memory = codes "3 Memory"
+run_fault_text Write = codes "71 Write"
 
 -- whether nothing was written yet where this fault comes
 abbrev pub IsEarly : RunFault → Type 0

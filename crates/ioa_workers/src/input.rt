@@ -4,6 +4,7 @@ ghost use Rattle.std.specs.Prelude.{◌≡◌, ◌≤◌, IfErr, IfOk, IfSome, v
 ghost use Rattle.ioa_workers.specs.Input.{IsFaultOf};
 
 use std::alloc::{AllocError, Global};
+use std::fmt;
 use std::io::{ErrorKind, Read};
 use thiserror::Error;
 
@@ -20,17 +21,29 @@ const CHUNK_LENGTH: usize = 4096;
 #[derive(Debug, Drop, PartialEq, Eq, Error)]
 pub enum InputFault {
     /// 70: a read failed, or the input came to no end in 8,388,609 turns.
-    #[error("the input could not be read")]
     Read,
     /// 15: the input has more than 8,388,608 bytes.
-    #[error("the input has more than 8388608 bytes")]
     TooLong,
     /// 11: the input is not UTF-8. The place is that of the first byte of the first ill-formed sequence.
-    #[error("the byte at {0} begins no character")]
     BadCharacter(usize),
     /// 3: memory ran out.
-    #[error("out of memory")]
     Memory,
+}
+
+impl fmt::Display for InputFault {
+    ghost use Rattle.std.specs.Prelude.{Some};
+    ghost use Rattle.ioa_workers.specs.Input.{input_fault_text};
+
+    ghost output = { λ f. Some (input_fault_text f) };
+
+    fn fmt<W: fmt::Write>(&self, f: &mut fmt::Formatter<W>) -> fmt::Result {
+        match self {
+            InputFault::Read => write!(f, "70 Read"),
+            InputFault::TooLong => write!(f, "15 TooLong at 8388608"),
+            InputFault::BadCharacter(place) => write!(f, "11 BadCharacter at {place}"),
+            InputFault::Memory => write!(f, "3 Memory"),
+        }
+    }
 }
 
 impl From<AllocError> for InputFault {

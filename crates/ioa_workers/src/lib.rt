@@ -15,5 +15,5 @@ mod whole_run;
 pub use input::{INPUT_LIMIT, InputFault, read_input};
 pub use options::Options;
 pub use output::{Out, OutFailed, Over, put_all};
-pub use program::{BAD_WORDS, command};
+pub use program::{BAD_WORDS, FAILED, command};
 pub use whole_run::{RunFault, run_system};

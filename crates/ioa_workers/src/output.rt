@@ -4,13 +4,23 @@ ghost use Rattle.std.specs.Prelude.{◌≡◌, ◌≤◌, ◌||◌, ℕ, Bool, t
 ghost use Rattle.std.specs.Io.KnownBytes.{Appends, WriteAppends};
 ghost use Rattle.ioa_workers.specs.Output.{is_stuck, AppendsBeginning};
 
+use std::fmt;
 use std::io::Write;
 use thiserror::Error;
 
 /// A fault of an [`Out`], for which the program answers 71: nothing of the piece went out.
 #[derive(Clone, Copy, Debug, PartialEq, Eq, Error)]
-#[error("the output took nothing more")]
 pub struct OutFailed;
+
+impl fmt::Display for OutFailed {
+    ghost use Rattle.std.specs.Prelude.{Some, codes};
+
+    ghost output = { λ _. Some (codes "the output took nothing more") };
+
+    fn fmt<W: fmt::Write>(&self, f: &mut fmt::Formatter<W>) -> fmt::Result {
+        write!(f, "the output took nothing more")
+    }
+}
 
 /// A place where output goes piece by piece, and that knows whether it ever failed.
 ///

@@ -4,14 +4,12 @@ ghost use Rattle.std.specs.Prelude.{◌≡◌, ◌⊎◌, false, length, Ok, Err
 ghost use Rattle.std.specs.Fmt.{DisplaysOnOk};
 ghost use Rattle.std.specs.Io.KnownBytes.{Keeps};
 ghost use Rattle.ioa_workers.specs.declared.program.CommandFault.{CommandFault};
-ghost use Rattle.ioa_workers.specs.Command.{Executes, RunsText, Tells, check_line, fault_status, front_line, input_line, input_status, run_line, run_status};
+ghost use Rattle.ioa_workers.specs.Command.{Executes, RunsText, Tells, fault_status, input_line, input_status, run_line, run_status};
 
 use crate::input::{InputFault, read_input};
 use crate::options::Options;
 use crate::output::{Out, put_all};
 use crate::whole_run::{RunFault, run_system};
-use ioa_check::CheckFault;
-use ioa_text_reader::FrontFault;
 use std::alloc::Global;
 use std::fmt;
 use std::io::Read;
@@ -26,7 +24,7 @@ const REFUSED: u8 = 1;
 pub const BAD_WORDS: u8 = 2;
 
 /// The status where memory, reading or writing failed.
-const FAILED: u8 = 3;
+pub const FAILED: u8 = 3;
 
 /// Why the program did not do what it was asked. Its text is the line that is shown.
 #[derive(Debug, Drop)]
@@ -87,56 +85,25 @@ impl fmt::Display for CommandFault {
     }
 }
 
-/// The line of a text that gave no report.
-fn show_run_fault<W: fmt::Write>(fault: &RunFault, f: &mut fmt::Formatter<W>) -> fmt::Result
-    ensures { DisplaysOnOk W.write_str_gives f.old result (Some (run_line fault.now)) f.new }
-{
-    match fault {
-        RunFault::Front(fault) => show_front_fault(fault, f),
-        RunFault::Check(fault) => show_check_fault(fault, f),
-        RunFault::Memory => write!(f, "refused 3 Memory"),
-        RunFault::Write => write!(f, "failed 71 Write"),
-    }
-}
-
 /// The line of an input that gives no text.
 fn show_input_fault<W: fmt::Write>(fault: &InputFault, f: &mut fmt::Formatter<W>) -> fmt::Result
     ensures { DisplaysOnOk W.write_str_gives f.old result (Some (input_line fault.now)) f.new }
 {
     match fault {
-        InputFault::Read => write!(f, "failed 70 Read"),
-        InputFault::TooLong => write!(f, "refused 15 TooLong at 8388608"),
-        InputFault::BadCharacter(place) => write!(f, "refused 11 BadCharacter at {place}"),
-        InputFault::Memory => write!(f, "refused 3 Memory"),
-    }
-}
-
-/// The line of a text that has no source.
-fn show_front_fault<W: fmt::Write>(fault: &FrontFault, f: &mut fmt::Formatter<W>) -> fmt::Result
-    ensures { DisplaysOnOk W.write_str_gives f.old result (Some (front_line fault.now)) f.new }
-{
-    match fault {
-        FrontFault::Empty => write!(f, "refused 10 Empty at 0"),
-        FrontFault::BadCharacter(place) => write!(f, "refused 11 BadCharacter at {place}"),
-        FrontFault::Unexpected(place) => write!(f, "refused 12 Unexpected at {place}"),
-        FrontFault::NumberTooLarge(place) => write!(f, "refused 13 NumberTooLarge at {place}"),
-        FrontFault::TooDeep(place) => write!(f, "refused 14 TooDeep at {place}"),
-        FrontFault::TooLong => write!(f, "refused 15 TooLong at 1048576"),
-        FrontFault::LeftOut(place) => write!(f, "refused 16 LeftOut at {place}"),
-        FrontFault::Memory => write!(f, "refused 3 Memory"),
-    }
-}
-
-/// The line of a source that describes no system.
-fn show_check_fault<W: fmt::Write>(fault: &CheckFault, f: &mut fmt::Formatter<W>) -> fmt::Result
-    ensures { DisplaysOnOk W.write_str_gives f.old result (Some (check_line fault.now)) f.new }
-{
-    match fault {
-        CheckFault::Refused { row, place } => {
-            let number = row.number();
-            write!(f, "refused {number} {row} in {place}")
+        InputFault::Read => write!(f, "failed {fault}"),
+        InputFault::TooLong | InputFault::BadCharacter(_) | InputFault::Memory => {
+            write!(f, "refused {fault}")
         }
-        CheckFault::Memory => write!(f, "refused 3 Memory"),
+    }
+}
+
+/// The line of a text that gave no report.
+fn show_run_fault<W: fmt::Write>(fault: &RunFault, f: &mut fmt::Formatter<W>) -> fmt::Result
+    ensures { DisplaysOnOk W.write_str_gives f.old result (Some (run_line fault.now)) f.new }
+{
+    match fault {
+        RunFault::Front(_) | RunFault::Check(_) | RunFault::Memory => write!(f, "refused {fault}"),
+        RunFault::Write => write!(f, "failed {fault}"),
     }
 }
 

@@ -11,23 +11,36 @@ use ioa_check::{CheckFault, check};
 use ioa_compose::System;
 use ioa_text_reader::{FrontFault, parse};
 use std::alloc::{AllocError, Global};
+use std::fmt;
 use thiserror::Error;
 
 /// Why a whole run wrote no report.
 #[derive(Debug, Drop, Error)]
 pub enum RunFault {
     /// 10 to 16: the text has no source.
-    #[error("{0}")]
     Front(FrontFault),
     /// 20 to 34: the source describes no system.
-    #[error("{0}")]
     Check(CheckFault),
     /// 3: no memory was left.
-    #[error("3 Memory")]
     Memory,
     /// 71: the output failed, or took nothing more. A beginning of the report went out.
-    #[error("71 Write")]
     Write,
+}
+
+impl fmt::Display for RunFault {
+    ghost use Rattle.std.specs.Prelude.{Some};
+    ghost use Rattle.ioa_workers.specs.WholeRun.{run_fault_text};
+
+    ghost output = { λ f. Some (run_fault_text f) };
+
+    fn fmt<W: fmt::Write>(&self, f: &mut fmt::Formatter<W>) -> fmt::Result {
+        match self {
+            RunFault::Front(fault) => write!(f, "{fault}"),
+            RunFault::Check(fault) => write!(f, "{fault}"),
+            RunFault::Memory => write!(f, "3 Memory"),
+            RunFault::Write => write!(f, "71 Write"),
+        }
+    }
 }
 
 impl From<FrontFault> for RunFault {

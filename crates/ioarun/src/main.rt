@@ -1,14 +1,22 @@
 //! The program `ioarun`: system text on standard input, report on standard output.
 #![tactic(auto)]
 
-use ioa_workers::{BAD_WORDS, Over, command};
+use ioa_workers::{BAD_WORDS, FAILED, Over, command};
 use std::process::ExitCode;
 use std::{env, io};
 
 fn main(rt: HostRuntime) -> ExitCode {
     match run_on_streams(rt) {
         Ok(status) => ExitCode::from(status),
-        Err(_) => ExitCode::from(BAD_WORDS),
+        Err(fault) => ExitCode::from(status_of(&fault)),
+    }
+}
+
+/// The status where the command line could not be read.
+fn status_of(fault: &io::Error) -> u8 {
+    match fault.kind() {
+        io::ErrorKind::OutOfMemory => FAILED,
+        _ => BAD_WORDS,
     }
 }
 
