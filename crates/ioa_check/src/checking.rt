@@ -1,12 +1,11 @@
 //! From a text to a system, or the first row of refusal found in it.
 
-ghost use Rattle.std.specs.Prelude.{◌≡◌, ◌<◌, ◌≤◌, ◌^◌, ◌++◌, ◌∷◌, [], ◌&&◌, ◌||◌, not, true, false, codes, slice_get, pos, Some, Contains, IfOk, IfErr, OnOk, IfSome, IfNone, ◌⊎◌, map, length};
+ghost use Rattle.std.specs.Prelude.{◌≡◌, ◌<◌, ◌≤◌, ◌^◌, ◌++◌, ◌∷◌, [], ◌&&◌, not, true, false, slice_get, pos, Some, Contains, IfOk, IfErr, OnOk, IfSome, IfNone, ◌⊎◌, map, length};
 ghost use Rattle.std.specs.List.{AllByRecursion, IsDistinct, list_all, list_any};
 ghost use Rattle.ioa_terms.specs.Bindings.{same_name};
 ghost use Rattle.std.specs.Option.{option_map, option_copied};
 ghost use Rattle.std.specs.Arc.{arc_value};
 ghost use Rattle.ioa_source.specs.TextView.{text_of, declaration_of, node_of, placement_of, automaton_of, entry_of, parameter_of};
-ghost use Rattle.ioa_source.specs.View.{term_of};
 ghost use Rattle.ioa_source.specs.Sides.{SourceNode};
 ghost use Rattle.ioa_check.specs.Made.{IsSystemOf, IsNodeOf, AreNodesOf, nodes_in, channels_in, automaton_named, automaton_in, automata_in, node_at};
 ghost use Rattle.ioa_check.specs.Rows as spec;

@@ -6,7 +6,7 @@ ghost use Rattle.std.specs.Option.{option_map, is_some};
 ghost use Rattle.ioa_source.specs.PlainTerm as plain;
 ghost use Rattle.ioa_source.specs.View.{term_of, place_of, statement_of};
 ghost use Rattle.ioa_source.specs.SortView.{sort_of};
-ghost use Rattle.ioa_source.specs.TextView.{declared_of, parameter_of, entry_of, variable_of, transition_of};
+ghost use Rattle.ioa_source.specs.TextView.{declared_of, parameter_of, entry_of, variable_of};
 ghost use Rattle.ioa_source.specs.Erasure.{erase_declared, erase_term, erase_place, erase_statement, erase_parameter, erase_entry, erase_variable};
 ghost use Rattle.ioa_terms.specs.Placed.{IsPlaced, IsPlacedPlace, IsPlacedStatement, ArePlaced};
 ghost use Rattle.ioa_terms.specs.Bindings.{same_name};

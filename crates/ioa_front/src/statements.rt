@@ -1,10 +1,8 @@
 //! The pieces of statements.
 
-ghost use Rattle.std.specs.Prelude.{◌≡◌, ◌++◌, ◌∷◌, OnOk, map};
-ghost use Rattle.std.specs.Option.{option_map};
+ghost use Rattle.std.specs.Prelude.{◌≡◌, ◌++◌, OnOk, map};
 ghost use Rattle.ioa_tokens.specs.declared.token.Token.TheVariants as token;
 ghost use Rattle.ioa_tokens.specs.declared.mark.Mark.TheVariants as mark;
-ghost use Rattle.ioa_term_reader.specs.Spelling.{spelling};
 ghost use Rattle.ioa_source.specs.PlainTerm.{statements_of, arms_of, assign, fire};
 ghost use Rattle.ioa_source.specs.View.{term_of, place_of, statement_of, arm_of};
 ghost use Rattle.ioa_front.specs.Spelling as spec;

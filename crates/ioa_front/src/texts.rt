@@ -1,7 +1,6 @@
 //! The pieces of a whole text.
 
 ghost use Rattle.std.specs.Prelude.{◌≡◌, ◌++◌, IfOk, OnOk, map};
-ghost use Rattle.ioa_source.specs.View.{term_of};
 ghost use Rattle.ioa_source.specs.TextView.{placement_of, text_of};
 ghost use Rattle.ioa_front.specs.Spelling as spec;
 

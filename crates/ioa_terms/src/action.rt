@@ -1,6 +1,6 @@
 //! The actions of a system.
 
-ghost use Rattle.std.specs.Prelude.{◌≡◌, ◌↔◌, IfOk, IsTrue, [], map, length};
+ghost use Rattle.std.specs.Prelude.{◌≡◌, ◌↔◌, IfOk, IsTrue};
 ghost use Rattle.ioa_terms.specs.Actions.{same_node_action, same_action, node_action_cmp, action_cmp};
 
 use ioa_values::{Value, Word};

@@ -8,10 +8,10 @@ ghost use Rattle.ioa_terms.specs.Shapes.{with_field};
 ghost use Rattle.ioa_terms.specs.ShapeView.{shape_of};
 ghost use Rattle.ioa_terms.specs.Bindings.{environment, place_in, names_of, lookup};
 ghost use Rattle.ioa_terms.specs.Performance.{answer_by, updated};
-ghost use Rattle.ioa_terms.specs.Placed.{ArePlaced, AreAllPlaced, AreArmsPlaced, IsPlaced, IsPlacedStatement, IsPlacedPlace};
-ghost use Rattle.ioa_terms.specs.Bounded.{bounded, bounded_all, bounded_one, bounded_choice, bounded_test, bounded_assigned, put_fitted};
-ghost use Rattle.ioa_terms.specs.PlainTerm.{assign, statements_of, arms_of};
-ghost use Rattle.ioa_terms.specs.View.{statement_of, arm_of, place_of, term_of};
+ghost use Rattle.ioa_terms.specs.Placed.{ArePlaced, AreAllPlaced, IsPlaced, IsPlacedStatement, IsPlacedPlace};
+ghost use Rattle.ioa_terms.specs.Bounded.{bounded, bounded_all, bounded_one, bounded_test, bounded_assigned, put_fitted};
+ghost use Rattle.ioa_terms.specs.PlainTerm.{assign, statements_of};
+ghost use Rattle.ioa_terms.specs.View.{statement_of, place_of, term_of};
 
 use crate::environment::Env;
 use crate::evaluation::{read, taken};

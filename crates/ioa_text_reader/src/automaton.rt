@@ -1,6 +1,6 @@
 //! Automata: their parameters, state variables, transitions and schedule blocks.
 
-ghost use Rattle.std.specs.Prelude.{◌≡◌, map};
+ghost use Rattle.std.specs.Prelude.{map};
 ghost use Rattle.std.specs.Option.{option_map};
 ghost use Rattle.ioa_cursor.specs.Outcome.{Reads};
 ghost use Rattle.ioa_source.specs.TextView.{declared_of, variable_of, transition_of, automaton_of};

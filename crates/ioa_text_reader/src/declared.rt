@@ -1,12 +1,10 @@
 //! Names with their sorts, and parameters.
 
-ghost use Rattle.std.specs.Prelude.{◌≡◌, ◌∷◌, [], Some, map};
+ghost use Rattle.std.specs.Prelude.{Some, map};
 ghost use Rattle.ioa_cursor.specs.Outcome.{Reads};
 ghost use Rattle.ioa_cursor.specs.declared.cursor.Unread.TheVariants.{Memory};
 ghost use Rattle.ioa_source.specs.PlainText.{named};
-ghost use Rattle.ioa_source.specs.SortView.{sort_of};
 ghost use Rattle.ioa_source.specs.TextView.{declared_of, parameter_of};
-ghost use Rattle.ioa_text_reader.specs.Grammar.{declare};
 ghost use Rattle.ioa_text_reader.specs.Groups.{group_of};
 ghost use Rattle.ioa_text_reader.specs.Reading as spec;
 ghost use Rattle.ioa_values.specs.Outcome.{Matches};

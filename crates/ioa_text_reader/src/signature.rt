@@ -1,6 +1,6 @@
 //! Signatures.
 
-ghost use Rattle.std.specs.Prelude.{◌≡◌, map};
+ghost use Rattle.std.specs.Prelude.{map};
 ghost use Rattle.std.specs.Option.{option_map};
 ghost use Rattle.ioa_cursor.specs.Outcome.{Reads};
 ghost use Rattle.ioa_source.specs.TextView.{parameter_of, entry_of};

@@ -1,6 +1,5 @@
 //! Sorts.
 
-ghost use Rattle.std.specs.Prelude.{◌≡◌, suc};
 ghost use Rattle.ioa_cursor.specs.Outcome.{Reads};
 ghost use Rattle.ioa_source.specs.SortView.{sort_of};
 ghost use Rattle.ioa_text_reader.specs.Reading as spec;

@@ -1,6 +1,6 @@
 //! Runs of a system by one worker.
 
-ghost use Rattle.std.specs.Prelude.{◌≡◌, ◌⊎◌, ◌+◌, ◌<◌, ◌^◌, ◌≤◌, ◌++◌, [], ◌∷◌, Some, true, IfOk, OnOk, OnErr, IfSome, MatchResult, map, length};
+ghost use Rattle.std.specs.Prelude.{◌≡◌, ◌⊎◌, ◌+◌, ◌<◌, ◌++◌, [], ◌∷◌, Some, true, IfOk, OnOk, OnErr, MatchResult, map};
 ghost use Rattle.std.specs.List.{list_all, list_any};
 ghost use Rattle.std.specs.Arc.{arc_value};
 ghost use Rattle.ioa_values.specs.Outcome.{Answers};
