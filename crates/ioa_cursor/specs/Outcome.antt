@@ -1,5 +1,6 @@
 -- What a reader of one production answers.
-use Rattle.std.specs.Prelude.{ℕ, ◌≡◌, ◌⊎◌, List, [], ◌∷◌, Option, Some, None, Result, Ok, Err}
+use Rattle.std.specs.Prelude.{ℕ, ◌≡◌, ◌⊎◌, ◌-◌, List, [], ◌∷◌, Option, Some, None, Result, Ok, Err, length, slice_get}
+use Rattle.std.specs.Option.{option_map, unwrap_or}
 use Rattle.ioa_tokens.specs.declared.token.Placed.{Placed}
 use Rattle.ioa_tokens.specs.declared.token.Token.{Token}
 use Rattle.ioa_tokens.specs.declared.token.Token.TheVariants as token
@@ -11,27 +12,14 @@ abbrev pub Reads : {X A : Type 0} → (X → A) → Option (A × List Token) →
 Reads view read (Ok x) new = read ≡ Some (view x, new)
 Reads view read (Err e) new = (e ≡ unread.Memory) ⊎ (read ≡ None)
 
--- what comes first is refused as a word that the profile leaves out, or as a token that no text has there
-abbrev pub IsRefusal : List Token → Unread → Type 0
-IsRefusal (token.LeftOut w ∷ xs) e = (place : ℕ) × (e ≡ unread.LeftOut place)
-IsRefusal (token.Word w ∷ xs) e = (place : ℕ) × (e ≡ unread.Unexpected place)
-IsRefusal (token.Number n ∷ xs) e = (place : ℕ) × (e ≡ unread.Unexpected place)
-IsRefusal (token.Mark m ∷ xs) e = (place : ℕ) × (e ≡ unread.Unexpected place)
-IsRefusal [] e = (place : ℕ) × (e ≡ unread.Unexpected place)
+-- the refusal of what comes next, by how many tokens are left: 16 of a word that the profile leaves out, else 12
+abbrev pub refusal : List Token → Unread
+refusal (token.LeftOut w ∷ xs) = unread.LeftOut (length (token.LeftOut w ∷ xs))
+refusal (token.Word w ∷ xs) = unread.Unexpected (length (token.Word w ∷ xs))
+refusal (token.Number n ∷ xs) = unread.Unexpected (length (token.Number n ∷ xs))
+refusal (token.Mark m ∷ xs) = unread.Unexpected (length (token.Mark m ∷ xs))
+refusal [] = unread.Unexpected 0
 
--- where the token that comes next stands, or where the text ends
-abbrev pub next_place : List Placed → ℕ → ℕ
-next_place (p ∷ ps) end = p.place
-next_place [] end = end
-
--- the refusal of a token at a place: 16 of a word that the profile leaves out, else 12
-abbrev pub refused_at : ℕ → Token → Unread
-refused_at place (token.LeftOut w) = unread.LeftOut place
-refused_at place (token.Word w) = unread.Unexpected place
-refused_at place (token.Number n) = unread.Unexpected place
-refused_at place (token.Mark m) = unread.Unexpected place
-
--- the refusal of what comes next, at its place; 12 where the text ends
-abbrev pub refusal : List Placed → ℕ → Unread
-refusal (p ∷ ps) end = refused_at p.place p.token
-refusal [] end = unread.Unexpected end
+-- where the token stands at which so many were left, or where the text ends
+abbrev pub place_of : List Placed → ℕ → ℕ → ℕ
+place_of ps left end = unwrap_or (option_map (λ p. p.place) (slice_get ps (length ps - left))) end

@@ -1,8 +1,8 @@
 //! A place among the tokens of a text, and why they are not read further.
 
-ghost use Rattle.std.specs.Prelude.{ℕ, ◌≡◌, ◌⊎◌, IfErr, length, map};
+ghost use Rattle.std.specs.Prelude.{◌≡◌, ◌⊎◌, IfErr, length, map};
 ghost use Rattle.ioa_cursor.specs.Outcome as outcome;
-ghost use Rattle.ioa_cursor.specs.Outcome.{IsRefusal, Reads};
+ghost use Rattle.ioa_cursor.specs.Outcome.{Reads};
 ghost use Rattle.ioa_cursor.specs.declared.cursor.Unread.TheVariants.{Memory, TooDeep};
 ghost use Rattle.ioa_cursor.specs.Reading as spec;
 
@@ -11,10 +11,11 @@ use ioa_values::Word;
 use std::alloc::{AllocError, AllocFailed, Global};
 use std::marker::Model;
 
-/// Why the tokens are not read further. A place is counted in bytes from 0. Source: profile.
+/// Why the tokens are not read further. Where is told by how many tokens were left there, and `place_of`
+/// gives the place in the text. Source: profile.
 #[derive(Debug, Drop)]
 pub enum Unread {
-    /// 12: the first token that no text has there, or the text's length.
+    /// 12: no text has the token there, or the text ends too early, and then none was left.
     Unexpected(usize),
     /// 14: a tree is too high, or too many brackets are open.
     TooDeep(usize),
@@ -46,35 +47,21 @@ impl<T: Drop> From<AllocFailed<T>> for Unread {
     }
 }
 
-/// Where the token that comes next stands, or where the text ends.
-fn next_place(rest: &[Placed<'_>], end: usize) -> usize
-    ensures { result ≡ outcome.next_place rest.now end }
+/// Where the token stands at which so many were left, itself among them: the place of that token among
+/// all tokens of a text, or the text's length in bytes where none was left.
+pub fn place_of(placed: &[Placed<'_>], left: usize, end: usize) -> usize
+    ensures { result ≡ outcome.place_of placed.now left end }
 {
-    match rest {
-        [first, ..] => first.place,
-        [] => end,
+    match placed.get(placed.len().saturating_sub(left)) {
+        Some(token) => token.place,
+        None => end,
     }
 }
 
-/// The refusal of what comes next, at its place.
-fn refusal(rest: &[Placed<'_>], end: usize) -> Unread
-    ensures place { result ≡ outcome.refusal rest.now end }
-    ensures kind { IsRefusal (map (λ p. p.token) rest.now) result }
-{
-    match rest {
-        [first, ..] => match &first.token {
-            Token::LeftOut(_) => Unread::LeftOut(first.place),
-            Token::Word(_) | Token::Number(_) | Token::Mark(_) => Unread::Unexpected(first.place),
-        },
-        [] => Unread::Unexpected(end),
-    }
-}
-
-/// The tokens that are still to be read, and the place where the text ends.
+/// The tokens that are still to be read.
 #[derive(Drop)]
 pub struct Tokens<'a> {
     rest: &'a [Placed<'a>],
-    end: usize,
 }
 
 impl<'a> Model for Tokens<'a> {
@@ -87,11 +74,11 @@ impl<'a> Model for Tokens<'a> {
 }
 
 impl<'a> Tokens<'a> {
-    /// All tokens of a text, and the text's length in bytes.
-    pub fn new(rest: &'a [Placed<'a>], end: usize) -> Self
+    /// All tokens of a text.
+    pub fn new(rest: &'a [Placed<'a>]) -> Self
         ensures { result ≡ map (λ p. p.token) rest.now }
     {
-        Tokens { rest, end }
+        Tokens { rest }
     }
 
     /// How many tokens are left.
@@ -102,20 +89,26 @@ impl<'a> Tokens<'a> {
     }
 
     /// The refusal of what comes next, where no text has it there: 16 of a word that the profile
-    /// leaves out, else 12. Its place is the token's, or the text's length where no token is left.
-    /// Source: profile.
+    /// leaves out, else 12. Source: profile.
     pub fn refused(&self) -> Unread
-        ensures { IsRefusal self.now result }
+        ensures { result ≡ outcome.refusal self.now }
     {
-        refusal(self.rest, self.end)
+        match self.rest {
+            [first, ..] => match &first.token {
+                Token::LeftOut(_) => Unread::LeftOut(self.rest.len()),
+                Token::Word(_) | Token::Number(_) | Token::Mark(_) => {
+                    Unread::Unexpected(self.rest.len())
+                }
+            },
+            [] => Unread::Unexpected(0),
+        }
     }
 
-    /// The refusal of a part that goes too deep, 14. Its place is that of the token that comes next,
-    /// or the text's length where no token is left. Source: profile.
+    /// The refusal of a part that goes too deep, 14, at what comes next. Source: profile.
     pub fn too_deep(&self) -> Unread
-        ensures { (place : ℕ) × (result ≡ TooDeep place) }
+        ensures { result ≡ TooDeep (length self.now) }
     {
-        Unread::TooDeep(next_place(self.rest, self.end))
+        Unread::TooDeep(self.rest.len())
     }
 
     /// The mark that comes next, if one does.
@@ -167,7 +160,7 @@ impl<'a> Tokens<'a> {
     #[tactic(auto, unfolding(crate::specs::Reading::expected), using(crate::proofs::Steps::skip_left))]
     pub fn expect(&mut self, mark: Mark) -> Result<(), Unread>
         ensures reads { Reads (λ u. u) (spec.expected mark self.old) result self.new }
-        ensures refused { IfErr result (λ e. IsRefusal self.old e) }
+        ensures refused { IfErr result (λ e. e ≡ outcome.refusal self.old) }
         ensures kept { IfErr result (λ _. self.new ≡ self.old) }
     {
         let refused = self.refused();
@@ -183,7 +176,7 @@ impl<'a> Tokens<'a> {
     #[tactic(auto, unfolding(crate::specs::Reading::word))]
     pub fn word(&mut self, alloc: Global) -> Result<Word, Unread>
         ensures reads { Reads (λ w. w) (spec.word self.old) result self.new }
-        ensures refused { IfErr result (λ e. (e ≡ Memory) ⊎ IsRefusal self.old e) }
+        ensures refused { IfErr result (λ e. (e ≡ Memory) ⊎ e ≡ outcome.refusal self.old) }
         ensures kept { IfErr result (λ _. self.new ≡ self.old) }
     {
         match self.rest {
@@ -203,7 +196,7 @@ impl<'a> Tokens<'a> {
     #[tactic(auto, unfolding(crate::specs::Reading::numeral))]
     pub fn number(&mut self) -> Result<i64, Unread>
         ensures reads { Reads (λ n. n) (spec.numeral self.old) result self.new }
-        ensures refused { IfErr result (λ e. IsRefusal self.old e) }
+        ensures refused { IfErr result (λ e. e ≡ outcome.refusal self.old) }
         ensures kept { IfErr result (λ _. self.new ≡ self.old) }
     {
         match self.rest {
@@ -289,7 +282,7 @@ impl<'a> Tokens<'a> {
     #[tactic(auto, unfolding(crate::specs::Reading::ended))]
     pub fn end(&mut self) -> Result<(), Unread>
         ensures reads { Reads (λ u. u) (spec.ended self.old) result self.new }
-        ensures refused { IfErr result (λ e. IsRefusal self.old e) }
+        ensures refused { IfErr result (λ e. e ≡ outcome.refusal self.old) }
         ensures kept { IfErr result (λ _. self.new ≡ self.old) }
     {
         match self.rest {

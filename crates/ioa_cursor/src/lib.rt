@@ -3,7 +3,7 @@
 
 mod cursor;
 
-pub use cursor::{Tokens, Unread};
+pub use cursor::{Tokens, Unread, place_of};
 
 #[cfg(test)]
 mod tests;

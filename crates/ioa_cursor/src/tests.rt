@@ -1,7 +1,7 @@
 //! Where a refusal stands, and what is read of a line.
 
-use crate::{Tokens, Unread};
-use ioa_tokens::{Mark, tokens};
+use crate::{Tokens, Unread, place_of};
+use ioa_tokens::{Mark, Placed, tokens};
 use std::alloc::{AllocError, Global};
 use std::test::Fail;
 
@@ -18,15 +18,23 @@ static ROWS: [(&str, &str); 6] = [
     ("so\tfi", "16@0 14@0 12@3 14@3 12@5 14@5 "),
 ];
 
-/// A refusal in short.
-fn put(refusal: &Unread, text: &mut String, alloc: Global) -> Result<(), AllocError> {
-    let shown = match refusal {
-        Unread::Unexpected(place) => format!(in alloc; "12@{place} ")?,
-        Unread::TooDeep(place) => format!(in alloc; "14@{place} ")?,
-        Unread::LeftOut(place) => format!(in alloc; "16@{place} ")?,
+/// A refusal in short, with its place in a text of these tokens that ends there.
+fn put(
+    refusal: &Unread,
+    found: &[Placed<'_>],
+    end: usize,
+    short: &mut String,
+    alloc: Global,
+) -> Result<(), AllocError> {
+    let (number, left) = match refusal {
+        Unread::Unexpected(left) => (12, *left),
+        Unread::TooDeep(left) => (14, *left),
+        Unread::LeftOut(left) => (16, *left),
         Unread::Memory => return Err(AllocError),
     };
-    text.push_str(shown.as_str())
+    let place = place_of(found, left, end);
+    let shown = format!(in alloc; "{number}@{place} ")?;
+    short.push_str(shown.as_str())
 }
 
 /// The refusals of a text in short.
@@ -35,14 +43,14 @@ fn refusals(alloc: Global, text: &str) -> Result<String, AllocError> {
         return Err(AllocError);
     };
     let mut short = String::new(alloc);
-    let mut left = Tokens::new(found.as_slice(), text.len());
+    let mut left = Tokens::new(found.as_slice());
     for _turn in 0..found.len() {
-        put(&left.refused(), &mut short, alloc)?;
-        put(&left.too_deep(), &mut short, alloc)?;
+        put(&left.refused(), &found, text.len(), &mut short, alloc)?;
+        put(&left.too_deep(), &found, text.len(), &mut short, alloc)?;
         left.advance();
     }
-    put(&left.refused(), &mut short, alloc)?;
-    put(&left.too_deep(), &mut short, alloc)?;
+    put(&left.refused(), &found, text.len(), &mut short, alloc)?;
+    put(&left.too_deep(), &found, text.len(), &mut short, alloc)?;
     Ok(short)
 }
 
@@ -82,12 +90,12 @@ fn line_shown(alloc: Global, text: &str) -> Result<String, AllocError> {
     let Ok(found) = tokens(alloc, text) else {
         return Err(AllocError);
     };
-    let mut left = Tokens::new(found.as_slice(), text.len());
+    let mut left = Tokens::new(found.as_slice());
     match line(alloc, &mut left) {
         Ok(short) => Ok(short),
         Err(refusal) => {
             let mut short = String::new(alloc);
-            put(&refusal, &mut short, alloc)?;
+            put(&refusal, &found, text.len(), &mut short, alloc)?;
             Ok(short)
         }
     }
@@ -123,7 +131,7 @@ fn looks(alloc: Global) -> Result<bool, AllocError> {
     let Ok(found) = tokens(alloc, "; fire 1 a") else {
         return Err(AllocError);
     };
-    let mut left = Tokens::new(found.as_slice(), 10);
+    let mut left = Tokens::new(found.as_slice());
     let first = left.peek_mark() == Some(Mark::Semicolon)
         && left.at(Mark::Semicolon)
         && !left.at(Mark::Fire);

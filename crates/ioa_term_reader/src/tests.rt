@@ -1,9 +1,9 @@
 //! How terms group, which are refused, and where.
 
 use crate::{BRACKET_LIMIT, term};
-use ioa_cursor::{Tokens, Unread};
+use ioa_cursor::{Tokens, Unread, place_of};
 use ioa_terms::{BinaryOperator, DisplayForm, Term, Tree, UnaryOperator};
-use ioa_tokens::tokens;
+use ioa_tokens::{Placed, tokens};
 use std::alloc::{AllocError, Global};
 use std::test::Fail;
 
@@ -208,14 +208,21 @@ fn all_shown(alloc: Global, terms: &Vec<Term>) -> Result<String, AllocError> {
     Ok(list)
 }
 
-/// A refusal in short.
-fn refusal(alloc: Global, unread: Unread) -> Result<String, AllocError> {
-    match unread {
-        Unread::Unexpected(place) => format!(in alloc; "12@{place}"),
-        Unread::TooDeep(place) => format!(in alloc; "14@{place}"),
-        Unread::LeftOut(place) => format!(in alloc; "16@{place}"),
-        Unread::Memory => Err(AllocError),
-    }
+/// A refusal in short, with its place in a text of these tokens that ends there.
+fn refusal(
+    alloc: Global,
+    unread: Unread,
+    placed: &[Placed<'_>],
+    end: usize,
+) -> Result<String, AllocError> {
+    let (number, left) = match unread {
+        Unread::Unexpected(left) => (12, left),
+        Unread::TooDeep(left) => (14, left),
+        Unread::LeftOut(left) => (16, left),
+        Unread::Memory => return Err(AllocError),
+    };
+    let place = place_of(placed, left, end);
+    format!(in alloc; "{number}@{place}")
 }
 
 /// What a text is read as.
@@ -224,15 +231,15 @@ fn answer(alloc: Global, text: &str) -> Result<String, AllocError> {
         Ok(placed) => placed,
         Err(_) => return String::from_str(alloc, "not cut"),
     };
-    let mut rest = Tokens::new(placed.as_slice(), text.len());
+    let mut rest = Tokens::new(placed.as_slice());
     match term(alloc, &mut rest, BRACKET_LIMIT) {
         Ok(built) => {
             if rest.len() > 0 {
-                return refusal(alloc, rest.refused());
+                return refusal(alloc, rest.refused(), &placed, text.len());
             }
             shown(alloc, built.tree())
         }
-        Err(unread) => refusal(alloc, unread),
+        Err(unread) => refusal(alloc, unread, &placed, text.len()),
     }
 }
 
@@ -242,7 +249,7 @@ fn height(alloc: Global, text: &str) -> usize {
         Ok(placed) => placed,
         Err(_) => return 0,
     };
-    let mut rest = Tokens::new(placed.as_slice(), text.len());
+    let mut rest = Tokens::new(placed.as_slice());
     match term(alloc, &mut rest, BRACKET_LIMIT) {
         Ok(built) => built.height(),
         Err(_) => 0,

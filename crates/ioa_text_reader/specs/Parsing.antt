@@ -4,6 +4,9 @@ use Rattle.ioa_tokens.specs.declared.token.Token.{Token}
 use Rattle.ioa_tokens.specs.declared.token.Placed.{Placed}
 use Rattle.ioa_tokens.specs.declared.fault.CutFault.TheVariants as cut
 use Rattle.ioa_tokens.specs.Tokens.{tokens}
+use Rattle.ioa_cursor.specs.declared.cursor.Unread.{Unread}
+use Rattle.ioa_cursor.specs.declared.cursor.Unread.TheVariants as unread
+use Rattle.ioa_cursor.specs.Outcome.{place_of}
 use Rattle.ioa_source.specs.TextView.{text_of}
 use Rattle.ioa_text_reader.specs.Reading.{whole}
 use Rattle.ioa_text_reader.specs.Texts.{length_limit, bare}
@@ -17,6 +20,13 @@ ReadsAs s text = (placed : List Placed) × (rest : List Token) × (tokens text �
 
 abbrev pub ReadsNothing : List ℕ → Type 0
 ReadsNothing text = (placed : List Placed) × (tokens text ≡ Ok placed) × (whole (bare placed) ≡ None) × (placed ≢ [])
+
+-- the refusal of a text of these tokens that ends there, of which the reader was left so many tokens
+abbrev pub refusal_of : Unread → List Placed → ℕ → FrontFault
+refusal_of (unread.Unexpected left) placed end = Unexpected (place_of placed left end)
+refusal_of (unread.TooDeep left) placed end = TooDeep (place_of placed left end)
+refusal_of (unread.LeftOut left) placed end = LeftOut (place_of placed left end)
+refusal_of unread.Memory placed end = Memory
 
 -- what is answered
 abbrev pub Parses : Result Source FrontFault → List ℕ → Type 0

@@ -2,7 +2,7 @@
 
 ghost use Rattle.std.specs.Prelude.{◌≡◌, ◌<◌, ◌≤◌, ◌⊎◌, List, length, true, IfOk, IfErr, MatchResult};
 ghost use Rattle.ioa_text_reader.specs.Grammar.{Spells};
-ghost use Rattle.ioa_text_reader.specs.Parsing.{Parses};
+ghost use Rattle.ioa_text_reader.specs.Parsing.{Parses, refusal_of};
 ghost use Rattle.ioa_text_reader.specs.Texts.{length_limit, TextSpells, Stands, is_exact};
 ghost use Rattle.ioa_text_reader.specs.declared.fault.FrontFault.{FrontFault};
 ghost use Rattle.ioa_source.specs.Sides.{SourceText};
@@ -12,8 +12,8 @@ ghost use Rattle.ioa_tokens.specs.declared.token.Token.{Token};
 use crate::fault::FrontFault;
 use crate::source::Source;
 use crate::system::whole;
-use ioa_cursor::{Tokens, Unread};
-use ioa_tokens::{CutFault, tokens};
+use ioa_cursor::{Tokens, Unread, place_of};
+use ioa_tokens::{CutFault, Placed, tokens};
 use std::alloc::Global;
 
 /// How many bytes a text has at most.
@@ -35,13 +35,22 @@ fn read(alloc: Global, text: &str) -> Result<Source, FrontFault>
     if placed.is_empty() {
         return Err(FrontFault::Empty);
     }
-    let mut rest = Tokens::new(placed.as_slice(), text.len());
+    let mut rest = Tokens::new(placed.as_slice());
     match whole(alloc, &mut rest) {
         Ok(text) => Ok(Source::new(text)),
-        Err(Unread::Unexpected(place)) => Err(FrontFault::Unexpected(place)),
-        Err(Unread::TooDeep(place)) => Err(FrontFault::TooDeep(place)),
-        Err(Unread::LeftOut(place)) => Err(FrontFault::LeftOut(place)),
-        Err(Unread::Memory) => Err(FrontFault::Memory),
+        Err(unread) => Err(refusal(&unread, placed.as_slice(), text.len())),
+    }
+}
+
+/// Why a text of these tokens that ends there is refused.
+fn refusal(unread: &Unread, placed: &[Placed<'_>], end: usize) -> FrontFault
+    ensures { result ≡ refusal_of unread.now placed.now end }
+{
+    match unread {
+        Unread::Unexpected(left) => FrontFault::Unexpected(place_of(placed, *left, end)),
+        Unread::TooDeep(left) => FrontFault::TooDeep(place_of(placed, *left, end)),
+        Unread::LeftOut(left) => FrontFault::LeftOut(place_of(placed, *left, end)),
+        Unread::Memory => FrontFault::Memory,
     }
 }
 
