@@ -265,7 +265,7 @@ fn later_forms_are_refused_with_their_places(rt: HostRuntime) -> Result<(), Fail
         let text = text(rt.alloc(), later)?;
         let fault = check_text(rt.alloc(), &text).err().ok_or(later)?;
         let line = format!(in rt.alloc(); "{fault}")?;
-        let expected = format!(in rt.alloc(); "Unknown in {place}")?;
+        let expected = format!(in rt.alloc(); "20 Unknown in {place}")?;
         assert_eq!(rt; line.as_str(), expected.as_str(), "{later}");
     }
     Ok(())
