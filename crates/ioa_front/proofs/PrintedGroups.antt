@@ -8,9 +8,10 @@ use Rattle.ioa_tokens.specs.declared.mark.Mark.{Mark}
 use Rattle.ioa_tokens.specs.Written.{AreTokens}
 use Rattle.ioa_cursor.specs.Lists.{Separated, Ended, Gathered, GatheredSeveral}
 use Rattle.ioa_cursor.specs.Lists as lists
-use Rattle.ioa_term_reader.proofs.PrintedGood.{all_joined, tokens_joined}
+use Rattle.ioa_term_reader.proofs.PrintedGood.{tokens_joined}
 use Rattle.ioa_front.specs.Spelling.{more_separated, separated, joined}
 use Rattle.ioa_front.proofs.PrintedLists.{Prints}
+use Rattle.ioa_values.proofs.AllOf.{all_appended}
 
 -- an item as a group of its own
 abbrev pub Alone : {A : Type 0} → (List A → List Token → List Token → Type 0) → A → List Token → List Token → Type 0
@@ -94,8 +95,8 @@ module _ {A : Type 0} (X : List A → List Token → List Token → Type 0) (spe
         let p = prints items _ _ d in
         let q = groups_each rest in
         record {
-          again = all_joined (IsAgain X spell) items others p.again q.again;
-          good = λ h. let g = p.good h in let i = q.good g.1 in (all_joined (λ a. AreTokens (spell a)) items others g.0 i.0, i.1);
+          again = all_appended (IsAgain X spell) items others p.again q.again;
+          good = λ h. let g = p.good h in let i = q.good g.1 in (all_appended (λ a. AreTokens (spell a)) items others g.0 i.0, i.1);
         }
 
     pub groups_prints : {items : List A} {xs ys : List Token} → GatheredSeveral X items xs ys → Prints (GatheredSeveral X) (joined spell) items xs ys
@@ -114,8 +115,8 @@ module _ {A : Type 0} (X : List A → List Token → List Token → Type 0) (spe
           let p = prints items _ _ d in
           let q = gathered_each rest in
           record {
-            again = all_joined (IsAgain X spell) items others p.again q.again;
-            good = λ h. let g = p.good h in let i = q.good g.1.1 in (all_joined (λ a. AreTokens (spell a)) items others g.0 i.0, i.1);
+            again = all_appended (IsAgain X spell) items others p.again q.again;
+            good = λ h. let g = p.good h in let i = q.good g.1.1 in (all_appended (λ a. AreTokens (spell a)) items others g.0 i.0, i.1);
           }
 
       pub gathered_prints : {items : List A} {xs ys : List Token} → Gathered m X items xs ys → Prints (Gathered m X) (separated m spell) items xs ys

@@ -22,5 +22,5 @@ text_printed p text out found laid =
 -- what is printed of a source spells it
 pub answer_spelled : {S E : Type 0} (bytes : S → List ℕ) (p : SourceText) → ∥ IsSource p ∥₁ → (r : Result S E) → IfOk r (λ s. IsPrinted (text_spelling p) (bytes s)) →
     IfOk r (λ s. TextSpells p (bytes s))
-answer_spelled bytes p source (Ok s) laid = truly_spelled p (bytes s) (∥∥₁_map source (λ found. text_printed p found.0 (bytes s) found.1 laid))
+answer_spelled bytes p source (Ok s) laid = truly_spelled p (bytes s) (∥∥₁_map source (λ found. text_printed p found.0 (bytes s) found.2 laid))
 answer_spelled bytes p source (Err e) laid = tt

@@ -10,7 +10,7 @@ mod terms;
 mod texts;
 mod writing;
 
-pub use ioa_text_reader::{FrontFault, Source, one_source, parse};
+pub use ioa_text_reader::{FrontFault, LeftOut, Source, one_source, parse};
 pub use printing::print;
 
 #[cfg(test)]

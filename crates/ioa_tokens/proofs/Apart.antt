@@ -12,23 +12,8 @@ use Rattle.ioa_tokens.specs.declared.token.Token.TheVariants as token
 use Rattle.ioa_tokens.specs.declared.written.Gap.{Gap}
 use Rattle.ioa_tokens.specs.declared.written.Gap.TheVariants as gap
 use Rattle.ioa_tokens.specs.Spelling.{mark_text, left_out_text, signs}
-use Rattle.ioa_tokens.specs.Written.{Head, letter, digit, sign, text_head, gap_text, token_head, token_ends, token_text, written_text, spelling_ends, sign_ends, begins_longer, may_touch, AreTokens, IsApartFrom, AreApart}
+use Rattle.ioa_tokens.specs.Written.{Head, letter, digit, sign, text_head, gap_text, token_head, token_ends, token_text, written_text, spelling_ends, sign_ends, begins_longer, may_touch, IsApartFrom}
 use Rattle.ioa_tokens.proofs.Touching.{and_false, no_front, is_headed, mark_headed, left_out_headed}
-
--- any token may stand before these
-abbrev pub IsFree : List (Gap × Token) → Type 0
-IsFree ws = (t : Token) → IsApartFrom t ws
-
--- tokens before which any may stand, behind others
-pub apart_before_free : (xs ys : List (Gap × Token)) → AreApart xs → AreApart ys → IsFree ys → AreApart (xs ++ ys)
-apart_before_free [] ys left right free = right
-apart_before_free (x ∷ []) ys left right free = (free x.1, right)
-apart_before_free (x ∷ (y ∷ xs)) ys left right free = (left.0, apart_before_free (y ∷ xs) ys left.1 right free)
-
--- tokens of two lists are tokens of both
-pub tokens_appended : (xs ys : List Token) → AreTokens xs → AreTokens ys → AreTokens (xs ++ ys)
-tokens_appended [] ys left right = right
-tokens_appended (x ∷ xs) ys left right = (left.0, tokens_appended xs ys left.1 right)
 
 -- one text behind another
 pub written_appended : (xs ys : List (Gap × Token)) → written_text (xs ++ ys) ≡ written_text xs ++ written_text ys
@@ -38,18 +23,6 @@ written_appended (x ∷ xs) ys =
     let text = token_text x.1 in
     ap (λ l. before ++ (text ++ l)) (written_appended xs ys)
     ∙ sym (append_assoc before (text ++ written_text xs) (written_text ys) ∙ ap (λ l. before ++ l) (append_assoc text (written_text xs) (written_text ys)))
-
--- nothing is apart from all
-pub free_nothing : IsFree []
-free_nothing t = tt
-
--- a space sets tokens apart
-pub free_spaced : (u : Token) (ws : List (Gap × Token)) → IsFree ((gap.Spaced, u) ∷ ws)
-free_spaced u ws t = refl
-
--- so does a new line
-pub free_line : (indent : ℕ) (u : Token) (ws : List (Gap × Token)) → IsFree ((gap.NewLine indent, u) ∷ ws)
-free_line indent u ws t = refl
 
 -- characters that stand in no sign but at its head
 abbrev loose_characters : List ℕ
@@ -107,10 +80,6 @@ loose_touches t m loose =
     let head : text_head (mark_text m) ≡ sign first = rw (loose_is_sign first loose) refl in
     ap (token_ends t) head ∙ loose_ends t first loose
 
--- it is apart from any
-pub free_joined : (m : Mark) (ws : List (Gap × Token)) → is_loose m ≡ true → IsFree ((gap.Joined, token.Mark m) ∷ ws)
-free_joined m ws loose t = loose_touches t m loose
-
 -- the marks behind which any token may stand
 abbrev pub is_closed : Mark → Bool
 is_closed mark.OpenRound = true
@@ -152,8 +121,3 @@ apart_from_closed m [] closed = tt
 apart_from_closed m ((gap.Joined, u) ∷ ws) closed = closed_ends m (token_head u) closed
 apart_from_closed m ((gap.Spaced, u) ∷ ws) closed = refl
 apart_from_closed m ((gap.NewLine indent, u) ∷ ws) closed = refl
-
--- tokens in brackets, and more behind them
-pub apart_enclosed : (g : Gap) (left right : Mark) (xs ys : List (Gap × Token)) → is_closed left ≡ true → is_loose right ≡ true → AreApart xs → AreApart ((gap.Joined, token.Mark right) ∷ ys) → AreApart ((g, token.Mark left) ∷ (xs ++ (gap.Joined, token.Mark right) ∷ ys))
-apart_enclosed g left right xs ys closed loose inside behind =
-    (apart_from_closed left _ closed, apart_before_free xs _ inside behind (free_joined right ys loose))

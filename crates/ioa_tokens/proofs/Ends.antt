@@ -1,10 +1,10 @@
 -- Where the token at the head of a text ends.
-use Rattle.std.proofs.Common.{◌≡◌, ℕ, Bool, true, false, nat_eq, List, [], ◌∷◌, ◌++◌, refl, ap, arith, append-nil, true≢false, one-add, ⊎_elim}
+use Rattle.std.proofs.Common.{◌≡◌, ℕ, Bool, true, false, nat_eq, List, [], ◌∷◌, ◌++◌, refl, ap, arith, append-nil, one-add, ⊎_elim}
 use Rattle.std.specs.List.{list_all, list_any, starts_with, take_while}
 use Rattle.std.specs.Map.{lookup_entry}
-use Rattle.std.specs.Prelude.{◌&&◌, ◌||◌, slice_index, if◌then◌else◌}
+use Rattle.std.specs.Prelude.{◌&&◌, slice_index, if◌then◌else◌}
 use Rattle.std.specs.Char.{is_ascii_alphabetic, is_ascii_digit}
-use Rattle.std.proofs.lemmas.Bool.{and_parts, cases_Bool}
+use Rattle.std.proofs.lemmas.Bool.{and_parts, or_parts, cases_Bool}
 use Rattle.std.proofs.lemmas.Bool.Decides.{nat_tests}
 use Rattle.ioa_tokens.specs.declared.token.Token.{Token}
 use Rattle.ioa_tokens.specs.declared.token.Token.TheVariants as token
@@ -24,11 +24,6 @@ front_whole p [] (c ∷ rest) all stops = rw stops refl
 front_whole p (x ∷ front) rest all stops =
     let parts = and_parts (p x) (list_all p front) all in
     rw (parts.0, one-add) (ap (λ l. x ∷ l) (front_whole p front rest parts.1 stops))
-
--- both parts of a test that fails
-or_parts : (x y : Bool) → (x || y) ≡ false → (x ≡ false) × (y ≡ false)
-or_parts true y none = absurd (true≢false none)
-or_parts false y none = (refl, none)
 
 -- a test of two characters, and one of what is behind them
 same_behind : (d x : ℕ) (before after behind : Bool) → (nat_eq x d && behind) ≡ false → (behind ≡ false → before ≡ after) → (nat_eq d x && before) ≡ (nat_eq d x && after)

@@ -84,12 +84,6 @@ pub tokens_written : (ws : List (Gap × Token)) (end : List ℕ) → AreTokens (
 unfolding tokens
 tokens_written ws end good apart blank = (placed_from 0 ws, tokens_from_written ws 0 end good apart blank, placed_tokens 0 ws)
 
--- the same with nothing at the end
-pub tokens_written_alone : (ws : List (Gap × Token)) → AreTokens (map (λ w. w.1) ws) → AreApart ws → (placed : List Placed) × (tokens (written_text ws) ≡ Ok placed) × (map (λ p. p.token) placed ≡ map (λ w. w.1) ws)
-tokens_written_alone ws good apart =
-    let found = tokens_written ws [] good apart refl in
-    (found.0, ap tokens (sym (append-nil (written_text ws))) ∙ found.1, found.2)
-
 -- the same with a line feed at the end
 pub tokens_written_line : (ws : List (Gap × Token)) → AreTokens (map (λ w. w.1) ws) → AreApart ws → (placed : List Placed) × (tokens (written_text ws ++ codes "\n") ≡ Ok placed) × (map (λ p. p.token) placed ≡ map (λ w. w.1) ws)
 tokens_written_line ws good apart = tokens_written ws (codes "\n") good apart refl

@@ -32,13 +32,13 @@ all_later d x [] e h = tt
 all_later d x (y ∷ ys) e h = (data_cmp_total.trans d x y e h.0, all_later d x ys e h.1)
 
 -- what holds of the members and of one more
-all_with : (P : Data → Type 0) (d : Data) (xs : List Data) → P d → AllByRecursion P xs → AllByRecursion P (with_member d xs)
+pub all_with : (P : Data → Type 0) (d : Data) (xs : List Data) → P d → AllByRecursion P xs → AllByRecursion P (with_member d xs)
 all_with P d [] p h = (p, tt)
 all_with P d (x ∷ xs) p h =
     by_each (AllByRecursion P) (data_cmp d x) (d ∷ x ∷ xs) (x ∷ xs) (x ∷ with_member d xs)
     (λ e. (p, h)) (λ e. h) (λ e. (h.0, all_with P d xs p h.1))
 
-all_without : (P : Data → Type 0) (d : Data) (xs : List Data) → AllByRecursion P xs → AllByRecursion P (without_member d xs)
+pub all_without : (P : Data → Type 0) (d : Data) (xs : List Data) → AllByRecursion P xs → AllByRecursion P (without_member d xs)
 all_without P d [] h = tt
 all_without P d (x ∷ xs) h =
     by_each (AllByRecursion P) (data_cmp d x) (x ∷ xs) xs (x ∷ without_member d xs)

@@ -1,4 +1,5 @@
 -- the lemmas of this crate
+pub mod AllOf
 pub mod Ascending
 pub mod Commas
 pub mod Endings

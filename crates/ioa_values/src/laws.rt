@@ -1,7 +1,7 @@
 //! Laws of sets and maps: what functions ensure that do nothing. They tell what the lists mean, by
 //! the members of a set and by the values at the keys of a map.
 
-ghost use Rattle.std.specs.Prelude.{◌≡◌, List, Option, Some, None, not, ◌||◌, ◌&&◌, if◌then◌else◌};
+ghost use Rattle.std.specs.Prelude.{◌≡◌, List, Some, None, not, ◌||◌, ◌&&◌, if◌then◌else◌};
 ghost use Rattle.std.specs.Option.{is_some};
 ghost use Rattle.ioa_values.specs.Data.{Data};
 ghost use Rattle.ioa_values.specs.DataOrder.{same};
