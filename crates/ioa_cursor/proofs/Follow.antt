@@ -13,11 +13,6 @@ pub skip_same : (m : Mark) (xs : List Token) → skip m (token.Mark m ∷ xs) �
 unfolding skip
 skip_same m xs = rw (same_mark_self m) refl
 
--- a mark comes first where it does
-pub at_same : (m : Mark) (xs : List Token) → at m (token.Mark m ∷ xs) ≡ true
-unfolding at
-at_same m xs = same_mark_self m
-
 -- a mark that does not come first is not taken
 pub skip_other : (m : Mark) (xs : List Token) → at m xs ≡ false → skip m xs ≡ stays false xs
 unfolding skip at

@@ -14,7 +14,7 @@ Reads view read (Err e) new = (e ≡ unread.Memory) ⊎ (read ≡ None)
 
 -- the refusal of what comes next, by how many tokens are left: 16 of a word that the profile leaves out, else 12
 abbrev pub refusal : List Token → Unread
-refusal (token.LeftOut w ∷ xs) = unread.LeftOut (length (token.LeftOut w ∷ xs))
+refusal (token.LeftOut w ∷ xs) = unread.LeftOut w (length (token.LeftOut w ∷ xs))
 refusal (token.Word w ∷ xs) = unread.Unexpected (length (token.Word w ∷ xs))
 refusal (token.Number n ∷ xs) = unread.Unexpected (length (token.Number n ∷ xs))
 refusal (token.Mark m ∷ xs) = unread.Unexpected (length (token.Mark m ∷ xs))

@@ -6,7 +6,7 @@ ghost use Rattle.ioa_cursor.specs.Outcome.{Reads};
 ghost use Rattle.ioa_cursor.specs.declared.cursor.Unread.TheVariants.{Memory, TooDeep};
 ghost use Rattle.ioa_cursor.specs.Reading as spec;
 
-use ioa_tokens::{Mark, Placed, Token};
+use ioa_tokens::{LeftOut, Mark, Placed, Token};
 use ioa_values::Word;
 use std::alloc::{AllocError, AllocFailed, Global};
 use std::marker::Model;
@@ -19,8 +19,8 @@ pub enum Unread {
     Unexpected(usize),
     /// 14: a tree is too high, or too many brackets are open.
     TooDeep(usize),
-    /// 16: a word that the profile leaves out stands there.
-    LeftOut(usize),
+    /// 16: this word, which the profile leaves out, stands there.
+    LeftOut(LeftOut, usize),
     /// No memory was left.
     Memory,
 }
@@ -95,7 +95,7 @@ impl<'a> Tokens<'a> {
     {
         match self.rest {
             [first, ..] => match &first.token {
-                Token::LeftOut(_) => Unread::LeftOut(self.rest.len()),
+                Token::LeftOut(word) => Unread::LeftOut(*word, self.rest.len()),
                 Token::Word(_) | Token::Number(_) | Token::Mark(_) => {
                     Unread::Unexpected(self.rest.len())
                 }

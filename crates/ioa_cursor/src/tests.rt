@@ -29,7 +29,7 @@ fn put(
     let (number, left) = match refusal {
         Unread::Unexpected(left) => (12, *left),
         Unread::TooDeep(left) => (14, *left),
-        Unread::LeftOut(left) => (16, *left),
+        Unread::LeftOut(_, left) => (16, *left),
         Unread::Memory => return Err(AllocError),
     };
     let place = place_of(found, left, end);

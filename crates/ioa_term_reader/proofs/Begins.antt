@@ -72,7 +72,3 @@ not_mark_first m other [] e same = absurd cc
 -- where a term comes first, no mark is skipped that begins none
 pub skip_at_term : (m : Mark) → begins_term m ≡ false → (xs : List Token) → at_term xs ≡ true → skip m xs ≡ stays false xs
 skip_at_term m other xs e = skip_unlike m xs (not_mark_first m other xs e)
-
--- no mark is skipped before a term that begins none
-pub term_not_mark : {room l : ℕ} {t : SourceTerm} {xs ys : List Token} (m : Mark) → begins_term m ≡ false → SpellsAt room l t xs ys → skip m xs ≡ stays false xs
-term_not_mark {xs = xs} m other d = skip_at_term m other xs (at_begins d)

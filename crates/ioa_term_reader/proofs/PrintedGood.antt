@@ -1,6 +1,5 @@
 -- Where a spelling of a term has only such tokens as a text can have, so has the term as it is written.
 use Rattle.std.proofs.Common.{ℕ, Bool, true, false, List, [], ◌∷◌, ◌++◌}
-use Rattle.std.specs.List.{AllByRecursion}
 use Rattle.ioa_tokens.specs.declared.token.Token.{Token}
 use Rattle.ioa_tokens.specs.declared.token.Token.TheVariants as token
 use Rattle.ioa_tokens.specs.declared.mark.Mark.TheVariants as mark
@@ -12,14 +11,10 @@ use Rattle.ioa_term_reader.specs.Grammar as grammar
 use Rattle.ioa_term_reader.specs.Grammar.{SpellsAt, SpellsTerms, SpellsTerm}
 use Rattle.ioa_term_reader.specs.Spelling.{infix_end, is_operation, wrapped, spelling, parts_spelling}
 use Rattle.ioa_term_reader.proofs.Printed.{part, terms_printed}
-
--- what holds of all of two lists holds of all of both
-pub all_joined : {A : Type 0} (P : A → Type 0) (xs ys : List A) → AllByRecursion P xs → AllByRecursion P ys → AllByRecursion P (xs ++ ys)
-all_joined P [] ys h k = k
-all_joined P (x ∷ xs) ys h k = (h.0, all_joined P xs ys h.1 k)
+use Rattle.ioa_values.proofs.AllOf.{all_appended}
 
 pub tokens_joined : (xs ys : List Token) → AreTokens xs → AreTokens ys → AreTokens (xs ++ ys)
-tokens_joined xs ys h k = all_joined IsToken xs ys h k
+tokens_joined xs ys h k = all_appended IsToken xs ys h k
 
 -- the tokens of a term, and those behind it
 abbrev pub AreGood : List Token → List Token → Type 0

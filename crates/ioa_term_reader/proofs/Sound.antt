@@ -1,5 +1,5 @@
 -- What is read of a term is spelled.
-use Rattle.std.proofs.Common.{◌≡◌, ◌≢◌, ℕ, zero, suc, ◌+◌, ◌-◌, ◌≤◌, Bool, true, false, ◌&&◌, nat_le, nat_eq, List, ◌∷◌, Option, Some, None, if◌then◌else◌, refl, arith}
+use Rattle.std.proofs.Common.{◌≡◌, ◌≢◌, ℕ, zero, suc, ◌+◌, ◌-◌, ◌≤◌, Bool, true, false, nat_le, nat_eq, List, ◌∷◌, Option, Some, None, if◌then◌else◌, refl, arith}
 use Rattle.std.specs.Option.{option_map}
 use Rattle.std.proofs.lemmas.Bool.Decides.{nat_tests}
 use Rattle.ioa_tokens.specs.declared.token.Token.{Token}
@@ -27,6 +27,7 @@ use Rattle.ioa_term_reader.specs.Levels.{prefix_level, prefix_of, infix_of, leve
 use Rattle.ioa_term_reader.specs.Reading.{limited, Reached, after_of, level_of, left_of, accepted, terms_in, bracketed, displayed, braced, called, worded, prefixed, marked, operand, grown, climb, read, depth_limit, term}
 use Rattle.ioa_term_reader.specs.declared.after.After.{After}
 use Rattle.ioa_term_reader.specs.declared.after.After.TheVariants.{Infix, Field, Key}
+use Rattle.std.proofs.lemmas.Bool.{and_parts}
 
 -- a term that is spelled at a level, and not too high
 abbrev pub Good : ℕ → ℕ → SourceTerm → List Token → List Token → Type 0
@@ -179,10 +180,6 @@ record Accepted (least most : ℕ) (xs : List Token) (a : After) : Type 0 where
   above_least : least ≤ level_of a
   below_most : left_of a ≤ most
 
-both_if : (b c : Bool) → (b && c) ≡ true → (b ≡ true) × (c ≡ true)
-both_if true c e = (refl, e)
-both_if false c e = absurd cc
-
 accepted_is : (least most : ℕ) (xs : List Token) (a : After) → accepted least most xs ≡ Some a → Accepted least most xs a
 unfolding accepted
 accepted_is least most xs a e =
@@ -190,7 +187,7 @@ accepted_is least most xs a e =
     bound P e (λ m m_is e1. bound P e1 (λ b b_is e2.
     chosen P e2
     (λ fits done.
-    let levels = both_if (nat_le least (level_of b)) (nat_le (left_of b) most) fits in
+    let levels = and_parts (nat_le least (level_of b)) (nat_le (left_of b) most) fits in
     settled (Accepted least most xs) done
     (record { m = m; first = mark_first_taken xs m m_is; goes_on = b_is; above_least = grind (arith, nat_tests); below_most = grind (arith, nat_tests) }))
     (λ _ none. absurd cc)))

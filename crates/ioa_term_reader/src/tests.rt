@@ -218,7 +218,7 @@ fn refusal(
     let (number, left) = match unread {
         Unread::Unexpected(left) => (12, left),
         Unread::TooDeep(left) => (14, left),
-        Unread::LeftOut(left) => (16, left),
+        Unread::LeftOut(_, left) => (16, left),
         Unread::Memory => return Err(AllocError),
     };
     let place = place_of(placed, left, end);

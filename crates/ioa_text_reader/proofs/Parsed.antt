@@ -71,7 +71,7 @@ spells_none text h p d = none_not_some (p, []) (whole (bare h.0)) h.2 (read_as_s
 not_exact : {X : Type 0} (text : List ℕ) → length text ≤ length_limit → ReadsNothing text → (e : FrontFault) → is_exact e ≡ true → Stands e text → X
 not_exact text l h (Unexpected place) x s = absurd cc
 not_exact text l h (TooDeep place) x s = absurd cc
-not_exact text l h (LeftOut place) x s = absurd cc
+not_exact text l h (LeftOut w place) x s = absurd cc
 not_exact text l h Memory x s = absurd cc
 not_exact text l h TooLong x s = too_long text s l
 not_exact text l h (BadCharacter place) x s = ok_not_err h.0 (cut.BadCharacter place) (tokens text) h.1 s.1
@@ -94,7 +94,7 @@ parses_only (Err (NumberTooLarge place)) text h p l d = ok_not_err d.0 (cut.Numb
 parses_only (Err Empty) text h p l d = something_read d.0 (p, []) (same_ok [] d.0 (tokens text) h.1 d.1) (whole_complete (bare d.0) p d.2)
 parses_only (Err (Unexpected place)) text h p l d = absurd (spells_none text h.1 p d)
 parses_only (Err (TooDeep place)) text h p l d = absurd (spells_none text h.1 p d)
-parses_only (Err (LeftOut place)) text h p l d = absurd (spells_none text h.1 p d)
+parses_only (Err (LeftOut w place)) text h p l d = absurd (spells_none text h.1 p d)
 parses_only (Err Memory) text h p l d = refl
 
 -- a refusal stands
@@ -106,14 +106,14 @@ parses_refused (Err (NumberTooLarge place)) text h = h
 parses_refused (Err Empty) text h = h
 parses_refused (Err (Unexpected place)) text h = (h.0, spells_none text h.1)
 parses_refused (Err (TooDeep place)) text h = (h.0, spells_none text h.1)
-parses_refused (Err (LeftOut place)) text h = (h.0, spells_none text h.1)
+parses_refused (Err (LeftOut w place)) text h = (h.0, spells_none text h.1)
 parses_refused (Err Memory) text h = tt
 
 -- the exact refusals come where they stand
 pub parses_exact : (r : Result Source FrontFault) (text : List ℕ) → Parses r text → (e : FrontFault) → is_exact e ≡ true → Stands e text → MatchResult r (λ _. ⊥) (λ f. (f ≡ Memory) ⊎ (f ≡ e))
 parses_exact r text h (Unexpected place) x s = absurd cc
 parses_exact r text h (TooDeep place) x s = absurd cc
-parses_exact r text h (LeftOut place) x s = absurd cc
+parses_exact r text h (LeftOut w place) x s = absurd cc
 parses_exact r text h Memory x s = absurd cc
 parses_exact (Err Memory) text h TooLong x s = inl refl
 parses_exact (Err Memory) text h (BadCharacter place) x s = inl refl
@@ -141,7 +141,7 @@ parses_exact (Err Empty) text h (NumberTooLarge place) x s = ok_not_err [] (cut.
 parses_exact (Err Empty) text h Empty x s = inr refl
 parses_exact (Err (Unexpected at)) text h e x s = not_exact text h.0 h.1 e x s
 parses_exact (Err (TooDeep at)) text h e x s = not_exact text h.0 h.1 e x s
-parses_exact (Err (LeftOut at)) text h e x s = not_exact text h.0 h.1 e x s
+parses_exact (Err (LeftOut w at)) text h e x s = not_exact text h.0 h.1 e x s
 
 -- a text above the limit is refused as such, and takes no memory
 pub parses_long : (r : Result Source FrontFault) (text : List ℕ) → Parses r text → length_limit < length text → MatchResult r (λ _. ⊥) (λ e. e ≡ TooLong)
@@ -152,7 +152,7 @@ parses_long (Err (NumberTooLarge place)) text h l = too_long text l h.0
 parses_long (Err Empty) text h l = too_long text l h.0
 parses_long (Err (Unexpected place)) text h l = too_long text l h.0
 parses_long (Err (TooDeep place)) text h l = too_long text l h.0
-parses_long (Err (LeftOut place)) text h l = too_long text l h.0
+parses_long (Err (LeftOut w place)) text h l = too_long text l h.0
 parses_long (Err Memory) text h l = too_long text l h
 
 -- what was read, without what comes after it

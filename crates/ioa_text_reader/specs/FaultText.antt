@@ -12,5 +12,5 @@ fault_text (Unexpected place) = codes "12 Unexpected at " ++ decimal place
 fault_text (NumberTooLarge place) = codes "13 NumberTooLarge at " ++ decimal place
 fault_text (TooDeep place) = codes "14 TooDeep at " ++ decimal place
 fault_text TooLong = codes "15 TooLong at 1048576"
-fault_text (LeftOut place) = codes "16 LeftOut at " ++ decimal place
+fault_text (LeftOut w place) = codes "16 LeftOut at " ++ decimal place
 fault_text Memory = codes "3 Memory"

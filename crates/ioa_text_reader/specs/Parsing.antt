@@ -25,7 +25,7 @@ ReadsNothing text = (placed : List Placed) × (tokens text ≡ Ok placed) × (wh
 abbrev pub refusal_of : Unread → List Placed → ℕ → FrontFault
 refusal_of (unread.Unexpected left) placed end = Unexpected (place_of placed left end)
 refusal_of (unread.TooDeep left) placed end = TooDeep (place_of placed left end)
-refusal_of (unread.LeftOut left) placed end = LeftOut (place_of placed left end)
+refusal_of (unread.LeftOut w left) placed end = LeftOut w (place_of placed left end)
 refusal_of unread.Memory placed end = Memory
 
 -- what is answered
@@ -37,5 +37,5 @@ Parses (Err (NumberTooLarge place)) text = (length text ≤ length_limit) × (to
 Parses (Err Empty) text = (length text ≤ length_limit) × (tokens text ≡ Ok [])
 Parses (Err (Unexpected place)) text = (length text ≤ length_limit) × ReadsNothing text
 Parses (Err (TooDeep place)) text = (length text ≤ length_limit) × ReadsNothing text
-Parses (Err (LeftOut place)) text = (length text ≤ length_limit) × ReadsNothing text
+Parses (Err (LeftOut w place)) text = (length text ≤ length_limit) × ReadsNothing text
 Parses (Err Memory) text = length text ≤ length_limit

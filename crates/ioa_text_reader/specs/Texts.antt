@@ -21,9 +21,9 @@ bare placed = map (λ p. p.token) placed
 abbrev pub TextSpells : SourceText → List ℕ → Type 0
 TextSpells p text = (placed : List Placed) × (tokens text ≡ Ok placed) × Spells p (bare placed)
 
--- some text spells a source
+-- some text within the length limit spells a source
 abbrev pub IsSource : SourceText → Type 0
-IsSource p = (text : List ℕ) × TextSpells p text
+IsSource p = (text : List ℕ) × (length text ≤ length_limit) × TextSpells p text
 
 -- a text within the length limit spells no source
 abbrev pub SpellsNone : List ℕ → Type 0
@@ -37,7 +37,7 @@ Stands (NumberTooLarge place) text = (length text ≤ length_limit) × (tokens t
 Stands Empty text = (length text ≤ length_limit) × (tokens text ≡ Ok [])
 Stands (Unexpected place) text = SpellsNone text
 Stands (TooDeep place) text = SpellsNone text
-Stands (LeftOut place) text = SpellsNone text
+Stands (LeftOut w place) text = SpellsNone text
 Stands Memory text = Unit {0}
 
 -- the refusals that come wherever they stand, with their places
@@ -48,5 +48,5 @@ is_exact (NumberTooLarge place) = true
 is_exact Empty = true
 is_exact (Unexpected place) = false
 is_exact (TooDeep place) = false
-is_exact (LeftOut place) = false
+is_exact (LeftOut w place) = false
 is_exact Memory = false

@@ -1,5 +1,6 @@
 //! Why a text has no source.
 
+use ioa_tokens::LeftOut;
 use std::fmt;
 use thiserror::Error;
 
@@ -18,8 +19,8 @@ pub enum FrontFault {
     TooDeep(usize),
     /// 15: the text is longer than 1048576 bytes. Its place is 1048576.
     TooLong,
-    /// 16: at this place stands a word that the profile leaves out.
-    LeftOut(usize),
+    /// 16: this word, which the profile leaves out, stands at this place.
+    LeftOut(LeftOut, usize),
     /// 3: there was not memory enough.
     Memory,
 }
@@ -38,7 +39,7 @@ impl fmt::Display for FrontFault {
             FrontFault::NumberTooLarge(place) => write!(f, "13 NumberTooLarge at {place}"),
             FrontFault::TooDeep(place) => write!(f, "14 TooDeep at {place}"),
             FrontFault::TooLong => write!(f, "15 TooLong at 1048576"),
-            FrontFault::LeftOut(place) => write!(f, "16 LeftOut at {place}"),
+            FrontFault::LeftOut(_, place) => write!(f, "16 LeftOut at {place}"),
             FrontFault::Memory => write!(f, "3 Memory"),
         }
     }

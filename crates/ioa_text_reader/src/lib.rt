@@ -14,6 +14,7 @@ mod statement;
 mod system;
 
 pub use fault::FrontFault;
+pub use ioa_tokens::LeftOut;
 pub use parsing::{one_source, parse};
 pub use source::Source;
 

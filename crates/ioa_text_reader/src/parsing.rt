@@ -49,7 +49,7 @@ fn refusal(unread: &Unread, placed: &[Placed<'_>], end: usize) -> FrontFault
     match unread {
         Unread::Unexpected(left) => FrontFault::Unexpected(place_of(placed, *left, end)),
         Unread::TooDeep(left) => FrontFault::TooDeep(place_of(placed, *left, end)),
-        Unread::LeftOut(left) => FrontFault::LeftOut(place_of(placed, *left, end)),
+        Unread::LeftOut(word, left) => FrontFault::LeftOut(*word, place_of(placed, *left, end)),
         Unread::Memory => FrontFault::Memory,
     }
 }

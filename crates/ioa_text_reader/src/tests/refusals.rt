@@ -1,6 +1,6 @@
 //! Refusals in short, and those whose number is not 12.
 
-use crate::{FrontFault, parse};
+use crate::{FrontFault, LeftOut, parse};
 use std::alloc::{AllocError, Global};
 use std::test::Fail;
 
@@ -100,7 +100,7 @@ fn numbered(fault: &FrontFault) -> (u32, usize) {
         FrontFault::NumberTooLarge(place) => (13, *place),
         FrontFault::TooDeep(place) => (14, *place),
         FrontFault::TooLong => (15, 1_048_576),
-        FrontFault::LeftOut(place) => (16, *place),
+        FrontFault::LeftOut(_, place) => (16, *place),
     }
 }
 
@@ -157,5 +157,37 @@ fn left_out(rt: HostRuntime) -> Result<(), Fail> {
             assert_eq!(rt; found, (16, before.len()), "in {before}{word}");
         }
     }
+    Ok(())
+}
+
+/// Whether a fault names the left-out word `uses`.
+fn names_uses(fault: &FrontFault) -> bool {
+    match fault {
+        FrontFault::LeftOut(word, _) => *word == LeftOut::Uses,
+        _ => false,
+    }
+}
+
+/// Whether a text is refused for the left-out word `uses`.
+fn is_refused_for_uses(alloc: Global, text: &str) -> bool {
+    match parse(alloc, text) {
+        Ok(_) => false,
+        Err(fault) => names_uses(&fault),
+    }
+}
+
+#[test]
+fn the_left_out_word_is_told(rt: HostRuntime) -> Result<(), Fail> {
+    let alloc = rt.alloc();
+    assert_eq!(rt;
+        is_refused_for_uses(alloc, "automaton A uses"),
+        true,
+        "in uses"
+    );
+    assert_eq!(rt;
+        is_refused_for_uses(alloc, "automaton A choose"),
+        false,
+        "in choose"
+    );
     Ok(())
 }
