@@ -1,10 +1,10 @@
 -- Ascending lists by neighbours, and unions member by member.
-use Rattle.std.proofs.Common.{◌≡◌, ℕ, zero, suc, ◌+◌, ◌<◌, ◌≤◌, List, [], ◌∷◌, ◌++◌, length, drop, get_or, refl, ap, arith}
+use Rattle.std.proofs.Common.{◌≡◌, ℕ, zero, suc, ◌+◌, ◌<◌, ◌≤◌, List, [], ◌∷◌, length, drop, get_or, arith}
 use Rattle.std.specs.declared.cmp.Ordering.TheVariants.{Less}
 use Rattle.ioa_values.proofs.Ascending.{all_later}
 use Rattle.ioa_operators.specs.Data.{Data}
 use Rattle.ioa_operators.specs.DataOrder.{data_cmp}
-use Rattle.ioa_operators.specs.Collections.{IsAscending, with_member, union}
+use Rattle.ioa_operators.specs.Collections.{IsAscending}
 
 -- one more in front, below the next
 pub next_ascends : (xs : List Data) (i j : ℕ) (d e : Data) → d ≡ get_or xs i d → e ≡ get_or xs j e → j ≡ i + 1 → j < length xs → data_cmp d e ≡ Less → IsAscending (drop j xs) → IsAscending (drop i xs)
@@ -31,8 +31,3 @@ neighbours_ascend (x ∷ (y ∷ ys)) i zero d e p q n h a = absurd (omega arith)
 neighbours_ascend (x ∷ (y ∷ ys)) zero (suc zero) d e p q n h a = let m = a.0.0 in cc
 neighbours_ascend (x ∷ (y ∷ ys)) zero (suc (suc j)) d e p q n h a = absurd (omega arith)
 neighbours_ascend (x ∷ (y ∷ ys)) (suc i) (suc j) d e p q n h a = neighbours_ascend (y ∷ ys) i j d e p q (omega arith) (omega arith) a.1
-
--- the last member of the first list goes into the other one first
-pub union_last : (xs : List Data) (x : Data) (ys : List Data) → union (xs ++ x ∷ []) ys ≡ union xs (with_member x ys)
-union_last [] x ys = refl
-union_last (z ∷ xs) x ys = ap (λ (s : List Data). with_member z s) (union_last xs x ys)

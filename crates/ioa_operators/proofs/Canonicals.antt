@@ -5,7 +5,8 @@ use Rattle.std.specs.Int.{int_div_euclid, int_rem_euclid}
 use Rattle.std.specs.List.{AllByRecursion}
 use Rattle.std.specs.Option.{IfSome, option_and_then, option_map}
 use Rattle.std.specs.Result.{IfOk}
-use Rattle.ioa_values.proofs.Ascending.{by_each, with_member_ascends, without_member_ascends, set_of_ascends, union_ascends, with_entry_ascends, without_key_ascends}
+use Rattle.ioa_values.proofs.AllOf.{all_appended}
+use Rattle.ioa_values.proofs.Ascending.{by_each, all_with, all_without, with_member_ascends, without_member_ascends, set_of_ascends, union_ascends, with_entry_ascends, without_key_ascends}
 use Rattle.ioa_operators.specs.Data.{Data, Items, Entries, number, truth, constant, tuple, sequence, finite_set, finite_map, no_items, item, no_entries, entry, list_of, pairs_of, items_of, entries_of, as_number, as_truth, is_within}
 use Rattle.ioa_operators.specs.DataOrder.{data_cmp}
 use Rattle.ioa_operators.specs.Collections.{IsAscending, keys_of, with_member, without_member, set_of, union, value_at, with_entry, without_key}
@@ -42,11 +43,6 @@ pub entries_all : (es : List (Data × Data)) → AllEntriesCanonical es → AreC
 entries_all [] h = tt
 entries_all (p ∷ es) h = (h.0, entries_all es h.1)
 
--- what holds of all values holds of all of two lists, of one that is taken, and of all where one is replaced
-pub all_appended : (P : Data → Type 0) (xs ys : List Data) → AllByRecursion P xs → AllByRecursion P ys → AllByRecursion P (xs ++ ys)
-all_appended P [] ys h k = k
-all_appended P (x ∷ xs) ys h k = (h.0, all_appended P xs ys h.1 k)
-
 pub one_of_all : (P : Data → Type 0) (xs : List Data) (i : ℕ) → AllByRecursion P xs → IfSome (slice_get xs i) P
 one_of_all P [] i h = tt
 one_of_all P (x ∷ xs) zero h = h.0
@@ -56,19 +52,6 @@ pub all_replaced : (P : Data → Type 0) (xs : List Data) (i : ℕ) (v : Data) �
 all_replaced P [] i v p h = tt
 all_replaced P (x ∷ xs) zero v p h = (p, h.1)
 all_replaced P (x ∷ xs) (suc i) v p h = (h.0, all_replaced P xs i v p h.1)
-
--- what holds of the members and of one more, and of those that are left
-pub all_with : (P : Data → Type 0) (d : Data) (xs : List Data) → P d → AllByRecursion P xs → AllByRecursion P (with_member d xs)
-all_with P d [] p h = (p, tt)
-all_with P d (x ∷ xs) p h =
-    by_each (AllByRecursion P) (data_cmp d x) (d ∷ x ∷ xs) (x ∷ xs) (x ∷ with_member d xs)
-    (λ e. (p, h)) (λ e. h) (λ e. (h.0, all_with P d xs p h.1))
-
-pub all_without : (P : Data → Type 0) (d : Data) (xs : List Data) → AllByRecursion P xs → AllByRecursion P (without_member d xs)
-all_without P d [] h = tt
-all_without P d (x ∷ xs) h =
-    by_each (AllByRecursion P) (data_cmp d x) (x ∷ xs) xs (x ∷ without_member d xs)
-    (λ e. h) (λ e. h.1) (λ e. (h.0, all_without P d xs h.1))
 
 pub all_of_list : (P : Data → Type 0) (ds : List Data) → AllByRecursion P ds → AllByRecursion P (set_of ds)
 all_of_list P [] h = tt

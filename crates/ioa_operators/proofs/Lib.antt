@@ -1,8 +1,8 @@
 -- the lemmas of this crate
 pub mod ItemLists
-pub mod NamedParts
 pub mod ShapeLists
 pub mod Canonicals
 pub mod Ascents
 pub mod Widened
 pub mod Memory
+pub mod Decided

@@ -1,5 +1,5 @@
--- What the operators, functions and displays of the language mean between values (profile). A part of a wrong
--- sort has no value.
+-- What the operators, functions and displays of the language mean between values (profile). A part of another kind than
+-- is taken gives no value; items, members, keys and the sides of `=` may be of any kind.
 use Rattle.std.specs.Prelude.{ℕ, ℤ, pos, ◌+ℤ◌, ◌-ℤ◌, ◌*ℤ◌, neg_ℤ, int_lt, int_le, Bool, true, false, ◌&&◌, ◌||◌, not, if◌then◌else◌, List, [], ◌∷◌, ◌++◌, Option, Some, None, length, codes, nat_eq}
 use Rattle.std.specs.Int.{int_div_euclid, int_rem_euclid}
 use Rattle.std.specs.Option.{option_and_then, option_map}

@@ -3,9 +3,9 @@ use Rattle.std.specs.Prelude.{ℕ, pos, int_le, nat_le, nat_lt, nat_eq, ◌+◌,
 use Rattle.std.specs.List.{position}
 use Rattle.std.specs.Option.{option_and_then, option_map}
 use lib.Pointwise.{pointwise}
-use Rattle.ioa_operators.specs.Data.{Data, Items, Entries, number, truth, constant, tuple, sequence, finite_set, finite_map, no_items, item, no_entries, entry, items_of, list_of}
+use Rattle.ioa_operators.specs.Data.{Data, Items, Entries, number, truth, constant, tuple, sequence, finite_set, finite_map, no_items, item, no_entries, entry, items_of}
 use Rattle.ioa_operators.specs.Collections.{set_of}
-use Rattle.ioa_operators.specs.Operators.{sequence_of, finite_set_of, finite_map_of}
+use Rattle.ioa_operators.specs.Operators.{as_tuple, sequence_of, finite_set_of, finite_map_of}
 use Rattle.ioa_operators.specs.declared.shape.DisplayForm.{DisplayForm}
 use Rattle.ioa_operators.specs.declared.shape.DisplayForm.TheVariants.{Braces, Brackets}
 
@@ -84,14 +84,21 @@ widened s = widened_by true s
 abbrev pub field_place : List ℕ → List (List ℕ) → Option ℕ
 field_place w names = position (pointwise nat_eq w) names
 
+-- the part of a tuple whose parts have these names, and the tuple with another value there
+abbrev pub part_named : List (List ℕ) → List ℕ → Data → Option Data
+part_named names w d = option_and_then (λ ds. option_and_then (slice_get ds) (field_place w names)) (as_tuple d)
+
+abbrev pub with_part : List (List ℕ) → List ℕ → Data → Data → Option Data
+with_part names w v d = option_and_then (λ ds. option_and_then (λ i. option_map (λ old. tuple (items_of (slice_set ds i v))) (slice_get ds i)) (field_place w names)) (as_tuple d)
+
 -- the field of a name, of a value of a tuple type
 abbrev pub field_value : PlainShape → List ℕ → Data → Option Data
-field_value (tuples type names ss) w (tuple ds) = option_and_then (slice_get (list_of ds)) (field_place w names)
+field_value (tuples type names ss) w d = part_named names w d
 field_value _ _ _ = None
 
 -- the tuple in which the field of a name has another value
 abbrev pub with_field : PlainShape → List ℕ → Data → Data → Option Data
-with_field (tuples type names ss) w v (tuple ds) = option_and_then (λ i. option_map (λ old. tuple (items_of (slice_set (list_of ds) i v))) (slice_get (list_of ds) i)) (field_place w names)
+with_field (tuples type names ss) w v d = with_part names w v d
 with_field _ _ _ _ = None
 
 -- a display `{..}` or `[..]` that has a shape, of the values of its parts: those of a tuple have the shapes of its

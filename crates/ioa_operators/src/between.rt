@@ -34,8 +34,8 @@ fn before_value(operator: UnaryOperator, value: &Value) -> Result<Value, TermFau
     }
 }
 
-/// The value of an operator between two values (profile). Answers 1 Undefined where a value is of a wrong
-/// sort or a map lacks the key, 2 Range where the result lies outside 64 bits, and 3 Memory where none is
+/// The value of an operator between two values (profile). Answers 1 Undefined where a value is of another
+/// kind than the operator takes or a map lacks the key, 2 Range where the result lies outside 64 bits, and 3 Memory where none is
 /// left for `-|`, `|-`, `||` or the copy that `m[k]` makes. Takes the values over, and their memory where
 /// the result is made of it: costs time in proportion to the values, and `|-` that of one more item.
 pub fn binary(

@@ -4,9 +4,8 @@ ghost use Rattle.std.specs.Prelude.{◌≡◌, IfOk, slice_set, ◌<◌, length,
 ghost use Rattle.ioa_operators.specs.Canonical.{IsCanonical};
 ghost use Rattle.ioa_operators.specs.Outcome.{Answers};
 ghost use Rattle.ioa_operators.specs.Judged.{AnswersOrLacks, LacksMemoryOnlyIf, kept};
-ghost use Rattle.ioa_operators.specs.Shapes.{field_place, field_value, with_field};
+ghost use Rattle.ioa_operators.specs.Shapes.{field_place, field_value, part_named, with_field, with_part};
 ghost use Rattle.ioa_operators.specs.ShapeView.{shape_of};
-ghost use Rattle.ioa_operators.specs.Parts.{part_named, with_part};
 
 use crate::fault::TermFault;
 use crate::parts::{part, parts_of_tuple};
@@ -26,7 +25,6 @@ pub fn field(shape: &Shape, name: &Word, value: Value) -> Result<Value, TermFaul
     field_of(shape, name, value)
 }
 
-#[tactic(auto, using(crate::proofs::NamedParts::field_value_tuples))]
 fn field_of(shape: &Shape, name: &Word, value: Value) -> Result<Value, TermFault>
     ensures { AnswersOrLacks false result (kept (field_value (shape_of shape.now) name.now value)) }
 {
@@ -53,7 +51,6 @@ pub fn replace_field(
     field_replaced(shape, name, new, value)
 }
 
-#[tactic(auto, using(crate::proofs::NamedParts::with_field_tuples))]
 fn field_replaced(shape: &Shape, name: &Word, new: Value, value: Value) -> Result<Value, TermFault>
     ensures { AnswersOrLacks false result (kept (with_field (shape_of shape.now) name.now new value)) }
 {

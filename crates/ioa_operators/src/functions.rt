@@ -48,8 +48,8 @@ enum Parts {
 }
 
 /// The value of a function at the values of its parts (profile). Answers 1 Undefined where there are more
-/// or fewer parts than the function has, one is of a wrong sort, a sequence is empty whose `head` or `tail`
-/// is taken, or a divisor is below 1; 2 Range where the result lies outside 64 bits; and 3 Memory where none
+/// or fewer parts than the function has, one is of another kind than it takes, a sequence is empty whose
+/// `head` or `tail` is taken, or a divisor is below 1; 2 Range where the result lies outside 64 bits; and 3 Memory where none
 /// is left for `insert`, `union` or `update`. Takes the values over, and their memory where the result is
 /// made of it: costs time in proportion to the values.
 pub fn call(alloc: Global, function: Function, parts: Vec<Value>) -> Result<Value, TermFault>
