@@ -12,13 +12,14 @@ use Rattle.ioa_terms.specs.PlainTerm.{PlainTerm, PlainTerms, name, one, two, cal
 use Rattle.ioa_terms.specs.Meaning.{value, values, called}
 use Rattle.ioa_terms.specs.Performance.{target, target_shape, updated, assigned, fitted, tested, by_test, after_one, after_choice, after_all, after}
 use Rattle.ioa_terms.specs.Ascending.{IsAscendingEnvironment}
-use Rattle.ioa_terms.proofs.ShapesKept.{mapped, chained, one_or_other}
+use Rattle.ioa_terms.proofs.ShapesKept.{one_or_other}
 use Rattle.ioa_operators.proofs.Canonicals.{unary_canonical, binary_canonical, call_canonical, display_canonical, field_canonical, with_field_canonical}
 use Rattle.ioa_operators.specs.declared.operator.BinaryOperator.{BinaryOperator}
 use Rattle.ioa_operators.specs.declared.operator.BinaryOperator.TheVariants.{Implies, Or, And}
 use Rattle.ioa_operators.specs.declared.operator.Function.{Function}
 use Rattle.ioa_operators.specs.declared.operator.Function.TheVariants as function
 use Rattle.ioa_operators.specs.declared.shape.Shape.{Shape}
+use Rattle.ioa_operators.proofs.Canonicals.{mapped, chained}
 
 -- what holds of both of two holds of the one that is chosen
 by_condition : {A : Type 0} (P : A → Type 0) (b : Bool) (x y : A) → P x → P y → P (if b then x else y)

@@ -7,3 +7,6 @@ pub mod ShapesKept
 pub mod Sound
 pub mod SameActions
 pub mod CanonicalKept
+pub mod Assigned
+pub mod Negatives
+pub mod DefinedValues

@@ -1,11 +1,11 @@
 -- Names and the places of their values.
-use Rattle.std.proofs.Common.{◌≡◌, ℕ, zero, suc, ◌+◌, ◌<◌, ◌≤◌, min, Bool, true, false, List, [], ◌∷◌, ◌++◌, Option, Some, None, refl, sym, ap, ◌∙◌, length, set, arith, if◌then◌else◌, inl, inr, ◌⊎◌, get_or, append-nil}
+use Rattle.std.proofs.Common.{◌≡◌, ℕ, zero, suc, ◌+◌, ◌<◌, ◌≤◌, min, Bool, true, false, List, [], ◌∷◌, ◌++◌, Option, Some, None, refl, sym, ap, ◌∙◌, length, take, set, arith, if◌then◌else◌, inl, inr, ◌⊎◌, get_or, append-nil}
 use Rattle.std.specs.List.{zip, slice_get}
 use Rattle.std.proofs.lemmas.List.{map-append}
 use Rattle.std.proofs.lemmas.Slice.Zip.{firsts-zip}
 use Rattle.std.specs.Option.{option_map}
-use Rattle.ioa_terms.specs.PlainTerm.{PlainPlace, variable, at_key, at_field}
-use Rattle.ioa_terms.specs.Placed.{IsPlacedPlace}
+use Rattle.ioa_terms.specs.PlainTerm.{PlainPlace, variable, at_key, at_field, PlainStatement, PlainStatements, PlainArms, assign, choose, fire, no_statements, statement, no_arms, arm}
+use Rattle.ioa_terms.specs.Placed.{IsPlacedPlace, IsPlacedStatement, AreArmsPlaced, AreAllPlaced, ArePlaced}
 use Rattle.ioa_operators.specs.declared.shape.Shape.{Shape}
 use Rattle.ioa_terms.specs.Data.{Data, constant}
 use Rattle.ioa_terms.specs.Bindings.{Bindings, lookup, put, place_in, names_of, same_name, constants_from, environment}
@@ -103,8 +103,41 @@ names_environment names vs cs h = rw (map-append (λ (b : List ℕ × Data). b.0
 pub no_constants : (names : List (List ℕ)) (vs : List Data) → environment names vs [] ≡ zip names vs
 no_constants names vs = append-nil (zip names vs)
 
+-- the place of a name that stands among the first names
+pub place_among_first : (names : List (List ℕ)) (x : List ℕ) (p count : ℕ) → place_in x names ≡ Some p → p < count → place_in x (take count names) ≡ Some p
+place_among_first [] x p count h l = absurd (cc)
+place_among_first (n ∷ names) x p zero h l = absurd (omega arith)
+place_among_first (n ∷ names) x p (suc count) h l =
+    elim (placed_first (same_name x n) names x p h) [
+      | inl w ↦ rw (w.0, w.1) refl
+      | inr w ↦ rw (w.0, w.3, place_among_first names x w.1 count w.2 (omega arith)) (ap (λ k. Some k) (omega arith))
+    ]
+
+-- a place that may be assigned is one where more variables may be
+place_widely : {D : Type 0} (p : PlainPlace ℕ D) (xs more names : List (List ℕ)) → IsPlacedPlace p xs names → IsPlacedPlace p (xs ++ more) names
+place_widely (variable x at d) xs more names h = place_among_more xs more x at h
+place_widely (at_key x at d k) xs more names h = (place_among_more xs more x at h.0, h.1)
+place_widely (at_field x at d f) xs more names h = place_among_more xs more x at h
+
+mutual
+  -- the same of statements
+  statement_widely : {D : Type 0} (s : PlainStatement ℕ D) (xs more names : List (List ℕ)) → IsPlacedStatement s xs names → IsPlacedStatement s (xs ++ more) names
+  statement_widely (assign p t) xs more names h = (place_widely p xs more names h.0, h.1)
+  statement_widely (choose arms rest) xs more names h = (arms_widely arms xs more names h.0, all_widely rest xs more names h.1)
+  statement_widely (fire kind action arguments) xs more names h = tt
+
+  arms_widely : {D : Type 0} (arms : PlainArms ℕ D) (xs more names : List (List ℕ)) → AreArmsPlaced arms xs names → AreArmsPlaced arms (xs ++ more) names
+  arms_widely no_arms xs more names h = tt
+  arms_widely (arm t body others) xs more names h = (h.0, all_widely body xs more names h.1, arms_widely others xs more names h.2)
+
+  all_widely : {D : Type 0} (ss : PlainStatements ℕ D) (xs more names : List (List ℕ)) → AreAllPlaced ss xs names → AreAllPlaced ss (xs ++ more) names
+  all_widely no_statements xs more names h = tt
+  all_widely (statement s others) xs more names h = (statement_widely s xs more names h.0, all_widely others xs more names h.1)
+
+pub placed_widely : {D : Type 0} (ss : List (PlainStatement ℕ D)) (xs more names : List (List ℕ)) → ArePlaced ss xs names → ArePlaced ss (xs ++ more) names
+placed_widely [] xs more names h = tt
+placed_widely (s ∷ ss) xs more names h = (statement_widely s xs more names h.0, placed_widely ss xs more names h.1)
+
 -- a place of a variable is one among the names in view
 pub placed_among_more : (p : PlainPlace ℕ Shape) (names more : List (List ℕ)) → IsPlacedPlace p names (names ++ more) → IsPlacedPlace p (names ++ more) (names ++ more)
-placed_among_more (variable x at d) names more h = place_among_more names more x at h
-placed_among_more (at_key x at d k) names more h = (place_among_more names more x at h.0, h.1)
-placed_among_more (at_field x at d f) names more h = place_among_more names more x at h
+placed_among_more p names more h = place_widely p names more (names ++ more) h

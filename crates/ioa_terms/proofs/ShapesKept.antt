@@ -4,8 +4,9 @@ use Rattle.std.specs.Prelude.{slice_get, pos, int_le, int_lt, ◌+ℤ◌, ◌-�
 use Rattle.std.specs.Int.{int_div_euclid, int_rem_euclid}
 use Rattle.std.specs.List.{AllByRecursion}
 use Rattle.std.specs.Option.{IfSome, option_and_then, option_map, option_or}
-use Rattle.ioa_values.proofs.Ascending.{by_each}
-use Rattle.ioa_operators.proofs.Canonicals.{all_appended, all_with, all_without, all_of_list, all_of_either}
+use Rattle.ioa_values.proofs.AllOf.{all_appended}
+use Rattle.ioa_values.proofs.Ascending.{by_each, all_with, all_without}
+use Rattle.ioa_operators.proofs.Canonicals.{all_of_list, all_of_either, mapped, chained, mapped_any, chained_any}
 use Rattle.ioa_terms.specs.Data.{Data, Items, Entries, number, truth, tuple, sequence, finite_set, finite_map, no_items, item, no_entries, entry, list_of, pairs_of, items_of, entries_of, as_number, as_truth}
 use Rattle.ioa_terms.specs.DataOrder.{data_cmp}
 use Rattle.ioa_terms.specs.Collections.{with_member, without_member, set_of, union, value_at, with_entry, without_key}
@@ -18,6 +19,7 @@ use Rattle.ioa_operators.specs.declared.operator.Function.{Function}
 use Rattle.ioa_operators.specs.declared.operator.Function.TheVariants as function
 use Rattle.ioa_operators.specs.declared.shape.DisplayForm.{DisplayForm}
 use Rattle.ioa_operators.specs.declared.shape.DisplayForm.TheVariants.{Braces, Brackets}
+use Rattle.std.proofs.lemmas.Bool.{and_parts}
 
 -- a value has a shape; an entry has two
 abbrev pub Has : PlainShape → Data → Type 0
@@ -33,14 +35,10 @@ HaveEach [] (v ∷ vs) = ⊥
 HaveEach (x ∷ xs) [] = ⊥
 HaveEach (x ∷ xs) (v ∷ vs) = Has x v × HaveEach xs vs
 
-both_true : (a b : Bool) → (a && b) ≡ true → (a ≡ true) × (b ≡ true)
-both_true true b h = (refl, h)
-both_true false b h = absurd (cc)
-
 -- items that all have a shape are a list of values that do, and back
 all_items : (s : PlainShape) (ds : Items) → all_have s ds ≡ true → AllByRecursion (Has s) (list_of ds)
 all_items s no_items h = tt
-all_items s (item d ds) h = let p = both_true (has_shape s d) (all_have s ds) h in (p.0, all_items s ds p.1)
+all_items s (item d ds) h = let p = and_parts (has_shape s d) (all_have s ds) h in (p.0, all_items s ds p.1)
 
 items_all : (s : PlainShape) (ds : List Data) → AllByRecursion (Has s) ds → all_have s (items_of ds) ≡ true
 items_all s [] h = refl
@@ -49,8 +47,8 @@ items_all s (d ∷ ds) h = rw (h.0) (items_all s ds h.1)
 all_entries : (k v : PlainShape) (es : Entries) → entries_have k v es ≡ true → AllByRecursion (HasEntry k v) (pairs_of es)
 all_entries k v no_entries h = tt
 all_entries k v (entry x y es) h =
-    let p = both_true (has_shape k x) (has_shape v y && entries_have k v es) h in
-    let q = both_true (has_shape v y) (entries_have k v es) p.1 in
+    let p = and_parts (has_shape k x) (has_shape v y && entries_have k v es) h in
+    let q = and_parts (has_shape v y) (entries_have k v es) p.1 in
     ((p.0, q.0), all_entries k v es q.1)
 
 entries_all : (k v : PlainShape) (es : List (Data × Data)) → AllByRecursion (HasEntry k v) es → entries_have k v (entries_of es) ≡ true
@@ -88,24 +86,6 @@ value_at_has k v x [] h = tt
 value_at_has k v x (e ∷ es) h =
     by_each (λ (o : Option Data). IfSome o (Has v)) (data_cmp x e.0) None (Some e.1) (value_at x es)
     (λ l. tt) (λ l. h.0.1) (λ l. value_at_has k v x es h.1)
-
--- what is made of what is there, if anything is
-pub mapped : {A B : Type 0} (P : A → Type 0) (Q : B → Type 0) (f : A → B) (o : Option A) → IfSome o P → ((a : A) → P a → Q (f a)) → IfSome (option_map f o) Q
-mapped P Q f None h g = tt
-mapped P Q f (Some a) h g = g a h
-
-pub chained : {A B : Type 0} (P : A → Type 0) (Q : B → Type 0) (f : A → Option B) (o : Option A) → IfSome o P → ((a : A) → P a → IfSome (f a) Q) → IfSome (option_and_then f o) Q
-chained P Q f None h g = tt
-chained P Q f (Some a) h g = g a h
-
--- the same of anything that is there
-mapped_any : {A B : Type 0} (Q : B → Type 0) (f : A → B) (o : Option A) → ((a : A) → Q (f a)) → IfSome (option_map f o) Q
-mapped_any Q f None g = tt
-mapped_any Q f (Some a) g = g a
-
-chained_any : {A B : Type 0} (Q : B → Type 0) (f : A → Option B) (o : Option A) → ((a : A) → IfSome (f a) Q) → IfSome (option_and_then f o) Q
-chained_any Q f None g = tt
-chained_any Q f (Some a) g = g a
 
 pub one_or_other : (P : Data → Type 0) (o p : Option Data) → IfSome o P → IfSome p P → IfSome (option_or o p) P
 one_or_other P None p h g = g
@@ -190,16 +170,16 @@ rest_has s [] h = tt
 rest_has s (d ∷ ds) h = items_all s ds h.1
 
 -- values of one, two and three shapes are one, two and three
-one_value : (Q : List Data → Type 0) (x : PlainShape) → ((v : Data) → Has x v → Q (v ∷ [])) → (vs : List Data) → HaveEach (x ∷ []) vs → Q vs
+pub one_value : (Q : List Data → Type 0) (x : PlainShape) → ((v : Data) → Has x v → Q (v ∷ [])) → (vs : List Data) → HaveEach (x ∷ []) vs → Q vs
 one_value Q x g [] h = absurd h
 one_value Q x g (v ∷ []) h = g v h.0
 one_value Q x g (v ∷ (w ∷ ws)) h = absurd h.1
 
-two_values : (Q : List Data → Type 0) (x y : PlainShape) → ((v w : Data) → Has x v → Has y w → Q (v ∷ w ∷ [])) → (vs : List Data) → HaveEach (x ∷ y ∷ []) vs → Q vs
+pub two_values : (Q : List Data → Type 0) (x y : PlainShape) → ((v w : Data) → Has x v → Has y w → Q (v ∷ w ∷ [])) → (vs : List Data) → HaveEach (x ∷ y ∷ []) vs → Q vs
 two_values Q x y g [] h = absurd h
 two_values Q x y g (v ∷ vs) h = one_value (λ ws. Q (v ∷ ws)) y (λ w k. g v w h.0 k) vs h.1
 
-three_values : (Q : List Data → Type 0) (x y z : PlainShape) → ((u v w : Data) → Has x u → Has y v → Has z w → Q (u ∷ v ∷ w ∷ [])) → (vs : List Data) → HaveEach (x ∷ y ∷ z ∷ []) vs → Q vs
+pub three_values : (Q : List Data → Type 0) (x y z : PlainShape) → ((u v w : Data) → Has x u → Has y v → Has z w → Q (u ∷ v ∷ w ∷ [])) → (vs : List Data) → HaveEach (x ∷ y ∷ z ∷ []) vs → Q vs
 three_values Q x y z g [] h = absurd h
 three_values Q x y z g (u ∷ vs) h = two_values (λ ws. Q (u ∷ ws)) y z (λ v w k l. g u v w h.0 k l) vs h.1
 
@@ -254,7 +234,7 @@ all_alike x [] (v ∷ vs) e h = absurd h
 all_alike x (y ∷ ys) [] e h = absurd h
 all_alike x (y ∷ ys) (v ∷ vs) e h = (subst (λ (s : PlainShape). Has s v) e.0 h.0, all_alike x ys vs e.1 h.1)
 
-no_values : (Q : List Data → Type 0) → Q [] → (xs : List PlainShape) (vs : List Data) → xs ≡ [] → HaveEach xs vs → Q vs
+pub no_values : (Q : List Data → Type 0) → Q [] → (xs : List PlainShape) (vs : List Data) → xs ≡ [] → HaveEach xs vs → Q vs
 no_values Q q [] [] e h = q
 no_values Q q [] (v ∷ vs) e h = absurd h
 no_values Q q (x ∷ xs) vs e h = absurd (cc)
@@ -286,14 +266,14 @@ mutual
   counted_all : (s : PlainShape) (ds : Items) → all_have s ds ≡ true → all_have (counted s) ds ≡ true
   counted_all s no_items h = refl
   counted_all s (item d ds) h =
-      let p = both_true (has_shape s d) (all_have s ds) h in
+      let p = and_parts (has_shape s d) (all_have s ds) h in
       rw (counted_has s d p.0) (counted_all s ds p.1)
 
   counted_entries : (x y : PlainShape) (es : Entries) → entries_have x y es ≡ true → entries_have (counted x) (counted y) es ≡ true
   counted_entries x y no_entries h = refl
   counted_entries x y (entry k v es) h =
-      let p = both_true (has_shape x k) (has_shape y v && entries_have x y es) h in
-      let q = both_true (has_shape y v) (entries_have x y es) p.1 in
+      let p = and_parts (has_shape x k) (has_shape y v && entries_have x y es) h in
+      let q = and_parts (has_shape y v) (entries_have x y es) p.1 in
       rw (counted_has x k p.0, counted_has y v q.0) (counted_entries x y es q.1)
 
 -- the field at a place has the shape at that place
@@ -301,10 +281,10 @@ part_has : (ss : PlainShapes) (ds : Items) (i : ℕ) (s : PlainShape) → have_s
 part_has ss no_items i s h e = tt
 part_has no_shapes (item d ds) i s h e = absurd (cc)
 part_has (shape x ss) (item d ds) zero s h e =
-    let p = both_true (has_shape x d) (have_shapes ss ds) h in
+    let p = and_parts (has_shape x d) (have_shapes ss ds) h in
     let f : counted x ≡ s = cc in
     subst (λ (z : PlainShape). Has z d) f (counted_has x d p.0)
-part_has (shape x ss) (item d ds) (suc i) s h e = part_has ss ds i s (both_true (has_shape x d) (have_shapes ss ds) h).1 e
+part_has (shape x ss) (item d ds) (suc i) s h e = part_has ss ds i s (and_parts (has_shape x d) (have_shapes ss ds) h).1 e
 
 named_part_has : (ss : PlainShapes) (ds : Items) (o : Option ℕ) (s : PlainShape) → have_shapes ss ds ≡ true → option_map counted (option_and_then (slice_get (listed_shapes ss)) o) ≡ Some s → IfSome (option_and_then (slice_get (list_of ds)) o) (Has s)
 named_part_has ss ds None s h e = tt

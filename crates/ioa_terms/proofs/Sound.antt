@@ -10,8 +10,9 @@ use Rattle.ioa_terms.specs.PlainTerm as plain
 use Rattle.ioa_terms.specs.PlainTerm.{PlainTerm, PlainTerms, name, one, two, call, display, field, no_terms, term}
 use Rattle.ioa_terms.specs.Meaning.{value, values, called}
 use Rattle.ioa_terms.specs.Sorted.{Shaped, shape_named, counted, HasShape, HaveShapes, IsShaped}
-use Rattle.ioa_terms.proofs.ShapesKept.{Has, HaveEach, counted_has, mapped, chained, one_or_other, unary_has, decided_has, binary_has, function_has, display_has, field_has}
+use Rattle.ioa_terms.proofs.ShapesKept.{Has, HaveEach, counted_has, one_or_other, unary_has, decided_has, binary_has, function_has, display_has, field_has}
 use Rattle.ioa_operators.specs.declared.shape.Shape.{Shape}
+use Rattle.ioa_operators.proofs.Canonicals.{mapped, chained}
 
 each : (P : Data → Type 0) (o : Option Data) → ((v : Data) → o ≡ Some v → P v) → IfSome o P
 each P None g = tt

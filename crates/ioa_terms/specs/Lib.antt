@@ -19,6 +19,7 @@ pub mod Performance
 pub mod Placed
 pub mod Bounded
 pub mod Sorted
+pub mod Undefined
 pub mod Ascending
 pub mod Actions
 pub mod ActionText

@@ -16,7 +16,7 @@ pub use environment::{Env, Slot};
 pub use evaluation::eval;
 pub use ioa_operators::{BinaryOperator, DisplayForm, Function, Shape, TermFault, UnaryOperator};
 pub use ioa_values::{Names, Value, Word, show};
-pub use laws::{ascending_law, shapes_law};
+pub use laws::{ascending_law, defined_law, put_law, shapes_law};
 pub use performance::perform;
 pub use text::{push_listed, show_action, show_node_action};
 pub use tree::{Arm, Checked, Kind, Place, Statement, Term, Tree};

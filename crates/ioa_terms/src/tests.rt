@@ -1,5 +1,5 @@
-//! The value of each operator, function and display at a case of its own, and what statements leave.
-//! Terms are written with each operator behind its parts.
+//! The value of each operator, function and display at a case of its own, what statements leave, and how
+//! actions of one node are shown. Terms are written with each operator behind its parts.
 
 ghost use Rattle.std.specs.Prelude.{◌≡◌, ◌≤◌, IsTrue, Some, map, length};
 ghost use Rattle.ioa_terms.specs.Bindings.{place_in};
@@ -8,8 +8,9 @@ ghost use Rattle.ioa_terms.specs.PlainTerm.{terms_of, statements_of, arms_of};
 ghost use Rattle.ioa_terms.specs.View.{term_of, place_of, statement_of, arm_of};
 
 use crate::{
-    Arm, BinaryOperator, Checked, DisplayForm, Env, Names, Place, Shape, Statement, TermFault,
-    UnaryOperator, Value, Word, eval, perform, push_listed, show,
+    Action, Arm, BinaryOperator, Checked, DisplayForm, Env, Names, NodeAction, Place, Shape,
+    Statement, TermFault, UnaryOperator, Value, Values, Word, eval, perform, push_listed, show,
+    show_action, show_node_action,
 };
 use ioa_values::Node;
 use std::alloc::{AllocError, Global};
@@ -166,6 +167,13 @@ static CHOICES: [(&str, &str, &str); 6] = [
     ("true", "seq/0 head/1", "10"),
     ("1", "true", "Undefined"),
     ("false", "9223372036854775807 1 + 0 =", "Range"),
+];
+
+/// The node of an action, whether it has arguments, and its text.
+static ACTIONS: [(i64, bool, &str); 3] = [
+    (3, true, "a(1, {2})@3"),
+    (3, false, "a@3"),
+    (-1, false, "a@-1"),
 ];
 
 /// A word of ASCII letters.
@@ -589,6 +597,45 @@ fn choices(rt: HostRuntime) -> Result<(), Fail> {
         assert_eq!(rt; names.len(), values.len());
         let found = left(alloc, &effect, &names, values)?;
         assert_eq!(rt; found.as_str(), *wanted, "{first} {second}");
+    }
+    Ok(())
+}
+
+/// An action of a node: `a` with the arguments 1 and {2}, or with none.
+fn node_action(alloc: Global, node: i64, has_arguments: bool) -> Result<NodeAction, Fail> {
+    let mut arguments = Vec::new(alloc);
+    if has_arguments {
+        let mut items = Vec::new(alloc);
+        items.push(Value::number(2))?;
+        arguments.push(Value::number(1))?;
+        arguments.push(Value::sequence(items))?;
+    }
+    Ok(NodeAction {
+        node,
+        name: word(alloc, "a")?,
+        arguments: Values::from_vec(arguments),
+    })
+}
+
+#[test]
+fn actions(rt: HostRuntime) -> Result<(), Fail> {
+    let alloc = rt.alloc();
+    let names = Names::none(alloc);
+    for (node, has_arguments, wanted) in &ACTIONS {
+        let action = node_action(alloc, *node, *has_arguments)?;
+        let copy = action.try_copy(alloc)?;
+        assert!(rt; copy.equals(&action), "{wanted}");
+        let shown = show_node_action(alloc, &names, &copy)?;
+        assert_eq!(rt; shown.as_str(), *wanted);
+        let local = Action::Local(action);
+        let stimulus = Action::Stimulus(copy);
+        assert!(rt; !stimulus.equals(&local), "{wanted}");
+        for whole in &[local, stimulus] {
+            let copy = whole.try_copy(alloc)?;
+            assert!(rt; copy.equals(whole), "{wanted}");
+            let shown = show_action(alloc, &names, &copy)?;
+            assert_eq!(rt; shown.as_str(), *wanted);
+        }
     }
     Ok(())
 }

@@ -1,3 +1,4 @@
+use Rattle.ioa_terms.proofs.Negatives.{has_but_for_signs}
 use Rattle.ioa_terms.proofs.ShapesKept.{counted_has}
 use Rattle.ioa_terms.proofs.Sound.{value_has}
 use Rattle.ioa_terms.proofs.laws.shapes_law.Goals as goal
@@ -7,3 +8,6 @@ returns-clause-kept c = value_has
 
 pub returns-clause-counted : goal.returns-clause-counted
 returns-clause-counted c = counted_has
+
+pub returns-clause-signs : goal.returns-clause-signs
+returns-clause-signs c = has_but_for_signs
