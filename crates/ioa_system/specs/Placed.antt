@@ -41,13 +41,14 @@ IsPlacedGuard None names = Unit {0}
 IsPlacedGuard (Some t) names = IsPlaced t names
 
 -- a rule in which the names that its step reads or assigns stand beside the places of their values: those of constant
--- parameters, of the entry's condition, of guard and of effect. No step reads the arguments of the head.
+-- parameters, of the entry's condition, of guard and of effect, which assigns state variables alone. No step reads the
+-- arguments of the head.
 pub record IsPlacedRule (vs : List CheckedVariable) (r : Rule) : Type 0 where
   pub scope : r.scope ≡ scope_of (entry_of r.entry) vs
   pub parameters : ArePlacedParameters (entry_of r.entry).parameters
   pub condition : IsPlacedGuard (entry_of r.entry).condition r.scope
   pub guard : IsPlacedGuard (transition_of r.transition).pre r.scope
-  pub effect : ArePlaced (transition_of r.transition).effect r.scope r.scope
+  pub effect : ArePlaced (transition_of r.transition).effect (variable_names vs) r.scope
 
 -- each of terms is placed among these names
 abbrev pub ArePlacedTerms : List CheckedTerm → List (List ℕ) → Type 0
