@@ -1,6 +1,5 @@
 -- The automata among declarations, one declaration after another.
 use Rattle.std.proofs.Common.{◌≡◌, ℕ, ◌+◌, ◌<◌, List, [], ◌∷◌, ◌++◌, sym, ◌∙◌, ap, length, map, take, get_or}
-use Rattle.std.specs.List.{AllByRecursion}
 use Rattle.std.proofs.lemmas.List.{take_more, map-append, append_assoc, append-nil}
 use Rattle.ioa_source.specs.declared.declaration.Declaration.{Declaration}
 use Rattle.ioa_source.specs.TextView.{declaration_of}
@@ -17,8 +16,3 @@ automata_append (e ∷ ds) d =
 pub automata_take : (ys : List (Declaration (Unit {0}) (Unit {0}))) (i : ℕ) (y : Declaration (Unit {0}) (Unit {0})) → i < length ys → y ≡ get_or ys i y → automata_in (map declaration_of (take (i + 1) ys)) ≡ automata_in (map declaration_of (take i ys)) ++ automaton_in (declaration_of y)
 automata_take ys i y within at =
     rw (take_more ys i y within, map-append declaration_of (take i ys) (get_or ys i y ∷ []), ← at) (automata_append (map declaration_of (take i ys)) (declaration_of y))
-
--- the items of two lists with a property
-pub each_concat : {A : Type 0} (P : A → Type 0) (xs ys : List A) → AllByRecursion P xs → AllByRecursion P ys → AllByRecursion P (xs ++ ys)
-each_concat P [] ys h k = k
-each_concat P (x ∷ xs) ys h k = (h.0, each_concat P xs ys h.1 k)

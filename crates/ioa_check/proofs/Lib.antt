@@ -3,6 +3,8 @@ pub mod Automata
 pub mod Loops
 pub mod Names
 pub mod Nodes
+pub mod NoneStands
 pub mod Parts
 pub mod Refused
 pub mod Rows
+pub mod Shaped

@@ -3,11 +3,11 @@ use Rattle.std.proofs.Common.{◌≡◌, ℕ, ◌+◌, ◌<◌, List, [], ◌∷
 use Rattle.std.specs.List.{list_all, list_any}
 use Rattle.std.specs.List.{AllByRecursion}
 use Rattle.std.proofs.lemmas.List.{take_more, map-append}
+use Rattle.ioa_values.proofs.AllOf.{all_appended}
 
 -- one more item with a property
 pub each_append : {A : Type 0} (P : A → Type 0) (xs : List A) (x : A) → AllByRecursion P xs → P x → AllByRecursion P (xs ++ x ∷ [])
-each_append P [] x h p = (p, tt)
-each_append P (y ∷ xs) x h p = (h.0, each_append P xs x h.1 p)
+each_append P xs x h p = all_appended P xs (x ∷ []) h (p, tt)
 
 -- the same, of what the items stand for
 pub each_push : {A B : Type 0} (P : B → Type 0) (f : A → B) (xs : List A) (x : A) → AllByRecursion P (map f xs) → P (f x) → AllByRecursion P (map f (xs ++ x ∷ []))

@@ -1,8 +1,9 @@
 -- Names that stand beside their places are in view.
-use Rattle.std.proofs.Common.{◌≡◌, ◌<◌, ℕ, zero, suc, ◌+◌, Bool, true, false, ◌||◌, List, [], ◌∷◌, Option, Some, None, refl, take, arith, if◌then◌else◌}
+use Rattle.std.proofs.Common.{◌≡◌, ◌<◌, ℕ, ◌+◌, Bool, true, false, ◌||◌, List, [], ◌∷◌, Option, Some, None, refl, take, if◌then◌else◌}
 use Rattle.std.specs.List.{list_any}
 use Rattle.std.specs.Option.{option_map}
 use Rattle.ioa_terms.specs.Bindings.{place_in, same_name}
+use Rattle.ioa_terms.proofs.Places.{place_among_first}
 
 -- a name that has a place is one of the names
 pub any_place : (x : List ℕ) (names : List (List ℕ)) (at : ℕ) → place_in x names ≡ Some at → list_any (same_name x) names ≡ true
@@ -19,14 +20,4 @@ any_place x (y ∷ ys) at h = by_test (same_name x y) (λ k e. any_place x ys k 
 
 -- a name that has one of the first places is one of the first names
 pub any_first_place : (x : List ℕ) (names : List (List ℕ)) (at count : ℕ) → place_in x names ≡ Some at → at < count → list_any (same_name x) (take count names) ≡ true
-any_first_place x [] at count h l = absurd (cc)
-any_first_place x (y ∷ ys) at zero h l = absurd (omega arith)
-any_first_place x (y ∷ ys) at (suc count) h l = by_test (same_name x y) (λ k e m. any_first_place x ys k count e m) h
-  where
-    by_place : (o : Option ℕ) → place_in x ys ≡ o → ((k : ℕ) → place_in x ys ≡ Some k → k < count → list_any (same_name x) (take count ys) ≡ true) → option_map (λ k. k + 1) o ≡ Some at → list_any (same_name x) (take count ys) ≡ true
-    by_place None e further h = absurd (cc)
-    by_place (Some k) e further h = let next : k + 1 ≡ at = cc in further k e (omega arith)
-
-    by_test : (b : Bool) → ((k : ℕ) → place_in x ys ≡ Some k → k < count → list_any (same_name x) (take count ys) ≡ true) → (if b then Some 0 else option_map (λ k. k + 1) (place_in x ys)) ≡ Some at → (b || list_any (same_name x) (take count ys)) ≡ true
-    by_test true further h = refl
-    by_test false further h = by_place (place_in x ys) refl further h
+any_first_place x names at count h l = any_place x (take count names) at (place_among_first names x at count h l)

@@ -4,8 +4,8 @@ use Rattle.std.proofs.lemmas.Bool.Decides.{nat_tests}
 use Rattle.std.proofs.lemmas.List.{take_more, take-append-drop, map-append, length-map}
 use Rattle.std.proofs.lemmas.List.Folds.{list_all_at}
 use Rattle.std.proofs.Math.ListN.{get_or-map}
-use Rattle.std.specs.Prelude.{◌&&◌, nat_eq, not}
-use Rattle.std.specs.List.{AllByRecursion, IsDistinct, list_all, list_any}
+use Rattle.std.specs.Prelude.{nat_eq, not}
+use Rattle.std.specs.List.{IsDistinct, list_all, list_any}
 use Rattle.std.specs.Option.{option_map}
 use Rattle.ioa_terms.specs.Bindings.{place_in, same_name}
 use Rattle.ioa_check.specs.declared.refusal.Refusal.{Refusal}
@@ -13,6 +13,7 @@ use Rattle.ioa_check.specs.declared.refusal.Refusal.TheVariants as refusal
 use Rattle.ioa_check.specs.declared.refusal.Row.{Row}
 use Rattle.ioa_check.specs.declared.refusal.Row.TheVariants as row
 use Rattle.ioa_check.specs.Standing.{Answered, Fails, Only, Refuses, fault_at}
+use Rattle.ioa_values.proofs.AllOf.{all_parts}
 
 -- what follows from what a refusal says
 pub refuses_weaker : {P Q : Row → Type 0} → ((r : Row) → P r → Q r) → (e : Refusal) → Refuses P e → Refuses Q e
@@ -60,28 +61,18 @@ pub fails_each : {A B : Type 0} (p q : B → Bool) (f : A → B) (ys : List A) (
 fails_each p q f ys i y e h within at =
     refuses_weaker (fails_weaker (Fails (list_all p (map f ys)) (list_all q (map f ys))) (λ k. all_fails p f ys i y k within at) (λ k. all_fails q f ys i y k within at)) e h
 
--- the first items of a list with a property
-each_first : {A : Type 0} (P : A → Type 0) (xs ys : List A) → AllByRecursion P (xs ++ ys) → AllByRecursion P xs
-each_first P [] ys h = tt
-each_first P (x ∷ xs) ys h = (h.0, each_first P xs ys h.1)
-
--- the last item of a list with a property
-each_last : {A : Type 0} (P : A → Type 0) (xs : List A) (y : A) → AllByRecursion P (xs ++ y ∷ []) → P y
-each_last P [] y h = h.0
-each_last P (x ∷ xs) y h = each_last P xs y h.1
-
 -- the first items of a list differ where all do
 distinct_first : {A : Type 0} (e : A → A → Bool) (xs ys : List A) → IsDistinct e (xs ++ ys) → IsDistinct e xs
 unfolding IsDistinct
 distinct_first e [] ys d = tt
-distinct_first e (x ∷ xs) ys d = (each_first (λ y. e x y ≡ false) xs ys d.0, distinct_first e xs ys d.1)
+distinct_first e (x ∷ xs) ys d = ((all_parts (λ y. e x y ≡ false) xs ys d.0).0, distinct_first e xs ys d.1)
 
 -- an item to which one before it is equal
 repeats_push : {A : Type 0} (e : A → A → Bool) (xs : List A) (y : A) → list_any (λ x. e x y) xs ≡ true → IsDistinct e (xs ++ y ∷ []) → ⊥
 unfolding IsDistinct
 repeats_push e [] y h d = absurd (cc)
 repeats_push {A} e (x ∷ xs) y h d =
-    let differs : e x y ≡ false = each_last (λ (z : A). e x z ≡ false) xs y d.0 in
+    let differs : e x y ≡ false = (all_parts (λ (z : A). e x z ≡ false) xs (y ∷ []) d.0).1.0 in
     let later : list_any (λ z. e z y) xs ≡ true = rw differs at h in
     repeats_push e xs y later d.1
 
@@ -194,14 +185,6 @@ later_place x (y ∷ ys) at (suc count) h l = by_test (same_name x y) (λ k e m.
     by_test : (b : Bool) → ((k : ℕ) → Some k ≡ place_in x ys → count ≤ k → list_any (same_name x) (take count ys) ≡ false) → Some at ≡ (if b then Some 0 else option_map (λ k. k + 1) (place_in x ys)) → (b || list_any (same_name x) (take count ys)) ≡ false
     by_test true further h = let same : 0 ≡ at = cc in absurd (omega arith)
     by_test false further h = by_place (place_in x ys) refl further h
-
--- a test that fails beside others
-pub left_fails : (a b : Bool) → a ≡ false → (a && b) ≡ false
-left_fails a b h = rw h refl
-
-pub right_fails : (a b : Bool) → b ≡ false → (a && b) ≡ false
-right_fails true b h = h
-right_fails false b h = refl
 
 -- what a test that failed says
 pub from_not : (fresh old : Bool) → fresh ≡ not old → fresh ≡ false → old ≡ true

@@ -1,5 +1,5 @@
 -- Facts of a text, from those of what is made of it.
-use Rattle.std.proofs.Common.{◌≡◌, ◌≢◌, ◌<◌, ◌≤◌, ◌+◌, ℕ, zero, suc, pos, Bool, true, false, ◌||◌, List, [], ◌∷◌, ◌++◌, refl, sym, ap, subst, ◌∙◌, length, map, take, get_or, arith, Contains}
+use Rattle.std.proofs.Common.{◌≡◌, ◌≢◌, ◌<◌, ◌≤◌, ◌+◌, ℕ, zero, suc, pos, Bool, true, false, List, [], ◌∷◌, ◌++◌, refl, sym, ap, subst, ◌∙◌, length, map, take, get_or, arith, Contains}
 use Rattle.std.proofs.lemmas.List.{take_more, map-append, length-map}
 use Rattle.std.proofs.Math.Seq.{take-append_seam}
 use Rattle.std.specs.Prelude.{◌&&◌}
@@ -13,6 +13,7 @@ use Rattle.ioa_source.specs.Sides.{CheckedEntry, CheckedParameter, CheckedVariab
 use Rattle.ioa_system.specs.Placed.{own_names, variable_names, scope_of}
 use Rattle.ioa_check.specs.Rows.{HasNoEntryRow}
 use Rattle.ioa_check.proofs.Loops.{each_append}
+use Rattle.std.proofs.lemmas.Bool.{or_parts}
 
 -- lists of two lengths agree nowhere
 pub pointwise_short : {A B : Type 0} (E : A → B → Bool) (xs : List A) (ys : List B) → length xs ≢ length ys → pointwise E xs ys ≡ false
@@ -52,16 +53,12 @@ entries_erased a vs same h =
     let names : variable_names vs ≡ variable_names a.states = sym (variable_names-erase vs) ∙ ap (λ (xs : List SourceVariable). variable_names xs) same in
     subst (λ (ns : List (List ℕ)). AllByRecursion (HasNoEntryRow ns a.transitions) a.signature) names h
 
-neither : (a b : Bool) → (a || b) ≡ false → (a ≡ false) × (b ≡ false)
-neither true b h = absurd (cc)
-neither false b h = (refl, h)
-
 -- one more item, which no other is equal to
 distinct_push : {A : Type 0} (e : A → A → Bool) (xs : List A) (y : A) → IsDistinct e xs → list_any (λ x. e x y) xs ≡ false → IsDistinct e (xs ++ y ∷ [])
 unfolding IsDistinct
 distinct_push e [] y d h = (tt, tt)
 distinct_push {A} e (x ∷ xs) y d h =
-    let both : (e x y ≡ false) × (list_any (λ z. e z y) xs ≡ false) = neither (e x y) (list_any (λ z. e z y) xs) h in
+    let both : (e x y ≡ false) × (list_any (λ z. e z y) xs ≡ false) = or_parts (e x y) (list_any (λ z. e z y) xs) h in
     (each_append (λ (z : A). e x z ≡ false) xs y d.0 both.0, distinct_push e xs y d.1 both.1)
 
 -- one more of the first items of a list

@@ -1,15 +1,15 @@
 -- The first form of the language (profile): what a checked system can be made of. What stands outside it is refused 20.
-use Rattle.std.specs.Prelude.{ℕ, Bool, true, false, ◌&&◌, not, nat_eq, codes, slice_get, List, Option, Some, None, length}
+use Rattle.std.specs.Prelude.{ℕ, Bool, true, false, ◌&&◌, ◌||◌, not, nat_eq, codes, slice_get, List, Option, Some, None, length}
 use Rattle.std.specs.List.{list_all}
 use Rattle.std.specs.Option.{is_some}
 use Rattle.ioa_terms.specs.Bindings.{same_name}
 use Rattle.ioa_terms.specs.declared.tree.Kind.{Kind}
 use Rattle.ioa_terms.specs.declared.tree.Kind.TheVariants.{Input, Output, Internal}
 use Rattle.ioa_source.specs.PlainSort.{PlainSort, integers}
-use Rattle.ioa_source.specs.PlainTerm.{number, name, two, variable, at_key, at_field, assign, choose, fire}
+use Rattle.ioa_source.specs.PlainTerm.{number, variable, at_key, at_field, assign, choose, fire}
 use Rattle.ioa_source.specs.PlainText.{const, named, type_named, automaton, node, channel}
 use Rattle.ioa_source.specs.Sides.{SourceAutomaton, SourceDeclaration, SourceEntry, SourceParameter, SourcePlace, SourcePlacement, SourceStatement, SourceTerm, SourceTransition, SourceVariable}
-use Rattle.ioa_check.specs.FirstSorts.{is_first}
+use Rattle.ioa_check.specs.FirstSorts.{is_number, is_guard}
 
 -- the test of what there is
 abbrev pub passes : {A : Type 0} → (A → Bool) → Option A → Bool
@@ -31,12 +31,9 @@ abbrev pub is_numeral : SourceTerm → Bool
 is_numeral (number n) = true
 is_numeral _ = false
 
--- a number, a name, or `+` or `=` between two terms of the first form
+-- a term of the first form: a sum of numbers and names, or `=` between two of them
 abbrev pub is_first_term : SourceTerm → Bool
-is_first_term (number n) = true
-is_first_term (name x at) = true
-is_first_term (two f a b) = is_first f && (is_first_term a && is_first_term b)
-is_first_term _ = false
+is_first_term t = is_number t || is_guard t
 
 -- a message: a name of sort Int
 abbrev pub is_message : SourceParameter → Bool

@@ -13,7 +13,7 @@ use Rattle.ioa_source.specs.PlainTerm.{number, name, two, variable, at_key, at_f
 use Rattle.ioa_source.specs.PlainText.{const, named}
 use Rattle.ioa_check.specs.FirstSorts.{is_first, is_number, is_guard}
 use Rattle.ioa_system.specs.Placed.{own_names, variable_names}
-use Rattle.ioa_check.specs.FirstForm.{is_first_declaration, is_first_placement, passes}
+use Rattle.ioa_check.specs.FirstForm.{is_first_declaration, is_first_placement, passes_or_none}
 use Rattle.ioa_check.specs.Made.{same_kind, transition_for, automata_in, automaton_named, nodes_in, channels_in}
 use Rattle.ioa_source.specs.declared.declaration.Channel.{Channel}
 use Rattle.ioa_source.specs.Sides.{SourceAutomaton, SourceDeclaration, SourceEntry, SourceNode, SourceParameter, SourcePlace, SourceStatement, SourceTerm, SourceText, SourceTransition}
@@ -28,23 +28,27 @@ fires_entry es (assign p t) = false
 fires_entry es (choose arms rest) = false
 fires_entry es (fire k x ts) = list_any (λ e. same_name e.name x) es
 
--- 22: a firing has as many arguments as its entry
+-- an entry of this name has so many parameters
+abbrev pub takes_as_many : List ℕ → ℕ → SourceEntry → Bool
+takes_as_many x n e = not (same_name e.name x) || nat_eq (length e.parameters) n
+
+-- 22: a firing has as many arguments as the entries of its name
 abbrev pub fires_as_many : List SourceEntry → SourceStatement → Bool
-fires_as_many es (assign p t) = false
-fires_as_many es (choose arms rest) = false
-fires_as_many es (fire k x ts) = list_any (λ e. same_name e.name x && nat_eq (length e.parameters) (length ts)) es
+fires_as_many es (assign p t) = true
+fires_as_many es (choose arms rest) = true
+fires_as_many es (fire k x ts) = list_all (takes_as_many x (length ts)) es
 
 -- 22: the arguments of a firing are numbers
 abbrev pub fires_numbers : SourceStatement → Bool
-fires_numbers (assign p t) = false
-fires_numbers (choose arms rest) = false
+fires_numbers (assign p t) = true
+fires_numbers (choose arms rest) = true
 fires_numbers (fire k x ts) = list_all is_number ts
 
 -- 22: an assigned term is a number
 abbrev pub assigns_number : SourceStatement → Bool
 assigns_number (assign p t) = is_number t
-assigns_number (choose arms rest) = false
-assigns_number (fire k x ts) = false
+assigns_number (choose arms rest) = true
+assigns_number (fire k x ts) = true
 
 -- 22: a constant is a number
 abbrev pub is_number_constant : SourceParameter → Bool
@@ -135,8 +139,9 @@ pub record HasNoEntryRow (names : List (List ℕ)) (ts : List SourceTransition) 
 
 -- an automaton
 pub record HasNoAutomatonRow (a : SourceAutomaton) : Type 0 where
-  -- 21: its entries' names differ, and its transitions' names
+  -- 21: its entries' names differ, its state variables', and its transitions'
   pub entries_differ : IsDistinct same_name (map (λ e. e.name) a.signature)
+  pub variables_differ : IsDistinct same_name (variable_names a.states)
   pub transitions_differ : IsDistinct same_name (map (λ t. t.name) a.transitions)
   -- 20: its transitions and firings are of entries
   pub transitions : list_all (has_entry a.signature) a.transitions ≡ true
@@ -172,21 +177,21 @@ is_at_home k e =
     (not (same_name e.name (codes "send")) || is_constant (slice_get e.parameters 1) k)
     && (not (same_name e.name (codes "receive")) || is_constant (slice_get e.parameters 2) k)
 
--- 34: the sends of a node's automaton are from that node, and its receives to it
+-- 34: the sends of a node's automaton, where it is declared, are from that node, and its receives to it
 abbrev pub has_its_own : List SourceDeclaration → SourceNode → Bool
-has_its_own ds n = passes (λ a. list_all (is_at_home n.number) a.signature) (automaton_named n.automaton ds)
+has_its_own ds n = passes_or_none (λ a. list_all (is_at_home n.number) a.signature) (automaton_named n.automaton ds)
 
 -- 28: an automaton has a `receive` from a node
 abbrev pub takes_from : ℤ → SourceAutomaton → Bool
 takes_from k a = list_any (λ e. same_name e.name (codes "receive") && is_constant (slice_get e.parameters 1) k) a.signature
 
--- 28: a node is the receiver of a channel and takes messages of its sender
-abbrev pub is_receiver : List SourceDeclaration → Channel → SourceNode → Bool
-is_receiver ds c n = int_eq n.number c.to && passes (takes_from c.from) (automaton_named n.automaton ds)
+-- 28: a node that is the receiver of a channel takes messages of its sender, where its automaton is declared
+abbrev pub receives_if_receiver : List SourceDeclaration → Channel → SourceNode → Bool
+receives_if_receiver ds c n = not (int_eq n.number c.to) || passes_or_none (takes_from c.from) (automaton_named n.automaton ds)
 
--- 28: the receiver of a channel takes messages of its sender
+-- 28: each node that is the receiver of a channel takes messages of its sender
 abbrev pub has_input : List SourceDeclaration → List SourceNode → Channel → Bool
-has_input ds ns c = list_any (is_receiver ds c) ns
+has_input ds ns c = list_all (receives_if_receiver ds c) ns
 
 -- 20: a number is that of a node
 abbrev pub is_node : List SourceNode → ℤ → Bool

@@ -6,6 +6,7 @@ use lib.Pointwise.{pointwise}
 use Rattle.ioa_operators.specs.declared.fault.TermFault.{TermFault}
 use Rattle.ioa_operators.specs.declared.shape.Shape.{Shape}
 use Rattle.ioa_terms.specs.Bindings.{same_name}
+use Rattle.ioa_terms.specs.Meaning.{answer}
 use Rattle.ioa_terms.specs.declared.tree.Kind.TheVariants.{Input}
 use Rattle.ioa_source.specs.Erasure.{erase_variable}
 use Rattle.ioa_source.specs.PlainText.{const, named}
@@ -21,7 +22,7 @@ use Rattle.ioa_check.specs.declared.refusal.Row.{Row}
 use Rattle.ioa_check.specs.declared.refusal.Row.TheVariants as row
 use Rattle.ioa_check.specs.FirstForm.{is_first_declaration, is_first_placement, is_first_sort, passes_or_none}
 use Rattle.ioa_check.specs.FirstSorts.{is_number}
-use Rattle.ioa_check.specs.Made.{automata_in, channels_in, nodes_in, same_kind, term_answer, transition_for}
+use Rattle.ioa_check.specs.Made.{automata_in, channels_in, nodes_in, same_kind, transition_for}
 use Rattle.ioa_check.specs.Rows as rows
 
 -- this stands where a row is refused; a refusal for want of memory says nothing
@@ -92,10 +93,15 @@ StandsInEntry names ts e _ = ⊥
 abbrev pub StandsInEntries : List (List ℕ) → List SourceTransition → List SourceEntry → Row → Type 0
 StandsInEntries names ts es r = (e : SourceEntry) × Contains es e × StandsInEntry names ts e r
 
+-- an initial term that has no value
+abbrev pub LacksValue : Option CheckedTerm → Type 0
+LacksValue None = ⊥
+LacksValue (Some t) = (f : TermFault) × (answer t [] ≡ Err f)
+
 -- the rows of an initial term, with the places of its names beside them: 23 where there is none, 34 where it has no value
 abbrev pub StandsInInitial : Option CheckedTerm → Row → Type 0
 StandsInInitial t row.NoInitial = is_some t ≡ false
-StandsInInitial t row.BadArgument = (f : TermFault) × (term_answer t ≡ Err f)
+StandsInInitial t row.BadArgument = LacksValue t
 StandsInInitial t _ = ⊥
 
 -- the rows of the initial terms of state variables

@@ -5,7 +5,7 @@ ghost use Rattle.std.specs.Option.{option_map, option_copied, is_some};
 ghost use lib.Pointwise.{pointwise};
 ghost use Rattle.std.specs.List.{AllByRecursion, IsDistinct, list_all, list_any};
 ghost use Rattle.ioa_terms.specs.Bindings.{same_name};
-ghost use Rattle.ioa_check.specs.Rows.{HasNoEntryRow, HasNoAutomatonRow, has_entry, fires_entry, fires_as_many, guard_reads_only, assigns_only, assigns_number, is_guard_or_none, argument_repeats, same_term};
+ghost use Rattle.ioa_check.specs.Rows.{HasNoEntryRow, HasNoAutomatonRow, has_entry, fires_entry, fires_as_many, takes_as_many, guard_reads_only, assigns_only, assigns_number, is_guard_or_none, argument_repeats, same_term};
 ghost use Rattle.ioa_source.specs.Erasure.{erase_entry, erase_transition};
 ghost use Rattle.ioa_check.specs.Made.{AssignsInteger, HasIntegers, IsProgramOf, IsRuleOf, initial_answer, term_answer, transition_for, same_kind};
 ghost use Rattle.ioa_check.specs.Standing.{Fails, Only, Refuses, StandsInAutomaton, StandsInEntries, StandsInEntry, StandsInInitial, StandsInInitials, is_known_transition, is_sorted_transition};
@@ -216,7 +216,7 @@ fn place_transition(
 ) -> Result<Transition<usize, Shape>, Refusal>
     ensures same { IfOk result (λ t. erase_transition (transition_of t) ≡ transition_of transition.now) }
     ensures guard { IfOk result (λ t. IsPlacedGuard (transition_of t).pre scope.now) }
-    ensures effect { IfOk result (λ t. ArePlaced (transition_of t).effect scope.now scope.now) }
+    ensures effect { IfOk result (λ t. ArePlaced (transition_of t).effect (take count scope.now) scope.now) }
     ensures shapes { IfOk result (λ t. AllByRecursion AssignsInteger (transition_of t).effect) }
     ensures sort { OnOk result (is_guard_or_none (transition_of transition.now).pre ≡ true) }
     ensures guard_names { OnOk result (guard_reads_only scope.now (transition_of transition.now).pre ≡ true) }
@@ -381,25 +381,25 @@ fn is_entry(automaton: &Automaton<(), ()>, name: &Word) -> bool
     false
 }
 
-/// Whether a statement is a firing with as many arguments as its entry has parameters.
+/// Whether a statement, where it is a firing, has as many arguments as the entries of its name have
+/// parameters.
 fn fires_as_many(automaton: &Automaton<(), ()>, statement: &Statement<(), ()>) -> bool
     ensures { result ≡ fires_as_many (automaton_of automaton.now).signature (statement_of statement.now) }
 {
     match statement {
         Statement::Fire(_, name, arguments) => takes_as_many(automaton, name, arguments),
-        _ => false,
+        _ => true,
     }
 }
 
-/// Whether an entry of a name has as many parameters as there are arguments.
+/// Whether the entries of a name have as many parameters as there are arguments.
 fn takes_as_many(automaton: &Automaton<(), ()>, name: &Word, arguments: &[Term]) -> bool
-    ensures { result ≡ list_any (λ e. same_name e.name name.now && nat_eq (length e.parameters) (length (map term_of arguments.now)))
-        (automaton_of automaton.now).signature }
+    ensures { result ≡ list_all (takes_as_many name.now (length (map term_of arguments.now))) (automaton_of automaton.now).signature }
 {
     for entry in &automaton.signature {
-        if entry.name == *name && entry.parameters.len() == arguments.len() {
-            return true;
+        if entry.name == *name && entry.parameters.len() != arguments.len() {
+            return false;
         }
     }
-    false
+    true
 }

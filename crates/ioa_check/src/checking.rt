@@ -10,7 +10,7 @@ ghost use Rattle.ioa_source.specs.Sides.{SourceNode};
 ghost use Rattle.ioa_check.specs.Made.{IsSystemOf, IsNodeOf, AreNodesOf, nodes_in, channels_in, automaton_named, automaton_in, automata_in, node_at};
 ghost use Rattle.ioa_check.specs.Rows as spec;
 ghost use Rattle.ioa_check.specs.Rows.{HasNoRow, HasNoSystemRow, HasNoAutomatonRow};
-ghost use Rattle.ioa_check.specs.FirstForm.{is_first_declaration, is_first_placement, passes};
+ghost use Rattle.ioa_check.specs.FirstForm.{is_first_declaration, is_first_placement, passes_or_none};
 ghost use Rattle.ioa_check.specs.Standing.{Answered, FailsOfChannels, FailsOfNodes, Only, Refuses, Stands, StandsIn, StandsInAutomata, StandsInAutomaton};
 
 use crate::building::{declare, program_of};
@@ -333,31 +333,31 @@ fn check_channel(
     Ok(())
 }
 
-/// Whether the receiver of a channel takes messages of its sender.
+/// Whether each node that is the receiver of a channel takes messages of its sender.
 fn has_input(text: &Text<(), ()>, nodes: &[&Node<(), ()>], channel: &Channel) -> bool
     ensures { result ≡ spec.has_input (text_of text.now).declarations (map node_at nodes.now) channel.now }
 {
     for node in nodes {
-        if is_receiver(text, node, channel) {
-            return true;
+        if !receives_if_receiver(text, node, channel) {
+            return false;
         }
     }
-    false
+    true
 }
 
-/// Whether a node is the receiver of a channel and takes messages of its sender.
-fn is_receiver(text: &Text<(), ()>, node: &Node<(), ()>, channel: &Channel) -> bool
-    ensures { result ≡ spec.is_receiver (text_of text.now).declarations channel.now (node_of node.now) }
+/// Whether a node takes messages of the sender of a channel, if it is the receiver.
+fn receives_if_receiver(text: &Text<(), ()>, node: &Node<(), ()>, channel: &Channel) -> bool
+    ensures { result ≡ spec.receives_if_receiver (text_of text.now).declarations channel.now (node_of node.now) }
 {
-    node.number == channel.to && node_takes_from(text, node, channel.from)
+    node.number != channel.to || node_takes_from(text, node, channel.from)
 }
 
-/// Whether the automaton of a node has a `receive` from a node.
+/// Whether the automaton of a node, where it is declared, has a `receive` from a node.
 fn node_takes_from(text: &Text<(), ()>, node: &Node<(), ()>, sender: i64) -> bool
-    ensures { result ≡ passes (spec.takes_from sender) (automaton_named node.now.automaton (text_of text.now).declarations) }
+    ensures { result ≡ passes_or_none (spec.takes_from sender) (automaton_named node.now.automaton (text_of text.now).declarations) }
 {
     match automaton_of_name(&text.declarations, &node.automaton) {
-        None => false,
+        None => true,
         Some(automaton) => takes_from(automaton, sender),
     }
 }

@@ -9,6 +9,7 @@ ghost use Rattle.ioa_source.specs.TextView.{automaton_of, declaration_of, entry_
 ghost use Rattle.ioa_check.specs.FirstForm as spec;
 ghost use Rattle.ioa_check.specs.FirstSorts as sorts;
 
+use crate::placing::{is_guard, is_number};
 use ioa_source::{Automaton, Declaration, Entry, Parameter, Placement, Sort, Transition, Variable};
 use ioa_terms::{BinaryOperator, Kind, Place, Statement, Term, Word};
 
@@ -242,14 +243,7 @@ fn is_first_or_none(term: &Option<Term>) -> bool
 fn is_first_term(term: &Term) -> bool
     ensures { result ≡ spec.is_first_term (term_of term.now) }
 {
-    match term {
-        Term::Number(_) => true,
-        Term::Name(_, _) => true,
-        Term::Two(operator, a, b) => {
-            is_first_operator(*operator) && is_first_term(a) && is_first_term(b)
-        }
-        _ => false,
-    }
+    is_number(term) || is_guard(term)
 }
 
 /// Whether the statements of an effect are of the first form.

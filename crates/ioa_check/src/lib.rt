@@ -4,8 +4,10 @@
 mod building;
 mod checking;
 mod first_form;
+mod laws;
 mod placing;
 mod refusal;
 
 pub use checking::check;
+pub use laws::{first_sorts_law, rows_law};
 pub use refusal::{CheckFault, Row};

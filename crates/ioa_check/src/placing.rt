@@ -83,7 +83,7 @@ pub(crate) fn place_terms(
 }
 
 /// The place that an assignment writes: one of the first `count` names, those of the state variables.
-#[tactic(auto, using(crate::proofs::Names::any_first_place, crate::proofs::Refused::none_first_place))]
+#[tactic(auto, using(ioa_terms::proofs::Places::place_among_first, crate::proofs::Names::any_first_place, crate::proofs::Refused::none_first_place))]
 fn place_target(
     alloc: Global,
     scope: &Scope,
@@ -91,7 +91,7 @@ fn place_target(
     place: &Place<(), ()>,
 ) -> Result<Place<usize, Shape>, Refusal>
     ensures same { IfOk result (λ p. erase_place (place_of p) ≡ place_of place.now) }
-    ensures placed { IfOk result (λ p. IsPlacedPlace (place_of p) scope.now scope.now) }
+    ensures placed { IfOk result (λ p. IsPlacedPlace (place_of p) (take count scope.now) scope.now) }
     ensures shape { IfOk result (λ p. target_shape (place_of p) ≡ integers) }
     ensures written { OnOk result (writes_only (take count scope.now) (place_of place.now) ≡ true) }
     ensures refused { IfErr result (Refuses (Fails (writes_only (take count scope.now) (place_of place.now)) true)) }
@@ -117,7 +117,7 @@ fn place_assignment(
     statement: &Statement<(), ()>,
 ) -> Result<Statement<usize, Shape>, Refusal>
     ensures same { IfOk result (λ s. erase_statement (statement_of s) ≡ statement_of statement.now) }
-    ensures placed { IfOk result (λ s. IsPlacedStatement (statement_of s) scope.now scope.now) }
+    ensures placed { IfOk result (λ s. IsPlacedStatement (statement_of s) (take count scope.now) scope.now) }
     ensures shape { IfOk result (λ s. AssignsInteger (statement_of s)) }
     ensures number { OnOk result (assigns_number (statement_of statement.now) ≡ true) }
     ensures names { OnOk result (assigns_only (take count scope.now) scope.now (statement_of statement.now) ≡ true) }
@@ -138,7 +138,7 @@ fn place_assigned(
     term: &Term,
 ) -> Result<Statement<usize, Shape>, Refusal>
     ensures same { IfOk result (λ s. erase_statement (statement_of s) ≡ plain.assign (place_of place.now) (term_of term.now)) }
-    ensures placed { IfOk result (λ s. IsPlacedStatement (statement_of s) scope.now scope.now) }
+    ensures placed { IfOk result (λ s. IsPlacedStatement (statement_of s) (take count scope.now) scope.now) }
     ensures shape { IfOk result (λ s. AssignsInteger (statement_of s)) }
     ensures number { OnOk result (is_number (term_of term.now) ≡ true) }
     ensures names { OnOk result (assigns_only (take count scope.now) scope.now (plain.assign (place_of place.now) (term_of term.now)) ≡ true) }
@@ -161,7 +161,7 @@ pub(crate) fn place_effect(
     effect: &[Statement<(), ()>],
 ) -> Result<Vec<Statement<usize, Shape>>, Refusal>
     ensures same { IfOk result (λ ss. map erase_statement (map statement_of ss.items) ≡ map statement_of effect.now) }
-    ensures placed { IfOk result (λ ss. ArePlaced (map statement_of ss.items) scope.now scope.now) }
+    ensures placed { IfOk result (λ ss. ArePlaced (map statement_of ss.items) (take count scope.now) scope.now) }
     ensures shapes { IfOk result (λ ss. AllByRecursion AssignsInteger (map statement_of ss.items)) }
     ensures numbers { OnOk result (list_all assigns_number (map statement_of effect.now) ≡ true) }
     ensures names { OnOk result (list_all (assigns_only (take count scope.now) scope.now) (map statement_of effect.now) ≡ true) }
@@ -409,7 +409,7 @@ fn are_numbers(terms: &[Term]) -> bool
 }
 
 /// Whether a term has sort Int.
-fn is_number(term: &Term) -> bool
+pub(crate) fn is_number(term: &Term) -> bool
     ensures { result ≡ is_number (term_of term.now) }
 {
     match term {
@@ -424,7 +424,7 @@ fn is_number(term: &Term) -> bool
 }
 
 /// Whether a term has sort Bool.
-fn is_guard(term: &Term) -> bool
+pub(crate) fn is_guard(term: &Term) -> bool
     ensures { result ≡ is_guard (term_of term.now) }
 {
     match term {

@@ -7,9 +7,10 @@ use Rattle.ioa_check.specs.Rows.{fires_only}
 use Rattle.ioa_source.specs.TextView.{automaton_of, variable_of}
 use Rattle.ioa_check.specs.Standing.{StandsInAutomaton, StandsInEntries}
 use Rattle.ioa_check.proofs.Parts.{initial_stands}
-use Rattle.ioa_check.proofs.Refused.{fails_weaker, left_fails, only_weaker, refuses_weaker, right_fails}
+use Rattle.ioa_check.proofs.Refused.{fails_weaker, only_weaker, refuses_weaker}
 use Rattle.ioa_check.proofs.Rows.{entries_erased, variables_erased}
 use Rattle.ioa_check.proofs.building.program_of.Goals as goal
+use Rattle.std.proofs.lemmas.Bool.{and_left, and_right}
 
 pub returns-clause-rows : goal.returns-clause-rows
 returns-clause-rows c =
@@ -20,6 +21,7 @@ returns-clause-rows c =
     record {
       read = subst (λ (ns : List (List ℕ)). list_all (fires_only ns) a.schedule ≡ true) names read;
       entries_differ = c.in_ok-entries_differ.ensures.differ;
+      variables_differ = subst (λ (ns : List (List ℕ)). IsDistinct same_name ns) names c.in_ok-names.ensures.differ;
       transitions_differ = c.in_ok-transitions_differ.ensures.differ;
       transitions = c.in_ok-transitions_have_entries.ensures.known;
       firings = c.in_ok-firings_have_entries.ensures.known;
@@ -68,6 +70,6 @@ returns-in_err-schedule-clause-refused c =
     rw (p.1, p.2)
     (refuses_weaker
     (fails_weaker (StandsInAutomaton a)
-    (λ form. inl (right_fails _ _ (right_fails _ _ (left_fails _ _ (subst (λ (ns : List (List ℕ)). list_all (fires_only ns) a.schedule ≡ false) names form)))))
-    (λ sort. inl (right_fails _ _ (left_fails _ _ sort))))
+    (λ form. inl (and_right _ _ (and_right _ _ (and_left _ _ (subst (λ (ns : List (List ℕ)). list_all (fires_only ns) a.schedule ≡ false) names form)))))
+    (λ sort. inl (and_right _ _ (and_left _ _ sort))))
     _ (rw c.deref-5.ensures.value at c.in_err-schedule.ensures.refused))

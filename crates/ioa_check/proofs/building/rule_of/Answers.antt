@@ -1,25 +1,35 @@
-use Rattle.std.proofs.Common.{◌≡◌, ◌++◌, ℕ, List, true, false, refl, sym, subst, ◌∙◌, map, take, length, rules}
+use Rattle.std.proofs.Common.{◌≡◌, ◌++◌, ℕ, List, true, false, refl, sym, ap, subst, ◌∙◌, map, take, length, rules}
 use Rattle.std.proofs.lemmas.Result.{err_from_is_err_and}
 use Rattle.std.proofs.lemmas.List.{length-map}
 use Rattle.std.specs.List.{IsDistinct, list_all}
 use Rattle.ioa_terms.specs.Bindings.{same_name}
+use Rattle.ioa_terms.specs.Placed.{ArePlaced}
 use Rattle.ioa_source.specs.TextView.{automaton_of, entry_of, transition_of, variable_of}
 use Rattle.ioa_source.specs.Sides.{CheckedVariable}
 use Rattle.ioa_system.specs.Placed.{variable_names, own_names, scope_of}
 use Rattle.ioa_check.specs.Rows.{guard_reads_only, assigns_only}
 use Rattle.ioa_check.specs.Standing.{StandsInEntry, is_known_transition}
-use Rattle.ioa_check.proofs.Refused.{fails_weaker, only_weaker, refuses_weaker, right_fails}
+use Rattle.ioa_check.proofs.Refused.{fails_weaker, only_weaker, refuses_weaker}
 use Rattle.ioa_check.proofs.Rows.{scope_of-erase, take_first}
 use Rattle.ioa_check.proofs.building.rule_of.Goals as goal
+use Rattle.std.proofs.lemmas.Bool.{and_right}
 
 pub returns-clause-placed : goal.returns-clause-placed
-returns-clause-placed c = record {
-  scope = c.in_ok-scope.ensures.names;
-  parameters = c.in_ok-entry.ensures.placed;
-  condition = c.in_ok-entry.ensures.condition c.in_ok-scope.scope;
-  guard = c.in_ok-transition.ensures.guard;
-  effect = c.in_ok-transition.ensures.effect;
-}
+returns-clause-placed c =
+    let scope = c.in_ok-scope.scope in
+    let t = transition_of c.in_ok-transition.transition in
+    let vs = map variable_of c.args.variables.now in
+    let own = own_names (entry_of c.in_ok-entry.entry).parameters in
+    let n = length c.args.variables.now in
+    let many : n ≡ length (variable_names vs) = sym (length-map vs (λ (v : CheckedVariable). v.declared.name) ∙ length-map c.args.variables.now variable_of) in
+    let first : take n scope ≡ variable_names vs = ap (take n) c.in_ok-scope.ensures.names ∙ take_first n (variable_names vs) own many in
+    record {
+      scope = c.in_ok-scope.ensures.names;
+      parameters = c.in_ok-entry.ensures.placed;
+      condition = c.in_ok-entry.ensures.condition scope;
+      guard = c.in_ok-transition.ensures.guard;
+      effect = subst (λ (ns : List (List ℕ)). ArePlaced t.effect ns scope) first c.in_ok-transition.ensures.effect;
+    }
 
 pub returns-clause-rows : goal.returns-clause-rows
 returns-clause-rows c =
@@ -78,9 +88,9 @@ returns-in_err-transition-clause-refused c =
     (λ form. (
       t,
       sym c.in-Some.ensures,
-      right_fails _ _
+      and_right _ _
           (subst (λ (ns : List (List ℕ)). is_known_transition ns (variable_names vs ++ own) t ≡ false) first
           (subst (λ (ns : List (List ℕ)). is_known_transition (take n ns) ns t ≡ false) names form)),
     ))
-    (λ sort. (t, sym c.in-Some.ensures, right_fails _ _ sort)))
+    (λ sort. (t, sym c.in-Some.ensures, and_right _ _ sort)))
     _ c.in_err-transition.ensures.refused)

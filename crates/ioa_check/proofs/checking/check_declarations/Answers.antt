@@ -4,10 +4,11 @@ use Rattle.ioa_source.specs.TextView.{declaration_of}
 use Rattle.ioa_source.specs.Sides.{SourceAutomaton}
 use Rattle.ioa_check.specs.Made.{automaton_in, automata_in}
 use Rattle.ioa_check.specs.Rows as spec
-use Rattle.ioa_check.proofs.Automata.{automata_take, each_concat}
+use Rattle.ioa_check.proofs.Automata.{automata_take}
 use Rattle.ioa_check.proofs.Parts.{declaration_stands}
 use Rattle.ioa_check.proofs.Refused.{answered_at}
 use Rattle.ioa_check.proofs.checking.check_declarations.Goals as goal
+use Rattle.ioa_values.proofs.AllOf.{all_appended}
 
 pub loop-place-preserved : goal.loop-place-preserved
 loop-place-preserved c =
@@ -19,7 +20,7 @@ loop-place-preserved c =
     record {
       names = rw more (c.in-Ok.ensures.added ∙ ap at_name c.loop-place.invariant.names ∙ sym (map-append (λ (a : SourceAutomaton). a.name) before own));
       differ = c.in-Ok.ensures.differ c.loop-place.invariant.differ;
-      rows = rw more (each_concat spec.HasNoAutomatonRow before own c.loop-place.invariant.rows c.in-Ok.ensures.rows);
+      rows = rw more (all_appended spec.HasNoAutomatonRow before own c.loop-place.invariant.rows c.in-Ok.ensures.rows);
     }
 
 pub returns-in-Err-clause-refused : goal.returns-in-Err-clause-refused

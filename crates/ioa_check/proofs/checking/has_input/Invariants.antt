@@ -4,7 +4,7 @@ use Rattle.ioa_check.specs.Made.{node_at}
 use Rattle.ioa_check.specs.Rows as spec
 use Rattle.ioa_check.proofs.checking.has_input.Given as goal
 
--- no node gone by takes the messages
+-- the nodes that are left decide
 abbrev pub invariant-loop-node : goal.invariant-loop-node
 invariant-loop-node l =
     spec.has_input (text_of l.text).declarations (map node_at (drop l.node-index l.nodes)) l.channel ≡ spec.has_input (text_of l.text).declarations (map node_at l.nodes) l.channel

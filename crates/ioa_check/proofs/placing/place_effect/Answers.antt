@@ -23,7 +23,7 @@ loop-statement-preserved c =
     let assignment = c.in_ok-place_assignment in
     record {
       same = rw c.in_ok-push.ensures.items (same_push erase_statement statement_of statement_of placed assignment.field-0 c.args.effect.now i statement c.loop-statement.invariant.same assignment.ensures.same (omega arith) c.statement-item.is);
-      placed = rw c.in_ok-push.ensures.items (each_push (λ (s : CheckedStatement). IsPlacedStatement s c.args.scope.now c.args.scope.now) statement_of placed assignment.field-0 c.loop-statement.invariant.placed assignment.ensures.placed);
+      placed = rw c.in_ok-push.ensures.items (each_push (λ (s : CheckedStatement). IsPlacedStatement s (take c.args.count c.args.scope.now) c.args.scope.now) statement_of placed assignment.field-0 c.loop-statement.invariant.placed assignment.ensures.placed);
       shapes = rw c.in_ok-push.ensures.items (each_push AssignsInteger statement_of placed assignment.field-0 c.loop-statement.invariant.shapes assignment.ensures.shape);
       numbers = all_left assigns_number statement_of c.args.effect.now i statement c.loop-statement.invariant.numbers assignment.ensures.number (omega arith) c.statement-item.is;
       names = all_left (assigns_only (take c.args.count c.args.scope.now) c.args.scope.now) statement_of c.args.effect.now i statement c.loop-statement.invariant.names assignment.ensures.names (omega arith) c.statement-item.is;

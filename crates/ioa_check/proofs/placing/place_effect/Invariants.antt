@@ -11,7 +11,7 @@ use Rattle.ioa_check.proofs.placing.place_effect.Given as goal
 abbrev pub invariant-loop-statement : goal.invariant-loop-statement
 invariant-loop-statement l = record {
   same : map erase_statement (map statement_of l.placed.items) ≡ map statement_of (take l.statement-index l.effect);
-  placed : ArePlaced (map statement_of l.placed.items) l.scope l.scope;
+  placed : ArePlaced (map statement_of l.placed.items) (take l.count l.scope) l.scope;
   shapes : AllByRecursion AssignsInteger (map statement_of l.placed.items);
   numbers : list_all assigns_number (map statement_of (drop l.statement-index l.effect)) ≡ list_all assigns_number (map statement_of l.effect);
   names : list_all (assigns_only (take l.count l.scope) l.scope) (map statement_of (drop l.statement-index l.effect)) ≡ list_all (assigns_only (take l.count l.scope) l.scope) (map statement_of l.effect);

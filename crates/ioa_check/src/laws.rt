@@ -1,0 +1,32 @@
+//! Laws of checked texts: what functions ensure that do nothing. They tie the definitions of the
+//! check to one another and to the sorts of terms.
+
+ghost use Rattle.std.specs.Prelude.{◌≡◌, true, map, Contains};
+ghost use Rattle.std.specs.List.{AllByRecursion};
+ghost use Rattle.ioa_operators.specs.Shapes.{integers, truths};
+ghost use Rattle.ioa_terms.specs.Placed.{IsPlaced};
+ghost use Rattle.ioa_terms.specs.Sorted.{Shaped, HasShape};
+ghost use Rattle.ioa_source.specs.Sides.{CheckedTerm, SourceAutomaton, SourceText};
+ghost use Rattle.ioa_check.specs.declared.refusal.Row.{Row};
+ghost use Rattle.ioa_check.specs.declared.refusal.Row.TheVariants as row;
+ghost use Rattle.ioa_check.specs.FirstSorts.{is_number, is_guard};
+ghost use Rattle.ioa_check.specs.Made.{automata_in};
+ghost use Rattle.ioa_check.specs.Rows.{HasNoRow};
+ghost use Rattle.ioa_check.specs.Standing.{HasNoValue, StandsIn};
+
+/// The sorts of the first form are shapes of terms: where the names in view are integers, and each
+/// name that a term reads stands beside its place among them, a number has the shape of integers, and
+/// a guard that of truth values.
+pub fn first_sorts_law()
+    ensures number { (names : Shaped) → AllByRecursion (λ n. n.1 ≡ integers) names → (t : CheckedTerm) → IsPlaced t (map (λ n. n.0) names) →
+        is_number t ≡ true → HasShape names t integers }
+    ensures guard { (names : Shaped) → AllByRecursion (λ n. n.1 ≡ integers) names → (t : CheckedTerm) → IsPlaced t (map (λ n. n.0) names) →
+        is_guard t ≡ true → HasShape names t truths }
+{}
+
+/// In a text that has no row of refusal none stands, but for 34 of an initial term that has no value,
+/// of which `HasNoRow` says nothing: such a term would be a number outside 64 bits.
+pub fn rows_law()
+    ensures { (t : SourceText) → HasNoRow t → (r : Row) → StandsIn t r →
+        (r ≡ row.BadArgument) × ((a : SourceAutomaton) × Contains (automata_in t.declarations) a × HasNoValue a.states) }
+{}
