@@ -1,12 +1,12 @@
 -- Steps of a node's automaton (Lynch 8.1).
 use Rattle.std.specs.Prelude.{◌≡◌, ℕ, Bool, true, false, not, ◌&&◌, if◌then◌else◌, List, [], ◌∷◌, ◌++◌, Option, Some, None, Result, Ok, Err, map, length, take, find, codes}
-use Rattle.std.specs.List.{zip}
-use Rattle.ioa_compose.specs.Data.{Data, number, truth, as_truth}
+use Rattle.std.specs.List.{zip, list_all}
+use Rattle.ioa_compose.specs.Data.{Data, number, truth, as_truth, is_within}
 use Rattle.ioa_compose.specs.Outcome.{and_then}
 use Rattle.ioa_values.specs.DataOrder.{same}
 use Rattle.ioa_terms.specs.Bindings.{Bindings, same_name}
-use Rattle.ioa_terms.specs.Meaning.{answer}
-use Rattle.ioa_terms.specs.Performance.{answer_by}
+use Rattle.ioa_terms.specs.Meaning.{value, met, answer}
+use Rattle.ioa_terms.specs.Performance.{after, met_by, answer_by}
 use Rattle.ioa_terms.specs.declared.tree.Kind.{Kind}
 use Rattle.ioa_terms.specs.declared.tree.Kind.TheVariants.{Input, Output, Internal}
 use Rattle.ioa_terms.specs.declared.action.Action.{Action}
@@ -164,11 +164,11 @@ read_by r a c = view_of (entry_of r.entry) (map variable_of c.program.variables)
 -- a guard or a condition holds: there is none, or its value is true
 abbrev pub GuardHolds : Option CheckedTerm → Bindings → Type 0
 GuardHolds None e = Unit {0}
-GuardHolds (Some t) e = answer t e ≡ Ok (truth true)
+GuardHolds (Some t) e = value t e ≡ Some (truth true)
 
--- a step of a node from one configuration to another (Lynch 8.1): by the first rule that has the action, no argument is
--- negative for a natural, the entry's condition and the guard hold, and each state variable has the value that the
--- effect leaves it; the program stays
+-- a step of a node from one configuration to another, over numbers without bound (Lynch 8.1): by the first rule that has
+-- the action, no argument is negative for a natural, the entry's condition and the guard hold, and each state variable
+-- has the value that the effect leaves it; the program stays
 pub record IsNodeStep (a : Action) (c d : NodeState) : Type 0 where
   pub rule : Rule
   pub mine : rule_for a c.program.rules ≡ Some rule
@@ -176,5 +176,19 @@ pub record IsNodeStep (a : Action) (c d : NodeState) : Type 0 where
   pub condition : GuardHolds (entry_of rule.entry).condition (read_by rule a c)
   pub guard : GuardHolds (transition_of rule.transition).pre (read_by rule a c)
   pub left : Bindings
-  pub effect : answer_by (transition_of rule.transition).effect (read_by rule a c) ≡ Ok left
-  pub after : d ≡ node_state c.program (take (length c.variables) (map (λ b. b.1) left))
+  pub effect : after (transition_of rule.transition).effect (read_by rule a c) ≡ Some left
+  pub reached : d ≡ node_state c.program (take (length c.variables) (map (λ b. b.1) left))
+
+-- the results that a guard or a condition meets
+abbrev pub guard_met : Option CheckedTerm → Bindings → List Data
+guard_met None e = []
+guard_met (Some t) e = met t e
+
+-- the results that a rule meets: its entry's condition, its guard and its effect, one after another
+abbrev pub rule_met : Rule → Bindings → List Data
+rule_met r e =
+    guard_met (entry_of r.entry).condition e ++ (guard_met (transition_of r.transition).pre e ++ met_by (transition_of r.transition).effect e)
+
+-- every number that the rule of an action meets lies within 64 bits (profile)
+abbrev pub FitsNodeStep : Action → NodeState → Type 0
+FitsNodeStep a c = (r : Rule) → rule_for a c.program.rules ≡ Some r → list_all is_within (rule_met r (read_by r a c)) ≡ true

@@ -5,15 +5,17 @@ ghost use Rattle.ioa_terms.specs.declared.action.Action.{Action};
 ghost use Rattle.ioa_compose.specs.declared.configuration.Conf.{Conf};
 ghost use Rattle.ioa_compose.specs.declared.queue.Item.{Item};
 ghost use Rattle.ioa_compose.specs.NodeState.{NodeState};
-ghost use Rattle.ioa_compose.specs.NodeStep.{node_answer, IsNodeStep};
+ghost use Rattle.ioa_compose.specs.NodeStep.{node_answer, IsNodeStep, FitsNodeStep};
 ghost use Rattle.ioa_compose.specs.Queues.{behind};
 ghost use Rattle.ioa_compose.specs.Composition.{joint_answer, IsJointStep, AllHaveSteps};
 ghost use Rattle.ioa_compose.specs.Executions.{replay, ProjectsOnEach};
 ghost use Rattle.ioa_compose.specs.Channels.{HandsOutInOrder, HandsOutPrefix};
 
-/// A node answers a configuration to an action exactly where a step of the node leads to it (Lynch 8.1).
+/// A node answers a configuration to an action exactly where a step of the node leads to it (Lynch 8.1)
+/// and every number that this step meets lies within 64 bits.
 pub fn node_step_law()
-    ensures { (c : NodeState) (a : Action) (d : NodeState) → (node_answer c a ≡ Ok d) ↔ IsNodeStep a c d }
+    ensures step { (c : NodeState) (a : Action) (d : NodeState) → node_answer c a ≡ Ok d → IsNodeStep a c d × FitsNodeStep a c }
+    ensures answer { (c : NodeState) (a : Action) (d : NodeState) → IsNodeStep a c d → FitsNodeStep a c → node_answer c a ≡ Ok d }
 {}
 
 /// A queue is left by what comes out of it exactly where that stands first (Lynch 14.1).

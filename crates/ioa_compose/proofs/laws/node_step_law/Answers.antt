@@ -1,5 +1,5 @@
-use Rattle.ioa_compose.proofs.NodeSteps.{node_answer_is}
+use Rattle.ioa_compose.proofs.NodeSteps.{is_node_step, node_answer_is}
 use Rattle.ioa_compose.proofs.laws.node_step_law.Goals as goal
 
 pub returns : goal.returns
-returns c = node_answer_is
+returns c = record { step = is_node_step; answer = node_answer_is }
