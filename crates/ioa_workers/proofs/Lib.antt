@@ -4,3 +4,4 @@ mod Elements
 mod Ends
 mod Rounds
 mod Runs
+mod Utf8

@@ -1,5 +1,6 @@
 -- What the program does with its words, its input and its two outputs (profile).
-use Rattle.std.specs.Prelude.{◌≡◌, ◌⊎◌, ◌<◌, ◌≤◌, ◌++◌, ℕ, Bool, true, false, List, codes, Option, Result, Ok, Err, IfSome, IfErr}
+use Rattle.std.specs.Prelude.{◌≡◌, ◌⊎◌, ◌<◌, ◌≤◌, ◌++◌, ℕ, Bool, true, false, List, length, codes, Option, Result, Ok, Err, IfSome, IfErr}
+use Rattle.std.specs.Str.{IsUtf8}
 use Rattle.std.specs.Io.KnownBytes.{Keeps, Appends}
 use Rattle.ioa_workers.specs.declared.input.InputFault.{InputFault}
 use Rattle.ioa_workers.specs.declared.input.InputFault.TheVariants as input
@@ -10,20 +11,22 @@ use Rattle.ioa_workers.specs.declared.program.CommandFault.TheVariants.{Words, I
 use Rattle.ioa_workers.specs.Input.{IsFaultOf, input_fault_text}
 use Rattle.ioa_workers.specs.Options.{Settings}
 use Rattle.ioa_workers.specs.Output.{AppendsBeginning}
-use Rattle.ioa_workers.specs.WholeRun.{IsRefusalOf, WritesReport, run_fault_text}
+use Rattle.ioa_workers.specs.WholeRun.{IsExactFor, IsRefusalOf, WritesReport, run_fault_text}
 
--- a text is the input's, where the bytes of the input are known
+-- a text of at most 8388608 bytes that are UTF-8: the input's, where the bytes of the input are known
 abbrev pub IsTextOf : Option (List ℕ) → List ℕ → Type 0
-IsTextOf given text = IfSome given (λ bytes. text ≡ bytes)
+IsTextOf given text = (length text ≤ 8388608) × IsUtf8 text × IfSome given (λ bytes. text ≡ bytes)
 
 -- the options of the program's runs
 abbrev pub default_options : Settings
 default_options = record { steps = 10000; attempts = 1000 }
 
--- a text of the input was run with the default options; a fault says what stands in that text
+-- the text of the input was run with the default options; a fault says what stands in that text, and none that comes
+-- wherever it stands is passed over
 abbrev pub RunsText : Option (List ℕ) → Option (List ℕ) → Option (List ℕ) → Bool → Result (Unit {0}) RunFault → Type 0
 RunsText given old new failed result =
-    (text : List ℕ) × IsTextOf given text × WritesReport text default_options old new failed result × IfErr result (λ f. IsRefusalOf f text)
+    (text : List ℕ) × IsTextOf given text × WritesReport text default_options old new failed result
+    × IfErr result (λ f. IsRefusalOf f text) × IsExactFor result text
 
 -- what the program read and what it wrote as its report, where it ends so: no report is written where there are words
 -- beyond its name, or where the input gives no text

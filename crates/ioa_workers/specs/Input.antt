@@ -5,12 +5,12 @@ use Rattle.std.specs.Str.Lossy.{utf8_valid_len}
 use Rattle.ioa_workers.specs.declared.input.InputFault.{InputFault}
 use Rattle.ioa_workers.specs.declared.input.InputFault.TheVariants.{Read, TooLong, BadCharacter, Memory}
 
--- a length is tested before characters are, and a bad character stands right after the longest beginning that
+-- a length is tested before characters are, and a bad character is the byte right after the longest beginning that
 -- is UTF-8; a failed read and want of memory say nothing of the bytes
 abbrev pub IsFaultOf : InputFault → List ℕ → Type 0
 IsFaultOf Read bytes = ⊤
 IsFaultOf TooLong bytes = 8388608 < length bytes
-IsFaultOf (BadCharacter place) bytes = (length bytes ≤ 8388608) × (place ≡ utf8_valid_len bytes)
+IsFaultOf (BadCharacter place) bytes = (length bytes ≤ 8388608) × (place ≡ utf8_valid_len bytes) × (place < length bytes)
 IsFaultOf Memory bytes = ⊤
 
 -- a fault as text: its number, its name, and its place where it has one

@@ -1,10 +1,10 @@
 -- What a whole run writes (profile).
-use Rattle.std.specs.Prelude.{◌≡◌, ℕ, Bool, true, false, List, Option, Result, Ok, Err, ⊤, codes}
+use Rattle.std.specs.Prelude.{◌≡◌, ◌⊎◌, ◌≤◌, ℕ, Bool, true, false, List, Option, Result, Ok, Err, MatchResult, ⊤, length, codes}
 use Rattle.std.specs.Io.KnownBytes.{Keeps, Appends}
 use Rattle.ioa_text_reader.specs.declared.fault.FrontFault.{FrontFault}
 use Rattle.ioa_text_reader.specs.declared.fault.FrontFault.TheVariants as front
 use Rattle.ioa_text_reader.specs.FaultText.{fault_text}
-use Rattle.ioa_text_reader.specs.Texts.{TextSpells, Stands}
+use Rattle.ioa_text_reader.specs.Texts.{TextSpells, Stands, is_exact, length_limit}
 use Rattle.ioa_check.specs.declared.refusal.CheckFault.{CheckFault}
 use Rattle.ioa_check.specs.declared.refusal.CheckFault.TheVariants as check
 use Rattle.ioa_check.specs.Made.{IsSystemOf}
@@ -49,7 +49,7 @@ of_front (front.Unexpected place) = Front (front.Unexpected place)
 of_front (front.NumberTooLarge place) = Front (front.NumberTooLarge place)
 of_front (front.TooDeep place) = Front (front.TooDeep place)
 of_front front.TooLong = Front front.TooLong
-of_front (front.LeftOut place) = Front (front.LeftOut place)
+of_front (front.LeftOut w place) = Front (front.LeftOut w place)
 of_front front.Memory = Memory
 
 -- a fault of the check as a run bears it
@@ -64,6 +64,12 @@ IsRefusalOf (Front f) text = (f ≡ front.Memory → ⊥) × Stands f text
 IsRefusalOf (Check f) text = (f ≡ check.Memory → ⊥) × (p : SourceText) × TextSpells p text × standing.Stands f p
 IsRefusalOf Memory text = ⊤
 IsRefusalOf Write text = ⊤
+
+-- where a fault of reading that comes wherever it stands does stand in the text, the outcome is that fault, or want of
+-- memory for a text within the length limit; so none stands in a text that was run
+abbrev pub IsExactFor : {T : Type 0} → Result T RunFault → List ℕ → Type 0
+IsExactFor result text = (e : FrontFault) → is_exact e ≡ true → Stands e text →
+    MatchResult result (λ _. ⊥) (λ f. (f ≡ Front e) ⊎ ((f ≡ Memory) × (length text ≤ length_limit)))
 
 -- a fault as text: its number, its name, and its place where it has one
 abbrev pub run_fault_text : RunFault → List ℕ

@@ -61,6 +61,7 @@ impl From<AllocError> for InputFault {
 ///
 /// [`InputFault::BadCharacter`] comes only for an input that was read to its end. An interrupted read is tried
 /// again, and counts as a turn. After a fault the reader stands where reading stopped.
+#[tactic(auto, using(crate::proofs::Utf8::valid_len_below))]
 pub fn read_input<R: Read>(alloc: Global, reader: &mut R) -> Result<String, InputFault>
     ensures all { IfOk result (λ s. IfSome (R.remaining reader.old) (λ bs. string_bytes s ≡ bs)) }
     ensures short { IfOk result (λ s. string_len s ≤ INPUT_LIMIT) }

@@ -1,6 +1,6 @@
 //! The report of a run.
 
-ghost use Rattle.std.specs.Prelude.{◌≡◌, ◌++◌, IfOk, OnOk, List, map, string_bytes};
+ghost use Rattle.std.specs.Prelude.{◌≡◌, ◌++◌, IfOk, OnOk, map, string_bytes};
 ghost use Rattle.ioa_values.specs.Text.{with_commas};
 ghost use Rattle.ioa_workers.specs.Reports.{action_lines, schedule_part, variable_line, variable_lines, item_text, queue_line, component_lines, states_part, ending_lines, commits_part, report_text};
 

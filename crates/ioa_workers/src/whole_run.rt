@@ -1,7 +1,7 @@
 //! Whole runs: from a text to its report.
 
 ghost use Rattle.std.specs.Prelude.{◌≡◌, false, IfOk, IfErr, string_bytes};
-ghost use Rattle.ioa_workers.specs.WholeRun.{IsDescribed, IsReport, IsEarly, IsRefusalOf, WritesReport};
+ghost use Rattle.ioa_workers.specs.WholeRun.{IsDescribed, IsReport, IsEarly, IsExactFor, IsRefusalOf, WritesReport};
 
 use crate::options::Options;
 use crate::output::{Out, OutFailed, put_all};
@@ -93,6 +93,7 @@ pub fn run_system<O: Out>(
     ensures written { WritesReport text.now options.now (O.bytes out.old) (O.bytes out.new) (O.failed out.new)
         result }
     ensures refused { IfErr result (λ f. IsRefusalOf f text.now) }
+    ensures exact { IsExactFor result text.now }
 {
     let report = report_of(alloc, text, options)?;
     match put_all(out, report.as_bytes()) {
@@ -106,6 +107,7 @@ fn report_of(alloc: Global, text: &str, options: &Options) -> Result<String, Run
     ensures report { IfOk result (λ s. IsReport text.now options.now (string_bytes s)) }
     ensures early { IfErr result (λ f. IsEarly f) }
     ensures refused { IfErr result (λ f. IsRefusalOf f text.now) }
+    ensures exact { IsExactFor result text.now }
 {
     let system = system_of(alloc, text)?;
     let (record, endings) = run(alloc, &system, options)?;
@@ -117,6 +119,7 @@ fn system_of(alloc: Global, text: &str) -> Result<System, RunFault>
     ensures described { IfOk result (IsDescribed text.now) }
     ensures early { IfErr result (λ f. IsEarly f) }
     ensures refused { IfErr result (λ f. IsRefusalOf f text.now) }
+    ensures exact { IsExactFor result text.now }
 {
     let source = parse(alloc, text)?;
     Ok(check(alloc, source)?)

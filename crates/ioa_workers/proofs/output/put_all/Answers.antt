@@ -1,6 +1,7 @@
 use Rattle.std.proofs.Common.{arith, rules}
-use Rattle.ioa_workers.proofs.Appended.{Appends-append, take-rest}
+use Rattle.ioa_workers.proofs.Appended.{take-rest}
 use Rattle.ioa_workers.proofs.output.put_all.Goals as goal
+use Rattle.std.proofs.KnownBytes.{Appends-trans}
 
 -- what went out grows by the bytes that this piece put out
 pub loop-sent-preserved : goal.loop-sent-preserved
@@ -8,5 +9,5 @@ loop-sent-preserved g c = record {
   well = search rules;
   within = omega (arith, c.in_ok-count.ensures.within);
   sent = rw (← take-rest c.loop-sent.sent c.in_ok-count.count c.args.text.now)
-      (Appends-append _ _ _ _ _ c.loop-sent.invariant.sent c.in_ok-count.ensures.bytes);
+      (Appends-trans _ _ _ _ _ c.loop-sent.invariant.sent c.in_ok-count.ensures.bytes);
 }
