@@ -86,6 +86,18 @@ fn each_row_of_the_check_is_told_with_its_place(rt: HostRuntime) -> Result<(), F
             "20 Unknown in 1",
         ),
         (
+            "automaton A ",
+            "",
+            "system node 0: A channel 0 -> 1",
+            "20 Unknown in 1",
+        ),
+        (
+            "automaton A ",
+            SENDS,
+            "states n: Int := 0 transitions output send(m, 0, 1) pre (m = 1) = (n = 2) system",
+            "20 Unknown in 0",
+        ),
+        (
             "automaton A automaton B automaton A ",
             "",
             "system",
