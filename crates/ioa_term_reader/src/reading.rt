@@ -52,6 +52,28 @@ pub fn term(alloc: Global, tokens: &mut Tokens<'_>, room: usize) -> Result<Built
     read(alloc, tokens, DEPTH_LIMIT, room, LOOSEST_LEVEL)
 }
 
+/// Whether a term of level `least` at the loosest begins.
+fn begins_term(tokens: &Tokens<'_>, least: usize) -> bool {
+    match tokens.peek_mark() {
+        Some(Mark::True | Mark::False) => true,
+        Some(Mark::OpenRound | Mark::OpenBrace | Mark::OpenSquare) => true,
+        Some(Mark::Not) => least <= prefix_level(UnaryOperator::Not),
+        Some(Mark::Minus) => least <= prefix_level(UnaryOperator::Negative),
+        Some(_) => false,
+        None => tokens.at_word() || tokens.at_number(),
+    }
+}
+
+/// The refusal where a term can go no deeper: 14 where a part begins, which would be too high, else
+/// that of what comes next. Source: profile.
+fn refused_at_depth(tokens: &Tokens<'_>, least: usize) -> Unread {
+    if begins_term(tokens, least) {
+        tokens.too_deep()
+    } else {
+        tokens.refused()
+    }
+}
+
 /// A term of level `least` at the loosest; each part of it is read one deeper.
 #[cycle(terms)]
 #[tactic(auto, unfolding(crate::specs::Reading::read, ioa_cursor::specs::Reading::bind))]
@@ -65,7 +87,7 @@ fn read(
     ensures { Reads (λ b. term_of b.tree) (spec.read depth room least tokens.old) result tokens.new }
 {
     if depth == 0 {
-        return Err(tokens.too_deep());
+        return Err(refused_at_depth(tokens, least));
     }
     let first = operand(alloc, tokens, depth - 1, room, least)?;
     climb(alloc, tokens, depth - 1, room, least, first)

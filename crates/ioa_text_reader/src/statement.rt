@@ -62,6 +62,16 @@ fn begins_statement(tokens: &Tokens<'_>) -> bool
     tokens.at_word() || tokens.at(Mark::If)
 }
 
+/// The refusal where statements can go no deeper: 14 where one begins, which would be too high, else
+/// that of what comes next. Source: profile.
+fn refused_at_depth(tokens: &Tokens<'_>) -> Unread {
+    if begins_statement(tokens) {
+        tokens.too_deep()
+    } else {
+        tokens.refused()
+    }
+}
+
 /// Whether statements go on behind a semicolon; takes the semicolon.
 #[tactic(auto, unfolding(ioa_cursor::specs::Reading::resumed))]
 fn resumes_with_statement(tokens: &mut Tokens<'_>) -> bool
@@ -85,7 +95,7 @@ fn statements_in(
     ensures { Reads (λ l. map statement_of l.statements.items) (spec.statements_in depth tokens.old) result tokens.new }
 {
     if depth == 0 {
-        return Err(tokens.too_deep());
+        return Err(refused_at_depth(tokens));
     }
     let first = one_statement(alloc, tokens, depth - 1)?;
     let mut statements = BuiltStatements::new(alloc).with_statement(first)?;

@@ -113,6 +113,27 @@ fn high_terms(rt: HostRuntime) -> Result<(), Fail> {
 }
 
 #[test]
+fn deep_parts_that_break_off(rt: HostRuntime) -> Result<(), Fail> {
+    let alloc = rt.alloc();
+    let effect = "automaton A transitions output a eff ";
+    let choices = ("if x then ", "", "");
+    let inmost = effect.len() + 640;
+    assert_eq!(rt; nested(alloc, effect, choices, 64, "")?, (12, inmost));
+    assert_eq!(rt; nested(alloc, effect, choices, 64, "system")?, (12, inmost));
+    assert_eq!(rt; nested(alloc, effect, choices, 64, "choose")?, (16, inmost));
+    let assigned = "automaton A transitions output a eff n := ";
+    let minus = ("-", "", "");
+    let operand = assigned.len() + 192;
+    assert_eq!(rt;
+        nested(alloc, assigned, minus, 192, "1 system")?,
+        (14, operand)
+    );
+    assert_eq!(rt; nested(alloc, assigned, minus, 192, "")?, (12, operand));
+    assert_eq!(rt; nested(alloc, assigned, minus, 192, "~ x")?, (12, operand));
+    Ok(())
+}
+
+#[test]
 fn high_keys(rt: HostRuntime) -> Result<(), Fail> {
     let alloc = rt.alloc();
     let effect = "automaton A transitions output a eff ";
