@@ -1,6 +1,6 @@
 -- Lists that a loop makes, one item after another.
-use Rattle.std.proofs.Common.{◌≡◌, ℕ, ◌+◌, ◌<◌, List, [], ◌∷◌, ◌++◌, refl, length, map, take, drop, get_or, Bool, true, false, add-one, drop-cons, subst}
-use Rattle.std.specs.List.{list_all, list_any}
+use Rattle.std.proofs.Common.{◌≡◌, ℕ, ◌+◌, ◌<◌, List, [], ◌∷◌, ◌++◌, refl, length, map, take, drop, get_or, Bool, true, add-one, drop-cons, subst}
+use Rattle.std.specs.List.{list_all}
 use Rattle.std.specs.List.{AllByRecursion}
 use Rattle.std.proofs.lemmas.List.{take_more, map-append}
 use Rattle.ioa_values.proofs.AllOf.{all_appended}
@@ -36,13 +36,3 @@ next_left ys i y within at = rw (add-one, drop-cons ys i y, ← at) refl
 pub all_left : {A B : Type 0} (p : B → Bool) (f : A → B) (ys : List A) (i : ℕ) (y : A) {all : Bool} → list_all p (map f (drop i ys)) ≡ all → p (f y) ≡ true → i < length ys → y ≡ get_or ys i y → list_all p (map f (drop (i + 1) ys)) ≡ all
 all_left {A} p f ys i y {all} h passes within at =
     rw passes at (subst (λ (zs : List A). list_all p (map f zs) ≡ all) (next_left ys i y within at) h)
-
--- where the next one does not pass, the others decide
-pub any_left : {A B : Type 0} (p : B → Bool) (f : A → B) (ys : List A) (i : ℕ) (y : A) {any : Bool} → list_any p (map f (drop i ys)) ≡ any → p (f y) ≡ false → i < length ys → y ≡ get_or ys i y → list_any p (map f (drop (i + 1) ys)) ≡ any
-any_left {A} p f ys i y {any} h fails within at =
-    rw fails at (subst (λ (zs : List A). list_any p (map f zs) ≡ any) (next_left ys i y within at) h)
-
--- where the next one passes, one does
-pub any_next : {A B : Type 0} (p : B → Bool) (f : A → B) (ys : List A) (i : ℕ) (y : A) {any : Bool} → list_any p (map f (drop i ys)) ≡ any → p (f y) ≡ true → i < length ys → y ≡ get_or ys i y → true ≡ any
-any_next {A} p f ys i y {any} h passes within at =
-    rw passes at (subst (λ (zs : List A). list_any p (map f zs) ≡ any) (next_left ys i y within at) h)

@@ -1,4 +1,4 @@
--- How the logic stores a value: as a tree of numbers that gives it back.
+-- How the logic stores a value (form): as a tree of numbers that gives it back.
 use Rattle.std.specs.Prelude.{◌≡◌, ℕ, ℤ, pos, negsuc, Bool, true, false, refl}
 use Rattle.std.proofs.Common.{zero, suc, sym, ap, ◌∙◌}
 use base.Stored.{Gv, gnil, gnum, gcons, Coded}

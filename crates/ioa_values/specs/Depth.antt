@@ -1,4 +1,4 @@
--- How deep a value is: what each recursion over values counts down.
+-- How deep a value is (form): what each recursion over values counts down.
 use Rattle.std.specs.Prelude.{ℕ, ◌+◌, max}
 use Rattle.ioa_values.specs.Data.{Data, number, truth, constant, tuple, sequence, finite_set, finite_map, Items, no_items, item, Entries, no_entries, entry}
 

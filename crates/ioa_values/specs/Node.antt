@@ -1,4 +1,4 @@
--- What a value's own node stands for.
+-- What a value's own node stands for (view).
 use Rattle.ioa_values.specs.Data.{Data, number, truth, constant, tuple, sequence, finite_set, finite_map, items_of, entries_of}
 use Rattle.ioa_values.specs.declared.value.Node.{Node}
 use Rattle.ioa_values.specs.declared.value.Node.TheVariants.{Number, Truth, Constant, Tuple, Sequence, Set, Map}

@@ -1,4 +1,4 @@
--- Each part of a value is less deep than the value.
+-- Each part of a value is less deep than the value (form).
 use Rattle.std.specs.Prelude.{◌+◌, ◌≤◌, max, List, [], ◌∷◌}
 use Rattle.std.proofs.Common.{arith}
 use denote.Param.Weighed.{most}

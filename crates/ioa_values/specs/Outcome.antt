@@ -1,6 +1,6 @@
--- What a call answers, told in three words that every crate uses. `memory` is the fault of the call's own
+-- What a call answers (form), told in two words that most crates use. `memory` is the fault of the call's own
 -- type that stands for want of memory: it may come at any call that takes memory, and says nothing else.
-use Rattle.std.specs.Prelude.{◌≡◌, ◌⊎◌, Bool, true, false, Option, Some, None, Result, Ok, Err}
+use Rattle.std.specs.Prelude.{◌≡◌, ◌⊎◌, Option, Some, None, Result, Ok, Err}
 
 -- the call computes `meant`, seen through `view`: the value, or just that fault
 abbrev pub Answers : {X A E : Type 0} → E → (X → A) → Result X E → Result A E → Type 0
@@ -11,11 +11,6 @@ Answers memory view (Err e) meant = (e ≡ memory) ⊎ (meant ≡ Err e)
 abbrev pub Matches : {X A E : Type 0} → E → (X → A) → Result X E → Option A → Type 0
 Matches memory view (Ok x) found = found ≡ Some (view x)
 Matches memory view (Err e) found = (e ≡ memory) ⊎ (found ≡ None)
-
--- the call tests `holds`: it passes where that is true, and refuses where it is false
-abbrev pub Tests : {X E : Type 0} → E → Result X E → Bool → Type 0
-Tests memory (Ok x) holds = holds ≡ true
-Tests memory (Err e) holds = (e ≡ memory) ⊎ (holds ≡ false)
 
 -- one result after another: the first fault stands
 abbrev pub and_then : {A B E : Type 0} → Result A E → (A → Result B E) → Result B E

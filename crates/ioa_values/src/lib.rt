@@ -1,4 +1,4 @@
-//! Words and values of the language, and the words in which every contract tells an outcome.
+//! Words and values of the language, and the words in which most contracts tell an outcome.
 #![tactic(auto)]
 
 pub mod collections;
