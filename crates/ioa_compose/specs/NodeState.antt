@@ -1,4 +1,4 @@
--- The configuration of a node.
+-- The configuration of a node (Lynch 8.1).
 use Rattle.std.specs.Prelude.{◌≡◌, List, length, refl}
 use Rattle.std.specs.Coded.{Coded, code_by, coded×, coded_list}
 use Rattle.ioa_compose.specs.Data.{Data}

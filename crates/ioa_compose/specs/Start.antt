@@ -1,4 +1,4 @@
--- The start of a system (Lynch 8.1 and 14.1).
+-- The start of a system (Lynch 8.1, 8.2 and 14.1).
 use Rattle.std.specs.Prelude.{List, [], ◌++◌, map}
 use Rattle.ioa_terms.specs.declared.component.Component.TheVariants as component
 use Rattle.ioa_source.specs.declared.declaration.Channel.{Channel}

@@ -1,4 +1,4 @@
--- Faults of steps: those of terms among them, and their texts.
+-- Faults of steps (profile): those of terms among them, and their texts.
 use Rattle.std.specs.Prelude.{ℕ, List, codes}
 use Rattle.ioa_operators.specs.declared.fault.TermFault.{TermFault}
 use Rattle.ioa_operators.specs.declared.fault.TermFault.TheVariants as term
@@ -11,7 +11,7 @@ step_fault term.Undefined = step.Undefined
 step_fault term.Range = step.Range
 step_fault term.Memory = step.Memory
 
--- a fault as text: its number and its name (profile)
+-- a fault as text: its number and its name
 abbrev pub step_fault_text : StepFault → List ℕ
 step_fault_text step.Undefined = codes "1 Undefined"
 step_fault_text step.Range = codes "2 Range"

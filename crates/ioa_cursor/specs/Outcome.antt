@@ -1,4 +1,4 @@
--- What a reader of one production answers.
+-- What a reader of one production answers (form), and where it refuses (profile).
 use Rattle.std.specs.Prelude.{ℕ, ◌≡◌, ◌⊎◌, ◌-◌, List, [], ◌∷◌, Option, Some, None, Result, Ok, Err, length, slice_get}
 use Rattle.std.specs.Option.{option_map, unwrap_or}
 use Rattle.ioa_tokens.specs.declared.token.Placed.{Placed}

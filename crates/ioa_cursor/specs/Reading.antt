@@ -1,4 +1,4 @@
--- How the reader goes through the tokens: a definition for each step and each form of list, which answers what was read and what comes after it.
+-- How the reader goes through the tokens (form): a definition for each step and each form of list, which answers what was read and what comes after it.
 use Rattle.std.specs.Prelude.{ℕ, zero, suc, ℤ, Bool, true, false, List, [], ◌∷◌, ◌++◌, length, Option, Some, None, if◌then◌else◌}
 use Rattle.std.specs.Option.{option_and_then}
 use denote.Enum.Bare.{sameb}

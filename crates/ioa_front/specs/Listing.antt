@@ -1,4 +1,4 @@
--- Lists as a loop prints them: a mark stands before each item but the first.
+-- Lists as a loop prints them (form): a mark stands before each item but the first.
 use Rattle.std.specs.Prelude.{Bool, true, false, List, [], ◌∷◌}
 use Rattle.ioa_tokens.specs.declared.token.Token.{Token}
 use Rattle.ioa_tokens.specs.declared.token.Token.TheVariants as token

@@ -1,4 +1,4 @@
--- What the pieces of a text stand for, of which the code makes tokens.
+-- What the pieces of a text stand for, of which the code makes tokens (view).
 use Rattle.ioa_tokens.specs.declared.token.Token.{Token}
 use Rattle.ioa_tokens.specs.declared.token.Token.TheVariants as token
 use Rattle.ioa_front.specs.declared.piece.Piece.{Piece}

@@ -1,4 +1,4 @@
--- A text that is written from tokens.
+-- A text that is written from tokens (profile).
 use Rattle.std.specs.Prelude.{ℕ, List, [], ◌∷◌, ◌++◌, ◌≡◌, Bool, true, Option, Some, None, map, codes}
 use Rattle.ioa_tokens.specs.declared.token.Token.{Token}
 use Rattle.ioa_tokens.specs.declared.written.Gap.{Gap}

@@ -1,4 +1,4 @@
--- Where a token may stand right behind another: a test that is enough for what print joins.
+-- Where a token may stand right behind another (form): a test that is enough for what print joins.
 use Rattle.std.specs.Prelude.{Bool, true, false, ◌||◌, ◌&&◌}
 use Rattle.ioa_tokens.specs.declared.token.Token.{Token}
 use Rattle.ioa_tokens.specs.declared.token.Token.TheVariants as token

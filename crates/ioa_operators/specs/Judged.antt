@@ -1,4 +1,4 @@
--- A value judged by the results on the way to it.
+-- A value judged by the results on the way to it (profile).
 use Rattle.std.specs.Prelude.{◌≡◌, ◌⊎◌, Bool, true, List, [], ◌∷◌, Option, Some, None, Result, Ok, Err, if◌then◌else◌}
 use Rattle.std.specs.Option.{ok_or}
 use Rattle.std.specs.Result.{IfErr, IsOk}

@@ -1,4 +1,4 @@
--- The parts that operators take, as what they have to be.
+-- The parts that operators take, as what they have to be (form).
 use Rattle.std.specs.Prelude.{◌≡◌, List, [], ◌∷◌, Option, Some, None, Result, Ok, Err}
 use Rattle.ioa_operators.specs.Data.{Data}
 use Rattle.ioa_operators.specs.declared.functions.Parts.{Parts}

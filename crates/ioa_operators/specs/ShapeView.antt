@@ -1,4 +1,4 @@
--- What the shapes of the code stand for.
+-- What the shapes of the code stand for (view).
 use Rattle.ioa_operators.specs.Shapes.{PlainShape, truths, integers, naturals, constants, tuples, sequences, sets, maps, shapes_of}
 use Rattle.ioa_operators.specs.declared.shape.Shape.{Shape, fold-Shape}
 use Rattle.ioa_operators.specs.declared.shape.Shape.TheOpen.{Shape-F}

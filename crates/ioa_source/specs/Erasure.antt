@@ -1,5 +1,5 @@
 -- A checked text without what stands beside its names, displays, fields, assigned variables and declared sorts: the text
--- as it is spelled.
+-- as it is spelled (profile).
 use Rattle.std.specs.Prelude.{map}
 use Rattle.std.specs.Option.{option_map}
 use Rattle.ioa_source.specs.PlainTerm.{PlainTerm, PlainTerms, number, truth, name, one, two, call, display, field, no_terms, term, PlainPlace, variable, at_key, at_field, PlainStatement, PlainStatements, PlainArms, assign, choose, fire, no_statements, statement, no_arms, arm}

@@ -1,4 +1,4 @@
--- What a text declares, without where it lies in memory. `N` stands beside a name, `D` beside a display, a field, an
+-- What a text declares (profile; automata and transitions Lynch 8.1), without where it lies in memory. `N` stands beside a name, `D` beside a display, a field, an
 -- assigned variable and a declared sort.
 use Rattle.std.specs.Prelude.{ℕ, ℤ, List, Option}
 use Rattle.ioa_terms.specs.declared.tree.Kind.{Kind}

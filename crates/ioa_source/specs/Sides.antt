@@ -1,4 +1,4 @@
--- The two sides that a text has. As it is spelled nothing stands beside a name, a display, a field, an assigned
+-- The two sides that a text has (form). As it is spelled nothing stands beside a name, a display, a field, an assigned
 -- variable or a declared sort. In a checked system the place of its value stands beside a name, and a shape beside the
 -- others.
 use Rattle.std.specs.Prelude.{ℕ}

@@ -1,4 +1,4 @@
--- What the trees of the code stand for.
+-- What the trees of the code stand for (view).
 use Rattle.std.specs.Prelude.{map}
 use Rattle.std.specs.Option.{option_map}
 use Rattle.ioa_source.specs.View.{term_of, statement_of}

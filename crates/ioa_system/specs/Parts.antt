@@ -1,4 +1,4 @@
--- What a program is made of.
+-- What a program is made of (view).
 use Rattle.std.specs.Prelude.{ℕ, ℤ, List, refl}
 use Rattle.ioa_operators.specs.declared.shape.Shape.{Shape}
 use Rattle.ioa_operators.specs.contracts.shape.Shape as shape

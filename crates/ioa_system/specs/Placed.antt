@@ -1,4 +1,4 @@
--- When each name that a step reads stands beside the place of its value.
+-- When each name that a step reads stands beside the place of its value (profile).
 use Rattle.std.specs.Prelude.{◌≡◌, ℕ, List, [], ◌∷◌, ◌++◌, Option, Some, None, map, length, All}
 use Rattle.std.specs.List.{AllByRecursion}
 use Rattle.ioa_terms.specs.Placed.{IsPlaced, ArePlaced}

@@ -1,4 +1,4 @@
--- What a checked system is made of.
+-- What a checked system is made of (view).
 use Rattle.std.specs.Prelude.{ℕ, List, refl}
 use Rattle.std.specs.Coded.{Coded, code_by, coded×, coded_ℕ, coded_list}
 use Rattle.ioa_source.specs.declared.declaration.Channel.{Channel}

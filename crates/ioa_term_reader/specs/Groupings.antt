@@ -1,4 +1,4 @@
--- How the code tells a grouping.
+-- How the code tells a grouping (view).
 use Rattle.ioa_term_reader.specs.Levels.{Grouping, from_left, from_right, no_grouping}
 use Rattle.ioa_term_reader.specs.declared.levels.Groups.{Groups}
 use Rattle.ioa_term_reader.specs.declared.levels.Groups.TheVariants as groups

@@ -1,4 +1,4 @@
--- How the reader goes through the tokens of a term: by precedence climbing.
+-- How the reader goes through the tokens of a term (profile): by precedence climbing.
 use Rattle.std.specs.Prelude.{ℕ, zero, suc, ◌-◌, true, false, ◌&&◌, nat_le, nat_eq, List, [], Option, Some, None, if◌then◌else◌}
 use Rattle.std.specs.Option.{option_map}
 use Rattle.ioa_tokens.specs.declared.token.Token.{Token}

@@ -1,4 +1,4 @@
--- Environments in whose values every set and every map, at any depth, ascends.
+-- Environments in whose values every set and every map, at any depth, ascends (profile).
 use Rattle.std.specs.List.{AllByRecursion}
 use Rattle.ioa_terms.specs.Canonical.{IsCanonical}
 use Rattle.ioa_terms.specs.Bindings.{Bindings}

@@ -1,4 +1,4 @@
--- Evaluation one step after another, each step judged as it is taken: equal to the meaning, by a law.
+-- Evaluation one step after another, each step judged as it is taken (form): equal to the meaning, by a law.
 use Rattle.std.specs.Prelude.{ℕ, Bool, true, false, List, [], ◌∷◌, Option, Some, None, Result, Ok, Err}
 use Rattle.std.specs.Option.{option_and_then}
 use Rattle.ioa_terms.specs.Outcome.{and_then}

@@ -1,4 +1,4 @@
--- Terms and statements beside whose names stand the places of the names' values.
+-- Terms and statements beside whose names stand the places of the names' values (profile).
 use Rattle.std.specs.Prelude.{◌≡◌, ℕ, List, Some}
 use Rattle.std.specs.List.{AllByRecursion}
 use Rattle.ioa_terms.specs.Bindings.{place_in}

@@ -1,4 +1,4 @@
--- What the trees of the code stand for.
+-- What the trees of the code stand for (view).
 use Rattle.std.specs.Prelude.{map}
 use Rattle.ioa_terms.specs.declared.tree.Tree.{Tree, fold-Tree}
 use Rattle.ioa_terms.specs.declared.tree.Tree.TheOpen.{Tree-F}

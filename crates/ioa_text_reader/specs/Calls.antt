@@ -1,4 +1,4 @@
--- What a call of the code stands for.
+-- What a call of the code stands for (view).
 use Rattle.std.specs.Prelude.{map}
 use Rattle.ioa_source.specs.View.{term_of}
 use Rattle.ioa_text_reader.specs.Grammar as grammar

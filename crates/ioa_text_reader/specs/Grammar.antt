@@ -1,5 +1,5 @@
 -- The grammar of texts (profile), a production at a time. `SpellsX x xs ys` says that the tokens `xs` are a spelling of
--- `x` and after it `ys`. The first token decides each choice. In schedule blocks stand firings alone, and there are no scripts,
+-- `x` and after it `ys`. The next token decides each choice. In schedule blocks stand firings alone, and there are no scripts,
 -- invariants and unordered channels yet.
 use Rattle.std.specs.Prelude.{ℕ, suc, ℤ, List, [], ◌∷◌, ◌≤◌, Option, Some, None, map}
 use Rattle.ioa_tokens.specs.declared.token.Token.{Token}

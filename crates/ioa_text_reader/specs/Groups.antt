@@ -1,4 +1,4 @@
--- What the code's names of one sort stand for.
+-- What the code's names of one sort stand for (view).
 use Rattle.std.specs.Prelude.{List}
 use Rattle.ioa_source.specs.Sides.{SourceDeclared}
 use Rattle.ioa_source.specs.SortView.{sort_of}

@@ -1,4 +1,4 @@
--- What a text reads as: its tokens, and what the reader's definition makes of them.
+-- What a text reads as (form): its tokens, and what the reader's definition makes of them.
 use Rattle.std.specs.Prelude.{◌≡◌, ◌≢◌, ◌<◌, ◌≤◌, ℕ, List, [], length, Some, None, Result, Ok, Err}
 use Rattle.ioa_tokens.specs.declared.token.Token.{Token}
 use Rattle.ioa_tokens.specs.declared.token.Placed.{Placed}

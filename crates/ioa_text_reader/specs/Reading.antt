@@ -1,4 +1,4 @@
--- How the reader goes through the tokens: a definition for each production, which answers the tree and what comes after it.
+-- How the reader goes through the tokens (profile): a definition for each production, which answers the tree and what comes after it.
 use Rattle.std.specs.Prelude.{ℕ, zero, suc, Bool, true, false, List, [], ◌∷◌, map, Option, Some, None, nat_le, if◌then◌else◌}
 use Rattle.ioa_tokens.specs.declared.token.Token.{Token}
 use Rattle.ioa_tokens.specs.declared.mark.Mark.{Mark}

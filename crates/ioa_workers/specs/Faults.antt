@@ -1,4 +1,4 @@
--- A fault of a term as a node's ending bears it.
+-- A fault of a term as a node's ending bears it (profile).
 use Rattle.ioa_operators.specs.declared.fault.TermFault.{TermFault}
 use Rattle.ioa_operators.specs.declared.fault.TermFault.TheVariants as term
 use Rattle.ioa_workers.specs.declared.ending.Fault.{Fault}

@@ -1,4 +1,4 @@
--- Output that goes out piece by piece, where its bytes are known.
+-- Output that goes out piece by piece (profile), where its bytes are known.
 use Rattle.std.specs.Prelude.{ℕ, ◌≤◌, ◌==◌, ◌&&◌, nat_lt, Bool, List, length, take, Option, Result, Ok, Err}
 use Rattle.std.specs.Io.KnownBytes.{Appends}
 

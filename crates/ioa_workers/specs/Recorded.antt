@@ -1,4 +1,4 @@
--- What a run leaves: an execution of the system, and an ending a node.
+-- What a run leaves: an execution of the system (Lynch 8.1), and an ending a node (profile).
 use Rattle.std.specs.Prelude.{◌≡◌, ℕ, ◌≤◌, List, Some, length}
 use Rattle.ioa_terms.specs.declared.action.Action.{Action}
 use Rattle.ioa_compose.specs.declared.configuration.Conf.{Conf}
@@ -20,8 +20,8 @@ Continues limit old new =
     (from : List Conf) → IsExecution limit from old.schedule.items old.states.items
     → IsExecution limit from new.schedule.items new.states.items
 
--- a record and endings of a run of a system: the schedule is an execution from the system's start, and the worker
--- recorded each of its actions; there is one ending a node
+-- a record and endings of a run of a system: the schedule is an execution from the system's start (Lynch 8.1), the
+-- worker's count is the number of its actions, and there is one ending a node (profile)
 pub record IsRunOf (s : SystemParts) (limit : ℕ) (r : Record) (endings : List Ending) : Type 0 where
   pub execution : IsExecution limit (start s) r.schedule.items r.states.items
   pub counted : r.commits ≡ length r.schedule.items
