@@ -148,6 +148,12 @@ fn each_row_of_the_check_is_told_with_its_place(rt: HostRuntime) -> Result<(), F
         (
             "automaton A ",
             SENDS,
+            "transitions output send(m, 0, 1) schedule do fire send(1 = 1, 0, 1) od system",
+            "22 Sorts in 0",
+        ),
+        (
+            "automaton A ",
+            SENDS,
             "transitions output send(m, 0, 1) pre m system",
             "22 Sorts in 0",
         ),
@@ -293,23 +299,31 @@ fn later_forms_are_refused(rt: HostRuntime) -> Result<(), Fail> {
             "20 Unknown in 0",
         ),
         (
-            "automaton A transitions output t pre x < 1 system",
+            "automaton A signature output send(m: Int, const 0, const 1) transitions output send(m, 0, 1) pre m < 1 system",
             "20 Unknown in 0",
         ),
         (
-            "automaton A transitions output t pre x = 1 - 1 system",
+            "automaton A signature output send(m: Int, const 0, const 1) transitions output send(m, 0, 1) pre m = 1 - 1 system",
             "20 Unknown in 0",
         ),
         (
-            "automaton A transitions output t eff if true then x := 1 fi system",
+            "automaton A signature output send(m: Int, const 0, const 1) states x: Int := 0 transitions output send(m, 0, 1) eff if true then x := 1 fi system",
             "20 Unknown in 0",
         ),
         (
-            "automaton A transitions output t eff x[1] := 1 system",
+            "automaton A signature output send(m: Int, const 0, const 1) states x: Int := 0 transitions output send(m, 0, 1) eff x[1] := 1 system",
             "20 Unknown in 0",
         ),
         (
-            "automaton A schedule do fire output t od system",
+            "automaton A signature output send(m: Int, const 0, const 1) states x: Int := 0 transitions output send(m, 0, 1) eff x.f := 1 system",
+            "20 Unknown in 0",
+        ),
+        (
+            "automaton A signature output send(m: Int, const 0, const 1) transitions output send(m, 0, 1) schedule do fire output send(1, 0, 1) od system",
+            "20 Unknown in 0",
+        ),
+        (
+            "automaton A signature output send(m: Int, const 0, const 1) transitions output send(m, 0, 1) schedule do fire send(2 - 1, 0, 1) od system",
             "20 Unknown in 0",
         ),
         ("automaton A system node 0: A(1)", "20 Unknown in 1"),
