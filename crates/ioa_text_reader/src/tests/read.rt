@@ -98,7 +98,7 @@ static READ: [(&str, &str); 26] = [
     ("system%\nnode 0: A", "node 0 A()\n"),
 ];
 
-/// T-List of the language's test texts.
+/// Two nodes that hand two messages over one channel.
 const LIST: &str = "automaton Src
   signature output send(m: Int, const 0, const 1)
   states n: Int := 7
@@ -115,7 +115,7 @@ system
   channel 0 -> 1
 ";
 
-/// T-List in short.
+/// The same in short.
 const SHORT_LIST: &str = "automaton Src()
 Output send(m: Int, const 0, const 1)
 state n: Int := 7
@@ -131,7 +131,7 @@ node 1 Dst()
 channel 0 1
 ";
 
-/// T-Ping of the language's test texts.
+/// A sender without a schedule, and its receiver.
 const PING: &str = "automaton Ping
   signature output send(m: Int, const 0, const 1)
   transitions output send(m, 0, 1) pre m = 5
@@ -146,7 +146,7 @@ system
   channel 0 -> 1
 ";
 
-/// T-Ping in short.
+/// These in short.
 const SHORT_PING: &str = "automaton Ping()
 Output send(m: Int, const 0, const 1)
 on Output send(m, 0, 1) pre (m Equal 5) eff 

@@ -264,7 +264,7 @@ static REFUSED_BODIES: [(&str, &str); 66] = [
     ),
 ];
 
-/// T-Relay of the language's test texts: to its second schedule, and what stands before its first.
+/// A sender with parameters and a loop: what stands before its schedule.
 const RELAY_BEFORE: &str = "automaton Src(i, j: Nat)
   signature
     output send(m: Int, const i, const j)
@@ -289,7 +289,7 @@ system
   node 0: Src(0, 1)
 ";
 
-/// T-Tick of the language's test texts, to its schedule.
+/// An automaton with an internal action: what stands before its schedule.
 const TICK_BEFORE: &str = "automaton Tick(c: Nat)
   signature internal tick
   states n: Int := 0
@@ -305,7 +305,7 @@ system
   node 1: Tick(5)
 ";
 
-/// T-Script of the language's test texts, to its script.
+/// A node with two fires: what stands before its script.
 const SCRIPT_BEFORE: &str = "automaton A
   signature input go(v: Int)
   states s: Int := 0
