@@ -13,7 +13,7 @@ use Rattle.ioa_operators.specs.declared.operator.BinaryOperator.{BinaryOperator}
 use Rattle.ioa_operators.specs.declared.operator.BinaryOperator.TheVariants.{Plus, Equal}
 use Rattle.ioa_terms.specs.Bindings.{same_name}
 use Rattle.ioa_terms.specs.declared.tree.Kind.TheVariants.{Input}
-use Rattle.ioa_source.specs.PlainTerm.{number, name, two}
+use Rattle.ioa_terms.specs.PlainTerm.{number, name, two}
 use Rattle.ioa_source.specs.PlainText.{automaton, const, named, type_named}
 use Rattle.ioa_source.specs.Sides.{SourceAutomaton, SourceDeclaration, SourceEntry, SourceNode, SourceParameter, SourceTerm, SourceText, SourceTransition, SourceVariable}
 use Rattle.ioa_system.specs.Placed.{own_names, variable_names}

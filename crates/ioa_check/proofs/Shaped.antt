@@ -8,7 +8,7 @@ use Rattle.ioa_operators.specs.declared.operator.BinaryOperator.TheVariants.{Plu
 use Rattle.ioa_terms.specs.Bindings.{place_in, same_name}
 use Rattle.ioa_terms.specs.Placed.{IsPlaced}
 use Rattle.ioa_terms.specs.Sorted.{HasShape, Shaped, equal, shape_named, sum}
-use Rattle.ioa_source.specs.PlainTerm.{number, name, two}
+use Rattle.ioa_terms.specs.PlainTerm.{number, name, two}
 use Rattle.ioa_source.specs.Sides.{CheckedTerm}
 use Rattle.ioa_check.specs.FirstSorts.{is_guard, is_number}
 

@@ -6,7 +6,7 @@ use Rattle.ioa_terms.specs.Bindings.{same_name}
 use Rattle.ioa_terms.specs.declared.tree.Kind.{Kind}
 use Rattle.ioa_terms.specs.declared.tree.Kind.TheVariants.{Input, Output, Internal}
 use Rattle.ioa_source.specs.PlainSort.{PlainSort, integers}
-use Rattle.ioa_source.specs.PlainTerm.{number, variable, at_key, at_field, assign, choose, fire}
+use Rattle.ioa_terms.specs.PlainTerm.{number, variable, at_key, at_field, assign, choose, fire}
 use Rattle.ioa_source.specs.PlainText.{const, named, type_named, automaton, node, channel}
 use Rattle.ioa_source.specs.Sides.{SourceAutomaton, SourceDeclaration, SourceEntry, SourceParameter, SourcePlace, SourcePlacement, SourceStatement, SourceTerm, SourceTransition, SourceVariable}
 use Rattle.ioa_check.specs.FirstSorts.{is_number, is_guard}

@@ -1,7 +1,7 @@
 -- The sorts of terms of the first form: numbers, names, and `+` and `=` between two terms. Every name is of sort Int
 -- (profile). A term of another form has neither sort.
 use Rattle.std.specs.Prelude.{Bool, true, false, ◌&&◌}
-use Rattle.ioa_source.specs.PlainTerm.{PlainTerm, number, name, two}
+use Rattle.ioa_terms.specs.PlainTerm.{PlainTerm, number, name, two}
 use Rattle.ioa_operators.specs.declared.operator.BinaryOperator.{BinaryOperator}
 use Rattle.ioa_operators.specs.declared.operator.BinaryOperator.TheVariants.{Plus, Equal}
 

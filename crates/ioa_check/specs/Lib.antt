@@ -1,5 +1,3 @@
--- values, which systems stand on
-pub use Rattle.ioa_terms.specs.Data
 -- what the contracts of this crate and of those above it cite
 pub mod FirstForm
 pub mod FirstSorts

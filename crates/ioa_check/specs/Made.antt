@@ -3,7 +3,7 @@ use Rattle.std.specs.Borrow.{Bor}
 use Rattle.std.specs.Prelude.{◌≡◌, ℕ, pos, Bool, true, false, ◌&&◌, List, [], ◌∷◌, ◌++◌, ◌+◌, Option, Some, None, Result, Ok, Err, map, length, find, Contains}
 use Rattle.ioa_operators.specs.declared.shape.Shape.{Shape}
 use Rattle.std.specs.List.{AllByRecursion}
-use Rattle.ioa_check.specs.Data.{Data}
+use Rattle.ioa_values.specs.Data.{Data}
 use Rattle.ioa_terms.specs.Bindings.{same_name}
 use Rattle.ioa_terms.specs.Meaning.{answer}
 use Rattle.ioa_terms.specs.Performance.{target_shape}
@@ -11,13 +11,13 @@ use Rattle.ioa_operators.specs.Shapes.{PlainShape, integers}
 use Rattle.ioa_operators.specs.ShapeView.{shape_of}
 use Rattle.ioa_source.specs.PlainSort.{PlainSort}
 use Rattle.ioa_source.specs.PlainSort as sort
-use Rattle.ioa_source.specs.PlainTerm.{assign, choose, fire}
+use Rattle.ioa_terms.specs.PlainTerm.{assign, choose, fire}
 use Rattle.ioa_operators.specs.declared.fault.TermFault.{TermFault}
 use Rattle.ioa_operators.specs.declared.fault.TermFault.TheVariants.{Undefined}
 use Rattle.ioa_source.specs.declared.declaration.Variable.{Variable}
 use Rattle.ioa_terms.specs.declared.tree.Kind.{Kind}
 use Rattle.ioa_terms.specs.declared.tree.Kind.TheVariants.{Input, Output, Internal}
-use Rattle.ioa_source.specs.View.{statement_of}
+use Rattle.ioa_terms.specs.View.{statement_of}
 use Rattle.ioa_source.specs.TextView.{entry_of, variable_of, transition_of, node_of}
 use Rattle.ioa_source.specs.Erasure.{erase_entry, erase_variable, erase_transition, erase_statement}
 use Rattle.ioa_source.specs.PlainText.{PlainEntry, PlainTransition, const, named}

@@ -9,7 +9,7 @@ use denote.Enum.Bare.{sameb}
 use Rattle.ioa_operators.specs.declared.operator.BinaryOperator.{BinaryOperator}
 use Rattle.ioa_operators.specs.contracts.operator.BinaryOperator.{the_type}
 use Rattle.ioa_terms.specs.declared.tree.Kind.TheVariants.{Input}
-use Rattle.ioa_source.specs.PlainTerm.{number, name, two, variable, at_key, at_field, assign, choose, fire}
+use Rattle.ioa_terms.specs.PlainTerm.{number, name, two, variable, at_key, at_field, assign, choose, fire}
 use Rattle.ioa_source.specs.PlainText.{const, named}
 use Rattle.ioa_check.specs.FirstSorts.{is_first, is_number, is_guard}
 use Rattle.ioa_system.specs.Placed.{own_names, variable_names}

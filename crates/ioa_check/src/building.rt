@@ -9,7 +9,7 @@ ghost use Rattle.ioa_check.specs.Rows.{HasNoEntryRow, HasNoAutomatonRow, has_ent
 ghost use Rattle.ioa_source.specs.Erasure.{erase_entry, erase_transition};
 ghost use Rattle.ioa_check.specs.Made.{AssignsInteger, HasIntegers, IsProgramOf, IsRuleOf, initial_answer, term_answer, transition_for, same_kind};
 ghost use Rattle.ioa_check.specs.Standing.{Fails, Only, Refuses, StandsInAutomaton, StandsInEntries, StandsInEntry, StandsInInitial, StandsInInitials, is_known_transition, is_sorted_transition};
-ghost use Rattle.ioa_source.specs.View.{term_of, statement_of};
+ghost use Rattle.ioa_terms.specs.View.{term_of, statement_of};
 ghost use Rattle.ioa_source.specs.TextView.{automaton_of, parameter_of, entry_of, transition_of, variable_of};
 ghost use Rattle.ioa_terms.specs.Placed.{ArePlaced};
 ghost use Rattle.ioa_system.specs.Placed.{IsPlacedRule, ArePlacedVariables, IsPlacedGuard, own_name, variable_names, scope_of};

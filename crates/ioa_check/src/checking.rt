@@ -19,7 +19,6 @@ use crate::refusal::{CheckFault, Refusal, Row};
 use ioa_source::{Automaton, Channel, Declaration, Entry, Node, Parameter, Placement, Text};
 use ioa_system::{Program, Scope, System};
 use ioa_terms::{Names, Tree, Word};
-use ioa_text_reader::Source;
 use std::alloc::Global;
 use std::sync::Arc;
 
@@ -29,19 +28,10 @@ const MOST_NODES: usize = 64;
 /// The greatest number of channels.
 const MOST_CHANNELS: usize = 256;
 
-/// Makes the system that a source describes. Where a row of refusal stands in the source, one that
-/// stands is answered, with the place of its declaration: 20 for the first declaration that is not of
-/// the first form, where there is one. The source is spent, at a refusal too.
-pub fn check(alloc: Global, source: Source) -> Result<System, CheckFault>
-    ensures system { IfOk result (IsSystemOf (text_of source.text)) }
-    ensures rows { IfOk result (λ _. HasNoRow (text_of source.text)) }
-    ensures refused { IfErr result (λ f. Stands f (text_of source.text)) }
-{
-    check_text(alloc, source.text())
-}
-
-/// Makes the system that a text describes.
-fn check_text(alloc: Global, text: &Text<(), ()>) -> Result<System, CheckFault>
+/// Makes the system that the tree of a source describes. If rows of refusal stand in the source, one of
+/// them is returned, with the index of its declaration: 20 for the first declaration that is not of the
+/// form that runs today, if there is one. The tree is lent, so it is there after a refusal too.
+pub fn check(alloc: Global, text: &Text<(), ()>) -> Result<System, CheckFault>
     ensures system { IfOk result (IsSystemOf (text_of text.now)) }
     ensures rows { OnOk result (HasNoRow (text_of text.now)) }
     ensures refused { IfErr result (λ f. Stands f (text_of text.now)) }
@@ -511,6 +501,3 @@ fn takes_from(automaton: &Automaton<(), ()>, sender: i64) -> bool
     }
     false
 }
-
-#[cfg(test)]
-mod tests;

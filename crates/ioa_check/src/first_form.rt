@@ -4,7 +4,7 @@ ghost use Rattle.std.specs.Prelude.{◌≡◌, map, slice_get};
 ghost use Rattle.std.specs.List.{list_all};
 ghost use Rattle.std.specs.Option.{option_map};
 ghost use Rattle.ioa_source.specs.SortView.{sort_of};
-ghost use Rattle.ioa_source.specs.View.{term_of, place_of, statement_of};
+ghost use Rattle.ioa_terms.specs.View.{term_of, place_of, statement_of};
 ghost use Rattle.ioa_source.specs.TextView.{automaton_of, declaration_of, entry_of, parameter_of, placement_of, transition_of, variable_of};
 ghost use Rattle.ioa_check.specs.FirstForm as spec;
 ghost use Rattle.ioa_check.specs.FirstSorts as sorts;

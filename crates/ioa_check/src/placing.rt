@@ -3,8 +3,8 @@
 ghost use Rattle.std.specs.Prelude.{◌≡◌, IfOk, IfErr, OnOk, map, take, [], ◌∷◌, true, not, List, ℕ};
 ghost use Rattle.std.specs.List.{AllByRecursion, list_all, list_any};
 ghost use Rattle.std.specs.Option.{option_map, is_some};
-ghost use Rattle.ioa_source.specs.PlainTerm as plain;
-ghost use Rattle.ioa_source.specs.View.{term_of, place_of, statement_of};
+ghost use Rattle.ioa_terms.specs.PlainTerm as plain;
+ghost use Rattle.ioa_terms.specs.View.{term_of, place_of, statement_of};
 ghost use Rattle.ioa_source.specs.SortView.{sort_of};
 ghost use Rattle.ioa_source.specs.TextView.{declared_of, parameter_of, entry_of, variable_of};
 ghost use Rattle.ioa_source.specs.Erasure.{erase_declared, erase_term, erase_place, erase_statement, erase_parameter, erase_entry, erase_variable};

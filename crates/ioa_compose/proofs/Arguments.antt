@@ -3,7 +3,7 @@ use Rattle.std.proofs.Common.{◌≡◌, ◌≢◌, ℕ, zero, suc, Bool, true, 
 use Rattle.std.specs.Prelude.{◌&&◌}
 use Rattle.std.specs.List.{zip}
 use Rattle.std.proofs.lemmas.Slice.Zip.{seconds-zip}
-use Rattle.ioa_compose.specs.Data.{Data}
+use Rattle.ioa_values.specs.Data.{Data}
 use Rattle.std.proofs.lemmas.List.{length-map}
 use Rattle.ioa_terms.specs.Bindings.{same_name}
 use Rattle.ioa_terms.specs.declared.action.Action.{Action}

@@ -2,8 +2,8 @@
 use Rattle.std.proofs.Common.{◌≡◌, ℤ, Bool, true, false, ◌||◌, List, [], ◌∷◌, ◌++◌, Option, Some, None, Ok, Err, refl, ap, sym, ◌∙◌, map, append_assoc, if◌then◌else◌}
 use Rattle.std.specs.List.{cons_option}
 use Rattle.std.proofs.lemmas.List.{append-nil}
-use Rattle.ioa_compose.specs.Data.{Data}
-use Rattle.ioa_compose.specs.Outcome.{and_then}
+use Rattle.ioa_values.specs.Data.{Data}
+use Rattle.ioa_values.specs.Outcome.{and_then}
 use Rattle.ioa_terms.specs.declared.component.Component.TheVariants.{Channel}
 use Rattle.ioa_terms.specs.declared.action.Action.{Action}
 use Rattle.ioa_terms.specs.declared.action.Action.TheVariants.{Send, Receive, Local, Stimulus}

@@ -2,7 +2,7 @@
 use Rattle.std.proofs.Common.{◌≡◌, Bool, true, false, ◌||◌, List, [], ◌∷◌, Option, Some, None, Result, Ok, Err, refl, sym, ◌∙◌, if◌then◌else◌}
 use Rattle.std.specs.List.{list_any}
 use Rattle.std.specs.Option.{is_none}
-use Rattle.ioa_compose.specs.Outcome.{and_then}
+use Rattle.ioa_values.specs.Outcome.{and_then}
 use Rattle.ioa_terms.specs.declared.component.Component.{Component}
 use Rattle.ioa_terms.specs.declared.action.Action.{Action}
 use Rattle.ioa_compose.specs.declared.configuration.Conf.{Conf}

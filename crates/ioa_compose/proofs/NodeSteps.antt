@@ -4,10 +4,10 @@ use Rattle.std.specs.Prelude.{◌&&◌, if◌then◌else◌}
 use Rattle.std.specs.List.{list_all}
 use Rattle.std.specs.Option.{ok_or}
 use Rattle.std.proofs.lemmas.List.Folds.{list_all-append}
-use Rattle.ioa_compose.specs.Data.{Data, number, truth, constant, tuple, sequence, finite_set, finite_map, as_truth, is_within}
-use Rattle.ioa_compose.specs.Outcome.{and_then}
+use Rattle.ioa_values.specs.Data.{Data, number, truth, constant, tuple, sequence, finite_set, finite_map, as_truth, is_within}
+use Rattle.ioa_values.specs.Outcome.{and_then}
 use Rattle.ioa_terms.specs.Bindings.{Bindings}
-use Rattle.ioa_terms.specs.Judged.{judged}
+use Rattle.ioa_operators.specs.Judged.{judged}
 use Rattle.ioa_terms.specs.Meaning.{value, met, answer}
 use Rattle.ioa_terms.specs.Performance.{after, met_by, answer_by}
 use Rattle.ioa_terms.specs.declared.action.Action.{Action}

@@ -1,7 +1,7 @@
 -- What is sent on a channel and what it hands out (Lynch 14.1).
 use Rattle.std.specs.Prelude.{◌≡◌, ℤ, if◌then◌else◌, List, [], ◌++◌, Option, Some, None, map}
 use Rattle.std.specs.List.{filter_map}
-use Rattle.ioa_compose.specs.Data.{Data}
+use Rattle.ioa_values.specs.Data.{Data}
 use Rattle.ioa_terms.specs.declared.component.Component.TheVariants.{Channel}
 use Rattle.ioa_terms.specs.declared.action.Action.{Action}
 use Rattle.ioa_terms.specs.declared.action.Action.TheVariants.{Send, Receive, Local, Stimulus}

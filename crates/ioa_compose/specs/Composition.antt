@@ -2,7 +2,7 @@
 -- configurations is the map from names to them: of two with one name the first counts.
 use Rattle.std.specs.Prelude.{◌≡◌, true, false, if◌then◌else◌, List, [], ◌∷◌, Option, Some, None, Result, Ok, Err, map, find, is_none}
 use Rattle.std.specs.List.{list_any}
-use Rattle.ioa_compose.specs.Outcome.{and_then}
+use Rattle.ioa_values.specs.Outcome.{and_then}
 use Rattle.ioa_terms.specs.declared.component.Component.{Component}
 use Rattle.ioa_terms.specs.declared.component.Component.TheVariants as component
 use Rattle.ioa_terms.specs.declared.action.Action.{Action}

@@ -1,6 +1,3 @@
--- values, terms and texts, which systems stand on
-pub use Rattle.ioa_terms.specs.Data
-pub use Rattle.ioa_terms.specs.Outcome
 -- what the contracts of this crate and of those above it cite
 pub mod Channels
 pub mod Composition

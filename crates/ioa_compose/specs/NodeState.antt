@@ -1,7 +1,7 @@
 -- The configuration of a node (Lynch 8.1).
 use Rattle.std.specs.Prelude.{◌≡◌, List, length, refl}
 use Rattle.std.specs.Coded.{Coded, code_by, coded×, coded_list}
-use Rattle.ioa_compose.specs.Data.{Data}
+use Rattle.ioa_values.specs.Data.{Data}
 use Rattle.ioa_system.specs.Parts.{Parts, parts_code}
 use Rattle.ioa_values.specs.contracts.value.Value as value
 

@@ -1,8 +1,8 @@
 -- Steps of a node's automaton (Lynch 8.1).
 use Rattle.std.specs.Prelude.{◌≡◌, ℕ, Bool, true, false, not, ◌&&◌, if◌then◌else◌, List, [], ◌∷◌, ◌++◌, Option, Some, None, Result, Ok, Err, map, length, take, find, codes}
 use Rattle.std.specs.List.{zip, list_all}
-use Rattle.ioa_compose.specs.Data.{Data, number, truth, as_truth, is_within}
-use Rattle.ioa_compose.specs.Outcome.{and_then}
+use Rattle.ioa_values.specs.Data.{Data, number, truth, as_truth, is_within}
+use Rattle.ioa_values.specs.Outcome.{and_then}
 use Rattle.ioa_values.specs.DataOrder.{same}
 use Rattle.ioa_terms.specs.Bindings.{Bindings, same_name}
 use Rattle.ioa_terms.specs.Meaning.{value, met, answer}

@@ -1,7 +1,7 @@
 -- Queues: of the messages under way on a channel (Lynch 14.1), and of the stimuli left in a script (profile).
 use Rattle.std.specs.Prelude.{Bool, false, if◌then◌else◌, List, [], ◌∷◌, ◌++◌, Result, Ok, Err, refl}
 use Rattle.std.specs.Coded.{Coded, code_by, coded×, coded_list}
-use Rattle.ioa_compose.specs.Outcome.{and_then}
+use Rattle.ioa_values.specs.Outcome.{and_then}
 use Rattle.ioa_values.specs.DataOrder.{same}
 use Rattle.ioa_terms.specs.Actions.{same_node_action}
 use Rattle.ioa_terms.specs.contracts.component.Component as component

@@ -3,7 +3,7 @@
 ghost use Rattle.std.specs.Prelude.{◌≡◌, IfOk};
 ghost use Rattle.std.specs.List.{position_from};
 ghost use Rattle.std.specs.Option.{option_copied};
-ghost use Rattle.ioa_compose.specs.Outcome.{Answers};
+ghost use Rattle.ioa_values.specs.Outcome.{Answers};
 ghost use Rattle.ioa_compose.specs.Participants.{has, same_component};
 ghost use Rattle.ioa_compose.specs.Composition.{component_of, find_conf, put, put_all, reads, changes_of, joint_answer};
 

@@ -1,7 +1,7 @@
 //! Configurations of components.
 
 ghost use Rattle.std.specs.Prelude.{◌≡◌, IfOk};
-ghost use Rattle.ioa_compose.specs.Outcome.{Answers};
+ghost use Rattle.ioa_values.specs.Outcome.{Answers};
 ghost use Rattle.ioa_compose.specs.Composition.{component_of, conf_answer};
 
 use crate::fault::StepFault;

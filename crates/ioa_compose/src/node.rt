@@ -1,7 +1,7 @@
 //! Node configurations and their steps.
 
 ghost use Rattle.std.specs.Prelude.{◌≡◌, IfOk, length};
-ghost use Rattle.ioa_compose.specs.Outcome.{Answers};
+ghost use Rattle.ioa_values.specs.Outcome.{Answers};
 ghost use Rattle.ioa_compose.specs.NodeStep.{node_answer};
 ghost use Rattle.std.specs.Arc.{arc_value};
 ghost use Rattle.ioa_compose.specs.NodeState.{node_state};

@@ -2,7 +2,7 @@
 
 ghost use Rattle.std.specs.Prelude.{◌≡◌, ◌≢◌, ◌↔◌, [], ◌∷◌, Ok, IsTrue, IfOk, IsErrOf, List, slice_get};
 ghost use Rattle.std.specs.Option.{option_copied};
-ghost use Rattle.ioa_compose.specs.Outcome.{Answers};
+ghost use Rattle.ioa_values.specs.Outcome.{Answers};
 ghost use Rattle.ioa_compose.specs.Queues.{queue_state, same_item, with_last, without_first, queue_answer};
 
 use crate::fault::StepFault;

@@ -4,9 +4,9 @@ ghost use Rattle.std.specs.Prelude.{◌≡◌, ◌++◌, ◌≤◌, [], ◌∷�
 ghost use Rattle.std.specs.Option.{option_copied, option_map};
 ghost use Rattle.std.specs.List.{zip};
 ghost use Rattle.ioa_source.specs.TextView.{entry_of, transition_of, variable_of, parameter_of};
-ghost use Rattle.ioa_source.specs.View.{term_of, statement_of};
-ghost use Rattle.ioa_compose.specs.Data.{number};
-ghost use Rattle.ioa_compose.specs.Outcome.{Answers};
+ghost use Rattle.ioa_terms.specs.View.{term_of, statement_of};
+ghost use Rattle.ioa_values.specs.Data.{number};
+ghost use Rattle.ioa_values.specs.Outcome.{Answers};
 ghost use Rattle.ioa_system.specs.Placed.{IsPlacedRule, IsPlacedGuard, IsPlacedParameter, ArePlacedParameters};
 ghost use Rattle.ioa_compose.specs.NodeStep as spec;
 ghost use Rattle.ioa_terms.specs.Meaning.{answer};

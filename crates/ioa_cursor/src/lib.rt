@@ -4,6 +4,3 @@
 mod cursor;
 
 pub use cursor::{Tokens, Unread, place_of};
-
-#[cfg(test)]
-mod tests;

@@ -4,8 +4,8 @@ use Rattle.ioa_tokens.specs.declared.token.Token.{Token}
 use Rattle.ioa_tokens.specs.declared.token.Token.TheVariants as token
 use Rattle.ioa_tokens.specs.declared.mark.Mark.TheVariants as mark
 use Rattle.ioa_terms.specs.declared.tree.Statement.{Statement}
-use Rattle.ioa_source.specs.PlainTerm.{statements_of}
-use Rattle.ioa_source.specs.View.{statement_of}
+use Rattle.ioa_terms.specs.PlainTerm.{statements_of}
+use Rattle.ioa_terms.specs.View.{statement_of}
 use Rattle.ioa_front.specs.Spelling.{else_spelling}
 
 -- where it has a statement its word stands before it

@@ -3,7 +3,7 @@ use Rattle.std.proofs.Common.{◌≡◌, List, [], ◌∷◌, ◌++◌, refl, ap
 use Rattle.ioa_tokens.specs.declared.token.Token.{Token}
 use Rattle.ioa_tokens.specs.declared.token.Token.TheVariants as token
 use Rattle.ioa_tokens.specs.declared.mark.Mark.TheVariants as mark
-use Rattle.ioa_source.specs.PlainTerm.{statements_of}
+use Rattle.ioa_terms.specs.PlainTerm.{statements_of}
 use Rattle.ioa_source.specs.Sides.{SourcePlace as Place, SourceStatement as Statement, SourceStatements as Statements, SourceArms as Arms}
 use Rattle.ioa_term_reader.specs.Spelling.{spelling}
 use Rattle.ioa_term_reader.proofs.PrintedGood.{tokens_joined}

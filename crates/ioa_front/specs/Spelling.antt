@@ -7,7 +7,7 @@ use Rattle.ioa_tokens.specs.declared.mark.Mark.{Mark}
 use Rattle.ioa_tokens.specs.declared.mark.Mark.TheVariants as mark
 use Rattle.ioa_terms.specs.declared.tree.Kind.{Kind}
 use Rattle.ioa_terms.specs.declared.tree.Kind.TheVariants as kind
-use Rattle.ioa_source.specs.PlainTerm.{variable, at_key, at_field, assign, choose, fire, no_statements, statement, statements_of, no_arms, arm}
+use Rattle.ioa_terms.specs.PlainTerm.{variable, at_key, at_field, assign, choose, fire, no_statements, statement, statements_of, no_arms, arm}
 use Rattle.ioa_source.specs.PlainSort.{PlainSort, booleans, integers, naturals, sequences, sets, maps, named_type}
 use Rattle.ioa_source.specs.PlainText.{const, named, enumeration, tuple_of, type_named, automaton, node, channel}
 use Rattle.ioa_source.specs.Sides.{SourceTerm as Term, SourcePlace as Place, SourceStatement as Statement, SourceStatements as Statements, SourceArms as Arms, SourceDeclared as Declared, SourceParameter as Parameter, SourceEntry as Entry, SourceVariable as Variable, SourceTransition as Transition, SourceForm as Form, SourceDeclaration as Declaration, SourcePlacement as Placement, SourceText}

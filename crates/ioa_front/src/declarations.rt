@@ -3,7 +3,7 @@
 ghost use Rattle.std.specs.Prelude.{◌≡◌, ◌++◌, OnOk, map};
 ghost use Rattle.ioa_tokens.specs.declared.mark.Mark.TheVariants as mark;
 ghost use Rattle.ioa_source.specs.SortView.{sort_of};
-ghost use Rattle.ioa_source.specs.View.{statement_of};
+ghost use Rattle.ioa_terms.specs.View.{statement_of};
 ghost use Rattle.ioa_source.specs.TextView.{declared_of, parameter_of, entry_of, variable_of, transition_of, automaton_of, form_of, type_of, declaration_of};
 ghost use Rattle.ioa_source.specs.PlainText as plain;
 ghost use Rattle.ioa_front.specs.Spelling as spec;

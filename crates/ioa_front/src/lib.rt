@@ -12,6 +12,3 @@ mod writing;
 
 pub use ioa_text_reader::{FrontFault, LeftOut, Source, one_source, parse};
 pub use printing::print;
-
-#[cfg(test)]
-mod tests;

@@ -3,8 +3,8 @@
 ghost use Rattle.std.specs.Prelude.{◌≡◌, ◌++◌, OnOk, map};
 ghost use Rattle.ioa_tokens.specs.declared.token.Token.TheVariants as token;
 ghost use Rattle.ioa_tokens.specs.declared.mark.Mark.TheVariants as mark;
-ghost use Rattle.ioa_source.specs.PlainTerm.{statements_of, arms_of, assign, fire};
-ghost use Rattle.ioa_source.specs.View.{term_of, place_of, statement_of, arm_of};
+ghost use Rattle.ioa_terms.specs.PlainTerm.{statements_of, arms_of, assign, fire};
+ghost use Rattle.ioa_terms.specs.View.{term_of, place_of, statement_of, arm_of};
 ghost use Rattle.ioa_front.specs.Spelling as spec;
 
 use crate::piece::Pieces;

@@ -3,8 +3,8 @@
 ghost use Rattle.std.specs.Prelude.{◌≡◌, ◌++◌, OnOk, map};
 ghost use Rattle.std.specs.Option.{option_map};
 ghost use Rattle.ioa_tokens.specs.declared.mark.Mark.TheVariants as mark;
-ghost use Rattle.ioa_source.specs.PlainTerm.{terms_of};
-ghost use Rattle.ioa_source.specs.View.{term_of};
+ghost use Rattle.ioa_terms.specs.PlainTerm.{terms_of};
+ghost use Rattle.ioa_terms.specs.View.{term_of};
 ghost use Rattle.ioa_term_reader.specs.Spelling as spec;
 ghost use Rattle.ioa_front.specs.Spelling.{separated, bracketed, optional};
 ghost use Rattle.ioa_front.specs.Listing as listing;

@@ -2,9 +2,9 @@
 use Rattle.std.proofs.Common.{◌≡◌, ℕ, zero, suc, ◌+◌, ◌<◌, ◌≤◌, List, [], ◌∷◌, length, drop, get_or, arith}
 use Rattle.std.specs.declared.cmp.Ordering.TheVariants.{Less}
 use Rattle.ioa_values.proofs.Ascending.{all_later}
-use Rattle.ioa_operators.specs.Data.{Data}
-use Rattle.ioa_operators.specs.DataOrder.{data_cmp}
-use Rattle.ioa_operators.specs.Collections.{IsAscending}
+use Rattle.ioa_values.specs.Data.{Data}
+use Rattle.ioa_values.specs.DataOrder.{data_cmp}
+use Rattle.ioa_values.specs.Collections.{IsAscending}
 
 -- one more in front, below the next
 pub next_ascends : (xs : List Data) (i j : ℕ) (d e : Data) → d ≡ get_or xs i d → e ≡ get_or xs j e → j ≡ i + 1 → j < length xs → data_cmp d e ≡ Less → IsAscending (drop j xs) → IsAscending (drop i xs)

@@ -7,9 +7,9 @@ use Rattle.std.specs.Option.{IfSome, option_and_then, option_map}
 use Rattle.std.specs.Result.{IfOk}
 use Rattle.ioa_values.proofs.AllOf.{all_appended}
 use Rattle.ioa_values.proofs.Ascending.{by_each, all_with, all_without, with_member_ascends, without_member_ascends, set_of_ascends, union_ascends, with_entry_ascends, without_key_ascends}
-use Rattle.ioa_operators.specs.Data.{Data, Items, Entries, number, truth, constant, tuple, sequence, finite_set, finite_map, no_items, item, no_entries, entry, list_of, pairs_of, items_of, entries_of, as_number, as_truth, is_within}
-use Rattle.ioa_operators.specs.DataOrder.{data_cmp}
-use Rattle.ioa_operators.specs.Collections.{IsAscending, keys_of, with_member, without_member, set_of, union, value_at, with_entry, without_key}
+use Rattle.ioa_values.specs.Data.{Data, Items, Entries, number, truth, constant, tuple, sequence, finite_set, finite_map, no_items, item, no_entries, entry, list_of, pairs_of, items_of, entries_of, as_number, as_truth, is_within}
+use Rattle.ioa_values.specs.DataOrder.{data_cmp}
+use Rattle.ioa_values.specs.Collections.{IsAscending, keys_of, with_member, without_member, set_of, union, value_at, with_entry, without_key}
 use Rattle.ioa_operators.specs.Operators.{sequence_of, finite_set_of, finite_map_of, as_sequence, as_set, as_map, on_numbers, on_truths, on_division, divided, unary_value, binary_value, has_member, first, rest, count, size_value, is_there, call_one, call_two, call_three, call_value, same_truth}
 use Rattle.ioa_operators.specs.Shapes.{PlainShape, tuples, sequences, sets, maps, display_value, field_value, with_field, field_place, have_shapes}
 use Rattle.ioa_operators.specs.Judged.{AnswersOrLacks, kept}

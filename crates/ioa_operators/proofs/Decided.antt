@@ -1,6 +1,6 @@
 -- What a left side decides alone.
 use Rattle.std.proofs.Common.{◌≡◌, Bool, true, false, Some}
-use Rattle.ioa_operators.specs.Data.{Data, truth}
+use Rattle.ioa_values.specs.Data.{Data, truth}
 use Rattle.ioa_operators.specs.Operators.{binary_value, decided}
 use Rattle.ioa_operators.specs.declared.operator.BinaryOperator.{BinaryOperator}
 use Rattle.ioa_operators.specs.declared.operator.BinaryOperator.TheVariants.{Equivalent, Implies, Or, And, Equal, NotEqual}

@@ -1,7 +1,7 @@
 -- Lists of values and of entries, there and back.
 use Rattle.std.proofs.Common.{◌≡◌, List, [], ◌∷◌, refl, ap, length, ◌==◌, false, Some}
 use Rattle.std.specs.List.{remove}
-use Rattle.ioa_operators.specs.Data.{Data, items_of, list_of, entries_of, pairs_of}
+use Rattle.ioa_values.specs.Data.{Data, items_of, list_of, entries_of, pairs_of}
 use Rattle.ioa_operators.specs.Operators.{rest, sequence_of}
 
 pub list_of_items : (ds : List Data) → list_of (items_of ds) ≡ ds

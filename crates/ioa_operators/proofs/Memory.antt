@@ -1,7 +1,7 @@
 -- What calls answer where no memory was left.
 use Rattle.std.proofs.Common.{◌≡◌, Bool, true, false, Option, Some, None, Result, Ok, Err, if◌then◌else◌, ◌&&◌, inl, inr}
-use Rattle.ioa_operators.specs.Data.{Data, is_within}
-use Rattle.ioa_operators.specs.Outcome.{Answers}
+use Rattle.ioa_values.specs.Data.{Data, is_within}
+use Rattle.ioa_values.specs.Outcome.{Answers}
 use Rattle.ioa_operators.specs.Judged.{AnswersOrLacks, LacksMemoryOnlyIf, kept}
 use Rattle.ioa_operators.specs.declared.fault.TermFault.{TermFault}
 use Rattle.ioa_operators.specs.declared.fault.TermFault.TheVariants.{Range, Memory}

@@ -1,7 +1,7 @@
 -- Shapes and values one by one: at the end of the shorter list the lengths decide.
 use Rattle.std.proofs.Common.{◌≡◌, ◌∙◌, ℕ, zero, suc, ◌==◌, Bool, min, List, [], ◌∷◌, length, drop, map, refl, arith}
 use Rattle.std.proofs.lemmas.Bool.Decides.{nat_tests}
-use Rattle.ioa_operators.specs.Data.{Data, items_of}
+use Rattle.ioa_values.specs.Data.{Data, items_of}
 use Rattle.ioa_operators.specs.Shapes.{have_shapes, shapes_of, shapes_widened_by}
 use Rattle.ioa_operators.specs.ShapeView.{shape_of}
 use Rattle.ioa_operators.specs.declared.shape.Shape.{Shape}

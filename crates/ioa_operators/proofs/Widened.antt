@@ -1,6 +1,6 @@
 -- A shape in which nothing is widened is the shape.
 use Rattle.std.proofs.Common.{◌≡◌, false, refl, ap}
-use Rattle.ioa_operators.specs.Data.{Data, Items}
+use Rattle.ioa_values.specs.Data.{Data, Items}
 use Rattle.ioa_operators.specs.Shapes.{PlainShape, PlainShapes, truths, integers, naturals, constants, tuples, sequences, sets, maps, no_shapes, shape, has_shape, have_shapes, widened_by, shapes_widened_by}
 
 mutual

@@ -1,8 +1,8 @@
 -- Values in which every set and every map, at any depth, ascends (profile).
 use Rattle.std.specs.Prelude.{List}
 use Rattle.std.specs.List.{AllByRecursion}
-use Rattle.ioa_operators.specs.Data.{Data, Items, Entries, number, truth, constant, tuple, sequence, finite_set, finite_map, no_items, item, no_entries, entry, list_of, pairs_of}
-use Rattle.ioa_operators.specs.Collections.{IsAscending, keys_of}
+use Rattle.ioa_values.specs.Data.{Data, Items, Entries, number, truth, constant, tuple, sequence, finite_set, finite_map, no_items, item, no_entries, entry, list_of, pairs_of}
+use Rattle.ioa_values.specs.Collections.{IsAscending, keys_of}
 
 abbrev mutual
   -- a value: its sets have their members, and its maps their keys, in ascending order without doubles

@@ -3,7 +3,7 @@ use Rattle.std.specs.Prelude.{◌≡◌, ◌⊎◌, Bool, true, List, [], ◌∷
 use Rattle.std.specs.Option.{ok_or}
 use Rattle.std.specs.Result.{IfErr, IsOk}
 use Rattle.std.specs.List.{list_all}
-use Rattle.ioa_operators.specs.Data.{Data, is_within}
+use Rattle.ioa_values.specs.Data.{Data, is_within}
 use Rattle.ioa_operators.specs.declared.fault.TermFault.{TermFault}
 use Rattle.ioa_operators.specs.declared.fault.TermFault.TheVariants.{Undefined, Range, Memory}
 

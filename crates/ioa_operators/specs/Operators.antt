@@ -4,9 +4,9 @@ use Rattle.std.specs.Prelude.{ℕ, ℤ, pos, ◌+ℤ◌, ◌-ℤ◌, ◌*ℤ◌,
 use Rattle.std.specs.Int.{int_div_euclid, int_rem_euclid}
 use Rattle.std.specs.Option.{option_and_then, option_map}
 use lib.Pointwise.{pointwise}
-use Rattle.ioa_operators.specs.Data.{Data, number, truth, constant, tuple, sequence, finite_set, finite_map, items_of, list_of, entries_of, pairs_of, as_number, as_truth}
-use Rattle.ioa_operators.specs.DataOrder.{same}
-use Rattle.ioa_operators.specs.Collections.{is_member, with_member, without_member, union, value_at, with_entry, without_key}
+use Rattle.ioa_values.specs.Data.{Data, number, truth, constant, tuple, sequence, finite_set, finite_map, items_of, list_of, entries_of, pairs_of, as_number, as_truth}
+use Rattle.ioa_values.specs.DataOrder.{same}
+use Rattle.ioa_values.specs.Collections.{is_member, with_member, without_member, union, value_at, with_entry, without_key}
 use Rattle.ioa_operators.specs.declared.operator.UnaryOperator.{UnaryOperator}
 use Rattle.ioa_operators.specs.declared.operator.UnaryOperator.TheVariants as one
 use Rattle.ioa_operators.specs.declared.operator.BinaryOperator.{BinaryOperator}

@@ -1,6 +1,6 @@
 -- The parts that operators take, as what they have to be (form).
 use Rattle.std.specs.Prelude.{◌≡◌, List, [], ◌∷◌, Option, Some, None, Result, Ok, Err}
-use Rattle.ioa_operators.specs.Data.{Data}
+use Rattle.ioa_values.specs.Data.{Data}
 use Rattle.ioa_operators.specs.declared.functions.Parts.{Parts}
 use Rattle.ioa_operators.specs.declared.functions.Parts.TheVariants.{One, Two, Three}
 use Rattle.ioa_operators.specs.declared.fault.TermFault.{TermFault}

@@ -3,8 +3,8 @@ use Rattle.std.specs.Prelude.{ℕ, pos, int_le, nat_le, nat_lt, nat_eq, ◌+◌,
 use Rattle.std.specs.List.{position}
 use Rattle.std.specs.Option.{option_and_then, option_map}
 use lib.Pointwise.{pointwise}
-use Rattle.ioa_operators.specs.Data.{Data, Items, Entries, number, truth, constant, tuple, sequence, finite_set, finite_map, no_items, item, no_entries, entry, items_of}
-use Rattle.ioa_operators.specs.Collections.{set_of}
+use Rattle.ioa_values.specs.Data.{Data, Items, Entries, number, truth, constant, tuple, sequence, finite_set, finite_map, no_items, item, no_entries, entry, items_of}
+use Rattle.ioa_values.specs.Collections.{set_of}
 use Rattle.ioa_operators.specs.Operators.{as_tuple, sequence_of, finite_set_of, finite_map_of}
 use Rattle.ioa_operators.specs.declared.shape.DisplayForm.{DisplayForm}
 use Rattle.ioa_operators.specs.declared.shape.DisplayForm.TheVariants.{Braces, Brackets}

@@ -2,7 +2,7 @@
 
 ghost use Rattle.std.specs.Prelude.{IfOk, false};
 ghost use Rattle.ioa_operators.specs.Canonical.{IsCanonical};
-ghost use Rattle.ioa_operators.specs.Outcome.{Answers};
+ghost use Rattle.ioa_values.specs.Outcome.{Answers};
 ghost use Rattle.ioa_operators.specs.Judged.{AnswersOrLacks, LacksMemoryOnlyIf, kept};
 ghost use Rattle.ioa_operators.specs.Operators.{unary_value, binary_value, operator_takes_memory};
 

@@ -2,7 +2,7 @@
 
 ghost use Rattle.std.specs.Prelude.{IfOk};
 ghost use Rattle.ioa_operators.specs.Canonical.{AllCanonical, IsCanonical};
-ghost use Rattle.ioa_operators.specs.Outcome.{Answers};
+ghost use Rattle.ioa_values.specs.Outcome.{Answers};
 ghost use Rattle.ioa_operators.specs.Judged.{AnswersOrLacks, LacksMemoryOnlyIf, kept};
 ghost use Rattle.ioa_operators.specs.Shapes.{display_value, display_takes_memory};
 ghost use Rattle.ioa_operators.specs.ShapeView.{shape_of};

@@ -2,7 +2,7 @@
 
 ghost use Rattle.std.specs.Prelude.{◌≡◌, IfOk, slice_set, ◌<◌, length, false};
 ghost use Rattle.ioa_operators.specs.Canonical.{IsCanonical};
-ghost use Rattle.ioa_operators.specs.Outcome.{Answers};
+ghost use Rattle.ioa_values.specs.Outcome.{Answers};
 ghost use Rattle.ioa_operators.specs.Judged.{AnswersOrLacks, LacksMemoryOnlyIf, kept};
 ghost use Rattle.ioa_operators.specs.Shapes.{field_place, field_value, part_named, with_field, with_part};
 ghost use Rattle.ioa_operators.specs.ShapeView.{shape_of};

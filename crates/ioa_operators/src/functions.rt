@@ -2,7 +2,7 @@
 
 ghost use Rattle.std.specs.Prelude.{◌≡◌, IfOk, None, MatchOption};
 ghost use Rattle.ioa_operators.specs.Canonical.{AllCanonical, IsCanonical};
-ghost use Rattle.ioa_operators.specs.Outcome.{Answers};
+ghost use Rattle.ioa_values.specs.Outcome.{Answers};
 ghost use Rattle.ioa_operators.specs.Judged.{AnswersOrLacks, LacksMemoryOnlyIf, kept};
 ghost use Rattle.ioa_operators.specs.Parts.{listed};
 ghost use Rattle.ioa_operators.specs.Operators.{call_one, call_two, call_three, call_value, call_takes_memory, function_named};

@@ -1,7 +1,7 @@
 //! A law of operators: what a function ensures that does nothing.
 
 ghost use Rattle.std.specs.Prelude.{◌≡◌, Bool, true, false, Some};
-ghost use Rattle.ioa_operators.specs.Data.{Data, truth};
+ghost use Rattle.ioa_values.specs.Data.{Data, truth};
 ghost use Rattle.ioa_operators.specs.Operators.{binary_value, decided};
 ghost use Rattle.ioa_operators.specs.declared.operator.BinaryOperator.{BinaryOperator};
 

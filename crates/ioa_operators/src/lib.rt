@@ -25,6 +25,3 @@ pub use laws::decided_law;
 pub use operator::{BinaryOperator, Function, UnaryOperator};
 pub use shape::{DisplayForm, Shape};
 pub use truths::decided_by;
-
-#[cfg(test)]
-mod tests;

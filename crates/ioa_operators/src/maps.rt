@@ -1,7 +1,7 @@
 //! Operators and functions of finite maps.
 
 ghost use Rattle.std.specs.Prelude.{◌≡◌, true, false};
-ghost use Rattle.ioa_operators.specs.Data.{finite_map, entries_of};
+ghost use Rattle.ioa_values.specs.Data.{finite_map, entries_of};
 ghost use Rattle.ioa_operators.specs.Judged.{AnswersOrLacks, kept};
 ghost use Rattle.ioa_operators.specs.Operators.{binary_value, call_two, call_three};
 

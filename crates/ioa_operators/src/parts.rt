@@ -1,7 +1,7 @@
 //! The parts that operators take, as what they have to be.
 
 ghost use Rattle.std.specs.Prelude.{Some, pos, false};
-ghost use Rattle.ioa_operators.specs.Data.{number, as_number, as_truth};
+ghost use Rattle.ioa_values.specs.Data.{number, as_number, as_truth};
 ghost use Rattle.ioa_operators.specs.Operators.{as_tuple, as_sequence, as_set, as_map};
 ghost use Rattle.ioa_operators.specs.Judged.{AnswersOrLacks, kept};
 ghost use Rattle.ioa_operators.specs.Parts.{Takes};

@@ -1,8 +1,8 @@
 //! Functions of finite sets.
 
 ghost use Rattle.std.specs.Prelude.{◌≡◌, ◌↔◌, IfOk, IsTrue, Some, true, false};
-ghost use Rattle.ioa_operators.specs.Collections.{IsAscending, set_of, union};
-ghost use Rattle.ioa_operators.specs.Data.{finite_set, items_of};
+ghost use Rattle.ioa_values.specs.Collections.{IsAscending, set_of, union};
+ghost use Rattle.ioa_values.specs.Data.{finite_set, items_of};
 ghost use Rattle.ioa_operators.specs.Judged.{AnswersOrLacks, kept};
 ghost use Rattle.ioa_operators.specs.Operators.{call_two, finite_set_of};
 

@@ -1,7 +1,7 @@
 //! Shapes of values.
 
 ghost use Rattle.std.specs.Prelude.{◌≡◌, ◌+◌, [], ◌&&◌, IfOk, map, nat_le, nat_lt};
-ghost use Rattle.ioa_operators.specs.Data.{items_of};
+ghost use Rattle.ioa_values.specs.Data.{items_of};
 ghost use Rattle.ioa_operators.specs.Shapes.{naturals, constants, has_shape, have_shapes, all_have, shapes_of, widened, widened_by, shapes_widened_by};
 ghost use Rattle.ioa_operators.specs.ShapeView.{shape_of};
 

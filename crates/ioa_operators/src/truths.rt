@@ -2,7 +2,7 @@
 
 ghost use Rattle.std.specs.Prelude.{◌≡◌, false};
 ghost use Rattle.std.specs.Option.{option_map};
-ghost use Rattle.ioa_operators.specs.Data.{truth};
+ghost use Rattle.ioa_values.specs.Data.{truth};
 ghost use Rattle.ioa_operators.specs.Judged.{AnswersOrLacks, kept};
 ghost use Rattle.ioa_operators.specs.Operators.{unary_value, binary_value, decided};
 

@@ -2,7 +2,7 @@
 -- as it is spelled (profile).
 use Rattle.std.specs.Prelude.{map}
 use Rattle.std.specs.Option.{option_map}
-use Rattle.ioa_source.specs.PlainTerm.{PlainTerm, PlainTerms, number, truth, name, one, two, call, display, field, no_terms, term, PlainPlace, variable, at_key, at_field, PlainStatement, PlainStatements, PlainArms, assign, choose, fire, no_statements, statement, no_arms, arm}
+use Rattle.ioa_terms.specs.PlainTerm.{PlainTerm, PlainTerms, number, truth, name, one, two, call, display, field, no_terms, term, PlainPlace, variable, at_key, at_field, PlainStatement, PlainStatements, PlainArms, assign, choose, fire, no_statements, statement, no_arms, arm}
 use Rattle.ioa_source.specs.PlainText.{PlainDeclared, PlainParameter, const, named, PlainEntry, PlainVariable, PlainTransition, PlainAutomaton, PlainForm, enumeration, tuple_of, PlainType, PlainDeclaration, type_named, automaton, PlainNode, PlainPlacement, node, channel, PlainText}
 use Rattle.ioa_source.specs.Sides.{SourceTerm, SourceTerms, SourcePlace, SourceStatement, SourceStatements, SourceArms, SourceDeclared, SourceParameter, SourceEntry, SourceVariable, SourceTransition, SourceAutomaton, SourceForm, SourceType, SourceDeclaration, SourceNode, SourcePlacement, SourceText}
 

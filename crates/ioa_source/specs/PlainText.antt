@@ -2,7 +2,7 @@
 -- assigned variable and a declared sort.
 use Rattle.std.specs.Prelude.{ℕ, ℤ, List, Option}
 use Rattle.ioa_terms.specs.declared.tree.Kind.{Kind}
-use Rattle.ioa_source.specs.PlainTerm.{PlainTerm, PlainStatement}
+use Rattle.ioa_terms.specs.PlainTerm.{PlainTerm, PlainStatement}
 use Rattle.ioa_source.specs.PlainSort.{PlainSort}
 use Rattle.ioa_source.specs.declared.declaration.Channel.{Channel}
 

@@ -3,7 +3,7 @@
 -- others.
 use Rattle.std.specs.Prelude.{ℕ}
 use Rattle.ioa_operators.specs.declared.shape.Shape.{Shape}
-use Rattle.ioa_source.specs.PlainTerm.{PlainTerm, PlainTerms, PlainPlace, PlainStatement, PlainStatements, PlainArms}
+use Rattle.ioa_terms.specs.PlainTerm.{PlainTerm, PlainTerms, PlainPlace, PlainStatement, PlainStatements, PlainArms}
 use Rattle.ioa_source.specs.PlainText.{PlainDeclared, PlainParameter, PlainEntry, PlainVariable, PlainTransition, PlainAutomaton, PlainForm, PlainType, PlainDeclaration, PlainNode, PlainPlacement, PlainText}
 
 -- what a text spells

@@ -1,7 +1,7 @@
 -- What the trees of the code stand for (view).
 use Rattle.std.specs.Prelude.{map}
 use Rattle.std.specs.Option.{option_map}
-use Rattle.ioa_source.specs.View.{term_of, statement_of}
+use Rattle.ioa_terms.specs.View.{term_of, statement_of}
 use Rattle.ioa_source.specs.SortView.{sort_of}
 use Rattle.ioa_source.specs.PlainText.{PlainDeclared, PlainParameter, const, named, PlainEntry, PlainVariable, PlainTransition, PlainAutomaton, PlainForm, enumeration, tuple_of, PlainType, PlainDeclaration, type_named, automaton, PlainNode, PlainPlacement, node, channel, PlainText}
 use Rattle.ioa_source.specs.declared.declaration.Declared.{Declared}

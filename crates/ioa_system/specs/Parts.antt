@@ -4,7 +4,7 @@ use Rattle.ioa_operators.specs.declared.shape.Shape.{Shape}
 use Rattle.ioa_operators.specs.contracts.shape.Shape as shape
 use Rattle.std.specs.Coded.{Coded, code_by, coded×, coded_ℤ, coded_list}
 use Rattle.std.specs.Borrow.{usize}
-use Rattle.ioa_system.specs.Data.{Data}
+use Rattle.ioa_values.specs.Data.{Data}
 use Rattle.ioa_system.specs.declared.program.Rule.{Rule}
 use Rattle.ioa_system.specs.contracts.program.Rule as rule
 use Rattle.ioa_source.specs.declared.declaration.Variable.{Variable}

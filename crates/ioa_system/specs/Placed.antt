@@ -2,8 +2,8 @@
 use Rattle.std.specs.Prelude.{◌≡◌, ℕ, List, [], ◌∷◌, ◌++◌, Option, Some, None, map, length, All}
 use Rattle.std.specs.List.{AllByRecursion}
 use Rattle.ioa_terms.specs.Placed.{IsPlaced, ArePlaced}
-use Rattle.ioa_source.specs.PlainTerm.{assign, choose, fire}
-use Rattle.ioa_source.specs.View.{statement_of}
+use Rattle.ioa_terms.specs.PlainTerm.{assign, choose, fire}
+use Rattle.ioa_terms.specs.View.{statement_of}
 use Rattle.ioa_source.specs.PlainText.{PlainParameter, const, named, PlainEntry, PlainVariable}
 use Rattle.ioa_source.specs.TextView.{entry_of, variable_of, transition_of}
 use Rattle.ioa_source.specs.Sides.{CheckedParameter, CheckedStatement, CheckedTerm, CheckedVariable}

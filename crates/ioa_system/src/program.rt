@@ -1,7 +1,7 @@
 //! The program of a node: its automaton, made ready to step.
 
 ghost use Rattle.std.specs.Prelude.{◌≡◌, All, map, length};
-ghost use Rattle.ioa_source.specs.View.{statement_of};
+ghost use Rattle.ioa_terms.specs.View.{statement_of};
 ghost use Rattle.ioa_source.specs.TextView.{variable_of};
 ghost use Rattle.ioa_system.specs.Parts.{parts};
 ghost use Rattle.ioa_system.specs.Placed.{IsPlacedRule, ArePlacedFirings, variable_names};

@@ -9,7 +9,7 @@ use Rattle.ioa_operators.specs.declared.operator.UnaryOperator.{UnaryOperator}
 use Rattle.ioa_operators.specs.declared.operator.UnaryOperator.TheVariants.{Not, Negative}
 use Rattle.ioa_operators.specs.declared.operator.BinaryOperator.{BinaryOperator}
 use Rattle.ioa_operators.specs.declared.operator.BinaryOperator.TheVariants as operator
-use Rattle.ioa_source.specs.PlainTerm.{two}
+use Rattle.ioa_terms.specs.PlainTerm.{two}
 use Rattle.ioa_source.specs.Sides.{SourceTerm, SourceTerms}
 use Rattle.ioa_term_reader.specs.Grammar as grammar
 use Rattle.ioa_term_reader.specs.Grammar.{SpellsAt, SpellsTerms, SpellsTerm}

@@ -1,7 +1,7 @@
 -- The heights of several terms and one more behind them.
 use Rattle.std.proofs.Common.{◌≡◌, ℕ, max, List, [], ◌∷◌, ◌++◌, arith}
 use Rattle.std.proofs.Math.Nat.{max_comm}
-use Rattle.ioa_source.specs.PlainTerm.{terms_of}
+use Rattle.ioa_terms.specs.PlainTerm.{terms_of}
 use Rattle.ioa_source.specs.Sides.{SourceTerm}
 use Rattle.ioa_term_reader.specs.Heights.{height, heights}
 

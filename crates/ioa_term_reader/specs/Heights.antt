@@ -1,6 +1,6 @@
 -- How high the trees of terms are (profile).
 use Rattle.std.specs.Prelude.{ℕ, suc, max}
-use Rattle.ioa_source.specs.PlainTerm.{number, truth, name, one, two, call, display, field, no_terms, term}
+use Rattle.ioa_terms.specs.PlainTerm.{number, truth, name, one, two, call, display, field, no_terms, term}
 use Rattle.ioa_source.specs.Sides.{SourceTerm, SourceTerms}
 
 -- how high a tree may be

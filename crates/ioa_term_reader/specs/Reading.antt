@@ -9,8 +9,8 @@ use Rattle.ioa_operators.specs.declared.operator.UnaryOperator.TheVariants.{Not,
 use Rattle.ioa_operators.specs.declared.operator.BinaryOperator.TheVariants.{At}
 use Rattle.ioa_operators.specs.declared.shape.DisplayForm.{DisplayForm}
 use Rattle.ioa_operators.specs.declared.shape.DisplayForm.TheVariants.{Braces, Brackets}
-use Rattle.ioa_source.specs.PlainTerm as plain
-use Rattle.ioa_source.specs.PlainTerm.{no_terms, terms_of}
+use Rattle.ioa_terms.specs.PlainTerm as plain
+use Rattle.ioa_terms.specs.PlainTerm.{no_terms, terms_of}
 use Rattle.ioa_source.specs.Sides.{SourceTerm}
 use Rattle.ioa_cursor.specs.Reading.{◌>>=◌, choose, skip, expected, word, numeral, at_number, at_word, mark_first, behind, several_more}
 use Rattle.ioa_term_reader.specs.Heights.{height, height_limit}

@@ -11,7 +11,7 @@ use Rattle.ioa_operators.specs.declared.operator.BinaryOperator.{BinaryOperator}
 use Rattle.ioa_operators.specs.declared.operator.BinaryOperator.TheVariants as operator
 use Rattle.ioa_operators.specs.declared.shape.DisplayForm.{DisplayForm}
 use Rattle.ioa_operators.specs.declared.shape.DisplayForm.TheVariants.{Braces, Brackets}
-use Rattle.ioa_source.specs.PlainTerm.{number, truth, name, one, two, call, display, field, no_terms, term}
+use Rattle.ioa_terms.specs.PlainTerm.{number, truth, name, one, two, call, display, field, no_terms, term}
 use Rattle.ioa_source.specs.Sides.{SourceTerm, SourceTerms}
 
 -- the mark of an operator before a term

@@ -2,9 +2,9 @@
 
 ghost use Rattle.std.specs.Prelude.{◌≡◌, ◌≤◌, ◌⊎◌, [], ◌∷◌, ◌++◌, Some, IfErr, map};
 ghost use Rattle.ioa_cursor.specs.declared.cursor.Unread.TheVariants.{Memory};
-ghost use Rattle.ioa_source.specs.PlainTerm as plain;
-ghost use Rattle.ioa_source.specs.PlainTerm.{terms_of};
-ghost use Rattle.ioa_source.specs.View.{term_of};
+ghost use Rattle.ioa_terms.specs.PlainTerm as plain;
+ghost use Rattle.ioa_terms.specs.PlainTerm.{terms_of};
+ghost use Rattle.ioa_terms.specs.View.{term_of};
 ghost use Rattle.ioa_term_reader.specs.Heights.{height, heights};
 ghost use Rattle.ioa_term_reader.specs.Reading as spec;
 ghost use Rattle.ioa_values.specs.Outcome.{Matches};

@@ -8,6 +8,3 @@ mod reading;
 
 pub use built::Built;
 pub use reading::{BRACKET_LIMIT, term};
-
-#[cfg(test)]
-mod tests;

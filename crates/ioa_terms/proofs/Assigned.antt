@@ -2,7 +2,7 @@
 use Rattle.std.proofs.Common.{◌≡◌, ℕ, Bool, true, false, List, [], ◌∷◌, Some, refl, subst, if◌then◌else◌}
 use Rattle.std.specs.Option.{option_map}
 use Rattle.std.proofs.lemmas.Slice.Eq.{bytes_eq-Decides}
-use Rattle.ioa_terms.specs.Data.{Data}
+use Rattle.ioa_values.specs.Data.{Data}
 use Rattle.ioa_terms.specs.Bindings.{Bindings, same_name, lookup, put}
 
 -- names that are the same are equal

@@ -4,12 +4,12 @@ use Rattle.std.specs.Prelude.{◌&&◌}
 use Rattle.std.specs.List.{list_all}
 use Rattle.std.proofs.lemmas.List.Folds.{list_all-append}
 use Rattle.std.specs.Option.{option_and_then, option_map, option_or, ok_or}
-use Rattle.ioa_terms.specs.Data.{Data, is_within}
-use Rattle.ioa_terms.specs.Outcome.{and_then}
-use Rattle.ioa_terms.specs.Operators.{unary_value, binary_value, decided}
-use Rattle.ioa_terms.specs.Shapes.{display_value, field_value}
-use Rattle.ioa_terms.specs.ShapeView.{shape_of}
-use Rattle.ioa_terms.specs.Judged.{judged, result_of, kept}
+use Rattle.ioa_values.specs.Data.{Data, is_within}
+use Rattle.ioa_values.specs.Outcome.{and_then}
+use Rattle.ioa_operators.specs.Operators.{unary_value, binary_value, decided}
+use Rattle.ioa_operators.specs.Shapes.{display_value, field_value}
+use Rattle.ioa_operators.specs.ShapeView.{shape_of}
+use Rattle.ioa_operators.specs.Judged.{judged, result_of, kept}
 use Rattle.ioa_terms.specs.Bindings.{Bindings}
 use Rattle.ioa_terms.specs.PlainTerm as plain
 use Rattle.ioa_terms.specs.PlainTerm.{PlainTerm, PlainTerms, name, one, two, call, display, field, no_terms, term}

@@ -1,11 +1,11 @@
 -- Terms make canonical values, and statements canonical environments, of canonical environments.
 use Rattle.std.proofs.Common.{◌≡◌, ℕ, Bool, true, false, List, [], ◌∷◌, Option, Some, None, if◌then◌else◌}
 use Rattle.std.specs.Option.{IfSome, option_and_then, option_map, option_or}
-use Rattle.ioa_terms.specs.Data.{Data, truth}
-use Rattle.ioa_terms.specs.Operators.{unary_value, binary_value, decided, function_named, call_value}
-use Rattle.ioa_terms.specs.Shapes.{PlainShape, has_shape, display_value, field_value, with_field}
-use Rattle.ioa_terms.specs.ShapeView.{shape_of}
-use Rattle.ioa_terms.specs.Canonical.{IsCanonical, AllCanonical}
+use Rattle.ioa_values.specs.Data.{Data, truth}
+use Rattle.ioa_operators.specs.Operators.{unary_value, binary_value, decided, function_named, call_value}
+use Rattle.ioa_operators.specs.Shapes.{PlainShape, has_shape, display_value, field_value, with_field}
+use Rattle.ioa_operators.specs.ShapeView.{shape_of}
+use Rattle.ioa_operators.specs.Canonical.{IsCanonical, AllCanonical}
 use Rattle.ioa_terms.specs.Bindings.{Bindings, same_name, lookup, put}
 use Rattle.ioa_terms.specs.PlainTerm as plain
 use Rattle.ioa_terms.specs.PlainTerm.{PlainTerm, PlainTerms, name, one, two, call, display, field, no_terms, term, PlainPlace, variable, at_key, at_field, PlainStatement, PlainStatements, PlainArms, assign, choose, fire, no_statements, statement, no_arms, arm, statements_of}

@@ -5,10 +5,10 @@ use Rattle.std.specs.Int.{int_div_euclid, int_rem_euclid}
 use Rattle.std.specs.Option.{is_some, option_and_then}
 use Rattle.std.proofs.lemmas.Bool.{and_parts}
 use Rattle.std.proofs.lemmas.Bool.Decides.{nat_tests}
-use Rattle.ioa_terms.specs.Data.{Data, Items, number, truth, tuple, sequence, finite_set, finite_map, no_items, item, list_of, pairs_of, items_of}
-use Rattle.ioa_terms.specs.Collections.{value_at}
-use Rattle.ioa_terms.specs.Operators.{on_numbers, on_truths, unary_value, binary_value, call_value, same_truth}
-use Rattle.ioa_terms.specs.Shapes.{PlainShape, PlainShapes, truths, integers, tuples, sequences, sets, maps, no_shapes, shape, shapes_of, has_shape, have_shapes, display_value, field_value, field_place}
+use Rattle.ioa_values.specs.Data.{Data, Items, number, truth, tuple, sequence, finite_set, finite_map, no_items, item, list_of, pairs_of, items_of}
+use Rattle.ioa_values.specs.Collections.{value_at}
+use Rattle.ioa_operators.specs.Operators.{on_numbers, on_truths, unary_value, binary_value, call_value, same_truth}
+use Rattle.ioa_operators.specs.Shapes.{PlainShape, PlainShapes, truths, integers, tuples, sequences, sets, maps, no_shapes, shape, shapes_of, has_shape, have_shapes, display_value, field_value, field_place}
 use Rattle.ioa_terms.specs.Sorted.{UnaryIs, negation, negative, BinaryIs, equivalent, implies, either, both, equal, differ, below, at_most, above, at_least, item_of, member_of, prepended, appended, joined, sum, difference, product, at_key, FunctionIs, head, tail, items, members, keys, quotient, remainder, inserted, deleted, united, updated, removed, defined, DisplayIs, listed_shapes, field_shape}
 use Rattle.ioa_terms.specs.Undefined.{is_missing_key, is_empty_end, is_low_divisor, is_negative_tuple}
 use Rattle.ioa_terms.proofs.Negatives.{fields_but_for_signs}

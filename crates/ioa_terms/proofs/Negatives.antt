@@ -3,8 +3,8 @@ use Rattle.std.proofs.Common.{◌≡◌, ℕ, ◌+◌, ℤ, pos, negsuc, Bool, t
 use Rattle.std.specs.Prelude.{nat_le, nat_lt, int_le, int_lt, not, ◌&&◌, ◌||◌, map}
 use Rattle.std.proofs.lemmas.Bool.{and_parts}
 use Rattle.std.proofs.lemmas.Bool.Decides.{nat_tests}
-use Rattle.ioa_terms.specs.Data.{Data, Items, Entries, number, truth, constant, tuple, sequence, finite_set, finite_map, no_items, item, no_entries, entry}
-use Rattle.ioa_terms.specs.Shapes.{PlainShape, PlainShapes, truths, integers, naturals, constants, tuples, sequences, sets, maps, no_shapes, shape, shapes_of, has_shape, have_shapes, all_have, entries_have, widened_by, shapes_widened_by}
+use Rattle.ioa_values.specs.Data.{Data, Items, Entries, number, truth, constant, tuple, sequence, finite_set, finite_map, no_items, item, no_entries, entry}
+use Rattle.ioa_operators.specs.Shapes.{PlainShape, PlainShapes, truths, integers, naturals, constants, tuples, sequences, sets, maps, no_shapes, shape, shapes_of, has_shape, have_shapes, all_have, entries_have, widened_by, shapes_widened_by}
 use Rattle.ioa_terms.specs.Sorted.{counted, listed_shapes}
 use Rattle.ioa_terms.specs.Undefined.{has_negative, have_negative, any_negative, entries_negative}
 

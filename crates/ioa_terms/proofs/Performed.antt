@@ -3,11 +3,11 @@ use Rattle.std.proofs.Common.{◌≡◌, ℕ, Bool, true, false, List, [], ◌�
 use Rattle.std.specs.Prelude.{slice_get, slice_set}
 use Rattle.std.specs.List.{list_all}
 use Rattle.std.specs.Option.{option_and_then, option_map}
-use Rattle.ioa_terms.specs.Data.{Data, is_within, as_truth, number, truth, constant, tuple, sequence, finite_set, finite_map, list_of, items_of}
-use Rattle.ioa_terms.specs.Outcome.{and_then}
-use Rattle.ioa_terms.specs.Shapes.{PlainShape, truths, integers, naturals, constants, tuples, sequences, sets, maps, with_field, field_place}
-use Rattle.ioa_terms.specs.ShapeView.{shape_of}
-use Rattle.ioa_terms.specs.Judged.{judged, kept}
+use Rattle.ioa_values.specs.Data.{Data, is_within, as_truth, number, truth, constant, tuple, sequence, finite_set, finite_map, list_of, items_of}
+use Rattle.ioa_values.specs.Outcome.{and_then}
+use Rattle.ioa_operators.specs.Shapes.{PlainShape, truths, integers, naturals, constants, tuples, sequences, sets, maps, with_field, field_place}
+use Rattle.ioa_operators.specs.ShapeView.{shape_of}
+use Rattle.ioa_operators.specs.Judged.{judged, kept}
 use Rattle.ioa_terms.specs.Bindings.{Bindings, lookup, put}
 use Rattle.ioa_terms.specs.PlainTerm.{PlainTerm, PlainPlace, variable, at_key, at_field, PlainStatement, PlainStatements, PlainArms, assign, choose, fire, no_statements, statement, no_arms, arm, statements_of}
 use Rattle.ioa_terms.specs.Meaning.{value, met, if_any}

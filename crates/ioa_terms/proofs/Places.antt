@@ -7,7 +7,7 @@ use Rattle.std.specs.Option.{option_map}
 use Rattle.ioa_terms.specs.PlainTerm.{PlainPlace, variable, at_key, at_field, PlainStatement, PlainStatements, PlainArms, assign, choose, fire, no_statements, statement, no_arms, arm}
 use Rattle.ioa_terms.specs.Placed.{IsPlacedPlace, IsPlacedStatement, AreArmsPlaced, AreAllPlaced, ArePlaced}
 use Rattle.ioa_operators.specs.declared.shape.Shape.{Shape}
-use Rattle.ioa_terms.specs.Data.{Data, constant}
+use Rattle.ioa_values.specs.Data.{Data, constant}
 use Rattle.ioa_terms.specs.Bindings.{Bindings, lookup, put, place_in, names_of, same_name, constants_from, environment}
 
 -- what stands at a place of a variable

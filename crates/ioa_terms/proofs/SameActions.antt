@@ -6,8 +6,8 @@ use Rattle.std.specs.Bool.{Decides}
 use Rattle.std.proofs.lemmas.Bool.Decides.{Decides-int_eq, Decides-and, Decides-like}
 use Rattle.std.proofs.lemmas.Slice.Eq.{slice_eq-Decides, bytes_eq-Decides}
 use Rattle.ioa_values.proofs.Equality.{same_equal, same_itself}
-use Rattle.ioa_terms.specs.Data.{Data}
-use Rattle.ioa_terms.specs.DataOrder.{same}
+use Rattle.ioa_values.specs.Data.{Data}
+use Rattle.ioa_values.specs.DataOrder.{same}
 use Rattle.ioa_terms.specs.ValuesOrder.{all_same}
 use Rattle.ioa_terms.specs.Actions.{same_node_action, same_action}
 use Rattle.ioa_terms.specs.declared.action.NodeAction.{NodeAction}

@@ -7,11 +7,11 @@ use Rattle.std.specs.Option.{IfSome, option_and_then, option_map, option_or}
 use Rattle.ioa_values.proofs.AllOf.{all_appended}
 use Rattle.ioa_values.proofs.Ascending.{by_each, all_with, all_without}
 use Rattle.ioa_operators.proofs.Canonicals.{all_of_list, all_of_either, mapped, chained, mapped_any, chained_any}
-use Rattle.ioa_terms.specs.Data.{Data, Items, Entries, number, truth, tuple, sequence, finite_set, finite_map, no_items, item, no_entries, entry, list_of, pairs_of, items_of, entries_of, as_number, as_truth}
-use Rattle.ioa_terms.specs.DataOrder.{data_cmp}
-use Rattle.ioa_terms.specs.Collections.{with_member, without_member, set_of, union, value_at, with_entry, without_key}
-use Rattle.ioa_terms.specs.Operators.{sequence_of, finite_set_of, finite_map_of, as_sequence, as_set, as_map, on_numbers, on_truths, on_division, divided, unary_value, binary_value, decided, has_member, first, rest, count, size_value, is_there, call_value, same_truth}
-use Rattle.ioa_terms.specs.Shapes.{PlainShape, PlainShapes, truths, integers, naturals, constants, tuples, sequences, sets, maps, no_shapes, shape, has_shape, have_shapes, all_have, entries_have, display_value, field_value, field_place}
+use Rattle.ioa_values.specs.Data.{Data, Items, Entries, number, truth, tuple, sequence, finite_set, finite_map, no_items, item, no_entries, entry, list_of, pairs_of, items_of, entries_of, as_number, as_truth}
+use Rattle.ioa_values.specs.DataOrder.{data_cmp}
+use Rattle.ioa_values.specs.Collections.{with_member, without_member, set_of, union, value_at, with_entry, without_key}
+use Rattle.ioa_operators.specs.Operators.{sequence_of, finite_set_of, finite_map_of, as_sequence, as_set, as_map, on_numbers, on_truths, on_division, divided, unary_value, binary_value, decided, has_member, first, rest, count, size_value, is_there, call_value, same_truth}
+use Rattle.ioa_operators.specs.Shapes.{PlainShape, PlainShapes, truths, integers, naturals, constants, tuples, sequences, sets, maps, no_shapes, shape, has_shape, have_shapes, all_have, entries_have, display_value, field_value, field_place}
 use Rattle.ioa_terms.specs.Sorted.{counted, UnaryIs, negation, negative, BinaryIs, equivalent, implies, either, both, equal, differ, below, at_most, above, at_least, item_of, member_of, prepended, appended, joined, sum, difference, product, at_key, FunctionIs, head, tail, items, members, keys, quotient, remainder, inserted, deleted, united, updated, removed, defined, DisplayIs, listed_shapes, field_shape}
 use Rattle.ioa_operators.specs.declared.operator.UnaryOperator.{UnaryOperator}
 use Rattle.ioa_operators.specs.declared.operator.BinaryOperator.{BinaryOperator}

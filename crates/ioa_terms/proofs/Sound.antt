@@ -1,10 +1,10 @@
 -- The value of a term has the term's shape.
 use Rattle.std.proofs.Common.{◌≡◌, ℕ, List, [], ◌∷◌, Option, Some, None, refl, subst, true}
 use Rattle.std.specs.Option.{IfSome, option_and_then, option_map, option_or}
-use Rattle.ioa_terms.specs.Data.{Data}
-use Rattle.ioa_terms.specs.Operators.{unary_value, binary_value, decided}
-use Rattle.ioa_terms.specs.Shapes.{PlainShape, has_shape, display_value, field_value}
-use Rattle.ioa_terms.specs.ShapeView.{shape_of}
+use Rattle.ioa_values.specs.Data.{Data}
+use Rattle.ioa_operators.specs.Operators.{unary_value, binary_value, decided}
+use Rattle.ioa_operators.specs.Shapes.{PlainShape, has_shape, display_value, field_value}
+use Rattle.ioa_operators.specs.ShapeView.{shape_of}
 use Rattle.ioa_terms.specs.Bindings.{Bindings, lookup}
 use Rattle.ioa_terms.specs.PlainTerm as plain
 use Rattle.ioa_terms.specs.PlainTerm.{PlainTerm, PlainTerms, name, one, two, call, display, field, no_terms, term}

@@ -1,8 +1,8 @@
 -- Actions as text (profile): `send(m, i, j)`, `receive(m, i, j)`, and `a(v, w)@k` or `a@k` for all others.
 use Rattle.std.specs.Prelude.{ℕ, ℤ, zero, suc, List, [], ◌∷◌, ◌++◌, map, codes}
 use Rattle.std.specs.Fmt.{signed_decimal}
-use Rattle.ioa_terms.specs.Data.{Data}
-use Rattle.ioa_terms.specs.Text.{text, with_commas}
+use Rattle.ioa_values.specs.Data.{Data}
+use Rattle.ioa_values.specs.Text.{text, with_commas}
 use Rattle.ioa_terms.specs.declared.action.NodeAction.{NodeAction}
 use Rattle.ioa_terms.specs.declared.action.Action.{Action}
 use Rattle.ioa_terms.specs.declared.action.Action.TheVariants.{Send, Receive, Local, Stimulus}

@@ -4,7 +4,7 @@ use Rattle.std.specs.declared.cmp.Ordering.{Ordering}
 use Rattle.std.specs.Ordering.{nat_cmp, int_cmp, int_eq, ordering_then}
 use Rattle.std.specs.Cmp.Lexicographic.{slice_cmp}
 use lib.Pointwise.{pointwise}
-use Rattle.ioa_terms.specs.DataOrder.{same, data_cmp}
+use Rattle.ioa_values.specs.DataOrder.{same, data_cmp}
 use Rattle.ioa_terms.specs.ValuesOrder.{all_same, list_cmp}
 use Rattle.ioa_terms.specs.declared.action.NodeAction.{NodeAction}
 use Rattle.ioa_terms.specs.declared.action.Action.{Action}

@@ -3,7 +3,7 @@ use Rattle.std.specs.Prelude.{ℕ, ◌+◌, Bool, if◌then◌else◌, List, [],
 use Rattle.std.specs.Option.{option_map}
 use Rattle.std.specs.List.{zip}
 use lib.Pointwise.{pointwise}
-use Rattle.ioa_terms.specs.Data.{Data, constant}
+use Rattle.ioa_values.specs.Data.{Data, constant}
 
 abbrev pub Bindings : Type 0
 Bindings = List (List ℕ × Data)

@@ -1,12 +1,12 @@
 -- Evaluation one step after another, each step judged as it is taken (form): equal to the meaning, by a law.
 use Rattle.std.specs.Prelude.{ℕ, Bool, true, false, List, [], ◌∷◌, Option, Some, None, Result, Ok, Err}
 use Rattle.std.specs.Option.{option_and_then}
-use Rattle.ioa_terms.specs.Outcome.{and_then}
-use Rattle.ioa_terms.specs.Data.{Data, number, truth, as_truth}
-use Rattle.ioa_terms.specs.Operators.{unary_value, binary_value, decided}
-use Rattle.ioa_terms.specs.Shapes.{PlainShape, display_value, field_value, with_field}
-use Rattle.ioa_terms.specs.ShapeView.{shape_of}
-use Rattle.ioa_terms.specs.Judged.{judged, kept}
+use Rattle.ioa_values.specs.Outcome.{and_then}
+use Rattle.ioa_values.specs.Data.{Data, number, truth, as_truth}
+use Rattle.ioa_operators.specs.Operators.{unary_value, binary_value, decided}
+use Rattle.ioa_operators.specs.Shapes.{PlainShape, display_value, field_value, with_field}
+use Rattle.ioa_operators.specs.ShapeView.{shape_of}
+use Rattle.ioa_operators.specs.Judged.{judged, kept}
 use Rattle.ioa_terms.specs.Bindings.{Bindings, lookup, put}
 use Rattle.ioa_terms.specs.Meaning.{called}
 use Rattle.ioa_terms.specs.Performance.{target, target_shape, updated, fitted}

@@ -1,11 +1,11 @@
 -- What terms mean (profile): over numbers without bound, partial, evaluated from left to right.
 use Rattle.std.specs.Prelude.{ℕ, List, [], ◌∷◌, ◌++◌, Option, Some, None, Result}
 use Rattle.std.specs.Option.{option_and_then, option_map, option_or}
-use Rattle.ioa_terms.specs.Data.{Data, number, truth}
-use Rattle.ioa_terms.specs.Operators.{unary_value, binary_value, decided, function_named, call_value}
-use Rattle.ioa_terms.specs.Shapes.{display_value, field_value}
-use Rattle.ioa_terms.specs.ShapeView.{shape_of}
-use Rattle.ioa_terms.specs.Judged.{judged, result_of}
+use Rattle.ioa_values.specs.Data.{Data, number, truth}
+use Rattle.ioa_operators.specs.Operators.{unary_value, binary_value, decided, function_named, call_value}
+use Rattle.ioa_operators.specs.Shapes.{display_value, field_value}
+use Rattle.ioa_operators.specs.ShapeView.{shape_of}
+use Rattle.ioa_operators.specs.Judged.{judged, result_of}
 use Rattle.ioa_terms.specs.Bindings.{Bindings, lookup}
 use Rattle.ioa_terms.specs.PlainTerm as plain
 use Rattle.ioa_terms.specs.PlainTerm.{PlainTerm, PlainTerms, name, one, two, call, display, field, no_terms, term}

@@ -1,11 +1,11 @@
 -- What statements mean (profile): each sees the environment that the one before it left.
 use Rattle.std.specs.Prelude.{ℕ, Bool, true, false, if◌then◌else◌, List, [], ◌∷◌, ◌++◌, Option, Some, None, Result}
 use Rattle.std.specs.Option.{option_and_then, option_map}
-use Rattle.ioa_terms.specs.Data.{Data, as_truth}
-use Rattle.ioa_terms.specs.Operators.{call_value}
-use Rattle.ioa_terms.specs.Shapes.{PlainShape, has_shape, with_field}
-use Rattle.ioa_terms.specs.ShapeView.{shape_of}
-use Rattle.ioa_terms.specs.Judged.{judged}
+use Rattle.ioa_values.specs.Data.{Data, as_truth}
+use Rattle.ioa_operators.specs.Operators.{call_value}
+use Rattle.ioa_operators.specs.Shapes.{PlainShape, has_shape, with_field}
+use Rattle.ioa_operators.specs.ShapeView.{shape_of}
+use Rattle.ioa_operators.specs.Judged.{judged}
 use Rattle.ioa_terms.specs.Bindings.{Bindings, lookup, put}
 use Rattle.ioa_terms.specs.PlainTerm.{PlainTerm, PlainPlace, variable, at_key, at_field, PlainStatement, PlainStatements, PlainArms, assign, choose, fire, no_statements, statement, no_arms, arm, statements_of}
 use Rattle.ioa_terms.specs.Meaning.{value, met, if_any}

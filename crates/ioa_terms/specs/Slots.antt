@@ -1,5 +1,5 @@
 -- What stands at a place of an environment (view).
-use Rattle.ioa_terms.specs.Data.{Data, constant}
+use Rattle.ioa_values.specs.Data.{Data, constant}
 use Rattle.ioa_terms.specs.declared.environment.Slot.{Slot}
 use Rattle.ioa_terms.specs.declared.environment.Slot.TheVariants.{Variable, Constant}
 

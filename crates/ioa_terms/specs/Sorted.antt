@@ -3,10 +3,10 @@
 use Rattle.std.specs.Prelude.{◌≡◌, ℕ, true, if◌then◌else◌, List, [], ◌∷◌, Option, Some, None, map, slice_get}
 use Rattle.std.specs.Option.{option_and_then, option_map}
 use Rattle.std.specs.List.{AllByRecursion}
-use Rattle.ioa_terms.specs.Data.{Data}
-use Rattle.ioa_terms.specs.Operators.{function_named}
-use Rattle.ioa_terms.specs.Shapes.{PlainShape, PlainShapes, truths, integers, naturals, constants, tuples, sequences, sets, maps, no_shapes, shape, has_shape, field_place}
-use Rattle.ioa_terms.specs.ShapeView.{shape_of}
+use Rattle.ioa_values.specs.Data.{Data}
+use Rattle.ioa_operators.specs.Operators.{function_named}
+use Rattle.ioa_operators.specs.Shapes.{PlainShape, PlainShapes, truths, integers, naturals, constants, tuples, sequences, sets, maps, no_shapes, shape, has_shape, field_place}
+use Rattle.ioa_operators.specs.ShapeView.{shape_of}
 use Rattle.ioa_terms.specs.Bindings.{Bindings, same_name, lookup}
 use Rattle.ioa_terms.specs.PlainTerm as plain
 use Rattle.ioa_terms.specs.PlainTerm.{PlainTerm, PlainTerms, name, one, two, call, display, field, no_terms, term}

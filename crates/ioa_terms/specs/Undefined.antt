@@ -1,9 +1,9 @@
 -- The closed list of what has no value though its parts have the shapes that it takes (profile).
 use Rattle.std.specs.Prelude.{pos, int_lt, Bool, true, false, not, ◌||◌, List, [], ◌∷◌}
 use Rattle.std.specs.Option.{is_some}
-use Rattle.ioa_terms.specs.Data.{Data, Items, Entries, number, tuple, sequence, finite_set, finite_map, no_items, item, no_entries, entry, items_of, pairs_of}
-use Rattle.ioa_terms.specs.Collections.{value_at}
-use Rattle.ioa_terms.specs.Shapes.{PlainShape, PlainShapes, naturals, tuples, sequences, sets, maps, shape}
+use Rattle.ioa_values.specs.Data.{Data, Items, Entries, number, tuple, sequence, finite_set, finite_map, no_items, item, no_entries, entry, items_of, pairs_of}
+use Rattle.ioa_values.specs.Collections.{value_at}
+use Rattle.ioa_operators.specs.Shapes.{PlainShape, PlainShapes, naturals, tuples, sequences, sets, maps, shape}
 use Rattle.ioa_operators.specs.declared.operator.BinaryOperator.{BinaryOperator}
 use Rattle.ioa_operators.specs.declared.operator.BinaryOperator.TheVariants.{At}
 use Rattle.ioa_operators.specs.declared.operator.Function.{Function}

@@ -6,8 +6,8 @@ use Rattle.std.specs.Ordering.{as_partial_cmp, eq_by_cmp}
 use Rattle.std.specs.Cmp.{IsTotalOrder, IsEquivalence, IsPartialOrder, IsPartialEquivalence, partial_equiv_from_equiv}
 use Rattle.std.specs.Cmp.Lexicographic.{slice_cmp, slice_partial_cmp, lists_equiv, lists_po, lists_total, lists_agrees, lists_ties}
 use lib.Pointwise.{pointwise}
-use Rattle.ioa_terms.specs.Data.{Data}
-use Rattle.ioa_terms.specs.DataOrder.{same, data_cmp, same_equivalence, data_cmp_partial, data_cmp_total}
+use Rattle.ioa_values.specs.Data.{Data}
+use Rattle.ioa_values.specs.DataOrder.{same, data_cmp, same_equivalence, data_cmp_partial, data_cmp_total}
 
 -- whether two lists have the same values
 abbrev pub all_same : List Data → List Data → Bool

@@ -17,7 +17,7 @@ pub struct Values {
 impl Model for Values {
     ghost use Rattle.std.specs.Prelude.{List};
     ghost use Rattle.std.specs.Coded.{coded_list};
-    ghost use Rattle.ioa_terms.specs.Data.{Data};
+    ghost use Rattle.ioa_values.specs.Data.{Data};
     ghost use Rattle.ioa_values.specs.DataCode.{data_code};
 
     ghost Value = { List Data };

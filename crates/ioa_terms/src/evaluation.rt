@@ -1,14 +1,14 @@
 //! The value of a term.
 
 ghost use Rattle.std.specs.Prelude.{◌≡◌, Some, [], map, true, IfOk};
-ghost use Rattle.ioa_terms.specs.Outcome.{Answers};
+ghost use Rattle.ioa_values.specs.Outcome.{Answers};
 ghost use Rattle.ioa_terms.specs.Meaning.{answer, called};
 ghost use Rattle.ioa_terms.specs.Placed.{IsPlaced, AreTermsPlaced};
 ghost use Rattle.ioa_terms.specs.Bindings.{names_of, place_in, lookup};
-ghost use Rattle.ioa_terms.specs.Judged.{judged, kept};
+ghost use Rattle.ioa_operators.specs.Judged.{judged, kept};
 ghost use Rattle.ioa_terms.specs.Bounded.{bounded, all_bounded};
 ghost use Rattle.ioa_terms.specs.PlainTerm.{terms_of};
-ghost use Rattle.ioa_terms.specs.Data.{is_within};
+ghost use Rattle.ioa_values.specs.Data.{is_within};
 ghost use Rattle.ioa_terms.specs.View.{term_of};
 
 use crate::environment::{Env, Slot};

@@ -2,10 +2,10 @@
 
 ghost use Rattle.std.specs.Prelude.{◌≡◌, ℕ, List, Some, true, not, ◌&&◌, ◌||◌, if◌then◌else◌};
 ghost use Rattle.std.specs.Option.{is_some, option_map};
-ghost use Rattle.ioa_terms.specs.Data.{Data, items_of};
-ghost use Rattle.ioa_terms.specs.Operators.{unary_value, binary_value, call_value};
-ghost use Rattle.ioa_terms.specs.Shapes.{PlainShape, shapes_of, widened, has_shape, have_shapes, display_value, field_value};
-ghost use Rattle.ioa_terms.specs.Canonical.{IsCanonical};
+ghost use Rattle.ioa_values.specs.Data.{Data, items_of};
+ghost use Rattle.ioa_operators.specs.Operators.{unary_value, binary_value, call_value};
+ghost use Rattle.ioa_operators.specs.Shapes.{PlainShape, shapes_of, widened, has_shape, have_shapes, display_value, field_value};
+ghost use Rattle.ioa_operators.specs.Canonical.{IsCanonical};
 ghost use Rattle.ioa_terms.specs.Bindings.{Bindings, same_name, lookup, put};
 ghost use Rattle.ioa_terms.specs.Meaning.{value};
 ghost use Rattle.ioa_terms.specs.PlainTerm.{PlainTerm, PlainStatement};

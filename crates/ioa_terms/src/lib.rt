@@ -20,6 +20,3 @@ pub use laws::{ascending_law, defined_law, put_law, shapes_law};
 pub use performance::perform;
 pub use text::{push_listed, show_action, show_node_action};
 pub use tree::{Arm, Checked, Kind, Place, Statement, Term, Tree};
-
-#[cfg(test)]
-mod tests;

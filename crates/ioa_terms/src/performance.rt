@@ -2,10 +2,10 @@
 
 ghost use Rattle.std.specs.Prelude.{◌≡◌, ◌++◌, map, length, slice_set, ◌<◌, IfOk, Some};
 ghost use Rattle.std.specs.Option.{option_and_then};
-ghost use Rattle.ioa_terms.specs.Outcome.{Answers, and_then};
-ghost use Rattle.ioa_terms.specs.Judged.{kept};
-ghost use Rattle.ioa_terms.specs.Shapes.{with_field};
-ghost use Rattle.ioa_terms.specs.ShapeView.{shape_of};
+ghost use Rattle.ioa_values.specs.Outcome.{Answers, and_then};
+ghost use Rattle.ioa_operators.specs.Judged.{kept};
+ghost use Rattle.ioa_operators.specs.Shapes.{with_field};
+ghost use Rattle.ioa_operators.specs.ShapeView.{shape_of};
 ghost use Rattle.ioa_terms.specs.Bindings.{environment, place_in, names_of, lookup};
 ghost use Rattle.ioa_terms.specs.Performance.{answer_by, updated};
 ghost use Rattle.ioa_terms.specs.Placed.{ArePlaced, AreAllPlaced, IsPlaced, IsPlacedStatement, IsPlacedPlace};

@@ -2,7 +2,7 @@
 
 ghost use Rattle.std.specs.Prelude.{◌≡◌, ◌++◌, IfOk, OnOk, map, string_bytes, codes};
 ghost use Rattle.std.specs.Fmt.{signed_decimal};
-ghost use Rattle.ioa_terms.specs.Text.{text, with_commas};
+ghost use Rattle.ioa_values.specs.Text.{text, with_commas};
 ghost use Rattle.ioa_terms.specs.ActionText.{after_comma, arguments_text, node_action_text, message_text, action_text};
 
 use crate::action::{Action, NodeAction};

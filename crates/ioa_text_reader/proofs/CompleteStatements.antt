@@ -4,8 +4,8 @@ use Rattle.std.proofs.lemmas.Bool.{le-leb}
 use Rattle.ioa_tokens.specs.declared.token.Token.{Token}
 use Rattle.ioa_tokens.specs.declared.token.Token.TheVariants as token
 use Rattle.ioa_tokens.specs.declared.mark.Mark.TheVariants as mark
-use Rattle.ioa_source.specs.PlainTerm as plain
-use Rattle.ioa_source.specs.PlainTerm.{no_statements, statement, statements_of, no_arms, arm, arms_of}
+use Rattle.ioa_terms.specs.PlainTerm as plain
+use Rattle.ioa_terms.specs.PlainTerm.{no_statements, statement, statements_of, no_arms, arm, arms_of}
 use Rattle.ioa_source.specs.Sides.{SourceTerm as Term, SourcePlace as Place, SourceStatement as Statement, SourceStatements as Statements, SourceArms as Arms}
 use Rattle.ioa_cursor.specs.Lists.{Separated, single, followed, Ended, last, closed, continued, Section}
 use Rattle.ioa_cursor.specs.Reading.{bind, choose, skip, expected, word, at, at_word}

@@ -4,7 +4,7 @@ use Rattle.ioa_tokens.specs.declared.token.Token.{Token}
 use Rattle.ioa_tokens.specs.declared.token.Token.TheVariants as token
 use Rattle.ioa_tokens.specs.declared.mark.Mark.TheVariants as mark
 use Rattle.ioa_terms.specs.declared.tree.Kind.{Kind}
-use Rattle.ioa_source.specs.PlainTerm as plain
+use Rattle.ioa_terms.specs.PlainTerm as plain
 use Rattle.ioa_source.specs.PlainSort.{PlainSort}
 use Rattle.ioa_source.specs.PlainText as declarations
 use Rattle.ioa_source.specs.Sides.{SourceTerm as Term, SourceStatement as Statement, SourceDeclared as Declared, SourceEntry as Entry, SourceVariable as Variable, SourceTransition as Transition, SourceForm as Form, SourceType as TypeOf, SourceAutomaton as Automaton, SourceDeclaration as Declaration, SourceNode as Node, SourcePlacement as Placement, SourceText}

@@ -1,7 +1,7 @@
 -- The heights of several statements or arms and one more behind them.
 use Rattle.std.proofs.Common.{◌≡◌, max, List, [], ◌∷◌, ◌++◌}
 use Rattle.std.proofs.Math.Nat.{max_comm}
-use Rattle.ioa_source.specs.PlainTerm.{statements_of, arms_of}
+use Rattle.ioa_terms.specs.PlainTerm.{statements_of, arms_of}
 use Rattle.ioa_source.specs.Sides.{SourceTerm, SourceStatement, SourceStatements}
 use Rattle.ioa_term_reader.specs.Heights.{height}
 use Rattle.ioa_term_reader.proofs.Pushed.{max_assoc}

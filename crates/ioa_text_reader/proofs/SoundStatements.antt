@@ -6,7 +6,7 @@ use Rattle.std.proofs.lemmas.Bool.{leb-true}
 use Rattle.ioa_tokens.specs.declared.token.Token.{Token}
 use Rattle.ioa_tokens.specs.declared.token.Token.TheVariants as token
 use Rattle.ioa_tokens.specs.declared.mark.Mark.TheVariants as mark
-use Rattle.ioa_source.specs.PlainTerm.{statements_of, arms_of}
+use Rattle.ioa_terms.specs.PlainTerm.{statements_of, arms_of}
 use Rattle.ioa_source.specs.Sides.{SourceTerm as Term, SourcePlace as Place, SourceStatement as Statement, SourceStatements as Statements}
 use Rattle.ioa_cursor.specs.Lists.{Separated, single, followed, Ended, last, closed, continued}
 use Rattle.ioa_cursor.proofs.Steps.{read_next, chosen, bound, skip_taken, skip_left, expected_taken, word_taken}

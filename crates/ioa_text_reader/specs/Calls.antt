@@ -1,6 +1,6 @@
 -- What a call of the code stands for (view).
 use Rattle.std.specs.Prelude.{map}
-use Rattle.ioa_source.specs.View.{term_of}
+use Rattle.ioa_terms.specs.View.{term_of}
 use Rattle.ioa_text_reader.specs.Grammar as grammar
 use Rattle.ioa_text_reader.specs.declared.call.ActionCall.{ActionCall}
 

@@ -5,8 +5,8 @@ use Rattle.ioa_tokens.specs.declared.mark.Mark.{Mark}
 use Rattle.ioa_tokens.specs.declared.mark.Mark.TheVariants as mark
 use Rattle.ioa_terms.specs.declared.tree.Kind.{Kind}
 use Rattle.ioa_terms.specs.declared.tree.Kind.TheVariants as kinds
-use Rattle.ioa_source.specs.PlainTerm as plain
-use Rattle.ioa_source.specs.PlainTerm.{statements_of, arms_of}
+use Rattle.ioa_terms.specs.PlainTerm as plain
+use Rattle.ioa_terms.specs.PlainTerm.{statements_of, arms_of}
 use Rattle.ioa_source.specs.PlainSort.{PlainSort, booleans, integers, naturals, sequences, sets, maps, named_type}
 use Rattle.ioa_source.specs.PlainText as declarations
 use Rattle.ioa_source.specs.Sides.{SourceTerm as Term, SourcePlace as Place, SourceStatement as Statement, SourceStatements as Statements, SourceDeclared as Declared, SourceParameter as Parameter, SourceEntry as Entry, SourceVariable as Variable, SourceTransition as Transition, SourceForm as Form, SourceType as TypeOf, SourceAutomaton as Automaton, SourceDeclaration as Declaration, SourceNode as Node, SourcePlacement as Placement, SourceText}

@@ -1,6 +1,6 @@
 -- How high the trees of statements are (profile).
 use Rattle.std.specs.Prelude.{ℕ, suc, max}
-use Rattle.ioa_source.specs.PlainTerm.{terms_of, variable, at_key, at_field, assign, choose, fire, no_statements, statement, no_arms, arm}
+use Rattle.ioa_terms.specs.PlainTerm.{terms_of, variable, at_key, at_field, assign, choose, fire, no_statements, statement, no_arms, arm}
 use Rattle.ioa_source.specs.Sides.{SourcePlace, SourceStatement, SourceStatements, SourceArms}
 use Rattle.ioa_term_reader.specs.Heights.{height, heights}
 

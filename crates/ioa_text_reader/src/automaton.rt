@@ -4,7 +4,7 @@ ghost use Rattle.std.specs.Prelude.{map};
 ghost use Rattle.std.specs.Option.{option_map};
 ghost use Rattle.ioa_cursor.specs.Outcome.{Reads};
 ghost use Rattle.ioa_source.specs.TextView.{declared_of, variable_of, transition_of, automaton_of};
-ghost use Rattle.ioa_source.specs.View.{term_of, statement_of};
+ghost use Rattle.ioa_terms.specs.View.{term_of, statement_of};
 ghost use Rattle.ioa_text_reader.specs.Reading as spec;
 
 use crate::call::{INNER_LIMIT, at_kind, call, kind};

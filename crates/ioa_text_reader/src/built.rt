@@ -2,9 +2,9 @@
 
 ghost use Rattle.std.specs.Prelude.{◌≡◌, ◌≤◌, [], ◌∷◌, ◌++◌, Some, IfErr, map, max};
 ghost use Rattle.ioa_cursor.specs.declared.cursor.Unread.TheVariants.{Memory};
-ghost use Rattle.ioa_source.specs.PlainTerm as plain;
-ghost use Rattle.ioa_source.specs.PlainTerm.{statements_of, arms_of};
-ghost use Rattle.ioa_source.specs.View.{term_of, place_of, statement_of, arm_of};
+ghost use Rattle.ioa_terms.specs.PlainTerm as plain;
+ghost use Rattle.ioa_terms.specs.PlainTerm.{statements_of, arms_of};
+ghost use Rattle.ioa_terms.specs.View.{term_of, place_of, statement_of, arm_of};
 ghost use Rattle.ioa_term_reader.specs.Heights.{height};
 ghost use Rattle.ioa_text_reader.specs.Reading as spec;
 ghost use Rattle.ioa_text_reader.specs.StatementHeights.{place_height, statement_height, statements_height, arms_height};

@@ -2,7 +2,7 @@
 
 ghost use Rattle.std.specs.Prelude.{◌≡◌, map};
 ghost use Rattle.ioa_cursor.specs.Outcome.{Reads};
-ghost use Rattle.ioa_source.specs.View.{term_of};
+ghost use Rattle.ioa_terms.specs.View.{term_of};
 ghost use Rattle.ioa_text_reader.specs.Calls.{call_of};
 ghost use Rattle.ioa_text_reader.specs.Reading as spec;
 

@@ -17,6 +17,3 @@ pub use fault::FrontFault;
 pub use ioa_tokens::LeftOut;
 pub use parsing::{one_source, parse};
 pub use source::Source;
-
-#[cfg(test)]
-mod tests;

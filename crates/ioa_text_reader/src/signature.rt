@@ -4,7 +4,7 @@ ghost use Rattle.std.specs.Prelude.{map};
 ghost use Rattle.std.specs.Option.{option_map};
 ghost use Rattle.ioa_cursor.specs.Outcome.{Reads};
 ghost use Rattle.ioa_source.specs.TextView.{parameter_of, entry_of};
-ghost use Rattle.ioa_source.specs.View.{term_of};
+ghost use Rattle.ioa_terms.specs.View.{term_of};
 ghost use Rattle.ioa_text_reader.specs.Reading as spec;
 
 use crate::call::{INNER_LIMIT, at_kind, kind};

@@ -3,7 +3,7 @@
 ghost use Rattle.std.specs.Prelude.{◌≡◌, map};
 ghost use Rattle.ioa_cursor.specs.Outcome.{Reads};
 ghost use Rattle.ioa_cursor.specs.Reading as cursor;
-ghost use Rattle.ioa_source.specs.View.{place_of, statement_of, arm_of};
+ghost use Rattle.ioa_terms.specs.View.{place_of, statement_of, arm_of};
 ghost use Rattle.ioa_tokens.specs.declared.mark.Mark.TheVariants as mark;
 ghost use Rattle.ioa_text_reader.specs.Reading as spec;
 

@@ -16,6 +16,3 @@ pub use fault::CutFault;
 pub use mark::{LeftOut, Mark};
 pub use token::{Placed, Token, TokenWord};
 pub use written::{Gap, push_mark, push_number, push_word};
-
-#[cfg(test)]
-mod tests;

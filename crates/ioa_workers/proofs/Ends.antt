@@ -9,10 +9,10 @@ use Rattle.ioa_compose.specs.declared.configuration.Conf.{Conf}
 use Rattle.ioa_compose.specs.Start.{start}
 use Rattle.ioa_system.specs.Parts.{Parts}
 use Rattle.ioa_system.specs.Systems.{SystemParts}
-use Rattle.ioa_workers.specs.declared.ending.Ending.{Ending}
-use Rattle.ioa_workers.specs.declared.ending.Fault.{Fault as NodeFault}
+use Rattle.ioa_record.specs.declared.ending.Ending.{Ending}
+use Rattle.ioa_record.specs.declared.ending.NodeFault.{NodeFault}
 use Rattle.ioa_workers.specs.declared.running.Progress.{Progress}
-use Rattle.ioa_workers.specs.declared.record.Record.{Record}
+use Rattle.ioa_record.specs.declared.record.Record.{Record}
 use Rattle.ioa_workers.specs.Options.{Settings}
 use Rattle.ioa_workers.specs.Attempts.{PlainTried, finished, missed, take as taken, attempt_answer}
 use Rattle.ioa_workers.specs.Solo.{Situation, after_attempt, visit, visit_unless_ended, round, rounds, solo, progress_at, has_ended, ending_of, is_cut_short, IsLeftBy, IsSoloRun}

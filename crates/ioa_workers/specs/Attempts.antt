@@ -9,15 +9,15 @@ use Rattle.ioa_compose.specs.declared.configuration.Conf.TheVariants.{Node, Queu
 use Rattle.ioa_compose.specs.declared.fault.StepFault.{StepFault}
 use Rattle.ioa_compose.specs.declared.fault.StepFault.TheVariants as step
 use Rattle.ioa_compose.specs.Composition.{find_conf, joint_answer}
-use Rattle.ioa_workers.specs.declared.ending.Fault.{Fault}
-use Rattle.ioa_workers.specs.declared.ending.Fault.TheVariants.{Undefined, Range, Memory, NotMine, NoChannel, Full}
+use Rattle.ioa_record.specs.declared.ending.NodeFault.{NodeFault}
+use Rattle.ioa_record.specs.declared.ending.NodeFault.TheVariants.{Undefined, Range, Memory, NotMine, NoChannel, Full}
 use Rattle.ioa_workers.specs.declared.turn.Turn.{Turn}
 use Rattle.ioa_workers.specs.declared.turn.Turn.TheVariants as turn
 use Rattle.ioa_workers.specs.declared.running.Course.{Course}
 use Rattle.ioa_workers.specs.declared.running.Progress.{Progress}
 use Rattle.ioa_workers.specs.declared.running.Tried.{Tried}
 use Rattle.ioa_workers.specs.declared.running.Tried.TheVariants as tried
-use Rattle.ioa_workers.specs.Faults.{term_fault}
+use Rattle.ioa_record.specs.NodeFaults.{fault_of_term}
 use Rattle.ioa_workers.specs.Turns.{node_turn, node_of}
 
 -- what an attempt of a node comes to, where it meets no fault: nothing is left of its block, the action is missed, or
@@ -43,7 +43,7 @@ turn_at states k passed = turn_on (find_conf (component.Node k) states) passed
 
 -- what is made of the composition's answer to an action: an action that is not enabled is missed, another fault stands,
 -- and a step is taken where the schedule is shorter than the limit
-abbrev pub taken : ℕ → List Action → Action → Result (List Conf) StepFault → Result PlainTried Fault
+abbrev pub taken : ℕ → List Action → Action → Result (List Conf) StepFault → Result PlainTried NodeFault
 taken limit schedule a (Ok next) = if nat_lt (length schedule) limit then Ok (take a next) else Err Full
 taken limit schedule a (Err step.NotEnabled) = Ok missed
 taken limit schedule a (Err step.Undefined) = Err Undefined
@@ -53,18 +53,18 @@ taken limit schedule a (Err step.NotMine) = Err NotMine
 taken limit schedule a (Err step.NoChannel) = Err NoChannel
 
 -- what firing an action at node k comes to: an action of another node is not the node's own
-abbrev pub fire_answer : ℕ → List Action → List Conf → ℤ → Action → Result PlainTried Fault
+abbrev pub fire_answer : ℕ → List Action → List Conf → ℤ → Action → Result PlainTried NodeFault
 fire_answer limit schedule states k a =
     if int_eq (node_of a) k then taken limit schedule a (joint_answer a states) else Err NotMine
 
 -- what is made of a turn of node k
-abbrev pub turned : ℕ → List Action → List Conf → ℤ → Result Turn TermFault → Result PlainTried Fault
+abbrev pub turned : ℕ → List Action → List Conf → ℤ → Result Turn TermFault → Result PlainTried NodeFault
 turned limit schedule states k (Ok turn.Done) = Ok finished
 turned limit schedule states k (Ok (turn.Fire a)) = fire_answer limit schedule states k a
-turned limit schedule states k (Err f) = Err (term_fault f)
+turned limit schedule states k (Err f) = Err (fault_of_term f)
 
 -- what an attempt of a node comes to on the present configurations
-abbrev pub attempt_answer : ℕ → List Action → List Conf → Progress → Result PlainTried Fault
+abbrev pub attempt_answer : ℕ → List Action → List Conf → Progress → Result PlainTried NodeFault
 attempt_answer limit schedule states p = turned limit schedule states p.node (turn_at states p.node p.passed)
 
 -- the place behind a statement that is passed is a number of the machine

@@ -1,11 +1,6 @@
--- what the contracts of workers cite
+-- what the contracts of this crate and of those above it cite
 pub mod Attempts
-pub mod Command
-pub mod Endings
-pub mod Faults
-pub mod Input
 pub mod Options
-pub mod Output
 pub mod Recorded
 pub mod Reports
 pub mod Solo

@@ -1,12 +1,12 @@
 -- What a run leaves: an execution of the system (Lynch 8.1), and an ending a node (profile).
-use Rattle.std.specs.Prelude.{◌≡◌, ℕ, ◌≤◌, List, Some, length}
+use Rattle.std.specs.Prelude.{◌≡◌, ℕ, ◌≤◌, List, [], ◌∷◌, Some, length}
 use Rattle.ioa_terms.specs.declared.action.Action.{Action}
 use Rattle.ioa_compose.specs.declared.configuration.Conf.{Conf}
 use Rattle.ioa_compose.specs.Executions.{replay}
 use Rattle.ioa_compose.specs.Start.{start}
 use Rattle.ioa_system.specs.Systems.{SystemParts}
-use Rattle.ioa_workers.specs.declared.ending.Ending.{Ending}
-use Rattle.ioa_workers.specs.declared.record.Record.{Record}
+use Rattle.ioa_record.specs.declared.ending.Ending.{Ending}
+use Rattle.ioa_record.specs.declared.record.Record.{Record}
 use Rattle.ioa_workers.specs.declared.running.Course.{Course}
 
 -- a schedule within the limit is an execution from the first configurations that leads to the second (Lynch 8.1)
@@ -21,8 +21,8 @@ Continues limit old new =
     → IsExecution limit from new.schedule.items new.states.items
 
 -- a record and endings of a run of a system: the schedule is an execution from the system's start (Lynch 8.1), the
--- worker's count is the number of its actions, and there is one ending a node (profile)
+-- one worker's count is the number of its actions, and there is one ending a node (profile)
 pub record IsRunOf (s : SystemParts) (limit : ℕ) (r : Record) (endings : List Ending) : Type 0 where
   pub execution : IsExecution limit (start s) r.schedule.items r.states.items
-  pub counted : r.commits ≡ length r.schedule.items
+  pub counted : r.commits.items ≡ length r.schedule.items ∷ []
   pub ended : length endings ≡ length s.programs

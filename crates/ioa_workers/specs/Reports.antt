@@ -1,5 +1,5 @@
 -- The report of a run (profile): its parts in order, each line ended by a line feed.
-use Rattle.std.specs.Prelude.{ℕ, ℤ, ◌+◌, List, [], ◌∷◌, ◌++◌, map, length, codes}
+use Rattle.std.specs.Prelude.{ℕ, ℤ, ◌+◌, List, [], ◌∷◌, ◌++◌, map, length, sum, codes}
 use Rattle.std.specs.Fmt.{decimal, signed_decimal}
 use Rattle.std.specs.List.{flat_map}
 use Rattle.ioa_operators.specs.declared.shape.Shape.{Shape}
@@ -14,9 +14,9 @@ use Rattle.ioa_compose.specs.declared.configuration.Conf.{Conf}
 use Rattle.ioa_compose.specs.declared.configuration.Conf.TheVariants.{Node, Queue}
 use Rattle.ioa_compose.specs.declared.queue.Item.{Item}
 use Rattle.ioa_compose.specs.declared.queue.Item.TheVariants.{Message, Stimulus}
-use Rattle.ioa_workers.specs.declared.ending.Ending.{Ending}
-use Rattle.ioa_workers.specs.declared.record.Record.{Record}
-use Rattle.ioa_workers.specs.Endings.{ending_text}
+use Rattle.ioa_record.specs.declared.ending.Ending.{Ending}
+use Rattle.ioa_record.specs.declared.record.Record.{Record}
+use Rattle.ioa_record.specs.Endings.{ending_text}
 
 -- `k action`, one line an action, counted from k
 abbrev pub action_lines : List (List ℕ) → ℕ → List Action → List ℕ
@@ -67,11 +67,18 @@ ending_lines i [] = []
 ending_lines i (e ∷ more) =
     (codes "ending " ++ (decimal i ++ (codes " " ++ (ending_text e ++ codes "\n")))) ++ ending_lines (i + 1) more
 
--- `worker w commits c` of the one worker, and then `total n`
-abbrev pub commits_part : ℕ → List ℕ
-commits_part n = codes "worker 0 commits " ++ (decimal n ++ (codes "\ntotal " ++ (decimal n ++ codes "\n")))
+-- `worker w commits c`, one line a worker, workers counted from w
+abbrev pub commit_lines : ℕ → List ℕ → List ℕ
+commit_lines w [] = []
+commit_lines w (c ∷ more) =
+    (codes "worker " ++ (decimal w ++ (codes " commits " ++ (decimal c ++ codes "\n")))) ++ commit_lines (w + 1) more
+
+-- the lines of the workers, and then `total n`, where n is the sum of their counts
+abbrev pub commits_part : List ℕ → List ℕ
+commits_part commits = commit_lines 0 commits ++ (codes "total " ++ (decimal (sum commits) ++ codes "\n"))
 
 -- the whole report
 abbrev pub report_text : List (List ℕ) → Record → List Ending → List ℕ
 report_text names r endings =
-    schedule_part names r.schedule.items ++ states_part names r.states.items ++ ending_lines 0 endings ++ commits_part r.commits
+    schedule_part names r.schedule.items ++ states_part names r.states.items ++ ending_lines 0 endings
+    ++ commits_part r.commits.items

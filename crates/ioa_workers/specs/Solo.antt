@@ -7,11 +7,11 @@ use Rattle.ioa_compose.specs.declared.configuration.Conf.{Conf}
 use Rattle.ioa_system.specs.Parts.{Parts}
 use Rattle.ioa_compose.specs.Start.{start}
 use Rattle.ioa_system.specs.Systems.{SystemParts}
-use Rattle.ioa_workers.specs.declared.ending.Ending.{Ending}
-use Rattle.ioa_workers.specs.declared.ending.Ending.TheVariants.{Done, Spent, Fault}
-use Rattle.ioa_workers.specs.declared.ending.Fault.{Fault as NodeFault}
-use Rattle.ioa_workers.specs.declared.ending.Fault.TheVariants as fault
-use Rattle.ioa_workers.specs.declared.record.Record.{Record}
+use Rattle.ioa_record.specs.declared.ending.Ending.{Ending}
+use Rattle.ioa_record.specs.declared.ending.Ending.TheVariants.{Done, Spent, Fault}
+use Rattle.ioa_record.specs.declared.ending.NodeFault.{NodeFault}
+use Rattle.ioa_record.specs.declared.ending.NodeFault.TheVariants as fault
+use Rattle.ioa_record.specs.declared.record.Record.{Record}
 use Rattle.ioa_workers.specs.declared.running.Course.{Course}
 use Rattle.ioa_workers.specs.declared.running.Progress.{Progress}
 use Rattle.ioa_workers.specs.Options.{Settings}

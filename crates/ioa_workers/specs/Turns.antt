@@ -11,7 +11,7 @@ use Rattle.ioa_terms.specs.declared.action.Action.{Action}
 use Rattle.ioa_terms.specs.declared.action.Action.TheVariants.{Send, Receive, Local, Stimulus}
 use Rattle.ioa_operators.specs.declared.fault.TermFault.{TermFault}
 use Rattle.ioa_operators.specs.declared.fault.TermFault.TheVariants.{Undefined}
-use Rattle.ioa_source.specs.View.{statement_of}
+use Rattle.ioa_terms.specs.View.{statement_of}
 use Rattle.ioa_source.specs.TextView.{variable_of}
 use Rattle.ioa_source.specs.Sides.{CheckedStatement, CheckedTerm}
 use Rattle.ioa_system.specs.Placed.{variable_names}

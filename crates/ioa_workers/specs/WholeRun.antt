@@ -12,12 +12,12 @@ use Rattle.ioa_check.specs.Refusals.{check_fault_text}
 use Rattle.ioa_check.specs.Rows.{HasNoRow}
 use Rattle.ioa_check.specs.Standing as standing
 use Rattle.ioa_system.specs.Systems.{SystemParts}
-use Rattle.ioa_workers.specs.declared.ending.Ending.{Ending}
-use Rattle.ioa_workers.specs.declared.record.Record.{Record}
+use Rattle.ioa_record.specs.declared.ending.Ending.{Ending}
+use Rattle.ioa_record.specs.declared.record.Record.{Record}
 use Rattle.ioa_workers.specs.declared.whole_run.RunFault.{RunFault}
 use Rattle.ioa_workers.specs.declared.whole_run.RunFault.TheVariants.{Front, Check, Memory, Write}
 use Rattle.ioa_workers.specs.Options.{Settings}
-use Rattle.ioa_workers.specs.Output.{AppendsBeginning}
+use Rattle.ioa_streams.specs.Output.{AppendsBeginning}
 use Rattle.ioa_workers.specs.Reports.{report_text}
 use Rattle.ioa_workers.specs.Recorded.{IsRunOf}
 use Rattle.ioa_workers.specs.Solo.{IsSoloRun}

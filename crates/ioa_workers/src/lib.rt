@@ -1,19 +1,11 @@
-//! Workers that run a system: its turns, its record and its report, and the program over any streams.
+//! Workers that run a system: its turns, its runs and its report, and whole runs from a text to its report.
 #![tactic(auto)]
 
-mod ending;
-mod input;
 mod options;
-mod output;
-mod program;
-mod record;
 mod reporting;
 mod running;
 mod turn;
 mod whole_run;
 
-pub use input::{INPUT_LIMIT, InputFault, read_input};
-pub use options::Options;
-pub use output::{Out, OutFailed, Over, put_all};
-pub use program::{BAD_WORDS, FAILED, command};
+pub use options::{DEFAULT_ATTEMPTS, DEFAULT_STEPS, Options};
 pub use whole_run::{RunFault, run_system};

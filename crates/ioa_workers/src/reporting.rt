@@ -2,12 +2,12 @@
 
 ghost use Rattle.std.specs.Prelude.{◌≡◌, ◌++◌, IfOk, OnOk, map, string_bytes};
 ghost use Rattle.ioa_values.specs.Text.{with_commas};
-ghost use Rattle.ioa_workers.specs.Reports.{action_lines, schedule_part, variable_line, variable_lines, item_text, queue_line, component_lines, states_part, ending_lines, commits_part, report_text};
+ghost use Rattle.ioa_workers.specs.Reports.{action_lines, schedule_part, variable_line, variable_lines, item_text, queue_line, component_lines, states_part, ending_lines, commit_lines, commits_part, report_text};
 
-use crate::ending::Ending;
-use crate::record::Record;
-use ioa_compose::{Conf, Item, NodeConf, Queue, System};
+use ioa_compose::{Conf, Item, NodeConf, Queue};
+use ioa_record::{Ending, Record};
 use ioa_source::Variable;
+use ioa_system::System;
 use ioa_terms::{
     Action, Component, Names, Shape, Value, push_listed, show, show_action, show_node_action,
 };
@@ -28,7 +28,7 @@ pub fn report(
     push_schedule(alloc, names, &run_record.schedule, &mut report)?;
     push_states(alloc, names, &run_record.states, &mut report)?;
     push_endings(endings, &mut report)?;
-    push_commits(run_record.commits, &mut report)?;
+    push_commits(run_record, &mut report)?;
     Ok(report)
 }
 
@@ -189,9 +189,22 @@ fn push_endings(endings: &[Ending], report: &mut String) -> Result<(), AllocErro
     Ok(())
 }
 
-/// Writes how many actions the one worker recorded, and their total.
-fn push_commits(commits: u64, report: &mut String) -> Result<(), AllocError>
-    ensures { OnOk result (string_bytes report.new ≡ string_bytes report.old ++ commits_part commits) }
+/// Writes how many actions each worker recorded, worker 0 first, and their total.
+fn push_commits(run_record: &Record, report: &mut String) -> Result<(), AllocError>
+    ensures { OnOk result
+        (string_bytes report.new ≡ string_bytes report.old ++ commits_part run_record.now.commits.items) }
 {
-    write!(report, "worker 0 commits {commits}\ntotal {commits}\n")
+    push_commit_lines(&run_record.commits, report)?;
+    let total = run_record.schedule.len();
+    write!(report, "total {total}\n")
+}
+
+/// Writes a line for each worker, worker 0 first.
+fn push_commit_lines(commits: &[u64], report: &mut String) -> Result<(), AllocError>
+    ensures { OnOk result (string_bytes report.new ≡ string_bytes report.old ++ commit_lines 0 commits.now) }
+{
+    for (worker, count) in commits.iter().enumerate() {
+        write!(report, "worker {worker} commits {count}\n")?;
+    }
+    Ok(())
 }

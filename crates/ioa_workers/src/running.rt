@@ -11,11 +11,11 @@ ghost use Rattle.ioa_workers.specs.Attempts.{tried_of, turn_at, taken, fire_answ
 ghost use Rattle.ioa_workers.specs.Recorded.{Continues, IsRunOf};
 ghost use Rattle.ioa_workers.specs.Solo.{IsSoloRun, ending_of, has_ended, is_cut_short, is_under_way, progress_at, round, rounds, short_of_memory, situation_of, visit};
 
-use crate::ending::{Ending, Fault};
 use crate::options::Options;
-use crate::record::Record;
 use crate::turn::{Turn, next, node_of};
-use ioa_compose::{Conf, Program, StepFault, System, find_conf, joint_step, start};
+use ioa_compose::{Conf, StepFault, find_conf, joint_step, start};
+use ioa_record::{Ending, NodeFault, Record};
+use ioa_system::{Program, System};
 use ioa_terms::{Action, Component, TermFault};
 use std::alloc::{AllocError, Global};
 use std::sync::Arc;
@@ -48,21 +48,6 @@ enum Tried {
     Taken(Action, Vec<Conf>),
 }
 
-impl From<TermFault> for Fault {
-    ghost use Rattle.std.specs.Prelude.{◌≡◌};
-    ghost use Rattle.ioa_workers.specs.Faults.{term_fault};
-
-    ghost from_gives = { λ t f. f ≡ term_fault t };
-
-    fn from(fault: TermFault) -> Self {
-        match fault {
-            TermFault::Undefined => Fault::Undefined,
-            TermFault::Range => Fault::Range,
-            TermFault::Memory => Fault::Memory,
-        }
-    }
-}
-
 /// Runs a system by one worker (profile): it goes round the nodes in order until each has an ending. A
 /// visit with no attempt left ends the node; else one attempt is used, and one turn is made on the
 /// present configurations. Gives the record, and an ending for each node, node 0 first. Where memory
@@ -83,7 +68,8 @@ pub fn run(
     let mut nodes = progress_of(alloc, system.programs(), options.attempts())?;
     go_on(alloc, options, &mut course, &mut nodes);
     let endings = endings_of(alloc, &nodes)?;
-    let commits = course.schedule.len() as u64;
+    let mut commits = Vec::new(alloc);
+    commits.push(course.schedule.len() as u64)?;
     let record = Record {
         schedule: course.schedule,
         states: course.states,
@@ -178,7 +164,7 @@ fn short_of_memory(node: Progress) -> Progress
     match node.ending {
         Some(_) => node,
         None => Progress {
-            ending: Some(Ending::Fault(Fault::Memory)),
+            ending: Some(Ending::Fault(NodeFault::Memory)),
             ..node
         },
     }
@@ -227,11 +213,11 @@ fn visit(
 }
 
 /// A node that a fault ends. Want of memory ends no single node.
-fn ended_by(node: Progress, fault: Fault) -> Result<Progress, AllocError>
-    ensures { MatchResult result (λ p. (fault ≡ Fault.Memory → ⊥) × (p ≡ record node { ending = Some (Ending.Fault fault) })) (λ _. fault ≡ Fault.Memory) }
+fn ended_by(node: Progress, fault: NodeFault) -> Result<Progress, AllocError>
+    ensures { MatchResult result (λ p. (fault ≡ NodeFault.Memory → ⊥) × (p ≡ record node { ending = Some (Ending.Fault fault) })) (λ _. fault ≡ NodeFault.Memory) }
 {
     match fault {
-        Fault::Memory => Err(AllocError),
+        NodeFault::Memory => Err(AllocError),
         fault => Ok(Progress {
             ending: Some(Ending::Fault(fault)),
             ..node
@@ -253,8 +239,8 @@ fn commit(course: &mut Course, action: Action, states: Vec<Conf>) -> Result<(), 
 }
 
 /// One turn of a node on the present configurations, and the step of the action that it fires.
-fn attempt(alloc: Global, limit: u64, course: &Course, node: &Progress) -> Result<Tried, Fault>
-    ensures answer { Answers Fault.Memory tried_of result
+fn attempt(alloc: Global, limit: u64, course: &Course, node: &Progress) -> Result<Tried, NodeFault>
+    ensures answer { Answers NodeFault.Memory tried_of result
         (attempt_answer limit course.now.schedule.items course.now.states.items node.now) }
     ensures step { IfOk result (IsStepOf limit course.now) }
     ensures counts { IfOk result (Counts node.now.passed) }
@@ -285,15 +271,15 @@ fn fire(
     course: &Course,
     node: i64,
     action: Action,
-) -> Result<Tried, Fault>
-    ensures answer { Answers Fault.Memory tried_of result
+) -> Result<Tried, NodeFault>
+    ensures answer { Answers NodeFault.Memory tried_of result
         (fire_answer limit course.now.schedule.items course.now.states.items node action) }
     ensures step { IfOk result (IsStepOf limit course.now) }
 {
     if is_fired_by(&action, node) {
         take(alloc, limit, course, action)
     } else {
-        Err(Fault::NotMine)
+        Err(NodeFault::NotMine)
     }
 }
 
@@ -306,8 +292,8 @@ fn is_fired_by(action: &Action, node: i64) -> bool
 
 /// The step of an action by the composition's answer. An action that is not enabled is missed; a step is
 /// `Full` where the schedule is as long as the limit allows.
-fn take(alloc: Global, limit: u64, course: &Course, action: Action) -> Result<Tried, Fault>
-    ensures answer { Answers Fault.Memory tried_of result
+fn take(alloc: Global, limit: u64, course: &Course, action: Action) -> Result<Tried, NodeFault>
+    ensures answer { Answers NodeFault.Memory tried_of result
         (taken limit course.now.schedule.items action (joint_answer action course.now.states.items)) }
     ensures step { IfOk result (IsStepOf limit course.now) }
 {
@@ -316,15 +302,15 @@ fn take(alloc: Global, limit: u64, course: &Course, action: Action) -> Result<Tr
             if (course.schedule.len() as u64) < limit {
                 Ok(Tried::Taken(action, states))
             } else {
-                Err(Fault::Full)
+                Err(NodeFault::Full)
             }
         }
         Err(StepFault::NotEnabled) => Ok(Tried::Missed),
-        Err(StepFault::Undefined) => Err(Fault::Undefined),
-        Err(StepFault::Range) => Err(Fault::Range),
-        Err(StepFault::Memory) => Err(Fault::Memory),
-        Err(StepFault::NotMine) => Err(Fault::NotMine),
-        Err(StepFault::NoChannel) => Err(Fault::NoChannel),
+        Err(StepFault::Undefined) => Err(NodeFault::Undefined),
+        Err(StepFault::Range) => Err(NodeFault::Range),
+        Err(StepFault::Memory) => Err(NodeFault::Memory),
+        Err(StepFault::NotMine) => Err(NodeFault::NotMine),
+        Err(StepFault::NoChannel) => Err(NodeFault::NoChannel),
     }
 }
 

@@ -4,11 +4,11 @@ ghost use Rattle.std.specs.Prelude.{◌≡◌, false, IfOk, IfErr, string_bytes}
 ghost use Rattle.ioa_workers.specs.WholeRun.{IsDescribed, IsReport, IsEarly, IsExactFor, IsRefusalOf, WritesReport};
 
 use crate::options::Options;
-use crate::output::{Out, OutFailed, put_all};
 use crate::reporting::report;
 use crate::running::run;
 use ioa_check::{CheckFault, check};
-use ioa_compose::System;
+use ioa_streams::{Out, OutFailed, put_all};
+use ioa_system::System;
 use ioa_text_reader::{FrontFault, parse};
 use std::alloc::{AllocError, Global};
 use std::fmt;
@@ -122,5 +122,5 @@ fn system_of(alloc: Global, text: &str) -> Result<System, RunFault>
     ensures exact { IsExactFor result text.now }
 {
     let source = parse(alloc, text)?;
-    Ok(check(alloc, source)?)
+    Ok(check(alloc, source.text())?)
 }

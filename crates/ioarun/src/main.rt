@@ -1,7 +1,8 @@
 //! The program `ioarun`: system text on standard input, report on standard output.
 #![tactic(auto)]
 
-use ioa_workers::{BAD_WORDS, FAILED, Over, command};
+use ioa_command::{BAD_WORDS, FAILED, command};
+use ioa_streams::Over;
 use std::process::ExitCode;
 use std::{env, io};
 
@@ -29,6 +30,3 @@ fn run_on_streams(rt: HostRuntime) -> io::Result<u8> {
     let mut err = Over::new(rt.stderr());
     Ok(command(alloc, &words, &mut rt.reader(), &mut out, &mut err))
 }
-
-#[cfg(test)]
-mod tests;

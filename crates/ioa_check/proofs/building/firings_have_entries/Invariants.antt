@@ -1,6 +1,6 @@
 use Rattle.std.proofs.Common.{◌≡◌, map, drop}
 use Rattle.std.specs.List.{list_all}
-use Rattle.ioa_source.specs.View.{statement_of}
+use Rattle.ioa_terms.specs.View.{statement_of}
 use Rattle.ioa_source.specs.TextView.{automaton_of}
 use Rattle.ioa_check.specs.Rows.{fires_entry, fires_as_many}
 use Rattle.ioa_check.proofs.building.firings_have_entries.Given as goal

@@ -1,6 +1,6 @@
 use Rattle.std.proofs.Common.{sym, map, arith}
 use Rattle.std.proofs.lemmas.List.{length-map}
-use Rattle.ioa_source.specs.View.{term_of}
+use Rattle.ioa_terms.specs.View.{term_of}
 use Rattle.ioa_source.specs.TextView.{parameter_of}
 use Rattle.ioa_check.specs.Rows.{argument_repeats}
 use Rattle.ioa_check.proofs.Rows.{pointwise_short}

@@ -1,6 +1,6 @@
 use Rattle.std.proofs.Common.{◌≡◌, length, map, drop}
 use lib.Pointwise.{pointwise}
-use Rattle.ioa_source.specs.View.{term_of}
+use Rattle.ioa_terms.specs.View.{term_of}
 use Rattle.ioa_source.specs.TextView.{parameter_of}
 use Rattle.ioa_check.specs.Rows.{argument_repeats}
 use Rattle.ioa_check.proofs.building.head_repeats.Given as goal

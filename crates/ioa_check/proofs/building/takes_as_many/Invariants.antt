@@ -1,6 +1,6 @@
 use Rattle.std.proofs.Common.{◌≡◌, map, drop, length}
 use Rattle.std.specs.List.{list_all}
-use Rattle.ioa_source.specs.View.{term_of}
+use Rattle.ioa_terms.specs.View.{term_of}
 use Rattle.ioa_source.specs.TextView.{automaton_of, entry_of}
 use Rattle.ioa_check.specs.Rows.{takes_as_many}
 use Rattle.ioa_check.proofs.building.takes_as_many.Given as goal

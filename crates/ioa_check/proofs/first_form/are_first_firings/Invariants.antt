@@ -1,6 +1,6 @@
 use Rattle.std.proofs.Common.{◌≡◌, map, drop}
 use Rattle.std.specs.List.{list_all}
-use Rattle.ioa_source.specs.View.{statement_of}
+use Rattle.ioa_terms.specs.View.{statement_of}
 use Rattle.ioa_check.specs.FirstForm.{is_first_firing}
 use Rattle.ioa_check.proofs.first_form.are_first_firings.Given as goal
 

@@ -1,6 +1,6 @@
 use Rattle.std.proofs.Common.{◌≡◌, map, drop}
 use Rattle.std.specs.List.{list_all}
-use Rattle.ioa_source.specs.View.{term_of}
+use Rattle.ioa_terms.specs.View.{term_of}
 use Rattle.ioa_check.specs.FirstSorts.{is_number}
 use Rattle.ioa_check.proofs.placing.are_numbers.Given as goal
 

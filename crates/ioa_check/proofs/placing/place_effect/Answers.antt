@@ -2,7 +2,7 @@ use Rattle.std.proofs.Common.{arith, take}
 use Rattle.std.proofs.lemmas.Result.{err_from_is_err_and}
 use Rattle.ioa_source.specs.Erasure.{erase_statement}
 use Rattle.ioa_source.specs.Sides.{CheckedStatement}
-use Rattle.ioa_source.specs.View.{statement_of}
+use Rattle.ioa_terms.specs.View.{statement_of}
 use Rattle.ioa_terms.specs.Placed.{IsPlacedStatement}
 use Rattle.ioa_check.specs.Made.{AssignsInteger}
 use Rattle.ioa_check.specs.Rows.{assigns_number, assigns_only}

@@ -1,7 +1,7 @@
 use Rattle.std.proofs.Common.{◌≡◌, map, take, drop}
 use Rattle.std.specs.List.{AllByRecursion, list_all}
 use Rattle.ioa_check.specs.Rows.{assigns_only, assigns_number}
-use Rattle.ioa_source.specs.View.{statement_of}
+use Rattle.ioa_terms.specs.View.{statement_of}
 use Rattle.ioa_source.specs.Erasure.{erase_statement}
 use Rattle.ioa_terms.specs.Placed.{ArePlaced}
 use Rattle.ioa_check.specs.Made.{AssignsInteger}

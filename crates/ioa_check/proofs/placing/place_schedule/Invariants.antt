@@ -1,7 +1,7 @@
 use Rattle.std.proofs.Common.{◌≡◌, map, take, drop}
 use Rattle.std.specs.List.{list_all}
 use Rattle.ioa_check.specs.Rows.{fires_only, fires_numbers}
-use Rattle.ioa_source.specs.View.{statement_of}
+use Rattle.ioa_terms.specs.View.{statement_of}
 use Rattle.ioa_source.specs.Erasure.{erase_statement}
 use Rattle.ioa_system.specs.Placed.{ArePlacedFirings}
 use Rattle.ioa_check.proofs.placing.place_schedule.Given as goal

@@ -1,7 +1,7 @@
 use Rattle.std.proofs.Common.{◌≡◌, map, take, drop}
 use Rattle.std.specs.List.{list_all}
 use Rattle.ioa_check.specs.Rows.{reads_only}
-use Rattle.ioa_source.specs.View.{term_of}
+use Rattle.ioa_terms.specs.View.{term_of}
 use Rattle.ioa_source.specs.Erasure.{erase_term}
 use Rattle.ioa_system.specs.Placed.{ArePlacedTerms}
 use Rattle.ioa_check.proofs.placing.place_terms.Given as goal

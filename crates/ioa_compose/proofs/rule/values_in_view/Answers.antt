@@ -1,6 +1,6 @@
 use Rattle.std.proofs.Common.{sym, ◌∙◌, ap, arith, append-nil, ◌++◌, List}
 use Rattle.ioa_source.specs.TextView.{parameter_of}
-use Rattle.ioa_compose.specs.Data.{Data}
+use Rattle.ioa_values.specs.Data.{Data}
 use Rattle.ioa_compose.proofs.Arguments.{own_values_end}
 use Rattle.ioa_compose.proofs.rule.values_in_view.Goals as goal
 

@@ -1,6 +1,6 @@
 use Rattle.std.proofs.Common.{◌≡◌, ◌++◌, map, drop}
-use Rattle.ioa_source.specs.PlainTerm.{statements_of, arms_of}
-use Rattle.ioa_source.specs.View.{statement_of, arm_of}
+use Rattle.ioa_terms.specs.PlainTerm.{statements_of, arms_of}
+use Rattle.ioa_terms.specs.View.{statement_of, arm_of}
 use Rattle.ioa_front.specs.Spelling.{statements_spelling, arms_spelling}
 use Rattle.ioa_front.specs.Listing.{statements_left, arms_left}
 use Rattle.ioa_front.proofs.statements.+statements.Given as goal

@@ -1,6 +1,6 @@
 use Rattle.std.proofs.Common.{◌≡◌, ◌++◌, map, drop}
-use Rattle.ioa_source.specs.PlainTerm.{terms_of}
-use Rattle.ioa_source.specs.View.{term_of}
+use Rattle.ioa_terms.specs.PlainTerm.{terms_of}
+use Rattle.ioa_terms.specs.View.{term_of}
 use Rattle.ioa_term_reader.specs.Spelling.{parts_spelling}
 use Rattle.ioa_front.specs.Listing.{parts_left}
 use Rattle.ioa_front.proofs.terms.+terms.Given as goal

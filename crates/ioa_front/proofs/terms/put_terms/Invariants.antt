@@ -1,6 +1,6 @@
 use Rattle.std.proofs.Common.{◌≡◌, ◌++◌, map, drop}
 use Rattle.ioa_tokens.specs.declared.mark.Mark.TheVariants as mark
-use Rattle.ioa_source.specs.View.{term_of}
+use Rattle.ioa_terms.specs.View.{term_of}
 use Rattle.ioa_term_reader.specs.Spelling.{spelling}
 use Rattle.ioa_front.specs.Spelling.{separated}
 use Rattle.ioa_front.specs.Listing.{items_left}

@@ -1,5 +1,5 @@
 use Rattle.std.proofs.Common.{◌-◌, drop}
-use Rattle.ioa_operators.specs.Collections.{IsAscending}
+use Rattle.ioa_values.specs.Collections.{IsAscending}
 use Rattle.ioa_operators.proofs.sets.ascends.Given as goal
 
 -- the whole ascends where what begins with the last member gone by does

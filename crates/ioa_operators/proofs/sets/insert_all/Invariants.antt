@@ -1,5 +1,5 @@
 use Rattle.std.proofs.Common.{◌≡◌, vec_len}
-use Rattle.ioa_operators.specs.Collections.{union}
+use Rattle.ioa_values.specs.Collections.{union}
 use Rattle.ioa_operators.proofs.sets.insert_all.Given as goal
 
 -- what is left makes the same union with what was made

@@ -1,5 +1,5 @@
 use Rattle.std.proofs.Common.{◌≡◌, drop, map}
-use Rattle.ioa_operators.specs.Data.{items_of, entries_of}
+use Rattle.ioa_values.specs.Data.{items_of, entries_of}
 use Rattle.ioa_operators.specs.Shapes.{has_shape, have_shapes, all_have, entries_have, shapes_of, widened_by, shapes_widened_by}
 use Rattle.ioa_operators.specs.ShapeView.{shape_of}
 use Rattle.ioa_operators.proofs.shape.+admitting.Given as goal

@@ -1,7 +1,7 @@
 use Rattle.std.proofs.Common.{◌≡◌, ◌+◌, ◌-◌, ◌*◌, map}
 use Rattle.ioa_tokens.specs.declared.mark.Mark.TheVariants as mark
 use Rattle.ioa_cursor.specs.Reading.{collected, skip}
-use Rattle.ioa_source.specs.View.{term_of}
+use Rattle.ioa_terms.specs.View.{term_of}
 use Rattle.ioa_term_reader.specs.Reading as spec
 use Rattle.ioa_term_reader.proofs.reading.+terms.Given as goal
 

@@ -1,5 +1,5 @@
 use Rattle.std.proofs.Common.{◌≡◌, ◌++◌, Ok, map, drop}
-use Rattle.ioa_terms.specs.Outcome.{and_then}
+use Rattle.ioa_values.specs.Outcome.{and_then}
 use Rattle.ioa_terms.specs.Placed.{AreTermsPlaced}
 use Rattle.ioa_terms.specs.Bindings.{names_of}
 use Rattle.ioa_terms.specs.Bounded.{all_bounded}

@@ -1,4 +1,4 @@
-use Rattle.ioa_terms.specs.Text.{text}
+use Rattle.ioa_values.specs.Text.{text}
 use Rattle.ioa_terms.proofs.Commas.{with_commas-more}
 use Rattle.ioa_terms.proofs.text.show_listed.Goals as goal
 

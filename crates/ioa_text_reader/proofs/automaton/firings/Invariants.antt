@@ -1,6 +1,6 @@
 use Rattle.std.proofs.Common.{◌≡◌, ◌-◌, map}
 use Rattle.ioa_tokens.specs.declared.mark.Mark.TheVariants as mark
-use Rattle.ioa_source.specs.View.{statement_of}
+use Rattle.ioa_terms.specs.View.{statement_of}
 use Rattle.ioa_cursor.specs.Reading.{collected, at, resumed}
 use Rattle.ioa_text_reader.specs.Reading.{firing, firings}
 use Rattle.ioa_text_reader.proofs.automaton.firings.Given as goal

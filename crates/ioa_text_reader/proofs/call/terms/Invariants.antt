@@ -1,6 +1,6 @@
 use Rattle.std.proofs.Common.{◌≡◌, ◌-◌, map}
 use Rattle.ioa_tokens.specs.declared.mark.Mark.TheVariants as mark
-use Rattle.ioa_source.specs.View.{term_of}
+use Rattle.ioa_terms.specs.View.{term_of}
 use Rattle.ioa_cursor.specs.Reading.{collected, skip}
 use Rattle.ioa_term_reader.specs.Reading.{term}
 use Rattle.ioa_text_reader.specs.Reading.{terms}

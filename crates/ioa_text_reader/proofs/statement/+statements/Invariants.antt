@@ -1,7 +1,7 @@
 use Rattle.std.proofs.Common.{◌≡◌, ◌+◌, ◌-◌, ◌*◌, map}
 use Rattle.ioa_tokens.specs.declared.mark.Mark.TheVariants as mark
 use Rattle.ioa_cursor.specs.Reading.{collected, resumed, skip}
-use Rattle.ioa_source.specs.View.{statement_of, arm_of}
+use Rattle.ioa_terms.specs.View.{statement_of, arm_of}
 use Rattle.ioa_text_reader.specs.Reading as spec
 use Rattle.ioa_text_reader.proofs.statement.+statements.Given as goal
 

@@ -1,6 +1,6 @@
 use Rattle.std.proofs.Common.{map, arith}
 use Rattle.std.proofs.lemmas.List.{map_push}
-use Rattle.ioa_source.specs.View.{arm_of}
+use Rattle.ioa_terms.specs.View.{arm_of}
 use Rattle.ioa_text_reader.proofs.Pushed.{arms_push}
 use Rattle.ioa_text_reader.proofs.built.BuiltArms.with_arm.Goals as goal
 

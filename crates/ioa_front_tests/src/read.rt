@@ -1,0 +1,208 @@
+//! What texts are read as.
+
+use ioa_front::parse;
+use crate::shown::shown;
+use std::alloc::{AllocError, Global};
+use std::test::Fail;
+
+/// A text, and its tree in short.
+static READ: [(&str, &str); 26] = [
+    ("system", ""),
+    ("  system % the end", ""),
+    (
+        "system node 0: A node 1: B() channel 0 -> 1 node 9223372036854775807: C(1, x)",
+        "node 0 A()\nnode 1 B()\nchannel 0 1\nnode 9223372036854775807 C(1, x)\n",
+    ),
+    ("type T = enumeration of red system", "type T of red\n"),
+    (
+        "type T = enumeration of a, b, c type U = tuple of x: Int system",
+        "type T of a, b, c\ntype U with x: Int\n",
+    ),
+    (
+        "type U = tuple of x, y: Int, b: Bool, n, m: Map[Nat, Seq[Set[T]]] system",
+        "type U with x: Int, y: Int, b: Bool, n: Map[Nat, Seq[Set[T]]], m: Map[Nat, Seq[Set[T]]]\n",
+    ),
+    ("automaton A system", "automaton A()\ndo \n"),
+    (
+        "automaton A type T = enumeration of a automaton B system",
+        "automaton A()\ndo \ntype T of a\nautomaton B()\ndo \n",
+    ),
+    (
+        "automaton A(i, j: Nat, t: T) system",
+        "automaton A(i: Nat, j: Nat, t: T)\ndo \n",
+    ),
+    (
+        "automaton A signature states n: Int transitions schedule do od system",
+        "automaton A()\nstate n: Int\ndo \n",
+    ),
+    (
+        "automaton A signature input go output tell() internal tick system",
+        "automaton A()\nInput go()\nOutput tell()\nInternal tick()\ndo \n",
+    ),
+    (
+        "automaton A signature output send(m: Int, const i, const j + 1), system",
+        "automaton A()\nOutput send(m: Int, const i, const (j Plus 1))\ndo \n",
+    ),
+    (
+        "automaton A signature output a, b where x > 1, c(v, w: Int, const 0, u: Bool) where u input d system",
+        "automaton A()\nOutput a()\nOutput b() where (x Greater 1)\nOutput c(v: Int, w: Int, const 0, u: Bool) where u\nInput d()\ndo \n",
+    ),
+    (
+        "automaton A signature output a, input b, output c system",
+        "automaton A()\nOutput a()\nInput b()\nOutput c()\ndo \n",
+    ),
+    (
+        "automaton A states n: Int := 7, s: Set[T], m: Map[Int, Bool] := {} system",
+        "automaton A()\nstate n: Int := 7\nstate s: Set[T]\nstate m: Map[Int, Bool] := Braces()\ndo \n",
+    ),
+    (
+        "automaton A transitions output a internal b() input c(x, 1 + y) system",
+        "automaton A()\non Output a() eff \non Internal b() eff \non Input c(x, (1 Plus y)) eff \ndo \n",
+    ),
+    (
+        "automaton A transitions output a pre x = 1 output b pre y; output c pre z; eff z := false system",
+        "automaton A()\non Output a() pre (x Equal 1) eff \non Output b() pre y eff \non Output c() pre z eff z := false\ndo \n",
+    ),
+    (
+        "automaton A transitions output a eff x := 1; m[k + 1] := y; r.f := {x}; system",
+        "automaton A()\non Output a() eff x := 1; m[(k Plus 1)] := y; r.f := Braces(x)\ndo \n",
+    ),
+    (
+        "automaton A transitions output a eff if x then y := 1 fi system",
+        "automaton A()\non Output a() eff if x then y := 1 else  fi\ndo \n",
+    ),
+    (
+        "automaton A transitions output a eff if x then y := 1; fi; z := 2 system",
+        "automaton A()\non Output a() eff if x then y := 1 else  fi; z := 2\ndo \n",
+    ),
+    (
+        "automaton A transitions output a eff if x then y := 1 else y := 2; z := 3; fi system",
+        "automaton A()\non Output a() eff if x then y := 1 else y := 2; z := 3 fi\ndo \n",
+    ),
+    (
+        "automaton A transitions output a eff if x then y := 1 elseif z then y := 2; elseif w then y := 3 else y := 4 fi system",
+        "automaton A()\non Output a() eff if x then y := 1 elseif z then y := 2 elseif w then y := 3 else y := 4 fi\ndo \n",
+    ),
+    (
+        "automaton A transitions output a eff if x then if y then z := 1 fi else if w then z := 2 fi fi system",
+        "automaton A()\non Output a() eff if x then if y then z := 1 else  fi else if w then z := 2 else  fi fi\ndo \n",
+    ),
+    (
+        "automaton A schedule do fire a; fire output b(); fire input c(1, x); fire internal d; od system",
+        "automaton A()\ndo fire a(); fire Output b(); fire Input c(1, x); fire Internal d()\n",
+    ),
+    (
+        "automaton A signature input b states x: T transitions input b schedule do fire b od system node 0: A",
+        "automaton A()\nInput b()\nstate x: T\non Input b() eff \ndo fire b()\nnode 0 A()\n",
+    ),
+    ("system%\nnode 0: A", "node 0 A()\n"),
+];
+
+/// Two nodes that hand two messages over one channel.
+const LIST: &str = "automaton Src
+  signature output send(m: Int, const 0, const 1)
+  states n: Int := 7
+  transitions output send(m, 0, 1) pre m = n eff n := n + 1
+  schedule do fire send(n, 0, 1); fire send(n, 0, 1) od
+automaton Dst
+  signature input receive(m: Int, const 0, const 1)
+  states last: Int := 0
+  transitions input receive(m, 0, 1) eff last := m
+  schedule do fire receive(7, 0, 1); fire receive(8, 0, 1) od
+system
+  node 0: Src
+  node 1: Dst
+  channel 0 -> 1
+";
+
+/// The same in short.
+const SHORT_LIST: &str = "automaton Src()
+Output send(m: Int, const 0, const 1)
+state n: Int := 7
+on Output send(m, 0, 1) pre (m Equal n) eff n := (n Plus 1)
+do fire send(n, 0, 1); fire send(n, 0, 1)
+automaton Dst()
+Input receive(m: Int, const 0, const 1)
+state last: Int := 0
+on Input receive(m, 0, 1) eff last := m
+do fire receive(7, 0, 1); fire receive(8, 0, 1)
+node 0 Src()
+node 1 Dst()
+channel 0 1
+";
+
+/// A sender without a schedule, and its receiver.
+const PING: &str = "automaton Ping
+  signature output send(m: Int, const 0, const 1)
+  transitions output send(m, 0, 1) pre m = 5
+automaton Dst
+  signature input receive(m: Int, const 0, const 1)
+  states last: Int := 0
+  transitions input receive(m, 0, 1) eff last := m
+  schedule do fire receive(7, 0, 1); fire receive(8, 0, 1) od
+system
+  node 0: Ping
+  node 1: Dst
+  channel 0 -> 1
+";
+
+/// These in short.
+const SHORT_PING: &str = "automaton Ping()
+Output send(m: Int, const 0, const 1)
+on Output send(m, 0, 1) pre (m Equal 5) eff 
+do 
+automaton Dst()
+Input receive(m: Int, const 0, const 1)
+state last: Int := 0
+on Input receive(m, 0, 1) eff last := m
+do fire receive(7, 0, 1); fire receive(8, 0, 1)
+node 0 Ping()
+node 1 Dst()
+channel 0 1
+";
+
+/// A text's tree in short, or its refusal.
+fn answer(alloc: Global, text: &str) -> Result<String, AllocError> {
+    match parse(alloc, text) {
+        Ok(source) => shown(alloc, source.text()),
+        Err(fault) => crate::refusals::short(alloc, &fault),
+    }
+}
+
+#[test]
+fn texts_are_read(rt: HostRuntime) -> Result<(), Fail> {
+    let alloc = rt.alloc();
+    for (text, wanted) in &READ {
+        let found = answer(alloc, text)?;
+        assert_eq!(rt; found.as_str(), *wanted, "in {text}");
+    }
+    Ok(())
+}
+
+#[test]
+fn whole_texts(rt: HostRuntime) -> Result<(), Fail> {
+    let alloc = rt.alloc();
+    assert_eq!(rt; answer(alloc, LIST)?.as_str(), SHORT_LIST);
+    assert_eq!(rt; answer(alloc, PING)?.as_str(), SHORT_PING);
+    Ok(())
+}
+
+#[test]
+fn each_beginning(rt: HostRuntime) -> Result<(), Fail> {
+    let alloc = rt.alloc();
+    let mut text = String::new(alloc);
+    for letter in LIST.chars() {
+        let (number, place) = crate::refusals::answer(alloc, text.as_str());
+        assert!(rt;
+            number == 0 || number == 10 || number == 12,
+            "{number} at {place} in {text}"
+        );
+        assert!(rt; place <= text.len(), "{number} at {place} in {text}");
+        text.push(letter)?;
+    }
+    assert_eq!(rt;
+        crate::refusals::answer(alloc, text.as_str()),
+        (0, 0)
+    );
+    Ok(())
+}

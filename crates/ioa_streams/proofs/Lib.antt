@@ -1,0 +1,3 @@
+-- lemmas of streams
+mod Appended
+mod Utf8
