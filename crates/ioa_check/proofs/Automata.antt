@@ -4,7 +4,7 @@ use Rattle.std.proofs.lemmas.List.{take_more, map-append, append_assoc, append-n
 use Rattle.ioa_source.specs.declared.declaration.Declaration.{Declaration}
 use Rattle.ioa_source.specs.TextView.{declaration_of}
 use Rattle.ioa_source.specs.Sides.{SourceAutomaton, SourceDeclaration}
-use Rattle.ioa_check.specs.Made.{automaton_in, automata_in}
+use Rattle.ioa_check.specs.Correspondence.{automaton_in, automata_in}
 
 -- one more declaration
 automata_append : (ds : List SourceDeclaration) (d : SourceDeclaration) → automata_in (ds ++ d ∷ []) ≡ automata_in ds ++ automaton_in d

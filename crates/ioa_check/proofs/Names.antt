@@ -2,22 +2,22 @@
 use Rattle.std.proofs.Common.{◌≡◌, ◌<◌, ℕ, ◌+◌, Bool, true, false, ◌||◌, List, [], ◌∷◌, Option, Some, None, refl, take, if◌then◌else◌}
 use Rattle.std.specs.List.{list_any}
 use Rattle.std.specs.Option.{option_map}
-use Rattle.ioa_terms.specs.Bindings.{place_in, same_name}
-use Rattle.ioa_terms.proofs.Places.{place_among_first}
+use Rattle.ioa_terms.specs.Bindings.{slot_in, same_name}
+use Rattle.ioa_terms.proofs.Slots.{slot_among_first}
 
 -- a name that has a place is one of the names
-pub any_place : (x : List ℕ) (names : List (List ℕ)) (at : ℕ) → place_in x names ≡ Some at → list_any (same_name x) names ≡ true
-any_place x [] at h = absurd (cc)
-any_place x (y ∷ ys) at h = by_test (same_name x y) (λ k e. any_place x ys k e) h
+pub any_slot : (x : List ℕ) (names : List (List ℕ)) (at : ℕ) → slot_in x names ≡ Some at → list_any (same_name x) names ≡ true
+any_slot x [] at h = absurd (cc)
+any_slot x (y ∷ ys) at h = by_test (same_name x y) (λ k e. any_slot x ys k e) h
   where
-    by_place : (o : Option ℕ) → place_in x ys ≡ o → ((k : ℕ) → place_in x ys ≡ Some k → list_any (same_name x) ys ≡ true) → option_map (λ k. k + 1) o ≡ Some at → list_any (same_name x) ys ≡ true
-    by_place None e further h = absurd (cc)
-    by_place (Some k) e further h = further k e
+    by_slot : (o : Option ℕ) → slot_in x ys ≡ o → ((k : ℕ) → slot_in x ys ≡ Some k → list_any (same_name x) ys ≡ true) → option_map (λ k. k + 1) o ≡ Some at → list_any (same_name x) ys ≡ true
+    by_slot None e further h = absurd (cc)
+    by_slot (Some k) e further h = further k e
 
-    by_test : (b : Bool) → ((k : ℕ) → place_in x ys ≡ Some k → list_any (same_name x) ys ≡ true) → (if b then Some 0 else option_map (λ k. k + 1) (place_in x ys)) ≡ Some at → (b || list_any (same_name x) ys) ≡ true
+    by_test : (b : Bool) → ((k : ℕ) → slot_in x ys ≡ Some k → list_any (same_name x) ys ≡ true) → (if b then Some 0 else option_map (λ k. k + 1) (slot_in x ys)) ≡ Some at → (b || list_any (same_name x) ys) ≡ true
     by_test true further h = refl
-    by_test false further h = by_place (place_in x ys) refl further h
+    by_test false further h = by_slot (slot_in x ys) refl further h
 
 -- a name that has one of the first places is one of the first names
-pub any_first_place : (x : List ℕ) (names : List (List ℕ)) (at count : ℕ) → place_in x names ≡ Some at → at < count → list_any (same_name x) (take count names) ≡ true
-any_first_place x names at count h l = any_place x (take count names) at (place_among_first names x at count h l)
+pub any_first_slot : (x : List ℕ) (names : List (List ℕ)) (at count : ℕ) → slot_in x names ≡ Some at → at < count → list_any (same_name x) (take count names) ≡ true
+any_first_slot x names at count h l = any_slot x (take count names) at (slot_among_first names x at count h l)

@@ -1,7 +1,7 @@
 -- The programs of a text's nodes, one after another.
 use Rattle.std.proofs.Common.{◌≡◌, ℕ, ◌+◌, List, [], ◌∷◌, ◌++◌, length, subst, arith}
 use Rattle.ioa_system.specs.Parts.{Parts}
-use Rattle.ioa_check.specs.Made.{AreNodesOf, IsNodeOf}
+use Rattle.ioa_check.specs.Correspondence.{AreNodesOf, IsNodeOf}
 use Rattle.ioa_source.specs.Sides.{SourceText}
 
 -- one more node

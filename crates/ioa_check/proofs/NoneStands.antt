@@ -16,12 +16,12 @@ use Rattle.ioa_terms.specs.declared.tree.Kind.TheVariants.{Input}
 use Rattle.ioa_terms.specs.PlainTerm.{number, name, two}
 use Rattle.ioa_source.specs.PlainText.{automaton, const, named, type_named}
 use Rattle.ioa_source.specs.Sides.{SourceAutomaton, SourceDeclaration, SourceEntry, SourceNode, SourceParameter, SourceTerm, SourceText, SourceTransition, SourceVariable}
-use Rattle.ioa_system.specs.Placed.{own_names, variable_names}
+use Rattle.ioa_system.specs.ResolvedPrograms.{own_names, variable_names}
 use Rattle.ioa_check.specs.declared.refusal.Row.{Row}
 use Rattle.ioa_check.specs.declared.refusal.Row.TheVariants as row
 use Rattle.ioa_check.specs.FirstForm.{are_first_parameters, is_end, is_first_automaton, is_first_declaration, is_first_entry, is_first_firing, is_first_name, is_first_sort, is_first_transition, is_first_variable, is_message, is_numeral, passes_or_none}
 use Rattle.ioa_check.specs.FirstSorts.{is_first, is_number}
-use Rattle.ioa_check.specs.Made.{automata_in, nodes_in, same_kind, transition_for}
+use Rattle.ioa_check.specs.Correspondence.{automata_in, nodes_in, same_kind, transition_for}
 use Rattle.ioa_check.specs.Rows as rows
 use Rattle.ioa_check.specs.Rows.{HasNoAutomatonRow, HasNoEntryRow, HasNoRow, HasNoSystemRow}
 use Rattle.ioa_check.specs.Standing.{HasNoValue, StandsIn, StandsInAutomaton, StandsInEntry, StandsInParts, StandsInWhole, begins_with_number, is_known_entry, is_known_parameter, is_known_transition, is_known_variable, is_sorted_transition}

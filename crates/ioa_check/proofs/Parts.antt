@@ -14,10 +14,10 @@ use Rattle.ioa_source.specs.declared.declaration.Variable.{Variable}
 use Rattle.ioa_source.specs.Erasure.{erase_term, erase_variable}
 use Rattle.ioa_source.specs.Sides.{CheckedTerm, CheckedVariable, SourceAutomaton, SourceDeclaration, SourceVariable}
 use Rattle.ioa_source.specs.TextView.{declaration_of, parameter_of, variable_of}
-use Rattle.ioa_system.specs.Placed.{own_name, own_names}
+use Rattle.ioa_system.specs.ResolvedPrograms.{own_name, own_names}
 use Rattle.ioa_check.specs.declared.refusal.Row.{Row}
 use Rattle.ioa_check.specs.declared.refusal.Row.TheVariants as row
-use Rattle.ioa_check.specs.Made.{automata_in, automaton_in}
+use Rattle.ioa_check.specs.Correspondence.{automata_in, automaton_in}
 use Rattle.ioa_check.specs.Standing.{StandsInAutomata, StandsInInitial, StandsInParts, StandsInVariables, begins_with_number, is_known_variable}
 use Rattle.ioa_check.proofs.Refused.{all_contained, all_fails, first_repeat, parts_at}
 

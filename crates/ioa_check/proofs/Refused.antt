@@ -7,12 +7,12 @@ use Rattle.std.proofs.Math.ListN.{get_or-map}
 use Rattle.std.specs.Prelude.{nat_eq, not}
 use Rattle.std.specs.List.{IsDistinct, list_all, list_any}
 use Rattle.std.specs.Option.{option_map}
-use Rattle.ioa_terms.specs.Bindings.{place_in, same_name}
+use Rattle.ioa_terms.specs.Bindings.{slot_in, same_name}
 use Rattle.ioa_check.specs.declared.refusal.Refusal.{Refusal}
 use Rattle.ioa_check.specs.declared.refusal.Refusal.TheVariants as refusal
 use Rattle.ioa_check.specs.declared.refusal.Row.{Row}
 use Rattle.ioa_check.specs.declared.refusal.Row.TheVariants as row
-use Rattle.ioa_check.specs.Standing.{Answered, Fails, Only, Refuses, fault_at}
+use Rattle.ioa_check.specs.Standing.{FaultSays, Fails, Only, Refuses, fault_at}
 use Rattle.ioa_values.proofs.AllOf.{all_parts}
 
 -- what follows from what a refusal says
@@ -21,9 +21,9 @@ refuses_weaker h (refusal.Row r) p = h r p
 refuses_weaker h refusal.Memory p = tt
 
 -- what a refusal says, its fault says
-pub answered_at : {P Q : Row → Type 0} → ((r : Row) → P r → Q r) → (e : Refusal) (place : ℕ) → Refuses P e → Answered Q (fault_at e place)
-answered_at h (refusal.Row r) place p = h r p
-answered_at h refusal.Memory place p = tt
+pub fault_says : {P Q : Row → Type 0} → ((r : Row) → P r → Q r) → (e : Refusal) (index : ℕ) → Refuses P e → FaultSays Q (fault_at e index)
+fault_says h (refusal.Row r) index p = h r p
+fault_says h refusal.Memory index p = tt
 
 -- what follows from the one row
 pub only_weaker : {k : Row} {P : Type 0} (Q : Row → Type 0) → (P → Q k) → (r : Row) → Only k P r → Q r
@@ -144,17 +144,17 @@ pub first_repeat : (xs ys : List (List ℕ)) → (IsDistinct same_name xs → �
 first_repeat xs ys wrong d = wrong (distinct_first same_name xs ys d)
 
 -- a name that has no place is none of the names
-pub none_place : (x : List ℕ) (names : List (List ℕ)) → None ≡ place_in x names → list_any (same_name x) names ≡ false
-none_place x [] h = refl
-none_place x (y ∷ ys) h = by_test (same_name x y) (λ e. none_place x ys e) h
+pub none_slot : (x : List ℕ) (names : List (List ℕ)) → None ≡ slot_in x names → list_any (same_name x) names ≡ false
+none_slot x [] h = refl
+none_slot x (y ∷ ys) h = by_test (same_name x y) (λ e. none_slot x ys e) h
   where
-    by_place : (o : Option ℕ) → place_in x ys ≡ o → (None ≡ place_in x ys → list_any (same_name x) ys ≡ false) → None ≡ option_map (λ k. k + 1) o → list_any (same_name x) ys ≡ false
-    by_place None e further h = further (sym e)
-    by_place (Some k) e further h = absurd (cc)
+    by_slot : (o : Option ℕ) → slot_in x ys ≡ o → (None ≡ slot_in x ys → list_any (same_name x) ys ≡ false) → None ≡ option_map (λ k. k + 1) o → list_any (same_name x) ys ≡ false
+    by_slot None e further h = further (sym e)
+    by_slot (Some k) e further h = absurd (cc)
 
-    by_test : (b : Bool) → (None ≡ place_in x ys → list_any (same_name x) ys ≡ false) → None ≡ (if b then Some 0 else option_map (λ k. k + 1) (place_in x ys)) → (b || list_any (same_name x) ys) ≡ false
+    by_test : (b : Bool) → (None ≡ slot_in x ys → list_any (same_name x) ys ≡ false) → None ≡ (if b then Some 0 else option_map (λ k. k + 1) (slot_in x ys)) → (b || list_any (same_name x) ys) ≡ false
     by_test true further h = absurd (cc)
-    by_test false further h = by_place (place_in x ys) refl further h
+    by_test false further h = by_slot (slot_in x ys) refl further h
 
 any_of_first : (b c d : Bool) → (c ≡ false → d ≡ false) → (b || c) ≡ false → (b || d) ≡ false
 any_of_first true c d h e = absurd (cc)
@@ -168,23 +168,23 @@ first_of p (x ∷ xs) zero h = refl
 first_of p (x ∷ xs) (suc n) h = any_of_first (p x) (list_any p xs) (list_any p (take n xs)) (λ e. first_of p xs n e) h
 
 -- nor is it one of the first names
-pub none_first_place : (x : List ℕ) (names : List (List ℕ)) (count : ℕ) → None ≡ place_in x names → list_any (same_name x) (take count names) ≡ false
-none_first_place x names count h = first_of (same_name x) names count (none_place x names h)
+pub none_first_slot : (x : List ℕ) (names : List (List ℕ)) (count : ℕ) → None ≡ slot_in x names → list_any (same_name x) (take count names) ≡ false
+none_first_slot x names count h = first_of (same_name x) names count (none_slot x names h)
 
 -- a name whose place comes after the first names is none of them
-pub later_place : (x : List ℕ) (names : List (List ℕ)) (at count : ℕ) → Some at ≡ place_in x names → count ≤ at → list_any (same_name x) (take count names) ≡ false
-later_place x [] at zero h l = refl
-later_place x [] at (suc count) h l = refl
-later_place x (y ∷ ys) at zero h l = refl
-later_place x (y ∷ ys) at (suc count) h l = by_test (same_name x y) (λ k e m. later_place x ys k count e m) h
+pub later_slot : (x : List ℕ) (names : List (List ℕ)) (at count : ℕ) → Some at ≡ slot_in x names → count ≤ at → list_any (same_name x) (take count names) ≡ false
+later_slot x [] at zero h l = refl
+later_slot x [] at (suc count) h l = refl
+later_slot x (y ∷ ys) at zero h l = refl
+later_slot x (y ∷ ys) at (suc count) h l = by_test (same_name x y) (λ k e m. later_slot x ys k count e m) h
   where
-    by_place : (o : Option ℕ) → place_in x ys ≡ o → ((k : ℕ) → Some k ≡ place_in x ys → count ≤ k → list_any (same_name x) (take count ys) ≡ false) → Some at ≡ option_map (λ k. k + 1) o → list_any (same_name x) (take count ys) ≡ false
-    by_place None e further h = absurd (cc)
-    by_place (Some k) e further h = let next : k + 1 ≡ at = cc in further k (sym e) (omega arith)
+    by_slot : (o : Option ℕ) → slot_in x ys ≡ o → ((k : ℕ) → Some k ≡ slot_in x ys → count ≤ k → list_any (same_name x) (take count ys) ≡ false) → Some at ≡ option_map (λ k. k + 1) o → list_any (same_name x) (take count ys) ≡ false
+    by_slot None e further h = absurd (cc)
+    by_slot (Some k) e further h = let next : k + 1 ≡ at = cc in further k (sym e) (omega arith)
 
-    by_test : (b : Bool) → ((k : ℕ) → Some k ≡ place_in x ys → count ≤ k → list_any (same_name x) (take count ys) ≡ false) → Some at ≡ (if b then Some 0 else option_map (λ k. k + 1) (place_in x ys)) → (b || list_any (same_name x) (take count ys)) ≡ false
+    by_test : (b : Bool) → ((k : ℕ) → Some k ≡ slot_in x ys → count ≤ k → list_any (same_name x) (take count ys) ≡ false) → Some at ≡ (if b then Some 0 else option_map (λ k. k + 1) (slot_in x ys)) → (b || list_any (same_name x) (take count ys)) ≡ false
     by_test true further h = let same : 0 ≡ at = cc in absurd (omega arith)
-    by_test false further h = by_place (place_in x ys) refl further h
+    by_test false further h = by_slot (slot_in x ys) refl further h
 
 -- what a test that failed says
 pub from_not : (fresh old : Bool) → fresh ≡ not old → fresh ≡ false → old ≡ true

@@ -7,10 +7,10 @@ use Rattle.std.specs.List.{AllByRecursion, IsDistinct, list_any}
 use lib.Pointwise.{pointwise}
 use Rattle.ioa_source.specs.PlainText.{const, named}
 use Rattle.ioa_system.specs.Parts.{Parts}
-use Rattle.ioa_check.specs.Made.{AreNodesOf, nodes_in}
+use Rattle.ioa_check.specs.Correspondence.{AreNodesOf, nodes_in}
 use Rattle.ioa_source.specs.Erasure.{erase_parameter, erase_entry, erase_variable}
 use Rattle.ioa_source.specs.Sides.{CheckedEntry, CheckedParameter, CheckedVariable, SourceAutomaton, SourceEntry, SourceNode, SourceText, SourceVariable}
-use Rattle.ioa_system.specs.Placed.{own_names, variable_names, scope_of}
+use Rattle.ioa_system.specs.ResolvedPrograms.{own_names, variable_names, scope_of}
 use Rattle.ioa_check.specs.Rows.{HasNoEntryRow}
 use Rattle.ioa_check.proofs.Loops.{each_append}
 use Rattle.std.proofs.lemmas.Bool.{or_parts}
@@ -38,9 +38,9 @@ variable_names-erase [] = refl
 variable_names-erase (v ∷ vs) = ap (λ (ns : List (List ℕ)). v.declared.name ∷ ns) (variable_names-erase vs)
 
 -- the names in view are those that the text spells
-pub scope_of-erase : (vs : List CheckedVariable) (placed : CheckedEntry) (e : SourceEntry) (scope : List (List ℕ)) → scope ≡ scope_of placed vs → erase_entry placed ≡ e → scope ≡ variable_names vs ++ own_names e.parameters
-scope_of-erase vs placed e scope s same =
-    let names : own_names e.parameters ≡ own_names placed.parameters = ap (λ (x : SourceEntry). own_names x.parameters) (sym same) ∙ own_names-erase placed.parameters in
+pub scope_of-erase : (vs : List CheckedVariable) (resolved : CheckedEntry) (e : SourceEntry) (scope : List (List ℕ)) → scope ≡ scope_of resolved vs → erase_entry resolved ≡ e → scope ≡ variable_names vs ++ own_names e.parameters
+scope_of-erase vs resolved e scope s same =
+    let names : own_names e.parameters ≡ own_names resolved.parameters = ap (λ (x : SourceEntry). own_names x.parameters) (sym same) ∙ own_names-erase resolved.parameters in
     s ∙ ap (λ (ns : List (List ℕ)). variable_names vs ++ ns) (sym names)
 
 -- the variables' names are those that the text spells

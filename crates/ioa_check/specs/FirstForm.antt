@@ -8,7 +8,7 @@ use Rattle.ioa_terms.specs.declared.tree.Kind.TheVariants.{Input, Output, Intern
 use Rattle.ioa_source.specs.PlainSort.{PlainSort, integers}
 use Rattle.ioa_terms.specs.PlainTerm.{number, variable, at_key, at_field, assign, choose, fire}
 use Rattle.ioa_source.specs.PlainText.{const, named, type_named, automaton, node, channel}
-use Rattle.ioa_source.specs.Sides.{SourceAutomaton, SourceDeclaration, SourceEntry, SourceParameter, SourcePlace, SourcePlacement, SourceStatement, SourceTerm, SourceTransition, SourceVariable}
+use Rattle.ioa_source.specs.Sides.{SourceAutomaton, SourceDeclaration, SourceEntry, SourceParameter, SourceTarget, SourcePlacement, SourceStatement, SourceTerm, SourceTransition, SourceVariable}
 use Rattle.ioa_check.specs.FirstSorts.{is_number, is_guard}
 
 -- the test of what there is
@@ -65,14 +65,14 @@ abbrev pub is_first_variable : SourceVariable → Bool
 is_first_variable v = is_first_sort v.declared.sort && passes_or_none is_numeral v.initial
 
 -- a state variable as a whole
-abbrev pub is_first_place : SourcePlace → Bool
-is_first_place (variable x at d) = true
-is_first_place (at_key x at d t) = false
-is_first_place (at_field x at d f) = false
+abbrev pub is_first_target : SourceTarget → Bool
+is_first_target (variable x at d) = true
+is_first_target (at_key x at d t) = false
+is_first_target (at_field x at d f) = false
 
 -- a statement of an effect: an assignment to a variable
 abbrev pub is_first_assignment : SourceStatement → Bool
-is_first_assignment (assign p t) = is_first_place p && is_first_term t
+is_first_assignment (assign p t) = is_first_target p && is_first_term t
 is_first_assignment (choose arms rest) = false
 is_first_assignment (fire k x ts) = false
 

@@ -1,7 +1,7 @@
 -- what the contracts of this crate and of those above it cite
 pub mod FirstForm
 pub mod FirstSorts
-pub mod Made
+pub mod Correspondence
 pub mod Refusals
 pub mod Rows
 pub mod Standing

@@ -36,6 +36,6 @@ row_name row.BadArgument = codes "BadArgument"
 
 -- a fault: the number and the name of its row, and the place of the declaration
 abbrev pub check_fault_text : CheckFault → List ℕ
-check_fault_text (fault.Refused r place) =
-    decimal (row_number r) ++ (codes " " ++ (row_name r ++ (codes " in " ++ decimal place)))
+check_fault_text (fault.Refused r index) =
+    decimal (row_number r) ++ (codes " " ++ (row_name r ++ (codes " in " ++ decimal index)))
 check_fault_text fault.Memory = codes "3 Memory"

@@ -12,11 +12,11 @@ use Rattle.ioa_terms.specs.declared.tree.Kind.TheVariants.{Input}
 use Rattle.ioa_terms.specs.PlainTerm.{number, name, two, variable, at_key, at_field, assign, choose, fire}
 use Rattle.ioa_source.specs.PlainText.{const, named}
 use Rattle.ioa_check.specs.FirstSorts.{is_first, is_number, is_guard}
-use Rattle.ioa_system.specs.Placed.{own_names, variable_names}
+use Rattle.ioa_system.specs.ResolvedPrograms.{own_names, variable_names}
 use Rattle.ioa_check.specs.FirstForm.{is_first_declaration, is_first_placement, passes_or_none}
-use Rattle.ioa_check.specs.Made.{same_kind, transition_for, automata_in, automaton_named, nodes_in, channels_in}
+use Rattle.ioa_check.specs.Correspondence.{same_kind, transition_for, automata_in, automaton_named, nodes_in, channels_in}
 use Rattle.ioa_source.specs.declared.declaration.Channel.{Channel}
-use Rattle.ioa_source.specs.Sides.{SourceAutomaton, SourceDeclaration, SourceEntry, SourceNode, SourceParameter, SourcePlace, SourceStatement, SourceTerm, SourceText, SourceTransition}
+use Rattle.ioa_source.specs.Sides.{SourceAutomaton, SourceDeclaration, SourceEntry, SourceNode, SourceParameter, SourceTarget, SourceStatement, SourceTerm, SourceText, SourceTransition}
 
 -- 20: a transition is of the name and kind of an entry
 abbrev pub has_entry : List SourceEntry → SourceTransition → Bool
@@ -100,7 +100,7 @@ reads_no_name (const t) = reads_only [] t
 reads_no_name (named d) = true
 
 -- 20: an assignment is to one of these variables
-abbrev pub writes_only : List (List ℕ) → SourcePlace → Bool
+abbrev pub writes_only : List (List ℕ) → SourceTarget → Bool
 writes_only variables (variable x at d) = list_any (same_name x) variables
 writes_only variables (at_key x at d t) = false
 writes_only variables (at_field x at d f) = false

@@ -13,7 +13,7 @@ use Rattle.ioa_source.specs.PlainText.{const, named}
 use Rattle.ioa_source.specs.Sides.{CheckedTerm, CheckedVariable, SourceAutomaton, SourceEntry, SourceParameter, SourceText, SourceTransition, SourceVariable}
 use Rattle.ioa_source.specs.TextView.{variable_of}
 use Rattle.ioa_source.specs.declared.declaration.Variable.{Variable}
-use Rattle.ioa_system.specs.Placed.{own_names, variable_names}
+use Rattle.ioa_system.specs.ResolvedPrograms.{own_names, variable_names}
 use Rattle.ioa_check.specs.declared.refusal.CheckFault.{CheckFault}
 use Rattle.ioa_check.specs.declared.refusal.CheckFault.TheVariants as fault
 use Rattle.ioa_check.specs.declared.refusal.Refusal.{Refusal}
@@ -22,7 +22,7 @@ use Rattle.ioa_check.specs.declared.refusal.Row.{Row}
 use Rattle.ioa_check.specs.declared.refusal.Row.TheVariants as row
 use Rattle.ioa_check.specs.FirstForm.{is_first_declaration, is_first_placement, is_first_sort, passes_or_none}
 use Rattle.ioa_check.specs.FirstSorts.{is_number}
-use Rattle.ioa_check.specs.Made.{automata_in, channels_in, nodes_in, same_kind, transition_for}
+use Rattle.ioa_check.specs.Correspondence.{automata_in, channels_in, nodes_in, same_kind, transition_for}
 use Rattle.ioa_check.specs.Rows as rows
 
 -- this stands where a row is refused; a refusal for want of memory says nothing
@@ -177,14 +177,14 @@ FailsOfChannels two ends inputs _ = ⊥
 
 -- the refusal in the top declaration of a place
 abbrev pub fault_at : Refusal → ℕ → CheckFault
-fault_at (refusal.Row r) place = fault.Refused r place
-fault_at refusal.Memory place = fault.Memory
+fault_at (refusal.Row r) index = fault.Refused r index
+fault_at refusal.Memory index = fault.Memory
 
 -- this stands where a row is answered; a fault for want of memory says nothing
-abbrev pub Answered : (Row → Type 0) → CheckFault → Type 0
-Answered stands (fault.Refused r place) = stands r
-Answered stands fault.Memory = Unit {0}
+abbrev pub FaultSays : (Row → Type 0) → CheckFault → Type 0
+FaultSays stands (fault.Refused r index) = stands r
+FaultSays stands fault.Memory = Unit {0}
 
 -- where a fault stands: its row stands in the text. Memory may be refused anywhere.
-abbrev pub Stands : CheckFault → SourceText → Type 0
-Stands f t = Answered (StandsIn t) f
+abbrev pub StandsInSource : CheckFault → SourceText → Type 0
+StandsInSource f t = FaultSays (StandsIn t) f

@@ -7,17 +7,18 @@ ghost use Rattle.std.specs.List.{AllByRecursion, IsDistinct, list_all, list_any}
 ghost use Rattle.ioa_terms.specs.Bindings.{same_name};
 ghost use Rattle.ioa_check.specs.Rows.{HasNoEntryRow, HasNoAutomatonRow, has_entry, fires_entry, fires_as_many, takes_as_many, guard_reads_only, assigns_only, assigns_number, is_guard_or_none, argument_repeats, same_term};
 ghost use Rattle.ioa_source.specs.Erasure.{erase_entry, erase_transition};
-ghost use Rattle.ioa_check.specs.Made.{AssignsInteger, HasIntegers, IsProgramOf, IsRuleOf, initial_answer, term_answer, transition_for, same_kind};
+ghost use Rattle.ioa_check.specs.Correspondence.{AssignsInteger, HasIntegers, IsProgramOf, IsRuleOf, initial_answer, term_answer, transition_for, same_kind};
 ghost use Rattle.ioa_check.specs.Standing.{Fails, Only, Refuses, StandsInAutomaton, StandsInEntries, StandsInEntry, StandsInInitial, StandsInInitials, is_known_transition, is_sorted_transition};
 ghost use Rattle.ioa_terms.specs.View.{term_of, statement_of};
 ghost use Rattle.ioa_source.specs.TextView.{automaton_of, parameter_of, entry_of, transition_of, variable_of};
-ghost use Rattle.ioa_terms.specs.Placed.{ArePlaced};
-ghost use Rattle.ioa_system.specs.Placed.{IsPlacedRule, ArePlacedVariables, IsPlacedGuard, own_name, variable_names, scope_of};
+ghost use Rattle.ioa_terms.specs.Resolved.{AreResolved};
+ghost use Rattle.ioa_system.specs.ResolvedPrograms.{IsResolvedRule, AreResolvedVariables, IsResolvedGuard, own_name, variable_names, scope_of};
 
-use crate::placing::{
-    place_effect, place_entry, place_guard, place_schedule, place_terms, place_variables,
-};
 use crate::refusal::{Refusal, Row};
+use crate::resolving::{
+    resolve_effect, resolve_entry, resolve_guard, resolve_schedule, resolve_terms,
+    resolve_variables,
+};
 use ioa_source::{Automaton, Entry, Parameter, Transition, Variable};
 use ioa_system::{Program, Rule, Scope};
 use ioa_terms::{Checked, Env, Kind, Shape, Statement, Term, TermFault, Tree, Value, Word, eval};
@@ -36,13 +37,13 @@ pub(crate) fn program_of(
 {
     entries_differ(alloc, automaton)?;
     transitions_differ(alloc, automaton)?;
-    let variables = place_variables(alloc, &automaton.states)?;
+    let variables = resolve_variables(alloc, &automaton.states)?;
     let initial = initial_values(alloc, &variables)?;
     let names = names_of(alloc, &variables)?;
     transitions_have_entries(automaton)?;
     firings_have_entries(automaton)?;
     let rules = rules_of(alloc, automaton, &variables)?;
-    let schedule = place_schedule(alloc, &names, &automaton.schedule)?;
+    let schedule = resolve_schedule(alloc, &names, &automaton.schedule)?;
     Ok(Program::new(node, rules, variables, initial, schedule))
 }
 
@@ -112,7 +113,7 @@ fn initial_values(
     alloc: Global,
     variables: &[Variable<usize, Shape>],
 ) -> Result<Vec<Value>, Refusal>
-    requires { ArePlacedVariables (map variable_of variables.now) }
+    requires { AreResolvedVariables (map variable_of variables.now) }
     ensures many { IfOk result (λ vs. length vs.items ≡ length variables.now) }
     ensures values { IfOk result (λ vs. map initial_answer variables.now ≡ map Ok vs.items) }
     ensures refused { IfErr result (Refuses (StandsInInitials variables.now)) }
@@ -127,7 +128,7 @@ fn initial_values(
 
 /// The value of an initial term.
 fn initial_value(alloc: Global, initial: &Option<Checked>) -> Result<Value, Refusal>
-    requires { IsPlacedGuard (option_map term_of initial.now) [] }
+    requires { IsResolvedGuard (option_map term_of initial.now) [] }
     ensures value { IfOk result (λ v. term_answer (option_map term_of initial.now) ≡ Ok v) }
     ensures refused { IfErr result (Refuses (StandsInInitial (option_map term_of initial.now))) }
 {
@@ -148,7 +149,7 @@ fn rules_of(
     automaton: &Automaton<(), ()>,
     variables: &[Variable<usize, Shape>],
 ) -> Result<Vec<Rule>, Refusal>
-    ensures placed { IfOk result (λ rs. All (IsPlacedRule (map variable_of variables.now)) rs.items) }
+    ensures resolved { IfOk result (λ rs. All (IsResolvedRule (map variable_of variables.now)) rs.items) }
     ensures signature { IfOk result (λ rs. map (λ r. erase_entry (entry_of r.entry)) rs.items ≡ (automaton_of automaton.now).signature) }
     ensures transitions { IfOk result (λ rs. AllByRecursion (IsRuleOf (automaton_of automaton.now)) rs.items) }
     ensures shapes { IfOk result (λ rs. AllByRecursion HasIntegers rs.items) }
@@ -171,7 +172,7 @@ fn rule_of(
     entry: &Entry<(), ()>,
     variables: &[Variable<usize, Shape>],
 ) -> Result<Rule, Refusal>
-    ensures placed { IfOk result (IsPlacedRule (map variable_of variables.now)) }
+    ensures resolved { IfOk result (IsResolvedRule (map variable_of variables.now)) }
     ensures entry { IfOk result (λ r. erase_entry (entry_of r.entry) ≡ entry_of entry.now) }
     ensures transition { IfOk result (IsRuleOf (automaton_of automaton.now)) }
     ensures shapes { IfOk result HasIntegers }
@@ -187,9 +188,9 @@ fn rule_of(
     if has_input_pre(entry, transition) {
         return Err(Refusal::Row(Row::InputPre));
     }
-    let entry = place_entry(alloc, entry)?;
+    let entry = resolve_entry(alloc, entry)?;
     let scope = scope_for(alloc, variables, &entry)?;
-    let transition = place_transition(alloc, &scope, variables.len(), transition)?;
+    let transition = resolve_transition(alloc, &scope, variables.len(), transition)?;
     Ok(Rule {
         entry,
         transition,
@@ -208,15 +209,15 @@ fn has_input_pre(entry: &Entry<(), ()>, transition: &Transition<(), ()>) -> bool
 }
 
 /// A transition, its names placed among those in view.
-fn place_transition(
+fn resolve_transition(
     alloc: Global,
     scope: &Scope,
     count: usize,
     transition: &Transition<(), ()>,
 ) -> Result<Transition<usize, Shape>, Refusal>
     ensures same { IfOk result (λ t. erase_transition (transition_of t) ≡ transition_of transition.now) }
-    ensures guard { IfOk result (λ t. IsPlacedGuard (transition_of t).pre scope.now) }
-    ensures effect { IfOk result (λ t. ArePlaced (transition_of t).effect (take count scope.now) scope.now) }
+    ensures guard { IfOk result (λ t. IsResolvedGuard (transition_of t).pre scope.now) }
+    ensures effect { IfOk result (λ t. AreResolved (transition_of t).effect (take count scope.now) scope.now) }
     ensures shapes { IfOk result (λ t. AllByRecursion AssignsInteger (transition_of t).effect) }
     ensures sort { OnOk result (is_guard_or_none (transition_of transition.now).pre ≡ true) }
     ensures guard_names { OnOk result (guard_reads_only scope.now (transition_of transition.now).pre ≡ true) }
@@ -225,9 +226,9 @@ fn place_transition(
     ensures refused { IfErr result (Refuses (Fails (is_known_transition (take count scope.now) scope.now (transition_of transition.now)) (is_sorted_transition (transition_of transition.now)))) }
 {
     let name = transition.name.try_copy(alloc)?;
-    let arguments = place_terms(alloc, scope, &transition.arguments)?;
-    let pre = place_guard(alloc, scope, &transition.pre)?;
-    let effect = place_effect(alloc, scope, count, &transition.effect)?;
+    let arguments = resolve_terms(alloc, scope, &transition.arguments)?;
+    let pre = resolve_guard(alloc, scope, &transition.pre)?;
+    let effect = resolve_effect(alloc, scope, count, &transition.effect)?;
     Ok(Transition {
         kind: transition.kind,
         name,

@@ -7,11 +7,11 @@ ghost use Rattle.std.specs.Option.{option_map, option_copied};
 ghost use Rattle.std.specs.Arc.{arc_value};
 ghost use Rattle.ioa_source.specs.TextView.{text_of, declaration_of, node_of, placement_of, automaton_of, entry_of, parameter_of};
 ghost use Rattle.ioa_source.specs.Sides.{SourceNode};
-ghost use Rattle.ioa_check.specs.Made.{IsSystemOf, IsNodeOf, AreNodesOf, nodes_in, channels_in, automaton_named, automaton_in, automata_in, node_at};
+ghost use Rattle.ioa_check.specs.Correspondence.{IsSystemOf, IsNodeOf, AreNodesOf, nodes_in, channels_in, automaton_named, automaton_in, automata_in, node_at};
 ghost use Rattle.ioa_check.specs.Rows as spec;
 ghost use Rattle.ioa_check.specs.Rows.{HasNoRow, HasNoSystemRow, HasNoAutomatonRow};
 ghost use Rattle.ioa_check.specs.FirstForm.{is_first_declaration, is_first_placement, passes_or_none};
-ghost use Rattle.ioa_check.specs.Standing.{Answered, FailsOfChannels, FailsOfNodes, Only, Refuses, Stands, StandsIn, StandsInAutomata, StandsInAutomaton};
+ghost use Rattle.ioa_check.specs.Standing.{FaultSays, FailsOfChannels, FailsOfNodes, Only, Refuses, StandsInSource, StandsIn, StandsInAutomata, StandsInAutomaton};
 
 use crate::building::{declare, program_of};
 use crate::first_form::{is_first_declaration, is_first_placement};
@@ -34,7 +34,7 @@ const MOST_CHANNELS: usize = 256;
 pub fn check(alloc: Global, text: &Text<(), ()>) -> Result<System, CheckFault>
     ensures system { IfOk result (IsSystemOf (text_of text.now)) }
     ensures rows { OnOk result (HasNoRow (text_of text.now)) }
-    ensures refused { IfErr result (λ f. Stands f (text_of text.now)) }
+    ensures refused { IfErr result (λ f. StandsInSource f (text_of text.now)) }
 {
     check_first_form(text)?;
     check_declarations(alloc, &text.declarations)?;
@@ -48,7 +48,7 @@ pub fn check(alloc: Global, text: &Text<(), ()>) -> Result<System, CheckFault>
 fn check_first_form(text: &Text<(), ()>) -> Result<(), CheckFault>
     ensures declarations { OnOk result (list_all is_first_declaration (text_of text.now).declarations ≡ true) }
     ensures placements { OnOk result (list_all is_first_placement (text_of text.now).system ≡ true) }
-    ensures refused { IfErr result (Answered (Only Row.Unknown ((list_all is_first_declaration (text_of text.now).declarations && list_all is_first_placement (text_of text.now).system) ≡ false))) }
+    ensures refused { IfErr result (FaultSays (Only Row.Unknown ((list_all is_first_declaration (text_of text.now).declarations && list_all is_first_placement (text_of text.now).system) ≡ false))) }
 {
     declarations_are_first(&text.declarations)?;
     if !placements_are_first(&text.system) {
@@ -60,11 +60,11 @@ fn check_first_form(text: &Text<(), ()>) -> Result<(), CheckFault>
 /// Passes where each declaration is of the first form.
 fn declarations_are_first(declarations: &[Declaration<(), ()>]) -> Result<(), CheckFault>
     ensures first { OnOk result (list_all is_first_declaration (map declaration_of declarations.now) ≡ true) }
-    ensures refused { IfErr result (Answered (Only Row.Unknown (list_all is_first_declaration (map declaration_of declarations.now) ≡ false))) }
+    ensures refused { IfErr result (FaultSays (Only Row.Unknown (list_all is_first_declaration (map declaration_of declarations.now) ≡ false))) }
 {
-    for (place, declaration) in declarations.iter().enumerate() {
+    for (index, declaration) in declarations.iter().enumerate() {
         if !is_first_declaration(declaration) {
-            return Err(Refusal::Row(Row::Unknown).at(place));
+            return Err(Refusal::Row(Row::Unknown).at(index));
         }
     }
     Ok(())
@@ -86,13 +86,13 @@ fn placements_are_first(placements: &[Placement<(), ()>]) -> bool
 fn check_declarations(alloc: Global, declarations: &[Declaration<(), ()>]) -> Result<(), CheckFault>
     ensures differ { OnOk result (IsDistinct same_name (map (λ a. a.name) (automata_in (map declaration_of declarations.now)))) }
     ensures rows { OnOk result (AllByRecursion HasNoAutomatonRow (automata_in (map declaration_of declarations.now))) }
-    ensures refused { IfErr result (Answered (StandsInAutomata [] (automata_in (map declaration_of declarations.now)))) }
+    ensures refused { IfErr result (FaultSays (StandsInAutomata [] (automata_in (map declaration_of declarations.now)))) }
 {
     let mut names = Scope::new(alloc);
-    for place in 0..declarations.len() {
-        match check_declaration(alloc, &mut names, &declarations[place]) {
+    for index in 0..declarations.len() {
+        match check_declaration(alloc, &mut names, &declarations[index]) {
             Ok(()) => {}
-            Err(refusal) => return Err(refusal.at(place)),
+            Err(refusal) => return Err(refusal.at(index)),
         }
     }
     Ok(())
@@ -196,9 +196,9 @@ fn numbers_differ(nodes: &[&Node<(), ()>]) -> Result<(), Refusal>
     ensures differ { OnOk result (IsDistinct spec.same_number (map node_at nodes.now)) }
     ensures refused { IfErr result (Refuses (Only Row.Twice (IsDistinct spec.same_number (map node_at nodes.now) → ⊥))) }
 {
-    for place in 0..nodes.len() {
-        let node = nodes[place];
-        if is_numbered_as(&nodes[..place], node) {
+    for position in 0..nodes.len() {
+        let node = nodes[position];
+        if is_numbered_as(&nodes[..position], node) {
             return Err(Refusal::Row(Row::Twice));
         }
     }
@@ -229,8 +229,8 @@ fn channels_differ(channels: &[Channel]) -> Result<(), Refusal>
     ensures differ { OnOk result (IsDistinct spec.same_channel channels.now) }
     ensures refused { IfErr result (Refuses (Only Row.Twice (IsDistinct spec.same_channel channels.now → ⊥))) }
 {
-    for (place, channel) in channels.iter().enumerate() {
-        if is_channel(&channels[..place], channel) {
+    for (position, channel) in channels.iter().enumerate() {
+        if is_channel(&channels[..position], channel) {
             return Err(Refusal::Row(Row::Twice));
         }
     }
@@ -363,7 +363,7 @@ fn automaton_on<'a>(
         ≡ Some (automaton_of a.now))) }
     ensures refused { IfErr result (Refuses (λ r. Only Row.NodeGap (spec.is_node (map node_at nodes.now) number ≡ false) r ⊎ Only Row.Unknown (list_all (spec.is_declared (text_of text.now).declarations) (map node_at nodes.now) ≡ false) r)) }
 {
-    let Some(node) = node_of(nodes, number) else {
+    let Some(node) = node_of_number(nodes, number) else {
         return Err(Refusal::Row(Row::NodeGap));
     };
     match automaton_of_name(&text.declarations, &node.automaton) {
@@ -373,7 +373,7 @@ fn automaton_on<'a>(
 }
 
 /// The node of a number.
-fn node_of<'a>(nodes: &[&'a Node<(), ()>], number: i64) -> Option<&'a Node<(), ()>>
+fn node_of_number<'a>(nodes: &[&'a Node<(), ()>], number: i64) -> Option<&'a Node<(), ()>>
     ensures number { IfSome result (λ n. n.now.number ≡ number) }
     ensures declared { IfSome result (λ n. Contains (map node_at nodes.now) (node_at n)) }
     ensures none { IfNone result (spec.is_node (map node_at nodes.now) number ≡ false) }
@@ -416,8 +416,8 @@ fn programs_of(
     ensures refused { IfErr result (Refuses (StandsIn (text_of text.now))) }
 {
     let mut programs = Vec::new(alloc);
-    for place in 0..nodes.len() {
-        let program = node_program(alloc, text, nodes, place)?;
+    for position in 0..nodes.len() {
+        let program = node_program(alloc, text, nodes, position)?;
         programs.push(program)?;
     }
     Ok(programs)
@@ -428,14 +428,14 @@ fn node_program(
     alloc: Global,
     text: &Text<(), ()>,
     nodes: &[&Node<(), ()>],
-    place: usize,
+    position: usize,
 ) -> Result<Arc<Program>, Refusal>
     requires nodes { map node_at nodes.now ≡ nodes_in (text_of text.now).system }
-    requires small { place < 2 ^ 63 }
-    ensures node { IfOk result (λ p. IsNodeOf (text_of text.now) place (arc_value p)) }
-    ensures refused { IfErr result (Refuses (λ r. Only Row.NodeGap (spec.is_node (map node_at nodes.now) (pos place) ≡ false) r ⊎ StandsIn (text_of text.now) r)) }
+    requires small { position < 2 ^ 63 }
+    ensures node { IfOk result (λ p. IsNodeOf (text_of text.now) position (arc_value p)) }
+    ensures refused { IfErr result (Refuses (λ r. Only Row.NodeGap (spec.is_node (map node_at nodes.now) (pos position) ≡ false) r ⊎ StandsIn (text_of text.now) r)) }
 {
-    let number = place as i64;
+    let number = position as i64;
     let automaton = automaton_on(text, nodes, number)?;
     let program = program_of(alloc, number, automaton)?;
     Ok(Arc::new(alloc, program)?)
@@ -468,10 +468,10 @@ fn entry_is_at_home(entry: &Entry<(), ()>, number: i64) -> bool
 }
 
 /// Whether the parameter at a place is the constant of a number.
-fn has_constant(parameters: &[Parameter<(), ()>], place: usize, number: i64) -> bool
-    ensures { result ≡ spec.is_constant (slice_get (map parameter_of parameters.now) place) number }
+fn has_constant(parameters: &[Parameter<(), ()>], position: usize, number: i64) -> bool
+    ensures { result ≡ spec.is_constant (slice_get (map parameter_of parameters.now) position) number }
 {
-    match parameters.get(place) {
+    match parameters.get(position) {
         None => false,
         Some(parameter) => is_constant(parameter, number),
     }

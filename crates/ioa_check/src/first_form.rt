@@ -4,14 +4,14 @@ ghost use Rattle.std.specs.Prelude.{◌≡◌, map, slice_get};
 ghost use Rattle.std.specs.List.{list_all};
 ghost use Rattle.std.specs.Option.{option_map};
 ghost use Rattle.ioa_source.specs.SortView.{sort_of};
-ghost use Rattle.ioa_terms.specs.View.{term_of, place_of, statement_of};
+ghost use Rattle.ioa_terms.specs.View.{term_of, target_of, statement_of};
 ghost use Rattle.ioa_source.specs.TextView.{automaton_of, declaration_of, entry_of, parameter_of, placement_of, transition_of, variable_of};
 ghost use Rattle.ioa_check.specs.FirstForm as spec;
 ghost use Rattle.ioa_check.specs.FirstSorts as sorts;
 
-use crate::placing::{is_guard, is_number};
+use crate::resolving::{is_guard, is_number};
 use ioa_source::{Automaton, Declaration, Entry, Parameter, Placement, Sort, Transition, Variable};
-use ioa_terms::{BinaryOperator, Kind, Place, Statement, Term, Word};
+use ioa_terms::{BinaryOperator, Kind, Statement, Target, Term, Word};
 
 /// Whether a declaration is an automaton of the first form.
 pub(crate) fn is_first_declaration(declaration: &Declaration<(), ()>) -> bool
@@ -107,10 +107,10 @@ fn has_message(parameters: &[Parameter<(), ()>]) -> bool
 }
 
 /// Whether the parameter at a place is an end of a channel.
-fn has_end(parameters: &[Parameter<(), ()>], place: usize) -> bool
-    ensures { result ≡ spec.passes spec.is_end (slice_get (map parameter_of parameters.now) place) }
+fn has_end(parameters: &[Parameter<(), ()>], position: usize) -> bool
+    ensures { result ≡ spec.passes spec.is_end (slice_get (map parameter_of parameters.now) position) }
 {
-    match parameters.get(place) {
+    match parameters.get(position) {
         None => false,
         Some(parameter) => is_end(parameter),
     }
@@ -263,17 +263,17 @@ fn is_first_assignment(statement: &Statement<(), ()>) -> bool
     ensures { result ≡ spec.is_first_assignment (statement_of statement.now) }
 {
     match statement {
-        Statement::Assign(place, term) => is_first_place(place) && is_first_term(term),
+        Statement::Assign(target, term) => is_first_target(target) && is_first_term(term),
         _ => false,
     }
 }
 
 /// Whether a place is a variable as a whole.
-fn is_first_place(place: &Place<(), ()>) -> bool
-    ensures { result ≡ spec.is_first_place (place_of place.now) }
+fn is_first_target(target: &Target<(), ()>) -> bool
+    ensures { result ≡ spec.is_first_target (target_of target.now) }
 {
-    match place {
-        Place::Variable(_, _, _) => true,
+    match target {
+        Target::Variable(_, _, _) => true,
         _ => false,
     }
 }

@@ -4,13 +4,13 @@
 ghost use Rattle.std.specs.Prelude.{◌≡◌, true, map, Contains};
 ghost use Rattle.std.specs.List.{AllByRecursion};
 ghost use Rattle.ioa_operators.specs.Shapes.{integers, truths};
-ghost use Rattle.ioa_terms.specs.Placed.{IsPlaced};
-ghost use Rattle.ioa_terms.specs.Sorted.{Shaped, HasShape};
+ghost use Rattle.ioa_terms.specs.Resolved.{IsResolved};
+ghost use Rattle.ioa_terms.specs.Sorted.{NameShapes, HasShape};
 ghost use Rattle.ioa_source.specs.Sides.{CheckedTerm, SourceAutomaton, SourceText};
 ghost use Rattle.ioa_check.specs.declared.refusal.Row.{Row};
 ghost use Rattle.ioa_check.specs.declared.refusal.Row.TheVariants as row;
 ghost use Rattle.ioa_check.specs.FirstSorts.{is_number, is_guard};
-ghost use Rattle.ioa_check.specs.Made.{automata_in};
+ghost use Rattle.ioa_check.specs.Correspondence.{automata_in};
 ghost use Rattle.ioa_check.specs.Rows.{HasNoRow};
 ghost use Rattle.ioa_check.specs.Standing.{HasNoValue, StandsIn};
 
@@ -18,9 +18,9 @@ ghost use Rattle.ioa_check.specs.Standing.{HasNoValue, StandsIn};
 /// name that a term reads stands beside its place among them, a number has the shape of integers, and
 /// a guard that of truth values.
 pub fn first_sorts_law()
-    ensures number { (names : Shaped) → AllByRecursion (λ n. n.1 ≡ integers) names → (t : CheckedTerm) → IsPlaced t (map (λ n. n.0) names) →
+    ensures number { (names : NameShapes) → AllByRecursion (λ n. n.1 ≡ integers) names → (t : CheckedTerm) → IsResolved t (map (λ n. n.0) names) →
         is_number t ≡ true → HasShape names t integers }
-    ensures guard { (names : Shaped) → AllByRecursion (λ n. n.1 ≡ integers) names → (t : CheckedTerm) → IsPlaced t (map (λ n. n.0) names) →
+    ensures guard { (names : NameShapes) → AllByRecursion (λ n. n.1 ≡ integers) names → (t : CheckedTerm) → IsResolved t (map (λ n. n.0) names) →
         is_guard t ≡ true → HasShape names t truths }
 {}
 

@@ -5,8 +5,8 @@ mod building;
 mod checking;
 mod first_form;
 mod laws;
-mod placing;
 mod refusal;
+mod resolving;
 
 pub use checking::check;
 pub use laws::{first_sorts_law, rows_law};

@@ -96,7 +96,7 @@ pub enum CheckFault {
         /// Which row.
         row: Row,
         /// The place of the declaration.
-        place: usize,
+        index: usize,
     },
     /// 3: no memory was left.
     Memory,
@@ -110,9 +110,9 @@ impl fmt::Display for CheckFault {
 
     fn fmt<W: fmt::Write>(&self, f: &mut fmt::Formatter<W>) -> fmt::Result {
         match self {
-            CheckFault::Refused { row, place } => {
+            CheckFault::Refused { row, index } => {
                 let number = row.number();
-                write!(f, "{number} {row} in {place}")
+                write!(f, "{number} {row} in {index}")
             }
             CheckFault::Memory => write!(f, "3 Memory"),
         }
@@ -130,11 +130,11 @@ pub(crate) enum Refusal {
 
 impl Refusal {
     /// The refusal in the top declaration of a place.
-    pub(crate) fn at(self, place: usize) -> CheckFault
-        ensures { result ≡ fault_at self place }
+    pub(crate) fn at(self, index: usize) -> CheckFault
+        ensures { result ≡ fault_at self index }
     {
         match self {
-            Refusal::Row(row) => CheckFault::Refused { row, place },
+            Refusal::Row(row) => CheckFault::Refused { row, index },
             Refusal::Memory => CheckFault::Memory,
         }
     }

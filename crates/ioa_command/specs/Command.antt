@@ -6,10 +6,10 @@ use Rattle.ioa_streams.specs.declared.input.InputFault.{InputFault}
 use Rattle.ioa_streams.specs.declared.input.InputFault.TheVariants as input
 use Rattle.ioa_workers.specs.declared.whole_run.RunFault.{RunFault}
 use Rattle.ioa_workers.specs.declared.whole_run.RunFault.TheVariants as run
-use Rattle.ioa_command.specs.declared.program.CommandFault.{CommandFault}
-use Rattle.ioa_command.specs.declared.program.CommandFault.TheVariants.{Words, Input, Run}
+use Rattle.ioa_command.specs.declared.command_line.CommandFault.{CommandFault}
+use Rattle.ioa_command.specs.declared.command_line.CommandFault.TheVariants.{Words, Input, Run}
 use Rattle.ioa_streams.specs.Input.{IsFaultOf, input_fault_text}
-use Rattle.ioa_workers.specs.Options.{Settings}
+use Rattle.ioa_workers.specs.Options.{PlainOptions}
 use Rattle.ioa_streams.specs.Output.{AppendsBeginning}
 use Rattle.ioa_workers.specs.WholeRun.{IsExactFor, IsRefusalOf, WritesReport, run_fault_text}
 
@@ -18,7 +18,7 @@ abbrev pub IsTextOf : Option (List ℕ) → List ℕ → Type 0
 IsTextOf given text = (length text ≤ 8388608) × IsUtf8 text × IfSome given (λ bytes. text ≡ bytes)
 
 -- the options of the program's runs
-abbrev pub default_options : Settings
+abbrev pub default_options : PlainOptions
 default_options = record { steps = 10000; attempts = 1000 }
 
 -- the text of the input was run with the default options; a fault says what stands in that text, and none that comes
@@ -41,7 +41,7 @@ Executes words given old new failed (Err (Run f)) = (words ≤ 1) × RunsText gi
 abbrev pub input_status : InputFault → ℕ
 input_status input.Read = 3
 input_status input.TooLong = 1
-input_status (input.BadCharacter place) = 1
+input_status (input.BadCharacter offset) = 1
 input_status input.Memory = 3
 
 -- 1 where the text is refused, and 3 where memory or writing failed
@@ -61,7 +61,7 @@ fault_status (Run f) = run_status f
 abbrev pub input_line : InputFault → List ℕ
 input_line input.Read = codes "failed " ++ input_fault_text input.Read
 input_line input.TooLong = codes "refused " ++ input_fault_text input.TooLong
-input_line (input.BadCharacter place) = codes "refused " ++ input_fault_text (input.BadCharacter place)
+input_line (input.BadCharacter offset) = codes "refused " ++ input_fault_text (input.BadCharacter offset)
 input_line input.Memory = codes "refused " ++ input_fault_text input.Memory
 
 -- the line of a text that gave no report: a write failed, and all else is refused

@@ -1,6 +1,6 @@
 //! The command line: the program as a function of its words and its streams.
 #![tactic(auto)]
 
-mod program;
+mod command_line;
 
-pub use program::{BAD_WORDS, FAILED, command};
+pub use command_line::{BAD_WORDS, FAILED, command};

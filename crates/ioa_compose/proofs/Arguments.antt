@@ -9,8 +9,8 @@ use Rattle.ioa_terms.specs.Bindings.{same_name}
 use Rattle.ioa_terms.specs.declared.action.Action.{Action}
 use Rattle.ioa_source.specs.PlainText.{const, named}
 use Rattle.ioa_source.specs.Sides.{CheckedEntry, CheckedParameter, CheckedVariable}
-use Rattle.ioa_system.specs.Placed.{own_names, variable_names, scope_of}
-use Rattle.ioa_compose.specs.NodeStep.{left_by, arguments_agree, parameter_agrees, are_natural, own_values, entry_agrees, kind_agrees, action_name, action_arguments}
+use Rattle.ioa_system.specs.ResolvedPrograms.{own_names, variable_names, scope_of}
+use Rattle.ioa_compose.specs.NodeStep.{effect_answer, arguments_agree, parameter_agrees, are_natural, own_values, entry_agrees, kind_agrees, action_name, action_arguments}
 
 and_false : (b : Bool) → b && false ≡ false
 and_false true = refl
@@ -48,8 +48,8 @@ are_natural_end f (p ∷ ps) (v ∷ vs) zero h = absurd (omega arith)
 are_natural_end f (p ∷ ps) (v ∷ vs) (suc i) h = are_natural_end f ps vs i (omega arith)
 
 -- the first n values that an effect leaves
-pub left_by_zip : (n : ℕ) (names : List (List ℕ)) (vs : List Data) → length names ≡ length vs → left_by n (Ok (zip names vs)) ≡ Ok (take n vs)
-left_by_zip n names vs h = ap (λ (ds : List Data). Ok (take n ds)) (seconds-zip names vs (sym h))
+pub effect_answer_zip : (n : ℕ) (names : List (List ℕ)) (vs : List Data) → length names ≡ length vs → effect_answer n (Ok (zip names vs)) ≡ Ok (take n vs)
+effect_answer_zip n names vs h = ap (λ (ds : List Data). Ok (take n ds)) (seconds-zip names vs (sym h))
 
 -- arguments that fit have as many values of their own as the parameters have names
 pub own_values_named : (ps : List CheckedParameter) (vs : List Data) → arguments_agree ps vs ≡ true → length (own_values ps vs) ≡ length (own_names ps)

@@ -17,9 +17,9 @@ use Rattle.ioa_compose.specs.declared.queue.Item.TheVariants as item
 use Rattle.ioa_system.specs.Parts.{Parts}
 use Rattle.ioa_compose.specs.NodeState.{NodeState, node_state}
 use Rattle.ioa_compose.specs.NodeStep.{node_answer, program_answer}
-use Rattle.ioa_compose.specs.Queues.{QueueState, queue_state, queue_answer, behind, with_last, without_first}
+use Rattle.ioa_compose.specs.Queues.{QueueState, queue_state, queue_answer, items_behind, with_last, without_first}
 use Rattle.ioa_compose.specs.Participants.{same_component}
-use Rattle.ioa_compose.specs.Composition.{component_of, names, conf_answer, find_conf, put, put_all}
+use Rattle.ioa_compose.specs.Composition.{component_of, component_names, conf_answer, find_conf, put_conf, put_confs}
 
 -- two names are told to be those of one component exactly where they are equal
 pub Decides-same_component : (k l : Component) → Decides (same_component k l) (k ≡ l)
@@ -49,7 +49,7 @@ program-node_answer c a d h = kept (program_answer c.program c.variables a) h
 
 -- what comes out of a queue leaves its name
 component-without_first : (x : Item) (q r : QueueState) → without_first x q ≡ Ok r → r.component ≡ q.component
-component-without_first x q r h = kept (behind x q.items) h
+component-without_first x q r h = kept (items_behind x q.items) h
   where
     kept : (s : Result (List Item) StepFault) → and_then s (λ items. Ok (queue_state q.component items)) ≡ Ok r → r.component ≡ q.component
     kept (Ok items) e = let same_state : queue_state q.component items ≡ r = cc in ap (λ (s : QueueState). s.component) (sym same_state)
@@ -87,22 +87,22 @@ component_of-find_conf k (b ∷ cs) c h = by_test (same_component k (component_o
     by_test false e h further = further h
 
 -- a configuration that is put in the place of one of its name is found there
-pub find_conf-put_same : (k : Component) (d : Conf) (cs : List Conf) (c : Conf) → component_of d ≡ k → find_conf k cs ≡ Some c → find_conf k (put d cs) ≡ Some d
-find_conf-put_same k d [] c name h = absurd (cc)
-find_conf-put_same k d (b ∷ cs) c name h = by_test (same_component k (component_of b)) refl h (find_conf-put_same k d cs c name)
+pub find_conf-put_conf_same : (k : Component) (d : Conf) (cs : List Conf) (c : Conf) → component_of d ≡ k → find_conf k cs ≡ Some c → find_conf k (put_conf d cs) ≡ Some d
+find_conf-put_conf_same k d [] c name h = absurd (cc)
+find_conf-put_conf_same k d (b ∷ cs) c name h = by_test (same_component k (component_of b)) refl h (find_conf-put_conf_same k d cs c name)
   where
     by_test : (t : Bool) → same_component k (component_of b) ≡ t → (if t then Some b else find_conf k cs) ≡ Some c →
-        (find_conf k cs ≡ Some c → find_conf k (put d cs) ≡ Some d) →
-        find_conf k (if same_component (component_of d) (component_of b) then d ∷ cs else b ∷ put d cs) ≡ Some d
+        (find_conf k cs ≡ Some c → find_conf k (put_conf d cs) ≡ Some d) →
+        find_conf k (if same_component (component_of d) (component_of b) then d ∷ cs else b ∷ put_conf d cs) ≡ Some d
     by_test true e h further = rw (name, e, name, same_component-itself k) refl
     by_test false e h further = rw (name, e, e) (further h)
 
 -- another's configuration is found as before
-pub find_conf-put_other : (k : Component) (d : Conf) (cs : List Conf) → same_component k (component_of d) ≡ false → find_conf k (put d cs) ≡ find_conf k cs
-find_conf-put_other k d [] h = refl
-find_conf-put_other k d (b ∷ cs) h = by_test (same_component (component_of d) (component_of b)) refl (find_conf-put_other k d cs h)
+pub find_conf-put_conf_other : (k : Component) (d : Conf) (cs : List Conf) → same_component k (component_of d) ≡ false → find_conf k (put_conf d cs) ≡ find_conf k cs
+find_conf-put_conf_other k d [] h = refl
+find_conf-put_conf_other k d (b ∷ cs) h = by_test (same_component (component_of d) (component_of b)) refl (find_conf-put_conf_other k d cs h)
   where
-    by_test : (t : Bool) → same_component (component_of d) (component_of b) ≡ t → find_conf k (put d cs) ≡ find_conf k cs → find_conf k (if same_component (component_of d) (component_of b) then d ∷ cs else b ∷ put d cs) ≡ find_conf k (b ∷ cs)
+    by_test : (t : Bool) → same_component (component_of d) (component_of b) ≡ t → find_conf k (put_conf d cs) ≡ find_conf k cs → find_conf k (if same_component (component_of d) (component_of b) then d ∷ cs else b ∷ put_conf d cs) ≡ find_conf k (b ∷ cs)
     by_test true e further =
         let one : component_of d ≡ component_of b = (Decides-same_component (component_of d) (component_of b)).0 e in
         let not_b : same_component k (component_of b) ≡ false = rw (← one) h in
@@ -120,23 +120,23 @@ second_false true t h = absurd (cc)
 second_false false t h = h
 
 -- what is put in the places of others is not found
-pub find_conf-put_all_other : (k : Component) (ds cs : List Conf) → list_any (same_component k) (map component_of ds) ≡ false → find_conf k (put_all ds cs) ≡ find_conf k cs
-find_conf-put_all_other k [] cs h = refl
-find_conf-put_all_other k (d ∷ ds) cs h =
-    find_conf-put_all_other k ds (put d cs) (second_false (same_component k (component_of d)) (list_any (same_component k) (map component_of ds)) h)
-    ∙ find_conf-put_other k d cs (first_false (same_component k (component_of d)) (list_any (same_component k) (map component_of ds)) h)
+pub find_conf-put_confs_other : (k : Component) (ds cs : List Conf) → list_any (same_component k) (map component_of ds) ≡ false → find_conf k (put_confs ds cs) ≡ find_conf k cs
+find_conf-put_confs_other k [] cs h = refl
+find_conf-put_confs_other k (d ∷ ds) cs h =
+    find_conf-put_confs_other k ds (put_conf d cs) (second_false (same_component k (component_of d)) (list_any (same_component k) (map component_of ds)) h)
+    ∙ find_conf-put_conf_other k d cs (first_false (same_component k (component_of d)) (list_any (same_component k) (map component_of ds)) h)
 
 -- a configuration that is put keeps the names
-pub names-put : (d : Conf) (cs : List Conf) → names (put d cs) ≡ names cs
-names-put d [] = refl
-names-put d (b ∷ cs) = by_test (same_component (component_of d) (component_of b)) refl (names-put d cs)
+pub component_names-put_conf : (d : Conf) (cs : List Conf) → component_names (put_conf d cs) ≡ component_names cs
+component_names-put_conf d [] = refl
+component_names-put_conf d (b ∷ cs) = by_test (same_component (component_of d) (component_of b)) refl (component_names-put_conf d cs)
   where
-    by_test : (t : Bool) → same_component (component_of d) (component_of b) ≡ t → names (put d cs) ≡ names cs →
-        names (if same_component (component_of d) (component_of b) then d ∷ cs else b ∷ put d cs) ≡ component_of b ∷ names cs
-    by_test true e further = rw e (ap (λ k. k ∷ names cs) ((Decides-same_component (component_of d) (component_of b)).0 e))
+    by_test : (t : Bool) → same_component (component_of d) (component_of b) ≡ t → component_names (put_conf d cs) ≡ component_names cs →
+        component_names (if same_component (component_of d) (component_of b) then d ∷ cs else b ∷ put_conf d cs) ≡ component_of b ∷ component_names cs
+    by_test true e further = rw e (ap (λ k. k ∷ component_names cs) ((Decides-same_component (component_of d) (component_of b)).0 e))
     by_test false e further = rw e (ap (λ ks. component_of b ∷ ks) further)
 
 -- configurations that are put one after another keep the names
-pub names-put_all : (ds cs : List Conf) → names (put_all ds cs) ≡ names cs
-names-put_all [] cs = refl
-names-put_all (d ∷ ds) cs = names-put_all ds (put d cs) ∙ names-put d cs
+pub component_names-put_confs : (ds cs : List Conf) → component_names (put_confs ds cs) ≡ component_names cs
+component_names-put_confs [] cs = refl
+component_names-put_confs (d ∷ ds) cs = component_names-put_confs ds (put_conf d cs) ∙ component_names-put_conf d cs

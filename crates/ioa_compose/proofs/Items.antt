@@ -6,7 +6,7 @@ use Rattle.ioa_values.proofs.Equality.{same_equal, same_itself}
 use Rattle.ioa_compose.specs.declared.queue.Item.{Item}
 use Rattle.ioa_compose.specs.declared.queue.Item.TheVariants.{Message, Stimulus}
 use Rattle.ioa_compose.specs.declared.fault.StepFault.TheVariants.{NotEnabled}
-use Rattle.ioa_compose.specs.Queues.{same_item, behind}
+use Rattle.ioa_compose.specs.Queues.{same_item, items_behind}
 
 -- two items are told to be the same exactly where they are equal
 pub same_item_is : (x y : Item) → IsTrue (same_item x y) ↔ (x ≡ y)
@@ -16,9 +16,9 @@ same_item_is (Stimulus a) (Message n) = (λ h. absurd (cc), λ e. absurd (cc))
 same_item_is (Stimulus a) (Stimulus b) = (λ h. ap Stimulus ((same_node_action_is a b).0 h), λ e. let k : a ≡ b = cc in (same_node_action_is a b).1 k)
 
 -- a queue goes on behind an item exactly where the item stands first
-pub behind_is : (x : Item) (items rest : List Item) → (behind x items ≡ Ok rest) ↔ (items ≡ x ∷ rest)
-behind_is x [] rest = (λ h. absurd (cc), λ e. absurd (cc))
-behind_is x (y ∷ more) rest = (by_test (same_item y x) refl, taken)
+pub items_behind_is : (x : Item) (items rest : List Item) → (items_behind x items ≡ Ok rest) ↔ (items ≡ x ∷ rest)
+items_behind_is x [] rest = (λ h. absurd (cc), λ e. absurd (cc))
+items_behind_is x (y ∷ more) rest = (by_test (same_item y x) refl, taken)
   where
     by_test : (t : Bool) → same_item y x ≡ t → (if t then Ok more else Err NotEnabled) ≡ Ok rest → y ∷ more ≡ x ∷ rest
     by_test true e h = let first : y ≡ x = (same_item_is y x).0 e in let last : more ≡ rest = cc in cc

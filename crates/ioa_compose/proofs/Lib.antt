@@ -5,6 +5,6 @@ pub mod Deliveries
 pub mod Items
 pub mod JointSteps
 pub mod NodeSteps
-pub mod Places
+pub mod Positions
 pub mod Projections
-pub mod Runs
+pub mod Replays

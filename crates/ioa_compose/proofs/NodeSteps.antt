@@ -7,9 +7,9 @@ use Rattle.std.proofs.lemmas.List.Folds.{list_all-append}
 use Rattle.ioa_values.specs.Data.{Data, number, truth, constant, tuple, sequence, finite_set, finite_map, as_truth, is_within}
 use Rattle.ioa_values.specs.Outcome.{and_then}
 use Rattle.ioa_terms.specs.Bindings.{Bindings}
-use Rattle.ioa_operators.specs.Judged.{judged}
-use Rattle.ioa_terms.specs.Meaning.{value, met, answer}
-use Rattle.ioa_terms.specs.Performance.{after, met_by, answer_by}
+use Rattle.ioa_operators.specs.RangeCheck.{range_check}
+use Rattle.ioa_terms.specs.Meaning.{value, numbers_met, answer}
+use Rattle.ioa_terms.specs.Performance.{after, numbers_met_by, answer_by}
 use Rattle.ioa_terms.specs.declared.action.Action.{Action}
 use Rattle.ioa_operators.specs.declared.fault.TermFault.{TermFault}
 use Rattle.ioa_operators.specs.declared.fault.TermFault.TheVariants as term
@@ -19,7 +19,7 @@ use Rattle.ioa_system.specs.declared.program.Rule.{Rule}
 use Rattle.ioa_compose.specs.declared.fault.StepFault.{StepFault}
 use Rattle.ioa_compose.specs.declared.fault.StepFault.TheVariants.{Undefined}
 use Rattle.ioa_compose.specs.NodeState.{NodeState, node_state}
-use Rattle.ioa_compose.specs.NodeStep.{passed, guarded, guard_answer, left_by, transition_answer, step_answer, are_natural, action_arguments, rule_for, rule_answer, node_answer, read_by, GuardHolds, IsNodeStep, guard_met, rule_met, FitsNodeStep}
+use Rattle.ioa_compose.specs.NodeStep.{truth_answer, value_answer, guard_answer, effect_answer, transition_answer, step_answer, are_natural, action_arguments, rule_for, rule_answer, node_answer, rule_bindings, GuardHolds, IsNodeStep, numbers_met_by_guard, numbers_met_by_rule, FitsNodeStep}
 
 -- every number among results lies within 64 bits
 abbrev AreWithin : List Data → Type 0
@@ -40,40 +40,40 @@ within_both : (xs ys : List Data) → AreWithin (xs ++ ys) → AreWithin xs × A
 within_both xs ys h = both_true (list_all is_within xs) (list_all is_within ys) (sym (list_all-append is_within xs ys) ∙ h)
 
 -- what is judged is a value exactly where that is the value and every number met lies within 64 bits
-judged_by : {A : Type 0} (b : Bool) (o : Option A) (v : A) → (if b then ok_or o term.Undefined else Err term.Range) ≡ Ok v → (b ≡ true) × (o ≡ Some v)
-judged_by true (Some w) v h = (refl, cc)
-judged_by true None v h = absurd (cc)
-judged_by false o v h = absurd (cc)
+range_check_by : {A : Type 0} (b : Bool) (o : Option A) (v : A) → (if b then ok_or o term.Undefined else Err term.Range) ≡ Ok v → (b ≡ true) × (o ≡ Some v)
+range_check_by true (Some w) v h = (refl, cc)
+range_check_by true None v h = absurd (cc)
+range_check_by false o v h = absurd (cc)
 
-judged_parts : {A : Type 0} (ds : List Data) (o : Option A) (v : A) → judged ds o ≡ Ok v → AreWithin ds × (o ≡ Some v)
-judged_parts ds o v h = judged_by (list_all is_within ds) o v h
+range_check_parts : {A : Type 0} (ds : List Data) (o : Option A) (v : A) → range_check ds o ≡ Ok v → AreWithin ds × (o ≡ Some v)
+range_check_parts ds o v h = range_check_by (list_all is_within ds) o v h
 
-judged_within : {A : Type 0} (ds : List Data) (o : Option A) (v : A) → AreWithin ds → o ≡ Some v → judged ds o ≡ Ok v
-judged_within ds o v within is = ap (λ b. if b then ok_or o term.Undefined else Err term.Range) within ∙ ap (λ p. ok_or p term.Undefined) is
+range_check_within : {A : Type 0} (ds : List Data) (o : Option A) (v : A) → AreWithin ds → o ≡ Some v → range_check ds o ≡ Ok v
+range_check_within ds o v within is = ap (λ b. if b then ok_or o term.Undefined else Err term.Range) within ∙ ap (λ p. ok_or p term.Undefined) is
 
 -- a value by which a guard passes is true
-passed_true : (v : Data) → passed (as_truth v) ≡ Ok tt → v ≡ truth true
-passed_true (number z) h = absurd (cc)
-passed_true (truth true) h = refl
-passed_true (truth false) h = absurd (cc)
-passed_true (constant k) h = absurd (cc)
-passed_true (tuple ds) h = absurd (cc)
-passed_true (sequence ds) h = absurd (cc)
-passed_true (finite_set ds) h = absurd (cc)
-passed_true (finite_map es) h = absurd (cc)
+truth_answer_true : (v : Data) → truth_answer (as_truth v) ≡ Ok tt → v ≡ truth true
+truth_answer_true (number z) h = absurd (cc)
+truth_answer_true (truth true) h = refl
+truth_answer_true (truth false) h = absurd (cc)
+truth_answer_true (constant k) h = absurd (cc)
+truth_answer_true (tuple ds) h = absurd (cc)
+truth_answer_true (sequence ds) h = absurd (cc)
+truth_answer_true (finite_set ds) h = absurd (cc)
+truth_answer_true (finite_map es) h = absurd (cc)
 
 -- a guard passes exactly where it holds and its numbers lie within 64 bits
-guard_parts : (g : Option CheckedTerm) (e : Bindings) → guard_answer g e ≡ Ok tt → AreWithin (guard_met g e) × GuardHolds g e
+guard_parts : (g : Option CheckedTerm) (e : Bindings) → guard_answer g e ≡ Ok tt → AreWithin (numbers_met_by_guard g e) × GuardHolds g e
 guard_parts None e h = (refl, tt)
 guard_parts (Some t) e h = by_value (answer t e) refl h
   where
-    by_value : (r : Result Data TermFault) → answer t e ≡ r → guarded r ≡ Ok tt → AreWithin (met t e) × (value t e ≡ Some (truth true))
-    by_value (Ok v) q h = judged_parts (met t e) (value t e) (truth true) (q ∙ ap Ok (passed_true v h))
+    by_value : (r : Result Data TermFault) → answer t e ≡ r → value_answer r ≡ Ok tt → AreWithin (numbers_met t e) × (value t e ≡ Some (truth true))
+    by_value (Ok v) q h = range_check_parts (numbers_met t e) (value t e) (truth true) (q ∙ ap Ok (truth_answer_true v h))
     by_value (Err f) q h = absurd (cc)
 
-guard_passes : (g : Option CheckedTerm) (e : Bindings) → AreWithin (guard_met g e) → GuardHolds g e → guard_answer g e ≡ Ok tt
+guard_passes : (g : Option CheckedTerm) (e : Bindings) → AreWithin (numbers_met_by_guard g e) → GuardHolds g e → guard_answer g e ≡ Ok tt
 guard_passes None e within holds = refl
-guard_passes (Some t) e within holds = ap guarded (judged_within (met t e) (value t e) (truth true) within holds)
+guard_passes (Some t) e within holds = ap value_answer (range_check_within (numbers_met t e) (value t e) (truth true) within holds)
 
 -- what a transition leaves
 record TransitionParts (n : ℕ) (t : CheckedTransition) (b : Bindings) (vs : List Data) : Type 0 where
@@ -81,37 +81,37 @@ record TransitionParts (n : ℕ) (t : CheckedTransition) (b : Bindings) (vs : Li
   left : Bindings
   effect : after t.effect b ≡ Some left
   variables : vs ≡ take n (map (λ c. c.1) left)
-  within : AreWithin (guard_met t.pre b ++ met_by t.effect b)
+  within : AreWithin (numbers_met_by_guard t.pre b ++ numbers_met_by t.effect b)
 
 transition_parts : (n : ℕ) (t : CheckedTransition) (b : Bindings) (vs : List Data) → transition_answer n t b ≡ Ok vs → TransitionParts n t b vs
 transition_parts n t b vs h = by_guard (guard_answer t.pre b) refl h
   where
-    by_effect : AreWithin (guard_met t.pre b) × GuardHolds t.pre b → (r : Result Bindings TermFault) → answer_by t.effect b ≡ r → left_by n r ≡ Ok vs → TransitionParts n t b vs
+    by_effect : AreWithin (numbers_met_by_guard t.pre b) × GuardHolds t.pre b → (r : Result Bindings TermFault) → answer_by t.effect b ≡ r → effect_answer n r ≡ Ok vs → TransitionParts n t b vs
     by_effect g (Ok left) q h =
-        let p : AreWithin (met_by t.effect b) × (after t.effect b ≡ Some left) = judged_parts (met_by t.effect b) (after t.effect b) left q in
-        record { guard = g.1; left = left; effect = p.1; variables = cc; within = all_within (guard_met t.pre b) (met_by t.effect b) g.0 p.0 }
+        let p : AreWithin (numbers_met_by t.effect b) × (after t.effect b ≡ Some left) = range_check_parts (numbers_met_by t.effect b) (after t.effect b) left q in
+        record { guard = g.1; left = left; effect = p.1; variables = cc; within = all_within (numbers_met_by_guard t.pre b) (numbers_met_by t.effect b) g.0 p.0 }
     by_effect g (Err f) q h = absurd (cc)
 
-    by_guard : (r : Result (Unit {0}) StepFault) → guard_answer t.pre b ≡ r → and_then r (λ _. left_by n (answer_by t.effect b)) ≡ Ok vs → TransitionParts n t b vs
+    by_guard : (r : Result (Unit {0}) StepFault) → guard_answer t.pre b ≡ r → and_then r (λ _. effect_answer n (answer_by t.effect b)) ≡ Ok vs → TransitionParts n t b vs
     by_guard (Ok u) q h = by_effect (guard_parts t.pre b q) (answer_by t.effect b) refl h
     by_guard (Err f) q h = absurd (cc)
 
-transition_left : (n : ℕ) (t : CheckedTransition) (b left : Bindings) → AreWithin (guard_met t.pre b ++ met_by t.effect b) → GuardHolds t.pre b → after t.effect b ≡ Some left → transition_answer n t b ≡ Ok (take n (map (λ c. c.1) left))
+transition_left : (n : ℕ) (t : CheckedTransition) (b left : Bindings) → AreWithin (numbers_met_by_guard t.pre b ++ numbers_met_by t.effect b) → GuardHolds t.pre b → after t.effect b ≡ Some left → transition_answer n t b ≡ Ok (take n (map (λ c. c.1) left))
 transition_left n t b left within holds effect =
-    let p : AreWithin (guard_met t.pre b) × AreWithin (met_by t.effect b) = within_both (guard_met t.pre b) (met_by t.effect b) within in
-    ap (λ r. and_then r (λ _. left_by n (answer_by t.effect b))) (guard_passes t.pre b p.0 holds)
-    ∙ ap (left_by n) (judged_within (met_by t.effect b) (after t.effect b) left p.1 effect)
+    let p : AreWithin (numbers_met_by_guard t.pre b) × AreWithin (numbers_met_by t.effect b) = within_both (numbers_met_by_guard t.pre b) (numbers_met_by t.effect b) within in
+    ap (λ r. and_then r (λ _. effect_answer n (answer_by t.effect b))) (guard_passes t.pre b p.0 holds)
+    ∙ ap (effect_answer n) (range_check_within (numbers_met_by t.effect b) (after t.effect b) left p.1 effect)
 
 -- what an entry and its transition meet
-abbrev step_met : CheckedEntry → CheckedTransition → Bindings → List Data
-step_met e t b = guard_met e.condition b ++ (guard_met t.pre b ++ met_by t.effect b)
+abbrev numbers_met_by_step : CheckedEntry → CheckedTransition → Bindings → List Data
+numbers_met_by_step e t b = numbers_met_by_guard e.condition b ++ (numbers_met_by_guard t.pre b ++ numbers_met_by t.effect b)
 
 -- what they leave
 record StepParts (n : ℕ) (e : CheckedEntry) (t : CheckedTransition) (args : List Data) (b : Bindings) (vs : List Data) : Type 0 where
   natural : are_natural e.parameters args ≡ true
   condition : GuardHolds e.condition b
   transition : TransitionParts n t b vs
-  within : AreWithin (step_met e t b)
+  within : AreWithin (numbers_met_by_step e t b)
 
 abbrev after_naturals : ℕ → CheckedEntry → CheckedTransition → Bindings → Bool → Result (List Data) StepFault
 after_naturals n e t b natural =
@@ -122,18 +122,18 @@ step_parts n e t args b vs h = by_naturals (are_natural e.parameters args) refl 
   where
     by_condition : are_natural e.parameters args ≡ true → (r : Result (Unit {0}) StepFault) → guard_answer e.condition b ≡ r → and_then r (λ _. transition_answer n t b) ≡ Ok vs → StepParts n e t args b vs
     by_condition k (Ok u) q h =
-        let g : AreWithin (guard_met e.condition b) × GuardHolds e.condition b = guard_parts e.condition b q in
+        let g : AreWithin (numbers_met_by_guard e.condition b) × GuardHolds e.condition b = guard_parts e.condition b q in
         let p : TransitionParts n t b vs = transition_parts n t b vs h in
-        record { natural = k; condition = g.1; transition = p; within = all_within (guard_met e.condition b) (guard_met t.pre b ++ met_by t.effect b) g.0 p.within }
+        record { natural = k; condition = g.1; transition = p; within = all_within (numbers_met_by_guard e.condition b) (numbers_met_by_guard t.pre b ++ numbers_met_by t.effect b) g.0 p.within }
     by_condition k (Err f) q h = absurd (cc)
 
     by_naturals : (x : Bool) → are_natural e.parameters args ≡ x → after_naturals n e t b x ≡ Ok vs → StepParts n e t args b vs
     by_naturals true q h = by_condition q (guard_answer e.condition b) refl h
     by_naturals false q h = absurd (cc)
 
-step_left : (n : ℕ) (e : CheckedEntry) (t : CheckedTransition) (args : List Data) (b left : Bindings) → AreWithin (step_met e t b) → are_natural e.parameters args ≡ true → GuardHolds e.condition b → GuardHolds t.pre b → after t.effect b ≡ Some left → step_answer n e t args b ≡ Ok (take n (map (λ c. c.1) left))
+step_left : (n : ℕ) (e : CheckedEntry) (t : CheckedTransition) (args : List Data) (b left : Bindings) → AreWithin (numbers_met_by_step e t b) → are_natural e.parameters args ≡ true → GuardHolds e.condition b → GuardHolds t.pre b → after t.effect b ≡ Some left → step_answer n e t args b ≡ Ok (take n (map (λ c. c.1) left))
 step_left n e t args b left within natural condition guard effect =
-    let p : AreWithin (guard_met e.condition b) × AreWithin (guard_met t.pre b ++ met_by t.effect b) = within_both (guard_met e.condition b) (guard_met t.pre b ++ met_by t.effect b) within in
+    let p : AreWithin (numbers_met_by_guard e.condition b) × AreWithin (numbers_met_by_guard t.pre b ++ numbers_met_by t.effect b) = within_both (numbers_met_by_guard e.condition b) (numbers_met_by_guard t.pre b ++ numbers_met_by t.effect b) within in
     ap (after_naturals n e t b) natural
     ∙ ap (λ r. and_then r (λ _. transition_answer n t b)) (guard_passes e.condition b p.0 condition)
     ∙ transition_left n t b left p.1 guard effect
@@ -146,15 +146,15 @@ is_node_step c a d = by_rule (rule_for a c.program.rules) refl
     with_values : List Data → Result NodeState StepFault
     with_values vs = Ok (node_state c.program vs)
 
-    fits : (r s : Rule) → rule_for a c.program.rules ≡ Some r → rule_for a c.program.rules ≡ Some s → AreWithin (rule_met r (read_by r a c)) → AreWithin (rule_met s (read_by s a c))
+    fits : (r s : Rule) → rule_for a c.program.rules ≡ Some r → rule_for a c.program.rules ≡ Some s → AreWithin (numbers_met_by_rule r (rule_bindings r a c)) → AreWithin (numbers_met_by_rule s (rule_bindings s a c))
     fits r s q k h =
         let same_rule : r ≡ s = cc in
-        ap (λ t. list_all is_within (rule_met t (read_by t a c))) (sym same_rule) ∙ h
+        ap (λ t. list_all is_within (numbers_met_by_rule t (rule_bindings t a c))) (sym same_rule) ∙ h
 
     by_values : (r : Rule) → rule_for a c.program.rules ≡ Some r → (s : Result (List Data) StepFault) → rule_answer c.program c.variables a (Some r) ≡ s → and_then s with_values ≡ Ok d → IsNodeStep a c d × FitsNodeStep a c
     by_values r q (Ok vs) e h =
         let same_state : node_state c.program vs ≡ d = cc in
-        let p : StepParts (length c.variables) (entry_of r.entry) (transition_of r.transition) (action_arguments a) (read_by r a c) vs = step_parts (length c.variables) (entry_of r.entry) (transition_of r.transition) (action_arguments a) (read_by r a c) vs e in
+        let p : StepParts (length c.variables) (entry_of r.entry) (transition_of r.transition) (action_arguments a) (rule_bindings r a c) vs = step_parts (length c.variables) (entry_of r.entry) (transition_of r.transition) (action_arguments a) (rule_bindings r a c) vs e in
         let t = p.transition in
         (record { rule = r; mine = q; natural = p.natural; condition = p.condition; guard = t.guard; left = t.left; effect = t.effect; reached = sym same_state ∙ ap (node_state c.program) t.variables }, λ s k. fits r s q k p.within)
     by_values r q (Err f) e h = absurd (cc)
@@ -168,7 +168,7 @@ pub node_answer_is : (c : NodeState) (a : Action) (d : NodeState) → IsNodeStep
 unfolding node_answer
 node_answer_is c a d p fits =
     ap (λ o. and_then (rule_answer c.program c.variables a o) with_values) p.mine
-    ∙ ap (λ s. and_then s with_values) (step_left (length c.variables) (entry_of p.rule.entry) (transition_of p.rule.transition) (action_arguments a) (read_by p.rule a c) p.left (fits p.rule p.mine) p.natural p.condition p.guard p.effect)
+    ∙ ap (λ s. and_then s with_values) (step_left (length c.variables) (entry_of p.rule.entry) (transition_of p.rule.transition) (action_arguments a) (rule_bindings p.rule a c) p.left (fits p.rule p.mine) p.natural p.condition p.guard p.effect)
     ∙ ap Ok (sym p.reached)
   where
     with_values : List Data → Result NodeState StepFault

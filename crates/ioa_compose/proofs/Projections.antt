@@ -5,7 +5,7 @@ use Rattle.ioa_compose.specs.declared.configuration.Conf.{Conf}
 use Rattle.ioa_compose.specs.declared.fault.StepFault.{StepFault}
 use Rattle.ioa_compose.specs.Participants.{takes_part}
 use Rattle.ioa_compose.specs.Composition.{find_conf, joint_answer}
-use Rattle.ioa_compose.specs.Executions.{after_step, replay, replay_one, projected, ProjectsOnEach}
+use Rattle.ioa_compose.specs.Executions.{after_step, replay, replay_one, projection_of, ProjectsOnEach}
 use Rattle.ioa_compose.proofs.JointSteps.{StepsTo, find_conf-joint_own, find_conf-joint_other}
 
 -- an execution, projected on a component, is one of that component
@@ -14,7 +14,7 @@ projects [] start confs h k c found = let same_confs : start ≡ confs = cc in (
 projects (a ∷ more) start confs h k c found = at_step (joint_answer a start) refl h (λ mid e. projects more mid confs e k)
   where
     Projected : List Action → Conf → Type 0
-    Projected actions c = (d : Conf) × (find_conf k confs ≡ Some d) × (replay_one (projected k actions) c ≡ Some d)
+    Projected actions c = (d : Conf) × (find_conf k confs ≡ Some d) × (replay_one (projection_of k actions) c ≡ Some d)
 
     at_part : (mid : List Conf) → joint_answer a start ≡ Ok mid → ((c : Conf) → find_conf k mid ≡ Some c → Projected more c) → (t : Bool) → takes_part k a ≡ t → Projected (a ∷ more) c
     at_part mid e further true part =

@@ -12,7 +12,7 @@ use Rattle.ioa_compose.specs.declared.fault.StepFault.{StepFault}
 use Rattle.ioa_compose.specs.declared.fault.StepFault.TheVariants.{NoChannel}
 use Rattle.ioa_compose.specs.NodeStep.{node_answer}
 use Rattle.ioa_compose.specs.Queues.{queue_answer}
-use Rattle.ioa_compose.specs.Participants.{same_component, has, takes_part}
+use Rattle.ioa_compose.specs.Participants.{same_component, participants_of, takes_part}
 
 -- the name of a configuration's component
 abbrev pub component_of : Conf → Component
@@ -20,8 +20,8 @@ component_of (Node c) = component.Node c.program.node
 component_of (Queue q) = q.component
 
 -- the names of components, in order
-abbrev pub names : List Conf → List Component
-names cs = map component_of cs
+abbrev pub component_names : List Conf → List Component
+component_names cs = map component_of cs
 
 -- what a component answers to an action: its own step, or why there is none (Lynch 8.1)
 unfoldable pub conf_answer : Action → Conf → Result Conf StepFault
@@ -33,18 +33,18 @@ abbrev pub find_conf : Component → List Conf → Option Conf
 find_conf k cs = find (λ c. same_component k (component_of c)) cs
 
 -- the map with another configuration of a component; the same where there is no such component
-abbrev pub put : Conf → List Conf → List Conf
-put d [] = []
-put d (c ∷ cs) = if same_component (component_of d) (component_of c) then d ∷ cs else c ∷ put d cs
+abbrev pub put_conf : Conf → List Conf → List Conf
+put_conf d [] = []
+put_conf d (c ∷ cs) = if same_component (component_of d) (component_of c) then d ∷ cs else c ∷ put_conf d cs
 
 -- the map with other configurations of components, put in one after another
-abbrev pub put_all : List Conf → List Conf → List Conf
-put_all [] cs = cs
-put_all (d ∷ ds) cs = put_all ds (put d cs)
+abbrev pub put_confs : List Conf → List Conf → List Conf
+put_confs [] cs = cs
+put_confs (d ∷ ds) cs = put_confs ds (put_conf d cs)
 
 -- what a joint step reads: the configuration of each of these components
-abbrev pub reads : List Component → List Conf → List (Option Conf)
-reads ks cs = map (λ k. find_conf k cs) ks
+abbrev pub find_confs : List Component → List Conf → List (Option Conf)
+find_confs ks cs = map (λ k. find_conf k cs) ks
 
 -- each component's own step by an action, or the first fault among them
 abbrev pub own_steps : Action → List (Option Conf) → Result (List Conf) StepFault
@@ -58,7 +58,7 @@ changes_of a rs = if list_any is_none rs then Err NoChannel else own_steps a rs
 
 -- what the composition answers to an action: each participant takes its own step, and all others stay (Lynch 8.2)
 abbrev pub joint_answer : Action → List Conf → Result (List Conf) StepFault
-joint_answer a cs = and_then (changes_of a (reads (has a) cs)) (λ ds. Ok (put_all ds cs))
+joint_answer a cs = and_then (changes_of a (find_confs (participants_of a) cs)) (λ ds. Ok (put_confs ds cs))
 
 -- a component has a step by an action
 pub record HasStep (a : Action) (k : Component) (cs : List Conf) : Type 0 where
@@ -79,7 +79,7 @@ pub record TakesStep (a : Action) (k : Component) (cs next : List Conf) : Type 0
 pub record IsJointStep (a : Action) (cs next : List Conf) : Type 0 where
   pub participants : (k : Component) → takes_part k a ≡ true → TakesStep a k cs next
   pub others : (k : Component) → takes_part k a ≡ false → find_conf k next ≡ find_conf k cs
-  pub same_names : names next ≡ names cs
+  pub same_names : component_names next ≡ component_names cs
 
 -- each component that has an action has a step by it (Lynch 8.2)
 abbrev pub AllHaveSteps : Action → List Conf → Type 0

@@ -28,13 +28,13 @@ replay_one [] c = Some c
 replay_one (a ∷ more) c = after_step (replay_one more) (conf_answer a c)
 
 -- the projection of a list of actions on a component: those in which it takes part (Lynch 8.2)
-abbrev pub projected : Component → List Action → List Action
-projected k actions = filter (takes_part k) actions
+abbrev pub projection_of : Component → List Action → List Action
+projection_of k actions = filter (takes_part k) actions
 
 -- further steps after the step at place `n`, or its fault with the place
 abbrev pub replay_after_step : ℕ → (List Conf → Result (List Conf) ReplayFault) → Result (List Conf) StepFault → Result (List Conf) ReplayFault
 replay_after_step n steps (Ok cs) = steps cs
-replay_after_step n steps (Err e) = Err (record { place = n; fault = e })
+replay_after_step n steps (Err e) = Err (record { position = n; fault = e })
 
 -- the configurations after a list of actions, or the first that is no step: its place, counted from `n`, and the fault
 abbrev pub replay_answer : ℕ → List Action → List Conf → Result (List Conf) ReplayFault
@@ -43,7 +43,7 @@ replay_answer n (a ∷ more) cs = replay_after_step n (replay_answer (n + 1) mor
 
 -- a fault of a replay as text: the step's, and its place (profile)
 abbrev pub replay_fault_text : ReplayFault → List ℕ
-replay_fault_text f = step_fault_text f.fault ++ (codes " at " ++ decimal f.place)
+replay_fault_text f = step_fault_text f.fault ++ (codes " at " ++ decimal f.position)
 
 -- a replay computes `meant`, or memory ran out at some place
 abbrev pub IsReplay : {X : Type 0} → (X → List Conf) → Result X ReplayFault → Result (List Conf) ReplayFault → Type 0
@@ -53,4 +53,4 @@ IsReplay view (Err e) meant = (e.fault ≡ Memory) ⊎ (meant ≡ Err e)
 -- each component's own replay of its projection leads to the configuration that it has at the end (Lynch 8.2)
 abbrev pub ProjectsOnEach : List Conf → List Action → List Conf → Type 0
 ProjectsOnEach start actions confs =
-    (k : Component) (c : Conf) → find_conf k start ≡ Some c → (d : Conf) × (find_conf k confs ≡ Some d) × (replay_one (projected k actions) c ≡ Some d)
+    (k : Component) (c : Conf) → find_conf k start ≡ Some c → (d : Conf) × (find_conf k confs ≡ Some d) × (replay_one (projection_of k actions) c ≡ Some d)

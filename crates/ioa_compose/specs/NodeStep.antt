@@ -5,20 +5,20 @@ use Rattle.ioa_values.specs.Data.{Data, number, truth, as_truth, is_within}
 use Rattle.ioa_values.specs.Outcome.{and_then}
 use Rattle.ioa_values.specs.DataOrder.{same}
 use Rattle.ioa_terms.specs.Bindings.{Bindings, same_name}
-use Rattle.ioa_terms.specs.Meaning.{value, met, answer}
-use Rattle.ioa_terms.specs.Performance.{after, met_by, answer_by}
+use Rattle.ioa_terms.specs.Meaning.{value, numbers_met, answer}
+use Rattle.ioa_terms.specs.Performance.{after, numbers_met_by, answer_by}
 use Rattle.ioa_terms.specs.declared.tree.Kind.{Kind}
 use Rattle.ioa_terms.specs.declared.tree.Kind.TheVariants.{Input, Output, Internal}
 use Rattle.ioa_terms.specs.declared.action.Action.{Action}
 use Rattle.ioa_terms.specs.declared.action.Action.TheVariants.{Send, Receive, Local, Stimulus}
-use Rattle.ioa_operators.specs.Shapes.{has_shape, widened}
+use Rattle.ioa_operators.specs.Shapes.{has_shape, wide_shape}
 use Rattle.ioa_operators.specs.ShapeView.{shape_of}
 use Rattle.ioa_operators.specs.declared.fault.TermFault.{TermFault}
 use Rattle.ioa_source.specs.PlainText.{const, named}
 use Rattle.ioa_source.specs.TextView.{entry_of, transition_of, variable_of}
 use Rattle.ioa_source.specs.Sides.{CheckedEntry, CheckedParameter, CheckedTerm, CheckedTransition, CheckedVariable}
 use Rattle.ioa_system.specs.Parts.{Parts}
-use Rattle.ioa_system.specs.Placed.{scope_of}
+use Rattle.ioa_system.specs.ResolvedPrograms.{scope_of}
 use Rattle.ioa_compose.specs.NodeState.{NodeState, node_state}
 use Rattle.ioa_compose.specs.StepFaults.{step_fault}
 use Rattle.ioa_system.specs.declared.program.Rule.{Rule}
@@ -56,15 +56,15 @@ kind_agrees (Stimulus a) Output = false
 kind_agrees (Stimulus a) Internal = false
 
 -- whether a value is the one that a constant parameter has
-abbrev pub is_constant : Result Data TermFault → Data → Bool
-is_constant (Ok u) v = same u v
-is_constant (Err f) v = false
+abbrev pub constant_agrees : Result Data TermFault → Data → Bool
+constant_agrees (Ok u) v = same u v
+constant_agrees (Err f) v = false
 
 -- whether a value is one of a parameter's: it is the constant, or is of the sort, where a negative number passes for a
 -- natural
 abbrev pub parameter_agrees : CheckedParameter → Data → Bool
-parameter_agrees (const t) v = is_constant (answer t []) v
-parameter_agrees (named d) v = has_shape (widened (shape_of d.shape)) v
+parameter_agrees (const t) v = constant_agrees (answer t []) v
+parameter_agrees (named d) v = has_shape (wide_shape (shape_of d.shape)) v
 
 -- whether arguments are those of an entry's parameters: as many, and each one of its own parameter's
 abbrev pub arguments_agree : List CheckedParameter → List Data → Bool
@@ -104,33 +104,33 @@ own_values (p ∷ more) [] = []
 own_values (p ∷ more) (v ∷ vs) = own_value p v ++ own_values more vs
 
 -- what guard and effect read: the state variables and the entry's own parameters
-abbrev pub view_of : CheckedEntry → List CheckedVariable → Action → List Data → Bindings
-view_of e variables a vs = zip (scope_of e variables) (vs ++ own_values e.parameters (action_arguments a))
+abbrev pub entry_bindings : CheckedEntry → List CheckedVariable → Action → List Data → Bindings
+entry_bindings e variables a vs = zip (scope_of e variables) (vs ++ own_values e.parameters (action_arguments a))
 
 -- a guard passes where it is true
-abbrev pub passed : Option Bool → Result (Unit {0}) StepFault
-passed None = Err NotEnabled
-passed (Some true) = Ok tt
-passed (Some false) = Err NotEnabled
+abbrev pub truth_answer : Option Bool → Result (Unit {0}) StepFault
+truth_answer None = Err NotEnabled
+truth_answer (Some true) = Ok tt
+truth_answer (Some false) = Err NotEnabled
 
 -- what a guard answers by its value: nothing where that is true
-abbrev pub guarded : Result Data TermFault → Result (Unit {0}) StepFault
-guarded (Err f) = Err (step_fault f)
-guarded (Ok v) = passed (as_truth v)
+abbrev pub value_answer : Result Data TermFault → Result (Unit {0}) StepFault
+value_answer (Err f) = Err (step_fault f)
+value_answer (Ok v) = truth_answer (as_truth v)
 
 -- what a guard answers: nothing where it is true, or where there is none
 abbrev pub guard_answer : Option CheckedTerm → Bindings → Result (Unit {0}) StepFault
 guard_answer None e = Ok tt
-guard_answer (Some t) e = guarded (answer t e)
+guard_answer (Some t) e = value_answer (answer t e)
 
 -- the values of the state variables that an effect leaves
-abbrev pub left_by : ℕ → Result Bindings TermFault → Result (List Data) StepFault
-left_by n (Ok e) = Ok (take n (map (λ b. b.1) e))
-left_by n (Err f) = Err (step_fault f)
+abbrev pub effect_answer : ℕ → Result Bindings TermFault → Result (List Data) StepFault
+effect_answer n (Ok e) = Ok (take n (map (λ b. b.1) e))
+effect_answer n (Err f) = Err (step_fault f)
 
 -- what a transition answers over n state variables: their new values, or the first fault of guard and effect
 abbrev pub transition_answer : ℕ → CheckedTransition → Bindings → Result (List Data) StepFault
-transition_answer n t b = and_then (guard_answer t.pre b) (λ _. left_by n (answer_by t.effect b))
+transition_answer n t b = and_then (guard_answer t.pre b) (λ _. effect_answer n (answer_by t.effect b))
 
 -- what an entry and its transition answer to arguments over n state variables: the first fault of the arguments, the
 -- entry's condition, guard and effect, or the new values
@@ -147,7 +147,7 @@ abbrev pub rule_answer : Parts → List Data → Action → Option Rule → Resu
 rule_answer p vs a None = Err NotMine
 rule_answer p vs a (Some r) =
     step_answer (length vs) (entry_of r.entry) (transition_of r.transition) (action_arguments a)
-    (view_of (entry_of r.entry) (map variable_of p.variables) a vs)
+    (entry_bindings (entry_of r.entry) (map variable_of p.variables) a vs)
 
 -- what a program leaves of its variables' values by an action, or why the action is no step
 abbrev pub program_answer : Parts → List Data → Action → Result (List Data) StepFault
@@ -158,8 +158,8 @@ unfoldable pub node_answer : NodeState → Action → Result NodeState StepFault
 node_answer c a = and_then (program_answer c.program c.variables a) (λ vs. Ok (node_state c.program vs))
 
 -- what the condition, the guard and the effect of a rule read by an action
-abbrev pub read_by : Rule → Action → NodeState → Bindings
-read_by r a c = view_of (entry_of r.entry) (map variable_of c.program.variables) a c.variables
+abbrev pub rule_bindings : Rule → Action → NodeState → Bindings
+rule_bindings r a c = entry_bindings (entry_of r.entry) (map variable_of c.program.variables) a c.variables
 
 -- a guard or a condition holds: there is none, or its value is true
 abbrev pub GuardHolds : Option CheckedTerm → Bindings → Type 0
@@ -173,22 +173,22 @@ pub record IsNodeStep (a : Action) (c d : NodeState) : Type 0 where
   pub rule : Rule
   pub mine : rule_for a c.program.rules ≡ Some rule
   pub natural : are_natural (entry_of rule.entry).parameters (action_arguments a) ≡ true
-  pub condition : GuardHolds (entry_of rule.entry).condition (read_by rule a c)
-  pub guard : GuardHolds (transition_of rule.transition).pre (read_by rule a c)
+  pub condition : GuardHolds (entry_of rule.entry).condition (rule_bindings rule a c)
+  pub guard : GuardHolds (transition_of rule.transition).pre (rule_bindings rule a c)
   pub left : Bindings
-  pub effect : after (transition_of rule.transition).effect (read_by rule a c) ≡ Some left
+  pub effect : after (transition_of rule.transition).effect (rule_bindings rule a c) ≡ Some left
   pub reached : d ≡ node_state c.program (take (length c.variables) (map (λ b. b.1) left))
 
 -- the results that a guard or a condition meets
-abbrev pub guard_met : Option CheckedTerm → Bindings → List Data
-guard_met None e = []
-guard_met (Some t) e = met t e
+abbrev pub numbers_met_by_guard : Option CheckedTerm → Bindings → List Data
+numbers_met_by_guard None e = []
+numbers_met_by_guard (Some t) e = numbers_met t e
 
 -- the results that a rule meets: its entry's condition, its guard and its effect, one after another
-abbrev pub rule_met : Rule → Bindings → List Data
-rule_met r e =
-    guard_met (entry_of r.entry).condition e ++ (guard_met (transition_of r.transition).pre e ++ met_by (transition_of r.transition).effect e)
+abbrev pub numbers_met_by_rule : Rule → Bindings → List Data
+numbers_met_by_rule r e =
+    numbers_met_by_guard (entry_of r.entry).condition e ++ (numbers_met_by_guard (transition_of r.transition).pre e ++ numbers_met_by (transition_of r.transition).effect e)
 
 -- every number that the rule of an action meets lies within 64 bits (profile)
 abbrev pub FitsNodeStep : Action → NodeState → Type 0
-FitsNodeStep a c = (r : Rule) → rule_for a c.program.rules ≡ Some r → list_all is_within (rule_met r (read_by r a c)) ≡ true
+FitsNodeStep a c = (r : Rule) → rule_for a c.program.rules ≡ Some r → list_all is_within (numbers_met_by_rule r (rule_bindings r a c)) ≡ true

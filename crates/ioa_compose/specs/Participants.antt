@@ -10,16 +10,16 @@ use Rattle.ioa_compose.specs.declared.parties.Parties.{Parties}
 use Rattle.ioa_compose.specs.declared.parties.Parties.TheVariants.{One, Two}
 
 -- the components that have an action in their signature, the queue first
-abbrev pub has : Action → List Component
-has (Send m i j) = Channel i j ∷ Node i ∷ []
-has (Receive m i j) = Channel i j ∷ Node j ∷ []
-has (Local a) = Node a.node ∷ []
-has (Stimulus a) = Script a.node ∷ Node a.node ∷ []
+abbrev pub participants_of : Action → List Component
+participants_of (Send m i j) = Channel i j ∷ Node i ∷ []
+participants_of (Receive m i j) = Channel i j ∷ Node j ∷ []
+participants_of (Local a) = Node a.node ∷ []
+participants_of (Stimulus a) = Script a.node ∷ Node a.node ∷ []
 
 -- the components that a value of the code lists
-abbrev pub listed : Parties → List Component
-listed (One k) = k ∷ []
-listed (Two k l) = k ∷ l ∷ []
+abbrev pub participant_list : Parties → List Component
+participant_list (One k) = k ∷ []
+participant_list (Two k l) = k ∷ l ∷ []
 
 -- whether two names are those of one component
 abbrev pub same_component : Component → Component → Bool
@@ -35,4 +35,4 @@ same_component (Script i) (Script j) = int_eq i j
 
 -- whether a component takes part in an action
 abbrev pub takes_part : Component → Action → Bool
-takes_part k a = list_any (same_component k) (has a)
+takes_part k a = list_any (same_component k) (participants_of a)

@@ -39,13 +39,13 @@ abbrev pub with_last : Item → QueueState → QueueState
 with_last x q = queue_state q.component (q.items ++ x ∷ [])
 
 -- the items behind an item that stands first (Lynch 14.1)
-abbrev pub behind : Item → List Item → Result (List Item) StepFault
-behind x [] = Err NotEnabled
-behind x (y ∷ more) = if same_item y x then Ok more else Err NotEnabled
+abbrev pub items_behind : Item → List Item → Result (List Item) StepFault
+items_behind x [] = Err NotEnabled
+items_behind x (y ∷ more) = if same_item y x then Ok more else Err NotEnabled
 
 -- the queue without an item that stands first
 abbrev pub without_first : Item → QueueState → Result QueueState StepFault
-without_first x q = and_then (behind x q.items) (λ items. Ok (queue_state q.component items))
+without_first x q = and_then (items_behind x q.items) (λ items. Ok (queue_state q.component items))
 
 -- what a queue answers to an action: its new state, or why there is none (Lynch 8.1 and 14.1)
 abbrev pub queue_answer : QueueState → Action → Result QueueState StepFault

@@ -4,8 +4,8 @@ ghost use Rattle.std.specs.Prelude.{◌≡◌, IfOk};
 ghost use Rattle.std.specs.List.{position_from};
 ghost use Rattle.std.specs.Option.{option_copied};
 ghost use Rattle.ioa_values.specs.Outcome.{Answers};
-ghost use Rattle.ioa_compose.specs.Participants.{has, same_component};
-ghost use Rattle.ioa_compose.specs.Composition.{component_of, find_conf, put, put_all, reads, changes_of, joint_answer};
+ghost use Rattle.ioa_compose.specs.Participants.{participants_of, same_component};
+ghost use Rattle.ioa_compose.specs.Composition.{component_of, find_conf, put_conf, put_confs, find_confs, changes_of, joint_answer};
 
 use crate::configuration::Conf;
 use crate::fault::StepFault;
@@ -28,7 +28,7 @@ pub fn find_conf(confs: &[Conf], component: Component) -> Option<&Conf>
 /// The new configurations of the participants of an action, the queue's first. `NoChannel` where one
 /// of them has no configuration; else the first fault of their own steps, the queue's first.
 pub fn changes(alloc: Global, confs: &[Conf], action: &Action) -> Result<Vec<Conf>, StepFault>
-    ensures { Answers StepFault.Memory (λ v. v.items) result (changes_of action.now (reads (has action.now) confs.now)) }
+    ensures { Answers StepFault.Memory (λ v. v.items) result (changes_of action.now (find_confs (participants_of action.now) confs.now)) }
 {
     let mut changed = Vec::new(alloc);
     match participants(action) {
@@ -53,7 +53,7 @@ pub fn changes(alloc: Global, confs: &[Conf], action: &Action) -> Result<Vec<Con
 }
 
 /// The place of a component's configuration, the first where several bear its name.
-fn place_of(confs: &[Conf], component: Component) -> Option<usize>
+fn position_of(confs: &[Conf], component: Component) -> Option<usize>
     ensures { result ≡ position_from (λ c. same_component component (component_of c)) 0 confs.now }
 {
     confs.iter().position(|conf| component == conf.component())
@@ -62,16 +62,16 @@ fn place_of(confs: &[Conf], component: Component) -> Option<usize>
 /// Puts a configuration in the place of the one that bears its component's name; does nothing where
 /// there is none. Takes no memory.
 pub fn put_conf(confs: &mut Vec<Conf>, conf: Conf)
-    ensures { confs.new.items ≡ put conf confs.old.items }
+    ensures { confs.new.items ≡ put_conf conf confs.old.items }
 {
-    if let Some(place) = place_of(confs.as_slice(), conf.component()) {
-        confs[place] = conf;
+    if let Some(position) = position_of(confs.as_slice(), conf.component()) {
+        confs[position] = conf;
     }
 }
 
 /// Puts each configuration in its component's place. Takes no memory.
 pub fn put_confs(confs: &mut Vec<Conf>, changed: Vec<Conf>)
-    ensures { confs.new.items ≡ put_all changed.items confs.old.items }
+    ensures { confs.new.items ≡ put_confs changed.items confs.old.items }
 {
     for conf in changed {
         put_conf(confs, conf);

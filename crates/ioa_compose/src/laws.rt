@@ -6,7 +6,7 @@ ghost use Rattle.ioa_compose.specs.declared.configuration.Conf.{Conf};
 ghost use Rattle.ioa_compose.specs.declared.queue.Item.{Item};
 ghost use Rattle.ioa_compose.specs.NodeState.{NodeState};
 ghost use Rattle.ioa_compose.specs.NodeStep.{node_answer, IsNodeStep, FitsNodeStep};
-ghost use Rattle.ioa_compose.specs.Queues.{behind};
+ghost use Rattle.ioa_compose.specs.Queues.{items_behind};
 ghost use Rattle.ioa_compose.specs.Composition.{joint_answer, IsJointStep, AllHaveSteps};
 ghost use Rattle.ioa_compose.specs.Executions.{replay, ProjectsOnEach};
 ghost use Rattle.ioa_compose.specs.Channels.{HandsOutInOrder, HandsOutPrefix};
@@ -20,7 +20,7 @@ pub fn node_step_law()
 
 /// A queue is left by what comes out of it exactly where that stands first (Lynch 14.1).
 pub fn queue_step_law()
-    ensures { (item : Item) (items rest : List Item) → (behind item items ≡ Ok rest) ↔ (items ≡ item ∷ rest) }
+    ensures { (item : Item) (items rest : List Item) → (items_behind item items ≡ Ok rest) ↔ (items ≡ item ∷ rest) }
 {}
 
 /// A joint step is one where each component that has the action takes its own step, and all others

@@ -1,7 +1,7 @@
 //! The components that take part in an action.
 
 ghost use Rattle.std.specs.Prelude.{◌≡◌};
-ghost use Rattle.ioa_compose.specs.Participants.{has, listed, takes_part};
+ghost use Rattle.ioa_compose.specs.Participants.{participants_of, participant_list, takes_part};
 
 use ioa_terms::{Action, Component};
 
@@ -16,7 +16,7 @@ pub enum Parties {
 
 /// The components that have an action in their signature, the queue first (Lynch 8.2); takes no memory.
 pub fn participants(action: &Action) -> Parties
-    ensures { listed result ≡ has action.now }
+    ensures { participant_list result ≡ participants_of action.now }
 {
     match action {
         Action::Send(_, from, to) => Parties::Two(

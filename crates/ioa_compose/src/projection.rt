@@ -1,7 +1,7 @@
 //! Projections of schedules on components.
 
 ghost use Rattle.std.specs.Prelude.{◌≡◌, IfOk};
-ghost use Rattle.ioa_compose.specs.Executions.{projected};
+ghost use Rattle.ioa_compose.specs.Executions.{projection_of};
 
 use crate::parties::takes_part_in;
 use ioa_terms::{Action, Component};
@@ -13,7 +13,7 @@ pub fn project(
     actions: &[Action],
     component: Component,
 ) -> Result<Vec<Action>, AllocError>
-    ensures { IfOk result (λ v. v.items ≡ projected component actions.now) }
+    ensures { IfOk result (λ v. v.items ≡ projection_of component actions.now) }
 {
     let mut kept = Vec::new(alloc);
     for action in actions {

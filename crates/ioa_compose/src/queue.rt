@@ -49,7 +49,7 @@ impl Item {
 }
 
 /// Equal items with their own memory.
-fn copies(alloc: Global, items: &[Item]) -> Result<Vec<Item>, AllocError>
+fn copy_items(alloc: Global, items: &[Item]) -> Result<Vec<Item>, AllocError>
     ensures { IfOk result (λ v. v.items ≡ items.now) }
 {
     let mut copied = Vec::new(alloc);
@@ -113,7 +113,7 @@ impl Queue {
     pub fn try_copy(&self, alloc: Global) -> Result<Self, AllocError>
         ensures { IfOk result (λ q. q ≡ self.now) }
     {
-        let items = copies(alloc, self.items.as_slice())?;
+        let items = copy_items(alloc, self.items.as_slice())?;
         Ok(Queue {
             component: self.component,
             items,
@@ -124,7 +124,7 @@ impl Queue {
     pub fn after_send(&self, alloc: Global, item: Item) -> Result<Self, StepFault>
         ensures { Answers StepFault.Memory (λ q. q) result (Ok (with_last item self.now)) }
     {
-        let mut items = copies(alloc, self.items.as_slice())?;
+        let mut items = copy_items(alloc, self.items.as_slice())?;
         items.push(item)?;
         Ok(Queue {
             component: self.component,
@@ -145,7 +145,7 @@ impl Queue {
                 if !first.equals(item) {
                     return Err(StepFault::NotEnabled);
                 }
-                let items = copies(alloc, rest)?;
+                let items = copy_items(alloc, rest)?;
                 Ok(Queue {
                     component: self.component,
                     items,

@@ -18,7 +18,7 @@ use thiserror::Error;
 #[derive(Debug, Drop, Error)]
 pub struct ReplayFault {
     /// The place of the first action that is no step, counted from 0.
-    pub place: usize,
+    pub position: usize,
     /// Why it is none.
     pub fault: StepFault,
 }
@@ -30,8 +30,8 @@ impl fmt::Display for ReplayFault {
     ghost output = { λ f. Some (replay_fault_text f) };
 
     fn fmt<W: fmt::Write>(&self, f: &mut fmt::Formatter<W>) -> fmt::Result {
-        let ReplayFault { place, fault } = self;
-        write!(f, "{fault} at {place}")
+        let ReplayFault { position, fault } = self;
+        write!(f, "{fault} at {position}")
     }
 }
 
@@ -40,10 +40,10 @@ fn steps(alloc: Global, start: Vec<Conf>, actions: &[Action]) -> Result<Vec<Conf
     ensures { IsReplay (λ v. v.items) result (replay_answer 0 actions.now start.items) }
 {
     let mut confs = start;
-    for (place, action) in actions.iter().enumerate() {
+    for (position, action) in actions.iter().enumerate() {
         match joint_step(alloc, confs.as_slice(), action) {
             Ok(next) => confs = next,
-            Err(fault) => return Err(ReplayFault { place, fault }),
+            Err(fault) => return Err(ReplayFault { position, fault }),
         }
     }
     Ok(confs)
@@ -74,7 +74,7 @@ pub fn replay(alloc: Global, system: &System, actions: &[Action]) -> Result<Vec<
     match start(alloc, system) {
         Ok(confs) => replay_from(alloc, confs, actions),
         Err(_) => Err(ReplayFault {
-            place: 0,
+            position: 0,
             fault: StepFault::Memory,
         }),
     }

@@ -7,11 +7,11 @@ ghost use Rattle.ioa_source.specs.TextView.{entry_of, transition_of, variable_of
 ghost use Rattle.ioa_terms.specs.View.{term_of, statement_of};
 ghost use Rattle.ioa_values.specs.Data.{number};
 ghost use Rattle.ioa_values.specs.Outcome.{Answers};
-ghost use Rattle.ioa_system.specs.Placed.{IsPlacedRule, IsPlacedGuard, IsPlacedParameter, ArePlacedParameters};
+ghost use Rattle.ioa_system.specs.ResolvedPrograms.{IsResolvedRule, IsResolvedGuard, IsResolvedParameter, AreResolvedParameters};
 ghost use Rattle.ioa_compose.specs.NodeStep as spec;
 ghost use Rattle.ioa_terms.specs.Meaning.{answer};
 ghost use Rattle.ioa_terms.specs.Performance.{answer_by};
-ghost use Rattle.ioa_terms.specs.Placed.{ArePlaced, IsPlaced};
+ghost use Rattle.ioa_terms.specs.Resolved.{AreResolved, IsResolved};
 ghost use Rattle.ioa_terms.specs.Bindings.{names_of};
 
 use crate::fault::StepFault;
@@ -23,7 +23,7 @@ use ioa_terms::{
 use std::alloc::{AllocError, Global};
 
 /// The name of an action.
-fn name_of(action: &Action) -> &str
+fn action_name(action: &Action) -> &str
     ensures { result.now ≡ spec.action_name action.now }
 {
     match action {
@@ -35,7 +35,7 @@ fn name_of(action: &Action) -> &str
 }
 
 /// The values of an action's arguments, all of them.
-pub fn arguments_of(alloc: Global, action: &Action) -> Result<Vec<Value>, AllocError>
+pub fn action_arguments(alloc: Global, action: &Action) -> Result<Vec<Value>, AllocError>
     ensures { IfOk result (λ v. v.items ≡ spec.action_arguments action.now) }
 {
     match action {
@@ -89,19 +89,19 @@ fn parameter_agrees(
     parameter: &Parameter<usize, Shape>,
     value: &Value,
 ) -> Result<bool, AllocError>
-    requires { IsPlacedParameter (parameter_of parameter.now) }
+    requires { IsResolvedParameter (parameter_of parameter.now) }
     ensures { IfOk result (λ b. b ≡ spec.parameter_agrees (parameter_of parameter.now) value.now) }
 {
     match parameter {
-        Parameter::Const(term) => is_constant(alloc, term, value),
+        Parameter::Const(term) => constant_agrees(alloc, term, value),
         Parameter::Declared(declared) => Ok(declared.shape.admits_negative(value)),
     }
 }
 
 /// Whether a value is the one of a term that reads no name.
-fn is_constant(alloc: Global, term: &Checked, value: &Value) -> Result<bool, AllocError>
-    requires { IsPlaced (term_of term.now) [] }
-    ensures { IfOk result (λ b. b ≡ spec.is_constant (answer (term_of term.now) []) value.now) }
+fn constant_agrees(alloc: Global, term: &Checked, value: &Value) -> Result<bool, AllocError>
+    requires { IsResolved (term_of term.now) [] }
+    ensures { IfOk result (λ b. b ≡ spec.constant_agrees (answer (term_of term.now) []) value.now) }
 {
     match eval(alloc, term, &Env::new(&[], &[])) {
         Ok(constant) => Ok(constant.equals(value)),
@@ -117,7 +117,7 @@ fn arguments_agree(
     parameters: &[Parameter<usize, Shape>],
     arguments: &[Value],
 ) -> Result<bool, AllocError>
-    requires { ArePlacedParameters (map parameter_of parameters.now) }
+    requires { AreResolvedParameters (map parameter_of parameters.now) }
     ensures { IfOk result (λ b. b ≡ spec.arguments_agree (map parameter_of parameters.now) arguments.now) }
 {
     if parameters.len() != arguments.len() {
@@ -163,11 +163,11 @@ fn entry_agrees(
     action: &Action,
     arguments: &[Value],
 ) -> Result<bool, AllocError>
-    requires placed { ArePlacedParameters (entry_of entry.now).parameters }
+    requires resolved { AreResolvedParameters (entry_of entry.now).parameters }
     requires own { arguments.now ≡ spec.action_arguments action.now }
     ensures { IfOk result (λ b. b ≡ spec.entry_agrees action.now (entry_of entry.now)) }
 {
-    if entry.name.as_str() != name_of(action) {
+    if entry.name.as_str() != action_name(action) {
         return Ok(false);
     }
     if !kind_agrees(action, entry.kind) {
@@ -185,7 +185,7 @@ pub fn rule_for<'a>(
 ) -> Result<Option<&'a Rule>, AllocError>
     requires { arguments.now ≡ spec.action_arguments action.now }
     ensures found { IfOk result (λ r. option_copied r ≡ spec.rule_for action.now program.now.rules) }
-    ensures placed { IfOk result (λ r. IfSome r (λ x. IsPlacedRule (map variable_of program.now.variables) x.now)) }
+    ensures resolved { IfOk result (λ r. IfSome r (λ x. IsResolvedRule (map variable_of program.now.variables) x.now)) }
     ensures agrees { IfOk result (λ r. IfSome r (λ x. spec.entry_agrees action.now (entry_of x.now.entry) ≡ true)) }
 {
     for rule in program.rules() {
@@ -208,7 +208,7 @@ pub fn values_after(
         (spec.program_answer program.now variables.now action.now) }
     ensures valued { IfOk result (λ v. length v.items ≡ length variables.now) }
 {
-    let arguments = arguments_of(alloc, action)?;
+    let arguments = action_arguments(alloc, action)?;
     match rule_for(alloc, program, action, &arguments)? {
         None => Err(StepFault::NotMine),
         Some(rule) => take_transition(alloc, rule, &arguments, variables),
@@ -223,9 +223,9 @@ fn take_transition(
     arguments: &[Value],
     variables: &[Value],
 ) -> Result<Vec<Value>, StepFault>
-    requires condition { IsPlacedGuard (entry_of rule.now.entry).condition rule.now.scope }
-    requires guard { IsPlacedGuard (transition_of rule.now.transition).pre rule.now.scope }
-    requires effect { ArePlaced (transition_of rule.now.transition).effect rule.now.scope rule.now.scope }
+    requires condition { IsResolvedGuard (entry_of rule.now.entry).condition rule.now.scope }
+    requires guard { IsResolvedGuard (transition_of rule.now.transition).pre rule.now.scope }
+    requires effect { AreResolved (transition_of rule.now.transition).effect rule.now.scope rule.now.scope }
     requires named { length rule.now.scope
         ≡ length (variables.now ++ spec.own_values (entry_of rule.now.entry).parameters arguments.now) }
     ensures after { Answers StepFault.Memory (λ v. v.items) result
@@ -249,7 +249,7 @@ fn take_transition(
 }
 
 /// The values that an effect leaves, of the first `count` names.
-#[tactic(auto, using(crate::proofs::Arguments::left_by_zip, ioa_terms::proofs::Places::no_constants))]
+#[tactic(auto, using(crate::proofs::Arguments::effect_answer_zip, ioa_terms::proofs::Slots::no_constants))]
 fn take_effect(
     alloc: Global,
     effect: &[Statement<usize, Shape>],
@@ -257,11 +257,11 @@ fn take_effect(
     values: Vec<Value>,
     count: usize,
 ) -> Result<Vec<Value>, StepFault>
-    requires placed { ArePlaced (map statement_of effect.now) scope.now scope.now }
+    requires resolved { AreResolved (map statement_of effect.now) scope.now scope.now }
     requires named { length scope.now ≡ length values.items }
     requires within { count ≤ length values.items }
     ensures after { Answers StepFault.Memory (λ v. v.items) result
-        (spec.left_by count (answer_by (map statement_of effect.now) (zip scope.now values.items))) }
+        (spec.effect_answer count (answer_by (map statement_of effect.now) (zip scope.now values.items))) }
     ensures valued { IfOk result (λ v. length v.items ≡ count) }
 {
     let mut left = perform(alloc, effect, scope, &[], values)?;
@@ -307,7 +307,7 @@ fn push_own(
 
 /// Passes where a guard is true, or the condition of an entry.
 fn pass_guard(alloc: Global, pre: &Option<Checked>, env: &Env) -> Result<(), StepFault>
-    requires { IsPlacedGuard (option_map term_of pre.now) (names_of env.now) }
+    requires { IsResolvedGuard (option_map term_of pre.now) (names_of env.now) }
     ensures { Answers StepFault.Memory (λ _. tt) result (spec.guard_answer (option_map term_of pre.now) env.now) }
 {
     match pre {

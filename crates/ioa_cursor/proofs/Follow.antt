@@ -4,7 +4,7 @@ use Rattle.std.proofs.Common.{◌≡◌, ◌≢◌, Bool, true, false, List, [],
 use Rattle.ioa_tokens.specs.declared.token.Token.{Token}
 use Rattle.ioa_tokens.specs.declared.token.Token.TheVariants as token
 use Rattle.ioa_tokens.specs.declared.mark.Mark.{Mark}
-use Rattle.ioa_cursor.specs.Lists.{Several, none, some, Separated, single, followed, Ended, last, closed, continued, Section, absent, present, Optional, left_out, written, Gathered, single_group, followed_group, GatheredSeveral, no_group, some_groups}
+use Rattle.ioa_cursor.specs.Lists.{Several, none, some, SeparatedBy, single, followed, SeparatedOrEndedBy, last, closed, continued, Section, absent, present, Optional, left_out, written, ListsSeparatedBy, single_group, followed_group, SeveralLists, no_group, some_groups}
 use Rattle.ioa_cursor.specs.Reading.{same_mark, skip, at, mark_first}
 use Rattle.ioa_cursor.proofs.Steps.{stays, same_mark_true, same_mark_self}
 
@@ -45,21 +45,21 @@ module _ (Starts : List Token → Type 0) where
     several_starts none h = h
     several_starts (some d rest) h = starts _ _ _ d
 
-    pub separated_starts : {m : Mark} {items : List A} {xs ys : List Token} → Separated m X items xs ys → Starts xs
+    pub separated_starts : {m : Mark} {items : List A} {xs ys : List Token} → SeparatedBy m X items xs ys → Starts xs
     separated_starts (single d) = starts _ _ _ d
     separated_starts (followed d rest) = starts _ _ _ d
 
-    pub ended_starts : {m : Mark} {items : List A} {xs ys : List Token} → Ended m X items xs ys → Starts xs
+    pub ended_starts : {m : Mark} {items : List A} {xs ys : List Token} → SeparatedOrEndedBy m X items xs ys → Starts xs
     ended_starts (last d) = starts _ _ _ d
     ended_starts (closed d) = starts _ _ _ d
     ended_starts (continued d rest) = starts _ _ _ d
 
   module _ {A : Type 0} (X : List A → List Token → List Token → Type 0) (starts : (items : List A) (xs ys : List Token) → X items xs ys → Starts xs) where
-    pub gathered_starts : {m : Mark} {items : List A} {xs ys : List Token} → Gathered m X items xs ys → Starts xs
+    pub gathered_starts : {m : Mark} {items : List A} {xs ys : List Token} → ListsSeparatedBy m X items xs ys → Starts xs
     gathered_starts (single_group d) = starts _ _ _ d
     gathered_starts (followed_group d rest) = starts _ _ _ d
 
-    pub gathered_several_starts : {items : List A} {xs ys : List Token} → GatheredSeveral X items xs ys → Starts ys → Starts xs
+    pub gathered_several_starts : {items : List A} {xs ys : List Token} → SeveralLists X items xs ys → Starts ys → Starts xs
     gathered_several_starts no_group h = h
     gathered_several_starts (some_groups d rest) h = starts _ _ _ d
 

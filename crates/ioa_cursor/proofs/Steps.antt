@@ -6,7 +6,7 @@ use Rattle.ioa_tokens.specs.contracts.mark.Mark.{the_type}
 use Rattle.ioa_tokens.specs.declared.token.Token.{Token}
 use Rattle.ioa_tokens.specs.declared.token.Token.TheVariants as token
 use Rattle.ioa_tokens.specs.declared.mark.Mark.{Mark}
-use Rattle.ioa_cursor.specs.Reading.{bind, choose, same_mark, skip, expected, word, numeral, mark_first, behind}
+use Rattle.ioa_cursor.specs.Reading.{bind, choose, same_mark, skip, expect, word, numeral, mark_first, behind}
 
 -- whether a list goes on, and what is left
 abbrev pub stays : Bool → List Token → Bool × List Token
@@ -21,14 +21,14 @@ way true x y z e f g = f refl e
 way false x y z e f g = g refl e
 
 -- which way a choice went
-pub chosen : {A : Type 0} (P : Type 0) {b : Bool} {x y z : A} → choose b x y ≡ z → (b ≡ true → x ≡ z → P) → (b ≡ false → y ≡ z → P) → P
+pub choose_cases : {A : Type 0} (P : Type 0) {b : Bool} {x y z : A} → choose b x y ≡ z → (b ≡ true → x ≡ z → P) → (b ≡ false → y ≡ z → P) → P
 unfolding choose
-chosen P {b} {x} {y} {z} e f g = way b x y z e f g
+choose_cases P {b} {x} {y} {z} e f g = way b x y z e f g
 
 -- what a reading after another reads
-pub bound : {A B : Type 0} (P : Type 0) {o : Option A} {f : A → Option B} {z : B} → bind o f ≡ Some z → ((x : A) → o ≡ Some x → f x ≡ Some z → P) → P
+pub bind_cases : {A B : Type 0} (P : Type 0) {o : Option A} {f : A → Option B} {z : B} → bind o f ≡ Some z → ((x : A) → o ≡ Some x → f x ≡ Some z → P) → P
 unfolding bind
-bound P {o} {f} {z} e k = option_and_then_some {P = P} f o z e k
+bind_cases P {o} {f} {z} e k = option_and_then_some {P = P} f o z e k
 
 pub same_mark_true : (k m : Mark) → same_mark k m ≡ true → k ≡ m
 same_mark_true k m e = same_true the_type (search rules) k m e
@@ -70,8 +70,8 @@ expected_if true m xs ys r f e = f refl ∙ ap (λ zs. token.Mark m ∷ zs) (som
 expected_if false m xs ys r f e = absurd cc
 
 -- a mark that is taken came first
-pub expected_taken : (m : Mark) (xs : List Token) (r : Unit {0} × List Token) → expected m xs ≡ Some r → xs ≡ token.Mark m ∷ r.1
-unfolding expected
+pub expected_taken : (m : Mark) (xs : List Token) (r : Unit {0} × List Token) → expect m xs ≡ Some r → xs ≡ token.Mark m ∷ r.1
+unfolding expect
 expected_taken m xs r e = expected_if (skip m xs).0 m xs (skip m xs).1 r (skip_taken m xs) e
 
 -- a word that is taken came first

@@ -10,15 +10,15 @@ pub data Several {A : Type 0} (X : A → List Token → List Token → Type 0) :
   some : {first : A} {more : List A} {xs ys zs : List Token} → X first xs ys → Several X more ys zs → Several X (first ∷ more) xs zs
 
 -- X {m X}: one or more, with a mark between
-pub data Separated {A : Type 0} (m : Mark) (X : A → List Token → List Token → Type 0) : List A → List Token → List Token → Type 0 where
-  single : {only : A} {xs ys : List Token} → X only xs ys → Separated m X (only ∷ []) xs ys
-  followed : {first : A} {more : List A} {xs ys zs : List Token} → X first xs (token.Mark m ∷ ys) → Separated m X more ys zs → Separated m X (first ∷ more) xs zs
+pub data SeparatedBy {A : Type 0} (m : Mark) (X : A → List Token → List Token → Type 0) : List A → List Token → List Token → Type 0 where
+  single : {only : A} {xs ys : List Token} → X only xs ys → SeparatedBy m X (only ∷ []) xs ys
+  followed : {first : A} {more : List A} {xs ys zs : List Token} → X first xs (token.Mark m ∷ ys) → SeparatedBy m X more ys zs → SeparatedBy m X (first ∷ more) xs zs
 
 -- X {m X} [m]: one or more, with a mark between, and one at the end where the writer likes
-pub data Ended {A : Type 0} (m : Mark) (X : A → List Token → List Token → Type 0) : List A → List Token → List Token → Type 0 where
-  last : {only : A} {xs ys : List Token} → X only xs ys → Ended m X (only ∷ []) xs ys
-  closed : {only : A} {xs ys : List Token} → X only xs (token.Mark m ∷ ys) → Ended m X (only ∷ []) xs ys
-  continued : {first : A} {more : List A} {xs ys zs : List Token} → X first xs (token.Mark m ∷ ys) → Ended m X more ys zs → Ended m X (first ∷ more) xs zs
+pub data SeparatedOrEndedBy {A : Type 0} (m : Mark) (X : A → List Token → List Token → Type 0) : List A → List Token → List Token → Type 0 where
+  last : {only : A} {xs ys : List Token} → X only xs ys → SeparatedOrEndedBy m X (only ∷ []) xs ys
+  closed : {only : A} {xs ys : List Token} → X only xs (token.Mark m ∷ ys) → SeparatedOrEndedBy m X (only ∷ []) xs ys
+  continued : {first : A} {more : List A} {xs ys zs : List Token} → X first xs (token.Mark m ∷ ys) → SeparatedOrEndedBy m X more ys zs → SeparatedOrEndedBy m X (first ∷ more) xs zs
 
 -- [m X]: a part behind its word, or nothing
 pub data Section {A : Type 0} (m : Mark) (X : List A → List Token → List Token → Type 0) : List A → List Token → List Token → Type 0 where
@@ -31,11 +31,11 @@ pub data Optional {A : Type 0} (m : Mark) (X : A → List Token → List Token �
   written : {item : A} {xs ys : List Token} → X item xs ys → Optional m X (Some item) (token.Mark m ∷ xs) ys
 
 -- X {m X}, where each X gives a list: the items of all in order
-pub data Gathered {A : Type 0} (m : Mark) (X : List A → List Token → List Token → Type 0) : List A → List Token → List Token → Type 0 where
-  single_group : {items : List A} {xs ys : List Token} → X items xs ys → Gathered m X items xs ys
-  followed_group : {items others : List A} {xs ys zs : List Token} → X items xs (token.Mark m ∷ ys) → Gathered m X others ys zs → Gathered m X (items ++ others) xs zs
+pub data ListsSeparatedBy {A : Type 0} (m : Mark) (X : List A → List Token → List Token → Type 0) : List A → List Token → List Token → Type 0 where
+  single_group : {items : List A} {xs ys : List Token} → X items xs ys → ListsSeparatedBy m X items xs ys
+  followed_group : {items others : List A} {xs ys zs : List Token} → X items xs (token.Mark m ∷ ys) → ListsSeparatedBy m X others ys zs → ListsSeparatedBy m X (items ++ others) xs zs
 
 -- {X}, where each X gives a list: the items of all in order
-pub data GatheredSeveral {A : Type 0} (X : List A → List Token → List Token → Type 0) : List A → List Token → List Token → Type 0 where
-  no_group : {xs : List Token} → GatheredSeveral X [] xs xs
-  some_groups : {items others : List A} {xs ys zs : List Token} → X items xs ys → GatheredSeveral X others ys zs → GatheredSeveral X (items ++ others) xs zs
+pub data SeveralLists {A : Type 0} (X : List A → List Token → List Token → Type 0) : List A → List Token → List Token → Type 0 where
+  no_group : {xs : List Token} → SeveralLists X [] xs xs
+  some_groups : {items others : List A} {xs ys zs : List Token} → X items xs ys → SeveralLists X others ys zs → SeveralLists X (items ++ others) xs zs

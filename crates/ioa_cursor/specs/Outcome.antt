@@ -1,7 +1,7 @@
 -- What a reader of one production answers (form), and where it refuses (profile).
 use Rattle.std.specs.Prelude.{ℕ, ◌≡◌, ◌⊎◌, ◌-◌, List, [], ◌∷◌, Option, Some, None, Result, Ok, Err, length, slice_get}
 use Rattle.std.specs.Option.{option_map, unwrap_or}
-use Rattle.ioa_tokens.specs.declared.token.Placed.{Placed}
+use Rattle.ioa_tokens.specs.declared.token.LocatedToken.{LocatedToken}
 use Rattle.ioa_tokens.specs.declared.token.Token.{Token}
 use Rattle.ioa_tokens.specs.declared.token.Token.TheVariants as token
 use Rattle.ioa_cursor.specs.declared.cursor.Unread.{Unread}
@@ -21,5 +21,5 @@ refusal (token.Mark m ∷ xs) = unread.Unexpected (length (token.Mark m ∷ xs))
 refusal [] = unread.Unexpected 0
 
 -- where the token stands at which so many were left, or where the text ends
-abbrev pub place_of : List Placed → ℕ → ℕ → ℕ
-place_of ps left end = unwrap_or (option_map (λ p. p.place) (slice_get ps (length ps - left))) end
+abbrev pub offset_of : List LocatedToken → ℕ → ℕ → ℕ
+offset_of ps left end = unwrap_or (option_map (λ p. p.offset) (slice_get ps (length ps - left))) end

@@ -32,8 +32,8 @@ skip m (token.LeftOut w ∷ xs) = (false, token.LeftOut w ∷ xs)
 skip m [] = (false, [])
 
 -- a mark that has to come
-unfoldable pub expected : Mark → List Token → Option (Unit {0} × List Token)
-expected m xs = if (skip m xs).0 then Some (tt, (skip m xs).1) else None
+unfoldable pub expect : Mark → List Token → Option (Unit {0} × List Token)
+expect m xs = if (skip m xs).0 then Some (tt, (skip m xs).1) else None
 
 -- a word that has to come
 unfoldable pub word : List Token → Option (List ℕ × List Token)
@@ -84,27 +84,27 @@ at_number (token.LeftOut w ∷ xs) = false
 at_number [] = false
 
 -- whether a list goes on, and with what: where an item begins
-abbrev pub begun : (List Token → Bool) → List Token → Bool × List Token
-begun begins xs = (begins xs, xs)
+abbrev pub begins_with : (List Token → Bool) → List Token → Bool × List Token
+begins_with begins xs = (begins xs, xs)
 
 -- whether a list goes on behind a mark: where an item begins there; the mark is taken
-unfoldable pub resumed : Mark → (List Token → Bool) → List Token → Bool × List Token
-resumed m begins xs = (if (skip m xs).0 then begins (skip m xs).1 else false, (skip m xs).1)
+unfoldable pub resumes_with : Mark → (List Token → Bool) → List Token → Bool × List Token
+resumes_with m begins xs = (if (skip m xs).0 then begins (skip m xs).1 else false, (skip m xs).1)
 
 -- the items of a list that come after those that are done, in a number of turns: each turn takes a token,
 -- so there are turns enough where there are as many as tokens
-unfoldable pub collected : {A : Type 0} → (List Token → Bool × List Token) → (List Token → Option (A × List Token)) → ℕ → List A → List Token → Option (List A × List Token)
-collected next read zero done xs = Some (done, xs)
-collected next read (suc turns) done xs =
-    choose (next xs).0 (read (next xs).1 >>= λ r. collected next read turns (done ++ r.0 ∷ []) r.1) (Some (done, (next xs).1))
+unfoldable pub collect : {A : Type 0} → (List Token → Bool × List Token) → (List Token → Option (A × List Token)) → ℕ → List A → List Token → Option (List A × List Token)
+collect next read zero done xs = Some (done, xs)
+collect next read (suc turns) done xs =
+    choose (next xs).0 (read (next xs).1 >>= λ r. collect next read turns (done ++ r.0 ∷ []) r.1) (Some (done, (next xs).1))
 
 -- {X}: any number of items
 abbrev pub several : {A : Type 0} → (List Token → Bool × List Token) → (List Token → Option (A × List Token)) → List Token → Option (List A × List Token)
-several next read xs = collected next read (length xs) [] xs
+several next read xs = collect next read (length xs) [] xs
 
 -- one item or more, after those that are done
 abbrev pub several_more : {A : Type 0} → (List Token → Bool × List Token) → (List Token → Option (A × List Token)) → List A → List Token → Option (List A × List Token)
-several_more next read done xs = read xs >>= λ r. collected next read (length r.1) (done ++ r.0 ∷ []) r.1
+several_more next read done xs = read xs >>= λ r. collect next read (length r.1) (done ++ r.0 ∷ []) r.1
 
 -- [m X]: a part behind its word, or nothing
 abbrev pub section : {A : Type 0} → Mark → (List Token → Option (List A × List Token)) → List Token → Option (List A × List Token)
@@ -115,23 +115,23 @@ abbrev pub optional : {A : Type 0} → Mark → (List Token → Option (A × Lis
 optional m read xs = choose (skip m xs).0 (read (skip m xs).1 >>= λ r. Some (Some r.0, r.1)) (Some (None, (skip m xs).1))
 
 -- the items of the lists that come after those that are done, in a number of turns, where each turn reads a list
-unfoldable pub gathered : {A : Type 0} → (List Token → Bool × List Token) → (List Token → Option (List A × List Token)) → ℕ → List A → List Token → Option (List A × List Token)
-gathered next read zero done xs = Some (done, xs)
-gathered next read (suc turns) done xs =
-    choose (next xs).0 (read (next xs).1 >>= λ r. gathered next read turns (done ++ r.0) r.1) (Some (done, (next xs).1))
+unfoldable pub collect_lists : {A : Type 0} → (List Token → Bool × List Token) → (List Token → Option (List A × List Token)) → ℕ → List A → List Token → Option (List A × List Token)
+collect_lists next read zero done xs = Some (done, xs)
+collect_lists next read (suc turns) done xs =
+    choose (next xs).0 (read (next xs).1 >>= λ r. collect_lists next read turns (done ++ r.0) r.1) (Some (done, (next xs).1))
 
 -- {X}: any number of lists, joined
-abbrev pub gathered_several : {A : Type 0} → (List Token → Bool × List Token) → (List Token → Option (List A × List Token)) → List Token → Option (List A × List Token)
-gathered_several next read xs = gathered next read (length xs) [] xs
+abbrev pub several_lists : {A : Type 0} → (List Token → Bool × List Token) → (List Token → Option (List A × List Token)) → List Token → Option (List A × List Token)
+several_lists next read xs = collect_lists next read (length xs) [] xs
 
 -- one list or more, joined
-abbrev pub gathered_more : {A : Type 0} → (List Token → Bool × List Token) → (List Token → Option (List A × List Token)) → List Token → Option (List A × List Token)
-gathered_more next read xs = read xs >>= λ r. gathered next read (length r.1) r.0 r.1
+abbrev pub several_more_lists : {A : Type 0} → (List Token → Bool × List Token) → (List Token → Option (List A × List Token)) → List Token → Option (List A × List Token)
+several_more_lists next read xs = read xs >>= λ r. collect_lists next read (length r.1) r.0 r.1
 
 -- the end, where no token is left
-unfoldable pub ended : List Token → Option (Unit {0} × List Token)
-ended [] = Some (tt, [])
-ended (x ∷ xs) = None
+unfoldable pub end : List Token → Option (Unit {0} × List Token)
+end [] = Some (tt, [])
+end (x ∷ xs) = None
 
 -- what comes after the first token
 unfoldable pub behind : List Token → List Token

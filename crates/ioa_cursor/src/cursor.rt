@@ -6,12 +6,12 @@ ghost use Rattle.ioa_cursor.specs.Outcome.{Reads};
 ghost use Rattle.ioa_cursor.specs.declared.cursor.Unread.TheVariants.{Memory, TooDeep};
 ghost use Rattle.ioa_cursor.specs.Reading as spec;
 
-use ioa_tokens::{LeftOut, Mark, Placed, Token};
+use ioa_tokens::{LeftOut, LocatedToken, Mark, Token};
 use ioa_values::Word;
 use std::alloc::{AllocError, AllocFailed, Global};
 use std::marker::Model;
 
-/// Why the tokens are not read further. Where is told by how many tokens were left there, and `place_of`
+/// Why the tokens are not read further. Where is told by how many tokens were left there, and `offset_of`
 /// gives the place in the text. Source: profile.
 #[derive(Debug, Drop)]
 pub enum Unread {
@@ -49,11 +49,11 @@ impl<T: Drop> From<AllocFailed<T>> for Unread {
 
 /// Where the token stands at which so many were left, itself among them: the place of that token among
 /// all tokens of a text, or the text's length in bytes where none was left.
-pub fn place_of(placed: &[Placed<'_>], left: usize, end: usize) -> usize
-    ensures { result ≡ outcome.place_of placed.now left end }
+pub fn offset_of(located: &[LocatedToken<'_>], left: usize, end: usize) -> usize
+    ensures { result ≡ outcome.offset_of located.now left end }
 {
-    match placed.get(placed.len().saturating_sub(left)) {
-        Some(token) => token.place,
+    match located.get(located.len().saturating_sub(left)) {
+        Some(token) => token.offset,
         None => end,
     }
 }
@@ -61,7 +61,7 @@ pub fn place_of(placed: &[Placed<'_>], left: usize, end: usize) -> usize
 /// The tokens that are still to be read.
 #[derive(Drop)]
 pub struct Tokens<'a> {
-    rest: &'a [Placed<'a>],
+    rest: &'a [LocatedToken<'a>],
 }
 
 impl<'a> Model for Tokens<'a> {
@@ -75,7 +75,7 @@ impl<'a> Model for Tokens<'a> {
 
 impl<'a> Tokens<'a> {
     /// All tokens of a text.
-    pub fn new(rest: &'a [Placed<'a>]) -> Self
+    pub fn new(rest: &'a [LocatedToken<'a>]) -> Self
         ensures { result ≡ map (λ p. p.token) rest.now }
     {
         Tokens { rest }
@@ -90,7 +90,7 @@ impl<'a> Tokens<'a> {
 
     /// The refusal of what comes next, where no text has it there: 16 of a word that the profile
     /// leaves out, else 12. Source: profile.
-    pub fn refused(&self) -> Unread
+    pub fn refusal(&self) -> Unread
         ensures { result ≡ outcome.refusal self.now }
     {
         match self.rest {
@@ -156,27 +156,27 @@ impl<'a> Tokens<'a> {
         }
     }
 
-    /// Takes a mark that has to come next. What else comes there is refused, as `refused` says.
-    #[tactic(auto, unfolding(crate::specs::Reading::expected), using(crate::proofs::Steps::skip_left))]
+    /// Takes a mark that has to come next. What else comes there is refused, as `refusal` says.
+    #[tactic(auto, unfolding(crate::specs::Reading::expect), using(crate::proofs::Steps::skip_left))]
     pub fn expect(&mut self, mark: Mark) -> Result<(), Unread>
-        ensures reads { Reads (λ u. u) (spec.expected mark self.old) result self.new }
-        ensures refused { IfErr result (λ e. e ≡ outcome.refusal self.old) }
+        ensures reads { Reads (λ u. u) (spec.expect mark self.old) result self.new }
+        ensures refusal { IfErr result (λ e. e ≡ outcome.refusal self.old) }
         ensures kept { IfErr result (λ _. self.new ≡ self.old) }
     {
-        let refused = self.refused();
+        let refusal = self.refusal();
         if self.skip(mark) {
             Ok(())
         } else {
-            Err(refused)
+            Err(refusal)
         }
     }
 
-    /// Takes a word that has to come next. What else comes there is refused, as `refused` says;
+    /// Takes a word that has to come next. What else comes there is refused, as `refusal` says;
     /// `Unread::Memory` where there is not memory enough for the word.
     #[tactic(auto, unfolding(crate::specs::Reading::word))]
     pub fn word(&mut self, alloc: Global) -> Result<Word, Unread>
         ensures reads { Reads (λ w. w) (spec.word self.old) result self.new }
-        ensures refused { IfErr result (λ e. (e ≡ Memory) ⊎ e ≡ outcome.refusal self.old) }
+        ensures refusal { IfErr result (λ e. (e ≡ Memory) ⊎ e ≡ outcome.refusal self.old) }
         ensures kept { IfErr result (λ _. self.new ≡ self.old) }
     {
         match self.rest {
@@ -186,17 +186,17 @@ impl<'a> Tokens<'a> {
                     self.rest = rest;
                     Ok(word)
                 }
-                Token::Mark(_) | Token::Number(_) | Token::LeftOut(_) => Err(self.refused()),
+                Token::Mark(_) | Token::Number(_) | Token::LeftOut(_) => Err(self.refusal()),
             },
-            [] => Err(self.refused()),
+            [] => Err(self.refusal()),
         }
     }
 
-    /// Takes a number that has to come next. What else comes there is refused, as `refused` says.
+    /// Takes a number that has to come next. What else comes there is refused, as `refusal` says.
     #[tactic(auto, unfolding(crate::specs::Reading::numeral))]
     pub fn number(&mut self) -> Result<i64, Unread>
         ensures reads { Reads (λ n. n) (spec.numeral self.old) result self.new }
-        ensures refused { IfErr result (λ e. e ≡ outcome.refusal self.old) }
+        ensures refusal { IfErr result (λ e. e ≡ outcome.refusal self.old) }
         ensures kept { IfErr result (λ _. self.new ≡ self.old) }
     {
         match self.rest {
@@ -206,9 +206,9 @@ impl<'a> Tokens<'a> {
                     self.rest = rest;
                     Ok(number)
                 }
-                Token::Word(_) | Token::Mark(_) | Token::LeftOut(_) => Err(self.refused()),
+                Token::Word(_) | Token::Mark(_) | Token::LeftOut(_) => Err(self.refusal()),
             },
-            [] => Err(self.refused()),
+            [] => Err(self.refusal()),
         }
     }
 
@@ -255,9 +255,9 @@ impl<'a> Tokens<'a> {
     }
 
     /// Whether a list of items that begin with a word goes on behind a mark; takes the mark.
-    #[tactic(auto, unfolding(crate::specs::Reading::resumed))]
+    #[tactic(auto, unfolding(crate::specs::Reading::resumes_with))]
     pub fn resumes_with_word(&mut self, mark: Mark) -> bool
-        ensures { (result, self.new) ≡ spec.resumed mark spec.at_word self.old }
+        ensures { (result, self.new) ≡ spec.resumes_with mark spec.at_word self.old }
     {
         if self.skip(mark) {
             self.at_word()
@@ -267,9 +267,9 @@ impl<'a> Tokens<'a> {
     }
 
     /// Whether a list of items that begin with `first` goes on behind a mark; takes the mark.
-    #[tactic(auto, unfolding(crate::specs::Reading::resumed))]
+    #[tactic(auto, unfolding(crate::specs::Reading::resumes_with))]
     pub fn resumes_with(&mut self, mark: Mark, first: Mark) -> bool
-        ensures { (result, self.new) ≡ spec.resumed mark (spec.at first) self.old }
+        ensures { (result, self.new) ≡ spec.resumes_with mark (spec.at first) self.old }
     {
         if self.skip(mark) {
             self.at(first)
@@ -278,16 +278,16 @@ impl<'a> Tokens<'a> {
         }
     }
 
-    /// Takes the end of the text. A token that is left is refused, as `refused` says.
-    #[tactic(auto, unfolding(crate::specs::Reading::ended))]
+    /// Takes the end of the text. A token that is left is refused, as `refusal` says.
+    #[tactic(auto, unfolding(crate::specs::Reading::end))]
     pub fn end(&mut self) -> Result<(), Unread>
-        ensures reads { Reads (λ u. u) (spec.ended self.old) result self.new }
-        ensures refused { IfErr result (λ e. e ≡ outcome.refusal self.old) }
+        ensures reads { Reads (λ u. u) (spec.end self.old) result self.new }
+        ensures refusal { IfErr result (λ e. e ≡ outcome.refusal self.old) }
         ensures kept { IfErr result (λ _. self.new ≡ self.old) }
     {
         match self.rest {
             [] => Ok(()),
-            [_, ..] => Err(self.refused()),
+            [_, ..] => Err(self.refusal()),
         }
     }
 }

@@ -3,4 +3,4 @@
 
 mod cursor;
 
-pub use cursor::{Tokens, Unread, place_of};
+pub use cursor::{Tokens, Unread, offset_of};

@@ -10,7 +10,7 @@ use Rattle.ioa_terms.specs.declared.tree.Kind.TheVariants as kind
 use Rattle.ioa_source.specs.PlainSort.{PlainSort}
 use Rattle.ioa_source.specs.PlainText as plain
 use Rattle.ioa_source.specs.Sides.{SourceTerm as Term, SourceDeclared as Declared, SourceParameter as Parameter, SourceEntry as Entry}
-use Rattle.ioa_cursor.specs.Lists.{Separated, Gathered, GatheredSeveral}
+use Rattle.ioa_cursor.specs.Lists.{SeparatedBy, ListsSeparatedBy, SeveralLists}
 use Rattle.ioa_cursor.specs.Lists as lists
 use Rattle.ioa_term_reader.specs.Heights.{height_limit}
 use Rattle.ioa_term_reader.specs.Grammar.{bracket_limit, SpellsTerm}
@@ -18,8 +18,8 @@ use Rattle.ioa_term_reader.specs.Spelling.{spelling}
 use Rattle.ioa_term_reader.proofs.Printed.{term_printed}
 use Rattle.ioa_term_reader.proofs.PrintedGood.{tokens_joined, term_good}
 use Rattle.ioa_text_reader.specs.Grammar as grammar
-use Rattle.ioa_text_reader.specs.Grammar.{inner_limit, SpellsSort, SpellsWord, declare, SpellsDeclared, SpellsParameters, Bracketed, Call, SpellsCall, SpellsKind, SpellsEntry, SpellsGroup}
-use Rattle.ioa_front.specs.Spelling.{separated, joined, bracketed, optional, word_spelling, sort_spelling, declared_spelling, parameter_spelling, kind_mark, call_spelling, entry_spelling}
+use Rattle.ioa_text_reader.specs.Grammar.{inner_limit, SpellsSort, SpellsWord, declare, SpellsDeclared, SpellsParameters, InBrackets, Call, SpellsCall, SpellsKind, SpellsEntry, SpellsGroup}
+use Rattle.ioa_front.specs.Spelling.{separated_spelling, joined_spelling, bracketed_spelling, optional_spelling, word_spelling, sort_spelling, declared_spelling, parameter_spelling, kind_mark, call_spelling, entry_spelling}
 use Rattle.ioa_front.proofs.PrintedLists.{Prints, separated_prints, optional_prints, bracketed_prints}
 use Rattle.ioa_front.proofs.PrintedGroups.{Alone, IsAgain, IsFilled, mapped_filled, all_mapped, PrintsEach, ended_each, groups_prints, gathered_prints}
 
@@ -73,11 +73,11 @@ pub word_prints : (w : List ℕ) (xs ys : List Token) → SpellsWord w xs ys →
 word_prints w xs ys grammar.word = record { again = λ zs. grammar.word; good = λ h. ((h.0, tt), h.1) }
 
 -- the names of a list of words are all names
-words_good : {ws : List (List ℕ)} {xs ys : List Token} → Separated mark.Comma SpellsWord ws xs ys → AreTokens xs → AllByRecursion IsName ws × AreTokens ys
+words_good : {ws : List (List ℕ)} {xs ys : List Token} → SeparatedBy mark.Comma SpellsWord ws xs ys → AreTokens xs → AllByRecursion IsName ws × AreTokens ys
 words_good (lists.single grammar.word) h = ((h.0, tt), h.1)
 words_good (lists.followed grammar.word rest) h = let g = words_good rest h.1.1 in ((h.0, g.0), g.1)
 
-words_filled : {ws : List (List ℕ)} {xs ys : List Token} → Separated mark.Comma SpellsWord ws xs ys → IsFilled ws
+words_filled : {ws : List (List ℕ)} {xs ys : List Token} → SeparatedBy mark.Comma SpellsWord ws xs ys → IsFilled ws
 words_filled (lists.single d) = tt
 words_filled (lists.followed d rest) = tt
 
@@ -101,7 +101,7 @@ declared_each room ds xs ys (grammar.declared {ws = ws} {s = s} d e) =
 declared_filled : (room : ℕ) (ds : List Declared) (xs ys : List Token) → SpellsDeclared room ds xs ys → IsFilled ds
 declared_filled room ds xs ys (grammar.declared {ws = ws} d e) = mapped_filled _ ws (words_filled d)
 
-pub declared_prints : {room : ℕ} {ds : List Declared} {xs ys : List Token} → Gathered mark.Comma (SpellsDeclared room) ds xs ys → Prints (Gathered mark.Comma (SpellsDeclared room)) (separated mark.Comma declared_spelling) ds xs ys
+pub declared_prints : {room : ℕ} {ds : List Declared} {xs ys : List Token} → ListsSeparatedBy mark.Comma (SpellsDeclared room) ds xs ys → Prints (ListsSeparatedBy mark.Comma (SpellsDeclared room)) (separated_spelling mark.Comma declared_spelling) ds xs ys
 declared_prints {room} d = gathered_prints (SpellsDeclared room) declared_spelling (declared_each room) mark.Comma (declared_filled room) d
 
 -- the parameters of an entry
@@ -121,17 +121,17 @@ parameters_filled : (ps : List Parameter) (xs ys : List Token) → SpellsParamet
 parameters_filled ps xs ys (grammar.constant d) = tt
 parameters_filled ps xs ys (grammar.names {ds = ds} d) = mapped_filled plain.named ds (declared_filled inner_limit ds _ _ d)
 
-parameters_prints : (ps : List Parameter) (xs ys : List Token) → Gathered mark.Comma (SpellsParameters inner_limit) ps xs ys → Prints (Gathered mark.Comma (SpellsParameters inner_limit)) (separated mark.Comma parameter_spelling) ps xs ys
+parameters_prints : (ps : List Parameter) (xs ys : List Token) → ListsSeparatedBy mark.Comma (SpellsParameters inner_limit) ps xs ys → Prints (ListsSeparatedBy mark.Comma (SpellsParameters inner_limit)) (separated_spelling mark.Comma parameter_spelling) ps xs ys
 parameters_prints ps xs ys d = gathered_prints (SpellsParameters inner_limit) parameter_spelling parameters_each mark.Comma parameters_filled d
 
 -- an action with its arguments
 
-terms_print : (ts : List Term) (xs ys : List Token) → Separated mark.Comma (SpellsTerm inner_limit) ts xs ys → Prints (Separated mark.Comma (SpellsTerm inner_limit)) (separated mark.Comma spelling) ts xs ys
+terms_print : (ts : List Term) (xs ys : List Token) → SeparatedBy mark.Comma (SpellsTerm inner_limit) ts xs ys → Prints (SeparatedBy mark.Comma (SpellsTerm inner_limit)) (separated_spelling mark.Comma spelling) ts xs ys
 terms_print ts xs ys d = separated_prints (SpellsTerm inner_limit) spelling inner_term mark.Comma d
 
 pub call_prints : {c : Call} {xs ys : List Token} → SpellsCall c xs ys → Prints SpellsCall (λ (c : Call). call_spelling c.name c.arguments) c xs ys
 call_prints (grammar.called d) =
-    let p = bracketed_prints (Separated mark.Comma (SpellsTerm inner_limit)) spelling terms_print d in
+    let p = bracketed_prints (SeparatedBy mark.Comma (SpellsTerm inner_limit)) spelling terms_print d in
     record { again = λ zs. grammar.called (p.again zs); good = λ h. let g = p.good h.1 in ((h.0, g.0), g.1) }
 
 -- a kind, and the tokens behind it
@@ -150,10 +150,10 @@ kind_good grammar.internal h = h.1
 
 entry_prints : (k : Kind) (e : Entry) (xs ys : List Token) → SpellsEntry k e xs ys → Prints (Alone SpellsGroup) entry_spelling e xs ys
 entry_prints k e xs ys (grammar.entry {parameters = ps} {condition = c} d o) =
-    let p = bracketed_prints (Gathered mark.Comma (SpellsParameters inner_limit)) parameter_spelling parameters_prints d in
+    let p = bracketed_prints (ListsSeparatedBy mark.Comma (SpellsParameters inner_limit)) parameter_spelling parameters_prints d in
     let q = optional_prints (SpellsTerm bracket_limit) spelling outer_term mark.Where o in
-    let left = bracketed parameter_spelling ps in
-    let right = optional mark.Where spelling c in
+    let left = bracketed_spelling parameter_spelling ps in
+    let right = optional_spelling mark.Where spelling c in
     record {
       again = λ zs. rw (append_assoc left right zs) (grammar.group (kind_again k _) (lists.last (grammar.entry (p.again (right ++ zs)) (q.again zs))));
       good = λ h. let g = p.good h.1 in let i = q.good g.1 in ((tt, (h.0, tokens_joined left right g.0 i.0)), i.1);
@@ -164,5 +164,5 @@ group_each es xs ys (grammar.group {k = k} kinded d) =
     let p = ended_each SpellsGroup entry_spelling (SpellsEntry k) mark.Comma (entry_prints k) d in
     record { again = p.again; good = λ h. p.good (kind_good kinded h) }
 
-pub entries_print : (es : List Entry) (xs ys : List Token) → GatheredSeveral SpellsGroup es xs ys → Prints (GatheredSeveral SpellsGroup) (joined entry_spelling) es xs ys
+pub entries_print : (es : List Entry) (xs ys : List Token) → SeveralLists SpellsGroup es xs ys → Prints (SeveralLists SpellsGroup) (joined_spelling entry_spelling) es xs ys
 entries_print es xs ys d = groups_prints SpellsGroup entry_spelling group_each d

@@ -4,25 +4,25 @@ use Rattle.ioa_tokens.specs.declared.token.Token.{Token}
 use Rattle.ioa_tokens.specs.declared.token.Token.TheVariants as token
 use Rattle.ioa_tokens.specs.declared.mark.Mark.TheVariants as mark
 use Rattle.ioa_terms.specs.PlainTerm.{statements_of}
-use Rattle.ioa_source.specs.Sides.{SourcePlace as Place, SourceStatement as Statement, SourceStatements as Statements, SourceArms as Arms}
+use Rattle.ioa_source.specs.Sides.{SourceTarget as Target, SourceStatement as Statement, SourceStatements as Statements, SourceArms as Arms}
 use Rattle.ioa_term_reader.specs.Spelling.{spelling}
 use Rattle.ioa_term_reader.proofs.PrintedGood.{tokens_joined}
 use Rattle.ioa_text_reader.specs.Grammar as grammar
-use Rattle.ioa_text_reader.specs.Grammar.{SpellsPlace, SpellsStatement, SpellsArms, SpellsRest, SpellsStatements, SpellsEffect, SpellsFire, SpellsBlock}
-use Rattle.ioa_front.specs.Spelling.{more_separated, separated, place_spelling, else_spelling, statement_spelling, statements_spelling, more_statements_spelling, arms_spelling, more_arms_spelling, effect_spelling, block_spelling}
+use Rattle.ioa_text_reader.specs.Grammar.{SpellsTarget, SpellsStatement, SpellsArms, SpellsRest, SpellsStatements, SpellsEffect, SpellsFire, SpellsBlock}
+use Rattle.ioa_front.specs.Spelling.{more_separated_spelling, separated_spelling, target_spelling, else_spelling, statement_spelling, statements_spelling, more_statements_spelling, arms_spelling, more_arms_spelling, effect_spelling, block_spelling}
 use Rattle.ioa_front.proofs.PrintedLists.{Prints, ended_prints}
 use Rattle.ioa_front.proofs.PrintedDeclared.{inner_term, outer_term, call_prints, kind_again, kind_good}
 
-place_prints : {p : Place} {xs ys : List Token} → SpellsPlace p xs ys → Prints SpellsPlace place_spelling p xs ys
-place_prints grammar.whole = record { again = λ zs. grammar.whole; good = λ h. ((h.0, tt), h.1) }
-place_prints (grammar.at_a_key {t = t} d) =
+target_prints : {p : Target} {xs ys : List Token} → SpellsTarget p xs ys → Prints SpellsTarget target_spelling p xs ys
+target_prints grammar.whole = record { again = λ zs. grammar.whole; good = λ h. ((h.0, tt), h.1) }
+target_prints (grammar.at_a_key {t = t} d) =
     let p = inner_term t _ _ d in
     let end = token.Mark mark.CloseSquare ∷ [] in
     record {
       again = λ zs. rw (append_assoc (spelling t) end zs) (grammar.at_a_key (p.again (token.Mark mark.CloseSquare ∷ zs)));
       good = λ h. let g = p.good h.1.1 in ((h.0, (tt, tokens_joined (spelling t) end g.0 (tt, tt))), g.1.1);
     }
-place_prints grammar.at_a_field = record { again = λ zs. grammar.at_a_field; good = λ h. ((h.0, (tt, (h.1.1.0, tt))), h.1.1.1) }
+target_prints grammar.at_a_field = record { again = λ zs. grammar.at_a_field; good = λ h. ((h.0, (tt, (h.1.1.0, tt))), h.1.1.1) }
 
 -- behind a statement, an arm and the arms, what is spelled comes after its mark
 
@@ -47,12 +47,12 @@ rest_spelling ss = else_spelling ss (statements_spelling ss) ++ token.Mark mark.
 mutual
   statement_prints : {s : Statement} {xs ys : List Token} → SpellsStatement s xs ys → Prints SpellsStatement statement_spelling s xs ys
   statement_prints (grammar.assignment {p = p} {t = t} d e) =
-      let a = place_prints d in
+      let a = target_prints d in
       let b = outer_term t _ _ e in
       let right = token.Mark mark.Assign ∷ spelling t in
       record {
-        again = λ zs. rw (append_assoc (place_spelling p) right zs) (grammar.assignment (a.again (token.Mark mark.Assign ∷ (spelling t ++ zs))) (b.again zs));
-        good = λ h. let g = a.good h in let i = b.good g.1.1 in (tokens_joined (place_spelling p) right g.0 (tt, i.0), i.1);
+        again = λ zs. rw (append_assoc (target_spelling p) right zs) (grammar.assignment (a.again (token.Mark mark.Assign ∷ (spelling t ++ zs))) (b.again zs));
+        good = λ h. let g = a.good h in let i = b.good g.1.1 in (tokens_joined (target_spelling p) right g.0 (tt, i.0), i.1);
       }
   statement_prints (grammar.choice {arms = arms} {rest = rest} d e) =
       let a = arms_print d in
@@ -153,11 +153,11 @@ fire_prints s xs ys (grammar.kind_firing {k = k} {call = c} kinded d) =
     }
 
 -- the statements of a list have semicolons between
-more_separated_is : (ss : List Statement) → more_statements_spelling (statements_of ss) ≡ more_separated mark.Semicolon statement_spelling ss
+more_separated_is : (ss : List Statement) → more_statements_spelling (statements_of ss) ≡ more_separated_spelling mark.Semicolon statement_spelling ss
 more_separated_is [] = refl
 more_separated_is (s ∷ more) = ap (λ l. token.Mark mark.Semicolon ∷ (statement_spelling s ++ l)) (more_separated_is more)
 
-separated_is : (ss : List Statement) → effect_spelling ss ≡ separated mark.Semicolon statement_spelling ss
+separated_is : (ss : List Statement) → effect_spelling ss ≡ separated_spelling mark.Semicolon statement_spelling ss
 separated_is [] = refl
 separated_is (s ∷ more) = ap (λ l. statement_spelling s ++ l) (more_separated_is more)
 
@@ -165,7 +165,7 @@ pub block_prints : (ss : List Statement) (xs ys : List Token) → SpellsBlock ss
 block_prints ss xs ys grammar.idle = record { again = λ zs. grammar.idle; good = λ h. ((tt, (tt, tt)), h.1.1) }
 block_prints ss xs ys (grammar.busy {fires = fires} d) =
     let p = ended_prints SpellsFire statement_spelling fire_prints mark.Semicolon d in
-    let inside = separated mark.Semicolon statement_spelling fires in
+    let inside = separated_spelling mark.Semicolon statement_spelling fires in
     let end = token.Mark mark.Od ∷ [] in
     record {
       again = λ zs. rw (separated_is fires, append_assoc inside end zs) (grammar.busy (p.again (token.Mark mark.Od ∷ zs)));

@@ -6,13 +6,13 @@ use Rattle.ioa_tokens.specs.declared.token.Token.TheVariants as token
 use Rattle.ioa_tokens.specs.declared.mark.Mark.TheVariants as mark
 use Rattle.ioa_tokens.specs.Written.{AreTokens}
 use Rattle.ioa_source.specs.Sides.{SourceTerm as Term, SourceDeclared as Declared, SourceVariable as Variable, SourceTransition as Transition, SourceForm as Form, SourceDeclaration as Declaration, SourcePlacement as Placement, SourceText}
-use Rattle.ioa_cursor.specs.Lists.{Several, Separated, GatheredSeveral}
+use Rattle.ioa_cursor.specs.Lists.{Several, SeparatedBy, SeveralLists}
 use Rattle.ioa_term_reader.specs.Grammar.{bracket_limit, SpellsTerm}
 use Rattle.ioa_term_reader.specs.Spelling.{spelling}
 use Rattle.ioa_term_reader.proofs.PrintedGood.{tokens_joined}
 use Rattle.ioa_text_reader.specs.Grammar as grammar
 use Rattle.ioa_text_reader.specs.Grammar.{SpellsWord, SpellsVariable, SpellsGuard, SpellsEffect, SpellsTransition, SpellsGroup, SpellsBlock, SpellsHead, SpellsForm, SpellsDeclaration, SpellsPlacement, Spells}
-use Rattle.ioa_front.specs.Spelling.{separated, joined, bracketed, section, optional, word_spelling, sort_spelling, declared_spelling, call_spelling, entry_spelling, variable_spelling, transition_spelling, effect_spelling, block_spelling, form_spelling, declaration_spelling, placement_spelling, text_spelling}
+use Rattle.ioa_front.specs.Spelling.{separated_spelling, joined_spelling, bracketed_spelling, section_spelling, optional_spelling, word_spelling, sort_spelling, declared_spelling, call_spelling, entry_spelling, variable_spelling, transition_spelling, effect_spelling, block_spelling, form_spelling, declaration_spelling, placement_spelling, text_spelling}
 use Rattle.ioa_front.proofs.PrintedLists.{Prints, several_prints, separated_prints, optional_prints, section_prints, brackets_good}
 use Rattle.ioa_front.proofs.PrintedDeclared.{outer_term, sort_prints, word_prints, declared_prints, call_prints, kind_again, kind_good, entries_print}
 use Rattle.ioa_front.proofs.PrintedStatements.{effect_prints, block_prints}
@@ -21,13 +21,13 @@ variable_prints : (v : Variable) (xs ys : List Token) → SpellsVariable v xs ys
 variable_prints v xs ys (grammar.of_sort {s = s} {initial = initial} d o) =
     let p = sort_prints d in
     let q = optional_prints (SpellsTerm bracket_limit) spelling outer_term mark.Assign o in
-    let right = optional mark.Assign spelling initial in
+    let right = optional_spelling mark.Assign spelling initial in
     record {
       again = λ zs. rw (append_assoc (sort_spelling s) right zs) (grammar.of_sort (p.again (right ++ zs)) (q.again zs));
       good = λ h. let g = p.good h.1.1 in let i = q.good g.1 in ((h.0, (tt, tokens_joined (sort_spelling s) right g.0 i.0)), i.1);
     }
 
-variables_print : (vs : List Variable) (xs ys : List Token) → Separated mark.Comma SpellsVariable vs xs ys → Prints (Separated mark.Comma SpellsVariable) (separated mark.Comma variable_spelling) vs xs ys
+variables_print : (vs : List Variable) (xs ys : List Token) → SeparatedBy mark.Comma SpellsVariable vs xs ys → Prints (SeparatedBy mark.Comma SpellsVariable) (separated_spelling mark.Comma variable_spelling) vs xs ys
 variables_print vs xs ys d = separated_prints SpellsVariable variable_spelling variable_prints mark.Comma d
 
 -- the semicolon behind a guard is not printed
@@ -43,8 +43,8 @@ transition_prints t xs ys (grammar.transition {k = k} {head = head} {pre = pre} 
     let q = optional_prints SpellsGuard spelling guard_prints mark.Pre o in
     let r = section_prints SpellsEffect effect_spelling effect_prints mark.Eff e in
     let called = call_spelling head.name head.arguments in
-    let guarded = optional mark.Pre spelling pre in
-    let effected = section mark.Eff effect_spelling effect in
+    let guarded = optional_spelling mark.Pre spelling pre in
+    let effected = section_spelling mark.Eff effect_spelling effect in
     record {
       again = λ zs.
           rw (append_assoc called (guarded ++ effected) zs, append_assoc guarded effected zs)
@@ -56,15 +56,15 @@ transition_prints t xs ys (grammar.transition {k = k} {head = head} {pre = pre} 
           ((tt, tokens_joined called (guarded ++ effected) g.0 (tokens_joined guarded effected i.0 j.0)), j.1);
     }
 
-transitions_print : (ts : List Transition) (xs ys : List Token) → Several SpellsTransition ts xs ys → Prints (Several SpellsTransition) (joined transition_spelling) ts xs ys
+transitions_print : (ts : List Transition) (xs ys : List Token) → Several SpellsTransition ts xs ys → Prints (Several SpellsTransition) (joined_spelling transition_spelling) ts xs ys
 transitions_print ts xs ys d = several_prints SpellsTransition transition_spelling transition_prints d
 
 -- the parameters of an automaton, and none where there is no parameter
-head_again : (ds : List Declared) (zs : List Token) → ((us : List Token) → SpellsHead ds (token.Mark mark.OpenRound ∷ (separated mark.Comma declared_spelling ds ++ token.Mark mark.CloseRound ∷ us)) us) → SpellsHead ds (bracketed declared_spelling ds ++ zs) zs
+head_again : (ds : List Declared) (zs : List Token) → ((us : List Token) → SpellsHead ds (token.Mark mark.OpenRound ∷ (separated_spelling mark.Comma declared_spelling ds ++ token.Mark mark.CloseRound ∷ us)) us) → SpellsHead ds (bracketed_spelling declared_spelling ds ++ zs) zs
 head_again [] zs again = grammar.no_parameters
-head_again (d ∷ more) zs again = rw (append_assoc (separated mark.Comma declared_spelling (d ∷ more)) (token.Mark mark.CloseRound ∷ []) zs) (again zs)
+head_again (d ∷ more) zs again = rw (append_assoc (separated_spelling mark.Comma declared_spelling (d ∷ more)) (token.Mark mark.CloseRound ∷ []) zs) (again zs)
 
-head_prints : {ds : List Declared} {xs ys : List Token} → SpellsHead ds xs ys → Prints SpellsHead (bracketed declared_spelling) ds xs ys
+head_prints : {ds : List Declared} {xs ys : List Token} → SpellsHead ds xs ys → Prints SpellsHead (bracketed_spelling declared_spelling) ds xs ys
 head_prints grammar.no_parameters = record { again = λ zs. grammar.no_parameters; good = λ h. (tt, h) }
 head_prints (grammar.parameters {ds = ds} d) =
     let p = declared_prints d in
@@ -87,15 +87,15 @@ declaration_prints _ xs ys (grammar.type_form d) =
     record { again = λ zs. grammar.type_form (p.again zs); good = λ h. let g = p.good h.1.1.1 in ((tt, (h.1.0, (tt, g.0))), g.1) }
 declaration_prints _ xs ys (grammar.automaton_parts {head = head} {entries = entries} {variables = variables} {transitions = transitions} {block = block} d e f g b) =
     let p = head_prints d in
-    let q = section_prints (GatheredSeveral SpellsGroup) (joined entry_spelling) entries_print mark.Signature e in
-    let r = section_prints (Separated mark.Comma SpellsVariable) (separated mark.Comma variable_spelling) variables_print mark.States f in
-    let s = section_prints (Several SpellsTransition) (joined transition_spelling) transitions_print mark.Transitions g in
+    let q = section_prints (SeveralLists SpellsGroup) (joined_spelling entry_spelling) entries_print mark.Signature e in
+    let r = section_prints (SeparatedBy mark.Comma SpellsVariable) (separated_spelling mark.Comma variable_spelling) variables_print mark.States f in
+    let s = section_prints (Several SpellsTransition) (joined_spelling transition_spelling) transitions_print mark.Transitions g in
     let t = section_prints SpellsBlock block_spelling block_prints mark.Schedule b in
-    let ps = bracketed declared_spelling head in
-    let qs = section mark.Signature (joined entry_spelling) entries in
-    let rs = section mark.States (separated mark.Comma variable_spelling) variables in
-    let ss = section mark.Transitions (joined transition_spelling) transitions in
-    let ts = section mark.Schedule block_spelling block in
+    let ps = bracketed_spelling declared_spelling head in
+    let qs = section_spelling mark.Signature (joined_spelling entry_spelling) entries in
+    let rs = section_spelling mark.States (separated_spelling mark.Comma variable_spelling) variables in
+    let ss = section_spelling mark.Transitions (joined_spelling transition_spelling) transitions in
+    let ts = section_spelling mark.Schedule block_spelling block in
     record {
       again = λ zs.
           rw (append_assoc ps (qs ++ (rs ++ (ss ++ ts))) zs, append_assoc qs (rs ++ (ss ++ ts)) zs, append_assoc rs (ss ++ ts) zs, append_assoc ss ts zs)
@@ -117,10 +117,10 @@ placement_prints _ xs ys (grammar.node {call = c} d) =
 placement_prints _ xs ys grammar.channel =
     record { again = λ zs. grammar.channel; good = λ h. ((tt, (h.1.0, (tt, (h.1.1.1.0, tt)))), h.1.1.1.1) }
 
-declarations_print : {ds : List Declaration} {xs ys : List Token} → Several SpellsDeclaration ds xs ys → Prints (Several SpellsDeclaration) (joined declaration_spelling) ds xs ys
+declarations_print : {ds : List Declaration} {xs ys : List Token} → Several SpellsDeclaration ds xs ys → Prints (Several SpellsDeclaration) (joined_spelling declaration_spelling) ds xs ys
 declarations_print d = several_prints SpellsDeclaration declaration_spelling declaration_prints d
 
-system_prints : {ps : List Placement} {xs ys : List Token} → Several SpellsPlacement ps xs ys → Prints (Several SpellsPlacement) (joined placement_spelling) ps xs ys
+system_prints : {ps : List Placement} {xs ys : List Token} → Several SpellsPlacement ps xs ys → Prints (Several SpellsPlacement) (joined_spelling placement_spelling) ps xs ys
 system_prints d = several_prints SpellsPlacement placement_spelling placement_prints d
 
 -- what is spelled is spelled as it is printed
@@ -128,8 +128,8 @@ pub text_spelled : (p : SourceText) (xs : List Token) → Spells p xs → Spells
 text_spelled _ xs (grammar.text {declarations = declarations} {system = system} d e) =
     let p = declarations_print d in
     let q = system_prints e in
-    let last = rw (append-nil (joined placement_spelling system)) at (q.again []) in
-    grammar.text (p.again (token.Mark mark.System ∷ joined placement_spelling system)) last
+    let last = rw (append-nil (joined_spelling placement_spelling system)) at (q.again []) in
+    grammar.text (p.again (token.Mark mark.System ∷ joined_spelling placement_spelling system)) last
 
 -- and it is printed with tokens that a text can have
 pub text_good : (p : SourceText) (xs : List Token) → Spells p xs → AreTokens xs → AreTokens (text_spelling p)
@@ -138,4 +138,4 @@ text_good _ xs (grammar.text {declarations = declarations} {system = system} d e
     let q = system_prints e in
     let g = p.good h in
     let i = q.good g.1.1 in
-    tokens_joined (joined declaration_spelling declarations) (token.Mark mark.System ∷ joined placement_spelling system) g.0 (tt, i.0)
+    tokens_joined (joined_spelling declaration_spelling declarations) (token.Mark mark.System ∷ joined_spelling placement_spelling system) g.0 (tt, i.0)

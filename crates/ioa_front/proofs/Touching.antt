@@ -8,7 +8,7 @@ use Rattle.ioa_tokens.specs.declared.mark.Mark.TheVariants as mark
 use Rattle.ioa_tokens.specs.declared.written.Gap.TheVariants as gap
 use Rattle.ioa_tokens.specs.Written.{may_touch}
 use Rattle.ioa_tokens.proofs.Apart.{loose_touches, apart_from_closed}
-use Rattle.ioa_front.specs.Touching.{is_opening, is_end, follows_any, precedes_any, is_prefix, is_plain, touches}
+use Rattle.ioa_front.specs.Touching.{is_opening, is_part_end, follows_any, precedes_any, is_prefix, is_plain, touches}
 
 -- a bracket that opens may stand right behind any token
 opens : (t u : Token) → is_opening u ≡ true → may_touch t u ≡ true
@@ -18,7 +18,7 @@ opens t (token.Mark mark.OpenBrace) e = loose_touches t mark.OpenBrace refl
 opens t _ e = absurd (true≢false (sym e))
 
 -- so may one that closes, and a sign that ends a part
-ends : (t u : Token) → is_end u ≡ true → may_touch t u ≡ true
+ends : (t u : Token) → is_part_end u ≡ true → may_touch t u ≡ true
 ends t (token.Mark mark.CloseRound) e = loose_touches t mark.CloseRound refl
 ends t (token.Mark mark.CloseSquare) e = loose_touches t mark.CloseSquare refl
 ends t (token.Mark mark.CloseBrace) e = loose_touches t mark.CloseBrace refl
@@ -53,7 +53,7 @@ operand _ u e f = absurd (true≢false (sym e))
 -- what passes the test may touch
 pub touches_may : (t u : Token) → touches t u ≡ true → may_touch t u ≡ true
 touches_may t u e =
-    ⊎_elim (λ first. ⊎_elim (λ opening. opens t u opening) (λ end. ends t u end) (or_cases (is_opening u) (is_end u) first))
+    ⊎_elim (λ first. ⊎_elim (λ opening. opens t u opening) (λ end. ends t u end) (or_cases (is_opening u) (is_part_end u) first))
     (λ other. ⊎_elim (λ second. precedes t u second)
     (λ third. let parts = and_parts (is_prefix t) (is_plain u) third in operand t u parts.0 parts.1)
     (or_cases (precedes_any t) (is_prefix t && is_plain u) other))

@@ -7,7 +7,7 @@ use Rattle.ioa_operators.specs.declared.operator.BinaryOperator.{BinaryOperator}
 use Rattle.ioa_operators.specs.declared.operator.BinaryOperator.TheVariants as operator
 use Rattle.ioa_source.specs.Sides.{SourceTerms, SourceStatements as Statements, SourceArms as Arms}
 use Rattle.ioa_term_reader.specs.Spelling.{parts_spelling, more_parts_spelling}
-use Rattle.ioa_front.specs.Spelling.{separated, more_separated, statements_spelling, more_statements_spelling, arms_spelling, more_arms_spelling}
+use Rattle.ioa_front.specs.Spelling.{separated_spelling, more_separated_spelling, statements_spelling, more_statements_spelling, arms_spelling, more_arms_spelling}
 
 -- whether an operator is that of `m[k]`
 abbrev pub is_key : BinaryOperator → Bool
@@ -26,8 +26,8 @@ parts_left false ts = more_parts_spelling ts
 
 -- the items that are left
 abbrev pub items_left : {A : Type 0} → Mark → (A → List Token) → Bool → List A → List Token
-items_left m spell true xs = separated m spell xs
-items_left m spell false xs = more_separated m spell xs
+items_left m spell true xs = separated_spelling m spell xs
+items_left m spell false xs = more_separated_spelling m spell xs
 
 -- the statements that are left
 abbrev pub statements_left : Bool → Statements → List Token

@@ -10,38 +10,38 @@ use Rattle.ioa_terms.specs.declared.tree.Kind.TheVariants as kind
 use Rattle.ioa_terms.specs.PlainTerm.{variable, at_key, at_field, assign, choose, fire, no_statements, statement, statements_of, no_arms, arm}
 use Rattle.ioa_source.specs.PlainSort.{PlainSort, booleans, integers, naturals, sequences, sets, maps, named_type}
 use Rattle.ioa_source.specs.PlainText.{const, named, enumeration, tuple_of, type_named, automaton, node, channel}
-use Rattle.ioa_source.specs.Sides.{SourceTerm as Term, SourcePlace as Place, SourceStatement as Statement, SourceStatements as Statements, SourceArms as Arms, SourceDeclared as Declared, SourceParameter as Parameter, SourceEntry as Entry, SourceVariable as Variable, SourceTransition as Transition, SourceForm as Form, SourceDeclaration as Declaration, SourcePlacement as Placement, SourceText}
+use Rattle.ioa_source.specs.Sides.{SourceTerm as Term, SourceTarget as Target, SourceStatement as Statement, SourceStatements as Statements, SourceArms as Arms, SourceDeclared as Declared, SourceParameter as Parameter, SourceEntry as Entry, SourceVariable as Variable, SourceTransition as Transition, SourceForm as Form, SourceDeclaration as Declaration, SourcePlacement as Placement, SourceText}
 use Rattle.ioa_term_reader.specs.Spelling.{spelling}
 
 -- a mark before each item
-abbrev pub more_separated : {A : Type 0} → Mark → (A → List Token) → List A → List Token
-more_separated m spell [] = []
-more_separated m spell (a ∷ more) = token.Mark m ∷ (spell a ++ more_separated m spell more)
+abbrev pub more_separated_spelling : {A : Type 0} → Mark → (A → List Token) → List A → List Token
+more_separated_spelling m spell [] = []
+more_separated_spelling m spell (a ∷ more) = token.Mark m ∷ (spell a ++ more_separated_spelling m spell more)
 
 -- items with a mark between
-abbrev pub separated : {A : Type 0} → Mark → (A → List Token) → List A → List Token
-separated m spell [] = []
-separated m spell (a ∷ more) = spell a ++ more_separated m spell more
+abbrev pub separated_spelling : {A : Type 0} → Mark → (A → List Token) → List A → List Token
+separated_spelling m spell [] = []
+separated_spelling m spell (a ∷ more) = spell a ++ more_separated_spelling m spell more
 
 -- items one after another
-abbrev pub joined : {A : Type 0} → (A → List Token) → List A → List Token
-joined spell [] = []
-joined spell (a ∷ more) = spell a ++ joined spell more
+abbrev pub joined_spelling : {A : Type 0} → (A → List Token) → List A → List Token
+joined_spelling spell [] = []
+joined_spelling spell (a ∷ more) = spell a ++ joined_spelling spell more
 
 -- items with commas between in round brackets, and nothing where there is no item
-abbrev pub bracketed : {A : Type 0} → (A → List Token) → List A → List Token
-bracketed spell [] = []
-bracketed spell (a ∷ more) = token.Mark mark.OpenRound ∷ (separated mark.Comma spell (a ∷ more) ++ token.Mark mark.CloseRound ∷ [])
+abbrev pub bracketed_spelling : {A : Type 0} → (A → List Token) → List A → List Token
+bracketed_spelling spell [] = []
+bracketed_spelling spell (a ∷ more) = token.Mark mark.OpenRound ∷ (separated_spelling mark.Comma spell (a ∷ more) ++ token.Mark mark.CloseRound ∷ [])
 
 -- a part behind its word, and nothing where it has no item
-abbrev pub section : {A : Type 0} → Mark → (List A → List Token) → List A → List Token
-section m spell [] = []
-section m spell (a ∷ more) = token.Mark m ∷ spell (a ∷ more)
+abbrev pub section_spelling : {A : Type 0} → Mark → (List A → List Token) → List A → List Token
+section_spelling m spell [] = []
+section_spelling m spell (a ∷ more) = token.Mark m ∷ spell (a ∷ more)
 
 -- an item behind its word, and nothing where there is none
-abbrev pub optional : {A : Type 0} → Mark → (A → List Token) → Option A → List Token
-optional m spell None = []
-optional m spell (Some a) = token.Mark m ∷ spell a
+abbrev pub optional_spelling : {A : Type 0} → Mark → (A → List Token) → Option A → List Token
+optional_spelling m spell None = []
+optional_spelling m spell (Some a) = token.Mark m ∷ spell a
 
 abbrev pub word_spelling : List ℕ → List Token
 word_spelling w = token.Word w ∷ []
@@ -72,22 +72,22 @@ kind_mark kind.Internal = mark.Internal
 
 -- Word [ ( Term {, Term} ) ]
 abbrev pub call_spelling : List ℕ → List Term → List Token
-call_spelling w ts = token.Word w ∷ bracketed spelling ts
+call_spelling w ts = token.Word w ∷ bracketed_spelling spelling ts
 
 -- Kind Word [ ( Param {, Param} ) ] [where Term]
 abbrev pub entry_spelling : Entry → List Token
 entry_spelling e =
-    token.Mark (kind_mark e.kind) ∷ token.Word e.name ∷ (bracketed parameter_spelling e.parameters ++ optional mark.Where spelling e.condition)
+    token.Mark (kind_mark e.kind) ∷ token.Word e.name ∷ (bracketed_spelling parameter_spelling e.parameters ++ optional_spelling mark.Where spelling e.condition)
 
 -- Word : Sort [:= Term]
 abbrev pub variable_spelling : Variable → List Token
-variable_spelling v = declared_spelling v.declared ++ optional mark.Assign spelling v.initial
+variable_spelling v = declared_spelling v.declared ++ optional_spelling mark.Assign spelling v.initial
 
 -- Word, Word [ Term ], or Word . Word
-abbrev pub place_spelling : Place → List Token
-place_spelling (variable w at shape) = token.Word w ∷ []
-place_spelling (at_key w at shape t) = token.Word w ∷ token.Mark mark.OpenSquare ∷ (spelling t ++ token.Mark mark.CloseSquare ∷ [])
-place_spelling (at_field w at shape f) = token.Word w ∷ token.Mark mark.Dot ∷ token.Word f ∷ []
+abbrev pub target_spelling : Target → List Token
+target_spelling (variable w at shape) = token.Word w ∷ []
+target_spelling (at_key w at shape t) = token.Word w ∷ token.Mark mark.OpenSquare ∷ (spelling t ++ token.Mark mark.CloseSquare ∷ [])
+target_spelling (at_field w at shape f) = token.Word w ∷ token.Mark mark.Dot ∷ token.Word f ∷ []
 
 -- a kind, where it is written
 abbrev pub kind_spelling : Option Kind → List Token
@@ -102,7 +102,7 @@ else_spelling (statement s more) xs = token.Mark mark.Else ∷ xs
 abbrev mutual
   -- Place := Term, if Term then Statements {elseif Term then Statements} [else Statements] fi, or fire [Kind] Call
   pub statement_spelling : Statement → List Token
-  statement_spelling (assign p t) = place_spelling p ++ (token.Mark mark.Assign ∷ spelling t)
+  statement_spelling (assign p t) = target_spelling p ++ (token.Mark mark.Assign ∷ spelling t)
   statement_spelling (choose arms rest) =
       token.Mark mark.If ∷ (arms_spelling arms ++ (else_spelling rest (statements_spelling rest) ++ token.Mark mark.Fi ∷ []))
   statement_spelling (fire k w ts) = token.Mark mark.Fire ∷ (kind_spelling k ++ call_spelling w ts)
@@ -135,7 +135,7 @@ effect_spelling ss = statements_spelling (statements_of ss)
 -- Kind Call [pre Term] [eff Statements]
 abbrev pub transition_spelling : Transition → List Token
 transition_spelling t =
-    token.Mark (kind_mark t.kind) ∷ (call_spelling t.name t.arguments ++ (optional mark.Pre spelling t.pre ++ section mark.Eff effect_spelling t.effect))
+    token.Mark (kind_mark t.kind) ∷ (call_spelling t.name t.arguments ++ (optional_spelling mark.Pre spelling t.pre ++ section_spelling mark.Eff effect_spelling t.effect))
 
 -- do Statements od
 abbrev pub block_spelling : List Statement → List Token
@@ -143,18 +143,18 @@ block_spelling ss = token.Mark mark.Do ∷ (effect_spelling ss ++ token.Mark mar
 
 -- enumeration of Word {, Word}, or tuple of Declared {, Declared}
 abbrev pub form_spelling : Form → List Token
-form_spelling (enumeration ws) = token.Mark mark.Enumeration ∷ token.Mark mark.Of ∷ separated mark.Comma word_spelling ws
-form_spelling (tuple_of ds) = token.Mark mark.Tuple ∷ token.Mark mark.Of ∷ separated mark.Comma declared_spelling ds
+form_spelling (enumeration ws) = token.Mark mark.Enumeration ∷ token.Mark mark.Of ∷ separated_spelling mark.Comma word_spelling ws
+form_spelling (tuple_of ds) = token.Mark mark.Tuple ∷ token.Mark mark.Of ∷ separated_spelling mark.Comma declared_spelling ds
 
 -- type Word = Form, or automaton Word [ ( Declared {, Declared} ) ] [Signature] [States] [Transitions] [Schedule]
 abbrev pub declaration_spelling : Declaration → List Token
 declaration_spelling (type_named t) = token.Mark mark.Type ∷ token.Word t.name ∷ token.Mark mark.Equal ∷ form_spelling t.form
 declaration_spelling (automaton a) =
-    token.Mark mark.Automaton ∷ token.Word a.name ∷ (bracketed declared_spelling a.parameters
-    ++ (section mark.Signature (joined entry_spelling) a.signature
-    ++ (section mark.States (separated mark.Comma variable_spelling) a.states
-    ++ (section mark.Transitions (joined transition_spelling) a.transitions
-    ++ section mark.Schedule block_spelling a.schedule))))
+    token.Mark mark.Automaton ∷ token.Word a.name ∷ (bracketed_spelling declared_spelling a.parameters
+    ++ (section_spelling mark.Signature (joined_spelling entry_spelling) a.signature
+    ++ (section_spelling mark.States (separated_spelling mark.Comma variable_spelling) a.states
+    ++ (section_spelling mark.Transitions (joined_spelling transition_spelling) a.transitions
+    ++ section_spelling mark.Schedule block_spelling a.schedule))))
 
 -- node Number : Call, or channel Number -> Number
 abbrev pub placement_spelling : Placement → List Token
@@ -163,4 +163,4 @@ placement_spelling (channel c) = token.Mark mark.Channel ∷ token.Number c.from
 
 -- a whole text
 abbrev pub text_spelling : SourceText → List Token
-text_spelling p = joined declaration_spelling p.declarations ++ (token.Mark mark.System ∷ joined placement_spelling p.system)
+text_spelling p = joined_spelling declaration_spelling p.declarations ++ (token.Mark mark.System ∷ joined_spelling placement_spelling p.system)

@@ -12,19 +12,19 @@ is_opening (token.Mark mark.OpenBrace) = true
 is_opening _ = false
 
 -- the brackets that close, and the signs that end a part
-abbrev pub is_end : Token → Bool
-is_end (token.Mark mark.CloseRound) = true
-is_end (token.Mark mark.CloseSquare) = true
-is_end (token.Mark mark.CloseBrace) = true
-is_end (token.Mark mark.Dot) = true
-is_end (token.Mark mark.Comma) = true
-is_end (token.Mark mark.Semicolon) = true
-is_end (token.Mark mark.Colon) = true
-is_end _ = false
+abbrev pub is_part_end : Token → Bool
+is_part_end (token.Mark mark.CloseRound) = true
+is_part_end (token.Mark mark.CloseSquare) = true
+is_part_end (token.Mark mark.CloseBrace) = true
+is_part_end (token.Mark mark.Dot) = true
+is_part_end (token.Mark mark.Comma) = true
+is_part_end (token.Mark mark.Semicolon) = true
+is_part_end (token.Mark mark.Colon) = true
+is_part_end _ = false
 
 -- the tokens that may stand right behind any
 abbrev pub follows_any : Token → Bool
-follows_any t = is_opening t || is_end t
+follows_any t = is_opening t || is_part_end t
 
 -- the tokens behind which any may stand
 abbrev pub precedes_any : Token → Bool

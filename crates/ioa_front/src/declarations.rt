@@ -66,7 +66,7 @@ fn put_all_declared<'a>(
     out: &mut Pieces<'a>,
     declarations: &'a [Declared<()>],
 ) -> Result<(), AllocError>
-    ensures { OnOk result (out.new ≡ out.old ++ spec.separated mark.Comma spec.declared_spelling (map declared_of declarations.now)) }
+    ensures { OnOk result (out.new ≡ out.old ++ spec.separated_spelling mark.Comma spec.declared_spelling (map declared_of declarations.now)) }
 {
     let mut first = true;
     for declared in declarations {
@@ -79,7 +79,7 @@ fn put_all_declared<'a>(
 
 /// Puts an automaton's parameters in round brackets, and nothing where it has none.
 fn put_head<'a>(out: &mut Pieces<'a>, parameters: &'a [Declared<()>]) -> Result<(), AllocError>
-    ensures { OnOk result (out.new ≡ out.old ++ spec.bracketed spec.declared_spelling (map declared_of parameters.now)) }
+    ensures { OnOk result (out.new ≡ out.old ++ spec.bracketed_spelling spec.declared_spelling (map declared_of parameters.now)) }
 {
     match parameters {
         [] => Ok(()),
@@ -112,7 +112,7 @@ fn put_all_parameters<'a>(
     out: &mut Pieces<'a>,
     parameters: &'a [Parameter<(), ()>],
 ) -> Result<(), AllocError>
-    ensures { OnOk result (out.new ≡ out.old ++ spec.separated mark.Comma spec.parameter_spelling (map parameter_of parameters.now)) }
+    ensures { OnOk result (out.new ≡ out.old ++ spec.separated_spelling mark.Comma spec.parameter_spelling (map parameter_of parameters.now)) }
 {
     let mut first = true;
     for parameter in parameters {
@@ -128,7 +128,7 @@ fn put_parameters<'a>(
     out: &mut Pieces<'a>,
     parameters: &'a [Parameter<(), ()>],
 ) -> Result<(), AllocError>
-    ensures { OnOk result (out.new ≡ out.old ++ spec.bracketed spec.parameter_spelling (map parameter_of parameters.now)) }
+    ensures { OnOk result (out.new ≡ out.old ++ spec.bracketed_spelling spec.parameter_spelling (map parameter_of parameters.now)) }
 {
     match parameters {
         [] => Ok(()),
@@ -152,7 +152,7 @@ fn put_entry<'a>(out: &mut Pieces<'a>, entry: &'a Entry<(), ()>) -> Result<(), A
 
 /// Puts the entries of a signature.
 fn put_entries<'a>(out: &mut Pieces<'a>, entries: &'a [Entry<(), ()>]) -> Result<(), AllocError>
-    ensures { OnOk result (out.new ≡ out.old ++ spec.joined spec.entry_spelling (map entry_of entries.now)) }
+    ensures { OnOk result (out.new ≡ out.old ++ spec.joined_spelling spec.entry_spelling (map entry_of entries.now)) }
 {
     for entry in entries {
         put_entry(out, entry)?;
@@ -162,7 +162,7 @@ fn put_entries<'a>(out: &mut Pieces<'a>, entries: &'a [Entry<(), ()>]) -> Result
 
 /// Puts a signature, where it has an entry.
 fn put_signature<'a>(out: &mut Pieces<'a>, entries: &'a [Entry<(), ()>]) -> Result<(), AllocError>
-    ensures { OnOk result (out.new ≡ out.old ++ spec.section mark.Signature (spec.joined spec.entry_spelling) (map entry_of entries.now)) }
+    ensures { OnOk result (out.new ≡ out.old ++ spec.section_spelling mark.Signature (spec.joined_spelling spec.entry_spelling) (map entry_of entries.now)) }
 {
     match entries {
         [] => Ok(()),
@@ -186,7 +186,7 @@ fn put_variables<'a>(
     out: &mut Pieces<'a>,
     variables: &'a [Variable<(), ()>],
 ) -> Result<(), AllocError>
-    ensures { OnOk result (out.new ≡ out.old ++ spec.separated mark.Comma spec.variable_spelling (map variable_of variables.now)) }
+    ensures { OnOk result (out.new ≡ out.old ++ spec.separated_spelling mark.Comma spec.variable_spelling (map variable_of variables.now)) }
 {
     let mut first = true;
     for variable in variables {
@@ -199,7 +199,7 @@ fn put_variables<'a>(
 
 /// Puts the state variables of an automaton, where it has one.
 fn put_states<'a>(out: &mut Pieces<'a>, variables: &'a [Variable<(), ()>]) -> Result<(), AllocError>
-    ensures { OnOk result (out.new ≡ out.old ++ spec.section mark.States (spec.separated mark.Comma spec.variable_spelling) (map variable_of variables.now)) }
+    ensures { OnOk result (out.new ≡ out.old ++ spec.section_spelling mark.States (spec.separated_spelling mark.Comma spec.variable_spelling) (map variable_of variables.now)) }
 {
     match variables {
         [] => Ok(()),
@@ -215,7 +215,7 @@ fn put_effect<'a>(
     out: &mut Pieces<'a>,
     effect: &'a Vec<Statement<(), ()>>,
 ) -> Result<(), AllocError>
-    ensures { OnOk result (out.new ≡ out.old ++ spec.section mark.Eff spec.effect_spelling (map statement_of effect.now.items)) }
+    ensures { OnOk result (out.new ≡ out.old ++ spec.section_spelling mark.Eff spec.effect_spelling (map statement_of effect.now.items)) }
 {
     match effect.as_slice() {
         [] => Ok(()),
@@ -244,7 +244,7 @@ fn put_all_transitions<'a>(
     out: &mut Pieces<'a>,
     transitions: &'a [Transition<(), ()>],
 ) -> Result<(), AllocError>
-    ensures { OnOk result (out.new ≡ out.old ++ spec.joined spec.transition_spelling (map transition_of transitions.now)) }
+    ensures { OnOk result (out.new ≡ out.old ++ spec.joined_spelling spec.transition_spelling (map transition_of transitions.now)) }
 {
     for transition in transitions {
         put_transition(out, transition)?;
@@ -257,7 +257,7 @@ fn put_transitions<'a>(
     out: &mut Pieces<'a>,
     transitions: &'a [Transition<(), ()>],
 ) -> Result<(), AllocError>
-    ensures { OnOk result (out.new ≡ out.old ++ spec.section mark.Transitions (spec.joined spec.transition_spelling) (map transition_of transitions.now)) }
+    ensures { OnOk result (out.new ≡ out.old ++ spec.section_spelling mark.Transitions (spec.joined_spelling spec.transition_spelling) (map transition_of transitions.now)) }
 {
     match transitions {
         [] => Ok(()),
@@ -273,7 +273,7 @@ fn put_schedule<'a>(
     out: &mut Pieces<'a>,
     schedule: &'a Vec<Statement<(), ()>>,
 ) -> Result<(), AllocError>
-    ensures { OnOk result (out.new ≡ out.old ++ spec.section mark.Schedule spec.block_spelling (map statement_of schedule.now.items)) }
+    ensures { OnOk result (out.new ≡ out.old ++ spec.section_spelling mark.Schedule spec.block_spelling (map statement_of schedule.now.items)) }
 {
     match schedule.as_slice() {
         [] => Ok(()),
@@ -304,7 +304,7 @@ fn put_automaton<'a>(
 
 /// Puts names with commas between.
 fn put_words<'a>(out: &mut Pieces<'a>, words: &'a [Word]) -> Result<(), AllocError>
-    ensures { OnOk result (out.new ≡ out.old ++ spec.separated mark.Comma spec.word_spelling words.now) }
+    ensures { OnOk result (out.new ≡ out.old ++ spec.separated_spelling mark.Comma spec.word_spelling words.now) }
 {
     let mut first = true;
     for word in words {
@@ -364,7 +364,7 @@ pub(crate) fn put_declarations<'a>(
     out: &mut Pieces<'a>,
     declarations: &'a [Declaration<(), ()>],
 ) -> Result<(), AllocError>
-    ensures { OnOk result (out.new ≡ out.old ++ spec.joined spec.declaration_spelling (map declaration_of declarations.now)) }
+    ensures { OnOk result (out.new ≡ out.old ++ spec.joined_spelling spec.declaration_spelling (map declaration_of declarations.now)) }
 {
     for declaration in declarations {
         put_declaration(out, declaration)?;

@@ -75,7 +75,7 @@ impl Layout {
         ensures { may_follow (piece_token before.entry) (result, piece_token after.entry) ≡ true }
     {
         if self.is_close(before, after) {
-            joined(before, after)
+            closest_gap(before, after)
         } else {
             Gap::Spaced
         }
@@ -154,14 +154,14 @@ impl Layout {
     fn is_close(&self, before: Piece<'_>, after: Piece<'_>) -> bool {
         self.behind_prefix
             || precedes_any(before)
-            || is_end(after)
+            || is_part_end(after)
             || (is_opening(after) && ends_term(before))
     }
 }
 
 /// Nothing between two pieces, or a space where they would not stay apart.
 #[tactic(auto, using(crate::proofs::Touching::touches_may))]
-fn joined(before: Piece<'_>, after: Piece<'_>) -> Gap
+fn closest_gap(before: Piece<'_>, after: Piece<'_>) -> Gap
     ensures { may_follow (piece_token before.entry) (result, piece_token after.entry) ≡ true }
 {
     if touches(before, after) {
@@ -182,7 +182,7 @@ fn touches(before: Piece<'_>, after: Piece<'_>) -> bool
 fn follows_any(piece: Piece<'_>) -> bool
     ensures { result ≡ spec.follows_any (piece_token piece.entry) }
 {
-    is_opening(piece) || is_end(piece)
+    is_opening(piece) || is_part_end(piece)
 }
 
 /// Whether a piece is a bracket that opens.
@@ -196,8 +196,8 @@ fn is_opening(piece: Piece<'_>) -> bool
 }
 
 /// Whether a piece stands close behind any other: a bracket that closes, or a sign that ends a part.
-fn is_end(piece: Piece<'_>) -> bool
-    ensures { result ≡ spec.is_end (piece_token piece.entry) }
+fn is_part_end(piece: Piece<'_>) -> bool
+    ensures { result ≡ spec.is_part_end (piece_token piece.entry) }
 {
     match piece {
         Piece::Mark(Mark::CloseRound | Mark::CloseSquare | Mark::CloseBrace) => true,

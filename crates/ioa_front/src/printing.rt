@@ -7,7 +7,7 @@ ghost use Rattle.ioa_front.specs.Spelling.{text_spelling};
 ghost use Rattle.ioa_front.specs.Printed.{IsPrinted};
 
 use crate::texts::pieces_of;
-use crate::writing::written;
+use crate::writing::text_of_pieces;
 use ioa_source::Text;
 use ioa_text_reader::Source;
 use std::alloc::{AllocError, Global};
@@ -17,7 +17,7 @@ pub(crate) fn print_text(alloc: Global, text: &Text<(), ()>) -> Result<String, A
     ensures { IfOk result (λ s. IsPrinted (text_spelling (text_of text.now)) (string_bytes s)) }
 {
     let pieces = pieces_of(alloc, text)?;
-    written(alloc, pieces.as_slice())
+    text_of_pieces(alloc, pieces.as_slice())
 }
 
 /// A source as text: what it declares in lines, each part indented by two spaces more than what holds

@@ -4,12 +4,12 @@ ghost use Rattle.std.specs.Prelude.{◌≡◌, ◌++◌, OnOk, map};
 ghost use Rattle.ioa_tokens.specs.declared.token.Token.TheVariants as token;
 ghost use Rattle.ioa_tokens.specs.declared.mark.Mark.TheVariants as mark;
 ghost use Rattle.ioa_terms.specs.PlainTerm.{statements_of, arms_of, assign, fire};
-ghost use Rattle.ioa_terms.specs.View.{term_of, place_of, statement_of, arm_of};
+ghost use Rattle.ioa_terms.specs.View.{term_of, target_of, statement_of, arm_of};
 ghost use Rattle.ioa_front.specs.Spelling as spec;
 
 use crate::piece::Pieces;
 use crate::terms::{put_bracketed, put_term};
-use ioa_terms::{Arm, Kind, Place, Statement, Term};
+use ioa_terms::{Arm, Kind, Statement, Target, Term};
 use ioa_tokens::Mark;
 use ioa_values::Word;
 use std::alloc::AllocError;
@@ -48,18 +48,18 @@ pub(crate) fn put_call<'a>(
 }
 
 /// Puts what an assignment writes to.
-fn put_place<'a>(out: &mut Pieces<'a>, place: &'a Place<(), ()>) -> Result<(), AllocError>
-    ensures { OnOk result (out.new ≡ out.old ++ spec.place_spelling (place_of place.now)) }
+fn put_target<'a>(out: &mut Pieces<'a>, target: &'a Target<(), ()>) -> Result<(), AllocError>
+    ensures { OnOk result (out.new ≡ out.old ++ spec.target_spelling (target_of target.now)) }
 {
-    match place {
-        Place::Variable(name, _, _) => out.put_word(name),
-        Place::At(name, _, _, key) => {
+    match target {
+        Target::Variable(name, _, _) => out.put_word(name),
+        Target::At(name, _, _, key) => {
             out.put_word(name)?;
             out.put_mark(Mark::OpenSquare)?;
             put_term(out, key)?;
             out.put_mark(Mark::CloseSquare)
         }
-        Place::Field(name, _, _, field) => {
+        Target::Field(name, _, _, field) => {
             out.put_word(name)?;
             out.put_mark(Mark::Dot)?;
             out.put_word(field)
@@ -70,12 +70,12 @@ fn put_place<'a>(out: &mut Pieces<'a>, place: &'a Place<(), ()>) -> Result<(), A
 /// Puts an assignment.
 fn put_assignment<'a>(
     out: &mut Pieces<'a>,
-    place: &'a Place<(), ()>,
+    target: &'a Target<(), ()>,
     term: &'a Term,
 ) -> Result<(), AllocError>
-    ensures { OnOk result (out.new ≡ out.old ++ spec.statement_spelling (assign (place_of place.now) (term_of term.now))) }
+    ensures { OnOk result (out.new ≡ out.old ++ spec.statement_spelling (assign (target_of target.now) (term_of term.now))) }
 {
-    put_place(out, place)?;
+    put_target(out, target)?;
     out.put_mark(Mark::Assign)?;
     put_term(out, term)
 }
@@ -103,7 +103,7 @@ fn put_statement<'a>(
     ensures { OnOk result (out.new ≡ out.old ++ spec.statement_spelling (statement_of statement.now)) }
 {
     match statement {
-        Statement::Assign(place, term) => put_assignment(out, place, term),
+        Statement::Assign(target, term) => put_assignment(out, target, term),
         Statement::If(arms, rest) => {
             out.put_mark(Mark::If)?;
             put_arms(out, arms)?;

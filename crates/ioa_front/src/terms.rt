@@ -6,7 +6,7 @@ ghost use Rattle.ioa_tokens.specs.declared.mark.Mark.TheVariants as mark;
 ghost use Rattle.ioa_terms.specs.PlainTerm.{terms_of};
 ghost use Rattle.ioa_terms.specs.View.{term_of};
 ghost use Rattle.ioa_term_reader.specs.Spelling as spec;
-ghost use Rattle.ioa_front.specs.Spelling.{separated, bracketed, optional};
+ghost use Rattle.ioa_front.specs.Spelling.{separated_spelling, bracketed_spelling, optional_spelling};
 ghost use Rattle.ioa_front.specs.Listing as listing;
 
 use crate::piece::Pieces;
@@ -149,7 +149,7 @@ pub(crate) fn put_term<'a>(out: &mut Pieces<'a>, term: &'a Term) -> Result<(), A
 /// Puts a part of a term, in round brackets where it is an operation.
 #[cycle(terms)]
 fn put_part<'a>(out: &mut Pieces<'a>, part: &'a Term) -> Result<(), AllocError>
-    ensures { OnOk result (out.new ≡ out.old ++ spec.wrapped (spec.is_operation (term_of part.now)) (spec.spelling (term_of part.now))) }
+    ensures { OnOk result (out.new ≡ out.old ++ spec.in_brackets_if (spec.is_operation (term_of part.now)) (spec.spelling (term_of part.now))) }
 {
     if is_operation(part) {
         out.put_mark(Mark::OpenRound)?;
@@ -176,7 +176,7 @@ fn put_parts<'a>(out: &mut Pieces<'a>, parts: &'a Vec<Term>) -> Result<(), Alloc
 
 /// Puts terms with commas between.
 fn put_terms<'a>(out: &mut Pieces<'a>, terms: &'a [Term]) -> Result<(), AllocError>
-    ensures { OnOk result (out.new ≡ out.old ++ separated mark.Comma spec.spelling (map term_of terms.now)) }
+    ensures { OnOk result (out.new ≡ out.old ++ separated_spelling mark.Comma spec.spelling (map term_of terms.now)) }
 {
     let mut first = true;
     for term in terms {
@@ -189,7 +189,7 @@ fn put_terms<'a>(out: &mut Pieces<'a>, terms: &'a [Term]) -> Result<(), AllocErr
 
 /// Puts terms in round brackets, and nothing where there is no term.
 pub(crate) fn put_bracketed<'a>(out: &mut Pieces<'a>, terms: &'a [Term]) -> Result<(), AllocError>
-    ensures { OnOk result (out.new ≡ out.old ++ bracketed spec.spelling (map term_of terms.now)) }
+    ensures { OnOk result (out.new ≡ out.old ++ bracketed_spelling spec.spelling (map term_of terms.now)) }
 {
     match terms {
         [] => Ok(()),
@@ -207,7 +207,7 @@ pub(crate) fn put_optional<'a>(
     mark: Mark,
     term: &'a Option<Term>,
 ) -> Result<(), AllocError>
-    ensures { OnOk result (out.new ≡ out.old ++ optional mark spec.spelling (option_map term_of term.now)) }
+    ensures { OnOk result (out.new ≡ out.old ++ optional_spelling mark spec.spelling (option_map term_of term.now)) }
 {
     match term {
         None => Ok(()),

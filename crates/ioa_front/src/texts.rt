@@ -39,7 +39,7 @@ fn put_placements<'a>(
     out: &mut Pieces<'a>,
     placements: &'a [Placement<(), ()>],
 ) -> Result<(), AllocError>
-    ensures { OnOk result (out.new ≡ out.old ++ spec.joined spec.placement_spelling (map placement_of placements.now)) }
+    ensures { OnOk result (out.new ≡ out.old ++ spec.joined_spelling spec.placement_spelling (map placement_of placements.now)) }
 {
     for placement in placements {
         put_placement(out, placement)?;

@@ -22,7 +22,7 @@ fn push_piece(text: &mut String, gap: Gap, piece: Piece<'_>) -> Result<(), Alloc
 }
 
 /// The text of pieces, laid out in lines.
-pub(crate) fn written(alloc: Global, pieces: &[Piece<'_>]) -> Result<String, AllocError>
+pub(crate) fn text_of_pieces(alloc: Global, pieces: &[Piece<'_>]) -> Result<String, AllocError>
     ensures { IfOk result (λ s. IsPrinted (map piece_token pieces.now) (string_bytes s)) }
 {
     let mut text = String::new(alloc);

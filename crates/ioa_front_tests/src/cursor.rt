@@ -1,7 +1,7 @@
 //! Where a refusal stands, and what is read of a line.
 
-use ioa_cursor::{Tokens, Unread, place_of};
-use ioa_tokens::{Mark, Placed, tokens};
+use ioa_cursor::{Tokens, Unread, offset_of};
+use ioa_tokens::{LocatedToken, Mark, tokens};
 use std::alloc::{AllocError, Global};
 use std::test::Fail;
 
@@ -21,7 +21,7 @@ static ROWS: [(&str, &str); 6] = [
 /// A refusal in short, with its place in a text of these tokens that ends there.
 fn put(
     refusal: &Unread,
-    found: &[Placed<'_>],
+    found: &[LocatedToken<'_>],
     end: usize,
     short: &mut String,
     alloc: Global,
@@ -32,9 +32,9 @@ fn put(
         Unread::LeftOut(_, left) => (16, *left),
         Unread::Memory => return Err(AllocError),
     };
-    let place = place_of(found, left, end);
-    let shown = format!(in alloc; "{number}@{place} ")?;
-    short.push_str(shown.as_str())
+    let offset = offset_of(found, left, end);
+    let short_form = format!(in alloc; "{number}@{offset} ")?;
+    short.push_str(short_form.as_str())
 }
 
 /// The refusals of a text in short.
@@ -45,11 +45,11 @@ fn refusals(alloc: Global, text: &str) -> Result<String, AllocError> {
     let mut short = String::new(alloc);
     let mut left = Tokens::new(found.as_slice());
     for _turn in 0..found.len() {
-        put(&left.refused(), &found, text.len(), &mut short, alloc)?;
+        put(&left.refusal(), &found, text.len(), &mut short, alloc)?;
         put(&left.too_deep(), &found, text.len(), &mut short, alloc)?;
         left.advance();
     }
-    put(&left.refused(), &found, text.len(), &mut short, alloc)?;
+    put(&left.refusal(), &found, text.len(), &mut short, alloc)?;
     put(&left.too_deep(), &found, text.len(), &mut short, alloc)?;
     Ok(short)
 }
@@ -70,15 +70,15 @@ fn line(alloc: Global, left: &mut Tokens<'_>) -> Result<String, Unread> {
     let number = left.number()?;
     left.expect(Mark::Colon)?;
     let word = left.word(alloc)?;
-    let shown = format!(in alloc; "{number} {word}")?;
-    short.push_str(shown.as_str())?;
+    let short_form = format!(in alloc; "{number} {word}")?;
+    short.push_str(short_form.as_str())?;
     for _turn in 0..left.len() {
         if !left.resumes_with_word(Mark::Comma) {
             break;
         }
         let word = left.word(alloc)?;
-        let shown = format!(in alloc; " {word}")?;
-        short.push_str(shown.as_str())?;
+        let short_form = format!(in alloc; " {word}")?;
+        short.push_str(short_form.as_str())?;
     }
     left.expect(Mark::Fire)?;
     left.end()?;
@@ -86,7 +86,7 @@ fn line(alloc: Global, left: &mut Tokens<'_>) -> Result<String, Unread> {
 }
 
 /// What a line is read as in short, or its refusal.
-fn line_shown(alloc: Global, text: &str) -> Result<String, AllocError> {
+fn line_answer(alloc: Global, text: &str) -> Result<String, AllocError> {
     let Ok(found) = tokens(alloc, text) else {
         return Err(AllocError);
     };
@@ -120,7 +120,7 @@ static LINES: [(&str, &str); 12] = [
 #[test]
 fn lines_are_read(rt: HostRuntime) -> Result<(), Fail> {
     for (text, wanted) in LINES.iter() {
-        let short = line_shown(rt.alloc(), text)?;
+        let short = line_answer(rt.alloc(), text)?;
         assert_eq!(rt; short.as_str(), *wanted, "{text}");
     }
     Ok(())

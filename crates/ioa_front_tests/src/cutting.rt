@@ -1,6 +1,8 @@
 //! What each sign and word is read as, where a text is refused, and what tokens are written as.
 
-use ioa_tokens::{CutFault, Gap, Mark, Placed, Token, push_mark, push_number, push_word, tokens};
+use ioa_tokens::{
+    CutFault, Gap, LocatedToken, Mark, Token, push_mark, push_number, push_word, tokens,
+};
 use std::alloc::{AllocError, Global};
 use std::test::Fail;
 
@@ -37,7 +39,7 @@ static ROWS: [(&str, &str); 123] = [
     ("]", "CloseSquare@0 "),
     ("{", "OpenBrace@0 "),
     ("}", "CloseBrace@0 "),
-    ("@", "At@0 "),
+    ("@", "AtSign@0 "),
     ("automaton", "Automaton@0 "),
     ("signature", "Signature@0 "),
     ("states", "States@0 "),
@@ -136,35 +138,35 @@ static ROWS: [(&str, &str); 123] = [
 ];
 
 /// One token in short.
-fn put(placed: &Placed<'_>, text: &mut String, alloc: Global) -> Result<(), AllocError> {
-    let place = placed.place;
-    let shown = match &placed.token {
+fn put(located: &LocatedToken<'_>, text: &mut String, alloc: Global) -> Result<(), AllocError> {
+    let offset = located.offset;
+    let short_form = match &located.token {
         Token::Word(word) => {
             text.push('\'')?;
             for byte in word.as_bytes() {
                 text.push(char::from(*byte))?;
             }
-            format!(in alloc; "'@{place} ")?
+            format!(in alloc; "'@{offset} ")?
         }
-        Token::Number(number) => format!(in alloc; "{number}@{place} ")?,
-        Token::Mark(mark) => format!(in alloc; "{mark:?}@{place} ")?,
-        Token::LeftOut(word) => format!(in alloc; "!{word}@{place} ")?,
+        Token::Number(number) => format!(in alloc; "{number}@{offset} ")?,
+        Token::Mark(mark) => format!(in alloc; "{mark:?}@{offset} ")?,
+        Token::LeftOut(word) => format!(in alloc; "!{word}@{offset} ")?,
     };
-    text.push_str(shown.as_str())
+    text.push_str(short_form.as_str())
 }
 
 /// The tokens of a text in short.
-fn shown(alloc: Global, text: &str) -> Result<String, AllocError> {
+fn short_form(alloc: Global, text: &str) -> Result<String, AllocError> {
     let mut short = String::new(alloc);
     match tokens(alloc, text) {
         Ok(found) => {
-            for placed in &found {
-                put(placed, &mut short, alloc)?;
+            for located in &found {
+                put(located, &mut short, alloc)?;
             }
             Ok(short)
         }
-        Err(CutFault::BadCharacter(place)) => format!(in alloc; "11@{place}"),
-        Err(CutFault::NumberTooLarge(place)) => format!(in alloc; "13@{place}"),
+        Err(CutFault::BadCharacter(offset)) => format!(in alloc; "11@{offset}"),
+        Err(CutFault::NumberTooLarge(offset)) => format!(in alloc; "13@{offset}"),
         Err(CutFault::Memory) => Err(AllocError),
     }
 }
@@ -172,18 +174,18 @@ fn shown(alloc: Global, text: &str) -> Result<String, AllocError> {
 #[test]
 fn texts_are_cut(rt: HostRuntime) -> Result<(), Fail> {
     for (text, wanted) in ROWS.iter() {
-        let short = shown(rt.alloc(), text)?;
+        let short = short_form(rt.alloc(), text)?;
         assert_eq!(rt; short.as_str(), *wanted, "{text}");
     }
     Ok(())
 }
 
 /// The marks of a text, one behind the other.
-fn marks_written(alloc: Global, text: &str) -> Result<String, AllocError> {
+fn write_marks(alloc: Global, text: &str) -> Result<String, AllocError> {
     let mut written = String::new(alloc);
     if let Ok(found) = tokens(alloc, text) {
-        for placed in &found {
-            if let Token::Mark(mark) = &placed.token {
+        for located in &found {
+            if let Token::Mark(mark) = &located.token {
                 push_mark(&mut written, Gap::Joined, *mark)?;
             }
         }
@@ -194,7 +196,7 @@ fn marks_written(alloc: Global, text: &str) -> Result<String, AllocError> {
 #[test]
 fn marks_are_written_as_they_are_cut(rt: HostRuntime) -> Result<(), Fail> {
     for (text, _) in ROWS[..71].iter() {
-        let written = marks_written(rt.alloc(), text)?;
+        let written = write_marks(rt.alloc(), text)?;
         assert_eq!(rt; written.as_str(), *text);
     }
     Ok(())
@@ -233,7 +235,7 @@ fn tokens_that_touch_are_cut_apart(rt: HostRuntime) -> Result<(), Fail> {
         text.as_str(),
         "q[0] := f(-12, ~(x.y_1));\n  fi\n9223372036854775807"
     );
-    let short = shown(rt.alloc(), text.as_str())?;
+    let short = short_form(rt.alloc(), text.as_str())?;
     assert_eq!(rt;
         short.as_str(),
         "'q'@0 OpenSquare@1 0@2 CloseSquare@3 Assign@5 'f'@8 OpenRound@9 Minus@10 12@11 Comma@13 \

@@ -16,7 +16,7 @@ mod read;
 #[cfg(test)]
 mod refusals;
 #[cfg(test)]
-mod shown;
+mod short_form;
 #[cfg(test)]
 mod terms;
 #[cfg(test)]

@@ -1,6 +1,6 @@
 //! The limits: open brackets, heights and the length of a text.
 
-use crate::refusals::{answer, nested};
+use crate::refusals::{answer, nested_answer};
 use std::test::Fail;
 
 #[test]
@@ -8,15 +8,18 @@ fn brackets_of_terms(rt: HostRuntime) -> Result<(), Fail> {
     let alloc = rt.alloc();
     let round = ("(", "1", ")");
     let call = "automaton A transitions output a(";
-    assert_eq!(rt; nested(alloc, call, round, 127, ") system")?, (0, 0));
+    assert_eq!(rt; nested_answer(alloc, call, round, 127, ") system")?, (0, 0));
     assert_eq!(rt;
-        nested(alloc, call, round, 128, ") system")?,
+        nested_answer(alloc, call, round, 128, ") system")?,
         (14, call.len() + 127)
     );
     let effect = "automaton A transitions output a eff n := ";
-    assert_eq!(rt; nested(alloc, effect, round, 128, " system")?, (0, 0));
     assert_eq!(rt;
-        nested(alloc, effect, round, 129, " system")?,
+        nested_answer(alloc, effect, round, 128, " system")?,
+        (0, 0)
+    );
+    assert_eq!(rt;
+        nested_answer(alloc, effect, round, 129, " system")?,
         (14, effect.len() + 128)
     );
     Ok(())
@@ -27,15 +30,21 @@ fn brackets_of_parts(rt: HostRuntime) -> Result<(), Fail> {
     let alloc = rt.alloc();
     let round = ("(", "1", ")");
     let key = "automaton A transitions output a eff n[";
-    assert_eq!(rt; nested(alloc, key, round, 127, "] := 1 system")?, (0, 0));
     assert_eq!(rt;
-        nested(alloc, key, round, 128, "] := 1 system")?,
+        nested_answer(alloc, key, round, 127, "] := 1 system")?,
+        (0, 0)
+    );
+    assert_eq!(rt;
+        nested_answer(alloc, key, round, 128, "] := 1 system")?,
         (14, key.len() + 127)
     );
     let constant = "automaton A signature output a(const ";
-    assert_eq!(rt; nested(alloc, constant, round, 127, ") system")?, (0, 0));
     assert_eq!(rt;
-        nested(alloc, constant, round, 128, ") system")?,
+        nested_answer(alloc, constant, round, 127, ") system")?,
+        (0, 0)
+    );
+    assert_eq!(rt;
+        nested_answer(alloc, constant, round, 128, ") system")?,
         (14, constant.len() + 127)
     );
     Ok(())
@@ -46,15 +55,18 @@ fn brackets_of_sorts(rt: HostRuntime) -> Result<(), Fail> {
     let alloc = rt.alloc();
     let state = "automaton A states n: ";
     let square = ("Seq[", "Int", "]");
-    assert_eq!(rt; nested(alloc, state, square, 128, " system")?, (0, 0));
     assert_eq!(rt;
-        nested(alloc, state, square, 129, " system")?,
+        nested_answer(alloc, state, square, 128, " system")?,
+        (0, 0)
+    );
+    assert_eq!(rt;
+        nested_answer(alloc, state, square, 129, " system")?,
         (14, state.len() + 515)
     );
     let maps = ("Map[Int, ", "Int", "]");
-    assert_eq!(rt; nested(alloc, state, maps, 128, " system")?, (0, 0));
+    assert_eq!(rt; nested_answer(alloc, state, maps, 128, " system")?, (0, 0));
     assert_eq!(rt;
-        nested(alloc, state, maps, 129, " system")?,
+        nested_answer(alloc, state, maps, 129, " system")?,
         (14, state.len() + 1155)
     );
     Ok(())
@@ -65,15 +77,21 @@ fn brackets_about_sorts(rt: HostRuntime) -> Result<(), Fail> {
     let alloc = rt.alloc();
     let square = ("Seq[", "Int", "]");
     let head = "automaton A(i: ";
-    assert_eq!(rt; nested(alloc, head, square, 127, ") system")?, (0, 0));
     assert_eq!(rt;
-        nested(alloc, head, square, 128, ") system")?,
+        nested_answer(alloc, head, square, 127, ") system")?,
+        (0, 0)
+    );
+    assert_eq!(rt;
+        nested_answer(alloc, head, square, 128, ") system")?,
         (14, head.len() + 511)
     );
     let entry = "automaton A signature output a(i: ";
-    assert_eq!(rt; nested(alloc, entry, square, 127, ") system")?, (0, 0));
     assert_eq!(rt;
-        nested(alloc, entry, square, 128, ") system")?,
+        nested_answer(alloc, entry, square, 127, ") system")?,
+        (0, 0)
+    );
+    assert_eq!(rt;
+        nested_answer(alloc, entry, square, 128, ") system")?,
         (14, entry.len() + 511)
     );
     Ok(())
@@ -84,15 +102,21 @@ fn nested_statements(rt: HostRuntime) -> Result<(), Fail> {
     let alloc = rt.alloc();
     let effect = "automaton A transitions output a eff ";
     let choices = ("if x then ", "n := 1", " fi");
-    assert_eq!(rt; nested(alloc, effect, choices, 63, " system")?, (0, 0));
     assert_eq!(rt;
-        nested(alloc, effect, choices, 64, " system")?,
+        nested_answer(alloc, effect, choices, 63, " system")?,
+        (0, 0)
+    );
+    assert_eq!(rt;
+        nested_answer(alloc, effect, choices, 64, " system")?,
         (14, effect.len() + 640)
     );
     let others = ("if x then n := 1 else ", "n := 1", " fi");
-    assert_eq!(rt; nested(alloc, effect, others, 63, " system")?, (0, 0));
     assert_eq!(rt;
-        nested(alloc, effect, others, 64, " system")?,
+        nested_answer(alloc, effect, others, 63, " system")?,
+        (0, 0)
+    );
+    assert_eq!(rt;
+        nested_answer(alloc, effect, others, 64, " system")?,
         (14, effect.len() + 1396)
     );
     Ok(())
@@ -103,12 +127,15 @@ fn high_terms(rt: HostRuntime) -> Result<(), Fail> {
     let alloc = rt.alloc();
     let effect = "automaton A transitions output a eff ";
     let sum = ("", "n := 1", "+ 1");
-    assert_eq!(rt; nested(alloc, effect, sum, 63, " system")?, (0, 0));
-    assert_eq!(rt; nested(alloc, effect, sum, 64, " system")?.0, 14);
+    assert_eq!(rt; nested_answer(alloc, effect, sum, 63, " system")?, (0, 0));
+    assert_eq!(rt; nested_answer(alloc, effect, sum, 64, " system")?.0, 14);
     let test = ("", "if 1", "+ 1");
     let body = " then n := 1 fi system";
-    assert_eq!(rt; nested(alloc, effect, test, 62, body)?, (0, 0));
-    assert_eq!(rt; nested(alloc, effect, test, 63, body)?, (14, effect.len()));
+    assert_eq!(rt; nested_answer(alloc, effect, test, 62, body)?, (0, 0));
+    assert_eq!(rt;
+        nested_answer(alloc, effect, test, 63, body)?,
+        (14, effect.len())
+    );
     Ok(())
 }
 
@@ -118,18 +145,33 @@ fn deep_parts_that_break_off(rt: HostRuntime) -> Result<(), Fail> {
     let effect = "automaton A transitions output a eff ";
     let choices = ("if x then ", "", "");
     let inmost = effect.len() + 640;
-    assert_eq!(rt; nested(alloc, effect, choices, 64, "")?, (12, inmost));
-    assert_eq!(rt; nested(alloc, effect, choices, 64, "system")?, (12, inmost));
-    assert_eq!(rt; nested(alloc, effect, choices, 64, "choose")?, (16, inmost));
+    assert_eq!(rt;
+        nested_answer(alloc, effect, choices, 64, "")?,
+        (12, inmost)
+    );
+    assert_eq!(rt;
+        nested_answer(alloc, effect, choices, 64, "system")?,
+        (12, inmost)
+    );
+    assert_eq!(rt;
+        nested_answer(alloc, effect, choices, 64, "choose")?,
+        (16, inmost)
+    );
     let assigned = "automaton A transitions output a eff n := ";
     let minus = ("-", "", "");
     let operand = assigned.len() + 192;
     assert_eq!(rt;
-        nested(alloc, assigned, minus, 192, "1 system")?,
+        nested_answer(alloc, assigned, minus, 192, "1 system")?,
         (14, operand)
     );
-    assert_eq!(rt; nested(alloc, assigned, minus, 192, "")?, (12, operand));
-    assert_eq!(rt; nested(alloc, assigned, minus, 192, "~ x")?, (12, operand));
+    assert_eq!(rt;
+        nested_answer(alloc, assigned, minus, 192, "")?,
+        (12, operand)
+    );
+    assert_eq!(rt;
+        nested_answer(alloc, assigned, minus, 192, "~ x")?,
+        (12, operand)
+    );
     Ok(())
 }
 
@@ -139,8 +181,11 @@ fn high_keys(rt: HostRuntime) -> Result<(), Fail> {
     let effect = "automaton A transitions output a eff ";
     let inner = ("", "if x then m[1", "+ 1");
     let body = "] := 1 fi system";
-    assert_eq!(rt; nested(alloc, effect, inner, 62, body)?, (0, 0));
-    assert_eq!(rt; nested(alloc, effect, inner, 63, body)?, (14, effect.len()));
+    assert_eq!(rt; nested_answer(alloc, effect, inner, 62, body)?, (0, 0));
+    assert_eq!(rt;
+        nested_answer(alloc, effect, inner, 63, body)?,
+        (14, effect.len())
+    );
     Ok(())
 }
 

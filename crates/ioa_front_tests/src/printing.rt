@@ -179,7 +179,7 @@ static TERMS: [(&str, &str); 36] = [
 ];
 
 /// A text that is read and printed, or why it is refused.
-fn printed(alloc: Global, text: &str) -> Result<String, AllocError> {
+fn read_and_print(alloc: Global, text: &str) -> Result<String, AllocError> {
     match parse(alloc, text) {
         Ok(source) => print(alloc, &source),
         Err(fault) => format!(in alloc; "{fault}"),
@@ -188,7 +188,7 @@ fn printed(alloc: Global, text: &str) -> Result<String, AllocError> {
 
 #[test]
 fn a_text_is_laid_out_in_lines(rt: HostRuntime) -> Result<(), Fail> {
-    let again = printed(rt.alloc(), WHOLE)?;
+    let again = read_and_print(rt.alloc(), WHOLE)?;
     assert_eq!(rt; again.as_str(), WHOLE);
     Ok(())
 }
@@ -196,9 +196,9 @@ fn a_text_is_laid_out_in_lines(rt: HostRuntime) -> Result<(), Fail> {
 #[test]
 fn texts_are_printed(rt: HostRuntime) -> Result<(), Fail> {
     for (text, wanted) in TEXTS.iter() {
-        let first = printed(rt.alloc(), text)?;
+        let first = read_and_print(rt.alloc(), text)?;
         assert_eq!(rt; first.as_str(), *wanted, "{text}");
-        let again = printed(rt.alloc(), first.as_str())?;
+        let again = read_and_print(rt.alloc(), first.as_str())?;
         assert_eq!(rt; again.as_str(), *wanted, "{text}");
     }
     Ok(())
@@ -209,9 +209,9 @@ fn terms_are_printed(rt: HostRuntime) -> Result<(), Fail> {
     for (term, wanted) in TERMS.iter() {
         let text = format!(in rt.alloc(); "system node 0: A({term})")?;
         let laid_out = format!(in rt.alloc(); "system\n  node 0: A({wanted})\n")?;
-        let first = printed(rt.alloc(), text.as_str())?;
+        let first = read_and_print(rt.alloc(), text.as_str())?;
         assert_eq!(rt; first.as_str(), laid_out.as_str(), "{term}");
-        let again = printed(rt.alloc(), first.as_str())?;
+        let again = read_and_print(rt.alloc(), first.as_str())?;
         assert_eq!(rt; again.as_str(), laid_out.as_str(), "{term}");
     }
     Ok(())

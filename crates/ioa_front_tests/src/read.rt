@@ -1,7 +1,7 @@
 //! What texts are read as.
 
+use crate::short_form::short_form;
 use ioa_front::parse;
-use crate::shown::shown;
 use std::alloc::{AllocError, Global};
 use std::test::Fail;
 
@@ -164,7 +164,7 @@ channel 0 1
 /// A text's tree in short, or its refusal.
 fn answer(alloc: Global, text: &str) -> Result<String, AllocError> {
     match parse(alloc, text) {
-        Ok(source) => shown(alloc, source.text()),
+        Ok(source) => short_form(alloc, source.text()),
         Err(fault) => crate::refusals::short(alloc, &fault),
     }
 }
@@ -192,17 +192,14 @@ fn each_beginning(rt: HostRuntime) -> Result<(), Fail> {
     let alloc = rt.alloc();
     let mut text = String::new(alloc);
     for letter in LIST.chars() {
-        let (number, place) = crate::refusals::answer(alloc, text.as_str());
+        let (number, offset) = crate::refusals::answer(alloc, text.as_str());
         assert!(rt;
             number == 0 || number == 10 || number == 12,
-            "{number} at {place} in {text}"
+            "{number} at {offset} in {text}"
         );
-        assert!(rt; place <= text.len(), "{number} at {place} in {text}");
+        assert!(rt; offset <= text.len(), "{number} at {offset} in {text}");
         text.push(letter)?;
     }
-    assert_eq!(rt;
-        crate::refusals::answer(alloc, text.as_str()),
-        (0, 0)
-    );
+    assert_eq!(rt; crate::refusals::answer(alloc, text.as_str()), (0, 0));
     Ok(())
 }

@@ -86,21 +86,21 @@ static OTHERS: [(&str, u32, usize); 13] = [
 
 /// A refusal in short.
 pub(crate) fn short(alloc: Global, fault: &FrontFault) -> Result<String, AllocError> {
-    let (number, place) = numbered(fault);
-    format!(in alloc; "{number}@{place}")
+    let (number, offset) = number_and_offset(fault);
+    format!(in alloc; "{number}@{offset}")
 }
 
 /// The number and the place of a refusal.
-fn numbered(fault: &FrontFault) -> (u32, usize) {
+fn number_and_offset(fault: &FrontFault) -> (u32, usize) {
     match fault {
         FrontFault::Memory => (3, 0),
         FrontFault::Empty => (10, 0),
-        FrontFault::BadCharacter(place) => (11, *place),
-        FrontFault::Unexpected(place) => (12, *place),
-        FrontFault::NumberTooLarge(place) => (13, *place),
-        FrontFault::TooDeep(place) => (14, *place),
+        FrontFault::BadCharacter(offset) => (11, *offset),
+        FrontFault::Unexpected(offset) => (12, *offset),
+        FrontFault::NumberTooLarge(offset) => (13, *offset),
+        FrontFault::TooDeep(offset) => (14, *offset),
         FrontFault::TooLong => (15, 1_048_576),
-        FrontFault::LeftOut(_, place) => (16, *place),
+        FrontFault::LeftOut(_, offset) => (16, *offset),
     }
 }
 
@@ -108,19 +108,23 @@ fn numbered(fault: &FrontFault) -> (u32, usize) {
 pub(crate) fn answer(alloc: Global, text: &str) -> (u32, usize) {
     match parse(alloc, text) {
         Ok(_) => (0, 0),
-        Err(fault) => numbered(&fault),
+        Err(fault) => number_and_offset(&fault),
     }
 }
 
 /// What a text in two parts answers.
-pub(crate) fn joined(alloc: Global, before: &str, after: &str) -> Result<(u32, usize), AllocError> {
+pub(crate) fn two_part_answer(
+    alloc: Global,
+    before: &str,
+    after: &str,
+) -> Result<(u32, usize), AllocError> {
     let mut text = String::from_str(alloc, before)?;
     text.push_str(after)?;
     Ok(answer(alloc, text.as_str()))
 }
 
 /// What a text answers that stands between others: `open` so many times, `inner`, and `close` as often.
-pub(crate) fn nested(
+pub(crate) fn nested_answer(
     alloc: Global,
     before: &str,
     (open, inner, close): (&str, &str, &str),
@@ -140,20 +144,20 @@ pub(crate) fn nested(
 }
 
 #[test]
-fn numbers_and_places(rt: HostRuntime) -> Result<(), Fail> {
+fn numbers_and_offsets(rt: HostRuntime) -> Result<(), Fail> {
     let alloc = rt.alloc();
-    for (text, number, place) in &OTHERS {
-        assert_eq!(rt; answer(alloc, text), (*number, *place), "in {text}");
+    for (text, number, offset) in &OTHERS {
+        assert_eq!(rt; answer(alloc, text), (*number, *offset), "in {text}");
     }
     Ok(())
 }
 
 #[test]
-fn left_out(rt: HostRuntime) -> Result<(), Fail> {
+fn left_out_words(rt: HostRuntime) -> Result<(), Fail> {
     let alloc = rt.alloc();
     for before in &BEFORE_LEFT_OUT {
         for word in &LEFT_OUT {
-            let found = joined(alloc, before, word)?;
+            let found = two_part_answer(alloc, before, word)?;
             assert_eq!(rt; found, (16, before.len()), "in {before}{word}");
         }
     }

@@ -1,9 +1,9 @@
 //! How terms group, which are refused, and where.
 
+use ioa_cursor::{Tokens, Unread, offset_of};
 use ioa_term_reader::{BRACKET_LIMIT, term};
-use ioa_cursor::{Tokens, Unread, place_of};
 use ioa_terms::{BinaryOperator, DisplayForm, Term, Tree, UnaryOperator};
-use ioa_tokens::{Placed, tokens};
+use ioa_tokens::{LocatedToken, tokens};
 use std::alloc::{AllocError, Global};
 use std::test::Fail;
 
@@ -153,21 +153,21 @@ fn sign(operator: BinaryOperator) -> &'static str {
 
 /// A term with brackets about each operator and what it stands between.
 #[cycle(showing)]
-fn shown(alloc: Global, term: &Term) -> Result<String, AllocError> {
+fn short_form(alloc: Global, term: &Term) -> Result<String, AllocError> {
     match term {
         Tree::Number(number) => format!(in alloc; "{number}"),
         Tree::Truth(truth) => format!(in alloc; "{truth}"),
         Tree::Name(name, _) => format!(in alloc; "{name}"),
         Tree::One(operator, part) => {
-            let part = shown(alloc, part)?;
+            let part = short_form(alloc, part)?;
             match operator {
                 UnaryOperator::Not => format!(in alloc; "(~ {part})"),
                 UnaryOperator::Negative => format!(in alloc; "(- {part})"),
             }
         }
         Tree::Two(operator, left, right) => {
-            let left = shown(alloc, left)?;
-            let right = shown(alloc, right)?;
+            let left = short_form(alloc, left)?;
+            let right = short_form(alloc, right)?;
             match operator {
                 BinaryOperator::At => format!(in alloc; "({left}[{right}])"),
                 _ => {
@@ -177,18 +177,18 @@ fn shown(alloc: Global, term: &Term) -> Result<String, AllocError> {
             }
         }
         Tree::Call(name, parts) => {
-            let parts = all_shown(alloc, parts)?;
+            let parts = all_short_forms(alloc, parts)?;
             format!(in alloc; "{name}({parts})")
         }
         Tree::Display(form, _, parts) => {
-            let parts = all_shown(alloc, parts)?;
+            let parts = all_short_forms(alloc, parts)?;
             match form {
                 DisplayForm::Braces => format!(in alloc; "{{{parts}}}"),
                 DisplayForm::Brackets => format!(in alloc; "[{parts}]"),
             }
         }
         Tree::Field(part, name, _) => {
-            let part = shown(alloc, part)?;
+            let part = short_form(alloc, part)?;
             format!(in alloc; "({part}.{name})")
         }
     }
@@ -196,13 +196,13 @@ fn shown(alloc: Global, term: &Term) -> Result<String, AllocError> {
 
 /// Terms with commas between.
 #[cycle(showing)]
-fn all_shown(alloc: Global, terms: &Vec<Term>) -> Result<String, AllocError> {
+fn all_short_forms(alloc: Global, terms: &Vec<Term>) -> Result<String, AllocError> {
     let mut list = String::new(alloc);
-    for place in 0..terms.len() {
-        if place > 0 {
+    for position in 0..terms.len() {
+        if position > 0 {
             list.push_str(", ")?;
         }
-        let text = shown(alloc, &terms[place])?;
+        let text = short_form(alloc, &terms[position])?;
         list.push_str(text.as_str())?;
     }
     Ok(list)
@@ -212,7 +212,7 @@ fn all_shown(alloc: Global, terms: &Vec<Term>) -> Result<String, AllocError> {
 fn refusal(
     alloc: Global,
     unread: Unread,
-    placed: &[Placed<'_>],
+    located: &[LocatedToken<'_>],
     end: usize,
 ) -> Result<String, AllocError> {
     let (number, left) = match unread {
@@ -221,35 +221,35 @@ fn refusal(
         Unread::LeftOut(_, left) => (16, left),
         Unread::Memory => return Err(AllocError),
     };
-    let place = place_of(placed, left, end);
-    format!(in alloc; "{number}@{place}")
+    let offset = offset_of(located, left, end);
+    format!(in alloc; "{number}@{offset}")
 }
 
 /// What a text is read as.
 fn answer(alloc: Global, text: &str) -> Result<String, AllocError> {
-    let placed = match tokens(alloc, text) {
-        Ok(placed) => placed,
+    let located = match tokens(alloc, text) {
+        Ok(located) => located,
         Err(_) => return String::from_str(alloc, "not cut"),
     };
-    let mut rest = Tokens::new(placed.as_slice());
+    let mut rest = Tokens::new(located.as_slice());
     match term(alloc, &mut rest, BRACKET_LIMIT) {
         Ok(built) => {
             if rest.len() > 0 {
-                return refusal(alloc, rest.refused(), &placed, text.len());
+                return refusal(alloc, rest.refusal(), &located, text.len());
             }
-            shown(alloc, built.tree())
+            short_form(alloc, built.tree())
         }
-        Err(unread) => refusal(alloc, unread, &placed, text.len()),
+        Err(unread) => refusal(alloc, unread, &located, text.len()),
     }
 }
 
 /// How high the term is that a text spells; 0 where it is refused.
 fn height(alloc: Global, text: &str) -> usize {
-    let placed = match tokens(alloc, text) {
-        Ok(placed) => placed,
+    let located = match tokens(alloc, text) {
+        Ok(located) => located,
         Err(_) => return 0,
     };
-    let mut rest = Tokens::new(placed.as_slice());
+    let mut rest = Tokens::new(located.as_slice());
     match term(alloc, &mut rest, BRACKET_LIMIT) {
         Ok(built) => built.height(),
         Err(_) => 0,
@@ -257,7 +257,7 @@ fn height(alloc: Global, text: &str) -> usize {
 }
 
 /// A text so many times.
-fn repeated(alloc: Global, text: &str, times: usize) -> Result<String, AllocError> {
+fn repeat(alloc: Global, text: &str, times: usize) -> Result<String, AllocError> {
     let mut whole = String::new(alloc);
     for _ in 0..times {
         whole.push_str(text)?;
@@ -273,8 +273,8 @@ fn around(
     after: &str,
     times: usize,
 ) -> Result<String, AllocError> {
-    let before = repeated(alloc, before, times)?;
-    let after = repeated(alloc, after, times)?;
+    let before = repeat(alloc, before, times)?;
+    let after = repeat(alloc, after, times)?;
     format!(in alloc; "{before}{inner}{after}")
 }
 
@@ -302,8 +302,8 @@ fn wanted_pair(
     if level < other || side == Side::Right {
         return format!(in alloc; "(a {left} (b {right} c))");
     }
-    let place = left.len().min(3) + 5;
-    format!(in alloc; "12@{place}")
+    let offset = left.len().min(3) + 5;
+    format!(in alloc; "12@{offset}")
 }
 
 #[test]

@@ -1,6 +1,6 @@
 //! Which texts are refused 12, and where.
 
-use crate::refusals::joined;
+use crate::refusals::two_part_answer;
 use std::test::Fail;
 
 /// A text in two parts: it is refused 12, at the first byte of the second part.
@@ -323,7 +323,7 @@ const SCRIPT_AFTER: &str = "script 0: go(4), go(5), go(6)
 fn declarations(rt: HostRuntime) -> Result<(), Fail> {
     let alloc = rt.alloc();
     for (before, rest) in &REFUSED {
-        let found = joined(alloc, before, rest)?;
+        let found = two_part_answer(alloc, before, rest)?;
         assert_eq!(rt; found, (12, before.len()), "in {before}{rest}");
     }
     Ok(())
@@ -333,7 +333,7 @@ fn declarations(rt: HostRuntime) -> Result<(), Fail> {
 fn bodies(rt: HostRuntime) -> Result<(), Fail> {
     let alloc = rt.alloc();
     for (before, rest) in &REFUSED_BODIES {
-        let found = joined(alloc, before, rest)?;
+        let found = two_part_answer(alloc, before, rest)?;
         assert_eq!(rt; found, (12, before.len()), "in {before}{rest}");
     }
     Ok(())
@@ -342,11 +342,11 @@ fn bodies(rt: HostRuntime) -> Result<(), Fail> {
 #[test]
 fn whole_texts(rt: HostRuntime) -> Result<(), Fail> {
     let alloc = rt.alloc();
-    let relay = joined(alloc, RELAY_BEFORE, RELAY_AFTER)?;
+    let relay = two_part_answer(alloc, RELAY_BEFORE, RELAY_AFTER)?;
     assert_eq!(rt; relay, (12, RELAY_BEFORE.len()));
-    let tick = joined(alloc, TICK_BEFORE, TICK_AFTER)?;
+    let tick = two_part_answer(alloc, TICK_BEFORE, TICK_AFTER)?;
     assert_eq!(rt; tick, (12, TICK_BEFORE.len()));
-    let script = joined(alloc, SCRIPT_BEFORE, SCRIPT_AFTER)?;
+    let script = two_part_answer(alloc, SCRIPT_BEFORE, SCRIPT_AFTER)?;
     assert_eq!(rt; script, (12, SCRIPT_BEFORE.len()));
     Ok(())
 }

@@ -10,9 +10,9 @@ use Rattle.ioa_values.proofs.Ascending.{by_each, all_with, all_without, with_mem
 use Rattle.ioa_values.specs.Data.{Data, Items, Entries, number, truth, constant, tuple, sequence, finite_set, finite_map, no_items, item, no_entries, entry, list_of, pairs_of, items_of, entries_of, as_number, as_truth, is_within}
 use Rattle.ioa_values.specs.DataOrder.{data_cmp}
 use Rattle.ioa_values.specs.Collections.{IsAscending, keys_of, with_member, without_member, set_of, union, value_at, with_entry, without_key}
-use Rattle.ioa_operators.specs.Operators.{sequence_of, finite_set_of, finite_map_of, as_sequence, as_set, as_map, on_numbers, on_truths, on_division, divided, unary_value, binary_value, has_member, first, rest, count, size_value, is_there, call_one, call_two, call_three, call_value, same_truth}
-use Rattle.ioa_operators.specs.Shapes.{PlainShape, tuples, sequences, sets, maps, display_value, field_value, with_field, field_place, have_shapes}
-use Rattle.ioa_operators.specs.Judged.{AnswersOrLacks, kept}
+use Rattle.ioa_operators.specs.Operators.{sequence_of, finite_set_of, finite_map_of, as_sequence, as_set, as_map, on_numbers, on_truths, on_division, division_value, unary_value, binary_value, has_member, first, rest, count, size_value, is_there, call_one, call_two, call_three, call_value, same_truth}
+use Rattle.ioa_operators.specs.Shapes.{PlainShape, tuples, sequences, sets, maps, display_value, field_value, with_field, field_position, have_shapes}
+use Rattle.ioa_operators.specs.RangeCheck.{AnswersOrLacks, checked_result}
 use Rattle.ioa_operators.specs.declared.fault.TermFault.{TermFault}
 use Rattle.ioa_operators.specs.declared.fault.TermFault.TheVariants.{Range}
 use Rattle.ioa_operators.specs.declared.operator.UnaryOperator.{UnaryOperator}
@@ -116,35 +116,35 @@ made_map : (es : List (Data × Data)) → IsAscending (keys_of es) → AllEntrie
 made_map es a h = (rw (pairs_of_entries es) a, entries_all es h)
 
 -- what is made of what is there, if anything is
-pub mapped : {A B : Type 0} (P : A → Type 0) (Q : B → Type 0) (f : A → B) (o : Option A) → IfSome o P → ((a : A) → P a → Q (f a)) → IfSome (option_map f o) Q
-mapped P Q f None h g = tt
-mapped P Q f (Some a) h g = g a h
+pub map_holds : {A B : Type 0} (P : A → Type 0) (Q : B → Type 0) (f : A → B) (o : Option A) → IfSome o P → ((a : A) → P a → Q (f a)) → IfSome (option_map f o) Q
+map_holds P Q f None h g = tt
+map_holds P Q f (Some a) h g = g a h
 
-pub chained : {A B : Type 0} (P : A → Type 0) (Q : B → Type 0) (f : A → Option B) (o : Option A) → IfSome o P → ((a : A) → P a → IfSome (f a) Q) → IfSome (option_and_then f o) Q
-chained P Q f None h g = tt
-chained P Q f (Some a) h g = g a h
+pub and_then_holds : {A B : Type 0} (P : A → Type 0) (Q : B → Type 0) (f : A → Option B) (o : Option A) → IfSome o P → ((a : A) → P a → IfSome (f a) Q) → IfSome (option_and_then f o) Q
+and_then_holds P Q f None h g = tt
+and_then_holds P Q f (Some a) h g = g a h
 
 -- the same of anything that is there
-pub mapped_any : {A B : Type 0} (Q : B → Type 0) (f : A → B) (o : Option A) → ((a : A) → Q (f a)) → IfSome (option_map f o) Q
-mapped_any Q f None g = tt
-mapped_any Q f (Some a) g = g a
+pub map_holds_any : {A B : Type 0} (Q : B → Type 0) (f : A → B) (o : Option A) → ((a : A) → Q (f a)) → IfSome (option_map f o) Q
+map_holds_any Q f None g = tt
+map_holds_any Q f (Some a) g = g a
 
-pub chained_any : {A B : Type 0} (Q : B → Type 0) (f : A → Option B) (o : Option A) → ((a : A) → IfSome (f a) Q) → IfSome (option_and_then f o) Q
-chained_any Q f None g = tt
-chained_any Q f (Some a) g = g a
+pub and_then_holds_any : {A B : Type 0} (Q : B → Type 0) (f : A → Option B) (o : Option A) → ((a : A) → IfSome (f a) Q) → IfSome (option_and_then f o) Q
+and_then_holds_any Q f None g = tt
+and_then_holds_any Q f (Some a) g = g a
 
 of_numbers : (f : ℤ → ℤ → Data) (x y : Data) → ((m n : ℤ) → IsCanonical (f m n)) → IfSome (on_numbers f x y) IsCanonical
-of_numbers f x y g = chained_any IsCanonical (λ m. option_map (f m) (as_number y)) (as_number x) (λ m. mapped_any IsCanonical (f m) (as_number y) (g m))
+of_numbers f x y g = and_then_holds_any IsCanonical (λ m. option_map (f m) (as_number y)) (as_number x) (λ m. map_holds_any IsCanonical (f m) (as_number y) (g m))
 
 of_truths : (f : Bool → Bool → Bool) (x y : Data) → IfSome (on_truths f x y) IsCanonical
-of_truths f x y = chained_any IsCanonical (λ a. option_map (λ b. truth (f a b)) (as_truth y)) (as_truth x) (λ a. mapped_any IsCanonical (λ b. truth (f a b)) (as_truth y) (λ b. tt))
+of_truths f x y = and_then_holds_any IsCanonical (λ a. option_map (λ b. truth (f a b)) (as_truth y)) (as_truth x) (λ a. map_holds_any IsCanonical (λ b. truth (f a b)) (as_truth y) (λ b. tt))
 
 of_test : (b : Bool) (d : Data) → IsCanonical d → IfSome (if b then Some d else None) IsCanonical
 of_test true d h = h
 of_test false d h = tt
 
 of_division : (f : ℤ → ℤ → ℤ) (x y : Data) → IfSome (on_division f x y) IsCanonical
-of_division f x y = chained_any IsCanonical (λ m. option_and_then (divided f m) (as_number y)) (as_number x) (λ m. chained_any IsCanonical (divided f m) (as_number y) (λ n. of_test (int_le (pos 1) n) (number (f m n)) tt))
+of_division f x y = and_then_holds_any IsCanonical (λ m. option_and_then (division_value f m) (as_number y)) (as_number x) (λ m. and_then_holds_any IsCanonical (division_value f m) (as_number y) (λ n. of_test (int_le (pos 1) n) (number (f m n)) tt))
 
 has_member_canonical : (d x : Data) → IfSome (has_member d x) IsCanonical
 has_member_canonical d (number z) = tt
@@ -157,8 +157,8 @@ has_member_canonical d (finite_map es) = tt
 
 -- an operator before a value
 pub unary_canonical : (op : UnaryOperator) (x : Data) → IfSome (unary_value op x) IsCanonical
-unary_canonical one.Not x = mapped_any IsCanonical (λ b. truth (not b)) (as_truth x) (λ b. tt)
-unary_canonical one.Negative x = mapped_any IsCanonical (λ m. number (neg_ℤ m)) (as_number x) (λ m. tt)
+unary_canonical one.Not x = map_holds_any IsCanonical (λ b. truth (not b)) (as_truth x) (λ b. tt)
+unary_canonical one.Negative x = map_holds_any IsCanonical (λ m. number (neg_ℤ m)) (as_number x) (λ m. tt)
 
 -- an operator between values
 pub binary_canonical : (op : BinaryOperator) (x y : Data) → IsCanonical x → IsCanonical y → IfSome (binary_value op x y) IsCanonical
@@ -173,15 +173,15 @@ binary_canonical two.AtMost x y h k = of_numbers (λ m n. truth (int_le m n)) x 
 binary_canonical two.Greater x y h k = of_numbers (λ m n. truth (int_lt n m)) x y (λ m n. tt)
 binary_canonical two.AtLeast x y h k = of_numbers (λ m n. truth (int_le n m)) x y (λ m n. tt)
 binary_canonical two.Member x y h k = has_member_canonical x y
-binary_canonical two.Prepend x y h k = mapped AllCanonical IsCanonical (λ ds. sequence_of (x ∷ ds)) (as_sequence y) (sequence_items y k) (λ ds p. items_all (x ∷ ds) (h, p))
-binary_canonical two.Append x y h k = mapped AllCanonical IsCanonical (λ ds. sequence_of (ds ++ y ∷ [])) (as_sequence x) (sequence_items x h) (λ ds p. items_all (ds ++ y ∷ []) (all_appended IsCanonical ds (y ∷ []) p (k, tt)))
+binary_canonical two.Prepend x y h k = map_holds AllCanonical IsCanonical (λ ds. sequence_of (x ∷ ds)) (as_sequence y) (sequence_items y k) (λ ds p. items_all (x ∷ ds) (h, p))
+binary_canonical two.Append x y h k = map_holds AllCanonical IsCanonical (λ ds. sequence_of (ds ++ y ∷ [])) (as_sequence x) (sequence_items x h) (λ ds p. items_all (ds ++ y ∷ []) (all_appended IsCanonical ds (y ∷ []) p (k, tt)))
 binary_canonical two.Concatenate x y h k =
-    chained AllCanonical IsCanonical (λ ds. option_map (λ es. sequence_of (ds ++ es)) (as_sequence y)) (as_sequence x) (sequence_items x h)
-    (λ ds p. mapped AllCanonical IsCanonical (λ es. sequence_of (ds ++ es)) (as_sequence y) (sequence_items y k) (λ es q. items_all (ds ++ es) (all_appended IsCanonical ds es p q)))
+    and_then_holds AllCanonical IsCanonical (λ ds. option_map (λ es. sequence_of (ds ++ es)) (as_sequence y)) (as_sequence x) (sequence_items x h)
+    (λ ds p. map_holds AllCanonical IsCanonical (λ es. sequence_of (ds ++ es)) (as_sequence y) (sequence_items y k) (λ es q. items_all (ds ++ es) (all_appended IsCanonical ds es p q)))
 binary_canonical two.Plus x y h k = of_numbers (λ m n. number (m +ℤ n)) x y (λ m n. tt)
 binary_canonical two.Minus x y h k = of_numbers (λ m n. number (m -ℤ n)) x y (λ m n. tt)
 binary_canonical two.Times x y h k = of_numbers (λ m n. number (m *ℤ n)) x y (λ m n. tt)
-binary_canonical two.At x y h k = chained (λ es. IsAscending (keys_of es) × AllEntriesCanonical es) IsCanonical (value_at y) (as_map x) (map_entries x h) (λ es p. value_at_canonical y es p.1)
+binary_canonical two.At x y h k = and_then_holds (λ es. IsAscending (keys_of es) × AllEntriesCanonical es) IsCanonical (value_at y) (as_map x) (map_entries x h) (λ es p. value_at_canonical y es p.1)
 
 first_canonical : (ds : List Data) → AllCanonical ds → IfSome (first ds) IsCanonical
 first_canonical [] h = tt
@@ -201,9 +201,9 @@ size_canonical (finite_set ds) = tt
 size_canonical (finite_map es) = tt
 
 of_one : (f : Function) (x : Data) → IsCanonical x → IfSome (call_one f x) IsCanonical
-of_one fun.Head x h = chained AllCanonical IsCanonical first (as_sequence x) (sequence_items x h) first_canonical
-of_one fun.Tail x h = chained AllCanonical IsCanonical rest (as_sequence x) (sequence_items x h) rest_canonical
-of_one fun.Length x h = mapped_any IsCanonical (λ (ds : List Data). count ds) (as_sequence x) (λ ds. tt)
+of_one fun.Head x h = and_then_holds AllCanonical IsCanonical first (as_sequence x) (sequence_items x h) first_canonical
+of_one fun.Tail x h = and_then_holds AllCanonical IsCanonical rest (as_sequence x) (sequence_items x h) rest_canonical
+of_one fun.Length x h = map_holds_any IsCanonical (λ (ds : List Data). count ds) (as_sequence x) (λ ds. tt)
 of_one fun.Size x h = size_canonical x
 of_one _ x h = tt
 
@@ -211,24 +211,24 @@ of_two : (f : Function) (x y : Data) → IsCanonical x → IsCanonical y → IfS
 of_two fun.Quotient x y h k = of_division int_div_euclid x y
 of_two fun.Remainder x y h k = of_division int_rem_euclid x y
 of_two fun.Insert x y h k =
-    mapped (λ ds. IsAscending ds × AllCanonical ds) IsCanonical (λ ds. finite_set_of (with_member x ds)) (as_set y) (set_members y k)
+    map_holds (λ ds. IsAscending ds × AllCanonical ds) IsCanonical (λ ds. finite_set_of (with_member x ds)) (as_set y) (set_members y k)
     (λ ds p. made_set (with_member x ds) (with_member_ascends x ds p.0) (all_with IsCanonical x ds h p.1))
 of_two fun.Delete x y h k =
-    mapped (λ ds. IsAscending ds × AllCanonical ds) IsCanonical (λ ds. finite_set_of (without_member x ds)) (as_set y) (set_members y k)
+    map_holds (λ ds. IsAscending ds × AllCanonical ds) IsCanonical (λ ds. finite_set_of (without_member x ds)) (as_set y) (set_members y k)
     (λ ds p. made_set (without_member x ds) (without_member_ascends x ds p.0) (all_without IsCanonical x ds p.1))
 of_two fun.Union x y h k =
-    chained (λ ds. IsAscending ds × AllCanonical ds) IsCanonical (λ ds. option_map (λ es. finite_set_of (union ds es)) (as_set y)) (as_set x) (set_members x h)
-    (λ ds p. mapped (λ es. IsAscending es × AllCanonical es) IsCanonical (λ es. finite_set_of (union ds es)) (as_set y) (set_members y k)
+    and_then_holds (λ ds. IsAscending ds × AllCanonical ds) IsCanonical (λ ds. option_map (λ es. finite_set_of (union ds es)) (as_set y)) (as_set x) (set_members x h)
+    (λ ds p. map_holds (λ es. IsAscending es × AllCanonical es) IsCanonical (λ es. finite_set_of (union ds es)) (as_set y) (set_members y k)
     (λ es q. made_set (union ds es) (union_ascends ds es q.0) (all_of_either IsCanonical ds es p.1 q.1)))
 of_two fun.Remove x y h k =
-    mapped (λ es. IsAscending (keys_of es) × AllEntriesCanonical es) IsCanonical (λ es. finite_map_of (without_key y es)) (as_map x) (map_entries x h)
+    map_holds (λ es. IsAscending (keys_of es) × AllEntriesCanonical es) IsCanonical (λ es. finite_map_of (without_key y es)) (as_map x) (map_entries x h)
     (λ es p. made_map (without_key y es) (without_key_ascends y es p.0) (all_without_key y es p.1))
-of_two fun.Defined x y h k = mapped_any IsCanonical (λ es. truth (is_there (value_at y es))) (as_map x) (λ es. tt)
+of_two fun.Defined x y h k = map_holds_any IsCanonical (λ es. truth (is_there (value_at y es))) (as_map x) (λ es. tt)
 of_two _ x y h k = tt
 
 of_three : (f : Function) (x y z : Data) → IsCanonical x → IsCanonical y → IsCanonical z → IfSome (call_three f x y z) IsCanonical
 of_three fun.Update x y z h k l =
-    mapped (λ es. IsAscending (keys_of es) × AllEntriesCanonical es) IsCanonical (λ es. finite_map_of (with_entry y z es)) (as_map x) (map_entries x h)
+    map_holds (λ es. IsAscending (keys_of es) × AllEntriesCanonical es) IsCanonical (λ es. finite_map_of (with_entry y z es)) (as_map x) (map_entries x h)
     (λ es p. made_map (with_entry y z es) (with_entry_ascends y z es p.0) (all_with_entry y z es k l p.1))
 of_three _ x y z h k l = tt
 
@@ -250,13 +250,13 @@ display_canonical _ _ _ h = tt
 
 -- a field, and a tuple with another one
 pub field_canonical : (s : PlainShape) (w : List ℕ) (d : Data) → IsCanonical d → IfSome (field_value s w d) IsCanonical
-field_canonical (tuples type names ss) w (tuple ds) h = chained_any IsCanonical (slice_get (list_of ds)) (field_place w names) (λ i. one_of_all IsCanonical (list_of ds) i (all_items ds h))
+field_canonical (tuples type names ss) w (tuple ds) h = and_then_holds_any IsCanonical (slice_get (list_of ds)) (field_position w names) (λ i. one_of_all IsCanonical (list_of ds) i (all_items ds h))
 field_canonical _ w _ h = tt
 
 pub with_field_canonical : (s : PlainShape) (w : List ℕ) (v d : Data) → IsCanonical v → IsCanonical d → IfSome (with_field s w v d) IsCanonical
 with_field_canonical (tuples type names ss) w v (tuple ds) h k =
-    chained_any IsCanonical (λ i. option_map (λ old. tuple (items_of (slice_set (list_of ds) i v))) (slice_get (list_of ds) i)) (field_place w names)
-    (λ i. mapped_any IsCanonical (λ (old : Data). tuple (items_of (slice_set (list_of ds) i v))) (slice_get (list_of ds) i)
+    and_then_holds_any IsCanonical (λ i. option_map (λ old. tuple (items_of (slice_set (list_of ds) i v))) (slice_get (list_of ds) i)) (field_position w names)
+    (λ i. map_holds_any IsCanonical (λ (old : Data). tuple (items_of (slice_set (list_of ds) i v))) (slice_get (list_of ds) i)
     (λ old. items_all (slice_set (list_of ds) i v) (all_replaced IsCanonical (list_of ds) i v h (all_items ds k))))
 with_field_canonical _ w v _ h k = tt
 
@@ -265,10 +265,10 @@ told_by true d v a h = let e : d ≡ v = cc in rw (← e) h
 told_by false d v a h = absurd (cc)
 
 -- what a call answers is canonical where what is meant is
-told : (o : Option Data) (v : Data) → kept o ≡ Ok v → IfSome o IsCanonical → IsCanonical v
+told : (o : Option Data) (v : Data) → checked_result o ≡ Ok v → IfSome o IsCanonical → IsCanonical v
 told None v a h = absurd (cc)
 told (Some d) v a h = told_by (is_within d) d v a h
 
-pub answered : (takes : Bool) (r : Result Data TermFault) (o : Option Data) → AnswersOrLacks takes r (kept o) → IfSome o IsCanonical → IfOk r IsCanonical
-answered takes (Err e) o a h = tt
-answered takes (Ok v) o a h = told o v a h
+pub answer_canonical : (takes : Bool) (r : Result Data TermFault) (o : Option Data) → AnswersOrLacks takes r (checked_result o) → IfSome o IsCanonical → IfOk r IsCanonical
+answer_canonical takes (Err e) o a h = tt
+answer_canonical takes (Ok v) o a h = told o v a h

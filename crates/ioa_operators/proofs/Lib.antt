@@ -3,6 +3,6 @@ pub mod ItemLists
 pub mod ShapeLists
 pub mod Canonicals
 pub mod Ascents
-pub mod Widened
+pub mod WideShapes
 pub mod Memory
-pub mod Decided
+pub mod Decisions

@@ -1,8 +1,8 @@
 -- what the contracts of this crate and of those above it cite
 pub mod Canonical
-pub mod FaultText
-pub mod Judged
+pub mod TermFaultText
+pub mod RangeCheck
 pub mod Operators
-pub mod Parts
+pub mod CallParts
 pub mod Shapes
 pub mod ShapeView

@@ -79,11 +79,11 @@ unary_value one.Not x = option_map (λ b. truth (not b)) (as_truth x)
 unary_value one.Negative x = option_map (λ m. number (neg_ℤ m)) (as_number x)
 
 -- the value that the left side of `/\`, `\/` and `=>` decides alone
-abbrev pub decided : BinaryOperator → Data → Option Data
-decided two.And (truth false) = Some (truth false)
-decided two.Or (truth true) = Some (truth true)
-decided two.Implies (truth false) = Some (truth true)
-decided _ _ = None
+abbrev pub left_decision : BinaryOperator → Data → Option Data
+left_decision two.And (truth false) = Some (truth false)
+left_decision two.Or (truth true) = Some (truth true)
+left_decision two.Implies (truth false) = Some (truth true)
+left_decision _ _ = None
 
 -- whether a value is an item of a sequence or a member of a set
 abbrev pub has_member : Data → Data → Option Data
@@ -125,11 +125,11 @@ operator_takes_memory two.At = true
 operator_takes_memory _ = false
 
 -- the quotient rounded down and the rest, of a divisor that is at least 1
-abbrev pub divided : (ℤ → ℤ → ℤ) → ℤ → ℤ → Option Data
-divided f m n = if int_le (pos 1) n then Some (number (f m n)) else None
+abbrev pub division_value : (ℤ → ℤ → ℤ) → ℤ → ℤ → Option Data
+division_value f m n = if int_le (pos 1) n then Some (number (f m n)) else None
 
 abbrev pub on_division : (ℤ → ℤ → ℤ) → Data → Data → Option Data
-on_division f x y = option_and_then (λ m. option_and_then (divided f m) (as_number y)) (as_number x)
+on_division f x y = option_and_then (λ m. option_and_then (division_value f m) (as_number y)) (as_number x)
 
 -- the first item and the rest of a sequence that is not empty
 abbrev pub first : List Data → Option Data

@@ -62,34 +62,34 @@ abbrev mutual
 
 -- a shape in which integers stand for naturals where `also` says so, in all its parts
 abbrev mutual
-  pub widened_by : Bool → PlainShape → PlainShape
-  widened_by also truths = truths
-  widened_by also integers = integers
-  widened_by also naturals = if also then integers else naturals
-  widened_by also (constants w from many) = constants w from many
-  widened_by also (tuples w names ss) = tuples w names (shapes_widened_by also ss)
-  widened_by also (sequences s) = sequences (widened_by also s)
-  widened_by also (sets s) = sets (widened_by also s)
-  widened_by also (maps k v) = maps (widened_by also k) (widened_by also v)
+  pub wide_shape_if : Bool → PlainShape → PlainShape
+  wide_shape_if also truths = truths
+  wide_shape_if also integers = integers
+  wide_shape_if also naturals = if also then integers else naturals
+  wide_shape_if also (constants w from many) = constants w from many
+  wide_shape_if also (tuples w names ss) = tuples w names (wide_shapes_if also ss)
+  wide_shape_if also (sequences s) = sequences (wide_shape_if also s)
+  wide_shape_if also (sets s) = sets (wide_shape_if also s)
+  wide_shape_if also (maps k v) = maps (wide_shape_if also k) (wide_shape_if also v)
 
-  pub shapes_widened_by : Bool → PlainShapes → PlainShapes
-  shapes_widened_by also no_shapes = no_shapes
-  shapes_widened_by also (shape s ss) = shape (widened_by also s) (shapes_widened_by also ss)
+  pub wide_shapes_if : Bool → PlainShapes → PlainShapes
+  wide_shapes_if also no_shapes = no_shapes
+  wide_shapes_if also (shape s ss) = shape (wide_shape_if also s) (wide_shapes_if also ss)
 
 -- a shape in which integers stand for naturals, in all its parts: what a value's sort is when its sign is not looked at
-abbrev pub widened : PlainShape → PlainShape
-widened s = widened_by true s
+abbrev pub wide_shape : PlainShape → PlainShape
+wide_shape s = wide_shape_if true s
 
 -- the place of a name among the names of fields
-abbrev pub field_place : List ℕ → List (List ℕ) → Option ℕ
-field_place w names = position (pointwise nat_eq w) names
+abbrev pub field_position : List ℕ → List (List ℕ) → Option ℕ
+field_position w names = position (pointwise nat_eq w) names
 
 -- the part of a tuple whose parts have these names, and the tuple with another value there
 abbrev pub part_named : List (List ℕ) → List ℕ → Data → Option Data
-part_named names w d = option_and_then (λ ds. option_and_then (slice_get ds) (field_place w names)) (as_tuple d)
+part_named names w d = option_and_then (λ ds. option_and_then (slice_get ds) (field_position w names)) (as_tuple d)
 
 abbrev pub with_part : List (List ℕ) → List ℕ → Data → Data → Option Data
-with_part names w v d = option_and_then (λ ds. option_and_then (λ i. option_map (λ old. tuple (items_of (slice_set ds i v))) (slice_get ds i)) (field_place w names)) (as_tuple d)
+with_part names w v d = option_and_then (λ ds. option_and_then (λ i. option_map (λ old. tuple (items_of (slice_set ds i v))) (slice_get ds i)) (field_position w names)) (as_tuple d)
 
 -- the field of a name, of a value of a tuple type
 abbrev pub field_value : PlainShape → List ℕ → Data → Option Data

@@ -3,11 +3,11 @@
 ghost use Rattle.std.specs.Prelude.{IfOk, false};
 ghost use Rattle.ioa_operators.specs.Canonical.{IsCanonical};
 ghost use Rattle.ioa_values.specs.Outcome.{Answers};
-ghost use Rattle.ioa_operators.specs.Judged.{AnswersOrLacks, LacksMemoryOnlyIf, kept};
+ghost use Rattle.ioa_operators.specs.RangeCheck.{AnswersOrLacks, LacksMemoryOnlyIf, checked_result};
 ghost use Rattle.ioa_operators.specs.Operators.{unary_value, binary_value, operator_takes_memory};
 
 use crate::fault::TermFault;
-use crate::lists::{appended, concatenated, membership, prepended};
+use crate::lists::{append, concatenate, membership, prepend};
 use crate::maps::at_key;
 use crate::numbers::{at_least, at_most, difference, greater, less, negative, product, sum};
 use crate::operator::{BinaryOperator, UnaryOperator};
@@ -18,15 +18,15 @@ use std::alloc::Global;
 /// The value of an operator before a value (profile). Answers 1 Undefined where the value is of a wrong
 /// sort, and 2 Range where its negative lies outside 64 bits. Takes no memory.
 pub fn unary(operator: UnaryOperator, value: &Value) -> Result<Value, TermFault>
-    ensures value { Answers TermFault.Memory (λ v. v) result (kept (unary_value operator value.now)) }
-    ensures memory { LacksMemoryOnlyIf false result (kept (unary_value operator value.now)) }
+    ensures value { Answers TermFault.Memory (λ v. v) result (checked_result (unary_value operator value.now)) }
+    ensures memory { LacksMemoryOnlyIf false result (checked_result (unary_value operator value.now)) }
     ensures canonical { IfOk result IsCanonical }
 {
     before_value(operator, value)
 }
 
 fn before_value(operator: UnaryOperator, value: &Value) -> Result<Value, TermFault>
-    ensures { AnswersOrLacks false result (kept (unary_value operator value.now)) }
+    ensures { AnswersOrLacks false result (checked_result (unary_value operator value.now)) }
 {
     match operator {
         UnaryOperator::Not => negation(value),
@@ -44,8 +44,8 @@ pub fn binary(
     left: Value,
     right: Value,
 ) -> Result<Value, TermFault>
-    ensures value { Answers TermFault.Memory (λ v. v) result (kept (binary_value operator left right)) }
-    ensures memory { LacksMemoryOnlyIf (operator_takes_memory operator) result (kept (binary_value operator left right)) }
+    ensures value { Answers TermFault.Memory (λ v. v) result (checked_result (binary_value operator left right)) }
+    ensures memory { LacksMemoryOnlyIf (operator_takes_memory operator) result (checked_result (binary_value operator left right)) }
     ensures canonical { IsCanonical left → IsCanonical right → IfOk result IsCanonical }
 {
     between_values(alloc, operator, left, right)
@@ -57,7 +57,7 @@ fn between_values(
     left: Value,
     right: Value,
 ) -> Result<Value, TermFault>
-    ensures { AnswersOrLacks (operator_takes_memory operator) result (kept (binary_value operator left right)) }
+    ensures { AnswersOrLacks (operator_takes_memory operator) result (checked_result (binary_value operator left right)) }
 {
     match operator {
         BinaryOperator::Equivalent => equivalence(&left, &right),
@@ -71,9 +71,9 @@ fn between_values(
         BinaryOperator::Greater => greater(&left, &right),
         BinaryOperator::AtLeast => at_least(&left, &right),
         BinaryOperator::Member => membership(&left, &right),
-        BinaryOperator::Prepend => prepended(left, right),
-        BinaryOperator::Append => appended(left, right),
-        BinaryOperator::Concatenate => concatenated(left, right),
+        BinaryOperator::Prepend => prepend(left, right),
+        BinaryOperator::Append => append(left, right),
+        BinaryOperator::Concatenate => concatenate(left, right),
         BinaryOperator::Plus => sum(&left, &right),
         BinaryOperator::Minus => difference(&left, &right),
         BinaryOperator::Times => product(&left, &right),

@@ -3,7 +3,7 @@
 ghost use Rattle.std.specs.Prelude.{IfOk};
 ghost use Rattle.ioa_operators.specs.Canonical.{AllCanonical, IsCanonical};
 ghost use Rattle.ioa_values.specs.Outcome.{Answers};
-ghost use Rattle.ioa_operators.specs.Judged.{AnswersOrLacks, LacksMemoryOnlyIf, kept};
+ghost use Rattle.ioa_operators.specs.RangeCheck.{AnswersOrLacks, LacksMemoryOnlyIf, checked_result};
 ghost use Rattle.ioa_operators.specs.Shapes.{display_value, display_takes_memory};
 ghost use Rattle.ioa_operators.specs.ShapeView.{shape_of};
 
@@ -25,20 +25,20 @@ pub fn display(
     shape: &Shape,
     parts: Vec<Value>,
 ) -> Result<Value, TermFault>
-    ensures value { Answers TermFault.Memory (λ v. v) result (kept (display_value form (shape_of shape.now) parts.items)) }
-    ensures memory { LacksMemoryOnlyIf (display_takes_memory form (shape_of shape.now)) result (kept (display_value form (shape_of shape.now) parts.items)) }
+    ensures value { Answers TermFault.Memory (λ v. v) result (checked_result (display_value form (shape_of shape.now) parts.items)) }
+    ensures memory { LacksMemoryOnlyIf (display_takes_memory form (shape_of shape.now)) result (checked_result (display_value form (shape_of shape.now) parts.items)) }
     ensures canonical { AllCanonical parts.items → IfOk result IsCanonical }
 {
-    displayed(alloc, form, shape, parts)
+    make_display(alloc, form, shape, parts)
 }
 
-fn displayed(
+fn make_display(
     alloc: Global,
     form: DisplayForm,
     shape: &Shape,
     parts: Vec<Value>,
 ) -> Result<Value, TermFault>
-    ensures { AnswersOrLacks (display_takes_memory form (shape_of shape.now)) result (kept (display_value form (shape_of shape.now) parts.items)) }
+    ensures { AnswersOrLacks (display_takes_memory form (shape_of shape.now)) result (checked_result (display_value form (shape_of shape.now) parts.items)) }
 {
     match form {
         DisplayForm::Braces => braces(alloc, shape, parts),
@@ -48,7 +48,7 @@ fn displayed(
 
 /// The value of `{..}`.
 fn braces(alloc: Global, shape: &Shape, parts: Vec<Value>) -> Result<Value, TermFault>
-    ensures { AnswersOrLacks (display_takes_memory DisplayForm.Braces (shape_of shape.now)) result (kept (display_value DisplayForm.Braces (shape_of shape.now) parts.items)) }
+    ensures { AnswersOrLacks (display_takes_memory DisplayForm.Braces (shape_of shape.now)) result (checked_result (display_value DisplayForm.Braces (shape_of shape.now) parts.items)) }
 {
     match shape {
         Shape::Sequences(_) => Ok(Value::sequence(parts)),
@@ -63,7 +63,7 @@ fn braces(alloc: Global, shape: &Shape, parts: Vec<Value>) -> Result<Value, Term
 
 /// The value of `[..]`: a tuple whose parts have the shapes of its fields.
 fn brackets(shape: &Shape, parts: Vec<Value>) -> Result<Value, TermFault>
-    ensures { AnswersOrLacks (display_takes_memory DisplayForm.Brackets (shape_of shape.now)) result (kept (display_value DisplayForm.Brackets (shape_of shape.now) parts.items)) }
+    ensures { AnswersOrLacks (display_takes_memory DisplayForm.Brackets (shape_of shape.now)) result (checked_result (display_value DisplayForm.Brackets (shape_of shape.now) parts.items)) }
 {
     match shape {
         Shape::Tuples(_, _, shapes) => {

@@ -17,9 +17,9 @@ pub enum TermFault {
 
 impl fmt::Display for TermFault {
     ghost use Rattle.std.specs.Prelude.{Some};
-    ghost use Rattle.ioa_operators.specs.FaultText.{fault_text};
+    ghost use Rattle.ioa_operators.specs.TermFaultText.{term_fault_text};
 
-    ghost output = { λ f. Some (fault_text f) };
+    ghost output = { λ f. Some (term_fault_text f) };
 
     fn fmt<W: fmt::Write>(&self, f: &mut fmt::Formatter<W>) -> fmt::Result {
         match self {

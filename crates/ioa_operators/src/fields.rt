@@ -3,8 +3,8 @@
 ghost use Rattle.std.specs.Prelude.{◌≡◌, IfOk, slice_set, ◌<◌, length, false};
 ghost use Rattle.ioa_operators.specs.Canonical.{IsCanonical};
 ghost use Rattle.ioa_values.specs.Outcome.{Answers};
-ghost use Rattle.ioa_operators.specs.Judged.{AnswersOrLacks, LacksMemoryOnlyIf, kept};
-ghost use Rattle.ioa_operators.specs.Shapes.{field_place, field_value, part_named, with_field, with_part};
+ghost use Rattle.ioa_operators.specs.RangeCheck.{AnswersOrLacks, LacksMemoryOnlyIf, checked_result};
+ghost use Rattle.ioa_operators.specs.Shapes.{field_position, field_value, part_named, with_field, with_part};
 ghost use Rattle.ioa_operators.specs.ShapeView.{shape_of};
 
 use crate::fault::TermFault;
@@ -18,15 +18,15 @@ use std::mem;
 /// value over; its other fields are dropped. Takes no memory. Costs time in proportion to the names of the
 /// fields and the value.
 pub fn field(shape: &Shape, name: &Word, value: Value) -> Result<Value, TermFault>
-    ensures value { Answers TermFault.Memory (λ v. v) result (kept (field_value (shape_of shape.now) name.now value)) }
-    ensures memory { LacksMemoryOnlyIf false result (kept (field_value (shape_of shape.now) name.now value)) }
+    ensures value { Answers TermFault.Memory (λ v. v) result (checked_result (field_value (shape_of shape.now) name.now value)) }
+    ensures memory { LacksMemoryOnlyIf false result (checked_result (field_value (shape_of shape.now) name.now value)) }
     ensures canonical { IsCanonical value → IfOk result IsCanonical }
 {
     field_of(shape, name, value)
 }
 
 fn field_of(shape: &Shape, name: &Word, value: Value) -> Result<Value, TermFault>
-    ensures { AnswersOrLacks false result (kept (field_value (shape_of shape.now) name.now value)) }
+    ensures { AnswersOrLacks false result (checked_result (field_value (shape_of shape.now) name.now value)) }
 {
     match shape {
         Shape::Tuples(_, names, _) => field_among(names, name, value),
@@ -44,15 +44,15 @@ pub fn replace_field(
     new: Value,
     value: Value,
 ) -> Result<Value, TermFault>
-    ensures value { Answers TermFault.Memory (λ v. v) result (kept (with_field (shape_of shape.now) name.now new value)) }
-    ensures memory { LacksMemoryOnlyIf false result (kept (with_field (shape_of shape.now) name.now new value)) }
+    ensures value { Answers TermFault.Memory (λ v. v) result (checked_result (with_field (shape_of shape.now) name.now new value)) }
+    ensures memory { LacksMemoryOnlyIf false result (checked_result (with_field (shape_of shape.now) name.now new value)) }
     ensures canonical { IsCanonical new → IsCanonical value → IfOk result IsCanonical }
 {
-    field_replaced(shape, name, new, value)
+    put_field(shape, name, new, value)
 }
 
-fn field_replaced(shape: &Shape, name: &Word, new: Value, value: Value) -> Result<Value, TermFault>
-    ensures { AnswersOrLacks false result (kept (with_field (shape_of shape.now) name.now new value)) }
+fn put_field(shape: &Shape, name: &Word, new: Value, value: Value) -> Result<Value, TermFault>
+    ensures { AnswersOrLacks false result (checked_result (with_field (shape_of shape.now) name.now new value)) }
 {
     match shape {
         Shape::Tuples(_, names, _) => replace_among(names, name, new, value),
@@ -61,11 +61,11 @@ fn field_replaced(shape: &Shape, name: &Word, new: Value, value: Value) -> Resul
 }
 
 fn field_among(names: &Vec<Word>, name: &Word, value: Value) -> Result<Value, TermFault>
-    ensures { AnswersOrLacks false result (kept (part_named names.now.items name.now value)) }
+    ensures { AnswersOrLacks false result (checked_result (part_named names.now.items name.now value)) }
 {
     let mut parts = parts_of_tuple(value)?;
-    match place_of(names, name) {
-        Some(place) if place < parts.len() => part(parts.swap_remove(place)),
+    match position_of(names, name) {
+        Some(position) if position < parts.len() => part(parts.swap_remove(position)),
         _ => Err(TermFault::Undefined),
     }
 }
@@ -76,12 +76,12 @@ fn replace_among(
     new: Value,
     value: Value,
 ) -> Result<Value, TermFault>
-    ensures { AnswersOrLacks false result (kept (with_part names.now.items name.now new value)) }
+    ensures { AnswersOrLacks false result (checked_result (with_part names.now.items name.now new value)) }
 {
     let mut parts = parts_of_tuple(value)?;
-    match place_of(names, name) {
-        Some(place) if place < parts.len() => {
-            put_at(&mut parts, place, new);
+    match position_of(names, name) {
+        Some(position) if position < parts.len() => {
+            put_at(&mut parts, position, new);
             Ok(Value::tuple(parts))
         }
         _ => Err(TermFault::Undefined),
@@ -89,16 +89,16 @@ fn replace_among(
 }
 
 /// The place of a field's name.
-fn place_of(names: &Vec<Word>, name: &Word) -> Option<usize>
-    ensures { result ≡ field_place name.now names.now.items }
+fn position_of(names: &Vec<Word>, name: &Word) -> Option<usize>
+    ensures { result ≡ field_position name.now names.now.items }
 {
     names.iter().position(|other| name == other)
 }
 
 /// Puts a value in the place of another, which is dropped.
-fn put_at(parts: &mut Vec<Value>, place: usize, new: Value)
-    requires { place < length parts.old.items }
-    ensures { parts.new.items ≡ slice_set parts.old.items place new }
+fn put_at(parts: &mut Vec<Value>, position: usize, new: Value)
+    requires { position < length parts.old.items }
+    ensures { parts.new.items ≡ slice_set parts.old.items position new }
 {
-    let _old = mem::replace(&mut parts[place], new);
+    let _old = mem::replace(&mut parts[position], new);
 }

@@ -3,16 +3,16 @@
 ghost use Rattle.std.specs.Prelude.{◌≡◌, IfOk, None, MatchOption};
 ghost use Rattle.ioa_operators.specs.Canonical.{AllCanonical, IsCanonical};
 ghost use Rattle.ioa_values.specs.Outcome.{Answers};
-ghost use Rattle.ioa_operators.specs.Judged.{AnswersOrLacks, LacksMemoryOnlyIf, kept};
-ghost use Rattle.ioa_operators.specs.Parts.{listed};
+ghost use Rattle.ioa_operators.specs.RangeCheck.{AnswersOrLacks, LacksMemoryOnlyIf, checked_result};
+ghost use Rattle.ioa_operators.specs.CallParts.{list_of_parts};
 ghost use Rattle.ioa_operators.specs.Operators.{call_one, call_two, call_three, call_value, call_takes_memory, function_named};
 
 use crate::fault::TermFault;
 use crate::lists::{head, length, size, tail};
-use crate::maps::{defined, removed, updated};
+use crate::maps::{key_membership, remove, update};
 use crate::numbers::{quotient, remainder};
 use crate::operator::Function;
-use crate::sets::{deleted, inserted, united};
+use crate::sets::{delete, insert, unite};
 use ioa_values::{Value, Word};
 use std::alloc::Global;
 
@@ -41,7 +41,7 @@ impl Function {
 
 /// The parts of a call, as many as a function may have.
 #[derive(Drop)]
-enum Parts {
+enum CallParts {
     One(Value),
     Two(Value, Value),
     Three(Value, Value, Value),
@@ -53,20 +53,20 @@ enum Parts {
 /// is left for `insert`, `union` or `update`. Takes the values over, and their memory where the result is
 /// made of it: costs time in proportion to the values.
 pub fn call(alloc: Global, function: Function, parts: Vec<Value>) -> Result<Value, TermFault>
-    ensures value { Answers TermFault.Memory (λ v. v) result (kept (call_value function parts.items)) }
-    ensures memory { LacksMemoryOnlyIf (call_takes_memory function) result (kept (call_value function parts.items)) }
+    ensures value { Answers TermFault.Memory (λ v. v) result (checked_result (call_value function parts.items)) }
+    ensures memory { LacksMemoryOnlyIf (call_takes_memory function) result (checked_result (call_value function parts.items)) }
     ensures canonical { AllCanonical parts.items → IfOk result IsCanonical }
 {
-    called(alloc, function, parts)
+    apply_function(alloc, function, parts)
 }
 
-fn called(alloc: Global, function: Function, parts: Vec<Value>) -> Result<Value, TermFault>
-    ensures { AnswersOrLacks (call_takes_memory function) result (kept (call_value function parts.items)) }
+fn apply_function(alloc: Global, function: Function, parts: Vec<Value>) -> Result<Value, TermFault>
+    ensures { AnswersOrLacks (call_takes_memory function) result (checked_result (call_value function parts.items)) }
 {
     match few(parts) {
-        Some(Parts::One(value)) => call_of_one(function, value),
-        Some(Parts::Two(left, right)) => call_of_two(alloc, function, left, right),
-        Some(Parts::Three(first, second, third)) => {
+        Some(CallParts::One(value)) => call_of_one(function, value),
+        Some(CallParts::Two(left, right)) => call_of_two(alloc, function, left, right),
+        Some(CallParts::Three(first, second, third)) => {
             call_of_three(function, first, second, third)
         }
         None => Err(TermFault::Undefined),
@@ -74,26 +74,26 @@ fn called(alloc: Global, function: Function, parts: Vec<Value>) -> Result<Value,
 }
 
 /// The parts, where there are one, two or three.
-fn few(parts: Vec<Value>) -> Option<Parts>
-    ensures { MatchOption result ((f : Function) → call_value f parts.items ≡ None) (λ p. parts.items ≡ listed p) }
+fn few(parts: Vec<Value>) -> Option<CallParts>
+    ensures { MatchOption result ((f : Function) → call_value f parts.items ≡ None) (λ p. parts.items ≡ list_of_parts p) }
 {
     let mut parts = parts.into_iter();
     let first = parts.next()?;
     let Some(second) = parts.next() else {
-        return Some(Parts::One(first));
+        return Some(CallParts::One(first));
     };
     let Some(third) = parts.next() else {
-        return Some(Parts::Two(first, second));
+        return Some(CallParts::Two(first, second));
     };
     match parts.next() {
         Some(_) => None,
-        None => Some(Parts::Three(first, second, third)),
+        None => Some(CallParts::Three(first, second, third)),
     }
 }
 
 /// The value of a function of one value.
 fn call_of_one(function: Function, value: Value) -> Result<Value, TermFault>
-    ensures { AnswersOrLacks (call_takes_memory function) result (kept (call_one function value)) }
+    ensures { AnswersOrLacks (call_takes_memory function) result (checked_result (call_one function value)) }
 {
     match function {
         Function::Head => head(value),
@@ -111,16 +111,16 @@ fn call_of_two(
     left: Value,
     right: Value,
 ) -> Result<Value, TermFault>
-    ensures { AnswersOrLacks (call_takes_memory function) result (kept (call_two function left right)) }
+    ensures { AnswersOrLacks (call_takes_memory function) result (checked_result (call_two function left right)) }
 {
     match function {
         Function::Quotient => quotient(&left, &right),
         Function::Remainder => remainder(&left, &right),
-        Function::Insert => inserted(left, right),
-        Function::Delete => deleted(&left, right),
-        Function::Union => united(alloc, left, right),
-        Function::Remove => removed(left, &right),
-        Function::Defined => defined(&left, &right),
+        Function::Insert => insert(left, right),
+        Function::Delete => delete(&left, right),
+        Function::Union => unite(alloc, left, right),
+        Function::Remove => remove(left, &right),
+        Function::Defined => key_membership(&left, &right),
         _ => Err(TermFault::Undefined),
     }
 }
@@ -132,10 +132,10 @@ fn call_of_three(
     second: Value,
     third: Value,
 ) -> Result<Value, TermFault>
-    ensures { AnswersOrLacks (call_takes_memory function) result (kept (call_three function first second third)) }
+    ensures { AnswersOrLacks (call_takes_memory function) result (checked_result (call_three function first second third)) }
 {
     match function {
-        Function::Update => updated(first, second, third),
+        Function::Update => update(first, second, third),
         _ => Err(TermFault::Undefined),
     }
 }

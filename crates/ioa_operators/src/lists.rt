@@ -1,17 +1,17 @@
 //! Operators and functions of sequences.
 
 ghost use Rattle.std.specs.Prelude.{true, false};
-ghost use Rattle.ioa_operators.specs.Judged.{AnswersOrLacks, kept};
+ghost use Rattle.ioa_operators.specs.RangeCheck.{AnswersOrLacks, checked_result};
 ghost use Rattle.ioa_operators.specs.Operators.{binary_value, call_one};
 
 use crate::fault::TermFault;
 use crate::operator::{BinaryOperator, Function};
-use crate::parts::{counted, items_of_sequence, part};
-use ioa_values::{Node, Value, collections};
+use crate::parts::{count_value, items_of_sequence, part};
+use ioa_values::{Value, ValueForm, collections};
 
 /// A value, and then the items of a sequence. Costs time in proportion to the sequence.
-pub(crate) fn prepended(item: Value, sequence: Value) -> Result<Value, TermFault>
-    ensures { AnswersOrLacks true result (kept (binary_value BinaryOperator.Prepend item sequence)) }
+pub(crate) fn prepend(item: Value, sequence: Value) -> Result<Value, TermFault>
+    ensures { AnswersOrLacks true result (checked_result (binary_value BinaryOperator.Prepend item sequence)) }
 {
     let mut items = items_of_sequence(sequence)?;
     items.insert(0, item)?;
@@ -19,8 +19,8 @@ pub(crate) fn prepended(item: Value, sequence: Value) -> Result<Value, TermFault
 }
 
 /// The items of a sequence, and then a value. The sequence's memory is taken over.
-pub(crate) fn appended(sequence: Value, item: Value) -> Result<Value, TermFault>
-    ensures { AnswersOrLacks true result (kept (binary_value BinaryOperator.Append sequence item)) }
+pub(crate) fn append(sequence: Value, item: Value) -> Result<Value, TermFault>
+    ensures { AnswersOrLacks true result (checked_result (binary_value BinaryOperator.Append sequence item)) }
 {
     let mut items = items_of_sequence(sequence)?;
     items.push(item)?;
@@ -29,8 +29,8 @@ pub(crate) fn appended(sequence: Value, item: Value) -> Result<Value, TermFault>
 
 /// The items of two sequences. Costs time in proportion to the second one, and takes over the memory
 /// of the first.
-pub(crate) fn concatenated(left: Value, right: Value) -> Result<Value, TermFault>
-    ensures { AnswersOrLacks true result (kept (binary_value BinaryOperator.Concatenate left right)) }
+pub(crate) fn concatenate(left: Value, right: Value) -> Result<Value, TermFault>
+    ensures { AnswersOrLacks true result (checked_result (binary_value BinaryOperator.Concatenate left right)) }
 {
     let mut items = items_of_sequence(left)?;
     let mut more = items_of_sequence(right)?;
@@ -41,18 +41,18 @@ pub(crate) fn concatenated(left: Value, right: Value) -> Result<Value, TermFault
 /// Whether a value is an item of a sequence or a member of a set. Costs one comparison an item.
 #[tactic(auto, using(crate::proofs::ItemLists::list_of_items))]
 pub(crate) fn membership(value: &Value, whole: &Value) -> Result<Value, TermFault>
-    ensures { AnswersOrLacks false result (kept (binary_value BinaryOperator.Member value.now whole.now)) }
+    ensures { AnswersOrLacks false result (checked_result (binary_value BinaryOperator.Member value.now whole.now)) }
 {
-    match &whole.node {
-        Node::Sequence(items) => Ok(Value::truth(collections::contains(items, value))),
-        Node::Set(members) => Ok(Value::truth(collections::contains(members, value))),
+    match &whole.form {
+        ValueForm::Sequence(items) => Ok(Value::truth(collections::contains(items, value))),
+        ValueForm::Set(members) => Ok(Value::truth(collections::contains(members, value))),
         _ => Err(TermFault::Undefined),
     }
 }
 
 /// The first item of a sequence that is not empty.
 pub(crate) fn head(sequence: Value) -> Result<Value, TermFault>
-    ensures { AnswersOrLacks false result (kept (call_one Function.Head sequence)) }
+    ensures { AnswersOrLacks false result (checked_result (call_one Function.Head sequence)) }
 {
     let items = items_of_sequence(sequence)?;
     match items.into_iter().next() {
@@ -65,7 +65,7 @@ pub(crate) fn head(sequence: Value) -> Result<Value, TermFault>
 /// whose memory is taken over.
 #[tactic(auto, using(crate::proofs::ItemLists::rest_of_some))]
 pub(crate) fn tail(sequence: Value) -> Result<Value, TermFault>
-    ensures { AnswersOrLacks false result (kept (call_one Function.Tail sequence)) }
+    ensures { AnswersOrLacks false result (checked_result (call_one Function.Tail sequence)) }
 {
     let mut items = items_of_sequence(sequence)?;
     if items.is_empty() {
@@ -77,20 +77,20 @@ pub(crate) fn tail(sequence: Value) -> Result<Value, TermFault>
 
 /// How many items a sequence has.
 pub(crate) fn length(sequence: Value) -> Result<Value, TermFault>
-    ensures { AnswersOrLacks false result (kept (call_one Function.Length sequence)) }
+    ensures { AnswersOrLacks false result (checked_result (call_one Function.Length sequence)) }
 {
     let items = items_of_sequence(sequence)?;
-    counted(items.len())
+    count_value(items.len())
 }
 
 /// How many members a set has, or how many keys a map has.
 #[tactic(auto, using(crate::proofs::ItemLists::list_of_items, crate::proofs::ItemLists::pairs_of_entries))]
 pub(crate) fn size(whole: &Value) -> Result<Value, TermFault>
-    ensures { AnswersOrLacks false result (kept (call_one Function.Size whole.now)) }
+    ensures { AnswersOrLacks false result (checked_result (call_one Function.Size whole.now)) }
 {
-    match &whole.node {
-        Node::Set(members) => counted(members.len()),
-        Node::Map(entries) => counted(entries.len()),
+    match &whole.form {
+        ValueForm::Set(members) => count_value(members.len()),
+        ValueForm::Map(entries) => count_value(entries.len()),
         _ => Err(TermFault::Undefined),
     }
 }

@@ -2,13 +2,13 @@
 
 ghost use Rattle.std.specs.Prelude.{◌≡◌, true, false};
 ghost use Rattle.ioa_values.specs.Data.{finite_map, entries_of};
-ghost use Rattle.ioa_operators.specs.Judged.{AnswersOrLacks, kept};
+ghost use Rattle.ioa_operators.specs.RangeCheck.{AnswersOrLacks, checked_result};
 ghost use Rattle.ioa_operators.specs.Operators.{binary_value, call_two, call_three};
 
 use crate::fault::TermFault;
 use crate::operator::{BinaryOperator, Function};
 use crate::parts::entries_of_map;
-use ioa_values::{Node, Value, collections};
+use ioa_values::{Value, ValueForm, collections};
 use std::alloc::Global;
 
 /// The map of these entries, whose keys ascend.
@@ -16,17 +16,17 @@ pub(crate) fn map(entries: Vec<(Value, Value)>) -> Value
     ensures { result ≡ finite_map (entries_of entries.items) }
 {
     Value {
-        node: Node::Map(entries),
+        form: ValueForm::Map(entries),
     }
 }
 
 /// A copy of the value of a map at a key. Costs time in proportion to the map's entries and to that value.
 #[tactic(auto, using(crate::proofs::ItemLists::pairs_of_entries))]
 pub(crate) fn at_key(alloc: Global, whole: &Value, key: &Value) -> Result<Value, TermFault>
-    ensures { AnswersOrLacks true result (kept (binary_value BinaryOperator.At whole.now key.now)) }
+    ensures { AnswersOrLacks true result (checked_result (binary_value BinaryOperator.At whole.now key.now)) }
 {
-    match &whole.node {
-        Node::Map(entries) => match collections::get(entries, key) {
+    match &whole.form {
+        ValueForm::Map(entries) => match collections::get(entries, key) {
             Some(value) => Ok(value.try_copy(alloc)?),
             None => Err(TermFault::Undefined),
         },
@@ -35,8 +35,8 @@ pub(crate) fn at_key(alloc: Global, whole: &Value, key: &Value) -> Result<Value,
 }
 
 /// A map in which a key has a value. Costs time in proportion to the map, whose memory is taken over.
-pub(crate) fn updated(whole: Value, key: Value, value: Value) -> Result<Value, TermFault>
-    ensures { AnswersOrLacks true result (kept (call_three Function.Update whole key value)) }
+pub(crate) fn update(whole: Value, key: Value, value: Value) -> Result<Value, TermFault>
+    ensures { AnswersOrLacks true result (checked_result (call_three Function.Update whole key value)) }
 {
     let entries = entries_of_map(whole)?;
     let entries = collections::update(entries, key, value)?;
@@ -44,8 +44,8 @@ pub(crate) fn updated(whole: Value, key: Value, value: Value) -> Result<Value, T
 }
 
 /// A map without a key. Costs time in proportion to the map, and takes no memory.
-pub(crate) fn removed(whole: Value, key: &Value) -> Result<Value, TermFault>
-    ensures { AnswersOrLacks false result (kept (call_two Function.Remove whole key.now)) }
+pub(crate) fn remove(whole: Value, key: &Value) -> Result<Value, TermFault>
+    ensures { AnswersOrLacks false result (checked_result (call_two Function.Remove whole key.now)) }
 {
     let entries = entries_of_map(whole)?;
     Ok(map(collections::remove_key(entries, key)))
@@ -53,11 +53,11 @@ pub(crate) fn removed(whole: Value, key: &Value) -> Result<Value, TermFault>
 
 /// Whether a map has a key. Costs time in proportion to the map's entries.
 #[tactic(auto, using(crate::proofs::ItemLists::pairs_of_entries))]
-pub(crate) fn defined(whole: &Value, key: &Value) -> Result<Value, TermFault>
-    ensures { AnswersOrLacks false result (kept (call_two Function.Defined whole.now key.now)) }
+pub(crate) fn key_membership(whole: &Value, key: &Value) -> Result<Value, TermFault>
+    ensures { AnswersOrLacks false result (checked_result (call_two Function.Defined whole.now key.now)) }
 {
-    match &whole.node {
-        Node::Map(entries) => Ok(Value::truth(collections::get(entries, key).is_some())),
+    match &whole.form {
+        ValueForm::Map(entries) => Ok(Value::truth(collections::get(entries, key).is_some())),
         _ => Err(TermFault::Undefined),
     }
 }

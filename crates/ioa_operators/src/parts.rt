@@ -3,11 +3,11 @@
 ghost use Rattle.std.specs.Prelude.{Some, pos, false};
 ghost use Rattle.ioa_values.specs.Data.{number, as_number, as_truth};
 ghost use Rattle.ioa_operators.specs.Operators.{as_tuple, as_sequence, as_set, as_map};
-ghost use Rattle.ioa_operators.specs.Judged.{AnswersOrLacks, kept};
-ghost use Rattle.ioa_operators.specs.Parts.{Takes};
+ghost use Rattle.ioa_operators.specs.RangeCheck.{AnswersOrLacks, checked_result};
+ghost use Rattle.ioa_operators.specs.CallParts.{Takes};
 
 use crate::fault::TermFault;
-use ioa_values::{Node, Value};
+use ioa_values::{Value, ValueForm};
 
 /// The number that a part is.
 pub(crate) fn number_of(value: &Value) -> Result<i64, TermFault>
@@ -28,8 +28,8 @@ pub(crate) fn truth_of(value: &Value) -> Result<bool, TermFault>
 pub(crate) fn items_of_sequence(value: Value) -> Result<Vec<Value>, TermFault>
     ensures { Takes (λ v. v.items) result (as_sequence value) }
 {
-    match value.node {
-        Node::Sequence(items) => Ok(items),
+    match value.form {
+        ValueForm::Sequence(items) => Ok(items),
         _ => Err(TermFault::Undefined),
     }
 }
@@ -39,8 +39,8 @@ pub(crate) fn items_of_sequence(value: Value) -> Result<Vec<Value>, TermFault>
 pub(crate) fn members_of_set(value: Value) -> Result<Vec<Value>, TermFault>
     ensures { Takes (λ v. v.items) result (as_set value) }
 {
-    match value.node {
-        Node::Set(members) => Ok(members),
+    match value.form {
+        ValueForm::Set(members) => Ok(members),
         _ => Err(TermFault::Undefined),
     }
 }
@@ -50,8 +50,8 @@ pub(crate) fn members_of_set(value: Value) -> Result<Vec<Value>, TermFault>
 pub(crate) fn entries_of_map(value: Value) -> Result<Vec<(Value, Value)>, TermFault>
     ensures { Takes (λ v. v.items) result (as_map value) }
 {
-    match value.node {
-        Node::Map(entries) => Ok(entries),
+    match value.form {
+        ValueForm::Map(entries) => Ok(entries),
         _ => Err(TermFault::Undefined),
     }
 }
@@ -61,25 +61,25 @@ pub(crate) fn entries_of_map(value: Value) -> Result<Vec<(Value, Value)>, TermFa
 pub(crate) fn parts_of_tuple(value: Value) -> Result<Vec<Value>, TermFault>
     ensures { Takes (λ v. v.items) result (as_tuple value) }
 {
-    match value.node {
-        Node::Tuple(parts) => Ok(parts),
+    match value.form {
+        ValueForm::Tuple(parts) => Ok(parts),
         _ => Err(TermFault::Undefined),
     }
 }
 
 /// A part itself as the value of the whole: a number in it is kept in 64 bits, so that it is in range.
 pub(crate) fn part(value: Value) -> Result<Value, TermFault>
-    ensures { AnswersOrLacks false result (kept (Some value)) }
+    ensures { AnswersOrLacks false result (checked_result (Some value)) }
 {
-    match value.node {
-        Node::Number(n) => Ok(Value::number(n)),
-        node => Ok(Value { node }),
+    match value.form {
+        ValueForm::Number(n) => Ok(Value::number(n)),
+        form => Ok(Value { form }),
     }
 }
 
 /// How many there are, as a value.
-pub(crate) fn counted(many: usize) -> Result<Value, TermFault>
-    ensures { AnswersOrLacks false result (kept (Some (number (pos many)))) }
+pub(crate) fn count_value(many: usize) -> Result<Value, TermFault>
+    ensures { AnswersOrLacks false result (checked_result (Some (number (pos many)))) }
 {
     match i64::try_from(many) {
         Ok(n) => Ok(Value::number(n)),

@@ -3,13 +3,13 @@
 ghost use Rattle.std.specs.Prelude.{◌≡◌, ◌↔◌, IfOk, IsTrue, Some, true, false};
 ghost use Rattle.ioa_values.specs.Collections.{IsAscending, set_of, union};
 ghost use Rattle.ioa_values.specs.Data.{finite_set, items_of};
-ghost use Rattle.ioa_operators.specs.Judged.{AnswersOrLacks, kept};
+ghost use Rattle.ioa_operators.specs.RangeCheck.{AnswersOrLacks, checked_result};
 ghost use Rattle.ioa_operators.specs.Operators.{call_two, finite_set_of};
 
 use crate::fault::TermFault;
 use crate::operator::Function;
 use crate::parts::members_of_set;
-use ioa_values::{Node, Value, collections};
+use ioa_values::{Value, ValueForm, collections};
 use std::alloc::{AllocError, Global};
 use std::cmp::Ordering;
 
@@ -18,13 +18,13 @@ fn set(members: Vec<Value>) -> Value
     ensures { result ≡ finite_set (items_of members.items) }
 {
     Value {
-        node: Node::Set(members),
+        form: ValueForm::Set(members),
     }
 }
 
 /// A set with one more member. Costs time in proportion to the set, whose memory is taken over.
-pub(crate) fn inserted(member: Value, whole: Value) -> Result<Value, TermFault>
-    ensures { AnswersOrLacks true result (kept (call_two Function.Insert member whole)) }
+pub(crate) fn insert(member: Value, whole: Value) -> Result<Value, TermFault>
+    ensures { AnswersOrLacks true result (checked_result (call_two Function.Insert member whole)) }
 {
     let members = members_of_set(whole)?;
     let members = collections::insert(members, member)?;
@@ -32,16 +32,16 @@ pub(crate) fn inserted(member: Value, whole: Value) -> Result<Value, TermFault>
 }
 
 /// A set without a member. Costs time in proportion to the set, and takes no memory.
-pub(crate) fn deleted(member: &Value, whole: Value) -> Result<Value, TermFault>
-    ensures { AnswersOrLacks false result (kept (call_two Function.Delete member.now whole)) }
+pub(crate) fn delete(member: &Value, whole: Value) -> Result<Value, TermFault>
+    ensures { AnswersOrLacks false result (checked_result (call_two Function.Delete member.now whole)) }
 {
     let members = members_of_set(whole)?;
     Ok(set(collections::remove(members, member)))
 }
 
 /// The members of either of two sets. Costs time in proportion to both, as their members ascend.
-pub(crate) fn united(alloc: Global, left: Value, right: Value) -> Result<Value, TermFault>
-    ensures { AnswersOrLacks true result (kept (call_two Function.Union left right)) }
+pub(crate) fn unite(alloc: Global, left: Value, right: Value) -> Result<Value, TermFault>
+    ensures { AnswersOrLacks true result (checked_result (call_two Function.Union left right)) }
 {
     let left = members_of_set(left)?;
     let right = members_of_set(right)?;
@@ -51,7 +51,7 @@ pub(crate) fn united(alloc: Global, left: Value, right: Value) -> Result<Value, 
 
 /// The set of values, doubles dropped. Costs what `collections::set_of` costs.
 pub(crate) fn set_of_values(alloc: Global, values: Vec<Value>) -> Result<Value, TermFault>
-    ensures { AnswersOrLacks true result (kept (Some (finite_set_of (set_of values.items)))) }
+    ensures { AnswersOrLacks true result (checked_result (Some (finite_set_of (set_of values.items)))) }
 {
     let members = collections::set_of(alloc, values)?;
     Ok(set(members))
@@ -87,8 +87,8 @@ fn insert_all(mut members: Vec<Value>, mut whole: Vec<Value>) -> Result<Vec<Valu
 fn ascends(members: &Vec<Value>) -> bool
     ensures { IsTrue result ↔ IsAscending members.now.items }
 {
-    for place in 1..members.len() {
-        match members[place - 1].cmp(&members[place]) {
+    for position in 1..members.len() {
+        match members[position - 1].cmp(&members[position]) {
             Ordering::Less => {}
             _ => return false,
         }

@@ -2,10 +2,10 @@
 
 ghost use Rattle.std.specs.Prelude.{◌≡◌, ◌+◌, [], ◌&&◌, IfOk, map, nat_le, nat_lt};
 ghost use Rattle.ioa_values.specs.Data.{items_of};
-ghost use Rattle.ioa_operators.specs.Shapes.{naturals, constants, has_shape, have_shapes, all_have, shapes_of, widened, widened_by, shapes_widened_by};
+ghost use Rattle.ioa_operators.specs.Shapes.{naturals, constants, has_shape, have_shapes, all_have, shapes_of, wide_shape, wide_shape_if, wide_shapes_if};
 ghost use Rattle.ioa_operators.specs.ShapeView.{shape_of};
 
-use ioa_values::{Node, Value, Word};
+use ioa_values::{Value, ValueForm, Word};
 use std::alloc::{AllocError, Global};
 use std::sync::Arc;
 
@@ -70,7 +70,7 @@ impl Shape {
     }
 
     /// Whether a value has the shape. Costs time in proportion to the value.
-    #[tactic(auto, using(crate::proofs::Widened::narrow))]
+    #[tactic(auto, using(crate::proofs::WideShapes::narrow))]
     pub fn admits(&self, value: &Value) -> bool
         ensures { result ≡ has_shape (shape_of self.now) value.now }
     {
@@ -80,7 +80,7 @@ impl Shape {
     /// Whether a value has the shape when no sign is looked at: a negative number passes for a natural
     /// too, wherever it stands. Costs time in proportion to the value.
     pub fn admits_negative(&self, value: &Value) -> bool
-        ensures { result ≡ has_shape (widened (shape_of self.now)) value.now }
+        ensures { result ≡ has_shape (wide_shape (shape_of self.now)) value.now }
     {
         self.fits(value, true)
     }
@@ -88,27 +88,27 @@ impl Shape {
     /// Whether a value has the shape, where a negative number passes for a natural or not.
     #[cycle(admitting)]
     fn fits(&self, value: &Value, negative: bool) -> bool
-        ensures { result ≡ has_shape (widened_by negative (shape_of self.now)) value.now }
+        ensures { result ≡ has_shape (wide_shape_if negative (shape_of self.now)) value.now }
     {
         match self {
-            Shape::Truths => matches!(&value.node, Node::Truth(_)),
-            Shape::Integers => matches!(&value.node, Node::Number(_)),
+            Shape::Truths => matches!(&value.form, ValueForm::Truth(_)),
+            Shape::Integers => matches!(&value.form, ValueForm::Number(_)),
             Shape::Naturals => is_natural(value, negative),
             Shape::Constants(_, from, many) => is_constant(value, *from, *many),
-            Shape::Tuples(_, _, shapes) => match &value.node {
-                Node::Tuple(parts) => all_fit(shapes, parts, negative),
+            Shape::Tuples(_, _, shapes) => match &value.form {
+                ValueForm::Tuple(parts) => all_fit(shapes, parts, negative),
                 _ => false,
             },
-            Shape::Sequences(items) => match &value.node {
-                Node::Sequence(values) => fits_all(items, values, negative),
+            Shape::Sequences(items) => match &value.form {
+                ValueForm::Sequence(values) => fits_all(items, values, negative),
                 _ => false,
             },
-            Shape::Sets(members) => match &value.node {
-                Node::Set(values) => fits_all(members, values, negative),
+            Shape::Sets(members) => match &value.form {
+                ValueForm::Set(values) => fits_all(members, values, negative),
                 _ => false,
             },
-            Shape::Maps(keys, values) => match &value.node {
-                Node::Map(entries) => {
+            Shape::Maps(keys, values) => match &value.form {
+                ValueForm::Map(entries) => {
                     for (key, value) in entries {
                         if !keys.fits(key, negative) || !values.fits(value, negative) {
                             return false;
@@ -124,10 +124,10 @@ impl Shape {
 
 /// Whether a value is a number, which is not negative unless that passes.
 fn is_natural(value: &Value, negative: bool) -> bool
-    ensures { result ≡ has_shape (widened_by negative naturals) value.now }
+    ensures { result ≡ has_shape (wide_shape_if negative naturals) value.now }
 {
-    match &value.node {
-        Node::Number(n) => negative || 0 <= *n,
+    match &value.form {
+        ValueForm::Number(n) => negative || 0 <= *n,
         _ => false,
     }
 }
@@ -136,20 +136,20 @@ fn is_natural(value: &Value, negative: bool) -> bool
 fn is_constant(value: &Value, from: usize, many: usize) -> bool
     ensures { result ≡ has_shape (constants [] from many) value.now }
 {
-    match &value.node {
-        Node::Constant(place) => lies_among(*place, from, many),
+    match &value.form {
+        ValueForm::Constant(index) => lies_among(*index, from, many),
         _ => false,
     }
 }
 
-fn lies_among(place: usize, from: usize, many: usize) -> bool
-    ensures { result ≡ (nat_le from place && nat_lt place (from + many)) }
+fn lies_among(index: usize, from: usize, many: usize) -> bool
+    ensures { result ≡ (nat_le from index && nat_lt index (from + many)) }
 {
-    from <= place && place - from < many
+    from <= index && index - from < many
 }
 
 /// Whether values have shapes, one by one.
-#[tactic(auto, using(crate::proofs::Widened::all_narrow))]
+#[tactic(auto, using(crate::proofs::WideShapes::all_narrow))]
 pub(crate) fn all_admit(shapes: &Vec<Shape>, values: &Vec<Value>) -> bool
     ensures { result ≡ have_shapes (shapes_of (map shape_of shapes.now.items)) (items_of values.now.items) }
 {
@@ -159,10 +159,10 @@ pub(crate) fn all_admit(shapes: &Vec<Shape>, values: &Vec<Value>) -> bool
 /// Whether values have shapes, one by one, where a negative number passes for a natural or not.
 #[cycle(admitting)]
 fn all_fit(shapes: &Vec<Shape>, values: &Vec<Value>, negative: bool) -> bool
-    ensures { result ≡ have_shapes (shapes_widened_by negative (shapes_of (map shape_of shapes.now.items))) (items_of values.now.items) }
+    ensures { result ≡ have_shapes (wide_shapes_if negative (shapes_of (map shape_of shapes.now.items))) (items_of values.now.items) }
 {
-    for place in 0..shapes.len().min(values.len()) {
-        if !shapes[place].fits(&values[place], negative) {
+    for position in 0..shapes.len().min(values.len()) {
+        if !shapes[position].fits(&values[position], negative) {
             return false;
         }
     }
@@ -172,7 +172,7 @@ fn all_fit(shapes: &Vec<Shape>, values: &Vec<Value>, negative: bool) -> bool
 /// Whether values all have a shape, where a negative number passes for a natural or not.
 #[cycle(admitting)]
 fn fits_all(shape: &Shape, values: &Vec<Value>, negative: bool) -> bool
-    ensures { result ≡ all_have (widened_by negative (shape_of shape.now)) (items_of values.now.items) }
+    ensures { result ≡ all_have (wide_shape_if negative (shape_of shape.now)) (items_of values.now.items) }
 {
     for value in values {
         if !shape.fits(value, negative) {

@@ -3,8 +3,8 @@ use Rattle.std.proofs.Common.{◌≡◌, List, [], ◌∷◌, Option, Some, None
 use Rattle.std.specs.Option.{option_map}
 use Rattle.ioa_terms.specs.PlainTerm.{number, truth, name, one, two, call, display, field, no_terms, term, variable, at_key, at_field, assign, choose, fire, no_statements, statement, no_arms, arm}
 use Rattle.ioa_source.specs.PlainText.{const, named, enumeration, tuple_of, type_named, automaton, node, channel}
-use Rattle.ioa_source.specs.Sides.{SourceTerm, SourceTerms, SourcePlace, SourceStatement, SourceStatements, SourceArms, SourceDeclared, SourceParameter, SourceEntry, SourceVariable, SourceTransition, SourceAutomaton, SourceForm, SourceType, SourceDeclaration, SourceNode, SourcePlacement, SourceText}
-use Rattle.ioa_source.specs.Erasure.{erase_term, erase_terms, erase_place, erase_statement, erase_statements, erase_arms, erase_declared, erase_parameter, erase_entry, erase_variable, erase_transition, erase_automaton, erase_form, erase_type, erase_declaration, erase_node, erase_placement, erase}
+use Rattle.ioa_source.specs.Sides.{SourceTerm, SourceTerms, SourceTarget, SourceStatement, SourceStatements, SourceArms, SourceDeclared, SourceParameter, SourceEntry, SourceVariable, SourceTransition, SourceAutomaton, SourceForm, SourceType, SourceDeclaration, SourceNode, SourcePlacement, SourceText}
+use Rattle.ioa_source.specs.Erasure.{erase_term, erase_terms, erase_target, erase_statement, erase_statements, erase_arms, erase_declared, erase_parameter, erase_entry, erase_variable, erase_transition, erase_automaton, erase_form, erase_type, erase_declaration, erase_node, erase_placement, erase}
 
 -- what changes no item changes no list, and nothing that may be there
 each : {A : Type 0} (f : A → A) → ((x : A) → f x ≡ x) → (xs : List A) → map f xs ≡ xs
@@ -30,14 +30,14 @@ mutual
   terms_erased no_terms = refl
   terms_erased (term t more) = λ i. term (term_erased t i) (terms_erased more i)
 
-place_erased : (p : SourcePlace) → erase_place p ≡ p
-place_erased (variable w x d) = refl
-place_erased (at_key w x d t) = ap (at_key w tt tt) (term_erased t)
-place_erased (at_field w x d f) = refl
+target_erased : (p : SourceTarget) → erase_target p ≡ p
+target_erased (variable w x d) = refl
+target_erased (at_key w x d t) = ap (at_key w tt tt) (term_erased t)
+target_erased (at_field w x d f) = refl
 
 mutual
   statement_erased : (s : SourceStatement) → erase_statement s ≡ s
-  statement_erased (assign p t) = λ i. assign (place_erased p i) (term_erased t i)
+  statement_erased (assign p t) = λ i. assign (target_erased p i) (term_erased t i)
   statement_erased (choose arms rest) = λ i. choose (arms_erased arms i) (statements_erased rest i)
   statement_erased (fire k w ts) = ap (fire k w) (each erase_term term_erased ts)
 

@@ -13,11 +13,11 @@ use Rattle.ioa_operators.specs.contracts.operator.BinaryOperator as binary
 use Rattle.ioa_operators.specs.contracts.shape.DisplayForm as form
 use Rattle.ioa_terms.specs.declared.tree.Kind.{Kind}
 use Rattle.ioa_terms.specs.contracts.tree.Kind as kind
-use Rattle.ioa_terms.specs.PlainTerm.{PlainTerm-set, PlainPlace-set, PlainStatement-set}
+use Rattle.ioa_terms.specs.PlainTerm.{PlainTerm-set, PlainTarget-set, PlainStatement-set}
 use Rattle.ioa_source.specs.contracts.declaration.Channel as channel
 use Rattle.ioa_source.specs.PlainSort.{PlainSort-set}
 use Rattle.ioa_source.specs.PlainText.{PlainDeclared-set, PlainParameter-set, PlainEntry-set, PlainVariable-set, PlainTransition-set, PlainAutomaton-set, PlainForm-set, PlainType-set, PlainDeclaration-set, PlainNode-set, PlainPlacement-set, PlainText-set}
-use Rattle.ioa_source.specs.Sides.{SourceTerm, SourcePlace, SourceStatement, SourceDeclared, SourceEntry, SourceVariable, SourceTransition, SourceAutomaton, SourceDeclaration, SourcePlacement, SourceText}
+use Rattle.ioa_source.specs.Sides.{SourceTerm, SourceTarget, SourceStatement, SourceDeclared, SourceEntry, SourceVariable, SourceTransition, SourceAutomaton, SourceDeclaration, SourcePlacement, SourceText}
 
 word_set : IsSet (List ℕ)
 word_set = List-set ℕ_set
@@ -48,11 +48,11 @@ kind_set = Coded-set kind.the_row.coded
 term_set : IsSet SourceTerm
 term_set = PlainTerm-set ℤ_set Bool-set word_set unit_set (Coded-set unary.the_row.coded) (Coded-set binary.the_row.coded) (Coded-set form.the_row.coded) unit_set
 
-place_set : IsSet SourcePlace
-place_set = PlainPlace-set word_set unit_set unit_set term_set
+target_set : IsSet SourceTarget
+target_set = PlainTarget-set word_set unit_set unit_set term_set
 
 statement_set : IsSet SourceStatement
-statement_set = PlainStatement-set place_set term_set (Option-set kind_set) word_set (List-set term_set)
+statement_set = PlainStatement-set target_set term_set (Option-set kind_set) word_set (List-set term_set)
 
 declared_set : IsSet SourceDeclared
 declared_set = PlainDeclared-set word_set (PlainSort-set word_set) unit_set

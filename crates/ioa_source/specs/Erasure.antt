@@ -2,9 +2,9 @@
 -- as it is spelled (profile).
 use Rattle.std.specs.Prelude.{map}
 use Rattle.std.specs.Option.{option_map}
-use Rattle.ioa_terms.specs.PlainTerm.{PlainTerm, PlainTerms, number, truth, name, one, two, call, display, field, no_terms, term, PlainPlace, variable, at_key, at_field, PlainStatement, PlainStatements, PlainArms, assign, choose, fire, no_statements, statement, no_arms, arm}
+use Rattle.ioa_terms.specs.PlainTerm.{PlainTerm, PlainTerms, number, truth, name, one, two, call, display, field, no_terms, term, PlainTarget, variable, at_key, at_field, PlainStatement, PlainStatements, PlainArms, assign, choose, fire, no_statements, statement, no_arms, arm}
 use Rattle.ioa_source.specs.PlainText.{PlainDeclared, PlainParameter, const, named, PlainEntry, PlainVariable, PlainTransition, PlainAutomaton, PlainForm, enumeration, tuple_of, PlainType, PlainDeclaration, type_named, automaton, PlainNode, PlainPlacement, node, channel, PlainText}
-use Rattle.ioa_source.specs.Sides.{SourceTerm, SourceTerms, SourcePlace, SourceStatement, SourceStatements, SourceArms, SourceDeclared, SourceParameter, SourceEntry, SourceVariable, SourceTransition, SourceAutomaton, SourceForm, SourceType, SourceDeclaration, SourceNode, SourcePlacement, SourceText}
+use Rattle.ioa_source.specs.Sides.{SourceTerm, SourceTerms, SourceTarget, SourceStatement, SourceStatements, SourceArms, SourceDeclared, SourceParameter, SourceEntry, SourceVariable, SourceTransition, SourceAutomaton, SourceForm, SourceType, SourceDeclaration, SourceNode, SourcePlacement, SourceText}
 
 abbrev mutual
   -- a term without annotations
@@ -23,14 +23,14 @@ abbrev mutual
   erase_terms no_terms = no_terms
   erase_terms (term t more) = term (erase_term t) (erase_terms more)
 
-abbrev pub erase_place : {N D : Type 0} → PlainPlace N D → SourcePlace
-erase_place (variable w x d) = variable w tt tt
-erase_place (at_key w x d t) = at_key w tt tt (erase_term t)
-erase_place (at_field w x d f) = at_field w tt tt f
+abbrev pub erase_target : {N D : Type 0} → PlainTarget N D → SourceTarget
+erase_target (variable w x d) = variable w tt tt
+erase_target (at_key w x d t) = at_key w tt tt (erase_term t)
+erase_target (at_field w x d f) = at_field w tt tt f
 
 abbrev mutual
   pub erase_statement : {N D : Type 0} → PlainStatement N D → SourceStatement
-  erase_statement (assign p t) = assign (erase_place p) (erase_term t)
+  erase_statement (assign p t) = assign (erase_target p) (erase_term t)
   erase_statement (choose arms rest) = choose (erase_arms arms) (erase_statements rest)
   erase_statement (fire k w ts) = fire k w (map erase_term ts)
 

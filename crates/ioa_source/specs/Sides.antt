@@ -3,7 +3,7 @@
 -- others.
 use Rattle.std.specs.Prelude.{ℕ}
 use Rattle.ioa_operators.specs.declared.shape.Shape.{Shape}
-use Rattle.ioa_terms.specs.PlainTerm.{PlainTerm, PlainTerms, PlainPlace, PlainStatement, PlainStatements, PlainArms}
+use Rattle.ioa_terms.specs.PlainTerm.{PlainTerm, PlainTerms, PlainTarget, PlainStatement, PlainStatements, PlainArms}
 use Rattle.ioa_source.specs.PlainText.{PlainDeclared, PlainParameter, PlainEntry, PlainVariable, PlainTransition, PlainAutomaton, PlainForm, PlainType, PlainDeclaration, PlainNode, PlainPlacement, PlainText}
 
 -- what a text spells
@@ -13,8 +13,8 @@ SourceTerm = PlainTerm (Unit {0}) (Unit {0})
 abbrev pub SourceTerms : Type 0
 SourceTerms = PlainTerms (Unit {0}) (Unit {0})
 
-abbrev pub SourcePlace : Type 0
-SourcePlace = PlainPlace (Unit {0}) (Unit {0})
+abbrev pub SourceTarget : Type 0
+SourceTarget = PlainTarget (Unit {0}) (Unit {0})
 
 abbrev pub SourceStatement : Type 0
 SourceStatement = PlainStatement (Unit {0}) (Unit {0})

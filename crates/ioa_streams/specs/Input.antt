@@ -10,12 +10,12 @@ use Rattle.ioa_streams.specs.declared.input.InputFault.TheVariants.{Read, TooLon
 abbrev pub IsFaultOf : InputFault → List ℕ → Type 0
 IsFaultOf Read bytes = ⊤
 IsFaultOf TooLong bytes = 8388608 < length bytes
-IsFaultOf (BadCharacter place) bytes = (length bytes ≤ 8388608) × (place ≡ utf8_valid_len bytes) × (place < length bytes)
+IsFaultOf (BadCharacter offset) bytes = (length bytes ≤ 8388608) × (offset ≡ utf8_valid_len bytes) × (offset < length bytes)
 IsFaultOf Memory bytes = ⊤
 
 -- a fault as text: its number, its name, and its place where it has one
 abbrev pub input_fault_text : InputFault → List ℕ
 input_fault_text Read = codes "70 Read"
 input_fault_text TooLong = codes "15 TooLong at 8388608"
-input_fault_text (BadCharacter place) = codes "11 BadCharacter at " ++ decimal place
+input_fault_text (BadCharacter offset) = codes "11 BadCharacter at " ++ decimal offset
 input_fault_text Memory = codes "3 Memory"

@@ -4,8 +4,8 @@ use Rattle.std.specs.Io.KnownBytes.{Appends}
 
 -- a piece that was not empty was refused, or nothing of it was taken
 abbrev pub is_stuck : {E : Type 0} → List ℕ → Result ℕ E → Bool
-is_stuck piece (Ok n) = nat_lt 0 (length piece) && n == 0
-is_stuck piece (Err e) = nat_lt 0 (length piece)
+is_stuck chunk (Ok n) = nat_lt 0 (length chunk) && n == 0
+is_stuck chunk (Err e) = nat_lt 0 (length chunk)
 
 -- known bytes grow by a beginning of the text, which may be all of it or nothing
 abbrev pub AppendsBeginning : Option (List ℕ) → Option (List ℕ) → List ℕ → Type 0

@@ -40,7 +40,7 @@ impl fmt::Display for InputFault {
         match self {
             InputFault::Read => write!(f, "70 Read"),
             InputFault::TooLong => write!(f, "15 TooLong at 8388608"),
-            InputFault::BadCharacter(place) => write!(f, "11 BadCharacter at {place}"),
+            InputFault::BadCharacter(offset) => write!(f, "11 BadCharacter at {offset}"),
             InputFault::Memory => write!(f, "3 Memory"),
         }
     }
@@ -69,8 +69,8 @@ pub fn read_input<R: Read>(alloc: Global, reader: &mut R) -> Result<String, Inpu
 {
     let bytes = read_bytes(alloc, reader)?;
     String::from_utf8(bytes).map_err(|fault| {
-        let place = fault.utf8_error().valid_up_to();
-        InputFault::BadCharacter(place)
+        let offset = fault.utf8_error().valid_up_to();
+        InputFault::BadCharacter(offset)
     })
 }
 

@@ -32,10 +32,10 @@ pub trait Out {
     ghost failed: { Self → Bool };
 
     /// Puts out a beginning of the piece: its first `n` bytes at `Ok(n)`, none of them at a fault.
-    fn put(&mut self, piece: &[u8]) -> Result<usize, OutFailed>
-        ensures within { IfOk result (λ n. n ≤ length piece.now) }
-        ensures bytes { WriteAppends (bytes self.old) (bytes self.new) result piece.now }
-        ensures failed { failed self.new ≡ (failed self.old || is_stuck piece.now result) };
+    fn put(&mut self, chunk: &[u8]) -> Result<usize, OutFailed>
+        ensures within { IfOk result (λ n. n ≤ length chunk.now) }
+        ensures bytes { WriteAppends (bytes self.old) (bytes self.new) result chunk.now }
+        ensures failed { failed self.new ≡ (failed self.old || is_stuck chunk.now result) };
 }
 
 /// A writer of the standard library as an [`Out`]. An interrupted write counts as a fault, and is not tried again.
@@ -77,14 +77,14 @@ impl<W: Write> Out for Over<W> {
 
     ghost failed = { λ o. o.stuck };
 
-    fn put(&mut self, piece: &[u8]) -> Result<usize, OutFailed> {
-        match self.writer.write(piece) {
+    fn put(&mut self, chunk: &[u8]) -> Result<usize, OutFailed> {
+        match self.writer.write(chunk) {
             Ok(count) => {
-                self.stuck |= count == 0 && !piece.is_empty();
+                self.stuck |= count == 0 && !chunk.is_empty();
                 Ok(count)
             }
             Err(_) => {
-                self.stuck |= !piece.is_empty();
+                self.stuck |= !chunk.is_empty();
                 Err(OutFailed)
             }
         }

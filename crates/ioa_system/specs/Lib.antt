@@ -1,4 +1,4 @@
 -- what the contracts of this crate and of those above it cite
 pub mod Parts
-pub mod Placed
+pub mod ResolvedPrograms
 pub mod Systems

@@ -4,7 +4,7 @@ ghost use Rattle.std.specs.Prelude.{◌≡◌, All, map, length};
 ghost use Rattle.ioa_terms.specs.View.{statement_of};
 ghost use Rattle.ioa_source.specs.TextView.{variable_of};
 ghost use Rattle.ioa_system.specs.Parts.{parts};
-ghost use Rattle.ioa_system.specs.Placed.{IsPlacedRule, ArePlacedFirings, variable_names};
+ghost use Rattle.ioa_system.specs.ResolvedPrograms.{IsResolvedRule, AreResolvedFirings, variable_names};
 
 use crate::scope::Scope;
 use ioa_source::{Entry, Transition, Variable};
@@ -45,9 +45,9 @@ impl Model for Program {
 
     ghost view = { λ p. parts p.node p.rules.items p.variables.items p.initial.items p.schedule.items };
 
-    ghost use Rattle.ioa_system.specs.Placed.{IsPlacedProgram};
+    ghost use Rattle.ioa_system.specs.ResolvedPrograms.{IsResolvedProgram};
 
-    ghost invariant = { λ p. IsPlacedProgram (parts p.node p.rules.items p.variables.items p.initial.items p.schedule.items) };
+    ghost invariant = { λ p. IsResolvedProgram (parts p.node p.rules.items p.variables.items p.initial.items p.schedule.items) };
 }
 
 impl Program {
@@ -59,9 +59,9 @@ impl Program {
         initial: Vec<Value>,
         schedule: Vec<Statement<usize, Shape>>,
     ) -> Self
-        requires rules { All (IsPlacedRule (map variable_of variables.items)) rules.items }
+        requires rules { All (IsResolvedRule (map variable_of variables.items)) rules.items }
         requires valued { length initial.items ≡ length variables.items }
-        requires schedule { ArePlacedFirings (map statement_of schedule.items)
+        requires schedule { AreResolvedFirings (map statement_of schedule.items)
             (variable_names (map variable_of variables.items)) }
         ensures { result ≡ parts node rules.items variables.items initial.items schedule.items }
     {
@@ -84,7 +84,7 @@ impl Program {
     /// The entries with their transitions, in the order of the signature.
     pub fn rules(&self) -> &[Rule]
         ensures value { result.now ≡ self.now.rules }
-        ensures placed { All (IsPlacedRule (map variable_of self.now.variables)) result.now }
+        ensures resolved { All (IsResolvedRule (map variable_of self.now.variables)) result.now }
     {
         self.rules.as_slice()
     }
@@ -107,7 +107,7 @@ impl Program {
     /// The statements of the schedule block.
     pub fn schedule(&self) -> &[Statement<usize, Shape>]
         ensures value { result.now ≡ self.now.schedule }
-        ensures placed { ArePlacedFirings (map statement_of result.now) (variable_names (map variable_of self.now.variables)) }
+        ensures resolved { AreResolvedFirings (map statement_of result.now) (variable_names (map variable_of self.now.variables)) }
     {
         self.schedule.as_slice()
     }

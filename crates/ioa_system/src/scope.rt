@@ -2,7 +2,7 @@
 
 ghost use Rattle.std.specs.Prelude.{◌≡◌, ◌++◌, [], ◌∷◌, IfOk, OnOk, OnErr, MatchBool, not};
 ghost use Rattle.std.specs.List.{list_any, IsDistinct};
-ghost use Rattle.ioa_terms.specs.Bindings.{place_in, same_name};
+ghost use Rattle.ioa_terms.specs.Bindings.{slot_in, same_name};
 
 use indexmap::IndexSet;
 use ioa_terms::Word;
@@ -46,9 +46,9 @@ impl Scope {
     }
 
     /// The place of a name, where it is declared.
-    #[tactic(auto, using(crate::proofs::Scopes::position_place))]
-    pub fn place_of(&self, name: &Word) -> Option<usize>
-        ensures { result ≡ place_in name.now self.now }
+    #[tactic(auto, using(crate::proofs::Scopes::position_slot))]
+    pub fn slot_of(&self, name: &Word) -> Option<usize>
+        ensures { result ≡ slot_in name.now self.now }
     {
         self.names.get_index_of(name)
     }

@@ -15,12 +15,12 @@ use Rattle.ioa_operators.specs.declared.shape.DisplayForm.TheVariants.{Braces, B
 use Rattle.ioa_terms.specs.PlainTerm as plain
 use Rattle.ioa_terms.specs.PlainTerm.{no_terms, terms_of}
 use Rattle.ioa_source.specs.Sides.{SourceTerm}
-use Rattle.ioa_cursor.specs.Reading.{bind, choose, skip, expected, word, numeral, at_number, at_word, mark_first, behind}
+use Rattle.ioa_cursor.specs.Reading.{bind, choose, skip, expect, word, numeral, at_number, at_word, mark_first, behind}
 use Rattle.ioa_cursor.proofs.Steps.{stays, read_next}
 use Rattle.ioa_cursor.proofs.Follow.{skip_same}
 use Rattle.ioa_term_reader.specs.Heights.{height, height_limit}
 use Rattle.ioa_term_reader.specs.Levels.{prefix_level, prefix_of, infix_of, right_level, atom_level}
-use Rattle.ioa_term_reader.specs.Reading.{limited, reached, after_of, level_of, left_of, accepted, terms_in, bracketed, displayed, braced, called, worded, prefixed, marked, operand, grown, climb, read}
+use Rattle.ioa_term_reader.specs.Reading.{limited_term, term_at_level, after_of, level_of, left_of, accepted_after, terms_in, bracketed_term, display_term, braced_term, call_term, word_term, prefixed_term, marked_term, operand, extended_term, climb, read}
 use Rattle.ioa_term_reader.specs.declared.after.After.{After}
 use Rattle.ioa_term_reader.specs.declared.after.After.TheVariants.{Infix, Field, Key}
 use Rattle.ioa_term_reader.proofs.Closing.{binds, binds_after, after_binds}
@@ -40,8 +40,8 @@ opened : (room : ℕ) → suc room - 1 ≡ room
 opened room = omega arith
 
 -- a tree that is not too high
-pub limited_low : (t : SourceTerm) → height t ≤ height_limit → limited t ≡ Some t
-unfolding limited
+pub limited_low : (t : SourceTerm) → height t ≤ height_limit → limited_term t ≡ Some t
+unfolding limited_term
 limited_low t h = rw (test_yes (height t) height_limit h) refl
 
 -- how a term goes on
@@ -51,8 +51,8 @@ after_infix mark.Dot op e = absurd cc
 after_infix mark.OpenSquare op e = absurd cc
 after_infix m op e = ap (option_map Infix) e
 
-pub accepted_next : (least most : ℕ) (m : Mark) (a : After) (xs : List Token) → after_of m ≡ Some a → least ≤ level_of a → left_of a ≤ most → accepted least most (token.Mark m ∷ xs) ≡ Some a
-unfolding accepted bind mark_first choose
+pub accepted_next : (least most : ℕ) (m : Mark) (a : After) (xs : List Token) → after_of m ≡ Some a → least ≤ level_of a → left_of a ≤ most → accepted_after least most (token.Mark m ∷ xs) ≡ Some a
+unfolding accepted_after bind mark_first choose
 accepted_next least most m a xs e h k = rw e (rw (test_yes least (level_of a) h) (rw (test_yes (left_of a) most k) refl))
 
 accepted_looser : (least most : ℕ) (a : After) → level_of a < least → choose (nat_le least (level_of a) && nat_le (left_of a) most) (Some a) None ≡ None
@@ -65,8 +65,8 @@ unfolding bind
 stopped_after least most end None h ends = refl
 stopped_after least most end (Some a) h ends = accepted_looser least most a (ends a h)
 
-accepted_stops : (least most end : ℕ) (xs : List Token) → binds xs ≤ end → ((a : After) → left_of a ≤ end → level_of a < least) → accepted least most xs ≡ None
-unfolding accepted bind mark_first
+accepted_stops : (least most end : ℕ) (xs : List Token) → binds xs ≤ end → ((a : After) → left_of a ≤ end → level_of a < least) → accepted_after least most xs ≡ None
+unfolding accepted_after bind mark_first
 accepted_stops least most end (token.Mark m ∷ xs) h ends = let b = after_binds m in stopped_after least most end (after_of m) (omega arith) ends
 accepted_stops least most end (token.Word w ∷ xs) h ends = refl
 accepted_stops least most end (token.Number n ∷ xs) h ends = refl
@@ -79,8 +79,8 @@ unfolding bind
 same_after least most other None h k = refl
 same_after least most other (Some a) h k = rw (test_yes (left_of a) most h, test_yes (left_of a) other k) refl
 
-accepted_same : (least most other : ℕ) (xs : List Token) → binds xs ≤ most → binds xs ≤ other → accepted least most xs ≡ accepted least other xs
-unfolding accepted bind mark_first
+accepted_same : (least most other : ℕ) (xs : List Token) → binds xs ≤ most → binds xs ≤ other → accepted_after least most xs ≡ accepted_after least other xs
+unfolding accepted_after bind mark_first
 accepted_same least most other (token.Mark m ∷ xs) h k = let b = after_binds m in same_after least most other (after_of m) (omega arith) (omega arith)
 accepted_same least most other (token.Word w ∷ xs) h k = refl
 accepted_same least most other (token.Number n ∷ xs) h k = refl
@@ -90,8 +90,8 @@ accepted_same least most other [] h k = refl
 -- what a mark begins
 
 marked_prefix : (next : ℕ → ℕ → List Token → Option (SourceTerm × List Token)) (room least : ℕ) (m : Mark) (op : UnaryOperator) (xs : List Token) →
-    prefix_of m ≡ Some op → marked next room least m xs ≡ prefixed next room least op xs
-unfolding marked
+    prefix_of m ≡ Some op → marked_term next room least m xs ≡ prefixed_term next room least op xs
+unfolding marked_term
 marked_prefix next room least mark.Not op xs e = let same : Not ≡ op = cc in rw same refl
 marked_prefix next room least mark.Minus op xs e = let same : Negative ≡ op = cc in rw same refl
 marked_prefix next room least _ op xs e = absurd cc
@@ -109,90 +109,90 @@ module _ (next : ℕ → ℕ → List Token → Option (SourceTerm × List Token
   climb_same zero room least most other t xs h k = refl
   climb_same (suc turns) room least most other t xs h k = rw (accepted_same least most other xs h k, climb) refl
 
-  pub climb_more : (turns room least most : ℕ) (m : Mark) (a : After) (t u : SourceTerm) (xs ys : List Token) → accepted least most (token.Mark m ∷ xs) ≡ Some a →
-      grown next room t a xs ≡ read_next u ys → climb next (suc turns) room least most t (token.Mark m ∷ xs) ≡ climb next turns room least (level_of a) u ys
+  pub climb_more : (turns room least most : ℕ) (m : Mark) (a : After) (t u : SourceTerm) (xs ys : List Token) → accepted_after least most (token.Mark m ∷ xs) ≡ Some a →
+      extended_term next room t a xs ≡ read_next u ys → climb next (suc turns) room least most t (token.Mark m ∷ xs) ≡ climb next turns room least (level_of a) u ys
   unfolding climb bind behind
   climb_more turns room least most m a t u xs ys e g = rw (e, climb) (rw g refl)
 
   pub grown_infix : (room : ℕ) (op : BinaryOperator) (t u : SourceTerm) (xs ys : List Token) → next room (right_level op) xs ≡ read_next u ys →
-      height (plain.two op t u) ≤ height_limit → grown next room t (Infix op) xs ≡ read_next (plain.two op t u) ys
-  unfolding grown bind
+      height (plain.two op t u) ≤ height_limit → extended_term next room t (Infix op) xs ≡ read_next (plain.two op t u) ys
+  unfolding extended_term bind
   grown_infix room op t u xs ys e h = rw e (rw (limited_low (plain.two op t u) h) refl)
 
   pub grown_field : (room : ℕ) (t : SourceTerm) (w : List ℕ) (xs : List Token) →
-      height (plain.field t w tt) ≤ height_limit → grown next room t Field (token.Word w ∷ xs) ≡ read_next (plain.field t w tt) xs
-  unfolding grown bind word
+      height (plain.field t w tt) ≤ height_limit → extended_term next room t Field (token.Word w ∷ xs) ≡ read_next (plain.field t w tt) xs
+  unfolding extended_term bind word
   grown_field room t w xs h = rw (limited_low (plain.field t w tt) h) refl
 
   pub grown_key : (room : ℕ) (t u : SourceTerm) (xs ys : List Token) → next room 1 xs ≡ read_next u (token.Mark mark.CloseSquare ∷ ys) →
-      height (plain.two At t u) ≤ height_limit → grown next (suc room) t Key xs ≡ read_next (plain.two At t u) ys
-  unfolding grown bind choose expected skip
+      height (plain.two At t u) ≤ height_limit → extended_term next (suc room) t Key xs ≡ read_next (plain.two At t u) ys
+  unfolding extended_term bind choose expect skip
   grown_key room t u xs ys e h = rw (opens room, opened room) (rw e (rw (limited_low (plain.two At t u) h) refl))
 
-  pub operand_number : (room least : ℕ) (n : ℤ) (xs : List Token) → operand next room least (token.Number n ∷ xs) ≡ reached atom_level (plain.number n) xs
+  pub operand_number : (room least : ℕ) (n : ℤ) (xs : List Token) → operand next room least (token.Number n ∷ xs) ≡ term_at_level atom_level (plain.number n) xs
   unfolding operand at_number numeral choose bind
   operand_number room least n xs = refl
 
-  operand_mark : (room least : ℕ) (m : Mark) (xs : List Token) → operand next room least (token.Mark m ∷ xs) ≡ marked next room least m xs
+  operand_mark : (room least : ℕ) (m : Mark) (xs : List Token) → operand next room least (token.Mark m ∷ xs) ≡ marked_term next room least m xs
   unfolding operand at_number at_word mark_first behind choose bind
   operand_mark room least m xs = refl
 
-  pub operand_truth : (room least : ℕ) (xs : List Token) → operand next room least (token.Mark mark.True ∷ xs) ≡ reached atom_level (plain.truth true) xs
-  unfolding marked
+  pub operand_truth : (room least : ℕ) (xs : List Token) → operand next room least (token.Mark mark.True ∷ xs) ≡ term_at_level atom_level (plain.truth true) xs
+  unfolding marked_term
   operand_truth room least xs = operand_mark room least mark.True xs
 
-  pub operand_falsity : (room least : ℕ) (xs : List Token) → operand next room least (token.Mark mark.False ∷ xs) ≡ reached atom_level (plain.truth false) xs
-  unfolding marked
+  pub operand_falsity : (room least : ℕ) (xs : List Token) → operand next room least (token.Mark mark.False ∷ xs) ≡ term_at_level atom_level (plain.truth false) xs
+  unfolding marked_term
   operand_falsity room least xs = operand_mark room least mark.False xs
 
   pub operand_prefix : (room least : ℕ) (m : Mark) (op : UnaryOperator) (t : SourceTerm) (xs ys : List Token) → prefix_of m ≡ Some op → least ≤ prefix_level op →
       next room (prefix_level op) xs ≡ read_next t ys → height (plain.one op t) ≤ height_limit →
-      operand next room least (token.Mark m ∷ xs) ≡ reached (prefix_level op) (plain.one op t) ys
-  unfolding prefixed choose bind
+      operand next room least (token.Mark m ∷ xs) ≡ term_at_level (prefix_level op) (plain.one op t) ys
+  unfolding prefixed_term choose bind
   operand_prefix room least m op t xs ys is l e h =
       rw (operand_mark room least m xs, marked_prefix next room least m op xs is, test_yes least (prefix_level op) l) (rw e (rw (limited_low (plain.one op t) h) refl))
 
-  pub operand_word : (room least : ℕ) (w : List ℕ) (xs : List Token) → skip mark.OpenRound xs ≡ stays false xs → operand next room least (token.Word w ∷ xs) ≡ reached atom_level (plain.name w tt) xs
-  unfolding operand at_number at_word word worded choose bind
+  pub operand_word : (room least : ℕ) (w : List ℕ) (xs : List Token) → skip mark.OpenRound xs ≡ stays false xs → operand next room least (token.Word w ∷ xs) ≡ term_at_level atom_level (plain.name w tt) xs
+  unfolding operand at_number at_word word word_term choose bind
   operand_word room least w xs e = rw e refl
 
   pub operand_call : (room least : ℕ) (w : List ℕ) (ts : List SourceTerm) (t : SourceTerm) (xs ys : List Token) →
-      terms_in next room xs ≡ read_next ts (token.Mark mark.CloseRound ∷ ys) → limited (plain.call w (terms_of ts)) ≡ Some t →
-      operand next (suc room) least (token.Word w ∷ token.Mark mark.OpenRound ∷ xs) ≡ reached atom_level t ys
-  unfolding operand at_number at_word word worded called skip expected choose bind
+      terms_in next room xs ≡ read_next ts (token.Mark mark.CloseRound ∷ ys) → limited_term (plain.call w (terms_of ts)) ≡ Some t →
+      operand next (suc room) least (token.Word w ∷ token.Mark mark.OpenRound ∷ xs) ≡ term_at_level atom_level t ys
+  unfolding operand at_number at_word word word_term call_term skip expect choose bind
   operand_call room least w ts t xs ys e h = rw (opens room, opened room) (rw e (rw h refl))
 
   pub operand_brackets : (room least : ℕ) (t : SourceTerm) (xs ys : List Token) → next room 1 xs ≡ read_next t (token.Mark mark.CloseRound ∷ ys) →
-      operand next (suc room) least (token.Mark mark.OpenRound ∷ xs) ≡ reached atom_level t ys
-  unfolding marked bracketed skip expected choose bind
+      operand next (suc room) least (token.Mark mark.OpenRound ∷ xs) ≡ term_at_level atom_level t ys
+  unfolding marked_term bracketed_term skip expect choose bind
   operand_brackets room least t xs ys e = rw (operand_mark (suc room) least mark.OpenRound xs, opens room, opened room) (rw e refl)
 
   pub operand_empty : (room least : ℕ) (xs : List Token) →
-      operand next (suc room) least (token.Mark mark.OpenBrace ∷ token.Mark mark.CloseBrace ∷ xs) ≡ reached atom_level (plain.display Braces tt no_terms) xs
-  unfolding marked braced skip choose
+      operand next (suc room) least (token.Mark mark.OpenBrace ∷ token.Mark mark.CloseBrace ∷ xs) ≡ term_at_level atom_level (plain.display Braces tt no_terms) xs
+  unfolding marked_term braced_term skip choose
   operand_empty room least xs = rw (operand_mark (suc room) least mark.OpenBrace (token.Mark mark.CloseBrace ∷ xs), opens room) refl
 
   displayed_read : (room : ℕ) (form : DisplayForm) (close : Mark) (ts : List SourceTerm) (t : SourceTerm) (xs ys : List Token) →
-      terms_in next room xs ≡ read_next ts (token.Mark close ∷ ys) → skip close (token.Mark close ∷ ys) ≡ stays true ys → limited (plain.display form tt (terms_of ts)) ≡ Some t →
-      displayed next form close (suc room) xs ≡ reached atom_level t ys
-  unfolding displayed expected choose bind
+      terms_in next room xs ≡ read_next ts (token.Mark close ∷ ys) → skip close (token.Mark close ∷ ys) ≡ stays true ys → limited_term (plain.display form tt (terms_of ts)) ≡ Some t →
+      display_term next form close (suc room) xs ≡ term_at_level atom_level t ys
+  unfolding display_term expect choose bind
   displayed_read room form close ts t xs ys e s h = rw (opens room, opened room) (rw e (rw s (rw h refl)))
 
   pub operand_fields : (room least : ℕ) (ts : List SourceTerm) (t : SourceTerm) (xs ys : List Token) →
-      terms_in next room xs ≡ read_next ts (token.Mark mark.CloseSquare ∷ ys) → limited (plain.display Brackets tt (terms_of ts)) ≡ Some t →
-      operand next (suc room) least (token.Mark mark.OpenSquare ∷ xs) ≡ reached atom_level t ys
-  unfolding marked skip
+      terms_in next room xs ≡ read_next ts (token.Mark mark.CloseSquare ∷ ys) → limited_term (plain.display Brackets tt (terms_of ts)) ≡ Some t →
+      operand next (suc room) least (token.Mark mark.OpenSquare ∷ xs) ≡ term_at_level atom_level t ys
+  unfolding marked_term skip
   operand_fields room least ts t xs ys e h = operand_mark (suc room) least mark.OpenSquare xs ∙ displayed_read room Brackets mark.CloseSquare ts t xs ys e refl h
 
   pub operand_braces : (room least : ℕ) (ts : List SourceTerm) (t : SourceTerm) (xs ys : List Token) → skip mark.CloseBrace xs ≡ stays false xs →
-      terms_in next room xs ≡ read_next ts (token.Mark mark.CloseBrace ∷ ys) → limited (plain.display Braces tt (terms_of ts)) ≡ Some t →
-      operand next (suc room) least (token.Mark mark.OpenBrace ∷ xs) ≡ reached atom_level t ys
-  unfolding marked braced choose
+      terms_in next room xs ≡ read_next ts (token.Mark mark.CloseBrace ∷ ys) → limited_term (plain.display Braces tt (terms_of ts)) ≡ Some t →
+      operand next (suc room) least (token.Mark mark.OpenBrace ∷ xs) ≡ term_at_level atom_level t ys
+  unfolding marked_term braced_term choose
   operand_braces room least ts t xs ys s e h =
       rw (operand_mark (suc room) least mark.OpenBrace xs, opens room, s) (displayed_read room Braces mark.CloseBrace ts t xs ys e (skip_same mark.CloseBrace ys) h)
 
 -- a term is read as its operand is, and then goes on
-pub read_operand : (depth room least most : ℕ) (t : SourceTerm) (xs ys : List Token) → operand (read depth) room least xs ≡ reached most t ys →
+pub read_operand : (depth room least most : ℕ) (t : SourceTerm) (xs ys : List Token) → operand (read depth) room least xs ≡ term_at_level most t ys →
     read (suc depth) room least xs ≡ climb (read depth) height_limit room least most t ys
 unfolding read bind
 read_operand depth room least most t xs ys e = rw e refl

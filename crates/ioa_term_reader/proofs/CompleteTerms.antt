@@ -11,14 +11,14 @@ use Rattle.ioa_operators.specs.declared.shape.DisplayForm.TheVariants.{Braces, B
 use Rattle.ioa_terms.specs.PlainTerm as plain
 use Rattle.ioa_terms.specs.PlainTerm.{no_terms, terms_of}
 use Rattle.ioa_source.specs.Sides.{SourceTerm, SourceTerms}
-use Rattle.ioa_cursor.specs.Reading.{bind, choose, same_mark, skip, collected}
+use Rattle.ioa_cursor.specs.Reading.{bind, choose, same_mark, skip, collect}
 use Rattle.ioa_cursor.proofs.Steps.{stays, read_next}
 use Rattle.ioa_cursor.proofs.Follow.{skip_same}
 use Rattle.ioa_term_reader.specs.Heights.{height, heights, height_limit}
 use Rattle.ioa_term_reader.specs.Levels.{prefix_level, level, left_level, right_level, postfix_level, atom_level}
 use Rattle.ioa_term_reader.specs.Grammar as grammar
 use Rattle.ioa_term_reader.specs.Grammar.{SpellsAt, SpellsTerms, SpellsTerm, bracket_limit}
-use Rattle.ioa_term_reader.specs.Reading.{limited, reached, after_of, level_of, left_of, terms_in, operand, grown, climb, read, term, depth_limit}
+use Rattle.ioa_term_reader.specs.Reading.{limited_term, term_at_level, after_of, level_of, left_of, terms_in, operand, extended_term, climb, read, term, depth_limit}
 use Rattle.ioa_term_reader.specs.declared.after.After.{After}
 use Rattle.ioa_term_reader.specs.declared.after.After.TheVariants.{Infix, Field, Key}
 use Rattle.ioa_term_reader.proofs.Closing.{binds, mark_binds, binds_infix, Closes, left_level_above, right_level_above, ends_right, ends_prefix, ends_whole}
@@ -43,7 +43,7 @@ height_positive (plain.display form shape ts) = omega arith
 height_positive (plain.field t w shape) = omega arith
 
 -- an operand was read, and no turn is taken yet
-from_operand : (depth room least most : ℕ) (t : SourceTerm) (xs ys : List Token) → operand (read depth) room least xs ≡ reached most t ys → Reached depth room least most t xs ys
+from_operand : (depth room least most : ℕ) (t : SourceTerm) (xs ys : List Token) → operand (read depth) room least xs ≡ term_at_level most t ys → Reached depth room least most t xs ys
 from_operand depth room least most t xs ys e =
     let p = height_positive t in
     record { turns = height_limit; enough = omega arith; is = read_operand depth room least most t xs ys e }
@@ -55,7 +55,7 @@ loosened depth room least most other t xs ys h k r =
     record { turns = r.turns; enough = r.enough; is = r.is ∙ climb_same (read depth) r.turns room least most other t ys h k }
 
 more_turns : (depth room turns least most : ℕ) (m : Mark) (a : After) (t u : SourceTerm) (xs ys zs : List Token) → after_of m ≡ Some a → least ≤ level_of a → left_of a ≤ most →
-    grown (read depth) room t a ys ≡ read_next u zs → height t < height u → height u ≤ height_limit → height_limit < turns + height t →
+    extended_term (read depth) room t a ys ≡ read_next u zs → height t < height u → height u ≤ height_limit → height_limit < turns + height t →
     read (suc depth) room least xs ≡ climb (read depth) turns room least most t (token.Mark m ∷ ys) → Reached depth room least (level_of a) u xs zs
 more_turns depth room zero least most m a t u xs ys zs is h k g low high enough e = absurd (omega arith)
 more_turns depth room (suc turns) least most m a t u xs ys zs is h k g low high enough e =
@@ -63,7 +63,7 @@ more_turns depth room (suc turns) least most m a t u xs ys zs is h k g low high 
 
 -- a term goes on by one turn
 onward : (depth room least most : ℕ) (m : Mark) (a : After) (t u : SourceTerm) (xs ys zs : List Token) → after_of m ≡ Some a → least ≤ level_of a → left_of a ≤ most →
-    grown (read depth) room t a ys ≡ read_next u zs → height t < height u → height u ≤ height_limit → Reached depth room least most t xs (token.Mark m ∷ ys) → Reached depth room least (level_of a) u xs zs
+    extended_term (read depth) room t a ys ≡ read_next u zs → height t < height u → height u ≤ height_limit → Reached depth room least most t xs (token.Mark m ∷ ys) → Reached depth room least (level_of a) u xs zs
 onward depth room least most m a t u xs ys zs is h k g low high r = more_turns depth room r.turns least most m a t u xs ys zs is h k g low high r.enough r.is
 
 -- a term is read whole where nothing goes on with it
@@ -80,19 +80,19 @@ record ReadAll (depth room : ℕ) (ts : SourceTerms) (xs ys : List Token) : Type
   middle : List Token
   less : length middle < length xs
   head : read depth room 1 xs ≡ read_next first middle
-  tail : (turns : ℕ) (done : List SourceTerm) → length middle ≤ turns → collected (skip mark.Comma) (read depth room 1) turns done middle ≡ read_next (done ++ others) ys
+  tail : (turns : ℕ) (done : List SourceTerm) → length middle ≤ turns → collect (skip mark.Comma) (read depth room 1) turns done middle ≡ read_next (done ++ others) ys
 
 collected_end : (next : List Token → Option (SourceTerm × List Token)) (turns : ℕ) (done : List SourceTerm) (ys : List Token) → skip mark.Comma ys ≡ stays false ys →
-    collected (skip mark.Comma) next turns done ys ≡ read_next (done ++ []) ys
-unfolding collected choose
+    collect (skip mark.Comma) next turns done ys ≡ read_next (done ++ []) ys
+unfolding collect choose
 collected_end next zero done ys e = rw (append-nil done) refl
 collected_end next (suc turns) done ys e = rw (append-nil done) (rw e refl)
 
 collected_more : (next : List Token → Option (SourceTerm × List Token)) (turns : ℕ) (done : List SourceTerm) (t : SourceTerm) (more : List SourceTerm) (ys zs end : List Token) →
     length (token.Mark mark.Comma ∷ ys) ≤ turns → length zs < length ys → next ys ≡ read_next t zs →
-    ((turns : ℕ) (done : List SourceTerm) → length zs ≤ turns → collected (skip mark.Comma) next turns done zs ≡ read_next (done ++ more) end) →
-    collected (skip mark.Comma) next turns done (token.Mark mark.Comma ∷ ys) ≡ read_next (done ++ (t ∷ more)) end
-unfolding collected bind choose
+    ((turns : ℕ) (done : List SourceTerm) → length zs ≤ turns → collect (skip mark.Comma) next turns done zs ≡ read_next (done ++ more) end) →
+    collect (skip mark.Comma) next turns done (token.Mark mark.Comma ∷ ys) ≡ read_next (done ++ (t ∷ more)) end
+unfolding collect bind choose
 collected_more next zero done t more ys zs end h s e k = absurd (omega arith)
 collected_more next (suc turns) done t more ys zs end h s e k =
     rw (skip_same mark.Comma ys) (rw e (k turns (done ++ t ∷ []) (omega arith) ∙ ap (λ all. read_next all end) (append_assoc done (t ∷ []) more)))
@@ -126,11 +126,11 @@ unfolding terms_in bind
 terms_read depth room ts xs ys r = rw r.head (r.tail (length r.middle) (r.first ∷ []) (omega arith))
 
 limited_call : (w : List ℕ) (ts : SourceTerms) (us : List SourceTerm) → terms_of us ≡ ts → height (plain.call w ts) ≤ height_limit →
-    limited (plain.call w (terms_of us)) ≡ Some (plain.call w ts)
+    limited_term (plain.call w (terms_of us)) ≡ Some (plain.call w ts)
 limited_call w ts us same h = rw same (limited_low (plain.call w ts) h)
 
 limited_display : (form : DisplayForm) (ts : SourceTerms) (us : List SourceTerm) → terms_of us ≡ ts → height (plain.display form tt ts) ≤ height_limit →
-    limited (plain.display form tt (terms_of us)) ≡ Some (plain.display form tt ts)
+    limited_term (plain.display form tt (terms_of us)) ≡ Some (plain.display form tt ts)
 limited_display form ts us same h = rw same (limited_low (plain.display form tt ts) h)
 
 -- what comes behind a word opens no call

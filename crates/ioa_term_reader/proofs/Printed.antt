@@ -15,7 +15,7 @@ use Rattle.ioa_term_reader.specs.Grammar as grammar
 use Rattle.ioa_term_reader.specs.Grammar.{SpellsAt, SpellsTerms, SpellsTerm}
 use Rattle.ioa_term_reader.specs.Heights.{height, heights, height_limit}
 use Rattle.ioa_term_reader.specs.Levels.{prefix_level, prefix_of, infix_of, level, left_level, right_level, postfix_level}
-use Rattle.ioa_term_reader.specs.Spelling.{prefix_mark, infix_mark, infix_end, is_operation, wrapped, spelling, parts_spelling, more_parts_spelling}
+use Rattle.ioa_term_reader.specs.Spelling.{prefix_mark, infix_mark, infix_end, is_operation, in_brackets_if, spelling, parts_spelling, more_parts_spelling}
 use Rattle.ioa_term_reader.proofs.Sound.{looser}
 
 -- the marks of operators, and the levels of their terms
@@ -80,7 +80,7 @@ infix_alone _ = omega arith
 
 -- a part of a term
 abbrev pub part : SourceTerm → List Token
-part t = wrapped (is_operation t) (spelling t)
+part t = in_brackets_if (is_operation t) (spelling t)
 
 -- a term is spelled as it is written, alone and as a part of another
 pub record Printed (t : SourceTerm) : Type 0 where

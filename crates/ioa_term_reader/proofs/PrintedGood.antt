@@ -9,7 +9,7 @@ use Rattle.ioa_operators.specs.declared.operator.BinaryOperator.TheVariants as o
 use Rattle.ioa_source.specs.Sides.{SourceTerm, SourceTerms}
 use Rattle.ioa_term_reader.specs.Grammar as grammar
 use Rattle.ioa_term_reader.specs.Grammar.{SpellsAt, SpellsTerms, SpellsTerm}
-use Rattle.ioa_term_reader.specs.Spelling.{infix_end, is_operation, wrapped, spelling, parts_spelling}
+use Rattle.ioa_term_reader.specs.Spelling.{infix_end, is_operation, in_brackets_if, spelling, parts_spelling}
 use Rattle.ioa_term_reader.proofs.Printed.{part, terms_printed}
 use Rattle.ioa_values.proofs.AllOf.{all_appended}
 
@@ -20,7 +20,7 @@ tokens_joined xs ys h k = all_appended IsToken xs ys h k
 abbrev pub AreGood : List Token → List Token → Type 0
 AreGood xs ys = AreTokens xs × AreTokens ys
 
-wrapped_good : (b : Bool) (xs : List Token) → AreTokens xs → AreTokens (wrapped b xs)
+wrapped_good : (b : Bool) (xs : List Token) → AreTokens xs → AreTokens (in_brackets_if b xs)
 wrapped_good true xs h = (tt, tokens_joined xs (token.Mark mark.CloseRound ∷ []) h (tt, tt))
 wrapped_good false xs h = h
 

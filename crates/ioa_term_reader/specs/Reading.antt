@@ -12,22 +12,22 @@ use Rattle.ioa_operators.specs.declared.shape.DisplayForm.TheVariants.{Braces, B
 use Rattle.ioa_terms.specs.PlainTerm as plain
 use Rattle.ioa_terms.specs.PlainTerm.{no_terms, terms_of}
 use Rattle.ioa_source.specs.Sides.{SourceTerm}
-use Rattle.ioa_cursor.specs.Reading.{◌>>=◌, choose, skip, expected, word, numeral, at_number, at_word, mark_first, behind, several_more}
+use Rattle.ioa_cursor.specs.Reading.{◌>>=◌, choose, skip, expect, word, numeral, at_number, at_word, mark_first, behind, several_more}
 use Rattle.ioa_term_reader.specs.Heights.{height, height_limit}
 use Rattle.ioa_term_reader.specs.Levels.{prefix_level, infix_of, level, left_level, right_level, postfix_level, atom_level}
 use Rattle.ioa_term_reader.specs.declared.after.After.{After}
 use Rattle.ioa_term_reader.specs.declared.after.After.TheVariants.{Infix, Field, Key}
 
 -- a tree, where it is not too high
-unfoldable pub limited : SourceTerm → Option SourceTerm
-limited t = if nat_le (height t) height_limit then Some t else None
+unfoldable pub limited_term : SourceTerm → Option SourceTerm
+limited_term t = if nat_le (height t) height_limit then Some t else None
 
 -- a term that was read, the tightest level that it stands at, and what comes after it
-abbrev pub Reached : Type 0
-Reached = (ℕ × SourceTerm) × List Token
+abbrev pub TermAtLevel : Type 0
+TermAtLevel = (ℕ × SourceTerm) × List Token
 
-abbrev pub reached : ℕ → SourceTerm → List Token → Option Reached
-reached l t ys = Some ((l, t), ys)
+abbrev pub term_at_level : ℕ → SourceTerm → List Token → Option TermAtLevel
+term_at_level l t ys = Some ((l, t), ys)
 
 -- how a term goes on behind a mark
 abbrev pub after_of : Mark → Option After
@@ -48,8 +48,8 @@ left_of Field = postfix_level
 left_of Key = postfix_level
 
 -- how a term of level `most` goes on, where no operator looser than `least` may stand
-unfoldable pub accepted : ℕ → ℕ → List Token → Option After
-accepted least most xs =
+unfoldable pub accepted_after : ℕ → ℕ → List Token → Option After
+accepted_after least most xs =
     mark_first xs >>= λ m. after_of m >>= λ a. choose (nat_le least (level_of a) && nat_le (left_of a) most) (Some a) None
 
 -- a term is read by what reads a part of it at a level, where so many brackets more may be opened
@@ -59,80 +59,80 @@ module _ (next : ℕ → ℕ → List Token → Option (SourceTerm × List Token
   terms_in room xs = several_more (skip mark.Comma) (next room 1) [] xs
 
   -- Term ), behind the first bracket
-  unfoldable pub bracketed : ℕ → List Token → Option Reached
-  bracketed room xs =
+  unfoldable pub bracketed_term : ℕ → List Token → Option TermAtLevel
+  bracketed_term room xs =
       choose (nat_eq room 0) None
-      (next (room - 1) 1 xs >>= λ t. expected mark.CloseRound t.1 >>= λ c. reached atom_level t.0 c.1)
+      (next (room - 1) 1 xs >>= λ t. expect mark.CloseRound t.1 >>= λ c. term_at_level atom_level t.0 c.1)
 
   -- Term {, Term} and a bracket, behind the first bracket of a display
-  unfoldable pub displayed : DisplayForm → Mark → ℕ → List Token → Option Reached
-  displayed form close room xs =
+  unfoldable pub display_term : DisplayForm → Mark → ℕ → List Token → Option TermAtLevel
+  display_term form close room xs =
       choose (nat_eq room 0) None
-      (terms_in (room - 1) xs >>= λ ts. expected close ts.1 >>= λ c. limited (plain.display form tt (terms_of ts.0)) >>= λ t. reached atom_level t c.1)
+      (terms_in (room - 1) xs >>= λ ts. expect close ts.1 >>= λ c. limited_term (plain.display form tt (terms_of ts.0)) >>= λ t. term_at_level atom_level t c.1)
 
   -- [Term {, Term}] }, behind the first bracket
-  unfoldable pub braced : ℕ → List Token → Option Reached
-  braced room xs =
+  unfoldable pub braced_term : ℕ → List Token → Option TermAtLevel
+  braced_term room xs =
       choose (nat_eq room 0) None
       (choose (skip mark.CloseBrace xs).0
-      (reached atom_level (plain.display Braces tt no_terms) (skip mark.CloseBrace xs).1)
-      (displayed Braces mark.CloseBrace room (skip mark.CloseBrace xs).1))
+      (term_at_level atom_level (plain.display Braces tt no_terms) (skip mark.CloseBrace xs).1)
+      (display_term Braces mark.CloseBrace room (skip mark.CloseBrace xs).1))
 
   -- Term {, Term} ), behind the word and the first bracket of a call
-  unfoldable pub called : ℕ → List ℕ → List Token → Option Reached
-  called room w xs =
+  unfoldable pub call_term : ℕ → List ℕ → List Token → Option TermAtLevel
+  call_term room w xs =
       choose (nat_eq room 0) None
-      (terms_in (room - 1) xs >>= λ ts. expected mark.CloseRound ts.1 >>= λ c. limited (plain.call w (terms_of ts.0)) >>= λ t. reached atom_level t c.1)
+      (terms_in (room - 1) xs >>= λ ts. expect mark.CloseRound ts.1 >>= λ c. limited_term (plain.call w (terms_of ts.0)) >>= λ t. term_at_level atom_level t c.1)
 
   -- [ ( Term {, Term} ) ], behind a word
-  unfoldable pub worded : ℕ → List ℕ → List Token → Option Reached
-  worded room w xs =
+  unfoldable pub word_term : ℕ → List ℕ → List Token → Option TermAtLevel
+  word_term room w xs =
       choose (skip mark.OpenRound xs).0
-      (called room w (skip mark.OpenRound xs).1)
-      (reached atom_level (plain.name w tt) (skip mark.OpenRound xs).1)
+      (call_term room w (skip mark.OpenRound xs).1)
+      (term_at_level atom_level (plain.name w tt) (skip mark.OpenRound xs).1)
 
   -- a term of an operator's level, behind the operator
-  unfoldable pub prefixed : ℕ → ℕ → UnaryOperator → List Token → Option Reached
-  prefixed room least op xs =
+  unfoldable pub prefixed_term : ℕ → ℕ → UnaryOperator → List Token → Option TermAtLevel
+  prefixed_term room least op xs =
       choose (nat_le least (prefix_level op))
-      (next room (prefix_level op) xs >>= λ t. limited (plain.one op t.0) >>= λ u. reached (prefix_level op) u t.1)
+      (next room (prefix_level op) xs >>= λ t. limited_term (plain.one op t.0) >>= λ u. term_at_level (prefix_level op) u t.1)
       None
 
   -- what a mark begins, behind it
-  unfoldable pub marked : ℕ → ℕ → Mark → List Token → Option Reached
-  marked room least mark.True xs = reached atom_level (plain.truth true) xs
-  marked room least mark.False xs = reached atom_level (plain.truth false) xs
-  marked room least mark.OpenRound xs = bracketed room xs
-  marked room least mark.OpenBrace xs = braced room xs
-  marked room least mark.OpenSquare xs = displayed Brackets mark.CloseSquare room xs
-  marked room least mark.Not xs = prefixed room least Not xs
-  marked room least mark.Minus xs = prefixed room least Negative xs
-  marked room least _ xs = None
+  unfoldable pub marked_term : ℕ → ℕ → Mark → List Token → Option TermAtLevel
+  marked_term room least mark.True xs = term_at_level atom_level (plain.truth true) xs
+  marked_term room least mark.False xs = term_at_level atom_level (plain.truth false) xs
+  marked_term room least mark.OpenRound xs = bracketed_term room xs
+  marked_term room least mark.OpenBrace xs = braced_term room xs
+  marked_term room least mark.OpenSquare xs = display_term Brackets mark.CloseSquare room xs
+  marked_term room least mark.Not xs = prefixed_term room least Not xs
+  marked_term room least mark.Minus xs = prefixed_term room least Negative xs
+  marked_term room least _ xs = None
 
   -- a term up to its first operator between two terms, or what stands behind it
-  unfoldable pub operand : ℕ → ℕ → List Token → Option Reached
+  unfoldable pub operand : ℕ → ℕ → List Token → Option TermAtLevel
   operand room least xs =
       choose (at_number xs)
-      (numeral xs >>= λ n. reached atom_level (plain.number n.0) n.1)
+      (numeral xs >>= λ n. term_at_level atom_level (plain.number n.0) n.1)
       (choose (at_word xs)
-      (word xs >>= λ w. worded room w.0 w.1)
-      (mark_first xs >>= λ m. marked room least m (behind xs)))
+      (word xs >>= λ w. word_term room w.0 w.1)
+      (mark_first xs >>= λ m. marked_term room least m (behind xs)))
 
   -- a term that goes on, behind the mark
-  unfoldable pub grown : ℕ → SourceTerm → After → List Token → Option (SourceTerm × List Token)
-  grown room left (Infix op) xs = next room (right_level op) xs >>= λ t. limited (plain.two op left t.0) >>= λ u. Some (u, t.1)
-  grown room left Field xs = word xs >>= λ w. limited (plain.field left w.0 tt) >>= λ u. Some (u, w.1)
-  grown room left Key xs =
+  unfoldable pub extended_term : ℕ → SourceTerm → After → List Token → Option (SourceTerm × List Token)
+  extended_term room left (Infix op) xs = next room (right_level op) xs >>= λ t. limited_term (plain.two op left t.0) >>= λ u. Some (u, t.1)
+  extended_term room left Field xs = word xs >>= λ w. limited_term (plain.field left w.0 tt) >>= λ u. Some (u, w.1)
+  extended_term room left Key xs =
       choose (nat_eq room 0) None
-      (next (room - 1) 1 xs >>= λ t. expected mark.CloseSquare t.1 >>= λ c. limited (plain.two At left t.0) >>= λ u. Some (u, c.1))
+      (next (room - 1) 1 xs >>= λ t. expect mark.CloseSquare t.1 >>= λ c. limited_term (plain.two At left t.0) >>= λ u. Some (u, c.1))
 
   -- a term of level `most` with all that it goes on with, in a number of turns: each turn makes it higher
   unfoldable pub climb : ℕ → ℕ → ℕ → ℕ → SourceTerm → List Token → Option (SourceTerm × List Token)
   climb zero room least most left xs = Some (left, xs)
   climb (suc turns) room least most left xs =
-      elim (accepted least most xs) [
+      elim (accepted_after least most xs) [
         | None ↦ Some (left, xs)
-        | Some a ↦ grown room left a (behind xs) >>= λ s. climb turns room least (level_of a) s.0 s.1
+        | Some a ↦ extended_term room left a (behind xs) >>= λ s. climb turns room least (level_of a) s.0 s.1
       ]
 
 -- a term of level `least` at the loosest; each part of it is read one deeper

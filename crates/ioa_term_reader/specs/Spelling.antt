@@ -67,26 +67,26 @@ is_operation (two _ a b) = true
 is_operation _ = false
 
 -- a part of a term: in round brackets where it is an operation
-abbrev pub wrapped : Bool → List Token → List Token
-wrapped b xs = if b then token.Mark mark.OpenRound ∷ (xs ++ token.Mark mark.CloseRound ∷ []) else xs
+abbrev pub in_brackets_if : Bool → List Token → List Token
+in_brackets_if b xs = if b then token.Mark mark.OpenRound ∷ (xs ++ token.Mark mark.CloseRound ∷ []) else xs
 
 abbrev mutual
   pub spelling : SourceTerm → List Token
   spelling (number n) = token.Number n ∷ []
   spelling (truth b) = token.Mark (truth_mark b) ∷ []
   spelling (name w at) = token.Word w ∷ []
-  spelling (one op a) = token.Mark (prefix_mark op) ∷ wrapped (is_operation a) (spelling a)
-  spelling (two op a b) = wrapped (is_operation a) (spelling a) ++ (token.Mark (infix_mark op) ∷ (wrapped (is_operation b) (spelling b) ++ infix_end op))
+  spelling (one op a) = token.Mark (prefix_mark op) ∷ in_brackets_if (is_operation a) (spelling a)
+  spelling (two op a b) = in_brackets_if (is_operation a) (spelling a) ++ (token.Mark (infix_mark op) ∷ (in_brackets_if (is_operation b) (spelling b) ++ infix_end op))
   spelling (call w ts) = token.Word w ∷ token.Mark mark.OpenRound ∷ (parts_spelling ts ++ token.Mark mark.CloseRound ∷ [])
   spelling (display form shape ts) = token.Mark (opening form) ∷ (parts_spelling ts ++ token.Mark (closing form) ∷ [])
-  spelling (field a w shape) = wrapped (is_operation a) (spelling a) ++ (token.Mark mark.Dot ∷ token.Word w ∷ [])
+  spelling (field a w shape) = in_brackets_if (is_operation a) (spelling a) ++ (token.Mark mark.Dot ∷ token.Word w ∷ [])
 
   -- parts with commas between
   pub parts_spelling : SourceTerms → List Token
   parts_spelling no_terms = []
-  parts_spelling (term t more) = wrapped (is_operation t) (spelling t) ++ more_parts_spelling more
+  parts_spelling (term t more) = in_brackets_if (is_operation t) (spelling t) ++ more_parts_spelling more
 
   -- a comma before each of the parts
   pub more_parts_spelling : SourceTerms → List Token
   more_parts_spelling no_terms = []
-  more_parts_spelling (term t more) = token.Mark mark.Comma ∷ (wrapped (is_operation t) (spelling t) ++ more_parts_spelling more)
+  more_parts_spelling (term t more) = token.Mark mark.Comma ∷ (in_brackets_if (is_operation t) (spelling t) ++ more_parts_spelling more)

@@ -60,10 +60,10 @@ impl Built {
     }
 
     /// A tree, where it is not too high: else the refusal `deep`.
-    #[tactic(auto, unfolding(crate::specs::Reading::limited))]
-    fn limited(tree: Term, high: usize, deep: Unread) -> Result<Built, Unread>
+    #[tactic(auto, unfolding(crate::specs::Reading::limited_term))]
+    fn limited_term(tree: Term, high: usize, deep: Unread) -> Result<Built, Unread>
         requires { high ≡ height (term_of tree) }
-        ensures meant { Matches Memory (λ b. term_of b.tree) result (spec.limited (term_of tree)) }
+        ensures meant { Matches Memory (λ b. term_of b.tree) result (spec.limited_term (term_of tree)) }
         ensures told { IfErr result (λ e. e ≡ deep) }
     {
         if high <= HEIGHT_LIMIT {
@@ -110,12 +110,12 @@ impl Built {
         part: Built,
         deep: Unread,
     ) -> Result<Built, Unread>
-        ensures meant { Matches Memory (λ b. term_of b.tree) result (spec.limited (plain.one operator (term_of part.tree))) }
+        ensures meant { Matches Memory (λ b. term_of b.tree) result (spec.limited_term (plain.one operator (term_of part.tree))) }
         ensures told { IfErr result (λ e. (e ≡ Memory) ⊎ (e ≡ deep)) }
     {
         let high = part.high + 1;
         let part = Box::new(alloc, part.tree)?;
-        Built::limited(Tree::One(operator, part), high, deep)
+        Built::limited_term(Tree::One(operator, part), high, deep)
     }
 
     /// An operator between two terms, the left one first.
@@ -126,22 +126,22 @@ impl Built {
         right: Built,
         deep: Unread,
     ) -> Result<Built, Unread>
-        ensures meant { Matches Memory (λ b. term_of b.tree) result (spec.limited (plain.two operator (term_of left.tree) (term_of right.tree))) }
+        ensures meant { Matches Memory (λ b. term_of b.tree) result (spec.limited_term (plain.two operator (term_of left.tree) (term_of right.tree))) }
         ensures told { IfErr result (λ e. (e ≡ Memory) ⊎ (e ≡ deep)) }
     {
         let high = left.high.max(right.high) + 1;
         let left = Box::new(alloc, left.tree)?;
         let right = Box::new(alloc, right.tree)?;
-        Built::limited(Tree::Two(operator, left, right), high, deep)
+        Built::limited_term(Tree::Two(operator, left, right), high, deep)
     }
 
     /// A function of terms.
     pub(crate) fn call(name: Word, parts: BuiltList, deep: Unread) -> Result<Built, Unread>
-        ensures meant { Matches Memory (λ b. term_of b.tree) result (spec.limited (plain.call name (terms_of (map term_of parts.trees.items)))) }
+        ensures meant { Matches Memory (λ b. term_of b.tree) result (spec.limited_term (plain.call name (terms_of (map term_of parts.trees.items)))) }
         ensures told { IfErr result (λ e. (e ≡ Memory) ⊎ (e ≡ deep)) }
     {
         let high = parts.high + 1;
-        Built::limited(Tree::Call(name, parts.trees), high, deep)
+        Built::limited_term(Tree::Call(name, parts.trees), high, deep)
     }
 
     /// A display of terms.
@@ -150,11 +150,11 @@ impl Built {
         parts: BuiltList,
         deep: Unread,
     ) -> Result<Built, Unread>
-        ensures meant { Matches Memory (λ b. term_of b.tree) result (spec.limited (plain.display form tt (terms_of (map term_of parts.trees.items)))) }
+        ensures meant { Matches Memory (λ b. term_of b.tree) result (spec.limited_term (plain.display form tt (terms_of (map term_of parts.trees.items)))) }
         ensures told { IfErr result (λ e. (e ≡ Memory) ⊎ (e ≡ deep)) }
     {
         let high = parts.high + 1;
-        Built::limited(Tree::Display(form, (), parts.trees), high, deep)
+        Built::limited_term(Tree::Display(form, (), parts.trees), high, deep)
     }
 
     /// `{}`.
@@ -174,12 +174,12 @@ impl Built {
         name: Word,
         deep: Unread,
     ) -> Result<Built, Unread>
-        ensures meant { Matches Memory (λ b. term_of b.tree) result (spec.limited (plain.field (term_of part.tree) name tt)) }
+        ensures meant { Matches Memory (λ b. term_of b.tree) result (spec.limited_term (plain.field (term_of part.tree) name tt)) }
         ensures told { IfErr result (λ e. (e ≡ Memory) ⊎ (e ≡ deep)) }
     {
         let high = part.high + 1;
         let part = Box::new(alloc, part.tree)?;
-        Built::limited(Tree::Field(part, name, ()), high, deep)
+        Built::limited_term(Tree::Field(part, name, ()), high, deep)
     }
 }
 

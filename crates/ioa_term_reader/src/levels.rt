@@ -179,9 +179,9 @@ fn left_of(after: After) -> usize
 }
 
 /// How a term of level `most` goes on, where no operator looser than `least` may stand.
-#[tactic(auto, unfolding(crate::specs::Reading::accepted, ioa_cursor::specs::Reading::bind, ioa_cursor::specs::Reading::choose))]
-pub(crate) fn accepted(tokens: &Tokens<'_>, least: usize, most: usize) -> Option<After>
-    ensures { result ≡ reading.accepted least most tokens.now }
+#[tactic(auto, unfolding(crate::specs::Reading::accepted_after, ioa_cursor::specs::Reading::bind, ioa_cursor::specs::Reading::choose))]
+pub(crate) fn accepted_after(tokens: &Tokens<'_>, least: usize, most: usize) -> Option<After>
+    ensures { result ≡ reading.accepted_after least most tokens.now }
 {
     let after = after_of(tokens.peek_mark()?)?;
     if least <= level_of(after) && left_of(after) <= most {

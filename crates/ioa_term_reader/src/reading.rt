@@ -9,7 +9,9 @@ ghost use Rattle.ioa_term_reader.specs.Reading as spec;
 
 use crate::after::After;
 use crate::built::{Built, BuiltList, HEIGHT_LIMIT};
-use crate::levels::{ATOM_LEVEL, LOOSEST_LEVEL, accepted, level_of, prefix_level, right_level};
+use crate::levels::{
+    ATOM_LEVEL, LOOSEST_LEVEL, accepted_after, level_of, prefix_level, right_level,
+};
 use ioa_cursor::{Tokens, Unread};
 use ioa_terms::{BinaryOperator, DisplayForm, UnaryOperator};
 use ioa_tokens::Mark;
@@ -24,18 +26,18 @@ const DEPTH_LIMIT: usize = HEIGHT_LIMIT + BRACKET_LIMIT;
 
 /// A term that was read, and the tightest level that it stands at.
 #[derive(Drop)]
-struct Reached {
+struct TermAtLevel {
     level: usize,
     built: Built,
 }
 
-impl Reached {
+impl TermAtLevel {
     /// A term that stands wherever a number does.
     fn atom(built: Built) -> Self
         ensures level { result.level ≡ levels.atom_level }
         ensures term { term_of result.built.tree ≡ term_of built.tree }
     {
-        Reached {
+        TermAtLevel {
             level: ATOM_LEVEL,
             built,
         }
@@ -66,11 +68,11 @@ fn begins_term(tokens: &Tokens<'_>, least: usize) -> bool {
 
 /// The refusal where a term can go no deeper: 14 where a part begins, which would be too high, else
 /// that of what comes next. Source: profile.
-fn refused_at_depth(tokens: &Tokens<'_>, least: usize) -> Unread {
+fn refusal_at_depth(tokens: &Tokens<'_>, least: usize) -> Unread {
     if begins_term(tokens, least) {
         tokens.too_deep()
     } else {
-        tokens.refused()
+        tokens.refusal()
     }
 }
 
@@ -87,7 +89,7 @@ fn read(
     ensures { Reads (λ b. term_of b.tree) (spec.read depth room least tokens.old) result tokens.new }
 {
     if depth == 0 {
-        return Err(refused_at_depth(tokens, least));
+        return Err(refusal_at_depth(tokens, least));
     }
     let first = operand(alloc, tokens, depth - 1, room, least)?;
     climb(alloc, tokens, depth - 1, room, least, first)
@@ -101,19 +103,19 @@ fn climb(
     depth: usize,
     room: usize,
     least: usize,
-    first: Reached,
+    first: TermAtLevel,
 ) -> Result<Built, Unread>
     ensures { Reads (λ b. term_of b.tree) (spec.climb (spec.read depth) 64 room least first.level (term_of first.built.tree) tokens.old) result tokens.new }
 {
     let mut most = first.level;
     let mut left = first.built;
     for _turn in 0..HEIGHT_LIMIT {
-        match accepted(tokens, least, most) {
+        match accepted_after(tokens, least, most) {
             None => return Ok(left),
             Some(after) => {
                 let deep = tokens.too_deep();
                 tokens.advance();
-                left = grown(alloc, tokens, depth, room, left, after, deep)?;
+                left = extended_term(alloc, tokens, depth, room, left, after, deep)?;
                 most = level_of(after);
             }
         }
@@ -123,8 +125,8 @@ fn climb(
 
 /// A term that goes on, behind the mark. `deep` is the refusal of a tree that is too high.
 #[cycle(terms)]
-#[tactic(auto, unfolding(crate::specs::Reading::grown, ioa_cursor::specs::Reading::bind, ioa_cursor::specs::Reading::choose))]
-fn grown(
+#[tactic(auto, unfolding(crate::specs::Reading::extended_term, ioa_cursor::specs::Reading::bind, ioa_cursor::specs::Reading::choose))]
+fn extended_term(
     alloc: Global,
     tokens: &mut Tokens<'_>,
     depth: usize,
@@ -133,7 +135,7 @@ fn grown(
     after: After,
     deep: Unread,
 ) -> Result<Built, Unread>
-    ensures { Reads (λ b. term_of b.tree) (spec.grown (spec.read depth) room (term_of left.tree) after tokens.old) result tokens.new }
+    ensures { Reads (λ b. term_of b.tree) (spec.extended_term (spec.read depth) room (term_of left.tree) after tokens.old) result tokens.new }
 {
     match after {
         After::Infix(operator) => {
@@ -157,144 +159,144 @@ fn grown(
 
 /// A term up to its first operator between two terms, or what stands behind it.
 #[cycle(terms)]
-#[tactic(auto, unfolding(crate::specs::Reading::operand, crate::specs::Reading::worded, ioa_cursor::specs::Reading::bind, ioa_cursor::specs::Reading::choose))]
+#[tactic(auto, unfolding(crate::specs::Reading::operand, crate::specs::Reading::word_term, ioa_cursor::specs::Reading::bind, ioa_cursor::specs::Reading::choose))]
 fn operand(
     alloc: Global,
     tokens: &mut Tokens<'_>,
     depth: usize,
     room: usize,
     least: usize,
-) -> Result<Reached, Unread>
+) -> Result<TermAtLevel, Unread>
     ensures { Reads (λ o. (o.level, term_of o.built.tree)) (spec.operand (spec.read depth) room least tokens.old) result tokens.new }
 {
     let deep = tokens.too_deep();
     if tokens.at_number() {
         let number = tokens.number()?;
-        return Ok(Reached::atom(Built::number(number)));
+        return Ok(TermAtLevel::atom(Built::number(number)));
     }
     if tokens.at_word() {
         let name = tokens.word(alloc)?;
         if !tokens.skip(Mark::OpenRound) {
-            return Ok(Reached::atom(Built::name(name)));
+            return Ok(TermAtLevel::atom(Built::name(name)));
         }
-        return called(alloc, tokens, depth, room, name, deep);
+        return call_term(alloc, tokens, depth, room, name, deep);
     }
-    let refused = tokens.refused();
+    let refusal = tokens.refusal();
     match tokens.peek_mark() {
-        None => Err(refused),
+        None => Err(refusal),
         Some(mark) => {
             tokens.advance();
-            marked(alloc, tokens, depth, room, least, mark, refused, deep)
+            marked_term(alloc, tokens, depth, room, least, mark, refusal, deep)
         }
     }
 }
 
-/// What a mark begins, behind it. `refused` is the refusal of the mark.
+/// What a mark begins, behind it. `refusal` is the refusal of the mark.
 #[cycle(terms)]
-#[tactic(auto, unfolding(crate::specs::Reading::marked))]
-fn marked(
+#[tactic(auto, unfolding(crate::specs::Reading::marked_term))]
+fn marked_term(
     alloc: Global,
     tokens: &mut Tokens<'_>,
     depth: usize,
     room: usize,
     least: usize,
     mark: Mark,
-    refused: Unread,
+    refusal: Unread,
     deep: Unread,
-) -> Result<Reached, Unread>
-    ensures { Reads (λ o. (o.level, term_of o.built.tree)) (spec.marked (spec.read depth) room least mark tokens.old) result tokens.new }
+) -> Result<TermAtLevel, Unread>
+    ensures { Reads (λ o. (o.level, term_of o.built.tree)) (spec.marked_term (spec.read depth) room least mark tokens.old) result tokens.new }
 {
     match mark {
-        Mark::True => Ok(Reached::atom(Built::truth(true))),
-        Mark::False => Ok(Reached::atom(Built::truth(false))),
-        Mark::OpenRound => bracketed(alloc, tokens, depth, room, deep),
-        Mark::OpenBrace => braced(alloc, tokens, depth, room, deep),
+        Mark::True => Ok(TermAtLevel::atom(Built::truth(true))),
+        Mark::False => Ok(TermAtLevel::atom(Built::truth(false))),
+        Mark::OpenRound => bracketed_term(alloc, tokens, depth, room, deep),
+        Mark::OpenBrace => braced_term(alloc, tokens, depth, room, deep),
         Mark::OpenSquare => {
             let (form, close) = (DisplayForm::Brackets, Mark::CloseSquare);
-            displayed(alloc, tokens, depth, room, form, close, deep)
+            display_term(alloc, tokens, depth, room, form, close, deep)
         }
         Mark::Not => {
             let operator = UnaryOperator::Not;
-            prefixed(alloc, tokens, depth, room, least, operator, refused, deep)
+            prefixed_term(alloc, tokens, depth, room, least, operator, refusal, deep)
         }
         Mark::Minus => {
             let operator = UnaryOperator::Negative;
-            prefixed(alloc, tokens, depth, room, least, operator, refused, deep)
+            prefixed_term(alloc, tokens, depth, room, least, operator, refusal, deep)
         }
-        _ => Err(refused),
+        _ => Err(refusal),
     }
 }
 
 /// A term of an operator's level, behind the operator.
 #[cycle(terms)]
-#[tactic(auto, unfolding(crate::specs::Reading::prefixed, ioa_cursor::specs::Reading::bind, ioa_cursor::specs::Reading::choose))]
-fn prefixed(
+#[tactic(auto, unfolding(crate::specs::Reading::prefixed_term, ioa_cursor::specs::Reading::bind, ioa_cursor::specs::Reading::choose))]
+fn prefixed_term(
     alloc: Global,
     tokens: &mut Tokens<'_>,
     depth: usize,
     room: usize,
     least: usize,
     operator: UnaryOperator,
-    refused: Unread,
+    refusal: Unread,
     deep: Unread,
-) -> Result<Reached, Unread>
-    ensures { Reads (λ o. (o.level, term_of o.built.tree)) (spec.prefixed (spec.read depth) room least operator tokens.old) result tokens.new }
+) -> Result<TermAtLevel, Unread>
+    ensures { Reads (λ o. (o.level, term_of o.built.tree)) (spec.prefixed_term (spec.read depth) room least operator tokens.old) result tokens.new }
 {
     let level = prefix_level(operator);
     if level < least {
-        return Err(refused);
+        return Err(refusal);
     }
     let part = read(alloc, tokens, depth, room, level)?;
     let built = Built::one(alloc, operator, part, deep)?;
-    Ok(Reached { level, built })
+    Ok(TermAtLevel { level, built })
 }
 
 /// Term `)`, behind the first bracket.
 #[cycle(terms)]
-#[tactic(auto, unfolding(crate::specs::Reading::bracketed, ioa_cursor::specs::Reading::bind, ioa_cursor::specs::Reading::choose))]
-fn bracketed(
+#[tactic(auto, unfolding(crate::specs::Reading::bracketed_term, ioa_cursor::specs::Reading::bind, ioa_cursor::specs::Reading::choose))]
+fn bracketed_term(
     alloc: Global,
     tokens: &mut Tokens<'_>,
     depth: usize,
     room: usize,
     deep: Unread,
-) -> Result<Reached, Unread>
-    ensures { Reads (λ o. (o.level, term_of o.built.tree)) (spec.bracketed (spec.read depth) room tokens.old) result tokens.new }
+) -> Result<TermAtLevel, Unread>
+    ensures { Reads (λ o. (o.level, term_of o.built.tree)) (spec.bracketed_term (spec.read depth) room tokens.old) result tokens.new }
 {
     if room == 0 {
         return Err(deep);
     }
     let inner = read(alloc, tokens, depth, room - 1, LOOSEST_LEVEL)?;
     tokens.expect(Mark::CloseRound)?;
-    Ok(Reached::atom(inner))
+    Ok(TermAtLevel::atom(inner))
 }
 
 /// [Term {`,` Term}] `}`, behind the first bracket.
 #[cycle(terms)]
-#[tactic(auto, unfolding(crate::specs::Reading::braced, ioa_cursor::specs::Reading::choose))]
-fn braced(
+#[tactic(auto, unfolding(crate::specs::Reading::braced_term, ioa_cursor::specs::Reading::choose))]
+fn braced_term(
     alloc: Global,
     tokens: &mut Tokens<'_>,
     depth: usize,
     room: usize,
     deep: Unread,
-) -> Result<Reached, Unread>
-    ensures { Reads (λ o. (o.level, term_of o.built.tree)) (spec.braced (spec.read depth) room tokens.old) result tokens.new }
+) -> Result<TermAtLevel, Unread>
+    ensures { Reads (λ o. (o.level, term_of o.built.tree)) (spec.braced_term (spec.read depth) room tokens.old) result tokens.new }
 {
     if room == 0 {
         return Err(deep);
     }
     if tokens.skip(Mark::CloseBrace) {
-        return Ok(Reached::atom(Built::empty(alloc)));
+        return Ok(TermAtLevel::atom(Built::empty(alloc)));
     }
     let (form, close) = (DisplayForm::Braces, Mark::CloseBrace);
-    displayed(alloc, tokens, depth, room, form, close, deep)
+    display_term(alloc, tokens, depth, room, form, close, deep)
 }
 
 /// Term {`,` Term} and a bracket, behind the first bracket of a display.
 #[cycle(terms)]
-#[tactic(auto, unfolding(crate::specs::Reading::displayed, ioa_cursor::specs::Reading::bind, ioa_cursor::specs::Reading::choose))]
-fn displayed(
+#[tactic(auto, unfolding(crate::specs::Reading::display_term, ioa_cursor::specs::Reading::bind, ioa_cursor::specs::Reading::choose))]
+fn display_term(
     alloc: Global,
     tokens: &mut Tokens<'_>,
     depth: usize,
@@ -302,8 +304,8 @@ fn displayed(
     form: DisplayForm,
     close: Mark,
     deep: Unread,
-) -> Result<Reached, Unread>
-    ensures { Reads (λ o. (o.level, term_of o.built.tree)) (spec.displayed (spec.read depth) form close room tokens.old) result tokens.new }
+) -> Result<TermAtLevel, Unread>
+    ensures { Reads (λ o. (o.level, term_of o.built.tree)) (spec.display_term (spec.read depth) form close room tokens.old) result tokens.new }
 {
     if room == 0 {
         return Err(deep);
@@ -311,21 +313,21 @@ fn displayed(
     let parts = terms_in(alloc, tokens, depth, room - 1)?;
     tokens.expect(close)?;
     let built = Built::display(form, parts, deep)?;
-    Ok(Reached::atom(built))
+    Ok(TermAtLevel::atom(built))
 }
 
 /// Term {`,` Term} `)`, behind the word and the first bracket of a call.
 #[cycle(terms)]
-#[tactic(auto, unfolding(crate::specs::Reading::called, ioa_cursor::specs::Reading::bind, ioa_cursor::specs::Reading::choose))]
-fn called(
+#[tactic(auto, unfolding(crate::specs::Reading::call_term, ioa_cursor::specs::Reading::bind, ioa_cursor::specs::Reading::choose))]
+fn call_term(
     alloc: Global,
     tokens: &mut Tokens<'_>,
     depth: usize,
     room: usize,
     name: Word,
     deep: Unread,
-) -> Result<Reached, Unread>
-    ensures { Reads (λ o. (o.level, term_of o.built.tree)) (spec.called (spec.read depth) room name tokens.old) result tokens.new }
+) -> Result<TermAtLevel, Unread>
+    ensures { Reads (λ o. (o.level, term_of o.built.tree)) (spec.call_term (spec.read depth) room name tokens.old) result tokens.new }
 {
     if room == 0 {
         return Err(deep);
@@ -333,7 +335,7 @@ fn called(
     let parts = terms_in(alloc, tokens, depth, room - 1)?;
     tokens.expect(Mark::CloseRound)?;
     let built = Built::call(name, parts, deep)?;
-    Ok(Reached::atom(built))
+    Ok(TermAtLevel::atom(built))
 }
 
 /// Term {`,` Term}

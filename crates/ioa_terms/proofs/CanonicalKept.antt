@@ -2,15 +2,15 @@
 use Rattle.std.proofs.Common.{◌≡◌, ℕ, Bool, true, false, List, [], ◌∷◌, Option, Some, None, if◌then◌else◌}
 use Rattle.std.specs.Option.{IfSome, option_and_then, option_map, option_or}
 use Rattle.ioa_values.specs.Data.{Data, truth}
-use Rattle.ioa_operators.specs.Operators.{unary_value, binary_value, decided, function_named, call_value}
+use Rattle.ioa_operators.specs.Operators.{unary_value, binary_value, left_decision, function_named, call_value}
 use Rattle.ioa_operators.specs.Shapes.{PlainShape, has_shape, display_value, field_value, with_field}
 use Rattle.ioa_operators.specs.ShapeView.{shape_of}
 use Rattle.ioa_operators.specs.Canonical.{IsCanonical, AllCanonical}
 use Rattle.ioa_terms.specs.Bindings.{Bindings, same_name, lookup, put}
 use Rattle.ioa_terms.specs.PlainTerm as plain
-use Rattle.ioa_terms.specs.PlainTerm.{PlainTerm, PlainTerms, name, one, two, call, display, field, no_terms, term, PlainPlace, variable, at_key, at_field, PlainStatement, PlainStatements, PlainArms, assign, choose, fire, no_statements, statement, no_arms, arm, statements_of}
-use Rattle.ioa_terms.specs.Meaning.{value, values, called}
-use Rattle.ioa_terms.specs.Performance.{target, target_shape, updated, assigned, fitted, tested, by_test, after_one, after_choice, after_all, after}
+use Rattle.ioa_terms.specs.PlainTerm.{PlainTerm, PlainTerms, name, one, two, call, display, field, no_terms, term, PlainTarget, variable, at_key, at_field, PlainStatement, PlainStatements, PlainArms, assign, choose, fire, no_statements, statement, no_arms, arm, statements_of}
+use Rattle.ioa_terms.specs.Meaning.{value, values, named_call_value}
+use Rattle.ioa_terms.specs.Performance.{target_name, target_shape, updated_map, assignment_value, fitting_value, test_value, by_test, after_one, after_choice, after_all, after}
 use Rattle.ioa_terms.specs.Ascending.{IsAscendingEnvironment}
 use Rattle.ioa_terms.proofs.ShapesKept.{one_or_other}
 use Rattle.ioa_operators.proofs.Canonicals.{unary_canonical, binary_canonical, call_canonical, display_canonical, field_canonical, with_field_canonical}
@@ -19,7 +19,7 @@ use Rattle.ioa_operators.specs.declared.operator.BinaryOperator.TheVariants.{Imp
 use Rattle.ioa_operators.specs.declared.operator.Function.{Function}
 use Rattle.ioa_operators.specs.declared.operator.Function.TheVariants as function
 use Rattle.ioa_operators.specs.declared.shape.Shape.{Shape}
-use Rattle.ioa_operators.proofs.Canonicals.{mapped, chained}
+use Rattle.ioa_operators.proofs.Canonicals.{map_holds, and_then_holds}
 
 -- what holds of both of two holds of the one that is chosen
 by_condition : {A : Type 0} (P : A → Type 0) (b : Bool) (x y : A) → P x → P y → P (if b then x else y)
@@ -43,14 +43,14 @@ put_canonical x v (b ∷ e) h g =
     by_condition IsAscendingEnvironment (same_name x b.0) ((b.0, v) ∷ e) (b ∷ put x v e) (h, g.1) (g.0, put_canonical x v e h g.1)
 
 -- what the left side of an operator decides
-decided_canonical : (op : BinaryOperator) (v : Data) → IfSome (decided op v) IsCanonical
-decided_canonical And (truth false) = tt
-decided_canonical And _ = tt
-decided_canonical Or (truth true) = tt
-decided_canonical Or _ = tt
-decided_canonical Implies (truth false) = tt
-decided_canonical Implies _ = tt
-decided_canonical _ v = tt
+decision_canonical : (op : BinaryOperator) (v : Data) → IfSome (left_decision op v) IsCanonical
+decision_canonical And (truth false) = tt
+decision_canonical And _ = tt
+decision_canonical Or (truth true) = tt
+decision_canonical Or _ = tt
+decision_canonical Implies (truth false) = tt
+decision_canonical Implies _ = tt
+decision_canonical _ v = tt
 
 -- what a function makes, where there is one
 function_canonical : (o : Option Function) (vs : List Data) → AllCanonical vs → IfSome (option_and_then (λ f. call_value f vs) o) IsCanonical
@@ -63,58 +63,58 @@ mutual
   term_canonical e g (plain.number n) = tt
   term_canonical e g (plain.truth b) = tt
   term_canonical e g (name x at) = lookup_canonical x e g
-  term_canonical e g (one op a) = chained IsCanonical IsCanonical (unary_value op) (value a e) (term_canonical e g a) (λ v h. unary_canonical op v)
+  term_canonical e g (one op a) = and_then_holds IsCanonical IsCanonical (unary_value op) (value a e) (term_canonical e g a) (λ v h. unary_canonical op v)
   term_canonical e g (two op a b) =
-      chained IsCanonical IsCanonical (λ v. option_or (decided op v) (option_and_then (binary_value op v) (value b e))) (value a e) (term_canonical e g a)
-      (λ v h. one_or_other IsCanonical (decided op v) (option_and_then (binary_value op v) (value b e)) (decided_canonical op v)
-      (chained IsCanonical IsCanonical (binary_value op v) (value b e) (term_canonical e g b) (λ w k. binary_canonical op v w h k)))
-  term_canonical e g (call w ts) = chained AllCanonical IsCanonical (called w) (values ts e) (terms_canonical e g ts) (function_canonical (function_named w))
+      and_then_holds IsCanonical IsCanonical (λ v. option_or (left_decision op v) (option_and_then (binary_value op v) (value b e))) (value a e) (term_canonical e g a)
+      (λ v h. one_or_other IsCanonical (left_decision op v) (option_and_then (binary_value op v) (value b e)) (decision_canonical op v)
+      (and_then_holds IsCanonical IsCanonical (binary_value op v) (value b e) (term_canonical e g b) (λ w k. binary_canonical op v w h k)))
+  term_canonical e g (call w ts) = and_then_holds AllCanonical IsCanonical (named_call_value w) (values ts e) (terms_canonical e g ts) (function_canonical (function_named w))
   term_canonical e g (display form d ts) =
-      chained AllCanonical IsCanonical (display_value form (shape_of d)) (values ts e) (terms_canonical e g ts) (display_canonical form (shape_of d))
+      and_then_holds AllCanonical IsCanonical (display_value form (shape_of d)) (values ts e) (terms_canonical e g ts) (display_canonical form (shape_of d))
   term_canonical e g (field a w d) =
-      chained IsCanonical IsCanonical (field_value (shape_of d) w) (value a e) (term_canonical e g a) (field_canonical (shape_of d) w)
+      and_then_holds IsCanonical IsCanonical (field_value (shape_of d) w) (value a e) (term_canonical e g a) (field_canonical (shape_of d) w)
 
   terms_canonical : {N : Type 0} (e : Bindings) → IsAscendingEnvironment e → (ts : PlainTerms N Shape) → IfSome (values ts e) AllCanonical
   terms_canonical e g no_terms = tt
   terms_canonical e g (term t more) =
-      chained IsCanonical AllCanonical (λ v. option_map (λ vs. v ∷ vs) (values more e)) (value t e) (term_canonical e g t)
-      (λ v h. mapped AllCanonical AllCanonical (λ vs. v ∷ vs) (values more e) (terms_canonical e g more) (λ vs k. (h, k)))
+      and_then_holds IsCanonical AllCanonical (λ v. option_map (λ vs. v ∷ vs) (values more e)) (value t e) (term_canonical e g t)
+      (λ v h. map_holds AllCanonical AllCanonical (λ vs. v ∷ vs) (values more e) (terms_canonical e g more) (λ vs k. (h, k)))
 
 -- what an assignment gives its variable
-assigned_canonical : {N : Type 0} (p : PlainPlace N Shape) (t : PlainTerm N Shape) (e : Bindings) → IsAscendingEnvironment e → IfSome (assigned p t e) IsCanonical
+assigned_canonical : {N : Type 0} (p : PlainTarget N Shape) (t : PlainTerm N Shape) (e : Bindings) → IsAscendingEnvironment e → IfSome (assignment_value p t e) IsCanonical
 assigned_canonical (variable x at d) t e g = term_canonical e g t
 assigned_canonical (at_key x at d k) t e g =
-    chained IsCanonical IsCanonical (λ i. option_and_then (λ v. option_and_then (updated i v) (lookup x e)) (value t e)) (value k e) (term_canonical e g k)
-    (λ i h. chained IsCanonical IsCanonical (λ v. option_and_then (updated i v) (lookup x e)) (value t e) (term_canonical e g t)
-    (λ v l. chained IsCanonical IsCanonical (updated i v) (lookup x e) (lookup_canonical x e g)
+    and_then_holds IsCanonical IsCanonical (λ i. option_and_then (λ v. option_and_then (updated_map i v) (lookup x e)) (value t e)) (value k e) (term_canonical e g k)
+    (λ i h. and_then_holds IsCanonical IsCanonical (λ v. option_and_then (updated_map i v) (lookup x e)) (value t e) (term_canonical e g t)
+    (λ v l. and_then_holds IsCanonical IsCanonical (updated_map i v) (lookup x e) (lookup_canonical x e g)
     (λ m r. call_canonical function.Update (m ∷ i ∷ v ∷ []) (r, (h, (l, tt))))))
 assigned_canonical (at_field x at d f) t e g =
-    chained IsCanonical IsCanonical (λ v. option_and_then (with_field (shape_of d) f v) (lookup x e)) (value t e) (term_canonical e g t)
-    (λ v h. chained IsCanonical IsCanonical (with_field (shape_of d) f v) (lookup x e) (lookup_canonical x e g) (λ old k. with_field_canonical (shape_of d) f v old h k))
+    and_then_holds IsCanonical IsCanonical (λ v. option_and_then (with_field (shape_of d) f v) (lookup x e)) (value t e) (term_canonical e g t)
+    (λ v h. and_then_holds IsCanonical IsCanonical (with_field (shape_of d) f v) (lookup x e) (lookup_canonical x e g) (λ old k. with_field_canonical (shape_of d) f v old h k))
 
-fitted_canonical : (s : PlainShape) (v : Data) → IsCanonical v → IfSome (fitted s v) IsCanonical
+fitted_canonical : (s : PlainShape) (v : Data) → IsCanonical v → IfSome (fitting_value s v) IsCanonical
 fitted_canonical s v h = by_condition (λ (o : Option Data). IfSome o IsCanonical) (has_shape s v) (Some v) None h tt
 
 -- what statements leave
 mutual
   statement_canonical : {N : Type 0} (s : PlainStatement N Shape) (e : Bindings) → IsAscendingEnvironment e → IfSome (after_one s e) IsAscendingEnvironment
   statement_canonical (assign p t) e g =
-      mapped IsCanonical IsAscendingEnvironment (λ v. put (target p) v e) (option_and_then (fitted (target_shape p)) (assigned p t e))
-      (chained IsCanonical IsCanonical (fitted (target_shape p)) (assigned p t e) (assigned_canonical p t e g) (fitted_canonical (target_shape p)))
-      (λ v h. put_canonical (target p) v e h g)
+      map_holds IsCanonical IsAscendingEnvironment (λ v. put (target_name p) v e) (option_and_then (fitting_value (target_shape p)) (assignment_value p t e))
+      (and_then_holds IsCanonical IsCanonical (fitting_value (target_shape p)) (assignment_value p t e) (assigned_canonical p t e g) (fitted_canonical (target_shape p)))
+      (λ v h. put_canonical (target_name p) v e h g)
   statement_canonical (choose arms rest) e g = choice_canonical arms (after_all rest e) e g (statements_canonical rest e g)
   statement_canonical (fire kind action arguments) e g = tt
 
   choice_canonical : {N : Type 0} (arms : PlainArms N Shape) (rest : Option Bindings) (e : Bindings) → IsAscendingEnvironment e → IfSome rest IsAscendingEnvironment → IfSome (after_choice arms rest e) IsAscendingEnvironment
   choice_canonical no_arms rest e g h = h
   choice_canonical (arm t body more) rest e g h =
-      after_test (λ (o : Option Bindings). IfSome o IsAscendingEnvironment) (tested t e) None (after_all body e) (after_choice more rest e)
+      after_test (λ (o : Option Bindings). IfSome o IsAscendingEnvironment) (test_value t e) None (after_all body e) (after_choice more rest e)
       tt (statements_canonical body e g) (choice_canonical more rest e g h)
 
   statements_canonical : {N : Type 0} (ss : PlainStatements N Shape) (e : Bindings) → IsAscendingEnvironment e → IfSome (after_all ss e) IsAscendingEnvironment
   statements_canonical no_statements e g = g
   statements_canonical (statement s more) e g =
-      chained IsAscendingEnvironment IsAscendingEnvironment (after_all more) (after_one s e) (statement_canonical s e g) (λ f h. statements_canonical more f h)
+      and_then_holds IsAscendingEnvironment IsAscendingEnvironment (after_all more) (after_one s e) (statement_canonical s e g) (λ f h. statements_canonical more f h)
 
 -- the value of a term, and the environment after statements, where there is one
 pub value_ascends : {N : Type 0} (e : Bindings) → IsAscendingEnvironment e → (t : PlainTerm N Shape) (v : Data) → value t e ≡ Some v → IsCanonical v

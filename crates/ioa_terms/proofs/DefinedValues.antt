@@ -8,7 +8,7 @@ use Rattle.std.proofs.lemmas.Bool.Decides.{nat_tests}
 use Rattle.ioa_values.specs.Data.{Data, Items, number, truth, tuple, sequence, finite_set, finite_map, no_items, item, list_of, pairs_of, items_of}
 use Rattle.ioa_values.specs.Collections.{value_at}
 use Rattle.ioa_operators.specs.Operators.{on_numbers, on_truths, unary_value, binary_value, call_value, same_truth}
-use Rattle.ioa_operators.specs.Shapes.{PlainShape, PlainShapes, truths, integers, tuples, sequences, sets, maps, no_shapes, shape, shapes_of, has_shape, have_shapes, display_value, field_value, field_place}
+use Rattle.ioa_operators.specs.Shapes.{PlainShape, PlainShapes, truths, integers, tuples, sequences, sets, maps, no_shapes, shape, shapes_of, has_shape, have_shapes, display_value, field_value, field_position}
 use Rattle.ioa_terms.specs.Sorted.{UnaryIs, negation, negative, BinaryIs, equivalent, implies, either, both, equal, differ, below, at_most, above, at_least, item_of, member_of, prepended, appended, joined, sum, difference, product, at_key, FunctionIs, head, tail, items, members, keys, quotient, remainder, inserted, deleted, united, updated, removed, defined, DisplayIs, listed_shapes, field_shape}
 use Rattle.ioa_terms.specs.Undefined.{is_missing_key, is_empty_end, is_low_divisor, is_negative_tuple}
 use Rattle.ioa_terms.proofs.Negatives.{fields_but_for_signs}
@@ -195,6 +195,6 @@ named_part_there ss ds None s h e = absurd (cc)
 named_part_there ss ds (Some i) s h e = part_there ss ds i s h e
 
 pub field_there : (t s : PlainShape) (w : List ℕ) → field_shape w t ≡ Some s → (v : Data) → Has t v → is_some (field_value t w v) ≡ true
-field_there (tuples type names ss) s w e (tuple ds) h = named_part_there ss ds (field_place w names) s h e
+field_there (tuples type names ss) s w e (tuple ds) h = named_part_there ss ds (field_position w names) s h e
 field_there (tuples type names ss) s w e _ h = absurd (cc)
 field_there _ s w e v h = absurd (cc)

@@ -1,7 +1,7 @@
 -- the lemmas of this crate
-pub mod Bounds
+pub mod Stepwise
 pub mod Performed
-pub mod Places
+pub mod Slots
 pub mod Commas
 pub mod ShapesKept
 pub mod Sound

@@ -6,13 +6,13 @@ use Rattle.std.specs.List.{AllByRecursion}
 use Rattle.std.specs.Option.{IfSome, option_and_then, option_map, option_or}
 use Rattle.ioa_values.proofs.AllOf.{all_appended}
 use Rattle.ioa_values.proofs.Ascending.{by_each, all_with, all_without}
-use Rattle.ioa_operators.proofs.Canonicals.{all_of_list, all_of_either, mapped, chained, mapped_any, chained_any}
+use Rattle.ioa_operators.proofs.Canonicals.{all_of_list, all_of_either, map_holds, and_then_holds, map_holds_any, and_then_holds_any}
 use Rattle.ioa_values.specs.Data.{Data, Items, Entries, number, truth, tuple, sequence, finite_set, finite_map, no_items, item, no_entries, entry, list_of, pairs_of, items_of, entries_of, as_number, as_truth}
 use Rattle.ioa_values.specs.DataOrder.{data_cmp}
 use Rattle.ioa_values.specs.Collections.{with_member, without_member, set_of, union, value_at, with_entry, without_key}
-use Rattle.ioa_operators.specs.Operators.{sequence_of, finite_set_of, finite_map_of, as_sequence, as_set, as_map, on_numbers, on_truths, on_division, divided, unary_value, binary_value, decided, has_member, first, rest, count, size_value, is_there, call_value, same_truth}
-use Rattle.ioa_operators.specs.Shapes.{PlainShape, PlainShapes, truths, integers, naturals, constants, tuples, sequences, sets, maps, no_shapes, shape, has_shape, have_shapes, all_have, entries_have, display_value, field_value, field_place}
-use Rattle.ioa_terms.specs.Sorted.{counted, UnaryIs, negation, negative, BinaryIs, equivalent, implies, either, both, equal, differ, below, at_most, above, at_least, item_of, member_of, prepended, appended, joined, sum, difference, product, at_key, FunctionIs, head, tail, items, members, keys, quotient, remainder, inserted, deleted, united, updated, removed, defined, DisplayIs, listed_shapes, field_shape}
+use Rattle.ioa_operators.specs.Operators.{sequence_of, finite_set_of, finite_map_of, as_sequence, as_set, as_map, on_numbers, on_truths, on_division, division_value, unary_value, binary_value, left_decision, has_member, first, rest, count, size_value, is_there, call_value, same_truth}
+use Rattle.ioa_operators.specs.Shapes.{PlainShape, PlainShapes, truths, integers, naturals, constants, tuples, sequences, sets, maps, no_shapes, shape, has_shape, have_shapes, all_have, entries_have, display_value, field_value, field_position}
+use Rattle.ioa_terms.specs.Sorted.{shape_in_terms, UnaryIs, negation, negative, BinaryIs, equivalent, implies, either, both, equal, differ, below, at_most, above, at_least, item_of, member_of, prepended, appended, joined, sum, difference, product, at_key, FunctionIs, head, tail, items, members, keys, quotient, remainder, inserted, deleted, united, updated, removed, defined, DisplayIs, listed_shapes, field_shape}
 use Rattle.ioa_operators.specs.declared.operator.UnaryOperator.{UnaryOperator}
 use Rattle.ioa_operators.specs.declared.operator.BinaryOperator.{BinaryOperator}
 use Rattle.ioa_operators.specs.declared.operator.Function.{Function}
@@ -97,15 +97,15 @@ of_test true s v g = g refl
 of_test false s v g = tt
 
 of_numbers : (s : PlainShape) (f : ℤ → ℤ → Data) (x y : Data) → ((m n : ℤ) → Has s (f m n)) → IfSome (on_numbers f x y) (Has s)
-of_numbers s f x y g = chained_any (Has s) (λ m. option_map (f m) (as_number y)) (as_number x) (λ m. mapped_any (Has s) (f m) (as_number y) (g m))
+of_numbers s f x y g = and_then_holds_any (Has s) (λ m. option_map (f m) (as_number y)) (as_number x) (λ m. map_holds_any (Has s) (f m) (as_number y) (g m))
 
 of_truths : (f : Bool → Bool → Bool) (x y : Data) → IfSome (on_truths f x y) (Has truths)
-of_truths f x y = chained_any (Has truths) (λ a. option_map (λ b. truth (f a b)) (as_truth y)) (as_truth x) (λ a. mapped_any (Has truths) (λ b. truth (f a b)) (as_truth y) (λ b. refl))
+of_truths f x y = and_then_holds_any (Has truths) (λ a. option_map (λ b. truth (f a b)) (as_truth y)) (as_truth x) (λ a. map_holds_any (Has truths) (λ b. truth (f a b)) (as_truth y) (λ b. refl))
 
 of_division : (f : ℤ → ℤ → ℤ) (x y : Data) → IfSome (on_division f x y) (Has integers)
 of_division f x y =
-    chained_any (Has integers) (λ m. option_and_then (divided f m) (as_number y)) (as_number x)
-    (λ m. chained_any (Has integers) (divided f m) (as_number y) (λ n. of_test (int_le (pos 1) n) integers (number (f m n)) (λ h. refl)))
+    and_then_holds_any (Has integers) (λ m. option_and_then (division_value f m) (as_number y)) (as_number x)
+    (λ m. and_then_holds_any (Has integers) (division_value f m) (as_number y) (λ n. of_test (int_le (pos 1) n) integers (number (f m n)) (λ h. refl)))
 
 of_member : (d x : Data) → IfSome (has_member d x) (Has truths)
 of_member d (sequence ds) = refl
@@ -119,18 +119,18 @@ size_has _ = tt
 
 -- what an operator before a value makes
 pub unary_has : {op : UnaryOperator} {x s : PlainShape} → UnaryIs op x s → (v : Data) → IfSome (unary_value op v) (Has s)
-unary_has negation v = mapped_any (Has truths) (λ b. truth (not b)) (as_truth v) (λ b. refl)
-unary_has negative v = mapped_any (Has integers) (λ m. number (neg_ℤ m)) (as_number v) (λ m. refl)
+unary_has negation v = map_holds_any (Has truths) (λ b. truth (not b)) (as_truth v) (λ b. refl)
+unary_has negative v = map_holds_any (Has integers) (λ m. number (neg_ℤ m)) (as_number v) (λ m. refl)
 
 -- what the left side of an operator decides
-pub decided_has : {op : BinaryOperator} {x y s : PlainShape} → BinaryIs op x y s → (v : Data) → IfSome (decided op v) (Has s)
-decided_has both (truth false) = refl
-decided_has both _ = tt
-decided_has either (truth true) = refl
-decided_has either _ = tt
-decided_has implies (truth false) = refl
-decided_has implies _ = tt
-decided_has _ v = tt
+pub decision_has : {op : BinaryOperator} {x y s : PlainShape} → BinaryIs op x y s → (v : Data) → IfSome (left_decision op v) (Has s)
+decision_has both (truth false) = refl
+decision_has both _ = tt
+decision_has either (truth true) = refl
+decision_has either _ = tt
+decision_has implies (truth false) = refl
+decision_has implies _ = tt
+decision_has _ v = tt
 
 -- what an operator between values makes
 pub binary_has : {op : BinaryOperator} {x y s : PlainShape} → BinaryIs op x y s → (v w : Data) → Has x v → Has y w → IfSome (binary_value op v w) (Has s)
@@ -147,19 +147,19 @@ binary_has at_least v w h k = of_numbers truths (λ m n. truth (int_le n m)) v w
 binary_has item_of v w h k = of_member v w
 binary_has member_of v w h k = of_member v w
 binary_has (prepended {x}) v w h k =
-    mapped (AllByRecursion (Has x)) (Has (sequences x)) (λ ds. sequence_of (v ∷ ds)) (as_sequence w) (sequence_items x w k) (λ ds p. items_all x (v ∷ ds) (h, p))
+    map_holds (AllByRecursion (Has x)) (Has (sequences x)) (λ ds. sequence_of (v ∷ ds)) (as_sequence w) (sequence_items x w k) (λ ds p. items_all x (v ∷ ds) (h, p))
 binary_has (appended {x}) v w h k =
-    mapped (AllByRecursion (Has x)) (Has (sequences x)) (λ ds. sequence_of (ds ++ w ∷ [])) (as_sequence v) (sequence_items x v h)
+    map_holds (AllByRecursion (Has x)) (Has (sequences x)) (λ ds. sequence_of (ds ++ w ∷ [])) (as_sequence v) (sequence_items x v h)
     (λ ds p. items_all x (ds ++ w ∷ []) (all_appended (Has x) ds (w ∷ []) p (k, tt)))
 binary_has (joined {x}) v w h k =
-    chained (AllByRecursion (Has x)) (Has (sequences x)) (λ ds. option_map (λ es. sequence_of (ds ++ es)) (as_sequence w)) (as_sequence v) (sequence_items x v h)
-    (λ ds p. mapped (AllByRecursion (Has x)) (Has (sequences x)) (λ es. sequence_of (ds ++ es)) (as_sequence w) (sequence_items x w k)
+    and_then_holds (AllByRecursion (Has x)) (Has (sequences x)) (λ ds. option_map (λ es. sequence_of (ds ++ es)) (as_sequence w)) (as_sequence v) (sequence_items x v h)
+    (λ ds p. map_holds (AllByRecursion (Has x)) (Has (sequences x)) (λ es. sequence_of (ds ++ es)) (as_sequence w) (sequence_items x w k)
     (λ es q. items_all x (ds ++ es) (all_appended (Has x) ds es p q)))
 binary_has sum v w h k = of_numbers integers (λ m n. number (m +ℤ n)) v w (λ m n. refl)
 binary_has difference v w h k = of_numbers integers (λ m n. number (m -ℤ n)) v w (λ m n. refl)
 binary_has product v w h k = of_numbers integers (λ m n. number (m *ℤ n)) v w (λ m n. refl)
 binary_has (at_key {k = x} {v = y}) v w h k =
-    chained (AllByRecursion (HasEntry x y)) (Has y) (value_at w) (as_map v) (map_entries x y v h) (λ es p. value_at_has x y w es p)
+    and_then_holds (AllByRecursion (HasEntry x y)) (Has y) (value_at w) (as_map v) (map_entries x y v h) (λ es p. value_at_has x y w es p)
 
 first_has : (s : PlainShape) (ds : List Data) → AllByRecursion (Has s) ds → IfSome (first ds) (Has s)
 first_has s [] h = tt
@@ -187,13 +187,13 @@ three_values Q x y z g (u ∷ vs) h = two_values (λ ws. Q (u ∷ ws)) y z (λ v
 pub function_has : {f : Function} {xs : List PlainShape} {s : PlainShape} → FunctionIs f xs s → (vs : List Data) → HaveEach xs vs → IfSome (call_value f vs) (Has s)
 function_has (head {x}) vs h =
     one_value (λ vs. IfSome (call_value function.Head vs) (Has x)) (sequences x)
-    (λ v k. chained (AllByRecursion (Has x)) (Has x) first (as_sequence v) (sequence_items x v k) (first_has x)) vs h
+    (λ v k. and_then_holds (AllByRecursion (Has x)) (Has x) first (as_sequence v) (sequence_items x v k) (first_has x)) vs h
 function_has (tail {x}) vs h =
     one_value (λ vs. IfSome (call_value function.Tail vs) (Has (sequences x))) (sequences x)
-    (λ v k. chained (AllByRecursion (Has x)) (Has (sequences x)) rest (as_sequence v) (sequence_items x v k) (rest_has x)) vs h
+    (λ v k. and_then_holds (AllByRecursion (Has x)) (Has (sequences x)) rest (as_sequence v) (sequence_items x v k) (rest_has x)) vs h
 function_has (items {x}) vs h =
     one_value (λ vs. IfSome (call_value function.Length vs) (Has integers)) (sequences x)
-    (λ v k. mapped_any (Has integers) (λ (ds : List Data). count ds) (as_sequence v) (λ ds. refl)) vs h
+    (λ v k. map_holds_any (Has integers) (λ (ds : List Data). count ds) (as_sequence v) (λ ds. refl)) vs h
 function_has (members {x}) vs h =
     one_value (λ vs. IfSome (call_value function.Size vs) (Has integers)) (sets x) (λ v k. size_has v) vs h
 function_has (keys {k} {v}) vs h =
@@ -204,28 +204,28 @@ function_has remainder vs h =
     two_values (λ vs. IfSome (call_value function.Remainder vs) (Has integers)) integers integers (λ v w k l. of_division int_rem_euclid v w) vs h
 function_has (inserted {x}) vs h =
     two_values (λ vs. IfSome (call_value function.Insert vs) (Has (sets x))) x (sets x)
-    (λ v w k l. mapped (AllByRecursion (Has x)) (Has (sets x)) (λ ds. finite_set_of (with_member v ds)) (as_set w) (set_members x w l)
+    (λ v w k l. map_holds (AllByRecursion (Has x)) (Has (sets x)) (λ ds. finite_set_of (with_member v ds)) (as_set w) (set_members x w l)
     (λ ds p. items_all x (with_member v ds) (all_with (Has x) v ds k p))) vs h
 function_has (deleted {x}) vs h =
     two_values (λ vs. IfSome (call_value function.Delete vs) (Has (sets x))) x (sets x)
-    (λ v w k l. mapped (AllByRecursion (Has x)) (Has (sets x)) (λ ds. finite_set_of (without_member v ds)) (as_set w) (set_members x w l)
+    (λ v w k l. map_holds (AllByRecursion (Has x)) (Has (sets x)) (λ ds. finite_set_of (without_member v ds)) (as_set w) (set_members x w l)
     (λ ds p. items_all x (without_member v ds) (all_without (Has x) v ds p))) vs h
 function_has (united {x}) vs h =
     two_values (λ vs. IfSome (call_value function.Union vs) (Has (sets x))) (sets x) (sets x)
-    (λ v w k l. chained (AllByRecursion (Has x)) (Has (sets x)) (λ ds. option_map (λ es. finite_set_of (union ds es)) (as_set w)) (as_set v) (set_members x v k)
-    (λ ds p. mapped (AllByRecursion (Has x)) (Has (sets x)) (λ es. finite_set_of (union ds es)) (as_set w) (set_members x w l)
+    (λ v w k l. and_then_holds (AllByRecursion (Has x)) (Has (sets x)) (λ ds. option_map (λ es. finite_set_of (union ds es)) (as_set w)) (as_set v) (set_members x v k)
+    (λ ds p. map_holds (AllByRecursion (Has x)) (Has (sets x)) (λ es. finite_set_of (union ds es)) (as_set w) (set_members x w l)
     (λ es q. items_all x (union ds es) (all_of_either (Has x) ds es p q)))) vs h
 function_has (updated {k = x} {v = y}) vs h =
     three_values (λ vs. IfSome (call_value function.Update vs) (Has (maps x y))) (maps x y) x y
-    (λ u v w j k l. mapped (AllByRecursion (HasEntry x y)) (Has (maps x y)) (λ es. finite_map_of (with_entry v w es)) (as_map u) (map_entries x y u j)
+    (λ u v w j k l. map_holds (AllByRecursion (HasEntry x y)) (Has (maps x y)) (λ es. finite_map_of (with_entry v w es)) (as_map u) (map_entries x y u j)
     (λ es p. entries_all x y (with_entry v w es) (with_entry_has x y v w es k l p))) vs h
 function_has (removed {k = x} {v = y}) vs h =
     two_values (λ vs. IfSome (call_value function.Remove vs) (Has (maps x y))) (maps x y) x
-    (λ v w k l. mapped (AllByRecursion (HasEntry x y)) (Has (maps x y)) (λ es. finite_map_of (without_key w es)) (as_map v) (map_entries x y v k)
+    (λ v w k l. map_holds (AllByRecursion (HasEntry x y)) (Has (maps x y)) (λ es. finite_map_of (without_key w es)) (as_map v) (map_entries x y v k)
     (λ es p. entries_all x y (without_key w es) (without_key_has x y w es p))) vs h
 function_has (defined {k = x} {v = y}) vs h =
     two_values (λ vs. IfSome (call_value function.Defined vs) (Has truths)) (maps x y) x
-    (λ v w k l. mapped_any (Has truths) (λ es. truth (is_there (value_at w es))) (as_map v) (λ es. refl)) vs h
+    (λ v w k l. map_holds_any (Has truths) (λ es. truth (is_there (value_at w es))) (as_map v) (λ es. refl)) vs h
 
 -- values of equal shapes all have that one
 all_alike : (x : PlainShape) (xs : List PlainShape) (vs : List Data) → AllByRecursion (λ y. y ≡ x) xs → HaveEach xs vs → AllByRecursion (Has x) vs
@@ -249,48 +249,48 @@ display_has form s xs vs d h = absurd d
 
 -- where naturals count as integers a value has its shape too
 mutual
-  pub counted_has : (s : PlainShape) (v : Data) → has_shape s v ≡ true → has_shape (counted s) v ≡ true
-  counted_has truths v h = h
-  counted_has integers v h = h
-  counted_has naturals (number z) h = refl
-  counted_has naturals _ h = absurd (cc)
-  counted_has (constants type from many) v h = h
-  counted_has (tuples type names fields) v h = h
-  counted_has (sequences s) (sequence ds) h = counted_all s ds h
-  counted_has (sequences s) _ h = absurd (cc)
-  counted_has (sets s) (finite_set ds) h = counted_all s ds h
-  counted_has (sets s) _ h = absurd (cc)
-  counted_has (maps x y) (finite_map es) h = counted_entries x y es h
-  counted_has (maps x y) _ h = absurd (cc)
+  pub shape_in_terms_has : (s : PlainShape) (v : Data) → has_shape s v ≡ true → has_shape (shape_in_terms s) v ≡ true
+  shape_in_terms_has truths v h = h
+  shape_in_terms_has integers v h = h
+  shape_in_terms_has naturals (number z) h = refl
+  shape_in_terms_has naturals _ h = absurd (cc)
+  shape_in_terms_has (constants type from many) v h = h
+  shape_in_terms_has (tuples type names fields) v h = h
+  shape_in_terms_has (sequences s) (sequence ds) h = shape_in_terms_all s ds h
+  shape_in_terms_has (sequences s) _ h = absurd (cc)
+  shape_in_terms_has (sets s) (finite_set ds) h = shape_in_terms_all s ds h
+  shape_in_terms_has (sets s) _ h = absurd (cc)
+  shape_in_terms_has (maps x y) (finite_map es) h = shape_in_terms_entries x y es h
+  shape_in_terms_has (maps x y) _ h = absurd (cc)
 
-  counted_all : (s : PlainShape) (ds : Items) → all_have s ds ≡ true → all_have (counted s) ds ≡ true
-  counted_all s no_items h = refl
-  counted_all s (item d ds) h =
+  shape_in_terms_all : (s : PlainShape) (ds : Items) → all_have s ds ≡ true → all_have (shape_in_terms s) ds ≡ true
+  shape_in_terms_all s no_items h = refl
+  shape_in_terms_all s (item d ds) h =
       let p = and_parts (has_shape s d) (all_have s ds) h in
-      rw (counted_has s d p.0) (counted_all s ds p.1)
+      rw (shape_in_terms_has s d p.0) (shape_in_terms_all s ds p.1)
 
-  counted_entries : (x y : PlainShape) (es : Entries) → entries_have x y es ≡ true → entries_have (counted x) (counted y) es ≡ true
-  counted_entries x y no_entries h = refl
-  counted_entries x y (entry k v es) h =
+  shape_in_terms_entries : (x y : PlainShape) (es : Entries) → entries_have x y es ≡ true → entries_have (shape_in_terms x) (shape_in_terms y) es ≡ true
+  shape_in_terms_entries x y no_entries h = refl
+  shape_in_terms_entries x y (entry k v es) h =
       let p = and_parts (has_shape x k) (has_shape y v && entries_have x y es) h in
       let q = and_parts (has_shape y v) (entries_have x y es) p.1 in
-      rw (counted_has x k p.0, counted_has y v q.0) (counted_entries x y es q.1)
+      rw (shape_in_terms_has x k p.0, shape_in_terms_has y v q.0) (shape_in_terms_entries x y es q.1)
 
 -- the field at a place has the shape at that place
-part_has : (ss : PlainShapes) (ds : Items) (i : ℕ) (s : PlainShape) → have_shapes ss ds ≡ true → option_map counted (slice_get (listed_shapes ss) i) ≡ Some s → IfSome (slice_get (list_of ds) i) (Has s)
+part_has : (ss : PlainShapes) (ds : Items) (i : ℕ) (s : PlainShape) → have_shapes ss ds ≡ true → option_map shape_in_terms (slice_get (listed_shapes ss) i) ≡ Some s → IfSome (slice_get (list_of ds) i) (Has s)
 part_has ss no_items i s h e = tt
 part_has no_shapes (item d ds) i s h e = absurd (cc)
 part_has (shape x ss) (item d ds) zero s h e =
     let p = and_parts (has_shape x d) (have_shapes ss ds) h in
-    let f : counted x ≡ s = cc in
-    subst (λ (z : PlainShape). Has z d) f (counted_has x d p.0)
+    let f : shape_in_terms x ≡ s = cc in
+    subst (λ (z : PlainShape). Has z d) f (shape_in_terms_has x d p.0)
 part_has (shape x ss) (item d ds) (suc i) s h e = part_has ss ds i s (and_parts (has_shape x d) (have_shapes ss ds) h).1 e
 
-named_part_has : (ss : PlainShapes) (ds : Items) (o : Option ℕ) (s : PlainShape) → have_shapes ss ds ≡ true → option_map counted (option_and_then (slice_get (listed_shapes ss)) o) ≡ Some s → IfSome (option_and_then (slice_get (list_of ds)) o) (Has s)
+named_part_has : (ss : PlainShapes) (ds : Items) (o : Option ℕ) (s : PlainShape) → have_shapes ss ds ≡ true → option_map shape_in_terms (option_and_then (slice_get (listed_shapes ss)) o) ≡ Some s → IfSome (option_and_then (slice_get (list_of ds)) o) (Has s)
 named_part_has ss ds None s h e = tt
 named_part_has ss ds (Some i) s h e = part_has ss ds i s h e
 
 -- what a field makes
-pub field_has : (t : PlainShape) (w : List ℕ) (s : PlainShape) (v : Data) → option_map counted (field_shape w t) ≡ Some s → Has t v → IfSome (field_value t w v) (Has s)
-field_has (tuples type names ss) w s (tuple ds) e h = named_part_has ss ds (field_place w names) s h e
+pub field_has : (t : PlainShape) (w : List ℕ) (s : PlainShape) (v : Data) → option_map shape_in_terms (field_shape w t) ≡ Some s → Has t v → IfSome (field_value t w v) (Has s)
+field_has (tuples type names ss) w s (tuple ds) e h = named_part_has ss ds (field_position w names) s h e
 field_has t w s v e h = tt

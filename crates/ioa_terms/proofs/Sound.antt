@@ -2,54 +2,54 @@
 use Rattle.std.proofs.Common.{◌≡◌, ℕ, List, [], ◌∷◌, Option, Some, None, refl, subst, true}
 use Rattle.std.specs.Option.{IfSome, option_and_then, option_map, option_or}
 use Rattle.ioa_values.specs.Data.{Data}
-use Rattle.ioa_operators.specs.Operators.{unary_value, binary_value, decided}
+use Rattle.ioa_operators.specs.Operators.{unary_value, binary_value, left_decision}
 use Rattle.ioa_operators.specs.Shapes.{PlainShape, has_shape, display_value, field_value}
 use Rattle.ioa_operators.specs.ShapeView.{shape_of}
 use Rattle.ioa_terms.specs.Bindings.{Bindings, lookup}
 use Rattle.ioa_terms.specs.PlainTerm as plain
 use Rattle.ioa_terms.specs.PlainTerm.{PlainTerm, PlainTerms, name, one, two, call, display, field, no_terms, term}
-use Rattle.ioa_terms.specs.Meaning.{value, values, called}
-use Rattle.ioa_terms.specs.Sorted.{Shaped, shape_named, counted, HasShape, HaveShapes, IsShaped}
-use Rattle.ioa_terms.proofs.ShapesKept.{Has, HaveEach, counted_has, one_or_other, unary_has, decided_has, binary_has, function_has, display_has, field_has}
+use Rattle.ioa_terms.specs.Meaning.{value, values, named_call_value}
+use Rattle.ioa_terms.specs.Sorted.{NameShapes, shape_named, shape_in_terms, HasShape, HaveShapes, IsShaped}
+use Rattle.ioa_terms.proofs.ShapesKept.{Has, HaveEach, shape_in_terms_has, one_or_other, unary_has, decision_has, binary_has, function_has, display_has, field_has}
 use Rattle.ioa_operators.specs.declared.shape.Shape.{Shape}
-use Rattle.ioa_operators.proofs.Canonicals.{mapped, chained}
+use Rattle.ioa_operators.proofs.Canonicals.{map_holds, and_then_holds}
 
 each : (P : Data → Type 0) (o : Option Data) → ((v : Data) → o ≡ Some v → P v) → IfSome o P
 each P None g = tt
 each P (Some v) g = g v refl
 
 -- what a name has
-named_has : (names : Shaped) (e : Bindings) → IsShaped names e → (x : List ℕ) (s : PlainShape) (v : Data) (o : Option PlainShape) → shape_named x names ≡ o → option_map counted o ≡ Some s → lookup x e ≡ Some v → Has s v
+named_has : (names : NameShapes) (e : Bindings) → IsShaped names e → (x : List ℕ) (s : PlainShape) (v : Data) (o : Option PlainShape) → shape_named x names ≡ o → option_map shape_in_terms o ≡ Some s → lookup x e ≡ Some v → Has s v
 named_has names e g x s v (Some z) q h k =
-    let f : counted z ≡ s = cc in
-    subst (λ (y : PlainShape). Has y v) f (counted_has z v (g x z v q k))
+    let f : shape_in_terms z ≡ s = cc in
+    subst (λ (y : PlainShape). Has y v) f (shape_in_terms_has z v (g x z v q k))
 named_has names e g x s v None q h k = absurd (cc)
 
 mutual
-  sound : {N : Type 0} (names : Shaped) (e : Bindings) → IsShaped names e → (t : PlainTerm N Shape) (s : PlainShape) → HasShape names t s → IfSome (value t e) (Has s)
+  sound : {N : Type 0} (names : NameShapes) (e : Bindings) → IsShaped names e → (t : PlainTerm N Shape) (s : PlainShape) → HasShape names t s → IfSome (value t e) (Has s)
   sound names e g (plain.number n) s h = rw h refl
   sound names e g (plain.truth b) s h = rw h refl
   sound names e g (name x at) s h = each (Has s) (lookup x e) (λ v k. named_has names e g x s v (shape_named x names) refl h k)
-  sound names e g (one op a) s h = chained (Has h.0) (Has s) (unary_value op) (value a e) (sound names e g a h.0 h.1) (λ v k. unary_has h.2 v)
+  sound names e g (one op a) s h = and_then_holds (Has h.0) (Has s) (unary_value op) (value a e) (sound names e g a h.0 h.1) (λ v k. unary_has h.2 v)
   sound names e g (two op a b) s h =
-      chained (Has h.0) (Has s) (λ v. option_or (decided op v) (option_and_then (binary_value op v) (value b e))) (value a e) (sound names e g a h.0 h.2)
-      (λ v k. one_or_other (Has s) (decided op v) (option_and_then (binary_value op v) (value b e)) (decided_has h.4 v)
-      (chained (Has h.1) (Has s) (binary_value op v) (value b e) (sound names e g b h.1 h.3) (λ w l. binary_has h.4 v w k l)))
+      and_then_holds (Has h.0) (Has s) (λ v. option_or (left_decision op v) (option_and_then (binary_value op v) (value b e))) (value a e) (sound names e g a h.0 h.2)
+      (λ v k. one_or_other (Has s) (left_decision op v) (option_and_then (binary_value op v) (value b e)) (decision_has h.4 v)
+      (and_then_holds (Has h.1) (Has s) (binary_value op v) (value b e) (sound names e g b h.1 h.3) (λ w l. binary_has h.4 v w k l)))
   sound names e g (call w ts) s h =
-      chained (HaveEach h.1) (Has s) (called w) (values ts e) (all_sound names e g ts h.1 h.3) (λ vs k. rw (h.2) (function_has h.4 vs k))
+      and_then_holds (HaveEach h.1) (Has s) (named_call_value w) (values ts e) (all_sound names e g ts h.1 h.3) (λ vs k. rw (h.2) (function_has h.4 vs k))
   sound names e g (display form d ts) s h =
-      rw (h.1) (chained (HaveEach h.0) (Has (shape_of d)) (display_value form (shape_of d)) (values ts e) (all_sound names e g ts h.0 h.2) (λ vs k. display_has form (shape_of d) h.0 vs h.3 k))
+      rw (h.1) (and_then_holds (HaveEach h.0) (Has (shape_of d)) (display_value form (shape_of d)) (values ts e) (all_sound names e g ts h.0 h.2) (λ vs k. display_has form (shape_of d) h.0 vs h.3 k))
   sound names e g (field a w d) s h =
-      chained (Has (shape_of d)) (Has s) (field_value (shape_of d) w) (value a e) (sound names e g a (shape_of d) h.0) (λ v k. field_has (shape_of d) w s v h.1 k)
+      and_then_holds (Has (shape_of d)) (Has s) (field_value (shape_of d) w) (value a e) (sound names e g a (shape_of d) h.0) (λ v k. field_has (shape_of d) w s v h.1 k)
 
-  all_sound : {N : Type 0} (names : Shaped) (e : Bindings) → IsShaped names e → (ts : PlainTerms N Shape) (xs : List PlainShape) → HaveShapes names ts xs → IfSome (values ts e) (HaveEach xs)
+  all_sound : {N : Type 0} (names : NameShapes) (e : Bindings) → IsShaped names e → (ts : PlainTerms N Shape) (xs : List PlainShape) → HaveShapes names ts xs → IfSome (values ts e) (HaveEach xs)
   all_sound names e g no_terms [] h = tt
   all_sound names e g no_terms (x ∷ xs) h = absurd h
   all_sound names e g (term t more) [] h = absurd h
   all_sound names e g (term t more) (x ∷ xs) h =
-      chained (Has x) (HaveEach (x ∷ xs)) (λ v. option_map (λ vs. v ∷ vs) (values more e)) (value t e) (sound names e g t x h.0)
-      (λ v k. mapped (HaveEach xs) (HaveEach (x ∷ xs)) (λ vs. v ∷ vs) (values more e) (all_sound names e g more xs h.1) (λ vs l. (k, l)))
+      and_then_holds (Has x) (HaveEach (x ∷ xs)) (λ v. option_map (λ vs. v ∷ vs) (values more e)) (value t e) (sound names e g t x h.0)
+      (λ v k. map_holds (HaveEach xs) (HaveEach (x ∷ xs)) (λ vs. v ∷ vs) (values more e) (all_sound names e g more xs h.1) (λ vs l. (k, l)))
 
 -- the value of a term, where it has one, has the shape of the term
-pub value_has : {N : Type 0} (names : Shaped) (e : Bindings) → IsShaped names e → (t : PlainTerm N Shape) (s : PlainShape) → HasShape names t s → (v : Data) → value t e ≡ Some v → has_shape s v ≡ true
+pub value_has : {N : Type 0} (names : NameShapes) (e : Bindings) → IsShaped names e → (t : PlainTerm N Shape) (s : PlainShape) → HasShape names t s → (v : Data) → value t e ≡ Some v → has_shape s v ≡ true
 value_has names e g t s h v k = rw k at (sound names e g t s h)

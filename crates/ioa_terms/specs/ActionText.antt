@@ -30,5 +30,5 @@ action_text names (Stimulus a) = node_action_text names a
 
 -- a piece of a list that is written with commas, by its place there
 abbrev pub after_comma : ℕ → List ℕ → List ℕ
-after_comma zero piece = piece
-after_comma (suc n) piece = codes ", " ++ piece
+after_comma zero item = item
+after_comma (suc n) item = codes ", " ++ item

@@ -27,9 +27,9 @@ abbrev pub names_of : Bindings → List (List ℕ)
 names_of e = map (λ b. b.0) e
 
 -- the first place of a name in a list of names
-abbrev pub place_in : List ℕ → List (List ℕ) → Option ℕ
-place_in x [] = None
-place_in x (y ∷ ys) = if same_name x y then Some 0 else option_map (λ k. k + 1) (place_in x ys)
+abbrev pub slot_in : List ℕ → List (List ℕ) → Option ℕ
+slot_in x [] = None
+slot_in x (y ∷ ys) = if same_name x y then Some 0 else option_map (λ k. k + 1) (slot_in x ys)
 
 -- the constants of the text's enumerations, each under its name: a constant is its place among them
 abbrev pub constants_from : ℕ → List (List ℕ) → Bindings

@@ -5,7 +5,7 @@ pub use Rattle.ioa_values.specs.DataOrder
 pub use Rattle.ioa_values.specs.Outcome
 pub use Rattle.ioa_values.specs.Text
 pub use Rattle.ioa_operators.specs.Canonical
-pub use Rattle.ioa_operators.specs.Judged
+pub use Rattle.ioa_operators.specs.RangeCheck
 pub use Rattle.ioa_operators.specs.Operators
 pub use Rattle.ioa_operators.specs.Shapes
 pub use Rattle.ioa_operators.specs.ShapeView
@@ -16,8 +16,8 @@ pub mod Bindings
 pub mod Slots
 pub mod Meaning
 pub mod Performance
-pub mod Placed
-pub mod Bounded
+pub mod Resolved
+pub mod Stepwise
 pub mod Sorted
 pub mod Undefined
 pub mod Ascending

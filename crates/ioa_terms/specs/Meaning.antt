@@ -2,10 +2,10 @@
 use Rattle.std.specs.Prelude.{ℕ, List, [], ◌∷◌, ◌++◌, Option, Some, None, Result}
 use Rattle.std.specs.Option.{option_and_then, option_map, option_or}
 use Rattle.ioa_values.specs.Data.{Data, number, truth}
-use Rattle.ioa_operators.specs.Operators.{unary_value, binary_value, decided, function_named, call_value}
+use Rattle.ioa_operators.specs.Operators.{unary_value, binary_value, left_decision, function_named, call_value}
 use Rattle.ioa_operators.specs.Shapes.{display_value, field_value}
 use Rattle.ioa_operators.specs.ShapeView.{shape_of}
-use Rattle.ioa_operators.specs.Judged.{judged, result_of}
+use Rattle.ioa_operators.specs.RangeCheck.{range_check, result_of}
 use Rattle.ioa_terms.specs.Bindings.{Bindings, lookup}
 use Rattle.ioa_terms.specs.PlainTerm as plain
 use Rattle.ioa_terms.specs.PlainTerm.{PlainTerm, PlainTerms, name, one, two, call, display, field, no_terms, term}
@@ -14,8 +14,8 @@ use Rattle.ioa_operators.specs.declared.shape.Shape.{Shape}
 use Rattle.ioa_operators.specs.declared.fault.TermFault.{TermFault}
 
 -- the value of a function, by its name
-abbrev pub called : List ℕ → List Data → Option Data
-called w vs = option_and_then (λ f. call_value f vs) (function_named w)
+abbrev pub named_call_value : List ℕ → List Data → Option Data
+named_call_value w vs = option_and_then (λ f. call_value f vs) (function_named w)
 
 abbrev mutual
   -- the value of a term in an environment, where there is one; the right side of an operator counts only where the left
@@ -25,8 +25,8 @@ abbrev mutual
   value (plain.truth b) e = Some (truth b)
   value (name x at) e = lookup x e
   value (one op a) e = option_and_then (unary_value op) (value a e)
-  value (two op a b) e = option_and_then (λ x. option_or (decided op x) (option_and_then (binary_value op x) (value b e))) (value a e)
-  value (call w ts) e = option_and_then (called w) (values ts e)
+  value (two op a b) e = option_and_then (λ x. option_or (left_decision op x) (option_and_then (binary_value op x) (value b e))) (value a e)
+  value (call w ts) e = option_and_then (named_call_value w) (values ts e)
   value (display form d ts) e = option_and_then (display_value form (shape_of d)) (values ts e)
   value (field a w d) e = option_and_then (field_value (shape_of d) w) (value a e)
 
@@ -48,25 +48,25 @@ if_none (Some v) ds = []
 -- what comes after the left side of an operator: nothing where that has no value or decides
 abbrev pub if_open : BinaryOperator → Option Data → List Data → List Data
 if_open op None ds = []
-if_open op (Some x) ds = if_none (decided op x) ds
+if_open op (Some x) ds = if_none (left_decision op x) ds
 
 abbrev mutual
   -- the results of the parts of a term that are taken: left part, right part, whole, up to the first that has no value
-  pub met : {N : Type 0} → PlainTerm N Shape → Bindings → List Data
-  met (plain.number n) e = number n ∷ []
-  met (plain.truth b) e = truth b ∷ []
-  met (name x at) e = result_of (lookup x e)
-  met (one op a) e = met a e ++ result_of (value (one op a) e)
-  met (two op a b) e = met a e ++ (if_open op (value a e) (met b e) ++ result_of (value (two op a b) e))
-  met (call w ts) e = all_met ts e ++ result_of (value (call w ts) e)
-  met (display form d ts) e = all_met ts e ++ result_of (value (display form d ts) e)
-  met (field a w d) e = met a e ++ result_of (value (field a w d) e)
+  pub numbers_met : {N : Type 0} → PlainTerm N Shape → Bindings → List Data
+  numbers_met (plain.number n) e = number n ∷ []
+  numbers_met (plain.truth b) e = truth b ∷ []
+  numbers_met (name x at) e = result_of (lookup x e)
+  numbers_met (one op a) e = numbers_met a e ++ result_of (value (one op a) e)
+  numbers_met (two op a b) e = numbers_met a e ++ (if_open op (value a e) (numbers_met b e) ++ result_of (value (two op a b) e))
+  numbers_met (call w ts) e = all_numbers_met ts e ++ result_of (value (call w ts) e)
+  numbers_met (display form d ts) e = all_numbers_met ts e ++ result_of (value (display form d ts) e)
+  numbers_met (field a w d) e = numbers_met a e ++ result_of (value (field a w d) e)
 
   -- the same of terms, one after another
-  pub all_met : {N : Type 0} → PlainTerms N Shape → Bindings → List Data
-  all_met no_terms e = []
-  all_met (term t more) e = met t e ++ if_any (value t e) (all_met more e)
+  pub all_numbers_met : {N : Type 0} → PlainTerms N Shape → Bindings → List Data
+  all_numbers_met no_terms e = []
+  all_numbers_met (term t more) e = numbers_met t e ++ if_any (value t e) (all_numbers_met more e)
 
 -- what evaluating a term answers: 2 where a number met lies outside 64 bits, else 1 where there is no value, else the value
 abbrev pub answer : {N : Type 0} → PlainTerm N Shape → Bindings → Result Data TermFault
-answer t e = judged (met t e) (value t e)
+answer t e = range_check (numbers_met t e) (value t e)

@@ -5,43 +5,43 @@ use Rattle.ioa_values.specs.Data.{Data, as_truth}
 use Rattle.ioa_operators.specs.Operators.{call_value}
 use Rattle.ioa_operators.specs.Shapes.{PlainShape, has_shape, with_field}
 use Rattle.ioa_operators.specs.ShapeView.{shape_of}
-use Rattle.ioa_operators.specs.Judged.{judged}
+use Rattle.ioa_operators.specs.RangeCheck.{range_check}
 use Rattle.ioa_terms.specs.Bindings.{Bindings, lookup, put}
-use Rattle.ioa_terms.specs.PlainTerm.{PlainTerm, PlainPlace, variable, at_key, at_field, PlainStatement, PlainStatements, PlainArms, assign, choose, fire, no_statements, statement, no_arms, arm, statements_of}
-use Rattle.ioa_terms.specs.Meaning.{value, met, if_any}
+use Rattle.ioa_terms.specs.PlainTerm.{PlainTerm, PlainTarget, variable, at_key, at_field, PlainStatement, PlainStatements, PlainArms, assign, choose, fire, no_statements, statement, no_arms, arm, statements_of}
+use Rattle.ioa_terms.specs.Meaning.{value, numbers_met, if_any}
 use Rattle.ioa_operators.specs.declared.operator.Function.TheVariants as function
 use Rattle.ioa_operators.specs.declared.shape.Shape.{Shape}
 use Rattle.ioa_operators.specs.declared.fault.TermFault.{TermFault}
 
 -- the variable that an assignment changes, and its shape
-abbrev pub target : {N D : Type 0} → PlainPlace N D → List ℕ
-target (variable x at d) = x
-target (at_key x at d k) = x
-target (at_field x at d f) = x
+abbrev pub target_name : {N D : Type 0} → PlainTarget N D → List ℕ
+target_name (variable x at d) = x
+target_name (at_key x at d k) = x
+target_name (at_field x at d f) = x
 
-abbrev pub target_shape : {N : Type 0} → PlainPlace N Shape → PlainShape
+abbrev pub target_shape : {N : Type 0} → PlainTarget N Shape → PlainShape
 target_shape (variable x at d) = shape_of d
 target_shape (at_key x at d k) = shape_of d
 target_shape (at_field x at d f) = shape_of d
 
 -- a map in which a key has a value
-abbrev pub updated : Data → Data → Data → Option Data
-updated k v m = call_value function.Update (m ∷ k ∷ v ∷ [])
+abbrev pub updated_map : Data → Data → Data → Option Data
+updated_map k v m = call_value function.Update (m ∷ k ∷ v ∷ [])
 
 -- what an assignment gives its variable: the term's value; the map with it at the key, which is evaluated first; or the
 -- tuple with it as the field
-abbrev pub assigned : {N : Type 0} → PlainPlace N Shape → PlainTerm N Shape → Bindings → Option Data
-assigned (variable x at d) t e = value t e
-assigned (at_key x at d k) t e = option_and_then (λ i. option_and_then (λ v. option_and_then (updated i v) (lookup x e)) (value t e)) (value k e)
-assigned (at_field x at d f) t e = option_and_then (λ v. option_and_then (with_field (shape_of d) f v) (lookup x e)) (value t e)
+abbrev pub assignment_value : {N : Type 0} → PlainTarget N Shape → PlainTerm N Shape → Bindings → Option Data
+assignment_value (variable x at d) t e = value t e
+assignment_value (at_key x at d k) t e = option_and_then (λ i. option_and_then (λ v. option_and_then (updated_map i v) (lookup x e)) (value t e)) (value k e)
+assignment_value (at_field x at d f) t e = option_and_then (λ v. option_and_then (with_field (shape_of d) f v) (lookup x e)) (value t e)
 
 -- a value where a shape is wanted: a negative number is no natural
-abbrev pub fitted : PlainShape → Data → Option Data
-fitted s v = if has_shape s v then Some v else None
+abbrev pub fitting_value : PlainShape → Data → Option Data
+fitting_value s v = if has_shape s v then Some v else None
 
 -- the truth value of a test
-abbrev pub tested : {N : Type 0} → PlainTerm N Shape → Bindings → Option Bool
-tested t e = option_and_then as_truth (value t e)
+abbrev pub test_value : {N : Type 0} → PlainTerm N Shape → Bindings → Option Bool
+test_value t e = option_and_then as_truth (value t e)
 
 -- what comes after a test: one of two, or neither where the test has no truth value
 abbrev pub by_test : {A : Type 0} → Option Bool → A → A → A → A
@@ -52,14 +52,14 @@ by_test (Some false) neither held other = other
 abbrev mutual
   -- the environment after one statement; a firing is no part of an effect and leaves none
   pub after_one : {N : Type 0} → PlainStatement N Shape → Bindings → Option Bindings
-  after_one (assign p t) e = option_map (λ v. put (target p) v e) (option_and_then (fitted (target_shape p)) (assigned p t e))
+  after_one (assign p t) e = option_map (λ v. put (target_name p) v e) (option_and_then (fitting_value (target_shape p)) (assignment_value p t e))
   after_one (choose arms rest) e = after_choice arms (after_all rest e) e
   after_one (fire kind action arguments) e = None
 
   -- the environment after the first arm whose test is true, or what is left where none is
   pub after_choice : {N : Type 0} → PlainArms N Shape → Option Bindings → Bindings → Option Bindings
   after_choice no_arms rest e = rest
-  after_choice (arm t body more) rest e = by_test (tested t e) None (after_all body e) (after_choice more rest e)
+  after_choice (arm t body more) rest e = by_test (test_value t e) None (after_all body e) (after_choice more rest e)
 
   -- the environment after statements in order, each seeing what the one before left
   pub after_all : {N : Type 0} → PlainStatements N Shape → Bindings → Option Bindings
@@ -67,40 +67,40 @@ abbrev mutual
   after_all (statement s more) e = option_and_then (after_all more) (after_one s e)
 
 -- what comes after a statement: nothing where it leaves no environment
-abbrev pub met_after : Option Bindings → (Bindings → List Data) → List Data
-met_after None more = []
-met_after (Some e) more = more e
+abbrev pub numbers_met_after : Option Bindings → (Bindings → List Data) → List Data
+numbers_met_after None more = []
+numbers_met_after (Some e) more = more e
 
 -- the results that an assignment meets: the key's and then the term's
-abbrev pub met_assigned : {N : Type 0} → PlainPlace N Shape → PlainTerm N Shape → Bindings → List Data
-met_assigned (variable x at d) t e = met t e
-met_assigned (at_key x at d k) t e = met k e ++ if_any (value k e) (met t e)
-met_assigned (at_field x at d f) t e = met t e
+abbrev pub numbers_met_by_assignment : {N : Type 0} → PlainTarget N Shape → PlainTerm N Shape → Bindings → List Data
+numbers_met_by_assignment (variable x at d) t e = numbers_met t e
+numbers_met_by_assignment (at_key x at d k) t e = numbers_met k e ++ if_any (value k e) (numbers_met t e)
+numbers_met_by_assignment (at_field x at d f) t e = numbers_met t e
 
 abbrev mutual
   -- the results that one statement meets
-  pub met_one : {N : Type 0} → PlainStatement N Shape → Bindings → List Data
-  met_one (assign p t) e = met_assigned p t e
-  met_one (choose arms rest) e = met_choice arms (met_all rest e) e
-  met_one (fire kind action arguments) e = []
+  pub numbers_met_by_one : {N : Type 0} → PlainStatement N Shape → Bindings → List Data
+  numbers_met_by_one (assign p t) e = numbers_met_by_assignment p t e
+  numbers_met_by_one (choose arms rest) e = numbers_met_by_choice arms (numbers_met_by_all rest e) e
+  numbers_met_by_one (fire kind action arguments) e = []
 
   -- the results that a choice meets: tests in order, and then those of what is chosen
-  pub met_choice : {N : Type 0} → PlainArms N Shape → List Data → Bindings → List Data
-  met_choice no_arms rest e = rest
-  met_choice (arm t body more) rest e = met t e ++ by_test (tested t e) [] (met_all body e) (met_choice more rest e)
+  pub numbers_met_by_choice : {N : Type 0} → PlainArms N Shape → List Data → Bindings → List Data
+  numbers_met_by_choice no_arms rest e = rest
+  numbers_met_by_choice (arm t body more) rest e = numbers_met t e ++ by_test (test_value t e) [] (numbers_met_by_all body e) (numbers_met_by_choice more rest e)
 
   -- the results that statements meet, one statement after another
-  pub met_all : {N : Type 0} → PlainStatements N Shape → Bindings → List Data
-  met_all no_statements e = []
-  met_all (statement s more) e = met_one s e ++ met_after (after_one s e) (met_all more)
+  pub numbers_met_by_all : {N : Type 0} → PlainStatements N Shape → Bindings → List Data
+  numbers_met_by_all no_statements e = []
+  numbers_met_by_all (statement s more) e = numbers_met_by_one s e ++ numbers_met_after (after_one s e) (numbers_met_by_all more)
 
 -- the same of statements in a list
 abbrev pub after : {N : Type 0} → List (PlainStatement N Shape) → Bindings → Option Bindings
 after ss e = after_all (statements_of ss) e
 
-abbrev pub met_by : {N : Type 0} → List (PlainStatement N Shape) → Bindings → List Data
-met_by ss e = met_all (statements_of ss) e
+abbrev pub numbers_met_by : {N : Type 0} → List (PlainStatement N Shape) → Bindings → List Data
+numbers_met_by ss e = numbers_met_by_all (statements_of ss) e
 
 -- what performing statements answers
 abbrev pub answer_by : {N : Type 0} → List (PlainStatement N Shape) → Bindings → Result Bindings TermFault
-answer_by ss e = judged (met_by ss e) (after ss e)
+answer_by ss e = range_check (numbers_met_by ss e) (after ss e)

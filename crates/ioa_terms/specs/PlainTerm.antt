@@ -31,17 +31,17 @@ terms_of [] = no_terms
 terms_of (t ∷ more) = term t (terms_of more)
 
 -- where an assignment puts a value (profile): a variable, a map's value at a key, or a tuple's field
-pub data PlainPlace (N D : Type 0) : Type 0 where
-  variable : List ℕ → N → D → PlainPlace N D
-  at_key : List ℕ → N → D → PlainTerm N D → PlainPlace N D
-  at_field : List ℕ → N → D → List ℕ → PlainPlace N D
-  deriving IsSet as PlainPlace-set
+pub data PlainTarget (N D : Type 0) : Type 0 where
+  variable : List ℕ → N → D → PlainTarget N D
+  at_key : List ℕ → N → D → PlainTerm N D → PlainTarget N D
+  at_field : List ℕ → N → D → List ℕ → PlainTarget N D
+  deriving IsSet as PlainTarget-set
 
 mutual
   -- a statement (profile): an assignment, an `if` of arms and the rest, or in a schedule the firing of an action, with
   -- its kind where that is written
   pub data PlainStatement (N D : Type 0) : Type 0 where
-    assign : PlainPlace N D → PlainTerm N D → PlainStatement N D
+    assign : PlainTarget N D → PlainTerm N D → PlainStatement N D
     choose : PlainArms N D → PlainStatements N D → PlainStatement N D
     fire : Option Kind → List ℕ → List (PlainTerm N D) → PlainStatement N D
     deriving IsSet as PlainStatement-set

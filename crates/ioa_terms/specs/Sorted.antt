@@ -5,7 +5,7 @@ use Rattle.std.specs.Option.{option_and_then, option_map}
 use Rattle.std.specs.List.{AllByRecursion}
 use Rattle.ioa_values.specs.Data.{Data}
 use Rattle.ioa_operators.specs.Operators.{function_named}
-use Rattle.ioa_operators.specs.Shapes.{PlainShape, PlainShapes, truths, integers, naturals, constants, tuples, sequences, sets, maps, no_shapes, shape, has_shape, field_place}
+use Rattle.ioa_operators.specs.Shapes.{PlainShape, PlainShapes, truths, integers, naturals, constants, tuples, sequences, sets, maps, no_shapes, shape, has_shape, field_position}
 use Rattle.ioa_operators.specs.ShapeView.{shape_of}
 use Rattle.ioa_terms.specs.Bindings.{Bindings, same_name, lookup}
 use Rattle.ioa_terms.specs.PlainTerm as plain
@@ -21,15 +21,15 @@ use Rattle.ioa_operators.specs.declared.shape.DisplayForm.TheVariants.{Braces, B
 use Rattle.ioa_operators.specs.declared.shape.Shape.{Shape}
 
 -- a shape where naturals count as integers, inside sequences, sets and maps too; a tuple type keeps its fields
-abbrev pub counted : PlainShape → PlainShape
-counted truths = truths
-counted integers = integers
-counted naturals = integers
-counted (constants type from many) = constants type from many
-counted (tuples type names fields) = tuples type names fields
-counted (sequences s) = sequences (counted s)
-counted (sets s) = sets (counted s)
-counted (maps k v) = maps (counted k) (counted v)
+abbrev pub shape_in_terms : PlainShape → PlainShape
+shape_in_terms truths = truths
+shape_in_terms integers = integers
+shape_in_terms naturals = integers
+shape_in_terms (constants type from many) = constants type from many
+shape_in_terms (tuples type names fields) = tuples type names fields
+shape_in_terms (sequences s) = sequences (shape_in_terms s)
+shape_in_terms (sets s) = sets (shape_in_terms s)
+shape_in_terms (maps k v) = maps (shape_in_terms k) (shape_in_terms v)
 
 -- an operator before a term: the shapes of its side and of its value
 pub data UnaryIs : UnaryOperator → PlainShape → PlainShape → Type 0 where
@@ -75,10 +75,10 @@ pub data FunctionIs : Function → List PlainShape → PlainShape → Type 0 whe
   defined : {k v : PlainShape} → FunctionIs Defined (maps k v ∷ k ∷ []) truths
 
 -- the shapes of the names in view, as declared; the first of a name counts
-abbrev pub Shaped : Type 0
-Shaped = List (List ℕ × PlainShape)
+abbrev pub NameShapes : Type 0
+NameShapes = List (List ℕ × PlainShape)
 
-abbrev pub shape_named : List ℕ → Shaped → Option PlainShape
+abbrev pub shape_named : List ℕ → NameShapes → Option PlainShape
 shape_named x [] = None
 shape_named x (n ∷ names) = if same_name x n.0 then Some n.1 else shape_named x names
 
@@ -92,7 +92,7 @@ field_shape w truths = None
 field_shape w integers = None
 field_shape w naturals = None
 field_shape w (constants type from many) = None
-field_shape w (tuples type names fields) = option_and_then (slice_get (listed_shapes fields)) (field_place w names)
+field_shape w (tuples type names fields) = option_and_then (slice_get (listed_shapes fields)) (field_position w names)
 field_shape w (sequences s) = None
 field_shape w (sets s) = None
 field_shape w (maps k v) = None
@@ -102,28 +102,28 @@ abbrev pub DisplayIs : DisplayForm → List PlainShape → PlainShape → Type 0
 DisplayIs Braces xs (sequences x) = AllByRecursion (λ y. y ≡ x) xs
 DisplayIs Braces xs (sets x) = AllByRecursion (λ y. y ≡ x) xs
 DisplayIs Braces xs (maps k v) = xs ≡ []
-DisplayIs Brackets xs (tuples type names fields) = xs ≡ map counted (listed_shapes fields)
+DisplayIs Brackets xs (tuples type names fields) = xs ≡ map shape_in_terms (listed_shapes fields)
 DisplayIs form xs s = ⊥
 
 abbrev mutual
   -- a term has a shape; a name has its own, where naturals count as integers; a display has the one that stands beside it
-  pub HasShape : {N : Type 0} → Shaped → PlainTerm N Shape → PlainShape → Type 0
+  pub HasShape : {N : Type 0} → NameShapes → PlainTerm N Shape → PlainShape → Type 0
   HasShape names (plain.number n) s = s ≡ integers
   HasShape names (plain.truth b) s = s ≡ truths
-  HasShape names (name x at) s = option_map counted (shape_named x names) ≡ Some s
+  HasShape names (name x at) s = option_map shape_in_terms (shape_named x names) ≡ Some s
   HasShape names (one op a) s = (x : PlainShape) × HasShape names a x × UnaryIs op x s
   HasShape names (two op a b) s = (x : PlainShape) × (y : PlainShape) × HasShape names a x × HasShape names b y × BinaryIs op x y s
   HasShape names (call w ts) s = (f : Function) × (xs : List PlainShape) × (function_named w ≡ Some f) × HaveShapes names ts xs × FunctionIs f xs s
   HasShape names (display form d ts) s = (xs : List PlainShape) × (s ≡ shape_of d) × HaveShapes names ts xs × DisplayIs form xs (shape_of d)
-  HasShape names (field a w d) s = HasShape names a (shape_of d) × (option_map counted (field_shape w (shape_of d)) ≡ Some s)
+  HasShape names (field a w d) s = HasShape names a (shape_of d) × (option_map shape_in_terms (field_shape w (shape_of d)) ≡ Some s)
 
   -- terms have shapes, one by one
-  pub HaveShapes : {N : Type 0} → Shaped → PlainTerms N Shape → List PlainShape → Type 0
+  pub HaveShapes : {N : Type 0} → NameShapes → PlainTerms N Shape → List PlainShape → Type 0
   HaveShapes names no_terms [] = Unit {0}
   HaveShapes names no_terms (x ∷ xs) = ⊥
   HaveShapes names (term t more) [] = ⊥
   HaveShapes names (term t more) (x ∷ xs) = HasShape names t x × HaveShapes names more xs
 
 -- each value of an environment has the shape of its name
-abbrev pub IsShaped : Shaped → Bindings → Type 0
+abbrev pub IsShaped : NameShapes → Bindings → Type 0
 IsShaped names e = (x : List ℕ) (s : PlainShape) (v : Data) → shape_named x names ≡ Some s → lookup x e ≡ Some v → has_shape s v ≡ true

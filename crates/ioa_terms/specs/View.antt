@@ -2,12 +2,12 @@
 use Rattle.std.specs.Prelude.{map}
 use Rattle.ioa_terms.specs.declared.tree.Tree.{Tree, fold-Tree}
 use Rattle.ioa_terms.specs.declared.tree.Tree.TheOpen.{Tree-F}
-use Rattle.ioa_terms.specs.declared.tree.Place.{Place}
-use Rattle.ioa_terms.specs.declared.tree.Place.TheVariants as place
+use Rattle.ioa_terms.specs.declared.tree.Target.{Target}
+use Rattle.ioa_terms.specs.declared.tree.Target.TheVariants as target
 use Rattle.ioa_terms.specs.declared.tree.Statement.{Statement, fold-Statement}
 use Rattle.ioa_terms.specs.declared.tree.Statement.TheOpen.{Statement-F, Arm-F}
 use Rattle.ioa_terms.specs.declared.tree.Arm.{Arm, fold-Arm}
-use Rattle.ioa_terms.specs.PlainTerm.{PlainTerm, number, truth, name, one, two, call, display, field, terms_of, PlainPlace, variable, at_key, at_field, PlainStatement, PlainStatements, assign, choose, fire, statements_of, arms_of}
+use Rattle.ioa_terms.specs.PlainTerm.{PlainTerm, number, truth, name, one, two, call, display, field, terms_of, PlainTarget, variable, at_key, at_field, PlainStatement, PlainStatements, assign, choose, fire, statements_of, arms_of}
 
 abbrev pub view_step : {N D : Type 0} → Tree-F N D (PlainTerm N D) → PlainTerm N D
 view_step (Tree-F.Number n) = number n
@@ -24,13 +24,13 @@ abbrev pub term_of : {N D : Type 0} → Tree N D → PlainTerm N D
 term_of {N} {D} = fold-Tree N D (PlainTerm N D) view_step
 
 -- a place
-abbrev pub place_of : {N D : Type 0} → Place N D → PlainPlace N D
-place_of (place.Variable w x d) = variable w x d
-place_of (place.At w x d t) = at_key w x d (term_of t)
-place_of (place.Field w x d f) = at_field w x d f
+abbrev pub target_of : {N D : Type 0} → Target N D → PlainTarget N D
+target_of (target.Variable w x d) = variable w x d
+target_of (target.At w x d t) = at_key w x d (term_of t)
+target_of (target.Field w x d f) = at_field w x d f
 
 abbrev pub statement_step : {N D : Type 0} → Statement-F N D (PlainStatement N D) (PlainTerm N D × PlainStatements N D) → PlainStatement N D
-statement_step (Statement-F.Assign p t) = assign (place_of p) (term_of t)
+statement_step (Statement-F.Assign p t) = assign (target_of p) (term_of t)
 statement_step (Statement-F.If arms rest) = choose (arms_of arms.items) (statements_of rest.items)
 statement_step (Statement-F.Fire k w ts) = fire k w (map term_of ts.items)
 

@@ -43,7 +43,7 @@ pub enum Slot<'a> {
 impl<'a> Env<'a> {
     /// The environment of these names and values, the first value under the first name; what is left
     /// over of either counts for nothing. It has no constants.
-    #[tactic(auto, using(crate::proofs::Places::names_zip, crate::proofs::Places::no_constants))]
+    #[tactic(auto, using(crate::proofs::Slots::names_zip, crate::proofs::Slots::no_constants))]
     pub fn new(names: &'a [Word], values: &'a [Value]) -> Self
         ensures value { result ≡ zip names.now values.now }
         ensures names { length names.now ≡ length values.now → names_of result ≡ names.now }
@@ -56,7 +56,7 @@ impl<'a> Env<'a> {
     }
 
     /// The environment of these names and values, and of the text's constants behind them.
-    #[tactic(auto, using(crate::proofs::Places::names_environment))]
+    #[tactic(auto, using(crate::proofs::Slots::names_environment))]
     pub fn with_constants(names: &'a [Word], values: &'a [Value], constants: &'a [Word]) -> Self
         ensures value { result ≡ environment names.now values.now constants.now }
         ensures names { length names.now ≡ length values.now → names_of result ≡ names.now ++ constants.now }
@@ -69,14 +69,14 @@ impl<'a> Env<'a> {
     }
 
     /// What stands at a place, where there is something.
-    pub fn get(&self, place: usize) -> Option<Slot<'a>>
-        ensures { option_map slot_value result ≡ option_map (λ b. b.1) (slice_get self.now place) }
+    pub fn get(&self, slot: usize) -> Option<Slot<'a>>
+        ensures { option_map slot_value result ≡ option_map (λ b. b.1) (slice_get self.now slot) }
     {
         let variables = self.names.len().min(self.values.len());
-        if place < variables {
-            Some(Slot::Variable(&self.values[place]))
-        } else if place - variables < self.constants.len() {
-            Some(Slot::Constant(place - variables))
+        if slot < variables {
+            Some(Slot::Variable(&self.values[slot]))
+        } else if slot - variables < self.constants.len() {
+            Some(Slot::Constant(slot - variables))
         } else {
             None
         }

@@ -4,12 +4,12 @@ ghost use Rattle.std.specs.Prelude.{◌≡◌, ℕ, List, Some, true, not, ◌&&
 ghost use Rattle.std.specs.Option.{is_some, option_map};
 ghost use Rattle.ioa_values.specs.Data.{Data, items_of};
 ghost use Rattle.ioa_operators.specs.Operators.{unary_value, binary_value, call_value};
-ghost use Rattle.ioa_operators.specs.Shapes.{PlainShape, shapes_of, widened, has_shape, have_shapes, display_value, field_value};
+ghost use Rattle.ioa_operators.specs.Shapes.{PlainShape, shapes_of, wide_shape, has_shape, have_shapes, display_value, field_value};
 ghost use Rattle.ioa_operators.specs.Canonical.{IsCanonical};
 ghost use Rattle.ioa_terms.specs.Bindings.{Bindings, same_name, lookup, put};
 ghost use Rattle.ioa_terms.specs.Meaning.{value};
 ghost use Rattle.ioa_terms.specs.PlainTerm.{PlainTerm, PlainStatement};
-ghost use Rattle.ioa_terms.specs.Sorted.{Shaped, HasShape, IsShaped, counted, UnaryIs, BinaryIs, FunctionIs, DisplayIs, field_shape};
+ghost use Rattle.ioa_terms.specs.Sorted.{NameShapes, HasShape, IsShaped, shape_in_terms, UnaryIs, BinaryIs, FunctionIs, DisplayIs, field_shape};
 ghost use Rattle.ioa_terms.specs.Undefined.{is_missing_key, is_empty_end, is_low_divisor, has_negative, is_negative_tuple};
 ghost use Rattle.ioa_terms.specs.Performance.{after};
 ghost use Rattle.ioa_terms.specs.Ascending.{IsAscendingEnvironment};
@@ -24,10 +24,10 @@ ghost use Rattle.ioa_operators.specs.declared.shape.Shape.{Shape};
 /// name is read. It has a shape exactly where it has it with integers for naturals at any depth, and no
 /// negative number stands for a natural.
 pub fn shapes_law()
-    ensures kept { (names : Shaped) (e : Bindings) → IsShaped names e → (t : PlainTerm ℕ Shape) (s : PlainShape) → HasShape names t s →
+    ensures kept { (names : NameShapes) (e : Bindings) → IsShaped names e → (t : PlainTerm ℕ Shape) (s : PlainShape) → HasShape names t s →
         (v : Data) → value t e ≡ Some v → has_shape s v ≡ true }
-    ensures counted { (s : PlainShape) (v : Data) → has_shape s v ≡ true → has_shape (counted s) v ≡ true }
-    ensures signs { (s : PlainShape) (v : Data) → has_shape s v ≡ (has_shape (widened s) v && not (has_negative s v)) }
+    ensures shape_in_terms { (s : PlainShape) (v : Data) → has_shape s v ≡ true → has_shape (shape_in_terms s) v ≡ true }
+    ensures signs { (s : PlainShape) (v : Data) → has_shape s v ≡ (has_shape (wide_shape s) v && not (has_negative s v)) }
 {}
 
 /// Where in each value of an environment every set and every map ascends, at any depth, so it does in

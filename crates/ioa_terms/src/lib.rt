@@ -19,4 +19,4 @@ pub use ioa_values::{Names, Value, Word, show};
 pub use laws::{ascending_law, defined_law, put_law, shapes_law};
 pub use performance::perform;
 pub use text::{push_listed, show_action, show_node_action};
-pub use tree::{Arm, Checked, Kind, Place, Statement, Term, Tree};
+pub use tree::{Arm, Checked, Kind, Statement, Target, Term, Tree};

@@ -3,19 +3,19 @@
 ghost use Rattle.std.specs.Prelude.{◌≡◌, ◌++◌, map, length, slice_set, ◌<◌, IfOk, Some};
 ghost use Rattle.std.specs.Option.{option_and_then};
 ghost use Rattle.ioa_values.specs.Outcome.{Answers, and_then};
-ghost use Rattle.ioa_operators.specs.Judged.{kept};
+ghost use Rattle.ioa_operators.specs.RangeCheck.{checked_result};
 ghost use Rattle.ioa_operators.specs.Shapes.{with_field};
 ghost use Rattle.ioa_operators.specs.ShapeView.{shape_of};
-ghost use Rattle.ioa_terms.specs.Bindings.{environment, place_in, names_of, lookup};
-ghost use Rattle.ioa_terms.specs.Performance.{answer_by, updated};
-ghost use Rattle.ioa_terms.specs.Placed.{ArePlaced, AreAllPlaced, IsPlaced, IsPlacedStatement, IsPlacedPlace};
-ghost use Rattle.ioa_terms.specs.Bounded.{bounded, bounded_all, bounded_one, bounded_test, bounded_assigned, put_fitted};
+ghost use Rattle.ioa_terms.specs.Bindings.{environment, slot_in, names_of, lookup};
+ghost use Rattle.ioa_terms.specs.Performance.{answer_by, updated_map};
+ghost use Rattle.ioa_terms.specs.Resolved.{AreResolved, AreAllResolved, IsResolved, IsResolvedStatement, IsResolvedTarget};
+ghost use Rattle.ioa_terms.specs.Stepwise.{stepwise_answer, stepwise_all, stepwise_one, stepwise_test, stepwise_assignment, put_fitting_value};
 ghost use Rattle.ioa_terms.specs.PlainTerm.{assign, statements_of};
-ghost use Rattle.ioa_terms.specs.View.{statement_of, place_of, term_of};
+ghost use Rattle.ioa_terms.specs.View.{statement_of, target_of, term_of};
 
 use crate::environment::Env;
-use crate::evaluation::{read, taken};
-use crate::tree::{Arm, Checked, Place, Statement};
+use crate::evaluation::{evaluate, read};
+use crate::tree::{Arm, Checked, Statement, Target};
 use ioa_operators::{Function, Shape, TermFault, call, replace_field};
 use ioa_values::{Value, Word};
 use std::alloc::Global;
@@ -28,7 +28,7 @@ use std::mem;
 /// where a number lies outside 64 bits, an intermediate one too, `Memory` where none is left. A firing
 /// is no part of an effect: it is `Undefined`. Costs time in proportion to the statements performed and
 /// to the values that they read and make.
-#[tactic(auto, using(crate::proofs::Performed::bounded_by_is, crate::proofs::Performed::all_placed))]
+#[tactic(auto, using(crate::proofs::Performed::stepwise_by_is, crate::proofs::Performed::all_resolved))]
 pub fn perform(
     alloc: Global,
     statements: &[Statement<usize, Shape>],
@@ -36,7 +36,7 @@ pub fn perform(
     constants: &[Word],
     values: Vec<Value>,
 ) -> Result<Vec<Value>, TermFault>
-    requires placed { ArePlaced (map statement_of statements.now) names.now (names.now ++ constants.now) }
+    requires resolved { AreResolved (map statement_of statements.now) names.now (names.now ++ constants.now) }
     requires named { length names.now ≡ length values.items }
     ensures after { Answers TermFault.Memory (λ vs. environment names.now vs.items constants.now) result
         (answer_by (map statement_of statements.now) (environment names.now values.items constants.now)) }
@@ -54,10 +54,10 @@ fn perform_all(
     constants: &[Word],
     mut values: Vec<Value>,
 ) -> Result<Vec<Value>, TermFault>
-    requires placed { AreAllPlaced (statements_of (map statement_of statements.now)) names.now (names.now ++ constants.now) }
+    requires resolved { AreAllResolved (statements_of (map statement_of statements.now)) names.now (names.now ++ constants.now) }
     requires named { length names.now ≡ length values.items }
     ensures after { Answers TermFault.Memory (λ vs. environment names.now vs.items constants.now) result
-        (bounded_all (statements_of (map statement_of statements.now)) (environment names.now values.items constants.now)) }
+        (stepwise_all (statements_of (map statement_of statements.now)) (environment names.now values.items constants.now)) }
     ensures named { IfOk result (λ vs. length names.now ≡ length vs.items) }
 {
     for statement in statements {
@@ -75,14 +75,14 @@ fn perform_one(
     constants: &[Word],
     values: Vec<Value>,
 ) -> Result<Vec<Value>, TermFault>
-    requires placed { IsPlacedStatement (statement_of statement.now) names.now (names.now ++ constants.now) }
+    requires resolved { IsResolvedStatement (statement_of statement.now) names.now (names.now ++ constants.now) }
     requires named { length names.now ≡ length values.items }
     ensures after { Answers TermFault.Memory (λ vs. environment names.now vs.items constants.now) result
-        (bounded_one (statement_of statement.now) (environment names.now values.items constants.now)) }
+        (stepwise_one (statement_of statement.now) (environment names.now values.items constants.now)) }
     ensures named { IfOk result (λ vs. length names.now ≡ length vs.items) }
 {
     match statement {
-        Statement::Assign(place, term) => assign(alloc, place, term, names, constants, values),
+        Statement::Assign(target, term) => assign(alloc, target, term, names, constants, values),
         Statement::If(arms, rest) => {
             for arm in arms {
                 if holds(alloc, &arm.test, names, constants, &values)? {
@@ -103,11 +103,11 @@ fn holds(
     constants: &[Word],
     values: &[Value],
 ) -> Result<bool, TermFault>
-    requires placed { IsPlaced (term_of test.now) (names.now ++ constants.now) }
+    requires resolved { IsResolved (term_of test.now) (names.now ++ constants.now) }
     requires named { length names.now ≡ length values.now }
-    ensures { Answers TermFault.Memory (λ b. b) result (bounded_test (term_of test.now) (environment names.now values.now constants.now)) }
+    ensures { Answers TermFault.Memory (λ b. b) result (stepwise_test (term_of test.now) (environment names.now values.now constants.now)) }
 {
-    let value = taken(alloc, test, &Env::with_constants(names, values, constants))?;
+    let value = evaluate(alloc, test, &Env::with_constants(names, values, constants))?;
     match value.as_truth() {
         Some(truth) => Ok(truth),
         None => Err(TermFault::Undefined),
@@ -115,60 +115,60 @@ fn holds(
 }
 
 /// The values after a variable has its new one.
-#[tactic(auto, using(crate::proofs::Places::placed_among_more))]
+#[tactic(auto, using(crate::proofs::Slots::target_among_more))]
 fn assign(
     alloc: Global,
-    place: &Place<usize, Shape>,
+    target: &Target<usize, Shape>,
     term: &Checked,
     names: &[Word],
     constants: &[Word],
     values: Vec<Value>,
 ) -> Result<Vec<Value>, TermFault>
-    requires placed { IsPlacedStatement (assign (place_of place.now) (term_of term.now)) names.now (names.now ++ constants.now) }
+    requires resolved { IsResolvedStatement (assign (target_of target.now) (term_of term.now)) names.now (names.now ++ constants.now) }
     requires named { length names.now ≡ length values.items }
     ensures after { Answers TermFault.Memory (λ vs. environment names.now vs.items constants.now) result
-        (bounded_one (assign (place_of place.now) (term_of term.now)) (environment names.now values.items constants.now)) }
+        (stepwise_one (assign (target_of target.now) (term_of term.now)) (environment names.now values.items constants.now)) }
     ensures named { IfOk result (λ vs. length names.now ≡ length vs.items) }
 {
-    let value = assigned(
+    let value = assignment_value(
         alloc,
-        place,
+        target,
         term,
         &Env::with_constants(names, &values, constants),
     )?;
-    match place {
-        Place::Variable(name, at, shape) => put(name, *at, shape, value, names, constants, values),
-        Place::At(name, at, shape, _) => put(name, *at, shape, value, names, constants, values),
-        Place::Field(name, at, shape, _) => put(name, *at, shape, value, names, constants, values),
+    match target {
+        Target::Variable(name, at, shape) => put(name, *at, shape, value, names, constants, values),
+        Target::At(name, at, shape, _) => put(name, *at, shape, value, names, constants, values),
+        Target::Field(name, at, shape, _) => put(name, *at, shape, value, names, constants, values),
     }
 }
 
 /// What an assignment gives its variable, whatever the variable's shape.
-fn assigned(
+fn assignment_value(
     alloc: Global,
-    place: &Place<usize, Shape>,
+    target: &Target<usize, Shape>,
     term: &Checked,
     env: &Env,
 ) -> Result<Value, TermFault>
-    requires place { IsPlacedPlace (place_of place.now) (names_of env.now) (names_of env.now) }
-    requires term { IsPlaced (term_of term.now) (names_of env.now) }
-    ensures { Answers TermFault.Memory (λ v. v) result (bounded_assigned (place_of place.now) (term_of term.now) env.now) }
+    requires target { IsResolvedTarget (target_of target.now) (names_of env.now) (names_of env.now) }
+    requires term { IsResolved (term_of term.now) (names_of env.now) }
+    ensures { Answers TermFault.Memory (λ v. v) result (stepwise_assignment (target_of target.now) (term_of term.now) env.now) }
 {
-    match place {
-        Place::Variable(_, _, _) => taken(alloc, term, env),
-        Place::At(name, at, _, key) => {
-            let key = taken(alloc, key, env)?;
-            assigned_at_key(alloc, name, *at, key, term, env)
+    match target {
+        Target::Variable(_, _, _) => evaluate(alloc, term, env),
+        Target::At(name, at, _, key) => {
+            let key = evaluate(alloc, key, env)?;
+            assignment_value_at_key(alloc, name, *at, key, term, env)
         }
-        Place::Field(name, at, shape, field) => {
-            let value = taken(alloc, term, env)?;
+        Target::Field(name, at, shape, field) => {
+            let value = evaluate(alloc, term, env)?;
             replace(alloc, name, *at, shape, field, value, env)
         }
     }
 }
 
 /// The map of a variable, in which a key has the value of a term.
-fn assigned_at_key(
+fn assignment_value_at_key(
     alloc: Global,
     name: &Word,
     at: usize,
@@ -176,12 +176,12 @@ fn assigned_at_key(
     term: &Checked,
     env: &Env,
 ) -> Result<Value, TermFault>
-    requires place { place_in name.now (names_of env.now) ≡ Some at }
-    requires term { IsPlaced (term_of term.now) (names_of env.now) }
+    requires target { slot_in name.now (names_of env.now) ≡ Some at }
+    requires term { IsResolved (term_of term.now) (names_of env.now) }
     ensures { Answers TermFault.Memory (λ v. v) result
-        (and_then (bounded (term_of term.now) env.now) (λ v. kept (option_and_then (updated key v) (lookup name.now env.now)))) }
+        (and_then (stepwise_answer (term_of term.now) env.now) (λ v. checked_result (option_and_then (updated_map key v) (lookup name.now env.now)))) }
 {
-    let value = taken(alloc, term, env)?;
+    let value = evaluate(alloc, term, env)?;
     update(alloc, name, at, key, value, env)
 }
 
@@ -194,8 +194,8 @@ fn update(
     value: Value,
     env: &Env,
 ) -> Result<Value, TermFault>
-    requires { place_in name.now (names_of env.now) ≡ Some at }
-    ensures { Answers TermFault.Memory (λ v. v) result (kept (option_and_then (updated key value) (lookup name.now env.now))) }
+    requires { slot_in name.now (names_of env.now) ≡ Some at }
+    ensures { Answers TermFault.Memory (λ v. v) result (checked_result (option_and_then (updated_map key value) (lookup name.now env.now))) }
 {
     let map = read(alloc, env, name, at)?;
     let mut parts = Vec::new(alloc);
@@ -215,16 +215,16 @@ fn replace(
     value: Value,
     env: &Env,
 ) -> Result<Value, TermFault>
-    requires { place_in name.now (names_of env.now) ≡ Some at }
+    requires { slot_in name.now (names_of env.now) ≡ Some at }
     ensures { Answers TermFault.Memory (λ v. v) result
-        (kept (option_and_then (with_field (shape_of shape.now) field.now value) (lookup name.now env.now))) }
+        (checked_result (option_and_then (with_field (shape_of shape.now) field.now value) (lookup name.now env.now))) }
 {
     let whole = read(alloc, env, name, at)?;
     replace_field(shape, field, value, whole)
 }
 
 /// The values where a variable has another one, which is to have the variable's shape.
-#[tactic(auto, using(crate::proofs::Places::put_environment, crate::proofs::Places::place_within))]
+#[tactic(auto, using(crate::proofs::Slots::put_environment, crate::proofs::Slots::slot_within))]
 fn put(
     name: &Word,
     at: usize,
@@ -234,10 +234,10 @@ fn put(
     constants: &[Word],
     mut values: Vec<Value>,
 ) -> Result<Vec<Value>, TermFault>
-    requires placed { place_in name.now names.now ≡ Some at }
+    requires resolved { slot_in name.now names.now ≡ Some at }
     requires named { length names.now ≡ length values.items }
     ensures after { Answers TermFault.Memory (λ vs. environment names.now vs.items constants.now) result
-        (put_fitted name.now (shape_of shape.now) (environment names.now values.items constants.now) value) }
+        (put_fitting_value name.now (shape_of shape.now) (environment names.now values.items constants.now) value) }
     ensures named { IfOk result (λ vs. length names.now ≡ length vs.items) }
 {
     if shape.admits(&value) {
@@ -249,9 +249,9 @@ fn put(
 }
 
 /// Puts a value in the place of another.
-fn set(values: &mut Vec<Value>, place: usize, value: Value)
-    requires { place < length values.old.items }
-    ensures { values.new.items ≡ slice_set values.old.items place value }
+fn set(values: &mut Vec<Value>, slot: usize, value: Value)
+    requires { slot < length values.old.items }
+    ensures { values.new.items ≡ slice_set values.old.items slot value }
 {
-    let _old = mem::replace(&mut values[place], value);
+    let _old = mem::replace(&mut values[slot], value);
 }

@@ -9,15 +9,15 @@ use crate::action::{Action, NodeAction};
 use ioa_values::{Names, Value, show};
 use std::alloc::{AllocError, Global};
 
-/// Writes a piece of a list behind the pieces before it, with a comma and a space between; `place` is
+/// Writes a piece of a list behind the pieces before it, with a comma and a space between; `position` is
 /// its place in the list.
-pub fn push_listed(list: &mut String, place: usize, piece: &str) -> Result<(), AllocError>
-    ensures { OnOk result (string_bytes list.new ≡ string_bytes list.old ++ after_comma place piece.now) }
+pub fn push_listed(list: &mut String, position: usize, item: &str) -> Result<(), AllocError>
+    ensures { OnOk result (string_bytes list.new ≡ string_bytes list.old ++ after_comma position item.now) }
 {
-    if place > 0 {
+    if position > 0 {
         list.push_str(", ")?;
     }
-    list.push_str(piece)
+    list.push_str(item)
 }
 
 /// The texts of values, with a comma and a space between.
@@ -25,9 +25,9 @@ fn show_listed(alloc: Global, names: &Names, values: &[Value]) -> Result<String,
     ensures { IfOk result (λ s. string_bytes s ≡ with_commas (map (text names.now) values.now)) }
 {
     let mut list = String::new(alloc);
-    for (place, value) in values.iter().enumerate() {
-        let piece = show(alloc, names, value)?;
-        push_listed(&mut list, place, piece.as_str())?;
+    for (position, value) in values.iter().enumerate() {
+        let item = show(alloc, names, value)?;
+        push_listed(&mut list, position, item.as_str())?;
     }
     Ok(list)
 }

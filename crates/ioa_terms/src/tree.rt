@@ -45,7 +45,7 @@ pub type Checked = Tree<usize, Shape>;
 
 /// Where an assignment puts a value (profile), with the shape of the variable.
 #[derive(Drop)]
-pub enum Place<N, D> {
+pub enum Target<N, D> {
     /// `x`: a variable.
     Variable(Word, N, D),
     /// `x[t]`: the value of a map at a key.
@@ -69,7 +69,7 @@ pub struct Arm<N, D> {
 #[derive(Drop)]
 pub enum Statement<N, D> {
     /// `x := t`.
-    Assign(Place<N, D>, Tree<N, D>),
+    Assign(Target<N, D>, Tree<N, D>),
     /// `if t then s elseif u then s else s fi`: the first arm whose test is true, or the rest.
     If(Vec<Arm<N, D>>, Vec<Statement<N, D>>),
     /// `fire a(t, u)`, in schedule blocks alone, with the action's kind where it is written.

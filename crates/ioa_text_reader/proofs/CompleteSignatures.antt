@@ -5,8 +5,8 @@ use Rattle.ioa_tokens.specs.declared.token.Token.TheVariants as token
 use Rattle.ioa_tokens.specs.declared.mark.Mark.TheVariants as mark
 use Rattle.ioa_terms.specs.declared.tree.Kind.{Kind}
 use Rattle.ioa_source.specs.Sides.{SourceTerm as Term, SourceParameter as Parameter, SourceEntry as Entry}
-use Rattle.ioa_cursor.specs.Lists.{Separated, Ended, Optional, Gathered, GatheredSeveral, Section}
-use Rattle.ioa_cursor.specs.Reading.{bind, choose, skip, expected, word, at, at_word, mark_first, behind}
+use Rattle.ioa_cursor.specs.Lists.{SeparatedBy, SeparatedOrEndedBy, Optional, ListsSeparatedBy, SeveralLists, Section}
+use Rattle.ioa_cursor.specs.Reading.{bind, choose, skip, expect, word, at, at_word, mark_first, behind}
 use Rattle.ioa_cursor.proofs.Steps.{read_next, stays}
 use Rattle.ioa_cursor.proofs.Follow.{at_unlike, skip_same, skip_other, separated_starts, optional_starts}
 use Rattle.ioa_cursor.proofs.CompleteLists.{separated_complete, ended_complete, gathered_several_complete, section_complete, optional_complete}
@@ -16,7 +16,7 @@ use Rattle.ioa_term_reader.proofs.Begins.{term_begins, not_mark_first}
 use Rattle.ioa_term_reader.proofs.Shorter.{term_shorter}
 use Rattle.ioa_term_reader.proofs.CompleteTerms.{term_complete}
 use Rattle.ioa_text_reader.specs.Grammar as grammar
-use Rattle.ioa_text_reader.specs.Grammar.{inner_limit, Call, Bracketed, SpellsParameters, SpellsCall, SpellsKind, SpellsEntry, SpellsGroup}
+use Rattle.ioa_text_reader.specs.Grammar.{inner_limit, Call, InBrackets, SpellsParameters, SpellsCall, SpellsKind, SpellsEntry, SpellsGroup}
 use Rattle.ioa_text_reader.specs.Reading as reading
 use Rattle.ioa_text_reader.specs.Reading.{kind_first, at_kind}
 use Rattle.ioa_text_reader.proofs.Closing.{Below, level, closes, at_below, at_word_below, at_kind_below}
@@ -52,12 +52,12 @@ module _ {A : Type 0} (X : List A → List Token → List Token → Type 0) (rea
 
   some_bracketed : (items : List A) (xs ys : List Token) → skip mark.CloseRound xs ≡ stays false xs → read xs ≡ read_next items (token.Mark mark.CloseRound ∷ ys) →
       reading.in_brackets read (token.Mark mark.OpenRound ∷ xs) ≡ read_next items ys
-  unfolding expected bind choose
+  unfolding expect bind choose
   some_bracketed items xs ys e f = rw (skip_same mark.OpenRound xs) (rw e (rw f (rw (skip_same mark.CloseRound ys) refl)))
 
   bracketed_complete : ((items : List A) (xs ys : List Token) → X items xs ys → level ys < 11 → read xs ≡ read_next items ys) →
       ((items : List A) (xs ys : List Token) → X items xs ys → at mark.CloseRound xs ≡ false) →
-      (items : List A) (xs ys : List Token) → Bracketed X items xs ys → at mark.OpenRound ys ≡ false → reading.in_brackets read xs ≡ read_next items ys
+      (items : List A) (xs ys : List Token) → InBrackets X items xs ys → at mark.OpenRound ys ≡ false → reading.in_brackets read xs ≡ read_next items ys
   bracketed_complete complete starts _ _ ys grammar.bare h = none_bracketed ys (skip_other mark.OpenRound ys h)
   bracketed_complete complete starts _ _ ys grammar.hollow h = empty_bracketed ys
   bracketed_complete complete starts items _ ys (grammar.filled {xs = xs} d) h =
@@ -68,18 +68,18 @@ module _ {A : Type 0} (X : List A → List Token → List Token → Type 0) (rea
 term_not_close : (t : Term) (xs ys : List Token) → SpellsTerm inner_limit t xs ys → at mark.CloseRound xs ≡ false
 term_not_close t xs ys d = at_unlike mark.CloseRound xs (not_mark_first mark.CloseRound refl xs (term_begins d))
 
-terms_not_close : (ts : List Term) (xs ys : List Token) → Separated mark.Comma (SpellsTerm inner_limit) ts xs ys → at mark.CloseRound xs ≡ false
+terms_not_close : (ts : List Term) (xs ys : List Token) → SeparatedBy mark.Comma (SpellsTerm inner_limit) ts xs ys → at mark.CloseRound xs ≡ false
 terms_not_close ts xs ys d = separated_starts (λ xs. at mark.CloseRound xs ≡ false) (SpellsTerm inner_limit) term_not_close d
 
-terms_complete : (ts : List Term) (xs ys : List Token) → Separated mark.Comma (SpellsTerm inner_limit) ts xs ys → level ys < 11 → reading.terms xs ≡ read_next ts ys
+terms_complete : (ts : List Term) (xs ys : List Token) → SeparatedBy mark.Comma (SpellsTerm inner_limit) ts xs ys → level ys < 11 → reading.terms xs ≡ read_next ts ys
 unfolding reading.terms
 terms_complete ts xs ys d h =
     separated_complete (Below 14) (SpellsTerm inner_limit) (term inner_limit) inner_term (term_shorter inner_limit) mark.Comma (λ zs. omega arith) ts xs ys d (omega arith) (at_below mark.Comma ys h)
 
-arguments_complete : (ts : List Term) (xs ys : List Token) → Bracketed (Separated mark.Comma (SpellsTerm inner_limit)) ts xs ys → level ys < 14 → reading.arguments xs ≡ read_next ts ys
+arguments_complete : (ts : List Term) (xs ys : List Token) → InBrackets (SeparatedBy mark.Comma (SpellsTerm inner_limit)) ts xs ys → level ys < 14 → reading.arguments xs ≡ read_next ts ys
 unfolding reading.arguments
 arguments_complete ts xs ys d h =
-    bracketed_complete (Separated mark.Comma (SpellsTerm inner_limit)) reading.terms terms_complete terms_not_close ts xs ys d (at_below mark.OpenRound ys h)
+    bracketed_complete (SeparatedBy mark.Comma (SpellsTerm inner_limit)) reading.terms terms_complete terms_not_close ts xs ys d (at_below mark.OpenRound ys h)
 
 call_read : (w : List ℕ) (ts : List Term) (xs ys : List Token) → reading.arguments xs ≡ read_next ts ys → reading.call (token.Word w ∷ xs) ≡ read_next (call_with w ts) ys
 unfolding reading.call word bind
@@ -109,11 +109,11 @@ kind_level _ _ _ grammar.internal = omega arith
 
 -- signatures
 
-entry_parameters_complete : (ps : List Parameter) (xs ys : List Token) → Bracketed (Gathered mark.Comma (SpellsParameters inner_limit)) ps xs ys → level ys < 14 →
+entry_parameters_complete : (ps : List Parameter) (xs ys : List Token) → InBrackets (ListsSeparatedBy mark.Comma (SpellsParameters inner_limit)) ps xs ys → level ys < 14 →
     reading.entry_parameters xs ≡ read_next ps ys
 unfolding reading.entry_parameters
 entry_parameters_complete ps xs ys d h =
-    bracketed_complete (Gathered mark.Comma (SpellsParameters inner_limit)) (reading.parameters inner_limit) (all_parameters_complete inner_limit (omega arith)) (all_parameters_not_close inner_limit)
+    bracketed_complete (ListsSeparatedBy mark.Comma (SpellsParameters inner_limit)) (reading.parameters inner_limit) (all_parameters_complete inner_limit (omega arith)) (all_parameters_not_close inner_limit)
     ps xs ys d (at_below mark.OpenRound ys h)
 
 condition_complete : (c : Option Term) (xs ys : List Token) → Optional mark.Where (SpellsTerm bracket_limit) c xs ys → level ys < 12 → reading.condition xs ≡ read_next c ys
@@ -135,7 +135,7 @@ entry_first : (k : Kind) (x : Entry) (xs ys : List Token) → SpellsEntry k x xs
 unfolding at_word
 entry_first k _ _ _ (grammar.entry pd cd) = refl
 
-entries_complete : (k : Kind) (es : List Entry) (xs ys : List Token) → Ended mark.Comma (SpellsEntry k) es xs ys → level ys < 11 → reading.entries k xs ≡ read_next es ys
+entries_complete : (k : Kind) (es : List Entry) (xs ys : List Token) → SeparatedOrEndedBy mark.Comma (SpellsEntry k) es xs ys → level ys < 11 → reading.entries k xs ≡ read_next es ys
 unfolding reading.entries
 entries_complete k es xs ys d h =
     ended_complete (Below 12) (SpellsEntry k) (reading.entry k) (entry_complete k) (entry_shorter k) mark.Comma at_word (entry_first k) (λ zs. omega arith) es xs ys d (omega arith)
@@ -154,11 +154,11 @@ group_begins _ _ _ (grammar.group kd ed) = kind_begins _ _ _ kd
 group_level : (es : List Entry) (xs ys : List Token) → SpellsGroup es xs ys → level xs < 11
 group_level _ _ _ (grammar.group kd ed) = let low = kind_level _ _ _ kd in omega arith
 
-groups_complete : (es : List Entry) (xs ys : List Token) → GatheredSeveral SpellsGroup es xs ys → level ys < 8 → reading.groups xs ≡ read_next es ys
+groups_complete : (es : List Entry) (xs ys : List Token) → SeveralLists SpellsGroup es xs ys → level ys < 8 → reading.groups xs ≡ read_next es ys
 unfolding reading.groups
 groups_complete es xs ys d h =
     gathered_several_complete (Below 11) SpellsGroup reading.group group_complete group_shorter at_kind group_begins group_level es xs ys d (omega arith) (at_kind_below ys h)
 
-pub signature_complete : (es : List Entry) (xs ys : List Token) → Section mark.Signature (GatheredSeveral SpellsGroup) es xs ys → level ys < 7 → reading.signature_part xs ≡ read_next es ys
+pub signature_complete : (es : List Entry) (xs ys : List Token) → Section mark.Signature (SeveralLists SpellsGroup) es xs ys → level ys < 7 → reading.signature_part xs ≡ read_next es ys
 unfolding reading.signature_part
-signature_complete es xs ys d h = section_complete (Below 8) (GatheredSeveral SpellsGroup) reading.groups groups_complete mark.Signature es xs ys d (omega arith) (at_below mark.Signature ys h)
+signature_complete es xs ys d h = section_complete (Below 8) (SeveralLists SpellsGroup) reading.groups groups_complete mark.Signature es xs ys d (omega arith) (at_below mark.Signature ys h)

@@ -6,8 +6,8 @@ use Rattle.ioa_tokens.specs.declared.mark.Mark.TheVariants as mark
 use Rattle.ioa_source.specs.PlainSort.{PlainSort, booleans, integers, naturals, sequences, sets, maps, named_type}
 use Rattle.ioa_source.specs.PlainText.{const, named}
 use Rattle.ioa_source.specs.Sides.{SourceTerm as Term, SourceDeclared as Declared, SourceParameter as Parameter}
-use Rattle.ioa_cursor.specs.Lists.{Separated, Gathered}
-use Rattle.ioa_cursor.specs.Reading.{bind, choose, skip, expected, word, at, at_word, mark_first, behind}
+use Rattle.ioa_cursor.specs.Lists.{SeparatedBy, ListsSeparatedBy}
+use Rattle.ioa_cursor.specs.Reading.{bind, choose, skip, expect, word, at, at_word, mark_first, behind}
 use Rattle.ioa_cursor.proofs.Steps.{read_next, stays}
 use Rattle.ioa_cursor.proofs.Follow.{skip_other, separated_starts, gathered_starts}
 use Rattle.ioa_cursor.proofs.CompleteLists.{separated_complete, gathered_complete}
@@ -25,7 +25,7 @@ use Rattle.ioa_text_reader.proofs.Shorter.{word_shorter, declared_shorter, param
 module _ (next : List Token → Option (PlainSort × List Token)) where
   item_read : (s : PlainSort) (xs ys : List Token) → next xs ≡ read_next s (token.Mark mark.CloseSquare ∷ ys) →
       reading.item_sort next (token.Mark mark.OpenSquare ∷ xs) ≡ read_next s ys
-  unfolding reading.item_sort expected skip bind
+  unfolding reading.item_sort expect skip bind
   item_read s xs ys e = rw e refl
 
   seq_read : (s : PlainSort) (xs ys : List Token) → reading.item_sort next xs ≡ read_next s ys → reading.sort_by next (token.Mark mark.Seq ∷ xs) ≡ read_next (sequences s) ys
@@ -38,7 +38,7 @@ module _ (next : List Token → Option (PlainSort × List Token)) where
 
   map_read : (k v : PlainSort) (xs ys zs : List Token) → next xs ≡ read_next k (token.Mark mark.Comma ∷ ys) → next ys ≡ read_next v (token.Mark mark.CloseSquare ∷ zs) →
       reading.sort_by next (token.Mark mark.Map ∷ token.Mark mark.OpenSquare ∷ xs) ≡ read_next (maps k v) zs
-  unfolding reading.sort_by reading.marked_sort reading.map_sort at_word mark_first behind expected skip bind choose
+  unfolding reading.sort_by reading.marked_sort reading.map_sort at_word mark_first behind expect skip bind choose
   map_read k v xs ys zs e f = rw e (rw f refl)
 
 sort_is : (room : ℕ) (xs : List Token) → reading.sort room xs ≡ reading.sort_by (reading.sort_in room) xs
@@ -84,14 +84,14 @@ word_first : (w : List ℕ) (xs ys : List Token) → SpellsWord w xs ys → at_w
 unfolding at_word
 word_first _ _ _ grammar.word = refl
 
-pub words_complete : (ws : List (List ℕ)) (xs ys : List Token) → Separated mark.Comma SpellsWord ws xs ys → level ys < 11 → reading.words xs ≡ read_next ws ys
+pub words_complete : (ws : List (List ℕ)) (xs ys : List Token) → SeparatedBy mark.Comma SpellsWord ws xs ys → level ys < 11 → reading.words xs ≡ read_next ws ys
 unfolding reading.words
 words_complete ws xs ys d h =
     separated_complete (Below 14) SpellsWord word word_complete word_shorter mark.Comma (λ zs. omega arith) ws xs ys d (omega arith) (at_below mark.Comma ys h)
 
 group_read : (room : ℕ) (ws : List (List ℕ)) (s : PlainSort) (xs ys zs : List Token) → reading.words xs ≡ read_next ws (token.Mark mark.Colon ∷ ys) → reading.sort room ys ≡ read_next s zs →
     reading.declared_group room xs ≡ read_next (declare s ws) zs
-unfolding reading.declared_group expected skip bind
+unfolding reading.declared_group expect skip bind
 group_read room ws s xs ys zs e f = rw e (rw f refl)
 
 pub declared_complete : (room : ℕ) (ds : List Declared) (xs ys : List Token) → SpellsDeclared room ds xs ys → level ys < 14 → reading.declared_group room xs ≡ read_next ds ys
@@ -101,7 +101,7 @@ declared_complete room _ xs zs (grammar.declared {ws = ws} {s = s} {ys = ys} wd 
 pub declared_first : (room : ℕ) (ds : List Declared) (xs ys : List Token) → SpellsDeclared room ds xs ys → at_word xs ≡ true
 declared_first room _ _ _ (grammar.declared wd sd) = separated_starts (λ xs. at_word xs ≡ true) SpellsWord word_first wd
 
-pub declared_names_complete : (room : ℕ) (ds : List Declared) (xs ys : List Token) → Gathered mark.Comma (SpellsDeclared room) ds xs ys → level ys < 11 → reading.declared_names room xs ≡ read_next ds ys
+pub declared_names_complete : (room : ℕ) (ds : List Declared) (xs ys : List Token) → ListsSeparatedBy mark.Comma (SpellsDeclared room) ds xs ys → level ys < 11 → reading.declared_names room xs ≡ read_next ds ys
 unfolding reading.declared_names
 declared_names_complete room ds xs ys d h =
     gathered_complete (Below 14) (SpellsDeclared room) (reading.declared_group room) (declared_complete room) (declared_shorter room) mark.Comma (λ zs. omega arith) ds xs ys d (omega arith) (at_below mark.Comma ys h)
@@ -130,12 +130,12 @@ parameters_not_close : (room : ℕ) (ps : List Parameter) (xs ys : List Token) �
 parameters_not_close room _ _ _ (grammar.constant {xs = xs} d) = const_not_close xs
 parameters_not_close room _ xs ys (grammar.names {ds = ds} d) = at_word_no_mark mark.CloseRound xs (declared_first room ds xs ys d)
 
-pub all_parameters_complete : (room : ℕ) → room ≤ bracket_limit → (ps : List Parameter) (xs ys : List Token) → Gathered mark.Comma (SpellsParameters room) ps xs ys → level ys < 11 →
+pub all_parameters_complete : (room : ℕ) → room ≤ bracket_limit → (ps : List Parameter) (xs ys : List Token) → ListsSeparatedBy mark.Comma (SpellsParameters room) ps xs ys → level ys < 11 →
     reading.parameters room xs ≡ read_next ps ys
 unfolding reading.parameters
 all_parameters_complete room low ps xs ys d h =
     gathered_complete (Below 14) (SpellsParameters room) (reading.parameter_group room) (parameters_complete room low) (parameters_shorter room) mark.Comma (λ zs. omega arith) ps xs ys d (omega arith)
     (at_below mark.Comma ys h)
 
-pub all_parameters_not_close : (room : ℕ) (ps : List Parameter) (xs ys : List Token) → Gathered mark.Comma (SpellsParameters room) ps xs ys → at mark.CloseRound xs ≡ false
+pub all_parameters_not_close : (room : ℕ) (ps : List Parameter) (xs ys : List Token) → ListsSeparatedBy mark.Comma (SpellsParameters room) ps xs ys → at mark.CloseRound xs ≡ false
 all_parameters_not_close room ps xs ys d = gathered_starts (λ xs. at mark.CloseRound xs ≡ false) (SpellsParameters room) (parameters_not_close room) d

@@ -6,9 +6,9 @@ use Rattle.ioa_tokens.specs.declared.token.Token.TheVariants as token
 use Rattle.ioa_tokens.specs.declared.mark.Mark.TheVariants as mark
 use Rattle.ioa_terms.specs.PlainTerm as plain
 use Rattle.ioa_terms.specs.PlainTerm.{no_statements, statement, statements_of, no_arms, arm, arms_of}
-use Rattle.ioa_source.specs.Sides.{SourceTerm as Term, SourcePlace as Place, SourceStatement as Statement, SourceStatements as Statements, SourceArms as Arms}
-use Rattle.ioa_cursor.specs.Lists.{Separated, single, followed, Ended, last, closed, continued, Section}
-use Rattle.ioa_cursor.specs.Reading.{bind, choose, skip, expected, word, at, at_word}
+use Rattle.ioa_source.specs.Sides.{SourceTerm as Term, SourceTarget as Target, SourceStatement as Statement, SourceStatements as Statements, SourceArms as Arms}
+use Rattle.ioa_cursor.specs.Lists.{SeparatedBy, single, followed, SeparatedOrEndedBy, last, closed, continued, Section}
+use Rattle.ioa_cursor.specs.Reading.{bind, choose, skip, expect, word, at, at_word}
 use Rattle.ioa_cursor.proofs.Steps.{read_next, stays}
 use Rattle.ioa_cursor.proofs.Follow.{skip_other}
 use Rattle.ioa_cursor.proofs.CompleteLists.{separated_complete, ended_complete, section_complete}
@@ -19,7 +19,7 @@ use Rattle.ioa_term_reader.proofs.Shorter.{term_shorter}
 use Rattle.ioa_term_reader.proofs.CompleteTerms.{height_positive}
 use Rattle.ioa_text_reader.specs.StatementHeights.{statement_height, statements_height, arms_height}
 use Rattle.ioa_text_reader.specs.Grammar as grammar
-use Rattle.ioa_text_reader.specs.Grammar.{inner_limit, SpellsPlace, SpellsStatement, SpellsArms, SpellsRest, SpellsStatements, SpellsEffect}
+use Rattle.ioa_text_reader.specs.Grammar.{inner_limit, SpellsTarget, SpellsStatement, SpellsArms, SpellsRest, SpellsStatements, SpellsEffect}
 use Rattle.ioa_text_reader.specs.Reading as reading
 use Rattle.ioa_text_reader.proofs.Closing.{Below, level, at_below, skip_below, begins_statement_below, at_word_no_mark}
 use Rattle.ioa_text_reader.proofs.Shorter.{statement_shorter, statements_shorter}
@@ -27,70 +27,70 @@ use Rattle.ioa_text_reader.proofs.CompleteSignatures.{whole_term, inner_term}
 
 -- statements and arms as lists
 
-abbrev listed : Statements → List Statement
-listed no_statements = []
-listed (statement s more) = s ∷ listed more
+abbrev statement_list : Statements → List Statement
+statement_list no_statements = []
+statement_list (statement s more) = s ∷ statement_list more
 
-abbrev listed_arms : Arms → List (Term × Statements)
-listed_arms no_arms = []
-listed_arms (arm t body more) = (t, body) ∷ listed_arms more
+abbrev arm_list : Arms → List (Term × Statements)
+arm_list no_arms = []
+arm_list (arm t body more) = (t, body) ∷ arm_list more
 
-listed_same : (ss : Statements) → statements_of (listed ss) ≡ ss
+listed_same : (ss : Statements) → statements_of (statement_list ss) ≡ ss
 listed_same no_statements = refl
 listed_same (statement s more) = ap (λ others. statement s others) (listed_same more)
 
-listed_arms_same : (arms : Arms) → arms_of (listed_arms arms) ≡ arms
+listed_arms_same : (arms : Arms) → arms_of (arm_list arms) ≡ arms
 listed_arms_same no_arms = refl
 listed_arms_same (arm t body more) = ap (λ others. arm t body others) (listed_arms_same more)
 
-listed_of : (ss : List Statement) → listed (statements_of ss) ≡ ss
+listed_of : (ss : List Statement) → statement_list (statements_of ss) ≡ ss
 listed_of [] = refl
 listed_of (s ∷ more) = ap (λ others. s ∷ others) (listed_of more)
 
 -- places
 
 key_read : (w : List ℕ) (t : Term) (xs ys : List Token) → term inner_limit xs ≡ read_next t (token.Mark mark.CloseSquare ∷ ys) →
-    reading.place (token.Word w ∷ token.Mark mark.OpenSquare ∷ xs) ≡ read_next (plain.at_key w tt tt t) ys
-unfolding reading.place reading.key_place word skip expected bind choose
+    reading.target (token.Word w ∷ token.Mark mark.OpenSquare ∷ xs) ≡ read_next (plain.at_key w tt tt t) ys
+unfolding reading.target reading.key_target word skip expect bind choose
 key_read w t xs ys e = rw e refl
 
-field_read : (w f : List ℕ) (xs : List Token) → reading.place (token.Word w ∷ token.Mark mark.Dot ∷ token.Word f ∷ xs) ≡ read_next (plain.at_field w tt tt f) xs
-unfolding reading.place word skip bind choose
+field_read : (w f : List ℕ) (xs : List Token) → reading.target (token.Word w ∷ token.Mark mark.Dot ∷ token.Word f ∷ xs) ≡ read_next (plain.at_field w tt tt f) xs
+unfolding reading.target word skip bind choose
 field_read w f xs = refl
 
 variable_read : (w : List ℕ) (xs : List Token) → skip mark.OpenSquare xs ≡ stays false xs → skip mark.Dot xs ≡ stays false xs →
-    reading.place (token.Word w ∷ xs) ≡ read_next (plain.variable w tt tt) xs
-unfolding reading.place word bind choose
+    reading.target (token.Word w ∷ xs) ≡ read_next (plain.variable w tt tt) xs
+unfolding reading.target word bind choose
 variable_read w xs e f = rw e (rw f refl)
 
-place_complete : (p : Place) (xs ys : List Token) → SpellsPlace p xs ys → level ys < 14 → reading.place xs ≡ read_next p ys
-place_complete _ _ ys (grammar.whole {w = w}) h = variable_read w ys (skip_below mark.OpenSquare ys h) (skip_below mark.Dot ys h)
-place_complete _ _ ys (grammar.at_a_key {w = w} {t = t} {xs = xs} d) h = key_read w t xs ys (inner_term t xs _ d (omega arith))
-place_complete _ _ ys (grammar.at_a_field {w = w} {f = f}) h = field_read w f ys
+target_complete : (p : Target) (xs ys : List Token) → SpellsTarget p xs ys → level ys < 14 → reading.target xs ≡ read_next p ys
+target_complete _ _ ys (grammar.whole {w = w}) h = variable_read w ys (skip_below mark.OpenSquare ys h) (skip_below mark.Dot ys h)
+target_complete _ _ ys (grammar.at_a_key {w = w} {t = t} {xs = xs} d) h = key_read w t xs ys (inner_term t xs _ d (omega arith))
+target_complete _ _ ys (grammar.at_a_field {w = w} {f = f}) h = field_read w f ys
 
-place_first : (p : Place) (xs ys : List Token) → SpellsPlace p xs ys → at_word xs ≡ true
+target_first : (p : Target) (xs ys : List Token) → SpellsTarget p xs ys → at_word xs ≡ true
 unfolding at_word
-place_first _ _ _ grammar.whole = refl
-place_first _ _ _ (grammar.at_a_key d) = refl
-place_first _ _ _ grammar.at_a_field = refl
+target_first _ _ _ grammar.whole = refl
+target_first _ _ _ (grammar.at_a_key d) = refl
+target_first _ _ _ grammar.at_a_field = refl
 
 -- one statement
 
-assignment_read : (p : Place) (t : Term) (xs ys zs : List Token) → reading.place xs ≡ read_next p (token.Mark mark.Assign ∷ ys) → term bracket_limit ys ≡ read_next t zs →
+assignment_read : (p : Target) (t : Term) (xs ys zs : List Token) → reading.target xs ≡ read_next p (token.Mark mark.Assign ∷ ys) → term bracket_limit ys ≡ read_next t zs →
     reading.assignment xs ≡ read_next (plain.assign p t) zs
-unfolding reading.assignment expected skip bind
+unfolding reading.assignment expect skip bind
 assignment_read p t xs ys zs e f = rw e (rw f refl)
 
-assignment_complete : (p : Place) (t : Term) (xs ys zs : List Token) → SpellsPlace p xs (token.Mark mark.Assign ∷ ys) → SpellsTerm bracket_limit t ys zs → level zs < 14 →
+assignment_complete : (p : Target) (t : Term) (xs ys zs : List Token) → SpellsTarget p xs (token.Mark mark.Assign ∷ ys) → SpellsTerm bracket_limit t ys zs → level zs < 14 →
     reading.assignment xs ≡ read_next (plain.assign p t) zs
-assignment_complete p t xs ys zs pd td h = assignment_read p t xs ys zs (place_complete p xs _ pd (omega arith)) (whole_term t ys zs td h)
+assignment_complete p t xs ys zs pd td h = assignment_read p t xs ys zs (target_complete p xs _ pd (omega arith)) (whole_term t ys zs td h)
 
 limited_low : (s : Statement) → statement_height s ≤ height_limit → reading.limited_statement s ≡ Some s
 unfolding reading.limited_statement
 limited_low s h = rw (le-leb (statement_height s) height_limit h) refl
 
 limited_choice : (arms : Arms) (rest : Statements) → statement_height (plain.choose arms rest) ≤ height_limit →
-    reading.limited_statement (plain.choose (arms_of (listed_arms arms)) (statements_of (listed rest))) ≡ Some (plain.choose arms rest)
+    reading.limited_statement (plain.choose (arms_of (arm_list arms)) (statements_of (statement_list rest))) ≡ Some (plain.choose arms rest)
 limited_choice arms rest h = rw (listed_arms_same arms, listed_same rest) (limited_low (plain.choose arms rest) h)
 
 word_begins : (xs : List Token) → at_word xs ≡ true → reading.begins_statement xs ≡ true
@@ -112,7 +112,7 @@ module _ (next : List Token → Option (List Statement × List Token)) where
     reads : level ys < 11 → reading.one_arm next xs ≡ read_next a ys
     shorter : length ys < length xs
 
-  assigned : (p : Place) (t : Term) (xs zs : List Token) → skip mark.If xs ≡ stays false xs → reading.assignment xs ≡ read_next (plain.assign p t) zs →
+  assigned : (p : Target) (t : Term) (xs zs : List Token) → skip mark.If xs ≡ stays false xs → reading.assignment xs ≡ read_next (plain.assign p t) zs →
       reading.one_statement next xs ≡ read_next (plain.assign p t) zs
   unfolding reading.one_statement choose
   assigned p t xs zs e f = rw e f
@@ -122,20 +122,20 @@ module _ (next : List Token → Option (List Statement × List Token)) where
   unfolding reading.one_statement reading.choice skip bind choose
   chosen_read arms rs s xs ys zs e f g = rw e (rw f (rw g refl))
 
-  arm_read : (t : Term) (body : Statements) (xs ys zs : List Token) → term bracket_limit xs ≡ read_next t (token.Mark mark.Then ∷ ys) → next ys ≡ read_next (listed body) zs →
+  arm_read : (t : Term) (body : Statements) (xs ys zs : List Token) → term bracket_limit xs ≡ read_next t (token.Mark mark.Then ∷ ys) → next ys ≡ read_next (statement_list body) zs →
       reading.one_arm next xs ≡ read_next (t, body) zs
-  unfolding reading.one_arm expected skip bind
+  unfolding reading.one_arm expect skip bind
   arm_read t body xs ys zs e f = rw e (rw f (rw (listed_same body) refl))
 
   no_rest : (xs : List Token) → reading.rest_of next (token.Mark mark.Fi ∷ xs) ≡ read_next [] xs
-  unfolding reading.rest_of expected skip bind choose
+  unfolding reading.rest_of expect skip bind choose
   no_rest xs = refl
 
   some_rest : (rs : List Statement) (xs ys : List Token) → next xs ≡ read_next rs (token.Mark mark.Fi ∷ ys) → reading.rest_of next (token.Mark mark.Else ∷ xs) ≡ read_next rs ys
-  unfolding reading.rest_of expected skip bind choose
+  unfolding reading.rest_of expect skip bind choose
   some_rest rs xs ys e = rw e refl
 
-  all_arms_read : (arms : List (Term × Statements)) (xs ys : List Token) → Separated mark.ElseIf ArmRead arms xs ys → level ys < 11 → at mark.ElseIf ys ≡ false →
+  all_arms_read : (arms : List (Term × Statements)) (xs ys : List Token) → SeparatedBy mark.ElseIf ArmRead arms xs ys → level ys < 11 → at mark.ElseIf ys ≡ false →
       reading.all_arms next xs ≡ read_next arms ys
   unfolding reading.all_arms
   all_arms_read arms xs ys d h k =
@@ -143,7 +143,7 @@ module _ (next : List Token → Option (List Statement × List Token)) where
 
 -- statements, one less deep
 
-all_read : (depth : ℕ) (ss : List Statement) (xs ys : List Token) → Ended mark.Semicolon (StatementRead (reading.statements_in depth)) ss xs ys → level ys < 11 →
+all_read : (depth : ℕ) (ss : List Statement) (xs ys : List Token) → SeparatedOrEndedBy mark.Semicolon (StatementRead (reading.statements_in depth)) ss xs ys → level ys < 11 →
     reading.statements_in (suc depth) xs ≡ read_next ss ys
 unfolding reading.statements_in
 all_read depth ss xs ys d h =
@@ -167,46 +167,46 @@ mutual
   statement_complete : {s : Statement} {xs ys : List Token} → SpellsStatement s xs ys → (depth : ℕ) → statement_height s ≤ suc depth → suc depth ≤ height_limit →
       StatementRead (reading.statements_in depth) s xs ys
   statement_complete (grammar.assignment {p = p} {t = t} {xs = xs} {ys = us} {zs = ys} pd td) depth low deep = record {
-    reads = λ h. assigned (reading.statements_in depth) p t xs ys (skip_other mark.If xs (at_word_no_mark mark.If xs (place_first p xs _ pd))) (assignment_complete p t xs us ys pd td h);
-    begins = word_begins xs (place_first p xs _ pd);
+    reads = λ h. assigned (reading.statements_in depth) p t xs ys (skip_other mark.If xs (at_word_no_mark mark.If xs (target_first p xs _ pd))) (assignment_complete p t xs us ys pd td h);
+    begins = word_begins xs (target_first p xs _ pd);
     shorter = statement_shorter (grammar.assignment pd td);
   }
   statement_complete (grammar.choice {arms = arms} {xs = xs} {ys = us} ad rd) zero low deep = let p = arms_positive arms xs us ad in absurd (omega arith)
   statement_complete (grammar.choice {arms = arms} {rest = rest} {xs = xs} {ys = us} {zs = ys} ad rd) (suc depth) low deep =
       let next : List Token → Option (List Statement × List Token) = reading.statements_in (suc depth) in
       record {
-        reads = λ h. chosen_read next (listed_arms arms) (listed rest) (plain.choose arms rest) xs us ys
-            (all_arms_read next (listed_arms arms) xs us (arms_complete ad depth (omega arith) (omega arith)) (rest_level rest us ys rd) (rest_no_arm rest us ys rd))
+        reads = λ h. chosen_read next (arm_list arms) (statement_list rest) (plain.choose arms rest) xs us ys
+            (all_arms_read next (arm_list arms) xs us (arms_complete ad depth (omega arith) (omega arith)) (rest_level rest us ys rd) (rest_no_arm rest us ys rd))
             (rest_complete rd depth (omega arith) (omega arith)) (limited_choice arms rest (omega arith));
         begins = if_begins xs;
         shorter = statement_shorter (grammar.choice ad rd);
       }
 
   arms_complete : {arms : Arms} {xs ys : List Token} → SpellsArms arms xs ys → (depth : ℕ) → arms_height arms ≤ suc depth → suc depth ≤ height_limit →
-      Separated mark.ElseIf (ArmRead (reading.statements_in (suc depth))) (listed_arms arms) xs ys
+      SeparatedBy mark.ElseIf (ArmRead (reading.statements_in (suc depth))) (arm_list arms) xs ys
   arms_complete (grammar.one_arm {t = t} {body = body} {xs = xs} {ys = us} {zs = ys} td bd) depth low deep =
       let a = term_shorter _ _ _ _ td in
       let b = statements_shorter bd in
       single (record {
-        reads = λ h. arm_read (reading.statements_in (suc depth)) t body xs us ys (whole_term t xs _ td (omega arith)) (all_read depth (listed body) us ys (statements_listed bd depth (omega arith) deep) h);
+        reads = λ h. arm_read (reading.statements_in (suc depth)) t body xs us ys (whole_term t xs _ td (omega arith)) (all_read depth (statement_list body) us ys (statements_listed bd depth (omega arith) deep) h);
         shorter = omega arith;
       })
   arms_complete (grammar.more_arms {t = t} {body = body} {xs = xs} {ys = us} {zs = zs} td bd od) depth low deep =
       let a = term_shorter _ _ _ _ td in
       let b = statements_shorter bd in
       followed (record {
-        reads = λ h. arm_read (reading.statements_in (suc depth)) t body xs us _ (whole_term t xs _ td (omega arith)) (all_read depth (listed body) us _ (statements_listed bd depth (omega arith) deep) h);
+        reads = λ h. arm_read (reading.statements_in (suc depth)) t body xs us _ (whole_term t xs _ td (omega arith)) (all_read depth (statement_list body) us _ (statements_listed bd depth (omega arith) deep) h);
         shorter = omega arith;
       }) (arms_complete od depth (omega arith) deep)
 
   rest_complete : {rest : Statements} {xs ys : List Token} → SpellsRest rest xs ys → (depth : ℕ) → statements_height rest ≤ suc depth → suc depth ≤ height_limit →
-      reading.rest_of (reading.statements_in (suc depth)) xs ≡ read_next (listed rest) ys
+      reading.rest_of (reading.statements_in (suc depth)) xs ≡ read_next (statement_list rest) ys
   rest_complete (grammar.no_else {xs = ys}) depth low deep = no_rest (reading.statements_in (suc depth)) ys
   rest_complete (grammar.otherwise {rest = rest} {xs = xs} {ys = ys} d) depth low deep =
-      some_rest (reading.statements_in (suc depth)) (listed rest) xs ys (all_read depth (listed rest) xs _ (statements_listed d depth low deep) (omega arith))
+      some_rest (reading.statements_in (suc depth)) (statement_list rest) xs ys (all_read depth (statement_list rest) xs _ (statements_listed d depth low deep) (omega arith))
 
   statements_listed : {ss : Statements} {xs ys : List Token} → SpellsStatements ss xs ys → (depth : ℕ) → statements_height ss ≤ suc depth → suc depth ≤ height_limit →
-      Ended mark.Semicolon (StatementRead (reading.statements_in depth)) (listed ss) xs ys
+      SeparatedOrEndedBy mark.Semicolon (StatementRead (reading.statements_in depth)) (statement_list ss) xs ys
   statements_listed (grammar.last_statement d) depth low deep = last (statement_complete d depth (omega arith) deep)
   statements_listed (grammar.closed_statement d) depth low deep = closed (statement_complete d depth (omega arith) deep)
   statements_listed (grammar.more_statements d rest) depth low deep = continued (statement_complete d depth (omega arith) deep) (statements_listed rest depth (omega arith) deep)
@@ -219,7 +219,7 @@ deepest xs = refl
 
 statements_complete : (ss : List Statement) (xs ys : List Token) → SpellsEffect ss xs ys → level ys < 11 → reading.statements xs ≡ read_next ss ys
 statements_complete ss xs ys d h =
-    deepest xs ∙ (all_read 63 (listed (statements_of ss)) xs ys (statements_listed d.spelled 63 d.low (omega arith)) h ∙ ap (λ all. read_next all ys) (listed_of ss))
+    deepest xs ∙ (all_read 63 (statement_list (statements_of ss)) xs ys (statements_listed d.spelled 63 d.low (omega arith)) h ∙ ap (λ all. read_next all ys) (listed_of ss))
 
 pub effect_complete : (ss : List Statement) (xs ys : List Token) → Section mark.Eff SpellsEffect ss xs ys → level ys < 9 → reading.effect xs ≡ read_next ss ys
 unfolding reading.effect

@@ -8,8 +8,8 @@ use Rattle.ioa_terms.specs.PlainTerm as plain
 use Rattle.ioa_source.specs.PlainSort.{PlainSort}
 use Rattle.ioa_source.specs.PlainText as declarations
 use Rattle.ioa_source.specs.Sides.{SourceTerm as Term, SourceStatement as Statement, SourceDeclared as Declared, SourceEntry as Entry, SourceVariable as Variable, SourceTransition as Transition, SourceForm as Form, SourceType as TypeOf, SourceAutomaton as Automaton, SourceDeclaration as Declaration, SourceNode as Node, SourcePlacement as Placement, SourceText}
-use Rattle.ioa_cursor.specs.Lists.{Several, Separated, Ended, Section, Optional, GatheredSeveral}
-use Rattle.ioa_cursor.specs.Reading.{bind, choose, skip, expected, word, numeral, at, mark_first, ended}
+use Rattle.ioa_cursor.specs.Lists.{Several, SeparatedBy, SeparatedOrEndedBy, Section, Optional, SeveralLists}
+use Rattle.ioa_cursor.specs.Reading.{bind, choose, skip, expect, word, numeral, at, mark_first, end}
 use Rattle.ioa_cursor.proofs.Steps.{read_next, stays}
 use Rattle.ioa_cursor.proofs.Follow.{skip_same, skip_other, ended_starts, optional_starts, section_starts}
 use Rattle.ioa_cursor.proofs.CompleteLists.{several_complete, separated_complete, ended_complete, section_complete, optional_complete}
@@ -54,22 +54,22 @@ initial_complete i xs ys d h =
 
 variable_read : (w : List ℕ) (s : PlainSort) (i : Option Term) (xs ys zs : List Token) → reading.sort bracket_limit xs ≡ read_next s ys → reading.initial ys ≡ read_next i zs →
     reading.variable (token.Word w ∷ token.Mark mark.Colon ∷ xs) ≡ read_next (variable_with w s i) zs
-unfolding reading.variable word expected skip bind
+unfolding reading.variable word expect skip bind
 variable_read w s i xs ys zs e f = rw e (rw f refl)
 
 variable_complete : (x : Variable) (xs ys : List Token) → SpellsVariable x xs ys → level ys < 13 → reading.variable xs ≡ read_next x ys
 variable_complete _ _ zs (grammar.of_sort {w = w} {s = s} {initial = i} {xs = xs} {ys = ys} sd id) h =
     variable_read w s i xs ys zs (sort_complete bracket_limit s xs ys sd) (initial_complete i ys zs id h)
 
-variables_complete : (vs : List Variable) (xs ys : List Token) → Separated mark.Comma SpellsVariable vs xs ys → level ys < 11 → reading.variables xs ≡ read_next vs ys
+variables_complete : (vs : List Variable) (xs ys : List Token) → SeparatedBy mark.Comma SpellsVariable vs xs ys → level ys < 11 → reading.variables xs ≡ read_next vs ys
 unfolding reading.variables
 variables_complete vs xs ys d h =
     separated_complete (Below 13) SpellsVariable reading.variable variable_complete variable_shorter mark.Comma (λ zs. omega arith) vs xs ys d (omega arith) (at_below mark.Comma ys h)
 
-states_complete : (vs : List Variable) (xs ys : List Token) → Section mark.States (Separated mark.Comma SpellsVariable) vs xs ys → level ys < 6 → reading.states_part xs ≡ read_next vs ys
+states_complete : (vs : List Variable) (xs ys : List Token) → Section mark.States (SeparatedBy mark.Comma SpellsVariable) vs xs ys → level ys < 6 → reading.states_part xs ≡ read_next vs ys
 unfolding reading.states_part
 states_complete vs xs ys d h =
-    section_complete (Below 11) (Separated mark.Comma SpellsVariable) reading.variables variables_complete mark.States vs xs ys d (omega arith) (at_below mark.States ys h)
+    section_complete (Below 11) (SeparatedBy mark.Comma SpellsVariable) reading.variables variables_complete mark.States vs xs ys d (omega arith) (at_below mark.States ys h)
 
 -- transitions
 
@@ -116,12 +116,12 @@ transitions_part_complete ts xs ys d h =
 -- schedules
 
 firing_read : (c : Call) (xs ys : List Token) → at_kind xs ≡ false → reading.call xs ≡ read_next c ys → reading.firing (token.Mark mark.Fire ∷ xs) ≡ read_next (plain.fire None c.name c.arguments) ys
-unfolding reading.firing expected skip bind choose
+unfolding reading.firing expect skip bind choose
 firing_read c xs ys e f = rw e (rw f refl)
 
 kind_firing_read : (k : Kind) (c : Call) (xs ys zs : List Token) → at_kind xs ≡ true → reading.kind xs ≡ read_next k ys → reading.call ys ≡ read_next c zs →
     reading.firing (token.Mark mark.Fire ∷ xs) ≡ read_next (plain.fire (Some k) c.name c.arguments) zs
-unfolding reading.firing expected skip bind choose
+unfolding reading.firing expect skip bind choose
 kind_firing_read k c xs ys zs e f g = rw e (rw f (rw g refl))
 
 call_no_kind : (c : Call) (xs ys : List Token) → SpellsCall c xs ys → at_kind xs ≡ false
@@ -143,19 +143,19 @@ unfolding at
 firing_not_over _ _ _ (grammar.firing d) = refl
 firing_not_over _ _ _ (grammar.kind_firing kd d) = refl
 
-firings_complete : (ss : List Statement) (xs ys : List Token) → Ended mark.Semicolon SpellsFire ss xs ys → level ys < 11 → reading.firings xs ≡ read_next ss ys
+firings_complete : (ss : List Statement) (xs ys : List Token) → SeparatedOrEndedBy mark.Semicolon SpellsFire ss xs ys → level ys < 11 → reading.firings xs ≡ read_next ss ys
 unfolding reading.firings
 firings_complete ss xs ys d h =
     ended_complete (Below 14) SpellsFire reading.firing firing_complete firing_shorter mark.Semicolon (at mark.Fire) firing_begins (λ zs. omega arith) ss xs ys d (omega arith)
     (at_below mark.Semicolon ys h) (at_below mark.Fire ys h)
 
 idle_block : (xs : List Token) → reading.block (token.Mark mark.Do ∷ token.Mark mark.Od ∷ xs) ≡ read_next [] xs
-unfolding reading.block expected skip bind choose
+unfolding reading.block expect skip bind choose
 idle_block xs = refl
 
 busy_block : (ss : List Statement) (xs ys : List Token) → skip mark.Od xs ≡ stays false xs → reading.firings xs ≡ read_next ss (token.Mark mark.Od ∷ ys) →
     reading.block (token.Mark mark.Do ∷ xs) ≡ read_next ss ys
-unfolding reading.block expected bind choose
+unfolding reading.block expect bind choose
 busy_block ss xs ys e f = rw (skip_same mark.Do xs) (rw e (rw f (rw (skip_same mark.Od ys) refl)))
 
 block_complete : (ss : List Statement) (xs ys : List Token) → SpellsBlock ss xs ys → level ys < 14 → reading.block xs ≡ read_next ss ys
@@ -175,7 +175,7 @@ no_head xs e = rw e refl
 
 some_head : (ds : List Declared) (xs ys : List Token) → reading.declared_names inner_limit xs ≡ read_next ds (token.Mark mark.CloseRound ∷ ys) →
     reading.head (token.Mark mark.OpenRound ∷ xs) ≡ read_next ds ys
-unfolding reading.head expected skip bind choose
+unfolding reading.head expect skip bind choose
 some_head ds xs ys e = rw e refl
 
 head_complete : (ds : List Declared) (xs ys : List Token) → SpellsHead ds xs ys → level ys < 14 → reading.head xs ≡ read_next ds ys
@@ -189,18 +189,18 @@ unfolding reading.automaton word bind
 automaton_read w ds es vs ts ss xs os ps qs rs ys e f i j k = rw e (rw f (rw i (rw j (rw k refl))))
 
 declared_automaton : (a : Automaton) (xs ys : List Token) → reading.automaton xs ≡ read_next a ys → reading.declaration (token.Mark mark.Automaton ∷ xs) ≡ read_next (declarations.automaton a) ys
-unfolding reading.declaration expected skip bind choose
+unfolding reading.declaration expect skip bind choose
 declared_automaton a xs ys e = rw e refl
 
 -- types
 
 constants_read : (ws : List (List ℕ)) (xs ys : List Token) → reading.words xs ≡ read_next ws ys → reading.form (token.Mark mark.Enumeration ∷ token.Mark mark.Of ∷ xs) ≡ read_next (declarations.enumeration ws) ys
-unfolding reading.form expected skip bind choose
+unfolding reading.form expect skip bind choose
 constants_read ws xs ys e = rw e refl
 
 fields_read : (ds : List Declared) (xs ys : List Token) → reading.declared_names bracket_limit xs ≡ read_next ds ys →
     reading.form (token.Mark mark.Tuple ∷ token.Mark mark.Of ∷ xs) ≡ read_next (declarations.tuple_of ds) ys
-unfolding reading.form expected skip bind choose
+unfolding reading.form expect skip bind choose
 fields_read ds xs ys e = rw e refl
 
 form_complete : (f : Form) (xs ys : List Token) → SpellsForm f xs ys → level ys < 11 → reading.form xs ≡ read_next f ys
@@ -209,7 +209,7 @@ form_complete _ _ ys (grammar.fields {ds = ds} {xs = xs} d) h = fields_read ds x
 
 type_read : (w : List ℕ) (f : Form) (xs ys : List Token) → reading.form xs ≡ read_next f ys →
     reading.declaration (token.Mark mark.Type ∷ token.Word w ∷ token.Mark mark.Equal ∷ xs) ≡ read_next (declarations.type_named (type_with w f)) ys
-unfolding reading.declaration reading.type_declaration word expected skip bind choose
+unfolding reading.declaration reading.type_declaration word expect skip bind choose
 type_read w f xs ys e = rw e refl
 
 -- declarations
@@ -219,8 +219,8 @@ declaration_complete _ _ ys (grammar.type_form {w = w} {f = f} {xs = xs} d) h = 
 declaration_complete _ _ ys (grammar.automaton_parts {w = w} {head = ds} {entries = es} {variables = vs} {transitions = ts} {block = ss} {xs = xs} {os = os} {ps = ps} {qs = qs} {rs = rs} hd ed vd td sd) h =
     let a = section_starts (Below 5) mark.Schedule SpellsBlock (λ zs. omega arith) ss rs ys sd (omega arith) in
     let b = section_starts (Below 6) mark.Transitions (Several SpellsTransition) (λ zs. omega arith) ts qs rs td (omega arith) in
-    let c = section_starts (Below 7) mark.States (Separated mark.Comma SpellsVariable) (λ zs. omega arith) vs ps qs vd (omega arith) in
-    let e = section_starts (Below 14) mark.Signature (GatheredSeveral SpellsGroup) (λ zs. omega arith) es os ps ed (omega arith) in
+    let c = section_starts (Below 7) mark.States (SeparatedBy mark.Comma SpellsVariable) (λ zs. omega arith) vs ps qs vd (omega arith) in
+    let e = section_starts (Below 14) mark.Signature (SeveralLists SpellsGroup) (λ zs. omega arith) es os ps ed (omega arith) in
     declared_automaton (automaton_with w ds es vs ts ss) (token.Word w ∷ xs) ys
     (automaton_read w ds es vs ts ss xs os ps qs rs ys (head_complete ds xs os hd e) (signature_complete es os ps ed c) (states_complete vs ps qs vd b) (transitions_part_complete ts qs rs td a)
     (schedule_complete ss rs ys sd h))
@@ -234,8 +234,8 @@ declaration_level : (x : Declaration) (xs ys : List Token) → SpellsDeclaration
 declaration_level _ _ _ (grammar.type_form d) = omega arith
 declaration_level _ _ _ (grammar.automaton_parts hd ed vd td sd) = omega arith
 
-declared_complete : (ds : List Declaration) (xs ys : List Token) → Several SpellsDeclaration ds xs ys → level ys < 3 → reading.declared xs ≡ read_next ds ys
-unfolding reading.declared
+declared_complete : (ds : List Declaration) (xs ys : List Token) → Several SpellsDeclaration ds xs ys → level ys < 3 → reading.all_declarations xs ≡ read_next ds ys
+unfolding reading.all_declarations
 declared_complete ds xs ys d h =
     several_complete (Below 4) SpellsDeclaration reading.declaration declaration_complete declaration_shorter at_declaration declaration_begins declaration_level ds xs ys d (omega arith)
     (at_declaration_below ys h)
@@ -244,12 +244,12 @@ declared_complete ds xs ys d h =
 
 node_read : (n : ℤ) (c : Call) (xs ys : List Token) → reading.call xs ≡ read_next c ys →
     reading.placement (token.Mark mark.Node ∷ token.Number n ∷ token.Mark mark.Colon ∷ xs) ≡ read_next (declarations.node (node_with n c)) ys
-unfolding reading.placement reading.node numeral expected skip bind choose
+unfolding reading.placement reading.node numeral expect skip bind choose
 node_read n c xs ys e = rw e refl
 
 channel_read : (i j : ℤ) (xs : List Token) → reading.placement (token.Mark mark.Channel ∷ token.Number i ∷ token.Mark mark.Arrow ∷ token.Number j ∷ xs)
     ≡ read_next (declarations.channel (record { from = i; to = j })) xs
-unfolding reading.placement numeral expected skip bind choose
+unfolding reading.placement numeral expect skip bind choose
 channel_read i j xs = refl
 
 placement_complete : (x : Placement) (xs ys : List Token) → SpellsPlacement x xs ys → level ys < 14 → reading.placement xs ≡ read_next x ys
@@ -265,15 +265,15 @@ placement_level : (x : Placement) (xs ys : List Token) → SpellsPlacement x xs 
 placement_level _ _ _ (grammar.node d) = omega arith
 placement_level _ _ _ grammar.channel = omega arith
 
-placed_complete : (ps : List Placement) (xs : List Token) → Several SpellsPlacement ps xs [] → reading.placed xs ≡ read_next ps []
-unfolding reading.placed
+placed_complete : (ps : List Placement) (xs : List Token) → Several SpellsPlacement ps xs [] → reading.all_placements xs ≡ read_next ps []
+unfolding reading.all_placements
 placed_complete ps xs d =
     several_complete (Below 14) SpellsPlacement reading.placement placement_complete placement_shorter at_placement placement_begins placement_level ps xs [] d (omega arith)
     (at_placement_below [] (omega arith))
 
-text_read : (ds : List Declaration) (ps : List Placement) (xs ys : List Token) → reading.declared xs ≡ read_next ds (token.Mark mark.System ∷ ys) → reading.placed ys ≡ read_next ps [] →
+text_read : (ds : List Declaration) (ps : List Placement) (xs ys : List Token) → reading.all_declarations xs ≡ read_next ds (token.Mark mark.System ∷ ys) → reading.all_placements ys ≡ read_next ps [] →
     reading.whole xs ≡ read_next (text_with ds ps) []
-unfolding reading.whole ended expected bind
+unfolding reading.whole end expect bind
 text_read ds ps xs ys e f = rw e (rw (skip_same mark.System ys) (rw f refl))
 
 -- a text is read as it is spelled

@@ -4,13 +4,13 @@ use Rattle.ioa_tokens.specs.declared.token.Token.{Token}
 use Rattle.ioa_tokens.specs.declared.mark.Mark.TheVariants as mark
 use Rattle.ioa_terms.specs.declared.tree.Kind.{Kind}
 use Rattle.ioa_source.specs.PlainSort.{PlainSort}
-use Rattle.ioa_source.specs.Sides.{SourceTerm as Term, SourcePlace as Place, SourceStatement as Statement, SourceStatements as Statements, SourceArms as Arms, SourceDeclared as Declared, SourceParameter as Parameter, SourceEntry as Entry, SourceVariable as Variable, SourceTransition as Transition, SourceForm as Form, SourceDeclaration as Declaration, SourcePlacement as Placement}
-use Rattle.ioa_cursor.specs.Lists.{Several, Separated, Gathered, GatheredSeveral}
+use Rattle.ioa_source.specs.Sides.{SourceTerm as Term, SourceTarget as Target, SourceStatement as Statement, SourceStatements as Statements, SourceArms as Arms, SourceDeclared as Declared, SourceParameter as Parameter, SourceEntry as Entry, SourceVariable as Variable, SourceTransition as Transition, SourceForm as Form, SourceDeclaration as Declaration, SourcePlacement as Placement}
+use Rattle.ioa_cursor.specs.Lists.{Several, SeparatedBy, ListsSeparatedBy, SeveralLists}
 use Rattle.ioa_cursor.proofs.Shorter.{several_shorter, separated_shorter, ended_shorter, gathered_shorter, gathered_several_shorter, section_shorter, optional_shorter}
 use Rattle.ioa_term_reader.specs.Grammar.{SpellsTerm, bracket_limit}
 use Rattle.ioa_term_reader.proofs.Shorter.{term_shorter}
 use Rattle.ioa_text_reader.specs.Grammar as grammar
-use Rattle.ioa_text_reader.specs.Grammar.{inner_limit, Call, SpellsSort, SpellsWord, SpellsDeclared, SpellsParameters, Bracketed, SpellsCall, SpellsKind, SpellsEntry, SpellsGroup, SpellsVariable, SpellsPlace, SpellsStatement, SpellsArms, SpellsRest, SpellsStatements, SpellsEffect, SpellsGuard, SpellsTransition, SpellsFire, SpellsBlock, SpellsHead, SpellsForm, SpellsDeclaration, SpellsPlacement}
+use Rattle.ioa_text_reader.specs.Grammar.{inner_limit, Call, SpellsSort, SpellsWord, SpellsDeclared, SpellsParameters, InBrackets, SpellsCall, SpellsKind, SpellsEntry, SpellsGroup, SpellsVariable, SpellsTarget, SpellsStatement, SpellsArms, SpellsRest, SpellsStatements, SpellsEffect, SpellsGuard, SpellsTransition, SpellsFire, SpellsBlock, SpellsHead, SpellsForm, SpellsDeclaration, SpellsPlacement}
 
 pub sort_shorter : (room : ℕ) (s : PlainSort) (xs ys : List Token) → SpellsSort room s xs ys → length ys < length xs
 sort_shorter _ _ _ _ grammar.bool = omega arith
@@ -35,23 +35,23 @@ parameters_shorter room _ _ _ (grammar.constant d) = let a = term_shorter _ _ _ 
 parameters_shorter room _ _ _ (grammar.names d) = declared_shorter _ _ _ _ d
 
 bracketed_shorter : {A : Type 0} (X : List A → List Token → List Token → Type 0) → ((items : List A) (xs ys : List Token) → X items xs ys → length ys < length xs) →
-    {items : List A} {xs ys : List Token} → Bracketed X items xs ys → length ys ≤ length xs
+    {items : List A} {xs ys : List Token} → InBrackets X items xs ys → length ys ≤ length xs
 bracketed_shorter X shorter grammar.bare = omega arith
 bracketed_shorter X shorter grammar.hollow = omega arith
 bracketed_shorter X shorter (grammar.filled d) = let a = shorter _ _ _ d in omega arith
 
-terms_shorter : (ts : List Term) (xs ys : List Token) → Separated mark.Comma (SpellsTerm inner_limit) ts xs ys → length ys < length xs
+terms_shorter : (ts : List Term) (xs ys : List Token) → SeparatedBy mark.Comma (SpellsTerm inner_limit) ts xs ys → length ys < length xs
 terms_shorter _ _ _ d = separated_shorter (SpellsTerm inner_limit) (term_shorter inner_limit) d
 
 pub call_shorter : (c : Call) (xs ys : List Token) → SpellsCall c xs ys → length ys < length xs
-call_shorter _ _ _ (grammar.called d) = let a = bracketed_shorter (Separated mark.Comma (SpellsTerm inner_limit)) terms_shorter d in omega arith
+call_shorter _ _ _ (grammar.called d) = let a = bracketed_shorter (SeparatedBy mark.Comma (SpellsTerm inner_limit)) terms_shorter d in omega arith
 
 pub kind_shorter : (k : Kind) (xs ys : List Token) → SpellsKind k xs ys → length ys < length xs
 kind_shorter _ _ _ grammar.input = omega arith
 kind_shorter _ _ _ grammar.output = omega arith
 kind_shorter _ _ _ grammar.internal = omega arith
 
-all_parameters_shorter : (ps : List Parameter) (xs ys : List Token) → Gathered mark.Comma (SpellsParameters inner_limit) ps xs ys → length ys < length xs
+all_parameters_shorter : (ps : List Parameter) (xs ys : List Token) → ListsSeparatedBy mark.Comma (SpellsParameters inner_limit) ps xs ys → length ys < length xs
 all_parameters_shorter _ _ _ d = gathered_shorter (SpellsParameters inner_limit) (parameters_shorter inner_limit) d
 
 term_takes : (t : Term) (xs ys : List Token) → SpellsTerm bracket_limit t xs ys → length ys ≤ length xs
@@ -59,7 +59,7 @@ term_takes _ _ _ d = let a = term_shorter _ _ _ _ d in omega arith
 
 pub entry_shorter : (k : Kind) (e : Entry) (xs ys : List Token) → SpellsEntry k e xs ys → length ys < length xs
 entry_shorter k _ _ _ (grammar.entry ps c) =
-    let a = bracketed_shorter (Gathered mark.Comma (SpellsParameters inner_limit)) all_parameters_shorter ps in
+    let a = bracketed_shorter (ListsSeparatedBy mark.Comma (SpellsParameters inner_limit)) all_parameters_shorter ps in
     let b = optional_shorter (SpellsTerm bracket_limit) term_takes c in
     omega arith
 
@@ -75,14 +75,14 @@ variable_shorter _ _ _ (grammar.of_sort s i) =
     let b = optional_shorter (SpellsTerm bracket_limit) term_takes i in
     omega arith
 
-place_shorter : (p : Place) (xs ys : List Token) → SpellsPlace p xs ys → length ys < length xs
-place_shorter _ _ _ grammar.whole = omega arith
-place_shorter _ _ _ (grammar.at_a_key d) = let a = term_shorter _ _ _ _ d in omega arith
-place_shorter _ _ _ grammar.at_a_field = omega arith
+target_shorter : (p : Target) (xs ys : List Token) → SpellsTarget p xs ys → length ys < length xs
+target_shorter _ _ _ grammar.whole = omega arith
+target_shorter _ _ _ (grammar.at_a_key d) = let a = term_shorter _ _ _ _ d in omega arith
+target_shorter _ _ _ grammar.at_a_field = omega arith
 
 mutual
   pub statement_shorter : {s : Statement} {xs ys : List Token} → SpellsStatement s xs ys → length ys < length xs
-  statement_shorter (grammar.assignment p t) = let a = place_shorter _ _ _ p in let b = term_shorter _ _ _ _ t in omega arith
+  statement_shorter (grammar.assignment p t) = let a = target_shorter _ _ _ p in let b = term_shorter _ _ _ _ t in omega arith
   statement_shorter (grammar.choice arms rest) = let a = arms_shorter arms in let b = rest_shorter rest in omega arith
 
   arms_shorter : {arms : Arms} {xs ys : List Token} → SpellsArms arms xs ys → length ys < length xs
@@ -133,10 +133,10 @@ form_shorter : (f : Form) (xs ys : List Token) → SpellsForm f xs ys → length
 form_shorter _ _ _ (grammar.constants d) = let a = separated_shorter SpellsWord word_shorter d in omega arith
 form_shorter _ _ _ (grammar.fields d) = let a = gathered_shorter (SpellsDeclared bracket_limit) (declared_shorter bracket_limit) d in omega arith
 
-groups_shorter : (es : List Entry) (xs ys : List Token) → GatheredSeveral SpellsGroup es xs ys → length ys ≤ length xs
+groups_shorter : (es : List Entry) (xs ys : List Token) → SeveralLists SpellsGroup es xs ys → length ys ≤ length xs
 groups_shorter _ _ _ d = gathered_several_shorter SpellsGroup group_shorter d
 
-variables_shorter : (vs : List Variable) (xs ys : List Token) → Separated mark.Comma SpellsVariable vs xs ys → length ys ≤ length xs
+variables_shorter : (vs : List Variable) (xs ys : List Token) → SeparatedBy mark.Comma SpellsVariable vs xs ys → length ys ≤ length xs
 variables_shorter _ _ _ d = let a = separated_shorter SpellsVariable variable_shorter d in omega arith
 
 transitions_shorter : (ts : List Transition) (xs ys : List Token) → Several SpellsTransition ts xs ys → length ys ≤ length xs
@@ -146,8 +146,8 @@ pub declaration_shorter : (x : Declaration) (xs ys : List Token) → SpellsDecla
 declaration_shorter _ _ _ (grammar.type_form d) = let a = form_shorter _ _ _ d in omega arith
 declaration_shorter _ _ _ (grammar.automaton_parts h s v t b) =
     let i = head_shorter _ _ _ h in
-    let k = section_shorter (GatheredSeveral SpellsGroup) groups_shorter s in
-    let l = section_shorter (Separated mark.Comma SpellsVariable) variables_shorter v in
+    let k = section_shorter (SeveralLists SpellsGroup) groups_shorter s in
+    let l = section_shorter (SeparatedBy mark.Comma SpellsVariable) variables_shorter v in
     let m = section_shorter (Several SpellsTransition) transitions_shorter t in
     let n = section_shorter SpellsBlock block_shorter b in
     omega arith

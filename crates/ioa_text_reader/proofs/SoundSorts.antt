@@ -7,7 +7,7 @@ use Rattle.ioa_tokens.specs.declared.mark.Mark.{Mark}
 use Rattle.ioa_tokens.specs.declared.mark.Mark.TheVariants as mark
 use Rattle.ioa_source.specs.PlainSort.{PlainSort, sequences, sets, maps}
 use Rattle.ioa_cursor.specs.Reading.{behind}
-use Rattle.ioa_cursor.proofs.Steps.{read_next, chosen, bound, expected_taken, word_taken, mark_first_taken}
+use Rattle.ioa_cursor.proofs.Steps.{read_next, choose_cases, bind_cases, expected_taken, word_taken, mark_first_taken}
 use Rattle.ioa_text_reader.specs.Grammar as grammar
 use Rattle.ioa_text_reader.specs.Grammar.{SpellsSort}
 use Rattle.ioa_text_reader.specs.Reading as reading
@@ -42,7 +42,7 @@ module _ (room : ℕ) (next : List Token → Option (PlainSort × List Token))
   unfolding reading.item_sort
   item_taken xs r e =
       let P : Type 0 = Item xs r in
-      bound P e (λ o o_is e1. bound P e1 (λ s s_is e2. bound P e2 (λ c c_is done.
+      bind_cases P e (λ o o_is e1. bind_cases P e1 (λ s s_is e2. bind_cases P e2 (λ c c_is done.
       let p = some_pair_parts _ _ _ _ done in
       let d = sound o.1 s.1 s.0 s_is in
       (o.1, expected_taken mark.OpenSquare xs o o_is, rw (← p.0, ← p.1, ← expected_taken mark.CloseSquare s.1 c c_is) d))))
@@ -51,7 +51,7 @@ module _ (room : ℕ) (next : List Token → Option (PlainSort × List Token))
   unfolding reading.map_sort
   map_sound xs ys s e =
       let P : Type 0 = SpellsSort room s (token.Mark mark.Map ∷ xs) ys in
-      bound P e (λ o o_is e1. bound P e1 (λ k k_is e2. bound P e2 (λ m m_is e3. bound P e3 (λ v v_is e4. bound P e4 (λ c c_is done.
+      bind_cases P e (λ o o_is e1. bind_cases P e1 (λ k k_is e2. bind_cases P e2 (λ m m_is e3. bind_cases P e3 (λ v v_is e4. bind_cases P e4 (λ c c_is done.
       let p = some_pair_parts _ _ _ _ done in
       let keys = rw (expected_taken mark.Comma k.1 m m_is) at (sound o.1 k.1 k.0 k_is) in
       let values = rw (expected_taken mark.CloseSquare v.1 c c_is) at (sound m.1 v.1 v.0 v_is) in
@@ -64,13 +64,13 @@ module _ (room : ℕ) (next : List Token → Option (PlainSort × List Token))
   marked_sound mark.Nat xs ys s e = let p = some_pair_parts _ _ _ _ e in rw (← p.0, ← p.1) grammar.nat
   marked_sound mark.Seq xs ys s e =
       let P : Type 0 = SpellsSort room s (token.Mark mark.Seq ∷ xs) ys in
-      bound P e (λ r r_is done.
+      bind_cases P e (λ r r_is done.
       let p = some_pair_parts _ _ _ _ done in
       let i = item_taken xs r r_is in
       rw (i.1, ← p.0, ← p.1) (sequence_of room i.2))
   marked_sound mark.Set xs ys s e =
       let P : Type 0 = SpellsSort room s (token.Mark mark.Set ∷ xs) ys in
-      bound P e (λ r r_is done.
+      bind_cases P e (λ r r_is done.
       let p = some_pair_parts _ _ _ _ done in
       let i = item_taken xs r r_is in
       rw (i.1, ← p.0, ← p.1) (set_of room i.2))
@@ -81,13 +81,13 @@ module _ (room : ℕ) (next : List Token → Option (PlainSort × List Token))
   unfolding reading.sort_by
   sort_by_sound xs ys s e =
       let P : Type 0 = SpellsSort room s xs ys in
-      chosen P e
+      choose_cases P e
       (λ _ named.
-      bound P named (λ w w_is done.
+      bind_cases P named (λ w w_is done.
       let p = some_pair_parts _ _ _ _ done in
       rw (word_taken xs w w_is, ← p.0, ← p.1) grammar.named_by))
       (λ _ marked.
-      bound P marked (λ m m_is more. rw (mark_first_taken xs m m_is) (marked_sound m (behind xs) ys s more)))
+      bind_cases P marked (λ m m_is more. rw (mark_first_taken xs m m_is) (marked_sound m (behind xs) ys s more)))
 
 sort_in_sound : (depth : ℕ) (xs ys : List Token) (s : PlainSort) → reading.sort_in depth xs ≡ read_next s ys → Within depth s xs ys
 unfolding reading.sort_in

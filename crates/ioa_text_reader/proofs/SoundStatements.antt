@@ -7,28 +7,28 @@ use Rattle.ioa_tokens.specs.declared.token.Token.{Token}
 use Rattle.ioa_tokens.specs.declared.token.Token.TheVariants as token
 use Rattle.ioa_tokens.specs.declared.mark.Mark.TheVariants as mark
 use Rattle.ioa_terms.specs.PlainTerm.{statements_of, arms_of}
-use Rattle.ioa_source.specs.Sides.{SourceTerm as Term, SourcePlace as Place, SourceStatement as Statement, SourceStatements as Statements}
-use Rattle.ioa_cursor.specs.Lists.{Separated, single, followed, Ended, last, closed, continued}
-use Rattle.ioa_cursor.proofs.Steps.{read_next, chosen, bound, skip_taken, skip_left, expected_taken, word_taken}
+use Rattle.ioa_source.specs.Sides.{SourceTerm as Term, SourceTarget as Target, SourceStatement as Statement, SourceStatements as Statements}
+use Rattle.ioa_cursor.specs.Lists.{SeparatedBy, single, followed, SeparatedOrEndedBy, last, closed, continued}
+use Rattle.ioa_cursor.proofs.Steps.{read_next, choose_cases, bind_cases, skip_taken, skip_left, expected_taken, word_taken}
 use Rattle.ioa_cursor.proofs.SoundLists.{separated_sound, ended_sound}
 use Rattle.ioa_term_reader.specs.Heights.{height_limit}
 use Rattle.ioa_term_reader.specs.Grammar.{SpellsTerm, bracket_limit}
-use Rattle.ioa_text_reader.specs.StatementHeights.{place_height, statement_height}
+use Rattle.ioa_text_reader.specs.StatementHeights.{target_height, statement_height}
 use Rattle.ioa_text_reader.specs.Grammar as grammar
-use Rattle.ioa_text_reader.specs.Grammar.{SpellsPlace, SpellsStatement, SpellsStatements, SpellsArms, SpellsRest, SpellsEffect}
+use Rattle.ioa_text_reader.specs.Grammar.{SpellsTarget, SpellsStatement, SpellsStatements, SpellsArms, SpellsRest, SpellsEffect}
 use Rattle.ioa_text_reader.specs.Reading as reading
 use Rattle.ioa_term_reader.proofs.Sound.{term_sound}
 
 -- a place, and how high the term in it is
-record LowPlace (p : Place) (xs ys : List Token) : Type 0 where
-  spelled : SpellsPlace p xs ys
-  low : place_height p ≤ height_limit
+record LowTarget (p : Target) (xs ys : List Token) : Type 0 where
+  spelled : SpellsTarget p xs ys
+  low : target_height p ≤ height_limit
 
-key_place_sound : (w : List ℕ) (xs ys : List Token) (p : Place) → reading.key_place w xs ≡ read_next p ys → LowPlace p (token.Word w ∷ token.Mark mark.OpenSquare ∷ xs) ys
-unfolding reading.key_place
-key_place_sound w xs ys x e =
-    let P : Type 0 = LowPlace x (token.Word w ∷ token.Mark mark.OpenSquare ∷ xs) ys in
-    bound P e (λ t t_is e1. bound P e1 (λ c c_is done.
+key_target_sound : (w : List ℕ) (xs ys : List Token) (p : Target) → reading.key_target w xs ≡ read_next p ys → LowTarget p (token.Word w ∷ token.Mark mark.OpenSquare ∷ xs) ys
+unfolding reading.key_target
+key_target_sound w xs ys x e =
+    let P : Type 0 = LowTarget x (token.Word w ∷ token.Mark mark.OpenSquare ∷ xs) ys in
+    bind_cases P e (λ t t_is e1. bind_cases P e1 (λ c c_is done.
     let p = some_pair_parts _ _ _ _ done in
     let d = rw (expected_taken mark.CloseSquare t.1 c c_is) at (term_sound grammar.inner_limit xs t.1 t.0 t_is) in
     rw (← p.0, ← p.1) (record { spelled = grammar.at_a_key d; low = d.low })))
@@ -36,17 +36,17 @@ key_place_sound w xs ys x e =
 nothing_low : 0 ≤ height_limit
 nothing_low = omega arith
 
-place_sound : (xs ys : List Token) (p : Place) → reading.place xs ≡ read_next p ys → LowPlace p xs ys
-unfolding reading.place
-place_sound xs ys x e =
-    let P : Type 0 = LowPlace x xs ys in
-    bound P e (λ w w_is e1.
-    chosen P e1
-    (λ keyed more. rw (word_taken xs w w_is, skip_taken mark.OpenSquare w.1 keyed) (key_place_sound w.0 _ ys x more))
+target_sound : (xs ys : List Token) (p : Target) → reading.target xs ≡ read_next p ys → LowTarget p xs ys
+unfolding reading.target
+target_sound xs ys x e =
+    let P : Type 0 = LowTarget x xs ys in
+    bind_cases P e (λ w w_is e1.
+    choose_cases P e1
+    (λ keyed more. rw (word_taken xs w w_is, skip_taken mark.OpenSquare w.1 keyed) (key_target_sound w.0 _ ys x more))
     (λ no_key more.
-    chosen P more
+    choose_cases P more
     (λ dotted last.
-    bound P last (λ f f_is done.
+    bind_cases P last (λ f f_is done.
     let p = some_pair_parts _ _ _ _ done in
     rw (word_taken xs w w_is, ← skip_left mark.OpenSquare w.1 no_key, skip_taken mark.Dot _ dotted, word_taken _ f f_is, ← p.0, ← p.1)
     (record { spelled = grammar.at_a_field; low = nothing_low })))
@@ -64,11 +64,11 @@ assignment_sound : (xs ys : List Token) (s : Statement) → reading.assignment x
 unfolding reading.assignment
 assignment_sound xs ys s e =
     let P : Type 0 = LowStatement s xs ys in
-    bound P e (λ q q_is e1. bound P e1 (λ a a_is e2. bound P e2 (λ t t_is done.
+    bind_cases P e (λ q q_is e1. bind_cases P e1 (λ a a_is e2. bind_cases P e2 (λ t t_is done.
     let p = some_pair_parts _ _ _ _ done in
-    let place = rw (expected_taken mark.Assign q.1 a a_is) at (place_sound xs q.1 q.0 q_is) in
+    let target = rw (expected_taken mark.Assign q.1 a a_is) at (target_sound xs q.1 q.0 q_is) in
     let value = term_sound bracket_limit a.1 t.1 t.0 t_is in
-    rw (← p.0, ← p.1) (record { spelled = grammar.assignment place.spelled value; low = max-le place.low value.low }))))
+    rw (← p.0, ← p.1) (record { spelled = grammar.assignment target.spelled value; low = max-le target.low value.low }))))
 
 limited_if : (b : Bool) (s r : Statement) → (b ≡ true → statement_height s ≤ height_limit) → (if b then Some s else None) ≡ Some r →
     (s ≡ r) × (statement_height s ≤ height_limit)
@@ -85,11 +85,11 @@ record SpellsArm (a : Term × Statements) (xs ys : List Token) : Type 0 where
   test : SpellsTerm bracket_limit a.0 xs (token.Mark mark.Then ∷ inner)
   body : SpellsStatements a.1 inner ys
 
-arms_from : {arms : List (Term × Statements)} {xs ys : List Token} → Separated mark.ElseIf SpellsArm arms xs ys → SpellsArms (arms_of arms) xs ys
+arms_from : {arms : List (Term × Statements)} {xs ys : List Token} → SeparatedBy mark.ElseIf SpellsArm arms xs ys → SpellsArms (arms_of arms) xs ys
 arms_from (single a) = grammar.one_arm a.test a.body
 arms_from (followed a more) = grammar.more_arms a.test a.body (arms_from more)
 
-effect_from : {statements : List Statement} {xs ys : List Token} → Ended mark.Semicolon LowStatement statements xs ys → SpellsEffect statements xs ys
+effect_from : {statements : List Statement} {xs ys : List Token} → SeparatedOrEndedBy mark.Semicolon LowStatement statements xs ys → SpellsEffect statements xs ys
 effect_from (last s) = record { spelled = grammar.last_statement s.spelled; low = max-le s.low nothing_low }
 effect_from (closed s) = record { spelled = grammar.closed_statement s.spelled; low = max-le s.low nothing_low }
 effect_from (continued s more) =
@@ -102,7 +102,7 @@ module _ (next : List Token → Option (List Statement × List Token))
   unfolding reading.one_arm
   one_arm_sound xs ys a e =
       let P : Type 0 = SpellsArm a xs ys in
-      bound P e (λ t t_is e1. bound P e1 (λ c c_is e2. bound P e2 (λ ss ss_is done.
+      bind_cases P e (λ t t_is e1. bind_cases P e1 (λ c c_is e2. bind_cases P e2 (λ ss ss_is done.
       let p = some_pair_parts _ _ _ _ done in
       let test = rw (expected_taken mark.Then t.1 c c_is) at (term_sound bracket_limit xs t.1 t.0 t_is) in
       let body = sound c.1 ss.1 ss.0 ss_is in
@@ -116,14 +116,14 @@ module _ (next : List Token → Option (List Statement × List Token))
   unfolding reading.rest_of
   rest_sound xs ys ss e =
       let P : Type 0 = SpellsRest (statements_of ss) xs ys in
-      chosen P e
+      choose_cases P e
       (λ is_else more.
-      bound P more (λ r r_is e1. bound P e1 (λ c c_is done.
+      bind_cases P more (λ r r_is e1. bind_cases P e1 (λ c c_is done.
       let p = some_pair_parts _ _ _ _ done in
       let body = rw (expected_taken mark.Fi r.1 c c_is) at (sound _ r.1 r.0 r_is) in
       rw (skip_taken mark.Else xs is_else, ← p.0, ← p.1) (grammar.otherwise body.spelled))))
       (λ no_else more.
-      bound P more (λ c c_is done.
+      bind_cases P more (λ c c_is done.
       let p = some_pair_parts _ _ _ _ done in
       rw (← skip_left mark.Else xs no_else, expected_taken mark.Fi _ c c_is, ← p.0, ← p.1) grammar.no_else))
 
@@ -131,7 +131,7 @@ module _ (next : List Token → Option (List Statement × List Token))
   unfolding reading.choice
   choice_sound xs ys s e =
       let P : Type 0 = LowStatement s (token.Mark mark.If ∷ xs) ys in
-      bound P e (λ a a_is e1. bound P e1 (λ r r_is e2. bound P e2 (λ l l_is done.
+      bind_cases P e (λ a a_is e1. bind_cases P e1 (λ r r_is e2. bind_cases P e2 (λ l l_is done.
       let p = some_pair_parts _ _ _ _ done in
       let limited = limited_taken _ l l_is in
       rw (← p.0, ← limited.0, ← p.1)
@@ -141,7 +141,7 @@ module _ (next : List Token → Option (List Statement × List Token))
   unfolding reading.one_statement
   one_statement_sound xs ys s e =
       let P : Type 0 = LowStatement s xs ys in
-      chosen P e
+      choose_cases P e
       (λ is_if more. rw (skip_taken mark.If xs is_if) (choice_sound _ ys s more))
       (λ no_if more. rw (← skip_left mark.If xs no_if) (assignment_sound _ ys s more))
 

@@ -6,9 +6,9 @@ use Rattle.ioa_tokens.specs.declared.token.Token.TheVariants as token
 use Rattle.ioa_tokens.specs.declared.mark.Mark.TheVariants as mark
 use Rattle.ioa_source.specs.PlainText.{type_named, automaton, node}
 use Rattle.ioa_source.specs.Sides.{SourceTerm as Term, SourceStatement as Statement, SourceDeclared as Declared, SourceTransition as Transition, SourceForm as Form, SourceType as TypeOf, SourceAutomaton as Automaton, SourceDeclaration as Declaration, SourceNode as Node, SourcePlacement as Placement, SourceText}
-use Rattle.ioa_cursor.specs.Lists.{Several, Ended, Section, Optional}
-use Rattle.ioa_cursor.specs.Reading.{skip, at, ended}
-use Rattle.ioa_cursor.proofs.Steps.{read_next, chosen, bound, skip_taken, skip_left, expected_taken, word_taken, numeral_taken}
+use Rattle.ioa_cursor.specs.Lists.{Several, SeparatedOrEndedBy, Section, Optional}
+use Rattle.ioa_cursor.specs.Reading.{skip, at, end}
+use Rattle.ioa_cursor.proofs.Steps.{read_next, choose_cases, bind_cases, skip_taken, skip_left, expected_taken, word_taken, numeral_taken}
 use Rattle.ioa_cursor.proofs.SoundLists.{several_sound, ended_sound, section_sound, optional_sound}
 use Rattle.ioa_term_reader.specs.Grammar.{SpellsTerm, bracket_limit}
 use Rattle.ioa_text_reader.specs.Grammar as grammar
@@ -33,7 +33,7 @@ guard_at ys false e d = rw (skip_left mark.Semicolon ys e) (grammar.guard d)
 guard_sound : (xs ys : List Token) (t : Term) → reading.guard xs ≡ read_next t ys → SpellsGuard t xs ys
 unfolding reading.guard
 guard_sound xs ys x e =
-    bound (SpellsGuard x xs ys) e (λ t t_is done.
+    bind_cases (SpellsGuard x xs ys) e (λ t t_is done.
     let p = some_pair_parts _ _ _ _ done in
     rw (← p.0, ← p.1) (guard_at t.1 (skip mark.Semicolon t.1).0 refl (term_sound bracket_limit xs t.1 t.0 t_is)))
 
@@ -45,7 +45,7 @@ transition_sound : (xs ys : List Token) (x : Transition) → reading.transition 
 unfolding reading.transition
 transition_sound xs ys x e =
     let P : Type 0 = SpellsTransition x xs ys in
-    bound P e (λ k k_is e1. bound P e1 (λ h h_is e2. bound P e2 (λ g g_is e3. bound P e3 (λ f f_is done.
+    bind_cases P e (λ k k_is e1. bind_cases P e1 (λ h h_is e2. bind_cases P e2 (λ g g_is e3. bind_cases P e3 (λ f f_is done.
     let p = some_pair_parts _ _ _ _ done in
     rw (← p.0, ← p.1)
     (grammar.transition (kind_sound xs k.1 k.0 k_is) (call_sound k.1 h.1 h.0 h_is) (guard_part_sound h.1 g.1 g.0 g_is) (effect_sound g.1 f.1 f.0 f_is))))))
@@ -65,18 +65,18 @@ firing_sound : (xs ys : List Token) (x : Statement) → reading.firing xs ≡ re
 unfolding reading.firing
 firing_sound xs ys x e =
     let P : Type 0 = SpellsFire x xs ys in
-    bound P e (λ f f_is e1.
-    chosen P e1
+    bind_cases P e (λ f f_is e1.
+    choose_cases P e1
     (λ _ more.
-    bound P more (λ k k_is e2. bound P e2 (λ c c_is done.
+    bind_cases P more (λ k k_is e2. bind_cases P e2 (λ c c_is done.
     let p = some_pair_parts _ _ _ _ done in
     rw (expected_taken mark.Fire xs f f_is, ← p.0, ← p.1) (grammar.kind_firing (kind_sound f.1 k.1 k.0 k_is) (call_sound k.1 c.1 c.0 c_is)))))
     (λ _ more.
-    bound P more (λ c c_is done.
+    bind_cases P more (λ c c_is done.
     let p = some_pair_parts _ _ _ _ done in
     rw (expected_taken mark.Fire xs f f_is, ← p.0, ← p.1) (grammar.firing (call_sound f.1 c.1 c.0 c_is)))))
 
-firings_sound : (xs ys : List Token) (all : List Statement) → reading.firings xs ≡ read_next all ys → Ended mark.Semicolon SpellsFire all xs ys
+firings_sound : (xs ys : List Token) (all : List Statement) → reading.firings xs ≡ read_next all ys → SeparatedOrEndedBy mark.Semicolon SpellsFire all xs ys
 unfolding reading.firings
 firings_sound xs ys all e = ended_sound SpellsFire reading.firing firing_sound mark.Semicolon (at mark.Fire) xs ys all e
 
@@ -84,13 +84,13 @@ block_sound : (xs ys : List Token) (all : List Statement) → reading.block xs �
 unfolding reading.block
 block_sound xs ys all e =
     let P : Type 0 = SpellsBlock all xs ys in
-    bound P e (λ d d_is e1.
-    chosen P e1
+    bind_cases P e (λ d d_is e1.
+    choose_cases P e1
     (λ closed is.
     let p = some_pair_parts _ _ _ _ is in
     rw (expected_taken mark.Do xs d d_is, skip_taken mark.Od d.1 closed, ← p.0, ← p.1) grammar.idle)
     (λ not_closed more.
-    bound P more (λ r r_is close. bound P close (λ c c_is done.
+    bind_cases P more (λ r r_is close. bind_cases P close (λ c c_is done.
     let p = some_pair_parts _ _ _ _ done in
     let within = rw (skip_left mark.Od d.1 not_closed, expected_taken mark.Od r.1 c c_is) at (firings_sound _ r.1 r.0 r_is) in
     rw (expected_taken mark.Do xs d d_is, ← p.0, ← p.1) (grammar.busy within)))))
@@ -105,9 +105,9 @@ head_sound : (xs ys : List Token) (ds : List Declared) → reading.head xs ≡ r
 unfolding reading.head
 head_sound xs ys ds e =
     let P : Type 0 = SpellsHead ds xs ys in
-    chosen P e
+    choose_cases P e
     (λ opened more.
-    bound P more (λ r r_is close. bound P close (λ c c_is done.
+    bind_cases P more (λ r r_is close. bind_cases P close (λ c c_is done.
     let p = some_pair_parts _ _ _ _ done in
     let within = rw (expected_taken mark.CloseRound r.1 c c_is) at (declared_names_sound inner_limit _ r.1 r.0 r_is) in
     rw (skip_taken mark.OpenRound xs opened, ← p.0, ← p.1) (grammar.parameters within))))
@@ -119,7 +119,7 @@ automaton_sound : (xs ys : List Token) (x : Automaton) → reading.automaton xs 
 unfolding reading.automaton
 automaton_sound xs ys x e =
     let P : Type 0 = SpellsDeclaration (automaton x) (token.Mark mark.Automaton ∷ xs) ys in
-    bound P e (λ w w_is e1. bound P e1 (λ h h_is e2. bound P e2 (λ g g_is e3. bound P e3 (λ v v_is e4. bound P e4 (λ t t_is e5. bound P e5 (λ b b_is done.
+    bind_cases P e (λ w w_is e1. bind_cases P e1 (λ h h_is e2. bind_cases P e2 (λ g g_is e3. bind_cases P e3 (λ v v_is e4. bind_cases P e4 (λ t t_is e5. bind_cases P e5 (λ b b_is done.
     let p = some_pair_parts _ _ _ _ done in
     rw (word_taken xs w w_is, ← p.0, ← p.1)
     (grammar.automaton_parts (head_sound w.1 h.1 h.0 h_is) (signature_sound h.1 g.1 g.0 g_is) (states_sound g.1 v.1 v.0 v_is)
@@ -129,13 +129,13 @@ form_sound : (xs ys : List Token) (f : Form) → reading.form xs ≡ read_next f
 unfolding reading.form
 form_sound xs ys f e =
     let P : Type 0 = SpellsForm f xs ys in
-    chosen P e
+    choose_cases P e
     (λ is_enumeration more.
-    bound P more (λ o o_is e1. bound P e1 (λ ws ws_is done.
+    bind_cases P more (λ o o_is e1. bind_cases P e1 (λ ws ws_is done.
     let p = some_pair_parts _ _ _ _ done in
     rw (skip_taken mark.Enumeration xs is_enumeration, expected_taken mark.Of _ o o_is, ← p.0, ← p.1) (grammar.constants (words_sound o.1 ws.1 ws.0 ws_is)))))
     (λ no_enumeration more.
-    bound P more (λ t t_is e1. bound P e1 (λ o o_is e2. bound P e2 (λ ds ds_is done.
+    bind_cases P more (λ t t_is e1. bind_cases P e1 (λ o o_is e2. bind_cases P e2 (λ ds ds_is done.
     let p = some_pair_parts _ _ _ _ done in
     rw (← skip_left mark.Enumeration xs no_enumeration, expected_taken mark.Tuple _ t t_is, expected_taken mark.Of t.1 o o_is, ← p.0, ← p.1)
     (grammar.fields (declared_names_sound bracket_limit o.1 ds.1 ds.0 ds_is))))))
@@ -145,7 +145,7 @@ type_declaration_sound : (xs ys : List Token) (x : TypeOf) → reading.type_decl
 unfolding reading.type_declaration
 type_declaration_sound xs ys x e =
     let P : Type 0 = SpellsDeclaration (type_named x) (token.Mark mark.Type ∷ xs) ys in
-    bound P e (λ w w_is e1. bound P e1 (λ q q_is e2. bound P e2 (λ f f_is done.
+    bind_cases P e (λ w w_is e1. bind_cases P e1 (λ q q_is e2. bind_cases P e2 (λ f f_is done.
     let p = some_pair_parts _ _ _ _ done in
     rw (word_taken xs w w_is, expected_taken mark.Equal w.1 q q_is, ← p.0, ← p.1) (grammar.type_form (form_sound q.1 f.1 f.0 f_is)))))
 
@@ -153,18 +153,18 @@ declaration_sound : (xs ys : List Token) (x : Declaration) → reading.declarati
 unfolding reading.declaration
 declaration_sound xs ys x e =
     let P : Type 0 = SpellsDeclaration x xs ys in
-    chosen P e
+    choose_cases P e
     (λ is_type more.
-    bound P more (λ t t_is done.
+    bind_cases P more (λ t t_is done.
     let p = some_pair_parts _ _ _ _ done in
     rw (skip_taken mark.Type xs is_type, ← p.0, ← p.1) (type_declaration_sound _ t.1 t.0 t_is)))
     (λ no_type more.
-    bound P more (λ m m_is e1. bound P e1 (λ a a_is done.
+    bind_cases P more (λ m m_is e1. bind_cases P e1 (λ a a_is done.
     let p = some_pair_parts _ _ _ _ done in
     rw (← skip_left mark.Type xs no_type, expected_taken mark.Automaton _ m m_is, ← p.0, ← p.1) (automaton_sound m.1 a.1 a.0 a_is))))
 
-declared_sound : (xs ys : List Token) (all : List Declaration) → reading.declared xs ≡ read_next all ys → Several SpellsDeclaration all xs ys
-unfolding reading.declared
+declared_sound : (xs ys : List Token) (all : List Declaration) → reading.all_declarations xs ≡ read_next all ys → Several SpellsDeclaration all xs ys
+unfolding reading.all_declarations
 declared_sound xs ys all e = several_sound SpellsDeclaration reading.declaration declaration_sound reading.at_declaration xs ys all e
 
 -- systems
@@ -173,7 +173,7 @@ node_sound : (xs ys : List Token) (x : Node) → reading.node xs ≡ read_next x
 unfolding reading.node
 node_sound xs ys x e =
     let P : Type 0 = SpellsPlacement (node x) (token.Mark mark.Node ∷ xs) ys in
-    bound P e (λ n n_is e1. bound P e1 (λ c c_is e2. bound P e2 (λ a a_is done.
+    bind_cases P e (λ n n_is e1. bind_cases P e1 (λ c c_is e2. bind_cases P e2 (λ a a_is done.
     let p = some_pair_parts _ _ _ _ done in
     rw (numeral_taken xs n n_is, expected_taken mark.Colon n.1 c c_is, ← p.0, ← p.1) (grammar.node (call_sound c.1 a.1 a.0 a_is)))))
 
@@ -181,23 +181,23 @@ placement_sound : (xs ys : List Token) (x : Placement) → reading.placement xs 
 unfolding reading.placement
 placement_sound xs ys x e =
     let P : Type 0 = SpellsPlacement x xs ys in
-    chosen P e
+    choose_cases P e
     (λ is_node more.
-    bound P more (λ n n_is done.
+    bind_cases P more (λ n n_is done.
     let p = some_pair_parts _ _ _ _ done in
     rw (skip_taken mark.Node xs is_node, ← p.0, ← p.1) (node_sound _ n.1 n.0 n_is)))
     (λ no_node more.
-    bound P more (λ c c_is e1. bound P e1 (λ i i_is e2. bound P e2 (λ a a_is e3. bound P e3 (λ j j_is done.
+    bind_cases P more (λ c c_is e1. bind_cases P e1 (λ i i_is e2. bind_cases P e2 (λ a a_is e3. bind_cases P e3 (λ j j_is done.
     let p = some_pair_parts _ _ _ _ done in
     rw (← skip_left mark.Node xs no_node, expected_taken mark.Channel _ c c_is, numeral_taken c.1 i i_is, expected_taken mark.Arrow i.1 a a_is, numeral_taken a.1 j j_is, ← p.0, ← p.1)
     grammar.channel)))))
 
-placed_sound : (xs ys : List Token) (all : List Placement) → reading.placed xs ≡ read_next all ys → Several SpellsPlacement all xs ys
-unfolding reading.placed
+placed_sound : (xs ys : List Token) (all : List Placement) → reading.all_placements xs ≡ read_next all ys → Several SpellsPlacement all xs ys
+unfolding reading.all_placements
 placed_sound xs ys all e = several_sound SpellsPlacement reading.placement placement_sound reading.at_placement xs ys all e
 
-ended_taken : (xs : List Token) (r : Unit {0} × List Token) → ended xs ≡ Some r → xs ≡ []
-unfolding ended
+ended_taken : (xs : List Token) (r : Unit {0} × List Token) → end xs ≡ Some r → xs ≡ []
+unfolding end
 ended_taken [] r e = refl
 ended_taken (x ∷ xs) r e = absurd cc
 
@@ -206,7 +206,7 @@ pub whole_sound : (xs ys : List Token) (x : SourceText) → reading.whole xs ≡
 unfolding reading.whole
 whole_sound xs ys x e =
     let P : Type 0 = Spells x xs in
-    bound P e (λ d d_is e1. bound P e1 (λ s s_is e2. bound P e2 (λ q q_is e3. bound P e3 (λ n n_is done.
+    bind_cases P e (λ d d_is e1. bind_cases P e1 (λ s s_is e2. bind_cases P e2 (λ q q_is e3. bind_cases P e3 (λ n n_is done.
     let p = some_pair_parts _ _ _ _ done in
     let before = rw (expected_taken mark.System d.1 s s_is) at (declared_sound xs d.1 d.0 d_is) in
     let system = rw (ended_taken q.1 n n_is) at (placed_sound s.1 q.1 q.0 q_is) in

@@ -11,8 +11,8 @@ use Rattle.ioa_terms.specs.PlainTerm.{variable, at_key, at_field, assign, choose
 use Rattle.ioa_source.specs.PlainSort.{PlainSort, booleans, integers, naturals, sequences, sets, maps, named_type}
 use Rattle.ioa_source.specs.PlainText.{const, named, enumeration, tuple_of, type_named, automaton}
 use Rattle.ioa_source.specs.PlainText as plain
-use Rattle.ioa_source.specs.Sides.{SourceTerm as Term, SourcePlace as Place, SourceStatement as Statement, SourceStatements as Statements, SourceArms as Arms, SourceDeclared as Declared, SourceParameter as Parameter, SourceEntry as Entry, SourceVariable as Variable, SourceTransition as Transition, SourceForm as Form, SourceDeclaration as Declaration, SourcePlacement as Placement, SourceText}
-use Rattle.ioa_cursor.specs.Lists.{Several, Separated, Ended, Section, Optional, Gathered, GatheredSeveral}
+use Rattle.ioa_source.specs.Sides.{SourceTerm as Term, SourceTarget as Target, SourceStatement as Statement, SourceStatements as Statements, SourceArms as Arms, SourceDeclared as Declared, SourceParameter as Parameter, SourceEntry as Entry, SourceVariable as Variable, SourceTransition as Transition, SourceForm as Form, SourceDeclaration as Declaration, SourcePlacement as Placement, SourceText}
+use Rattle.ioa_cursor.specs.Lists.{Several, SeparatedBy, SeparatedOrEndedBy, Section, Optional, ListsSeparatedBy, SeveralLists}
 use Rattle.ioa_term_reader.specs.Heights.{height_limit}
 use Rattle.ioa_term_reader.specs.Grammar.{bracket_limit, SpellsTerm}
 use Rattle.ioa_text_reader.specs.StatementHeights.{statements_height}
@@ -44,7 +44,7 @@ declare s ws = map (λ w. record { name = w; sort = s; shape = tt }) ws
 
 -- Declared: Word {, Word} : Sort
 pub data SpellsDeclared (room : ℕ) : List Declared → List Token → List Token → Type 0 where
-  declared : {ws : List (List ℕ)} {s : PlainSort} {xs ys zs : List Token} → Separated mark.Comma SpellsWord ws xs (token.Mark mark.Colon ∷ ys) →
+  declared : {ws : List (List ℕ)} {s : PlainSort} {xs ys zs : List Token} → SeparatedBy mark.Comma SpellsWord ws xs (token.Mark mark.Colon ∷ ys) →
       SpellsSort room s ys zs → SpellsDeclared room (declare s ws) xs zs
 
 -- Param: const Term, or Declared
@@ -53,10 +53,10 @@ pub data SpellsParameters (room : ℕ) : List Parameter → List Token → List 
   names : {ds : List Declared} {xs ys : List Token} → SpellsDeclared room ds xs ys → SpellsParameters room (map named ds) xs ys
 
 -- [ ( [X] ) ]: empty brackets are the same as none
-pub data Bracketed {A : Type 0} (X : List A → List Token → List Token → Type 0) : List A → List Token → List Token → Type 0 where
-  bare : {xs : List Token} → Bracketed X [] xs xs
-  hollow : {xs : List Token} → Bracketed X [] (token.Mark mark.OpenRound ∷ token.Mark mark.CloseRound ∷ xs) xs
-  filled : {items : List A} {xs ys : List Token} → X items xs (token.Mark mark.CloseRound ∷ ys) → Bracketed X items (token.Mark mark.OpenRound ∷ xs) ys
+pub data InBrackets {A : Type 0} (X : List A → List Token → List Token → Type 0) : List A → List Token → List Token → Type 0 where
+  bare : {xs : List Token} → InBrackets X [] xs xs
+  hollow : {xs : List Token} → InBrackets X [] (token.Mark mark.OpenRound ∷ token.Mark mark.CloseRound ∷ xs) xs
+  filled : {items : List A} {xs ys : List Token} → X items xs (token.Mark mark.CloseRound ∷ ys) → InBrackets X items (token.Mark mark.OpenRound ∷ xs) ys
 
 -- an action: its name and its arguments
 pub record Call : Type 0 where
@@ -65,7 +65,7 @@ pub record Call : Type 0 where
 
 -- Call: Word [ ( [Term {, Term}] ) ]
 pub data SpellsCall : Call → List Token → List Token → Type 0 where
-  called : {w : List ℕ} {ts : List Term} {xs ys : List Token} → Bracketed (Separated mark.Comma (SpellsTerm inner_limit)) ts xs ys →
+  called : {w : List ℕ} {ts : List Term} {xs ys : List Token} → InBrackets (SeparatedBy mark.Comma (SpellsTerm inner_limit)) ts xs ys →
       SpellsCall (record { name = w; arguments = ts }) (token.Word w ∷ xs) ys
 
 -- Kind: input, output or internal
@@ -77,12 +77,12 @@ pub data SpellsKind : Kind → List Token → List Token → Type 0 where
 -- Entry: Word [ ( [Param {, Param}] ) ] [where Term]
 pub data SpellsEntry (k : Kind) : Entry → List Token → List Token → Type 0 where
   entry : {w : List ℕ} {parameters : List Parameter} {condition : Option Term} {xs ys zs : List Token} →
-      Bracketed (Gathered mark.Comma (SpellsParameters inner_limit)) parameters xs ys → Optional mark.Where (SpellsTerm bracket_limit) condition ys zs →
+      InBrackets (ListsSeparatedBy mark.Comma (SpellsParameters inner_limit)) parameters xs ys → Optional mark.Where (SpellsTerm bracket_limit) condition ys zs →
       SpellsEntry k (record { kind = k; name = w; parameters = parameters; condition = condition }) (token.Word w ∷ xs) zs
 
 -- Group: Kind Entry {, Entry} [,]
 pub data SpellsGroup : List Entry → List Token → List Token → Type 0 where
-  group : {k : Kind} {entries : List Entry} {xs ys zs : List Token} → SpellsKind k xs ys → Ended mark.Comma (SpellsEntry k) entries ys zs →
+  group : {k : Kind} {entries : List Entry} {xs ys zs : List Token} → SpellsKind k xs ys → SeparatedOrEndedBy mark.Comma (SpellsEntry k) entries ys zs →
       SpellsGroup entries xs zs
 
 -- Variable: Word : Sort [:= Term]
@@ -92,16 +92,16 @@ pub data SpellsVariable : Variable → List Token → List Token → Type 0 wher
       SpellsVariable (record { declared = record { name = w; sort = s; shape = tt }; initial = initial }) (token.Word w ∷ token.Mark mark.Colon ∷ xs) zs
 
 -- Place: Word, Word [ Term ], or Word . Word
-pub data SpellsPlace : Place → List Token → List Token → Type 0 where
-  whole : {w : List ℕ} {xs : List Token} → SpellsPlace (variable w tt tt) (token.Word w ∷ xs) xs
+pub data SpellsTarget : Target → List Token → List Token → Type 0 where
+  whole : {w : List ℕ} {xs : List Token} → SpellsTarget (variable w tt tt) (token.Word w ∷ xs) xs
   at_a_key : {w : List ℕ} {t : Term} {xs ys : List Token} → SpellsTerm inner_limit t xs (token.Mark mark.CloseSquare ∷ ys) →
-      SpellsPlace (at_key w tt tt t) (token.Word w ∷ token.Mark mark.OpenSquare ∷ xs) ys
-  at_a_field : {w f : List ℕ} {xs : List Token} → SpellsPlace (at_field w tt tt f) (token.Word w ∷ token.Mark mark.Dot ∷ token.Word f ∷ xs) xs
+      SpellsTarget (at_key w tt tt t) (token.Word w ∷ token.Mark mark.OpenSquare ∷ xs) ys
+  at_a_field : {w f : List ℕ} {xs : List Token} → SpellsTarget (at_field w tt tt f) (token.Word w ∷ token.Mark mark.Dot ∷ token.Word f ∷ xs) xs
 
 mutual
   -- Statement: Place := Term, or if Arms [else Statements] fi
   pub data SpellsStatement : Statement → List Token → List Token → Type 0 where
-    assignment : {p : Place} {t : Term} {xs ys zs : List Token} → SpellsPlace p xs (token.Mark mark.Assign ∷ ys) → SpellsTerm bracket_limit t ys zs →
+    assignment : {p : Target} {t : Term} {xs ys zs : List Token} → SpellsTarget p xs (token.Mark mark.Assign ∷ ys) → SpellsTerm bracket_limit t ys zs →
         SpellsStatement (assign p t) xs zs
     choice : {arms : Arms} {rest : Statements} {xs ys zs : List Token} → SpellsArms arms xs ys → SpellsRest rest ys zs →
         SpellsStatement (choose arms rest) (token.Mark mark.If ∷ xs) zs
@@ -150,20 +150,20 @@ pub data SpellsFire : Statement → List Token → List Token → Type 0 where
 -- do [Fire {; Fire} [;]] od
 pub data SpellsBlock : List Statement → List Token → List Token → Type 0 where
   idle : {xs : List Token} → SpellsBlock [] (token.Mark mark.Do ∷ token.Mark mark.Od ∷ xs) xs
-  busy : {fires : List Statement} {xs ys : List Token} → Ended mark.Semicolon SpellsFire fires xs (token.Mark mark.Od ∷ ys) →
+  busy : {fires : List Statement} {xs ys : List Token} → SeparatedOrEndedBy mark.Semicolon SpellsFire fires xs (token.Mark mark.Od ∷ ys) →
       SpellsBlock fires (token.Mark mark.Do ∷ xs) ys
 
 -- [ ( Declared {, Declared} ) ]
 pub data SpellsHead : List Declared → List Token → List Token → Type 0 where
   no_parameters : {xs : List Token} → SpellsHead [] xs xs
-  parameters : {ds : List Declared} {xs ys : List Token} → Gathered mark.Comma (SpellsDeclared inner_limit) ds xs (token.Mark mark.CloseRound ∷ ys) →
+  parameters : {ds : List Declared} {xs ys : List Token} → ListsSeparatedBy mark.Comma (SpellsDeclared inner_limit) ds xs (token.Mark mark.CloseRound ∷ ys) →
       SpellsHead ds (token.Mark mark.OpenRound ∷ xs) ys
 
 -- enumeration of Word {, Word}, or tuple of Declared {, Declared}
 pub data SpellsForm : Form → List Token → List Token → Type 0 where
-  constants : {ws : List (List ℕ)} {xs ys : List Token} → Separated mark.Comma SpellsWord ws xs ys →
+  constants : {ws : List (List ℕ)} {xs ys : List Token} → SeparatedBy mark.Comma SpellsWord ws xs ys →
       SpellsForm (enumeration ws) (token.Mark mark.Enumeration ∷ token.Mark mark.Of ∷ xs) ys
-  fields : {ds : List Declared} {xs ys : List Token} → Gathered mark.Comma (SpellsDeclared bracket_limit) ds xs ys →
+  fields : {ds : List Declared} {xs ys : List Token} → ListsSeparatedBy mark.Comma (SpellsDeclared bracket_limit) ds xs ys →
       SpellsForm (tuple_of ds) (token.Mark mark.Tuple ∷ token.Mark mark.Of ∷ xs) ys
 
 -- Declaration: type Word = Form, or automaton Word [ ( Declared {, Declared} ) ] [Signature] [States] [Transitions] [Schedule]
@@ -173,8 +173,8 @@ pub data SpellsDeclaration : Declaration → List Token → List Token → Type 
   automaton_parts : {w : List ℕ} {head : List Declared} {entries : List Entry} {variables : List Variable} {transitions : List Transition} {block : List Statement}
       {xs os ps qs rs ys : List Token} →
       SpellsHead head xs os →
-      Section mark.Signature (GatheredSeveral SpellsGroup) entries os ps →
-      Section mark.States (Separated mark.Comma SpellsVariable) variables ps qs →
+      Section mark.Signature (SeveralLists SpellsGroup) entries os ps →
+      Section mark.States (SeparatedBy mark.Comma SpellsVariable) variables ps qs →
       Section mark.Transitions (Several SpellsTransition) transitions qs rs →
       Section mark.Schedule SpellsBlock block rs ys →
       SpellsDeclaration (automaton (record { name = w; parameters = head; signature = entries; states = variables; transitions = transitions; schedule = block }))

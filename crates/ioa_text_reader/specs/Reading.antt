@@ -9,8 +9,8 @@ use Rattle.ioa_terms.specs.PlainTerm as plain
 use Rattle.ioa_terms.specs.PlainTerm.{statements_of, arms_of}
 use Rattle.ioa_source.specs.PlainSort.{PlainSort, booleans, integers, naturals, sequences, sets, maps, named_type}
 use Rattle.ioa_source.specs.PlainText as declarations
-use Rattle.ioa_source.specs.Sides.{SourceTerm as Term, SourcePlace as Place, SourceStatement as Statement, SourceStatements as Statements, SourceDeclared as Declared, SourceParameter as Parameter, SourceEntry as Entry, SourceVariable as Variable, SourceTransition as Transition, SourceForm as Form, SourceType as TypeOf, SourceAutomaton as Automaton, SourceDeclaration as Declaration, SourceNode as Node, SourcePlacement as Placement, SourceText}
-use Rattle.ioa_cursor.specs.Reading.{◌>>=◌, choose, skip, expected, word, numeral, at, at_word, mark_first, behind, begun, resumed, several, several_more, section, optional, gathered_several, gathered_more, ended}
+use Rattle.ioa_source.specs.Sides.{SourceTerm as Term, SourceTarget as Target, SourceStatement as Statement, SourceStatements as Statements, SourceDeclared as Declared, SourceParameter as Parameter, SourceEntry as Entry, SourceVariable as Variable, SourceTransition as Transition, SourceForm as Form, SourceType as TypeOf, SourceAutomaton as Automaton, SourceDeclaration as Declaration, SourceNode as Node, SourcePlacement as Placement, SourceText}
+use Rattle.ioa_cursor.specs.Reading.{◌>>=◌, choose, skip, expect, word, numeral, at, at_word, mark_first, behind, begins_with, resumes_with, several, several_more, section, optional, several_lists, several_more_lists, end}
 use Rattle.ioa_term_reader.specs.Heights.{height_limit}
 use Rattle.ioa_term_reader.specs.Grammar.{bracket_limit}
 use Rattle.ioa_term_reader.specs.Reading.{term}
@@ -21,13 +21,13 @@ use Rattle.ioa_text_reader.specs.StatementHeights.{statement_height}
 module _ (next : List Token → Option (PlainSort × List Token)) where
   -- [ Sort ]
   unfoldable pub item_sort : List Token → Option (PlainSort × List Token)
-  item_sort xs = expected mark.OpenSquare xs >>= λ o. next o.1 >>= λ s. expected mark.CloseSquare s.1 >>= λ c. Some (s.0, c.1)
+  item_sort xs = expect mark.OpenSquare xs >>= λ o. next o.1 >>= λ s. expect mark.CloseSquare s.1 >>= λ c. Some (s.0, c.1)
 
   -- [ Sort , Sort ]
   unfoldable pub map_sort : List Token → Option (PlainSort × List Token)
   map_sort xs =
-      expected mark.OpenSquare xs >>= λ o. next o.1 >>= λ k. expected mark.Comma k.1 >>= λ m. next m.1 >>= λ v.
-      expected mark.CloseSquare v.1 >>= λ c. Some (maps k.0 v.0, c.1)
+      expect mark.OpenSquare xs >>= λ o. next o.1 >>= λ k. expect mark.Comma k.1 >>= λ m. next m.1 >>= λ v.
+      expect mark.CloseSquare v.1 >>= λ c. Some (maps k.0 v.0, c.1)
 
   -- the sort that a mark begins, behind it
   unfoldable pub marked_sort : Mark → List Token → Option (PlainSort × List Token)
@@ -60,11 +60,11 @@ words xs = several_more (skip mark.Comma) word [] xs
 
 -- Word {, Word} : Sort
 unfoldable pub declared_group : ℕ → List Token → Option (List Declared × List Token)
-declared_group room xs = words xs >>= λ ws. expected mark.Colon ws.1 >>= λ c. sort room c.1 >>= λ s. Some (declare s.0 ws.0, s.1)
+declared_group room xs = words xs >>= λ ws. expect mark.Colon ws.1 >>= λ c. sort room c.1 >>= λ s. Some (declare s.0 ws.0, s.1)
 
 -- Declared {, Declared}
 unfoldable pub declared_names : ℕ → List Token → Option (List Declared × List Token)
-declared_names room xs = gathered_more (skip mark.Comma) (declared_group room) xs
+declared_names room xs = several_more_lists (skip mark.Comma) (declared_group room) xs
 
 -- const Term, or Declared
 unfoldable pub parameter_group : ℕ → List Token → Option (List Parameter × List Token)
@@ -75,7 +75,7 @@ parameter_group room xs =
 
 -- Param {, Param}
 unfoldable pub parameters : ℕ → List Token → Option (List Parameter × List Token)
-parameters room xs = gathered_more (skip mark.Comma) (parameter_group room) xs
+parameters room xs = several_more_lists (skip mark.Comma) (parameter_group room) xs
 
 -- [ ( [X] ) ]
 abbrev pub in_brackets : {A : Type 0} → (List Token → Option (List A × List Token)) → List Token → Option (List A × List Token)
@@ -83,7 +83,7 @@ in_brackets read xs =
     choose (skip mark.OpenRound xs).0
     (choose (skip mark.CloseRound (skip mark.OpenRound xs).1).0
     (Some ([], (skip mark.CloseRound (skip mark.OpenRound xs).1).1))
-    (read (skip mark.CloseRound (skip mark.OpenRound xs).1).1 >>= λ r. expected mark.CloseRound r.1 >>= λ c. Some (r.0, c.1)))
+    (read (skip mark.CloseRound (skip mark.OpenRound xs).1).1 >>= λ r. expect mark.CloseRound r.1 >>= λ c. Some (r.0, c.1)))
     (Some ([], (skip mark.OpenRound xs).1))
 
 -- Term {, Term}, in brackets
@@ -133,7 +133,7 @@ entry k xs =
 
 -- Entry {, Entry} [,]
 unfoldable pub entries : Kind → List Token → Option (List Entry × List Token)
-entries k xs = several_more (resumed mark.Comma at_word) (entry k) [] xs
+entries k xs = several_more (resumes_with mark.Comma at_word) (entry k) [] xs
 
 -- Kind Entry {, Entry} [,]
 unfoldable pub group : List Token → Option (List Entry × List Token)
@@ -141,7 +141,7 @@ group xs = kind xs >>= λ k. entries k.0 k.1
 
 -- {Kind Entry {, Entry} [,]}
 unfoldable pub groups : List Token → Option (List Entry × List Token)
-groups xs = gathered_several (begun at_kind) group xs
+groups xs = several_lists (begins_with at_kind) group xs
 
 -- [:= Term]
 unfoldable pub initial : List Token → Option (Option Term × List Token)
@@ -150,7 +150,7 @@ initial xs = optional mark.Assign (term bracket_limit) xs
 -- Word : Sort [:= Term]
 unfoldable pub variable : List Token → Option (Variable × List Token)
 variable xs =
-    word xs >>= λ w. expected mark.Colon w.1 >>= λ c. sort bracket_limit c.1 >>= λ s. initial s.1 >>= λ i.
+    word xs >>= λ w. expect mark.Colon w.1 >>= λ c. sort bracket_limit c.1 >>= λ s. initial s.1 >>= λ i.
     Some (record { declared = record { name = w.0; sort = s.0; shape = tt }; initial = i.0 }, i.1)
 
 -- Variable {, Variable}
@@ -158,22 +158,22 @@ unfoldable pub variables : List Token → Option (List Variable × List Token)
 variables xs = several_more (skip mark.Comma) variable [] xs
 
 -- Term ], behind the word and the first bracket of a place
-unfoldable pub key_place : List ℕ → List Token → Option (Place × List Token)
-key_place w xs = term inner_limit xs >>= λ t. expected mark.CloseSquare t.1 >>= λ c. Some (plain.at_key w tt tt t.0, c.1)
+unfoldable pub key_target : List ℕ → List Token → Option (Target × List Token)
+key_target w xs = term inner_limit xs >>= λ t. expect mark.CloseSquare t.1 >>= λ c. Some (plain.at_key w tt tt t.0, c.1)
 
 -- Word, Word [ Term ], or Word . Word
-unfoldable pub place : List Token → Option (Place × List Token)
-place xs =
+unfoldable pub target : List Token → Option (Target × List Token)
+target xs =
     word xs >>= λ w.
     choose (skip mark.OpenSquare w.1).0
-    (key_place w.0 (skip mark.OpenSquare w.1).1)
+    (key_target w.0 (skip mark.OpenSquare w.1).1)
     (choose (skip mark.Dot (skip mark.OpenSquare w.1).1).0
     (word (skip mark.Dot (skip mark.OpenSquare w.1).1).1 >>= λ f. Some (plain.at_field w.0 tt tt f.0, f.1))
     (Some (plain.variable w.0 tt tt, (skip mark.Dot (skip mark.OpenSquare w.1).1).1)))
 
 -- Place := Term
 unfoldable pub assignment : List Token → Option (Statement × List Token)
-assignment xs = place xs >>= λ p. expected mark.Assign p.1 >>= λ a. term bracket_limit a.1 >>= λ t. Some (plain.assign p.0 t.0, t.1)
+assignment xs = target xs >>= λ p. expect mark.Assign p.1 >>= λ a. term bracket_limit a.1 >>= λ t. Some (plain.assign p.0 t.0, t.1)
 
 -- a statement, where it is not too high
 unfoldable pub limited_statement : Statement → Option Statement
@@ -187,7 +187,7 @@ begins_statement xs = if at_word xs then true else at mark.If xs
 module _ (next : List Token → Option (List Statement × List Token)) where
   -- Term then Statements
   unfoldable pub one_arm : List Token → Option ((Term × Statements) × List Token)
-  one_arm xs = term bracket_limit xs >>= λ t. expected mark.Then t.1 >>= λ e. next e.1 >>= λ ss. Some ((t.0, statements_of ss.0), ss.1)
+  one_arm xs = term bracket_limit xs >>= λ t. expect mark.Then t.1 >>= λ e. next e.1 >>= λ ss. Some ((t.0, statements_of ss.0), ss.1)
 
   -- Term then Statements {elseif Term then Statements}
   unfoldable pub all_arms : List Token → Option (List (Term × Statements) × List Token)
@@ -197,8 +197,8 @@ module _ (next : List Token → Option (List Statement × List Token)) where
   unfoldable pub rest_of : List Token → Option (List Statement × List Token)
   rest_of xs =
       choose (skip mark.Else xs).0
-      (next (skip mark.Else xs).1 >>= λ ss. expected mark.Fi ss.1 >>= λ c. Some (ss.0, c.1))
-      (expected mark.Fi (skip mark.Else xs).1 >>= λ c. Some ([], c.1))
+      (next (skip mark.Else xs).1 >>= λ ss. expect mark.Fi ss.1 >>= λ c. Some (ss.0, c.1))
+      (expect mark.Fi (skip mark.Else xs).1 >>= λ c. Some ([], c.1))
 
   -- if Arms [else Statements] fi, behind the first word
   unfoldable pub choice : List Token → Option (Statement × List Token)
@@ -212,7 +212,7 @@ module _ (next : List Token → Option (List Statement × List Token)) where
 -- Statement {; Statement} [;]; the statements in a statement are one less deep
 unfoldable pub statements_in : ℕ → List Token → Option (List Statement × List Token)
 statements_in zero xs = None
-statements_in (suc depth) xs = several_more (resumed mark.Semicolon begins_statement) (one_statement (statements_in depth)) [] xs
+statements_in (suc depth) xs = several_more (resumes_with mark.Semicolon begins_statement) (one_statement (statements_in depth)) [] xs
 
 -- the statements of an effect
 unfoldable pub statements : List Token → Option (List Statement × List Token)
@@ -238,27 +238,27 @@ transition xs =
 
 -- {Transition}
 unfoldable pub transitions : List Token → Option (List Transition × List Token)
-transitions xs = several (begun at_kind) transition xs
+transitions xs = several (begins_with at_kind) transition xs
 
 -- fire [Kind] Call
 unfoldable pub firing : List Token → Option (Statement × List Token)
 firing xs =
-    expected mark.Fire xs >>= λ f.
+    expect mark.Fire xs >>= λ f.
     choose (at_kind f.1)
     (kind f.1 >>= λ k. call k.1 >>= λ c. Some (plain.fire (Some k.0) c.0.name c.0.arguments, c.1))
     (call f.1 >>= λ c. Some (plain.fire None c.0.name c.0.arguments, c.1))
 
 -- Fire {; Fire} [;]
 unfoldable pub firings : List Token → Option (List Statement × List Token)
-firings xs = several_more (resumed mark.Semicolon (at mark.Fire)) firing [] xs
+firings xs = several_more (resumes_with mark.Semicolon (at mark.Fire)) firing [] xs
 
 -- do [Fire {; Fire} [;]] od
 unfoldable pub block : List Token → Option (List Statement × List Token)
 block xs =
-    expected mark.Do xs >>= λ d.
+    expect mark.Do xs >>= λ d.
     choose (skip mark.Od d.1).0
     (Some ([], (skip mark.Od d.1).1))
-    (firings (skip mark.Od d.1).1 >>= λ fs. expected mark.Od fs.1 >>= λ o. Some (fs.0, o.1))
+    (firings (skip mark.Od d.1).1 >>= λ fs. expect mark.Od fs.1 >>= λ o. Some (fs.0, o.1))
 
 -- [signature Groups]
 unfoldable pub signature_part : List Token → Option (List Entry × List Token)
@@ -280,7 +280,7 @@ schedule_part xs = section mark.Schedule block xs
 unfoldable pub head : List Token → Option (List Declared × List Token)
 head xs =
     choose (skip mark.OpenRound xs).0
-    (declared_names inner_limit (skip mark.OpenRound xs).1 >>= λ ds. expected mark.CloseRound ds.1 >>= λ c. Some (ds.0, c.1))
+    (declared_names inner_limit (skip mark.OpenRound xs).1 >>= λ ds. expect mark.CloseRound ds.1 >>= λ c. Some (ds.0, c.1))
     (Some ([], (skip mark.OpenRound xs).1))
 
 -- an automaton behind its first word: Word, and its five parts
@@ -293,13 +293,13 @@ automaton xs =
 unfoldable pub form : List Token → Option (Form × List Token)
 form xs =
     choose (skip mark.Enumeration xs).0
-    (expected mark.Of (skip mark.Enumeration xs).1 >>= λ o. words o.1 >>= λ ws. Some (declarations.enumeration ws.0, ws.1))
-    (expected mark.Tuple (skip mark.Enumeration xs).1 >>= λ t. expected mark.Of t.1 >>= λ o. declared_names bracket_limit o.1 >>= λ ds.
+    (expect mark.Of (skip mark.Enumeration xs).1 >>= λ o. words o.1 >>= λ ws. Some (declarations.enumeration ws.0, ws.1))
+    (expect mark.Tuple (skip mark.Enumeration xs).1 >>= λ t. expect mark.Of t.1 >>= λ o. declared_names bracket_limit o.1 >>= λ ds.
     Some (declarations.tuple_of ds.0, ds.1))
 
 -- a type behind its first word: Word = Form
 unfoldable pub type_declaration : List Token → Option (TypeOf × List Token)
-type_declaration xs = word xs >>= λ w. expected mark.Equal w.1 >>= λ e. form e.1 >>= λ f. Some (record { name = w.0; form = f.0 }, f.1)
+type_declaration xs = word xs >>= λ w. expect mark.Equal w.1 >>= λ e. form e.1 >>= λ f. Some (record { name = w.0; form = f.0 }, f.1)
 
 -- whether a declaration begins
 unfoldable pub at_declaration : List Token → Bool
@@ -310,11 +310,11 @@ unfoldable pub declaration : List Token → Option (Declaration × List Token)
 declaration xs =
     choose (skip mark.Type xs).0
     (type_declaration (skip mark.Type xs).1 >>= λ t. Some (declarations.type_named t.0, t.1))
-    (expected mark.Automaton (skip mark.Type xs).1 >>= λ m. automaton m.1 >>= λ a. Some (declarations.automaton a.0, a.1))
+    (expect mark.Automaton (skip mark.Type xs).1 >>= λ m. automaton m.1 >>= λ a. Some (declarations.automaton a.0, a.1))
 
 -- {Type or Automaton}
-unfoldable pub declared : List Token → Option (List Declaration × List Token)
-declared xs = several (begun at_declaration) declaration xs
+unfoldable pub all_declarations : List Token → Option (List Declaration × List Token)
+all_declarations xs = several (begins_with at_declaration) declaration xs
 
 -- whether node or channel comes first
 unfoldable pub at_placement : List Token → Bool
@@ -323,7 +323,7 @@ at_placement xs = if at mark.Node xs then true else at mark.Channel xs
 -- Number : Call, behind the first word
 unfoldable pub node : List Token → Option (Node × List Token)
 node xs =
-    numeral xs >>= λ n. expected mark.Colon n.1 >>= λ c. call c.1 >>= λ a.
+    numeral xs >>= λ n. expect mark.Colon n.1 >>= λ c. call c.1 >>= λ a.
     Some (record { number = n.0; automaton = a.0.name; arguments = a.0.arguments }, a.1)
 
 -- node Number : Call, or channel Number -> Number
@@ -331,15 +331,15 @@ unfoldable pub placement : List Token → Option (Placement × List Token)
 placement xs =
     choose (skip mark.Node xs).0
     (node (skip mark.Node xs).1 >>= λ n. Some (declarations.node n.0, n.1))
-    (expected mark.Channel (skip mark.Node xs).1 >>= λ c. numeral c.1 >>= λ i. expected mark.Arrow i.1 >>= λ a. numeral a.1 >>= λ j.
+    (expect mark.Channel (skip mark.Node xs).1 >>= λ c. numeral c.1 >>= λ i. expect mark.Arrow i.1 >>= λ a. numeral a.1 >>= λ j.
     Some (declarations.channel (record { from = i.0; to = j.0 }), j.1))
 
 -- {Placement}
-unfoldable pub placed : List Token → Option (List Placement × List Token)
-placed xs = several (begun at_placement) placement xs
+unfoldable pub all_placements : List Token → Option (List Placement × List Token)
+all_placements xs = several (begins_with at_placement) placement xs
 
 -- a whole text
 unfoldable pub whole : List Token → Option (SourceText × List Token)
 whole xs =
-    declared xs >>= λ d. expected mark.System d.1 >>= λ s. placed s.1 >>= λ p. ended p.1 >>= λ e.
+    all_declarations xs >>= λ d. expect mark.System d.1 >>= λ s. all_placements s.1 >>= λ p. end p.1 >>= λ e.
     Some (record { declarations = d.0; system = p.0 }, e.1)

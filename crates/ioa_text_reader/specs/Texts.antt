@@ -1,7 +1,7 @@
 -- Which texts spell a source, and where a refusal stands (profile).
 use Rattle.std.specs.Prelude.{◌≡◌, ◌<◌, ◌≤◌, ℕ, List, [], length, map, Bool, true, false, Ok, Err}
 use Rattle.ioa_tokens.specs.declared.token.Token.{Token}
-use Rattle.ioa_tokens.specs.declared.token.Placed.{Placed}
+use Rattle.ioa_tokens.specs.declared.token.LocatedToken.{LocatedToken}
 use Rattle.ioa_tokens.specs.declared.fault.CutFault.TheVariants as cut
 use Rattle.ioa_tokens.specs.Tokens.{tokens}
 use Rattle.ioa_source.specs.Sides.{SourceText}
@@ -14,12 +14,12 @@ abbrev pub length_limit : ℕ
 length_limit = 1048576
 
 -- tokens without their places
-abbrev pub bare : List Placed → List Token
-bare placed = map (λ p. p.token) placed
+abbrev pub bare : List LocatedToken → List Token
+bare located = map (λ p. p.token) located
 
 -- the tokens of a text spell a source
 abbrev pub TextSpells : SourceText → List ℕ → Type 0
-TextSpells p text = (placed : List Placed) × (tokens text ≡ Ok placed) × Spells p (bare placed)
+TextSpells p text = (located : List LocatedToken) × (tokens text ≡ Ok located) × Spells p (bare located)
 
 -- some text within the length limit spells a source
 abbrev pub IsSource : SourceText → Type 0
@@ -30,23 +30,23 @@ abbrev pub SpellsNone : List ℕ → Type 0
 SpellsNone text = (length text ≤ length_limit) × ((p : SourceText) → TextSpells p text → ⊥)
 
 -- where a refusal stands: the length first, then the tokens, then the grammar. Memory may be refused anywhere.
-abbrev pub Stands : FrontFault → List ℕ → Type 0
-Stands TooLong text = length_limit < length text
-Stands (BadCharacter place) text = (length text ≤ length_limit) × (tokens text ≡ Err (cut.BadCharacter place))
-Stands (NumberTooLarge place) text = (length text ≤ length_limit) × (tokens text ≡ Err (cut.NumberTooLarge place))
-Stands Empty text = (length text ≤ length_limit) × (tokens text ≡ Ok [])
-Stands (Unexpected place) text = SpellsNone text
-Stands (TooDeep place) text = SpellsNone text
-Stands (LeftOut w place) text = SpellsNone text
-Stands Memory text = Unit {0}
+abbrev pub StandsInText : FrontFault → List ℕ → Type 0
+StandsInText TooLong text = length_limit < length text
+StandsInText (BadCharacter offset) text = (length text ≤ length_limit) × (tokens text ≡ Err (cut.BadCharacter offset))
+StandsInText (NumberTooLarge offset) text = (length text ≤ length_limit) × (tokens text ≡ Err (cut.NumberTooLarge offset))
+StandsInText Empty text = (length text ≤ length_limit) × (tokens text ≡ Ok [])
+StandsInText (Unexpected offset) text = SpellsNone text
+StandsInText (TooDeep offset) text = SpellsNone text
+StandsInText (LeftOut w offset) text = SpellsNone text
+StandsInText Memory text = Unit {0}
 
 -- the refusals that come wherever they stand, with their places
 abbrev pub is_exact : FrontFault → Bool
 is_exact TooLong = true
-is_exact (BadCharacter place) = true
-is_exact (NumberTooLarge place) = true
+is_exact (BadCharacter offset) = true
+is_exact (NumberTooLarge offset) = true
 is_exact Empty = true
-is_exact (Unexpected place) = false
-is_exact (TooDeep place) = false
-is_exact (LeftOut w place) = false
+is_exact (Unexpected offset) = false
+is_exact (TooDeep offset) = false
+is_exact (LeftOut w offset) = false
 is_exact Memory = false

@@ -4,15 +4,15 @@ ghost use Rattle.std.specs.Prelude.{◌≡◌, ◌≤◌, [], ◌∷◌, ◌++�
 ghost use Rattle.ioa_cursor.specs.declared.cursor.Unread.TheVariants.{Memory};
 ghost use Rattle.ioa_terms.specs.PlainTerm as plain;
 ghost use Rattle.ioa_terms.specs.PlainTerm.{statements_of, arms_of};
-ghost use Rattle.ioa_terms.specs.View.{term_of, place_of, statement_of, arm_of};
+ghost use Rattle.ioa_terms.specs.View.{term_of, target_of, statement_of, arm_of};
 ghost use Rattle.ioa_term_reader.specs.Heights.{height};
 ghost use Rattle.ioa_text_reader.specs.Reading as spec;
-ghost use Rattle.ioa_text_reader.specs.StatementHeights.{place_height, statement_height, statements_height, arms_height};
+ghost use Rattle.ioa_text_reader.specs.StatementHeights.{target_height, statement_height, statements_height, arms_height};
 ghost use Rattle.ioa_values.specs.Outcome.{Matches};
 
 use ioa_cursor::Unread;
 use ioa_term_reader::Built;
-use ioa_terms::{Arm, Place, Statement, Word};
+use ioa_terms::{Arm, Statement, Target, Word};
 use std::alloc::Global;
 
 /// How high the tree of a statement may be.
@@ -20,10 +20,10 @@ pub(crate) const HEIGHT_LIMIT: usize = 64;
 
 /// A place that an assignment writes. `high` is the height of the term in it, 0 where there is none.
 #[derive(Drop)]
-pub(crate) struct BuiltPlace {
-    place: Place<(), ()>,
+pub(crate) struct BuiltTarget {
+    target: Target<(), ()>,
     high: usize,
-    ghost low: { (high ≡ place_height (place_of place)) × (high ≤ 64) },
+    ghost low: { (high ≡ target_height (target_of target)) × (high ≤ 64) },
 }
 
 /// A statement, at most 64 high. Source: profile.
@@ -58,34 +58,34 @@ pub(crate) struct BuiltArms {
     ghost low: { (high ≡ arms_height (arms_of (map arm_of arms.items))) × (high ≤ 64) },
 }
 
-impl BuiltPlace {
+impl BuiltTarget {
     /// A variable.
     pub(crate) fn variable(name: Word) -> Self
-        ensures { place_of result.place ≡ plain.variable name tt tt }
+        ensures { target_of result.target ≡ plain.variable name tt tt }
     {
-        BuiltPlace {
-            place: Place::Variable(name, (), ()),
+        BuiltTarget {
+            target: Target::Variable(name, (), ()),
             high: 0,
         }
     }
 
     /// The value of a map at a key.
     pub(crate) fn at_key(name: Word, key: Built) -> Self
-        ensures { place_of result.place ≡ plain.at_key name tt tt (term_of key.tree) }
+        ensures { target_of result.target ≡ plain.at_key name tt tt (term_of key.tree) }
     {
         let high = key.height();
-        BuiltPlace {
-            place: Place::At(name, (), (), key.into_tree()),
+        BuiltTarget {
+            target: Target::At(name, (), (), key.into_tree()),
             high,
         }
     }
 
     /// A field of a tuple.
     pub(crate) fn field(name: Word, field: Word) -> Self
-        ensures { place_of result.place ≡ plain.at_field name tt tt field }
+        ensures { target_of result.target ≡ plain.at_field name tt tt field }
     {
-        BuiltPlace {
-            place: Place::Field(name, (), (), field),
+        BuiltTarget {
+            target: Target::Field(name, (), (), field),
             high: 0,
         }
     }
@@ -93,12 +93,12 @@ impl BuiltPlace {
 
 impl BuiltStatement {
     /// An assignment, which is as high as its highest part.
-    pub(crate) fn assignment(place: BuiltPlace, value: Built) -> Self
-        ensures { statement_of result.statement ≡ plain.assign (place_of place.place) (term_of value.tree) }
+    pub(crate) fn assignment(target: BuiltTarget, value: Built) -> Self
+        ensures { statement_of result.statement ≡ plain.assign (target_of target.target) (term_of value.tree) }
     {
-        let high = place.high.max(value.height());
+        let high = target.high.max(value.height());
         BuiltStatement {
-            statement: Statement::Assign(place.place, value.into_tree()),
+            statement: Statement::Assign(target.target, value.into_tree()),
             high,
         }
     }

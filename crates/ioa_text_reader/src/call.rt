@@ -101,9 +101,9 @@ pub(crate) fn at_kind(tokens: &Tokens<'_>) -> bool
 pub(crate) fn kind(tokens: &mut Tokens<'_>) -> Result<Kind, Unread>
     ensures { Reads (λ k. k) (spec.kind tokens.old) result tokens.new }
 {
-    let refused = tokens.refused();
+    let refusal = tokens.refusal();
     match kind_first(tokens) {
-        None => Err(refused),
+        None => Err(refusal),
         Some(kind) => {
             tokens.advance();
             Ok(kind)

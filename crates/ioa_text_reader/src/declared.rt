@@ -26,7 +26,7 @@ pub(crate) struct NamesOfSort {
 
 impl NamesOfSort {
     /// Each name with the sort.
-    fn declared(&self, alloc: Global) -> Result<Vec<Declared<()>>, Unread>
+    fn to_declared(&self, alloc: Global) -> Result<Vec<Declared<()>>, Unread>
         ensures { Matches Memory (λ v. map declared_of v.items) result (Some (group_of self.now)) }
     {
         let mut declared = Vec::new(alloc);
@@ -97,13 +97,13 @@ pub(crate) fn declared_names(
 ) -> Result<Vec<Declared<()>>, Unread>
     ensures { Reads (λ v. map declared_of v.items) (spec.declared_names room tokens.old) result tokens.new }
 {
-    let mut declared = declared_group(alloc, tokens, room)?.declared(alloc)?;
+    let mut declared = declared_group(alloc, tokens, room)?.to_declared(alloc)?;
     for _turn in 0..tokens.len() {
         if !tokens.skip(Mark::Comma) {
             return Ok(declared);
         }
         let group = declared_group(alloc, tokens, room)?;
-        let mut more = group.declared(alloc)?;
+        let mut more = group.to_declared(alloc)?;
         declared.append(&mut more)?;
     }
     Ok(declared)

@@ -27,19 +27,19 @@ pub enum FrontFault {
 
 impl fmt::Display for FrontFault {
     ghost use Rattle.std.specs.Prelude.{Some};
-    ghost use Rattle.ioa_text_reader.specs.FaultText.{fault_text};
+    ghost use Rattle.ioa_text_reader.specs.FaultText.{front_fault_text};
 
-    ghost output = { λ f. Some (fault_text f) };
+    ghost output = { λ f. Some (front_fault_text f) };
 
     fn fmt<W: fmt::Write>(&self, f: &mut fmt::Formatter<W>) -> fmt::Result {
         match self {
             FrontFault::Empty => write!(f, "10 Empty at 0"),
-            FrontFault::BadCharacter(place) => write!(f, "11 BadCharacter at {place}"),
-            FrontFault::Unexpected(place) => write!(f, "12 Unexpected at {place}"),
-            FrontFault::NumberTooLarge(place) => write!(f, "13 NumberTooLarge at {place}"),
-            FrontFault::TooDeep(place) => write!(f, "14 TooDeep at {place}"),
+            FrontFault::BadCharacter(offset) => write!(f, "11 BadCharacter at {offset}"),
+            FrontFault::Unexpected(offset) => write!(f, "12 Unexpected at {offset}"),
+            FrontFault::NumberTooLarge(offset) => write!(f, "13 NumberTooLarge at {offset}"),
+            FrontFault::TooDeep(offset) => write!(f, "14 TooDeep at {offset}"),
             FrontFault::TooLong => write!(f, "15 TooLong at 1048576"),
-            FrontFault::LeftOut(_, place) => write!(f, "16 LeftOut at {place}"),
+            FrontFault::LeftOut(_, offset) => write!(f, "16 LeftOut at {offset}"),
             FrontFault::Memory => write!(f, "3 Memory"),
         }
     }

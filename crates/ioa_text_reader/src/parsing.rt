@@ -3,7 +3,7 @@
 ghost use Rattle.std.specs.Prelude.{◌≡◌, ◌<◌, ◌≤◌, ◌⊎◌, List, length, true, IfOk, IfErr, MatchResult};
 ghost use Rattle.ioa_text_reader.specs.Grammar.{Spells};
 ghost use Rattle.ioa_text_reader.specs.Parsing.{Parses, refusal_of};
-ghost use Rattle.ioa_text_reader.specs.Texts.{length_limit, TextSpells, Stands, is_exact};
+ghost use Rattle.ioa_text_reader.specs.Texts.{length_limit, TextSpells, StandsInText, is_exact};
 ghost use Rattle.ioa_text_reader.specs.declared.fault.FrontFault.{FrontFault};
 ghost use Rattle.ioa_source.specs.Sides.{SourceText};
 ghost use Rattle.ioa_source.specs.TextView.{text_of};
@@ -12,8 +12,8 @@ ghost use Rattle.ioa_tokens.specs.declared.token.Token.{Token};
 use crate::fault::FrontFault;
 use crate::source::Source;
 use crate::system::whole;
-use ioa_cursor::{Tokens, Unread, place_of};
-use ioa_tokens::{CutFault, Placed, tokens};
+use ioa_cursor::{Tokens, Unread, offset_of};
+use ioa_tokens::{CutFault, LocatedToken, tokens};
 use std::alloc::Global;
 
 /// How many bytes a text has at most.
@@ -26,30 +26,30 @@ fn read(alloc: Global, text: &str) -> Result<Source, FrontFault>
     if text.len() > LENGTH_LIMIT {
         return Err(FrontFault::TooLong);
     }
-    let placed = match tokens(alloc, text) {
-        Ok(placed) => placed,
-        Err(CutFault::BadCharacter(place)) => return Err(FrontFault::BadCharacter(place)),
-        Err(CutFault::NumberTooLarge(place)) => return Err(FrontFault::NumberTooLarge(place)),
+    let located = match tokens(alloc, text) {
+        Ok(located) => located,
+        Err(CutFault::BadCharacter(offset)) => return Err(FrontFault::BadCharacter(offset)),
+        Err(CutFault::NumberTooLarge(offset)) => return Err(FrontFault::NumberTooLarge(offset)),
         Err(CutFault::Memory) => return Err(FrontFault::Memory),
     };
-    if placed.is_empty() {
+    if located.is_empty() {
         return Err(FrontFault::Empty);
     }
-    let mut rest = Tokens::new(placed.as_slice());
+    let mut rest = Tokens::new(located.as_slice());
     match whole(alloc, &mut rest) {
         Ok(text) => Ok(Source::new(text)),
-        Err(unread) => Err(refusal(&unread, placed.as_slice(), text.len())),
+        Err(unread) => Err(refusal(&unread, located.as_slice(), text.len())),
     }
 }
 
 /// Why a text of these tokens that ends there is refused.
-fn refusal(unread: &Unread, placed: &[Placed<'_>], end: usize) -> FrontFault
-    ensures { result ≡ refusal_of unread.now placed.now end }
+fn refusal(unread: &Unread, located: &[LocatedToken<'_>], end: usize) -> FrontFault
+    ensures { result ≡ refusal_of unread.now located.now end }
 {
     match unread {
-        Unread::Unexpected(left) => FrontFault::Unexpected(place_of(placed, *left, end)),
-        Unread::TooDeep(left) => FrontFault::TooDeep(place_of(placed, *left, end)),
-        Unread::LeftOut(word, left) => FrontFault::LeftOut(*word, place_of(placed, *left, end)),
+        Unread::Unexpected(left) => FrontFault::Unexpected(offset_of(located, *left, end)),
+        Unread::TooDeep(left) => FrontFault::TooDeep(offset_of(located, *left, end)),
+        Unread::LeftOut(word, left) => FrontFault::LeftOut(*word, offset_of(located, *left, end)),
         Unread::Memory => FrontFault::Memory,
     }
 }
@@ -61,8 +61,8 @@ fn refusal(unread: &Unread, placed: &[Placed<'_>], end: usize) -> FrontFault
 /// where memory runs out. Source: profile.
 pub fn parse(alloc: Global, text: &str) -> Result<Source, FrontFault>
     ensures found { IfOk result (λ s. TextSpells (text_of s.text) text.now) }
-    ensures refused { IfErr result (λ e. Stands e text.now) }
-    ensures exact { (e : FrontFault) → is_exact e ≡ true → Stands e text.now → MatchResult result (λ _. ⊥) (λ f. (f ≡ FrontFault.Memory) ⊎ (f ≡ e)) }
+    ensures refused { IfErr result (λ e. StandsInText e text.now) }
+    ensures exact { (e : FrontFault) → is_exact e ≡ true → StandsInText e text.now → MatchResult result (λ _. ⊥) (λ f. (f ≡ FrontFault.Memory) ⊎ (f ≡ e)) }
     ensures long { length_limit < length text.now → MatchResult result (λ _. ⊥) (λ e. e ≡ FrontFault.TooLong) }
     ensures only { (p : SourceText) → length text.now ≤ length_limit → TextSpells p text.now → MatchResult result (λ s. text_of s.text ≡ p) (λ e. e ≡ FrontFault.Memory) }
 {

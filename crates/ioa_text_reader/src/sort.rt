@@ -19,17 +19,17 @@ pub(crate) fn sort(alloc: Global, tokens: &mut Tokens<'_>, room: usize) -> Resul
         let name = tokens.word(alloc)?;
         return Ok(Sort::Named(name));
     }
-    let refused = tokens.refused();
+    let refusal = tokens.refusal();
     match tokens.peek_mark() {
-        None => Err(refused),
+        None => Err(refusal),
         Some(mark) => {
             tokens.advance();
-            marked_sort(alloc, tokens, room, mark, refused)
+            marked_sort(alloc, tokens, room, mark, refusal)
         }
     }
 }
 
-/// The sort that a mark begins, behind it. `refused` is the refusal of the mark.
+/// The sort that a mark begins, behind it. `refusal` is the refusal of the mark.
 #[cycle(sort)]
 #[tactic(auto, unfolding(crate::specs::Reading::marked_sort, ioa_cursor::specs::Reading::bind))]
 fn marked_sort(
@@ -37,7 +37,7 @@ fn marked_sort(
     tokens: &mut Tokens<'_>,
     room: usize,
     mark: Mark,
-    refused: Unread,
+    refusal: Unread,
 ) -> Result<Sort, Unread>
     ensures { Reads sort_of (spec.marked_sort (spec.sort_in room) mark tokens.old) result tokens.new }
 {
@@ -54,7 +54,7 @@ fn marked_sort(
             Ok(Sort::Set(Box::new(alloc, members)?))
         }
         Mark::Map => map_sort(alloc, tokens, room),
-        _ => Err(refused),
+        _ => Err(refusal),
     }
 }
 

@@ -3,12 +3,12 @@
 ghost use Rattle.std.specs.Prelude.{◌≡◌, map};
 ghost use Rattle.ioa_cursor.specs.Outcome.{Reads};
 ghost use Rattle.ioa_cursor.specs.Reading as cursor;
-ghost use Rattle.ioa_terms.specs.View.{place_of, statement_of, arm_of};
+ghost use Rattle.ioa_terms.specs.View.{target_of, statement_of, arm_of};
 ghost use Rattle.ioa_tokens.specs.declared.mark.Mark.TheVariants as mark;
 ghost use Rattle.ioa_text_reader.specs.Reading as spec;
 
 use crate::built::{
-    BuiltArm, BuiltArms, BuiltPlace, BuiltStatement, BuiltStatements, HEIGHT_LIMIT,
+    BuiltArm, BuiltArms, BuiltStatement, BuiltStatements, BuiltTarget, HEIGHT_LIMIT,
 };
 use crate::call::INNER_LIMIT;
 use ioa_cursor::{Tokens, Unread};
@@ -18,29 +18,29 @@ use ioa_tokens::Mark;
 use std::alloc::Global;
 
 /// Term `]`, behind the word and the first bracket of a place
-#[tactic(auto, unfolding(crate::specs::Reading::key_place, ioa_cursor::specs::Reading::bind))]
-fn key_place(alloc: Global, tokens: &mut Tokens<'_>, name: Word) -> Result<BuiltPlace, Unread>
-    ensures { Reads (λ b. place_of b.place) (spec.key_place name tokens.old) result tokens.new }
+#[tactic(auto, unfolding(crate::specs::Reading::key_target, ioa_cursor::specs::Reading::bind))]
+fn key_target(alloc: Global, tokens: &mut Tokens<'_>, name: Word) -> Result<BuiltTarget, Unread>
+    ensures { Reads (λ b. target_of b.target) (spec.key_target name tokens.old) result tokens.new }
 {
     let key = term(alloc, tokens, INNER_LIMIT)?;
     tokens.expect(Mark::CloseSquare)?;
-    Ok(BuiltPlace::at_key(name, key))
+    Ok(BuiltTarget::at_key(name, key))
 }
 
 /// Word, Word `[` Term `]`, or Word `.` Word
-#[tactic(auto, unfolding(crate::specs::Reading::place, ioa_cursor::specs::Reading::bind, ioa_cursor::specs::Reading::choose))]
-fn place(alloc: Global, tokens: &mut Tokens<'_>) -> Result<BuiltPlace, Unread>
-    ensures { Reads (λ b. place_of b.place) (spec.place tokens.old) result tokens.new }
+#[tactic(auto, unfolding(crate::specs::Reading::target, ioa_cursor::specs::Reading::bind, ioa_cursor::specs::Reading::choose))]
+fn target(alloc: Global, tokens: &mut Tokens<'_>) -> Result<BuiltTarget, Unread>
+    ensures { Reads (λ b. target_of b.target) (spec.target tokens.old) result tokens.new }
 {
     let name = tokens.word(alloc)?;
     if tokens.skip(Mark::OpenSquare) {
-        return key_place(alloc, tokens, name);
+        return key_target(alloc, tokens, name);
     }
     if !tokens.skip(Mark::Dot) {
-        return Ok(BuiltPlace::variable(name));
+        return Ok(BuiltTarget::variable(name));
     }
     let field = tokens.word(alloc)?;
-    Ok(BuiltPlace::field(name, field))
+    Ok(BuiltTarget::field(name, field))
 }
 
 /// Place `:=` Term
@@ -48,10 +48,10 @@ fn place(alloc: Global, tokens: &mut Tokens<'_>) -> Result<BuiltPlace, Unread>
 fn assignment(alloc: Global, tokens: &mut Tokens<'_>) -> Result<BuiltStatement, Unread>
     ensures { Reads (λ b. statement_of b.statement) (spec.assignment tokens.old) result tokens.new }
 {
-    let place = place(alloc, tokens)?;
+    let target = target(alloc, tokens)?;
     tokens.expect(Mark::Assign)?;
     let value = term(alloc, tokens, BRACKET_LIMIT)?;
-    Ok(BuiltStatement::assignment(place, value))
+    Ok(BuiltStatement::assignment(target, value))
 }
 
 /// Whether a statement begins.
@@ -64,18 +64,18 @@ fn begins_statement(tokens: &Tokens<'_>) -> bool
 
 /// The refusal where statements can go no deeper: 14 where one begins, which would be too high, else
 /// that of what comes next. Source: profile.
-fn refused_at_depth(tokens: &Tokens<'_>) -> Unread {
+fn refusal_at_depth(tokens: &Tokens<'_>) -> Unread {
     if begins_statement(tokens) {
         tokens.too_deep()
     } else {
-        tokens.refused()
+        tokens.refusal()
     }
 }
 
 /// Whether statements go on behind a semicolon; takes the semicolon.
-#[tactic(auto, unfolding(ioa_cursor::specs::Reading::resumed))]
+#[tactic(auto, unfolding(ioa_cursor::specs::Reading::resumes_with))]
 fn resumes_with_statement(tokens: &mut Tokens<'_>) -> bool
-    ensures { (result, tokens.new) ≡ cursor.resumed mark.Semicolon spec.begins_statement tokens.old }
+    ensures { (result, tokens.new) ≡ cursor.resumes_with mark.Semicolon spec.begins_statement tokens.old }
 {
     if tokens.skip(Mark::Semicolon) {
         begins_statement(tokens)
@@ -95,7 +95,7 @@ fn statements_in(
     ensures { Reads (λ l. map statement_of l.statements.items) (spec.statements_in depth tokens.old) result tokens.new }
 {
     if depth == 0 {
-        return Err(refused_at_depth(tokens));
+        return Err(refusal_at_depth(tokens));
     }
     let first = one_statement(alloc, tokens, depth - 1)?;
     let mut statements = BuiltStatements::new(alloc).with_statement(first)?;

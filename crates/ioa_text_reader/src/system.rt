@@ -64,9 +64,9 @@ fn declaration(alloc: Global, tokens: &mut Tokens<'_>) -> Result<Declaration<(),
 }
 
 /// {Type or Automaton}
-#[tactic(auto, unfolding(crate::specs::Reading::declared))]
+#[tactic(auto, unfolding(crate::specs::Reading::all_declarations))]
 fn declarations(alloc: Global, tokens: &mut Tokens<'_>) -> Result<Vec<Declaration<(), ()>>, Unread>
-    ensures { Reads (λ v. map declaration_of v.items) (spec.declared tokens.old) result tokens.new }
+    ensures { Reads (λ v. map declaration_of v.items) (spec.all_declarations tokens.old) result tokens.new }
 {
     let mut declarations = Vec::new(alloc);
     for _turn in 0..tokens.len() {
@@ -118,9 +118,9 @@ fn one_placement(alloc: Global, tokens: &mut Tokens<'_>) -> Result<Placement<(),
 }
 
 /// {Node or Channel}
-#[tactic(auto, unfolding(crate::specs::Reading::placed))]
+#[tactic(auto, unfolding(crate::specs::Reading::all_placements))]
 fn placements(alloc: Global, tokens: &mut Tokens<'_>) -> Result<Vec<Placement<(), ()>>, Unread>
-    ensures { Reads (λ v. map placement_of v.items) (spec.placed tokens.old) result tokens.new }
+    ensures { Reads (λ v. map placement_of v.items) (spec.all_placements tokens.old) result tokens.new }
 {
     let mut placements = Vec::new(alloc);
     for _turn in 0..tokens.len() {

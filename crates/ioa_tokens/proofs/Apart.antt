@@ -11,9 +11,9 @@ use Rattle.ioa_tokens.specs.declared.token.Token.{Token}
 use Rattle.ioa_tokens.specs.declared.token.Token.TheVariants as token
 use Rattle.ioa_tokens.specs.declared.written.Gap.{Gap}
 use Rattle.ioa_tokens.specs.declared.written.Gap.TheVariants as gap
-use Rattle.ioa_tokens.specs.Spelling.{mark_text, left_out_text, signs}
+use Rattle.ioa_tokens.specs.Tables.{mark_text, left_out_text, signs}
 use Rattle.ioa_tokens.specs.Written.{Head, letter, digit, sign, text_head, gap_text, token_head, token_ends, token_text, written_text, spelling_ends, sign_ends, begins_longer, may_touch, IsApartFrom}
-use Rattle.ioa_tokens.proofs.Touching.{and_false, no_front, is_headed, mark_headed, left_out_headed}
+use Rattle.ioa_tokens.proofs.Touching.{and_false, no_prefix, is_headed, mark_headed, left_out_headed}
 
 -- one text behind another
 pub written_appended : (xs ys : List (Gap × Token)) → written_text (xs ++ ys) ≡ written_text xs ++ written_text ys
@@ -39,7 +39,7 @@ is_loose m = is_loose_character (slice_index (mark_text m) 0)
 -- a text that has no such character behind its head begins with no text that ends with one
 no_tail : (p : ℕ → Bool) (row text : List ℕ) (x c : ℕ) → list_all (λ y. not (p y)) (drop 1 row) ≡ true → p c ≡ true → starts_with nat_eq row (x ∷ (text ++ c ∷ [])) ≡ false
 no_tail p [] text x c all passes = refl
-no_tail p (d ∷ row) text x c all passes = rw (no_front p row text c all passes) (and_false (nat_eq x d))
+no_tail p (d ∷ row) text x c all passes = rw (no_prefix p row text c all passes) (and_false (nat_eq x d))
 
 -- the same of each row of a table
 no_tail_row : {A : Type 0} (p : ℕ → Bool) (rows : List (List ℕ × A)) (text : List ℕ) (x c : ℕ) → list_all (λ row. list_all (λ y. not (p y)) (drop 1 row.0)) rows ≡ true → p c ≡ true → list_any (λ row. starts_with nat_eq row.0 (x ∷ (text ++ c ∷ []))) rows ≡ false
@@ -91,7 +91,7 @@ is_closed mark.CloseBrace = true
 is_closed mark.Dot = true
 is_closed mark.Comma = true
 is_closed mark.Semicolon = true
-is_closed mark.At = true
+is_closed mark.AtSign = true
 is_closed _ = false
 
 -- a sign that begins no longer one ends before all
@@ -112,7 +112,7 @@ closed_ends mark.CloseBrace head closed = sign_closed (codes "}") head (λ c. re
 closed_ends mark.Dot head closed = sign_closed (codes ".") head (λ c. refl)
 closed_ends mark.Comma head closed = sign_closed (codes ",") head (λ c. refl)
 closed_ends mark.Semicolon head closed = sign_closed (codes ";") head (λ c. refl)
-closed_ends mark.At head closed = sign_closed (codes "@") head (λ c. refl)
+closed_ends mark.AtSign head closed = sign_closed (codes "@") head (λ c. refl)
 closed_ends _ head closed = absurd (true≢false (sym closed))
 
 -- all tokens are apart from them

@@ -1,4 +1,4 @@
-pub mod Fronts
+pub mod Prefixes
 pub mod Tables
 pub mod Numbers
 pub mod Sizes
@@ -6,7 +6,7 @@ pub mod Cuts
 pub mod Spaces
 pub mod Touching
 pub mod Ends
-pub mod Pieces
+pub mod Lexemes
 pub mod Writings
 pub mod Goods
 pub mod Apart

@@ -12,23 +12,23 @@ use Rattle.std.proofs.lemmas.List.{length-take}
 use Rattle.std.proofs.lemmas.List.Sums.{prefix_len-le-length}
 use Rattle.std.proofs.lemmas.List.Folds.{length-prefix_len}
 use Rattle.ioa_tokens.specs.declared.mark.Mark.{Mark}
-use Rattle.ioa_tokens.specs.declared.piece.Piece.{Piece}
-use Rattle.ioa_tokens.specs.declared.piece.Piece.TheVariants as piece
-use Rattle.ioa_tokens.specs.Spelling.{signs, sign_at_head}
-use Rattle.ioa_tokens.specs.Piece.{is_space, is_in_line, is_in_word, word_piece, number_piece, sign_piece, backslash_word, token_or_stray, fixed_token, piece_at}
+use Rattle.ioa_tokens.specs.declared.lexeme.Lexeme.{Lexeme}
+use Rattle.ioa_tokens.specs.declared.lexeme.Lexeme.TheVariants as lexeme
+use Rattle.ioa_tokens.specs.Tables.{signs, sign_at_head}
+use Rattle.ioa_tokens.specs.Lexeme.{is_space, is_in_line, is_in_word, word_lexeme, number_lexeme, sign_lexeme, backslash_word, token_or_stray, fixed_token, lexeme_at}
 
 -- the size of a piece fits the text
-abbrev IsSized : List ℕ → Piece × ℕ → Type 0
+abbrev IsSized : List ℕ → Lexeme × ℕ → Type 0
 IsSized text p = (0 < p.1) × (p.1 ≤ length text)
 
 -- a front of which the first character passes
-front_size : (p : ℕ → Bool) (text : List ℕ) → 0 < length text → p (get_or text 0 0) ≡ true → (0 < prefix_len p text) × (prefix_len p text ≤ length text)
-front_size p [] nonempty passes = absurd (omega arith)
-front_size p (c ∷ text) nonempty passes = (rw passes (omega arith), prefix_len-le-length p (c ∷ text))
+prefix_size : (p : ℕ → Bool) (text : List ℕ) → 0 < length text → p (get_or text 0 0) ≡ true → (0 < prefix_len p text) × (prefix_len p text ≤ length text)
+prefix_size p [] nonempty passes = absurd (omega arith)
+prefix_size p (c ∷ text) nonempty passes = (rw passes (omega arith), prefix_len-le-length p (c ∷ text))
 
 -- the same of its length
 take_while_size : (p : ℕ → Bool) (text : List ℕ) → 0 < length text → p (get_or text 0 0) ≡ true → (0 < length (take_while p text)) × (length (take_while p text) ≤ length text)
-take_while_size p text nonempty passes = rw (length-prefix_len p text) (front_size p text nonempty passes)
+take_while_size p text nonempty passes = rw (length-prefix_len p text) (prefix_size p text nonempty passes)
 
 -- what a text begins with is no longer than the text
 starts_with_size : (text needle : List ℕ) → starts_with nat_eq text needle ≡ true → length needle ≤ length text
@@ -51,14 +51,14 @@ unfolding signs
 signs_nonempty = refl
 
 -- a sign, a word after a backslash, or one character
-sign_sized : (text : List ℕ) (found : Option (List ℕ × Mark)) → 0 < length text → sign_at_head text ≡ found → IsSized text (sign_piece found text)
+sign_sized : (text : List ℕ) (found : Option (List ℕ × Mark)) → 0 < length text → sign_at_head text ≡ found → IsSized text (sign_lexeme found text)
 sign_sized text (Some row) nonempty is =
     let passes = found_entry (starts_with nat_eq text) (λ s. nat_lt 0 (length s)) signs row signs_nonempty is in
     (ltb-true 0 (length row.0) passes.1, starts_with_size text row.0 passes.0)
 sign_sized text None nonempty is =
     let word = backslash_word text in
     let size : length word ≡ min (1 + prefix_len is_ascii_alphabetic (drop 1 text)) (length text) = length-take (1 + prefix_len is_ascii_alphabetic (drop 1 text)) text in
-    cond_both (slice_index text 0 == byte "\\") (token_or_stray (fixed_token word), length word) (piece.Stray, 1) (IsSized text)
+    cond_both (slice_index text 0 == byte "\\") (token_or_stray (fixed_token word), length word) (lexeme.Stray, 1) (IsSized text)
     (λ _. (omega arith, omega arith))
     (λ _. (omega arith, omega arith))
 
@@ -71,12 +71,12 @@ pub in_word : (c : ℕ) → is_ascii_alphabetic c ≡ true → is_in_word c ≡ 
 in_word c letter = grind (arith, nat_tests)
 
 -- each piece
-pub piece_sized : (text : List ℕ) → 0 < length text → (0 < (piece_at text).1) × ((piece_at text).1 ≤ length text)
-unfolding piece_at
-piece_sized text nonempty =
+pub lexeme_sized : (text : List ℕ) → 0 < length text → (0 < (lexeme_at text).1) × ((lexeme_at text).1 ≤ length text)
+unfolding lexeme_at
+lexeme_sized text nonempty =
     let first = slice_index text 0 in
-    cond_both (is_space first) (piece.Gap, 1) _ (IsSized text) (λ _. (omega arith, omega arith))
-    (λ _. cond_both (first == byte "%") (piece.Gap, prefix_len is_in_line text) _ (IsSized text) (λ percent. front_size is_in_line text nonempty (in_line first percent))
-    (λ _. cond_both (is_ascii_alphabetic first) (word_piece (take_while is_in_word text)) _ (IsSized text) (λ letter. take_while_size is_in_word text nonempty (in_word first letter))
-    (λ _. cond_both (is_ascii_digit first) (number_piece (take_while is_ascii_digit text)) (sign_piece (sign_at_head text) text) (IsSized text) (λ digit. take_while_size is_ascii_digit text nonempty digit)
+    cond_both (is_space first) (lexeme.Gap, 1) _ (IsSized text) (λ _. (omega arith, omega arith))
+    (λ _. cond_both (first == byte "%") (lexeme.Gap, prefix_len is_in_line text) _ (IsSized text) (λ percent. prefix_size is_in_line text nonempty (in_line first percent))
+    (λ _. cond_both (is_ascii_alphabetic first) (word_lexeme (take_while is_in_word text)) _ (IsSized text) (λ letter. take_while_size is_in_word text nonempty (in_word first letter))
+    (λ _. cond_both (is_ascii_digit first) (number_lexeme (take_while is_ascii_digit text)) (sign_lexeme (sign_at_head text) text) (IsSized text) (λ digit. take_while_size is_ascii_digit text nonempty digit)
     (λ _. sign_sized text (sign_at_head text) nonempty refl))))

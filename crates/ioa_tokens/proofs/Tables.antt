@@ -3,17 +3,17 @@ use Rattle.std.proofs.Common.{◌≡◌, ℕ, ◌<◌, ◌+◌, Bool, true, fals
 use Rattle.std.specs.Borrow.{Bor}
 use Rattle.std.specs.Map.{lookup}
 use Rattle.std.proofs.Math.Seq.{drop-cons}
-use Rattle.ioa_tokens.specs.Spelling.{spelled}
+use Rattle.ioa_tokens.specs.Tables.{spelled_rows}
 
 module _ {A : Type 0} (rows : List (Bor (List ℕ) × A)) (i : ℕ) (row : Bor (List ℕ) × A) (within : i < length rows) (is : row ≡ get_or rows i row) where
   -- from a row on, the table begins with that row
-  spelled-drop : spelled (drop i rows) ≡ (row.0.now, row.1) ∷ spelled (drop (i + 1) rows)
-  spelled-drop = ap spelled (drop-cons rows i row within) ∙ rw (← is, add-one) refl
+  spelled_rows-drop : spelled_rows (drop i rows) ≡ (row.0.now, row.1) ∷ spelled_rows (drop (i + 1) rows)
+  spelled_rows-drop = ap spelled_rows (drop-cons rows i row within) ∙ rw (← is, add-one) refl
 
   -- a row that passes is the answer
-  pub lookup_here : (test : List ℕ → Bool) → test row.0.now ≡ true → lookup test (spelled (drop i rows)) ≡ Some row.1
-  lookup_here test passes = rw (spelled-drop, passes) refl
+  pub lookup_here : (test : List ℕ → Bool) → test row.0.now ≡ true → lookup test (spelled_rows (drop i rows)) ≡ Some row.1
+  lookup_here test passes = rw (spelled_rows-drop, passes) refl
 
   -- a row that does not pass is gone by
-  pub lookup_later : (test : List ℕ → Bool) → test row.0.now ≡ false → lookup test (spelled (drop i rows)) ≡ lookup test (spelled (drop (i + 1) rows))
-  lookup_later test fails = rw (spelled-drop, fails) refl
+  pub lookup_later : (test : List ℕ → Bool) → test row.0.now ≡ false → lookup test (spelled_rows (drop i rows)) ≡ lookup test (spelled_rows (drop (i + 1) rows))
+  lookup_later test fails = rw (spelled_rows-drop, fails) refl

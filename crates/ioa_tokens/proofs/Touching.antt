@@ -14,11 +14,11 @@ use Rattle.ioa_tokens.specs.declared.token.Token.{Token}
 use Rattle.ioa_tokens.specs.declared.token.Token.TheVariants as token
 use Rattle.ioa_tokens.specs.declared.written.Gap.{Gap}
 use Rattle.ioa_tokens.specs.declared.written.Gap.TheVariants as gap
-use Rattle.ioa_tokens.specs.Spelling.{mark_text, left_out_text, signs}
-use Rattle.ioa_tokens.specs.Piece.{is_in_word, is_space}
+use Rattle.ioa_tokens.specs.Tables.{mark_text, left_out_text, signs}
+use Rattle.ioa_tokens.specs.Lexeme.{is_in_word, is_space}
 use Rattle.ioa_tokens.specs.Written.{Head, letter, digit, sign, text_head, token_head, word_ends, number_ends, letters_end, sign_ends, spelling_ends, token_ends, begins_longer, token_text, written_text, IsToken, AreTokens, IsApartFrom}
 use Rattle.ioa_tokens.proofs.Ends.{Stops, spelling_takes, takes}
-use Rattle.ioa_tokens.proofs.Pieces.{digits_by_code}
+use Rattle.ioa_tokens.proofs.Lexemes.{digits_by_code}
 
 -- a text begins so
 abbrev pub IsHead : Head → ℕ → Type 0
@@ -49,22 +49,22 @@ fails_of_not true passes = absurd (true≢false (sym passes))
 fails_of_not false passes = refl
 
 -- a text that has no such character begins with no text that ends with one
-pub no_front : (p : ℕ → Bool) (row text : List ℕ) (c : ℕ) → list_all (λ x. not (p x)) row ≡ true → p c ≡ true → starts_with nat_eq row (text ++ c ∷ []) ≡ false
-no_front p [] [] c all passes = refl
-no_front p [] (x ∷ text) c all passes = refl
-no_front p (d ∷ row) [] c all passes =
+pub no_prefix : (p : ℕ → Bool) (row text : List ℕ) (c : ℕ) → list_all (λ x. not (p x)) row ≡ true → p c ≡ true → starts_with nat_eq row (text ++ c ∷ []) ≡ false
+no_prefix p [] [] c all passes = refl
+no_prefix p [] (x ∷ text) c all passes = refl
+no_prefix p (d ∷ row) [] c all passes =
     let other : nat_eq c d ≡ false = other_character p c d passes (fails_of_not (p d) (and_parts (not (p d)) (list_all (λ x. not (p x)) row) all).0) in
     rw other refl
-no_front p (d ∷ row) (x ∷ text) c all passes =
+no_prefix p (d ∷ row) (x ∷ text) c all passes =
     let parts = and_parts (not (p d)) (list_all (λ x. not (p x)) row) all in
-    rw (no_front p row text c parts.1 passes) (and_false (nat_eq x d))
+    rw (no_prefix p row text c parts.1 passes) (and_false (nat_eq x d))
 
 -- the same of each row of a table
 no_row : {A : Type 0} (p : ℕ → Bool) (rows : List (List ℕ × A)) (text : List ℕ) (c : ℕ) → list_all (λ row. list_all (λ x. not (p x)) row.0) rows ≡ true → p c ≡ true → list_any (λ row. starts_with nat_eq row.0 (text ++ c ∷ [])) rows ≡ false
 no_row p [] text c all passes = refl
 no_row p (row ∷ rows) text c all passes =
     let parts = and_parts (list_all (λ x. not (p x)) row.0) (list_all (λ r. list_all (λ x. not (p x)) r.0) rows) all in
-    rw (no_front p row.0 text c parts.0 passes) (no_row p rows text c parts.1 passes)
+    rw (no_prefix p row.0 text c parts.0 passes) (no_row p rows text c parts.1 passes)
 
 -- no sign goes on with a letter, a digit or `_`
 no_sign_in_word : (text : List ℕ) (c : ℕ) → is_in_word c ≡ true → begins_longer text c ≡ false

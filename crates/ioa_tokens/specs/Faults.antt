@@ -5,7 +5,7 @@ use Rattle.ioa_tokens.specs.declared.fault.CutFault.{CutFault}
 use Rattle.ioa_tokens.specs.declared.fault.CutFault.TheVariants.{BadCharacter, NumberTooLarge, Memory}
 
 -- what is wrong, and at which byte
-abbrev pub fault_text : CutFault → List ℕ
-fault_text (BadCharacter place) = codes "the character at byte " ++ (decimal place ++ codes " begins no token")
-fault_text (NumberTooLarge place) = codes "the number at byte " ++ (decimal place ++ codes " is too large")
-fault_text Memory = codes "out of memory"
+abbrev pub cut_fault_text : CutFault → List ℕ
+cut_fault_text (BadCharacter offset) = codes "the character at byte " ++ (decimal offset ++ codes " begins no token")
+cut_fault_text (NumberTooLarge offset) = codes "the number at byte " ++ (decimal offset ++ codes " is too large")
+cut_fault_text Memory = codes "out of memory"

@@ -1,6 +1,6 @@
 -- what the contracts of this crate cite
-pub mod Spelling
-pub mod Piece
+pub mod Tables
+pub mod Lexeme
 pub mod Tokens
 pub mod Written
 pub mod Faults

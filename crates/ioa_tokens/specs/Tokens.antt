@@ -1,26 +1,26 @@
 -- The tokens of a text (profile).
 use Rattle.std.specs.Prelude.{ℕ, zero, suc, ◌+◌, ◌-◌, List, [], ◌∷◌, Result, Ok, Err}
-use Rattle.ioa_tokens.specs.declared.token.Placed.{Placed}
+use Rattle.ioa_tokens.specs.declared.token.LocatedToken.{LocatedToken}
 use Rattle.ioa_tokens.specs.declared.fault.CutFault.{CutFault}
 use Rattle.ioa_tokens.specs.declared.fault.CutFault.TheVariants.{BadCharacter, NumberTooLarge}
-use Rattle.ioa_tokens.specs.declared.piece.Piece.{Piece}
-use Rattle.ioa_tokens.specs.declared.piece.Piece.TheVariants as piece
-use Rattle.ioa_tokens.specs.Piece.{piece_at}
+use Rattle.ioa_tokens.specs.declared.lexeme.Lexeme.{Lexeme}
+use Rattle.ioa_tokens.specs.declared.lexeme.Lexeme.TheVariants as lexeme
+use Rattle.ioa_tokens.specs.Lexeme.{lexeme_at}
 
 -- a piece at a place, before the tokens of what comes after it: the first refusal from the left stands
-abbrev pub with_piece : ℕ → Piece → Result (List Placed) CutFault → Result (List Placed) CutFault
-with_piece place piece.Gap after = after
-with_piece place (piece.Token t) (Ok ts) = Ok (record { token = t; place = place } ∷ ts)
-with_piece place (piece.Token t) (Err e) = Err e
-with_piece place piece.TooLarge after = Err (NumberTooLarge place)
-with_piece place piece.Stray after = Err (BadCharacter place)
+abbrev pub with_lexeme : ℕ → Lexeme → Result (List LocatedToken) CutFault → Result (List LocatedToken) CutFault
+with_lexeme offset lexeme.Gap after = after
+with_lexeme offset (lexeme.Token t) (Ok ts) = Ok (record { token = t; offset = offset } ∷ ts)
+with_lexeme offset (lexeme.Token t) (Err e) = Err e
+with_lexeme offset lexeme.TooLarge after = Err (NumberTooLarge offset)
+with_lexeme offset lexeme.Stray after = Err (BadCharacter offset)
 
 -- the tokens of a text that begins at a place, once the bytes that are left of the piece before it have gone by
-abbrev pub tokens_from : ℕ → ℕ → List ℕ → Result (List Placed) CutFault
-tokens_from left place [] = Ok []
-tokens_from (suc left) place (c ∷ text) = tokens_from left (place + 1) text
-tokens_from zero place (c ∷ text) = with_piece place (piece_at (c ∷ text)).0 (tokens_from ((piece_at (c ∷ text)).1 - 1) (place + 1) text)
+abbrev pub tokens_from : ℕ → ℕ → List ℕ → Result (List LocatedToken) CutFault
+tokens_from left offset [] = Ok []
+tokens_from (suc left) offset (c ∷ text) = tokens_from left (offset + 1) text
+tokens_from zero offset (c ∷ text) = with_lexeme offset (lexeme_at (c ∷ text)).0 (tokens_from ((lexeme_at (c ∷ text)).1 - 1) (offset + 1) text)
 
 -- the tokens of a text, or the first character or number that is refused
-unfoldable pub tokens : List ℕ → Result (List Placed) CutFault
+unfoldable pub tokens : List ℕ → Result (List LocatedToken) CutFault
 tokens text = tokens_from 0 0 text

@@ -7,8 +7,8 @@ use Rattle.ioa_tokens.specs.declared.token.Token.{Token}
 use Rattle.ioa_tokens.specs.declared.token.Token.TheVariants as token
 use Rattle.ioa_tokens.specs.declared.written.Gap.{Gap}
 use Rattle.ioa_tokens.specs.declared.written.Gap.TheVariants as gap
-use Rattle.ioa_tokens.specs.Spelling.{mark_text, left_out_text, signs}
-use Rattle.ioa_tokens.specs.Piece.{is_in_word, fixed_token, greatest_number}
+use Rattle.ioa_tokens.specs.Tables.{mark_text, left_out_text, signs}
+use Rattle.ioa_tokens.specs.Lexeme.{is_in_word, fixed_token, greatest_number}
 
 -- how a token is written: a number in decimal digits
 abbrev pub token_text : Token → List ℕ

@@ -17,16 +17,19 @@ pub enum CutFault {
 
 impl fmt::Display for CutFault {
     ghost use Rattle.std.specs.Prelude.{Some};
-    ghost use Rattle.ioa_tokens.specs.Faults.{fault_text};
+    ghost use Rattle.ioa_tokens.specs.Faults.{cut_fault_text};
 
-    ghost output = { λ fault. Some (fault_text fault) };
+    ghost output = { λ fault. Some (cut_fault_text fault) };
 
     fn fmt<W: fmt::Write>(&self, f: &mut fmt::Formatter<W>) -> fmt::Result {
         match self {
-            CutFault::BadCharacter(place) => {
-                write!(f, "the character at byte {place} begins no token")
+            CutFault::BadCharacter(offset) => {
+                write!(f, "the character at byte {offset} begins no token")
             }
-            CutFault::NumberTooLarge(place) => write!(f, "the number at byte {place} is too large"),
+            CutFault::NumberTooLarge(offset) => write!(
+                f,
+                "the number at byte {offset} is too large"
+            ),
             CutFault::Memory => f.write_str("out of memory"),
         }
     }

@@ -4,9 +4,9 @@
 
 mod cut;
 mod fault;
-mod front;
+mod lexeme;
 mod mark;
-mod piece;
+mod prefixes;
 mod table;
 mod token;
 mod written;
@@ -14,5 +14,5 @@ mod written;
 pub use cut::tokens;
 pub use fault::CutFault;
 pub use mark::{LeftOut, Mark};
-pub use token::{Placed, Token, TokenWord};
+pub use token::{LocatedToken, Token, TokenWord};
 pub use written::{Gap, push_mark, push_number, push_word};

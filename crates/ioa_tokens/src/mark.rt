@@ -1,7 +1,7 @@
 //! The signs and the reserved words of the language, and the words that it leaves out.
 
 ghost use Rattle.std.specs.Prelude.{◌≡◌};
-ghost use Rattle.ioa_tokens.specs.Spelling.{mark_text};
+ghost use Rattle.ioa_tokens.specs.Tables.{mark_text};
 
 use std::fmt;
 
@@ -69,7 +69,7 @@ pub enum Mark {
     /// `}`
     CloseBrace,
     /// `@`
-    At,
+    AtSign,
     /// `automaton`
     Automaton,
     /// `signature`
@@ -188,7 +188,7 @@ impl Mark {
             Mark::CloseSquare => "]",
             Mark::OpenBrace => "{",
             Mark::CloseBrace => "}",
-            Mark::At => "@",
+            Mark::AtSign => "@",
             Mark::Automaton => "automaton",
             Mark::Signature => "signature",
             Mark::States => "states",
@@ -279,7 +279,7 @@ pub enum LeftOut {
 
 impl fmt::Display for LeftOut {
     ghost use Rattle.std.specs.Prelude.{Some};
-    ghost use Rattle.ioa_tokens.specs.Spelling.{left_out_text};
+    ghost use Rattle.ioa_tokens.specs.Tables.{left_out_text};
 
     ghost output = { λ word. Some (left_out_text word) };
 

@@ -5,7 +5,7 @@ ghost use Rattle.std.specs.List.{starts_with};
 ghost use Rattle.std.specs.Map.{lookup, lookup_entry};
 ghost use Rattle.std.specs.Option.{option_map};
 ghost use Rattle.std.specs.Str.{bytes_eq};
-ghost use Rattle.ioa_tokens.specs.Spelling as spec;
+ghost use Rattle.ioa_tokens.specs.Tables as spec;
 
 use crate::mark::{LeftOut, Mark};
 
@@ -40,7 +40,7 @@ static SIGNS: [(&str, Mark); 30] = [
     ("]", Mark::CloseSquare),
     ("{", Mark::OpenBrace),
     ("}", Mark::CloseBrace),
-    ("@", Mark::At),
+    ("@", Mark::AtSign),
 ];
 
 /// The reserved words, and the sign that is spelled with letters.
@@ -114,7 +114,7 @@ static LEFT_OUT: [(&str, LeftOut); 19] = [
 /// The first row of a table whose spelling a text begins with.
 fn row_at_head<T: Copy>(table: &[(&'static str, T)], text: &[u8]) -> Option<(&'static str, T)>
     ensures { option_map spec.spelled_row result
-        ≡ lookup_entry (starts_with nat_eq text.now) (spec.spelled table.now) }
+        ≡ lookup_entry (starts_with nat_eq text.now) (spec.spelled_rows table.now) }
 {
     for (spelling, meaning) in table {
         if text.starts_with(spelling.as_bytes()) {
@@ -126,7 +126,7 @@ fn row_at_head<T: Copy>(table: &[(&'static str, T)], text: &[u8]) -> Option<(&'s
 
 /// What a table has for a word.
 fn meaning<T: Copy>(table: &[(&str, T)], word: &[u8]) -> Option<T>
-    ensures { result ≡ lookup (bytes_eq word.now) (spec.spelled table.now) }
+    ensures { result ≡ lookup (bytes_eq word.now) (spec.spelled_rows table.now) }
 {
     for (spelling, meaning) in table {
         if word == spelling.as_bytes() {
@@ -137,7 +137,7 @@ fn meaning<T: Copy>(table: &[(&str, T)], word: &[u8]) -> Option<T>
 }
 
 /// The longest sign that a text begins with, and its spelling.
-#[tactic(auto, unfolding(crate::specs::Spelling::signs))]
+#[tactic(auto, unfolding(crate::specs::Tables::signs))]
 pub(crate) fn sign_at(text: &[u8]) -> Option<(&'static str, Mark)>
     ensures { option_map spec.spelled_row result ≡ spec.sign_at_head text.now }
 {
@@ -145,7 +145,7 @@ pub(crate) fn sign_at(text: &[u8]) -> Option<(&'static str, Mark)>
 }
 
 /// The mark of a reserved word.
-#[tactic(auto, unfolding(crate::specs::Spelling::reserved_words))]
+#[tactic(auto, unfolding(crate::specs::Tables::reserved_words))]
 pub(crate) fn reserved_word(word: &[u8]) -> Option<Mark>
     ensures { result ≡ spec.reserved_word word.now }
 {
@@ -153,7 +153,7 @@ pub(crate) fn reserved_word(word: &[u8]) -> Option<Mark>
 }
 
 /// The left-out word of these bytes.
-#[tactic(auto, unfolding(crate::specs::Spelling::left_out_words))]
+#[tactic(auto, unfolding(crate::specs::Tables::left_out_words))]
 pub(crate) fn left_out_word(word: &[u8]) -> Option<LeftOut>
     ensures { result ≡ spec.left_out_word word.now }
 {

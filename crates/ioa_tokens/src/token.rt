@@ -47,9 +47,9 @@ pub enum Token<'a> {
 
 /// A token, and where it stands in a text. Source: profile.
 #[derive(Debug, Drop)]
-pub struct Placed<'a> {
+pub struct LocatedToken<'a> {
     /// The token.
     pub token: Token<'a>,
     /// Where its first byte stands, counted in bytes from 0.
-    pub place: usize,
+    pub offset: usize,
 }

@@ -49,11 +49,11 @@ fn push_gap(text: &mut String, gap: Gap) -> Result<(), AllocError>
 }
 
 /// Writes the text of a token behind a gap.
-fn push_piece(text: &mut String, gap: Gap, piece: &str) -> Result<(), AllocError>
-    ensures { OnOk result (string_bytes text.new ≡ string_bytes text.old ++ (spec.gap_text gap ++ piece.now)) }
+fn push_lexeme(text: &mut String, gap: Gap, lexeme: &str) -> Result<(), AllocError>
+    ensures { OnOk result (string_bytes text.new ≡ string_bytes text.old ++ (spec.gap_text gap ++ lexeme.now)) }
 {
     push_gap(text, gap)?;
-    text.push_str(piece)
+    text.push_str(lexeme)
 }
 
 /// Writes a name behind a text. Where memory runs out, a part of it may be written. Source: profile.
@@ -61,7 +61,7 @@ pub fn push_word(text: &mut String, gap: Gap, word: &str) -> Result<(), AllocErr
     ensures { OnOk result (string_bytes text.new
         ≡ string_bytes text.old ++ (spec.gap_text gap ++ spec.token_text (token.Word word.now))) }
 {
-    push_piece(text, gap, word)
+    push_lexeme(text, gap, word)
 }
 
 /// Writes a number behind a text. Where memory runs out, a part of it may be written. Source: profile.
@@ -79,5 +79,5 @@ pub fn push_mark(text: &mut String, gap: Gap, mark: Mark) -> Result<(), AllocErr
     ensures { OnOk result (string_bytes text.new
         ≡ string_bytes text.old ++ (spec.gap_text gap ++ spec.token_text (token.Mark mark))) }
 {
-    push_piece(text, gap, mark.as_str())
+    push_lexeme(text, gap, mark.as_str())
 }

@@ -23,8 +23,8 @@ of_each f Equal less equal greater = refl
 of_each f Greater less equal greater = refl
 
 -- the order the other way round
-pub turned : (a b : Data) (o : Ordering) → data_cmp a b ≡ o → data_cmp b a ≡ ordering_reverse o
-turned a b o e = data_cmp_total.antisymm b a ∙ ap ordering_reverse e
+pub cmp_reverse : (a b : Data) (o : Ordering) → data_cmp a b ≡ o → data_cmp b a ≡ ordering_reverse o
+cmp_reverse a b o e = data_cmp_total.antisymm b a ∙ ap ordering_reverse e
 
 -- what comes before a value comes before all behind it
 pub all_later : (d x : Data) (xs : List Data) → data_cmp d x ≡ Less → AllByRecursion (λ y. data_cmp x y ≡ Less) xs → AllByRecursion (λ y. data_cmp d y ≡ Less) xs
@@ -50,7 +50,7 @@ with_member_ascends d [] a = (tt, tt)
 with_member_ascends d (x ∷ xs) a =
     by_each IsAscending (data_cmp d x) (d ∷ x ∷ xs) (x ∷ xs) (x ∷ with_member d xs)
     (λ e. ((e, all_later d x xs e a.0), a)) (λ e. a)
-    (λ e. (all_with (λ y. data_cmp x y ≡ Less) d xs (turned d x Greater e) a.0, with_member_ascends d xs a.1))
+    (λ e. (all_with (λ y. data_cmp x y ≡ Less) d xs (cmp_reverse d x Greater e) a.0, with_member_ascends d xs a.1))
 
 -- a set without a member ascends
 pub without_member_ascends : (d : Data) (xs : List Data) → IsAscending xs → IsAscending (without_member d xs)

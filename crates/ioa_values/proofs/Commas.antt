@@ -30,9 +30,9 @@ entry_texts_map names [] = refl
 entry_texts_map names (e ∷ es) = ap (λ (ts : List (List ℕ)). entry_text names e ∷ ts) (entry_texts_map names es)
 
 -- what is written behind a list is the list and one more piece
-written_more : (first before more piece all : List ℕ) {written : List ℕ} {separated : List ℕ} {out : List ℕ} → written ≡ first ++ before → separated ≡ written ++ more → out ≡ separated ++ piece → all ≡ before ++ (more ++ piece) → out ≡ first ++ all
-written_more first before more piece all a b c d =
-    c ∙ ap (λ (x : List ℕ). x ++ piece) (b ∙ ap (λ (x : List ℕ). x ++ more) a) ∙ rw (append_assoc, append_assoc first before, d) refl
+written_more : (first before more item all : List ℕ) {written : List ℕ} {separated : List ℕ} {out : List ℕ} → written ≡ first ++ before → separated ≡ written ++ more → out ≡ separated ++ item → all ≡ before ++ (more ++ item) → out ≡ first ++ all
+written_more first before more item all a b c d =
+    c ∙ ap (λ (x : List ℕ). x ++ item) (b ∙ ap (λ (x : List ℕ). x ++ more) a) ∙ rw (append_assoc, append_assoc first before, d) refl
 
 -- one more value is written
 pub values_more : (names : List (List ℕ)) (first : List ℕ) (ds : List Data) (i : ℕ) (d : Data) {written : List ℕ} {separated : List ℕ} {out : List ℕ} → written ≡ first ++ with_commas (texts names (items_of (take i ds))) → separated ≡ written ++ separator i → out ≡ separated ++ text names d → i < length ds → d ≡ get_or ds i d → out ≡ first ++ with_commas (texts names (items_of (take (i + 1) ds)))

@@ -6,8 +6,8 @@ use Rattle.std.specs.Ordering.{nat_cmp}
 use Rattle.std.specs.Cmp.{nat_cmp_is}
 use Rattle.std.proofs.lemmas.Bool.Decides.{nat_tests}
 
-next_places : (m n : ℕ) → nat_cmp (suc m) (suc n) ≡ nat_cmp m n
-next_places m n = grind (arith, nat_tests)
+next_lengths : (m n : ℕ) → nat_cmp (suc m) (suc n) ≡ nat_cmp m n
+next_lengths m n = grind (arith, nat_tests)
 
 module _ {A : Type 0} (R : List A → List A → Ordering) (both : R [] [] ≡ Equal) (first : (y : A) (ys : List A) → R [] (y ∷ ys) ≡ Less) (second : (x : A) (xs : List A) → R (x ∷ xs) [] ≡ Greater) where
   -- at the end of the shorter list
@@ -19,4 +19,4 @@ module _ {A : Type 0} (R : List A → List A → Ordering) (both : R [] [] ≡ E
   ended (x ∷ xs) [] zero e = sym (nat_cmp_is (suc (length xs)) 0 Greater (omega arith)) ∙ sym (second x xs)
   ended (x ∷ xs) [] (suc i) e = absurd (omega arith)
   ended (x ∷ xs) (y ∷ ys) zero e = absurd (omega arith)
-  ended (x ∷ xs) (y ∷ ys) (suc i) e = next_places (length xs) (length ys) ∙ ended xs ys i (omega arith)
+  ended (x ∷ xs) (y ∷ ys) (suc i) e = next_lengths (length xs) (length ys) ∙ ended xs ys i (omega arith)

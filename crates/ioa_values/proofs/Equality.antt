@@ -11,8 +11,8 @@ use Rattle.ioa_values.specs.DataOrder.{data_cmp, items_cmp, entries_cmp, data_cm
 numbers_tied : (x y : ℤ) → int_cmp x y ≡ Equal → x ≡ y
 numbers_tied x y e = int_ranked x y Equal (sym e)
 
-places_tied : (k l : ℕ) → nat_cmp k l ≡ Equal → k ≡ l
-places_tied k l e = ranked k l Equal (sym e)
+indices_tied : (k l : ℕ) → nat_cmp k l ≡ Equal → k ≡ l
+indices_tied k l e = ranked k l Equal (sym e)
 
 truths_tied : (a b : Bool) → bool_cmp a b ≡ Equal → a ≡ b
 truths_tied false false e = refl
@@ -36,7 +36,7 @@ mutual
   pub tied_equal : (a b : Data) → data_cmp a b ≡ Equal → a ≡ b
   tied_equal (number m) (number n) e = ap number (numbers_tied m n e)
   tied_equal (truth a) (truth b) e = ap truth (truths_tied a b e)
-  tied_equal (constant k) (constant l) e = ap constant (places_tied k l e)
+  tied_equal (constant k) (constant l) e = ap constant (indices_tied k l e)
   tied_equal (tuple xs) (tuple ys) e = ap tuple (items_tied xs ys e)
   tied_equal (sequence xs) (sequence ys) e = ap sequence (items_tied xs ys e)
   tied_equal (finite_set xs) (finite_set ys) e = ap finite_set (items_tied xs ys e)

@@ -8,4 +8,4 @@ pub mod Falls
 pub mod Halves
 pub mod Members
 pub mod Merging
-pub mod Places
+pub mod Positions

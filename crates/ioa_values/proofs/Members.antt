@@ -9,7 +9,7 @@ use Rattle.std.specs.declared.cmp.Ordering.TheVariants.{Less, Equal, Greater}
 use Rattle.ioa_values.specs.Data.{Data}
 use Rattle.ioa_values.specs.DataOrder.{data_cmp, data_cmp_total, same}
 use Rattle.ioa_values.specs.Collections.{by_order, IsAscending, is_member, with_member, without_member, set_of, union, keys_of, value_at, with_entry, without_key}
-use Rattle.ioa_values.proofs.Ascending.{by_each, turned, all_later, none_same}
+use Rattle.ioa_values.proofs.Ascending.{by_each, cmp_reverse, all_later, none_same}
 use Rattle.ioa_values.proofs.Equality.{tied_equal, same_equal, same_itself}
 
 -- tests in another order, and twice
@@ -61,7 +61,7 @@ member_without x d (y ∷ ys) a =
     (λ e. rw (tied_equal d y e) (but_not_first (same x y) (is_member x ys) (λ s. rw (same_equal x y s) (none_same y ys a.0))))
     (λ e.
     ap (λ b. same x y || b) (member_without x d ys a.1)
-    ∙ but_not_later (same x y) (same x d) (is_member x ys) (λ s. rw (same_equal x y s) (ap is_eq (turned d y Greater e))))
+    ∙ but_not_later (same x y) (same x d) (is_member x ys) (λ s. rw (same_equal x y s) (ap is_eq (cmp_reverse d y Greater e))))
 
 -- the set of a list has the values of the list
 pub member_set_of : (x : Data) (ds : List Data) → is_member x (set_of ds) ≡ is_member x ds
@@ -94,7 +94,7 @@ same_members (x ∷ xs) (y ∷ ys) a b h = at (data_cmp x y) refl (same_members 
     at : (o : Ordering) → data_cmp x y ≡ o → (((z : Data) → is_member z xs ≡ is_member z ys) → xs ≡ ys) → x ∷ xs ≡ y ∷ ys
     at Less e later = absurd (true≢false (sym (is_first x xs) ∙ h x ∙ none_same x (y ∷ ys) (e, all_later x y ys e b.0)))
     at Greater e later =
-        let before = turned x y Greater e in
+        let before = cmp_reverse x y Greater e in
         absurd (true≢false (sym (is_first y ys) ∙ sym (h y) ∙ none_same y (x ∷ xs) (before, all_later y x xs before a.0)))
     at Equal e later =
         let p = tied_equal x y e in
@@ -190,7 +190,7 @@ same_values (e ∷ es) (f ∷ fs) a b h = at (data_cmp e.0 f.0) refl (same_value
         let none : value_at e.0 (f ∷ fs) ≡ None = rw c refl in
         absurd (none_some (sym none ∙ sym (h e.0) ∙ first_at e es))
     at Greater c later =
-        let none : value_at f.0 (e ∷ es) ≡ None = rw (turned e.0 f.0 Greater c) refl in
+        let none : value_at f.0 (e ∷ es) ≡ None = rw (cmp_reverse e.0 f.0 Greater c) refl in
         absurd (none_some (sym none ∙ h f.0 ∙ first_at f fs))
     at Equal c later =
         let p : e.0 ≡ f.0 = tied_equal e.0 f.0 c in

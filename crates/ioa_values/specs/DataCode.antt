@@ -4,111 +4,111 @@ use Rattle.std.proofs.Common.{zero, suc, sym, ap, ◌∙◌}
 use base.Stored.{Gv, gnil, gnum, gcons, Coded}
 use Rattle.ioa_values.specs.Data.{Data, number, truth, constant, tuple, sequence, finite_set, finite_map, Items, no_items, item, Entries, no_entries, entry}
 
-number_stored : ℤ → Gv
-number_stored (pos n) = gcons (gnum 0) (gnum n)
-number_stored (negsuc n) = gcons (gnum 1) (gnum n)
+encode_number : ℤ → Gv
+encode_number (pos n) = gcons (gnum 0) (gnum n)
+encode_number (negsuc n) = gcons (gnum 1) (gnum n)
 
-truth_stored : Bool → Gv
-truth_stored false = gnum 0
-truth_stored true = gnum 1
+encode_truth : Bool → Gv
+encode_truth false = gnum 0
+encode_truth true = gnum 1
 
 -- a value as a tree: its kind, and then what it holds
 mutual
-  pub stored : Data → Gv
-  stored (number z) = gcons (gnum 0) (number_stored z)
-  stored (truth b) = gcons (gnum 1) (truth_stored b)
-  stored (constant k) = gcons (gnum 2) (gnum k)
-  stored (tuple ds) = gcons (gnum 3) (items_stored ds)
-  stored (sequence ds) = gcons (gnum 4) (items_stored ds)
-  stored (finite_set ds) = gcons (gnum 5) (items_stored ds)
-  stored (finite_map es) = gcons (gnum 6) (entries_stored es)
+  pub encode : Data → Gv
+  encode (number z) = gcons (gnum 0) (encode_number z)
+  encode (truth b) = gcons (gnum 1) (encode_truth b)
+  encode (constant k) = gcons (gnum 2) (gnum k)
+  encode (tuple ds) = gcons (gnum 3) (encode_items ds)
+  encode (sequence ds) = gcons (gnum 4) (encode_items ds)
+  encode (finite_set ds) = gcons (gnum 5) (encode_items ds)
+  encode (finite_map es) = gcons (gnum 6) (encode_entries es)
 
-  items_stored : Items → Gv
-  items_stored no_items = gnil
-  items_stored (item d more) = gcons (stored d) (items_stored more)
+  encode_items : Items → Gv
+  encode_items no_items = gnil
+  encode_items (item d more) = gcons (encode d) (encode_items more)
 
-  entries_stored : Entries → Gv
-  entries_stored no_entries = gnil
-  entries_stored (entry k v more) = gcons (gcons (stored k) (stored v)) (entries_stored more)
+  encode_entries : Entries → Gv
+  encode_entries no_entries = gnil
+  encode_entries (entry k v more) = gcons (gcons (encode k) (encode v)) (encode_entries more)
 
-number_back : Gv → ℤ
-number_back (gcons (gnum zero) (gnum n)) = pos n
-number_back (gcons (gnum (suc k)) (gnum n)) = negsuc n
-number_back t = pos 0
+decode_number : Gv → ℤ
+decode_number (gcons (gnum zero) (gnum n)) = pos n
+decode_number (gcons (gnum (suc k)) (gnum n)) = negsuc n
+decode_number t = pos 0
 
-truth_back : Gv → Bool
-truth_back (gnum (suc k)) = true
-truth_back t = false
+decode_truth : Gv → Bool
+decode_truth (gnum (suc k)) = true
+decode_truth t = false
 
-constant_back : Gv → ℕ
-constant_back (gnum k) = k
-constant_back t = 0
+decode_constant : Gv → ℕ
+decode_constant (gnum k) = k
+decode_constant t = 0
 
 -- the value of a kind
-kept : ℕ → Gv → Items → Entries → Data
-kept zero t ds es = number (number_back t)
-kept (suc zero) t ds es = truth (truth_back t)
-kept (suc (suc zero)) t ds es = constant (constant_back t)
-kept (suc (suc (suc zero))) t ds es = tuple ds
-kept (suc (suc (suc (suc zero)))) t ds es = sequence ds
-kept (suc (suc (suc (suc (suc zero))))) t ds es = finite_set ds
-kept (suc (suc (suc (suc (suc (suc k)))))) t ds es = finite_map es
+decode_kind : ℕ → Gv → Items → Entries → Data
+decode_kind zero t ds es = number (decode_number t)
+decode_kind (suc zero) t ds es = truth (decode_truth t)
+decode_kind (suc (suc zero)) t ds es = constant (decode_constant t)
+decode_kind (suc (suc (suc zero))) t ds es = tuple ds
+decode_kind (suc (suc (suc (suc zero)))) t ds es = sequence ds
+decode_kind (suc (suc (suc (suc (suc zero))))) t ds es = finite_set ds
+decode_kind (suc (suc (suc (suc (suc (suc k)))))) t ds es = finite_map es
 
 -- the value that a tree stands for
 mutual
-  back : Gv → Data
-  back gnil = truth false
-  back (gnum n) = truth false
-  back (gcons gnil t) = truth false
-  back (gcons (gnum k) t) = kept k t (items_back t) (entries_back t)
-  back (gcons (gcons a b) t) = truth false
+  decode : Gv → Data
+  decode gnil = truth false
+  decode (gnum n) = truth false
+  decode (gcons gnil t) = truth false
+  decode (gcons (gnum k) t) = decode_kind k t (decode_items t) (decode_entries t)
+  decode (gcons (gcons a b) t) = truth false
 
-  items_back : Gv → Items
-  items_back gnil = no_items
-  items_back (gnum n) = no_items
-  items_back (gcons a t) = item (back a) (items_back t)
+  decode_items : Gv → Items
+  decode_items gnil = no_items
+  decode_items (gnum n) = no_items
+  decode_items (gcons a t) = item (decode a) (decode_items t)
 
-  entries_back : Gv → Entries
-  entries_back gnil = no_entries
-  entries_back (gnum n) = no_entries
-  entries_back (gcons gnil t) = no_entries
-  entries_back (gcons (gnum n) t) = no_entries
-  entries_back (gcons (gcons a b) t) = entry (back a) (back b) (entries_back t)
+  decode_entries : Gv → Entries
+  decode_entries gnil = no_entries
+  decode_entries (gnum n) = no_entries
+  decode_entries (gcons gnil t) = no_entries
+  decode_entries (gcons (gnum n) t) = no_entries
+  decode_entries (gcons (gcons a b) t) = entry (decode a) (decode b) (decode_entries t)
 
-number_same : (z : ℤ) → number_back (number_stored z) ≡ z
-unfolding number_back number_stored
+number_same : (z : ℤ) → decode_number (encode_number z) ≡ z
+unfolding decode_number encode_number
 number_same (pos n) = refl
 number_same (negsuc n) = refl
 
-truth_same : (b : Bool) → truth_back (truth_stored b) ≡ b
-unfolding truth_back truth_stored
+truth_same : (b : Bool) → decode_truth (encode_truth b) ≡ b
+unfolding decode_truth encode_truth
 truth_same false = refl
 truth_same true = refl
 
 mutual
-  unfolding back items_back entries_back kept stored items_stored entries_stored constant_back
+  unfolding decode decode_items decode_entries decode_kind encode encode_items encode_entries decode_constant
 
-  back-stored : (d : Data) → back (stored d) ≡ d
-  back-stored (number z) = ap number (number_same z)
-  back-stored (truth b) = ap truth (truth_same b)
-  back-stored (constant k) = refl
-  back-stored (tuple ds) = ap tuple (items_same ds)
-  back-stored (sequence ds) = ap sequence (items_same ds)
-  back-stored (finite_set ds) = ap finite_set (items_same ds)
-  back-stored (finite_map es) = ap finite_map (entries_same es)
+  decode-encode : (d : Data) → decode (encode d) ≡ d
+  decode-encode (number z) = ap number (number_same z)
+  decode-encode (truth b) = ap truth (truth_same b)
+  decode-encode (constant k) = refl
+  decode-encode (tuple ds) = ap tuple (items_same ds)
+  decode-encode (sequence ds) = ap sequence (items_same ds)
+  decode-encode (finite_set ds) = ap finite_set (items_same ds)
+  decode-encode (finite_map es) = ap finite_map (entries_same es)
 
-  items_same : (ds : Items) → items_back (items_stored ds) ≡ ds
+  items_same : (ds : Items) → decode_items (encode_items ds) ≡ ds
   items_same no_items = refl
-  items_same (item d more) = λ i. item (back-stored d i) (items_same more i)
+  items_same (item d more) = λ i. item (decode-encode d i) (items_same more i)
 
-  entries_same : (es : Entries) → entries_back (entries_stored es) ≡ es
+  entries_same : (es : Entries) → decode_entries (encode_entries es) ≡ es
   entries_same no_entries = refl
-  entries_same (entry k v more) = λ i. entry (back-stored k i) (back-stored v i) (entries_same more i)
+  entries_same (entry k v more) = λ i. entry (decode-encode k i) (decode-encode v i) (entries_same more i)
 
 -- two values that are stored alike are the same
-pub stored_apart : (a b : Data) → stored a ≡ stored b → a ≡ b
-stored_apart a b e = sym (back-stored a) ∙ ap back e ∙ back-stored b
+pub encode_injective : (a b : Data) → encode a ≡ encode b → a ≡ b
+encode_injective a b e = sym (decode-encode a) ∙ ap decode e ∙ decode-encode b
 
 -- the code by which a proof tells values apart
 abbrev pub data_code : Coded Data
-data_code = record { code = stored; inj = stored_apart }
+data_code = record { code = encode; inj = encode_injective }

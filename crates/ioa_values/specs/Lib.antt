@@ -5,8 +5,8 @@ pub mod DataCode
 pub mod DataOrder
 pub mod Depth
 pub mod Merging
-pub mod Node
-pub mod NodeFalls
+pub mod ValueForm
+pub mod PartDepths
 pub mod Outcome
-pub mod Places
+pub mod Positions
 pub mod Text

@@ -13,7 +13,7 @@ with_commas (first ∷ (second ∷ more)) = first ++ codes ", " ++ with_commas (
 -- what stands before the text at a place among others
 abbrev pub separator : ℕ → List ℕ
 separator zero = []
-separator (suc place) = codes ", "
+separator (suc position) = codes ", "
 
 -- the text of a truth value
 abbrev pub truth_text : Bool → List ℕ

@@ -9,5 +9,5 @@ mod word;
 
 pub use laws::{maps_law, sets_law};
 pub use names::{Names, push_shown, show};
-pub use value::{Node, Value};
+pub use value::{Value, ValueForm};
 pub use word::Word;

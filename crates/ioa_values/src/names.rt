@@ -5,7 +5,7 @@ ghost use Rattle.std.specs.Fmt.{signed_decimal};
 ghost use Rattle.ioa_values.specs.Data.{items_of, entries_of};
 ghost use Rattle.ioa_values.specs.Text.{text, texts, entry_texts, with_commas, separator};
 
-use crate::value::{Node, Value};
+use crate::value::{Value, ValueForm};
 use crate::word::Word;
 use std::alloc::{AllocError, Global};
 use std::marker::Model;
@@ -68,14 +68,14 @@ pub fn show(alloc: Global, names: &Names, value: &Value) -> Result<String, Alloc
 pub fn push_shown(output: &mut String, names: &Names, value: &Value) -> Result<(), AllocError>
     ensures { OnOk result (string_bytes output.new ≡ string_bytes output.old ++ text names.now value.now) }
 {
-    match &value.node {
-        Node::Number(n) => push_number(output, *n),
-        Node::Truth(b) => output.push_str(if *b { "true" } else { "false" }),
-        Node::Constant(place) => push_name(output, names, *place),
-        Node::Tuple(parts) => push_enclosed(output, names, "[", parts, "]"),
-        Node::Sequence(items) => push_enclosed(output, names, "{", items, "}"),
-        Node::Set(members) => push_enclosed(output, names, "{", members, "}"),
-        Node::Map(entries) => push_map(output, names, entries),
+    match &value.form {
+        ValueForm::Number(n) => push_number(output, *n),
+        ValueForm::Truth(b) => output.push_str(if *b { "true" } else { "false" }),
+        ValueForm::Constant(index) => push_name(output, names, *index),
+        ValueForm::Tuple(parts) => push_enclosed(output, names, "[", parts, "]"),
+        ValueForm::Sequence(items) => push_enclosed(output, names, "{", items, "}"),
+        ValueForm::Set(members) => push_enclosed(output, names, "{", members, "}"),
+        ValueForm::Map(entries) => push_map(output, names, entries),
     }
 }
 
@@ -88,10 +88,10 @@ fn push_number(output: &mut String, n: i64) -> Result<(), AllocError>
 }
 
 /// Writes the name of the constant at a place, where it has one.
-fn push_name(output: &mut String, names: &Names, place: usize) -> Result<(), AllocError>
-    ensures { OnOk result (string_bytes output.new ≡ string_bytes output.old ++ get_or names.now place []) }
+fn push_name(output: &mut String, names: &Names, index: usize) -> Result<(), AllocError>
+    ensures { OnOk result (string_bytes output.new ≡ string_bytes output.old ++ get_or names.now index []) }
 {
-    match names.as_slice().get(place) {
+    match names.as_slice().get(index) {
         Some(word) => output.push_str(word.as_str()),
         None => Ok(()),
     }
@@ -118,8 +118,8 @@ fn push_enclosed(
 fn push_values(output: &mut String, names: &Names, values: &Vec<Value>) -> Result<(), AllocError>
     ensures { OnOk result (string_bytes output.new ≡ string_bytes output.old ++ with_commas (texts names.now (items_of values.now.items))) }
 {
-    for (place, value) in values.iter().enumerate() {
-        push_separator(output, place)?;
+    for (position, value) in values.iter().enumerate() {
+        push_separator(output, position)?;
         push_shown(output, names, value)?;
     }
     Ok(())
@@ -148,8 +148,8 @@ fn push_entries(
 ) -> Result<(), AllocError>
     ensures { OnOk result (string_bytes output.new ≡ string_bytes output.old ++ with_commas (entry_texts names.now (entries_of entries.now.items))) }
 {
-    for (place, entry) in entries.iter().enumerate() {
-        push_separator(output, place)?;
+    for (position, entry) in entries.iter().enumerate() {
+        push_separator(output, position)?;
         push_shown(output, names, &entry.0)?;
         output.push_str(" -> ")?;
         push_shown(output, names, &entry.1)?;
@@ -158,10 +158,10 @@ fn push_entries(
 }
 
 /// Writes what stands before the piece of a list at a place: a comma and a space, but for the first.
-fn push_separator(output: &mut String, place: usize) -> Result<(), AllocError>
-    ensures { OnOk result (string_bytes output.new ≡ string_bytes output.old ++ separator place) }
+fn push_separator(output: &mut String, position: usize) -> Result<(), AllocError>
+    ensures { OnOk result (string_bytes output.new ≡ string_bytes output.old ++ separator position) }
 {
-    if place > 0 {
+    if position > 0 {
         output.push_str(", ")?;
     }
     Ok(())

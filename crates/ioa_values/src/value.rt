@@ -15,14 +15,14 @@ use std::marker::Model;
 #[derive(Debug, Drop)]
 pub struct Value {
     /// What the value is.
-    pub node: Node,
+    pub form: ValueForm,
 }
 
 /// What a value is. A set is kept as its members in ascending order, and a map as its entries in
 /// ascending order of keys, both without doubles.
 #[cycle(value)]
 #[derive(Debug, Drop)]
-pub enum Node {
+pub enum ValueForm {
     /// A whole number.
     Number(i64),
     /// A truth value.
@@ -48,15 +48,15 @@ impl Model for Value {
     ghost coded = { data_code };
 
     ghost use Rattle.ioa_values.specs.Depth.{depth};
-    ghost use Rattle.ioa_values.specs.Node.{data_of};
+    ghost use Rattle.ioa_values.specs.ValueForm.{data_of};
 
-    ghost view = { λ v. data_of v.node };
+    ghost view = { λ v. data_of v.form };
 
     ghost size = { depth };
 
-    ghost use Rattle.ioa_values.specs.NodeFalls.{deep-le-depth};
+    ghost use Rattle.ioa_values.specs.PartDepths.{deep-le-depth};
 
-    ghost size_decreases = { λ v h. deep-le-depth v.node };
+    ghost size_decreases = { λ v h. deep-le-depth v.form };
 }
 
 impl Value {
@@ -65,7 +65,7 @@ impl Value {
         ensures { result ≡ number n }
     {
         Value {
-            node: Node::Number(n),
+            form: ValueForm::Number(n),
         }
     }
 
@@ -74,16 +74,16 @@ impl Value {
         ensures { result ≡ truth b }
     {
         Value {
-            node: Node::Truth(b),
+            form: ValueForm::Truth(b),
         }
     }
 
     /// The constant at a place among the text's constants.
-    pub fn constant(place: usize) -> Self
-        ensures { result ≡ constant place }
+    pub fn constant(index: usize) -> Self
+        ensures { result ≡ constant index }
     {
         Value {
-            node: Node::Constant(place),
+            form: ValueForm::Constant(index),
         }
     }
 
@@ -92,7 +92,7 @@ impl Value {
         ensures { result ≡ tuple (items_of parts.items) }
     {
         Value {
-            node: Node::Tuple(parts),
+            form: ValueForm::Tuple(parts),
         }
     }
 
@@ -101,7 +101,7 @@ impl Value {
         ensures { result ≡ sequence (items_of items.items) }
     {
         Value {
-            node: Node::Sequence(items),
+            form: ValueForm::Sequence(items),
         }
     }
 
@@ -109,8 +109,8 @@ impl Value {
     pub fn as_number(&self) -> Option<i64>
         ensures { result ≡ as_number self.now }
     {
-        match &self.node {
-            Node::Number(n) => Some(*n),
+        match &self.form {
+            ValueForm::Number(n) => Some(*n),
             _ => None,
         }
     }
@@ -119,8 +119,8 @@ impl Value {
     pub fn as_truth(&self) -> Option<bool>
         ensures { result ≡ as_truth self.now }
     {
-        match &self.node {
-            Node::Truth(b) => Some(*b),
+        match &self.form {
+            ValueForm::Truth(b) => Some(*b),
             _ => None,
         }
     }
@@ -133,49 +133,49 @@ impl Value {
         ensures equal { IfOk result (λ v. v ≡ self.now) }
         ensures within { is_within self.now ≡ true }
     {
-        let node = match &self.node {
-            Node::Number(n) => Node::Number(*n),
-            Node::Truth(b) => Node::Truth(*b),
-            Node::Constant(place) => Node::Constant(*place),
-            Node::Tuple(parts) => Node::Tuple(copy_values(alloc, parts)?),
-            Node::Sequence(items) => Node::Sequence(copy_values(alloc, items)?),
-            Node::Set(members) => Node::Set(copy_values(alloc, members)?),
-            Node::Map(entries) => Node::Map(copy_entries(alloc, entries)?),
+        let form = match &self.form {
+            ValueForm::Number(n) => ValueForm::Number(*n),
+            ValueForm::Truth(b) => ValueForm::Truth(*b),
+            ValueForm::Constant(index) => ValueForm::Constant(*index),
+            ValueForm::Tuple(parts) => ValueForm::Tuple(copy_values(alloc, parts)?),
+            ValueForm::Sequence(items) => ValueForm::Sequence(copy_values(alloc, items)?),
+            ValueForm::Set(members) => ValueForm::Set(copy_values(alloc, members)?),
+            ValueForm::Map(entries) => ValueForm::Map(copy_entries(alloc, entries)?),
         };
-        Ok(Value { node })
+        Ok(Value { form })
     }
 
     /// The place of the value's kind in the order of kinds.
     fn kind(&self) -> u8
         ensures { result ≡ kind self.now }
     {
-        match &self.node {
-            Node::Number(_) => 0,
-            Node::Truth(_) => 1,
-            Node::Constant(_) => 2,
-            Node::Tuple(_) => 3,
-            Node::Sequence(_) => 4,
-            Node::Set(_) => 5,
-            Node::Map(_) => 6,
+        match &self.form {
+            ValueForm::Number(_) => 0,
+            ValueForm::Truth(_) => 1,
+            ValueForm::Constant(_) => 2,
+            ValueForm::Tuple(_) => 3,
+            ValueForm::Sequence(_) => 4,
+            ValueForm::Set(_) => 5,
+            ValueForm::Map(_) => 6,
         }
     }
 
     /// The order of values (profile): numbers by size, false before true, constants as declared, lists
     /// item by item with a beginning before the longer list, sets and maps as their ascending lists;
-    /// values of two kinds by their kinds, in the order of `Node`.
+    /// values of two kinds by their kinds, in the order of `ValueForm`.
     #[cycle(comparing)]
     #[tactic(auto, using(crate::proofs::Falls::most_items, crate::proofs::Falls::most_entries))]
     fn compare(&self, other: &Self) -> Ordering
         ensures { result ≡ data_cmp self.now other.now }
     {
-        match (&self.node, &other.node) {
-            (Node::Number(m), Node::Number(n)) => m.cmp(n),
-            (Node::Truth(a), Node::Truth(b)) => a.cmp(b),
-            (Node::Constant(k), Node::Constant(l)) => k.cmp(l),
-            (Node::Tuple(xs), Node::Tuple(ys)) => compare_values(xs, ys),
-            (Node::Sequence(xs), Node::Sequence(ys)) => compare_values(xs, ys),
-            (Node::Set(xs), Node::Set(ys)) => compare_values(xs, ys),
-            (Node::Map(xs), Node::Map(ys)) => compare_entries(xs, ys),
+        match (&self.form, &other.form) {
+            (ValueForm::Number(m), ValueForm::Number(n)) => m.cmp(n),
+            (ValueForm::Truth(a), ValueForm::Truth(b)) => a.cmp(b),
+            (ValueForm::Constant(k), ValueForm::Constant(l)) => k.cmp(l),
+            (ValueForm::Tuple(xs), ValueForm::Tuple(ys)) => compare_values(xs, ys),
+            (ValueForm::Sequence(xs), ValueForm::Sequence(ys)) => compare_values(xs, ys),
+            (ValueForm::Set(xs), ValueForm::Set(ys)) => compare_values(xs, ys),
+            (ValueForm::Map(xs), ValueForm::Map(ys)) => compare_entries(xs, ys),
             _ => self.kind().cmp(&other.kind()),
         }
     }
@@ -224,8 +224,8 @@ fn copy_entries(
 fn compare_values(values: &Vec<Value>, others: &Vec<Value>) -> Ordering
     ensures { result ≡ items_cmp (items_of values.now.items) (items_of others.now.items) }
 {
-    for place in 0..values.len().min(others.len()) {
-        match values[place].compare(&others[place]) {
+    for position in 0..values.len().min(others.len()) {
+        match values[position].compare(&others[position]) {
             Ordering::Equal => {}
             decided => return decided,
         }
@@ -238,8 +238,8 @@ fn compare_values(values: &Vec<Value>, others: &Vec<Value>) -> Ordering
 fn compare_entries(entries: &Vec<(Value, Value)>, others: &Vec<(Value, Value)>) -> Ordering
     ensures { result ≡ entries_cmp (entries_of entries.now.items) (entries_of others.now.items) }
 {
-    for place in 0..entries.len().min(others.len()) {
-        match compare_entry(&entries[place], &others[place]) {
+    for position in 0..entries.len().min(others.len()) {
+        match compare_entry(&entries[position], &others[position]) {
             Ordering::Equal => {}
             decided => return decided,
         }

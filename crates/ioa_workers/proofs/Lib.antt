@@ -1,5 +1,5 @@
 -- lemmas of workers
 mod Elements
-mod Ends
+mod Termination
 mod Rounds
 mod Runs

@@ -4,14 +4,14 @@ use Rattle.std.specs.Prelude.{◌||◌, is_some, Result, Ok, Err, OnOk, OnErr}
 use Rattle.std.specs.Result.{is_err}
 use Rattle.std.specs.List.{list_all, list_any}
 use Rattle.ioa_workers.specs.declared.running.Progress.{Progress}
-use Rattle.ioa_workers.specs.Solo.{Situation, round, rounds, has_ended, is_under_way, ending_of, short_of_memory, is_cut_short}
+use Rattle.ioa_workers.specs.Solo.{PlainCourse, round, rounds, has_ended, is_under_way, ending_of, short_of_memory, is_cut_short}
 
 -- nodes that are gone by, before the rest of a round
-abbrev pub followed : List Progress → Situation × List Progress → Situation × List Progress
-followed done rest = (rest.0, done ++ rest.1)
+abbrev pub prepend_nodes : List Progress → PlainCourse × List Progress → PlainCourse × List Progress
+prepend_nodes done rest = (rest.0, done ++ rest.1)
 
 -- a round of nodes that have endings changes nothing
-round_ended : (limit : ℕ) (s : Situation) (ps : List Progress) → list_all has_ended ps ≡ true → round limit s ps ≡ (s, ps)
+round_ended : (limit : ℕ) (s : PlainCourse) (ps : List Progress) → list_all has_ended ps ≡ true → round limit s ps ≡ (s, ps)
 round_ended limit s [] all = refl
 round_ended limit s (p ∷ more) all = at_head (is_some p.ending) refl (λ h. round_ended limit s more h)
   where
@@ -25,28 +25,28 @@ round_ended limit s (p ∷ more) all = at_head (is_some p.ending) refl (λ h. ro
         absurd (cc)
 
 -- further rounds of nodes that have endings change nothing
-pub rounds_ended : (limit n : ℕ) (s : Situation) (ps : List Progress) → list_all has_ended ps ≡ true → rounds limit n s ps ≡ (s, ps)
+pub rounds_ended : (limit n : ℕ) (s : PlainCourse) (ps : List Progress) → list_all has_ended ps ≡ true → rounds limit n s ps ≡ (s, ps)
 unfolding rounds
 rounds_ended limit zero s ps all = refl
 rounds_ended limit (suc n) s ps all = rw (round_ended limit s ps all) (rounds_ended limit n s ps all)
 
-first_round : (limit n : ℕ) (s : Situation) (ps : List Progress) → rounds limit (suc n) s ps ≡ rounds limit n (round limit s ps).0 (round limit s ps).1
+first_round : (limit n : ℕ) (s : PlainCourse) (ps : List Progress) → rounds limit (suc n) s ps ≡ rounds limit n (round limit s ps).0 (round limit s ps).1
 unfolding rounds
 first_round limit n s ps = refl
 
 -- one round, and then those that are left
-pub rounds_on : (limit turn end : ℕ) (s t : Situation) (ps qs : List Progress) → turn < end → (t, qs) ≡ round limit s ps →
+pub rounds_on : (limit turn end : ℕ) (s t : PlainCourse) (ps qs : List Progress) → turn < end → (t, qs) ≡ round limit s ps →
     rounds limit (end - (turn + 1)) t qs ≡ rounds limit (end - turn) s ps
 rounds_on limit turn end s t ps qs within h =
     let left : end - turn ≡ suc (end - (turn + 1)) = omega arith in
     rw (left, first_round limit (end - (turn + 1)) s ps, ← h) refl
 
-no_round : (limit : ℕ) (s : Situation) (ps : List Progress) → rounds limit zero s ps ≡ (s, ps)
+no_round : (limit : ℕ) (s : PlainCourse) (ps : List Progress) → rounds limit zero s ps ≡ (s, ps)
 unfolding rounds
 no_round limit s ps = refl
 
 -- no round is left
-pub rounds_none : (limit turn end : ℕ) (s : Situation) (ps : List Progress) → end ≤ turn → rounds limit (end - turn) s ps ≡ (s, ps)
+pub rounds_none : (limit turn end : ℕ) (s : PlainCourse) (ps : List Progress) → end ≤ turn → rounds limit (end - turn) s ps ≡ (s, ps)
 rounds_none limit turn end s ps past =
     let none : end - turn ≡ zero = omega arith in
     rw none (no_round limit s ps)

@@ -3,7 +3,7 @@ use Rattle.std.proofs.Common.{◌≡◌, ℕ, ◌<◌, List, [], ◌∷◌, ◌+
 use Rattle.ioa_terms.specs.declared.action.Action.{Action}
 use Rattle.ioa_compose.specs.declared.configuration.Conf.{Conf}
 use Rattle.ioa_compose.specs.Composition.{joint_answer}
-use Rattle.ioa_compose.proofs.Runs.{replay-push}
+use Rattle.ioa_compose.proofs.Replays.{replay-push}
 use Rattle.ioa_workers.specs.Recorded.{IsExecution}
 
 -- an execution that is shorter than the limit goes on by a step

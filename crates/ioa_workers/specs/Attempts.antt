@@ -15,22 +15,22 @@ use Rattle.ioa_workers.specs.declared.turn.Turn.{Turn}
 use Rattle.ioa_workers.specs.declared.turn.Turn.TheVariants as turn
 use Rattle.ioa_workers.specs.declared.running.Course.{Course}
 use Rattle.ioa_workers.specs.declared.running.Progress.{Progress}
-use Rattle.ioa_workers.specs.declared.running.Tried.{Tried}
-use Rattle.ioa_workers.specs.declared.running.Tried.TheVariants as tried
+use Rattle.ioa_workers.specs.declared.running.AttemptOutcome.{AttemptOutcome}
+use Rattle.ioa_workers.specs.declared.running.AttemptOutcome.TheVariants as outcome
 use Rattle.ioa_record.specs.NodeFaults.{fault_of_term}
-use Rattle.ioa_workers.specs.Turns.{node_turn, node_of}
+use Rattle.ioa_workers.specs.Turns.{node_turn, firing_node}
 
 -- what an attempt of a node comes to, where it meets no fault: nothing is left of its block, the action is missed, or
 -- the action is taken and leads to these configurations
-pub data PlainTried : Type 0 where
-  finished : PlainTried
-  missed : PlainTried
-  take : Action → List Conf → PlainTried
+pub data PlainAttemptOutcome : Type 0 where
+  finished : PlainAttemptOutcome
+  missed : PlainAttemptOutcome
+  taken : Action → List Conf → PlainAttemptOutcome
 
-abbrev pub tried_of : Tried → PlainTried
-tried_of tried.Finished = finished
-tried_of tried.Missed = missed
-tried_of (tried.Taken a next) = take a next.items
+abbrev pub attempt_outcome_of : AttemptOutcome → PlainAttemptOutcome
+attempt_outcome_of outcome.Finished = finished
+attempt_outcome_of outcome.Missed = missed
+attempt_outcome_of (outcome.Taken a next) = taken a next.items
 
 -- the turn of a node among configurations; a node that has none has no block
 abbrev pub turn_on : Option Conf → ℕ → Result Turn TermFault
@@ -43,39 +43,39 @@ turn_at states k passed = turn_on (find_conf (component.Node k) states) passed
 
 -- what is made of the composition's answer to an action: an action that is not enabled is missed, another fault stands,
 -- and a step is taken where the schedule is shorter than the limit
-abbrev pub taken : ℕ → List Action → Action → Result (List Conf) StepFault → Result PlainTried NodeFault
-taken limit schedule a (Ok next) = if nat_lt (length schedule) limit then Ok (take a next) else Err Full
-taken limit schedule a (Err step.NotEnabled) = Ok missed
-taken limit schedule a (Err step.Undefined) = Err Undefined
-taken limit schedule a (Err step.Range) = Err Range
-taken limit schedule a (Err step.Memory) = Err Memory
-taken limit schedule a (Err step.NotMine) = Err NotMine
-taken limit schedule a (Err step.NoChannel) = Err NoChannel
+abbrev pub step_outcome : ℕ → List Action → Action → Result (List Conf) StepFault → Result PlainAttemptOutcome NodeFault
+step_outcome limit schedule a (Ok next) = if nat_lt (length schedule) limit then Ok (taken a next) else Err Full
+step_outcome limit schedule a (Err step.NotEnabled) = Ok missed
+step_outcome limit schedule a (Err step.Undefined) = Err Undefined
+step_outcome limit schedule a (Err step.Range) = Err Range
+step_outcome limit schedule a (Err step.Memory) = Err Memory
+step_outcome limit schedule a (Err step.NotMine) = Err NotMine
+step_outcome limit schedule a (Err step.NoChannel) = Err NoChannel
 
 -- what firing an action at node k comes to: an action of another node is not the node's own
-abbrev pub fire_answer : ℕ → List Action → List Conf → ℤ → Action → Result PlainTried NodeFault
+abbrev pub fire_answer : ℕ → List Action → List Conf → ℤ → Action → Result PlainAttemptOutcome NodeFault
 fire_answer limit schedule states k a =
-    if int_eq (node_of a) k then taken limit schedule a (joint_answer a states) else Err NotMine
+    if int_eq (firing_node a) k then step_outcome limit schedule a (joint_answer a states) else Err NotMine
 
 -- what is made of a turn of node k
-abbrev pub turned : ℕ → List Action → List Conf → ℤ → Result Turn TermFault → Result PlainTried NodeFault
-turned limit schedule states k (Ok turn.Done) = Ok finished
-turned limit schedule states k (Ok (turn.Fire a)) = fire_answer limit schedule states k a
-turned limit schedule states k (Err f) = Err (fault_of_term f)
+abbrev pub turn_outcome : ℕ → List Action → List Conf → ℤ → Result Turn TermFault → Result PlainAttemptOutcome NodeFault
+turn_outcome limit schedule states k (Ok turn.Done) = Ok finished
+turn_outcome limit schedule states k (Ok (turn.Fire a)) = fire_answer limit schedule states k a
+turn_outcome limit schedule states k (Err f) = Err (fault_of_term f)
 
 -- what an attempt of a node comes to on the present configurations
-abbrev pub attempt_answer : ℕ → List Action → List Conf → Progress → Result PlainTried NodeFault
-attempt_answer limit schedule states p = turned limit schedule states p.node (turn_at states p.node p.passed)
+abbrev pub attempt_answer : ℕ → List Action → List Conf → Progress → Result PlainAttemptOutcome NodeFault
+attempt_answer limit schedule states p = turn_outcome limit schedule states p.node (turn_at states p.node p.passed)
 
 -- the place behind a statement that is passed is a number of the machine
-abbrev pub Counts : ℕ → Tried → Type 0
-Counts passed tried.Finished = Unit {0}
-Counts passed tried.Missed = passed + 1 < 2 ^ 64
-Counts passed (tried.Taken a next) = passed + 1 < 2 ^ 64
+abbrev pub FitsAfterAttempt : ℕ → AttemptOutcome → Type 0
+FitsAfterAttempt passed outcome.Finished = Unit {0}
+FitsAfterAttempt passed outcome.Missed = passed + 1 < 2 ^ 64
+FitsAfterAttempt passed (outcome.Taken a next) = passed + 1 < 2 ^ 64
 
 -- an action that is taken is a step, for which the schedule has room
-abbrev pub IsStepOf : ℕ → Course → Tried → Type 0
-IsStepOf limit c tried.Finished = Unit {0}
-IsStepOf limit c tried.Missed = Unit {0}
-IsStepOf limit c (tried.Taken a next) =
+abbrev pub IsStepOf : ℕ → Course → AttemptOutcome → Type 0
+IsStepOf limit c outcome.Finished = Unit {0}
+IsStepOf limit c outcome.Missed = Unit {0}
+IsStepOf limit c (outcome.Taken a next) =
     (joint_answer a c.states.items ≡ Ok next.items) × (length c.schedule.items < limit)

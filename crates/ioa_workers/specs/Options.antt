@@ -2,7 +2,7 @@
 use Rattle.std.specs.Prelude.{ℕ, ◌≤◌}
 
 -- how long a run's schedule may become, and how many attempts each node has
-pub record Settings : Type 0 where
+pub record PlainOptions : Type 0 where
   pub steps : ℕ
   pub attempts : ℕ
 

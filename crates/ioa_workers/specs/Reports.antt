@@ -25,8 +25,8 @@ action_lines names k (a ∷ more) =
     (decimal k ++ (codes " " ++ (action_text names a ++ codes "\n"))) ++ action_lines names (k + 1) more
 
 -- `schedule n`, and then the n actions
-abbrev pub schedule_part : List (List ℕ) → List Action → List ℕ
-schedule_part names actions =
+abbrev pub schedule_text : List (List ℕ) → List Action → List ℕ
+schedule_text names actions =
     (codes "schedule " ++ (decimal (length actions) ++ codes "\n")) ++ action_lines names 0 actions
 
 -- `node i x = v`
@@ -58,8 +58,8 @@ component_lines names (Node c) = variable_lines names c.program.node c.variables
 component_lines names (Queue q) = queue_line names q.component q.items
 
 -- nodes by number and then channels as declared, as the configurations stand
-abbrev pub states_part : List (List ℕ) → List Conf → List ℕ
-states_part names states = flat_map (component_lines names) states
+abbrev pub states_text : List (List ℕ) → List Conf → List ℕ
+states_text names states = flat_map (component_lines names) states
 
 -- `ending i e`, nodes counted from i
 abbrev pub ending_lines : ℕ → List Ending → List ℕ
@@ -74,11 +74,11 @@ commit_lines w (c ∷ more) =
     (codes "worker " ++ (decimal w ++ (codes " commits " ++ (decimal c ++ codes "\n")))) ++ commit_lines (w + 1) more
 
 -- the lines of the workers, and then `total n`, where n is the sum of their counts
-abbrev pub commits_part : List ℕ → List ℕ
-commits_part commits = commit_lines 0 commits ++ (codes "total " ++ (decimal (sum commits) ++ codes "\n"))
+abbrev pub commits_text : List ℕ → List ℕ
+commits_text commits = commit_lines 0 commits ++ (codes "total " ++ (decimal (sum commits) ++ codes "\n"))
 
 -- the whole report
 abbrev pub report_text : List (List ℕ) → Record → List Ending → List ℕ
 report_text names r endings =
-    schedule_part names r.schedule.items ++ states_part names r.states.items ++ ending_lines 0 endings
-    ++ commits_part r.commits.items
+    schedule_text names r.schedule.items ++ states_text names r.states.items ++ ending_lines 0 endings
+    ++ commits_text r.commits.items

@@ -14,56 +14,56 @@ use Rattle.ioa_record.specs.declared.ending.NodeFault.TheVariants as fault
 use Rattle.ioa_record.specs.declared.record.Record.{Record}
 use Rattle.ioa_workers.specs.declared.running.Course.{Course}
 use Rattle.ioa_workers.specs.declared.running.Progress.{Progress}
-use Rattle.ioa_workers.specs.Options.{Settings}
-use Rattle.ioa_workers.specs.Attempts.{PlainTried, finished, missed, take, attempt_answer}
+use Rattle.ioa_workers.specs.Options.{PlainOptions}
+use Rattle.ioa_workers.specs.Attempts.{PlainAttemptOutcome, finished, missed, taken, attempt_answer}
 
 -- a node before the run: before its block, with all its attempts
 abbrev pub progress_at : ℕ → Parts → Progress
 progress_at attempts p = record { node = p.node; passed = 0; attempts = attempts; ending = None }
 
 -- a run under way: the schedule so far, and the configurations that it leads to
-pub record Situation : Type 0 where
+pub record PlainCourse : Type 0 where
   pub schedule : List Action
   pub states : List Conf
 
 -- where the run stands that the code carries on
-abbrev pub situation_of : Course → Situation
-situation_of c = record { schedule = c.schedule.items; states = c.states.items }
+abbrev pub course_of : Course → PlainCourse
+course_of c = record { schedule = c.schedule.items; states = c.states.items }
 
 -- what an attempt leaves of the run and of its node: a node that is done has an ending, and so has one that met a
 -- fault; a missed or a taken action is passed, and a taken one stands behind the schedule
-abbrev pub after_attempt : Result PlainTried NodeFault → Situation → Progress → Situation × Progress
+abbrev pub after_attempt : Result PlainAttemptOutcome NodeFault → PlainCourse → Progress → PlainCourse × Progress
 after_attempt (Ok finished) s p = (s, record p { ending = Some Done })
 after_attempt (Ok missed) s p = (s, record p { passed = p.passed + 1 })
-after_attempt (Ok (take a next)) s p =
+after_attempt (Ok (taken a next)) s p =
     (record { schedule = s.schedule ++ a ∷ []; states = next }, record p { passed = p.passed + 1 })
 after_attempt (Err f) s p = (s, record p { ending = Some (Fault f) })
 
 -- a visit of a node that has no ending: it is spent where no attempt is left, else one is used
-abbrev pub visit : ℕ → Situation → Progress → Situation × Progress
+abbrev pub visit : ℕ → PlainCourse → Progress → PlainCourse × Progress
 visit limit s p =
     if nat_eq p.attempts 0 then (s, record p { ending = Some Spent })
     else after_attempt (attempt_answer limit s.schedule s.states p) s (record p { attempts = p.attempts - 1 })
 
 -- a node that has an ending is not visited again
-abbrev pub visit_unless_ended : ℕ → Situation → Progress → Situation × Progress
+abbrev pub visit_unless_ended : ℕ → PlainCourse → Progress → PlainCourse × Progress
 visit_unless_ended limit s p = if is_some p.ending then (s, p) else visit limit s p
 
 -- the nodes in order, each from where the one before left the run
-abbrev pub then_others : Situation × Progress → (Situation → Situation × List Progress) → Situation × List Progress
+abbrev pub then_others : PlainCourse × Progress → (PlainCourse → PlainCourse × List Progress) → PlainCourse × List Progress
 then_others first others = ((others first.0).0, first.1 ∷ (others first.0).1)
 
-abbrev pub round : ℕ → Situation → List Progress → Situation × List Progress
+abbrev pub round : ℕ → PlainCourse → List Progress → PlainCourse × List Progress
 round limit s [] = (s, [])
 round limit s (p ∷ more) = then_others (visit_unless_ended limit s p) (λ t. round limit t more)
 
 -- n further rounds
-unfoldable pub rounds : ℕ → ℕ → Situation → List Progress → Situation × List Progress
+unfoldable pub rounds : ℕ → ℕ → PlainCourse → List Progress → PlainCourse × List Progress
 rounds limit zero s ps = (s, ps)
 rounds limit (suc n) s ps = rounds limit n (round limit s ps).0 (round limit s ps).1
 
 -- the whole run: a node uses an attempt each round, and the round after its last attempt ends it
-abbrev pub solo : SystemParts → ℕ → ℕ → Situation × List Progress
+abbrev pub solo : SystemParts → ℕ → ℕ → PlainCourse × List Progress
 solo s attempts limit =
     rounds limit (attempts + 1) (record { schedule = []; states = start s }) (map (progress_at attempts) s.programs)
 
@@ -98,11 +98,11 @@ is_cut_short Spent = false
 
 -- what a record and a list of endings tell is what a run leaves: the schedule, the configurations, and the ending of
 -- each node, which each of them has
-pub record IsLeftBy (left : Situation × List Progress) (r : Record) (endings : List Ending) : Type 0 where
+pub record IsLeftBy (left : PlainCourse × List Progress) (r : Record) (endings : List Ending) : Type 0 where
   pub schedule : r.schedule.items ≡ left.0.schedule
   pub states : r.states.items ≡ left.0.states
   pub each : map Some endings ≡ map (λ p. p.ending) left.1
 
 -- the run that is told is the worker's own, unless an ending tells that memory ran out
-abbrev pub IsSoloRun : SystemParts → Settings → Record → List Ending → Type 0
+abbrev pub IsSoloRun : SystemParts → PlainOptions → Record → List Ending → Type 0
 IsSoloRun s o r endings = (list_any is_cut_short endings ≡ true) ⊎ IsLeftBy (solo s o.attempts o.steps) r endings

@@ -14,14 +14,14 @@ use Rattle.ioa_operators.specs.declared.fault.TermFault.TheVariants.{Undefined}
 use Rattle.ioa_terms.specs.View.{statement_of}
 use Rattle.ioa_source.specs.TextView.{variable_of}
 use Rattle.ioa_source.specs.Sides.{CheckedStatement, CheckedTerm}
-use Rattle.ioa_system.specs.Placed.{variable_names}
+use Rattle.ioa_system.specs.ResolvedPrograms.{variable_names}
 use Rattle.ioa_compose.specs.NodeState.{NodeState}
 use Rattle.ioa_workers.specs.declared.turn.Turn.{Turn}
 use Rattle.ioa_workers.specs.declared.turn.Turn.TheVariants.{Fire, Done}
 
 -- what a block reads: the node's variables with their values
-abbrev pub view_of : NodeState → Bindings
-view_of c = zip (variable_names (map variable_of c.program.variables)) c.variables
+abbrev pub block_bindings : NodeState → Bindings
+block_bindings c = zip (variable_names (map variable_of c.program.variables)) c.variables
 
 -- the values of terms in order, or the first fault among them
 abbrev pub answers : List CheckedTerm → Bindings → Result (List Data) TermFault
@@ -29,9 +29,9 @@ answers [] e = Ok []
 answers (t ∷ more) e = and_then (answer t e) (λ v. and_then (answers more e) (λ vs. Ok (v ∷ vs)))
 
 -- a message and the two ends of its channel, where arguments are these
-abbrev pub message_of : List Data → Option (Data × ℤ × ℤ)
-message_of (m ∷ x ∷ y ∷ []) = option_and_then (λ i. option_map (λ j. (m, i, j)) (as_number y)) (as_number x)
-message_of _ = None
+abbrev pub message_and_ends : List Data → Option (Data × ℤ × ℤ)
+message_and_ends (m ∷ x ∷ y ∷ []) = option_and_then (λ i. option_map (λ j. (m, i, j)) (as_number y)) (as_number x)
+message_and_ends _ = None
 
 -- the action of node k of a name and arguments, where they are a message and its ends, or not
 abbrev pub action_by : ℤ → List ℕ → List Data → Option (Data × ℤ × ℤ) → Action
@@ -43,7 +43,7 @@ action_by k name vs (Some (m, i, j)) =
 
 -- the action that a firing at node k names: a send, a receive, or another action of the node
 abbrev pub action_at : ℤ → List ℕ → List Data → Action
-action_at k name vs = action_by k name vs (message_of vs)
+action_at k name vs = action_by k name vs (message_and_ends vs)
 
 -- what a turn of node k answers where this statement stands next: a firing is the action whose arguments are the
 -- values of its terms; other statements do not come in this form
@@ -59,16 +59,16 @@ turn_answer k e (s ∷ more) = statement_answer k e s
 
 -- what a turn of a node answers where it has passed the first n statements of its block
 abbrev pub node_turn : NodeState → ℕ → Result Turn TermFault
-node_turn c n = turn_answer c.program.node (view_of c) (map statement_of (drop n c.program.schedule))
+node_turn c n = turn_answer c.program.node (block_bindings c) (map statement_of (drop n c.program.schedule))
 
 -- the node of an action
-abbrev pub node_of : Action → ℤ
-node_of (Send m i j) = i
-node_of (Receive m i j) = j
-node_of (Local a) = a.node
-node_of (Stimulus a) = a.node
+abbrev pub firing_node : Action → ℤ
+firing_node (Send m i j) = i
+firing_node (Receive m i j) = j
+firing_node (Local a) = a.node
+firing_node (Stimulus a) = a.node
 
 -- the place behind a firing is a number of the machine
-abbrev pub IsCounted : ℕ → Turn → Type 0
-IsCounted passed Done = Unit {0}
-IsCounted passed (Fire a) = passed + 1 < 2 ^ 64
+abbrev pub FitsAfterTurn : ℕ → Turn → Type 0
+FitsAfterTurn passed Done = Unit {0}
+FitsAfterTurn passed (Fire a) = passed + 1 < 2 ^ 64

@@ -3,11 +3,11 @@ use Rattle.std.specs.Prelude.{◌≡◌, ◌⊎◌, ◌≤◌, ℕ, Bool, true, 
 use Rattle.std.specs.Io.KnownBytes.{Keeps, Appends}
 use Rattle.ioa_text_reader.specs.declared.fault.FrontFault.{FrontFault}
 use Rattle.ioa_text_reader.specs.declared.fault.FrontFault.TheVariants as front
-use Rattle.ioa_text_reader.specs.FaultText.{fault_text}
-use Rattle.ioa_text_reader.specs.Texts.{TextSpells, Stands, is_exact, length_limit}
+use Rattle.ioa_text_reader.specs.FaultText.{front_fault_text}
+use Rattle.ioa_text_reader.specs.Texts.{TextSpells, StandsInText, is_exact, length_limit}
 use Rattle.ioa_check.specs.declared.refusal.CheckFault.{CheckFault}
 use Rattle.ioa_check.specs.declared.refusal.CheckFault.TheVariants as check
-use Rattle.ioa_check.specs.Made.{IsSystemOf}
+use Rattle.ioa_check.specs.Correspondence.{IsSystemOf}
 use Rattle.ioa_check.specs.Refusals.{check_fault_text}
 use Rattle.ioa_check.specs.Rows.{HasNoRow}
 use Rattle.ioa_check.specs.Standing as standing
@@ -16,7 +16,7 @@ use Rattle.ioa_record.specs.declared.ending.Ending.{Ending}
 use Rattle.ioa_record.specs.declared.record.Record.{Record}
 use Rattle.ioa_workers.specs.declared.whole_run.RunFault.{RunFault}
 use Rattle.ioa_workers.specs.declared.whole_run.RunFault.TheVariants.{Front, Check, Memory, Write}
-use Rattle.ioa_workers.specs.Options.{Settings}
+use Rattle.ioa_workers.specs.Options.{PlainOptions}
 use Rattle.ioa_streams.specs.Output.{AppendsBeginning}
 use Rattle.ioa_workers.specs.Reports.{report_text}
 use Rattle.ioa_workers.specs.Recorded.{IsRunOf}
@@ -32,7 +32,7 @@ pub record IsDescribed (text : List ℕ) (s : SystemParts) : Type 0 where
   pub system : IsSystemOf source s
 
 -- the report of the worker's run of a system that a text describes, with these options
-pub record IsReport (text : List ℕ) (options : Settings) (report : List ℕ) : Type 0 where
+pub record IsReport (text : List ℕ) (options : PlainOptions) (report : List ℕ) : Type 0 where
   pub parts : SystemParts
   pub described : IsDescribed text parts
   pub left : Record
@@ -42,38 +42,38 @@ pub record IsReport (text : List ℕ) (options : Settings) (report : List ℕ) :
   pub written : report ≡ report_text parts.names left endings
 
 -- a fault of reading as a run bears it: want of memory is one fault wherever it comes
-abbrev pub of_front : FrontFault → RunFault
-of_front front.Empty = Front front.Empty
-of_front (front.BadCharacter place) = Front (front.BadCharacter place)
-of_front (front.Unexpected place) = Front (front.Unexpected place)
-of_front (front.NumberTooLarge place) = Front (front.NumberTooLarge place)
-of_front (front.TooDeep place) = Front (front.TooDeep place)
-of_front front.TooLong = Front front.TooLong
-of_front (front.LeftOut w place) = Front (front.LeftOut w place)
-of_front front.Memory = Memory
+abbrev pub run_fault_of_front : FrontFault → RunFault
+run_fault_of_front front.Empty = Front front.Empty
+run_fault_of_front (front.BadCharacter offset) = Front (front.BadCharacter offset)
+run_fault_of_front (front.Unexpected offset) = Front (front.Unexpected offset)
+run_fault_of_front (front.NumberTooLarge offset) = Front (front.NumberTooLarge offset)
+run_fault_of_front (front.TooDeep offset) = Front (front.TooDeep offset)
+run_fault_of_front front.TooLong = Front front.TooLong
+run_fault_of_front (front.LeftOut w offset) = Front (front.LeftOut w offset)
+run_fault_of_front front.Memory = Memory
 
 -- a fault of the check as a run bears it
-abbrev pub of_check : CheckFault → RunFault
-of_check (check.Refused row place) = Check (check.Refused row place)
-of_check check.Memory = Memory
+abbrev pub run_fault_of_check : CheckFault → RunFault
+run_fault_of_check (check.Refused row index) = Check (check.Refused row index)
+run_fault_of_check check.Memory = Memory
 
 -- what a fault says of the text: a fault of reading stands in it, and one of the check stands in a source that it
 -- spells; want of memory and a failed write say nothing of it
 abbrev pub IsRefusalOf : RunFault → List ℕ → Type 0
-IsRefusalOf (Front f) text = (f ≡ front.Memory → ⊥) × Stands f text
-IsRefusalOf (Check f) text = (f ≡ check.Memory → ⊥) × (p : SourceText) × TextSpells p text × standing.Stands f p
+IsRefusalOf (Front f) text = (f ≡ front.Memory → ⊥) × StandsInText f text
+IsRefusalOf (Check f) text = (f ≡ check.Memory → ⊥) × (p : SourceText) × TextSpells p text × standing.StandsInSource f p
 IsRefusalOf Memory text = ⊤
 IsRefusalOf Write text = ⊤
 
 -- where a fault of reading that comes wherever it stands does stand in the text, the outcome is that fault, or want of
 -- memory for a text within the length limit; so none stands in a text that was run
 abbrev pub IsExactFor : {T : Type 0} → Result T RunFault → List ℕ → Type 0
-IsExactFor result text = (e : FrontFault) → is_exact e ≡ true → Stands e text →
+IsExactFor result text = (e : FrontFault) → is_exact e ≡ true → StandsInText e text →
     MatchResult result (λ _. ⊥) (λ f. (f ≡ Front e) ⊎ ((f ≡ Memory) × (length text ≤ length_limit)))
 
 -- a fault as text: its number, its name, and its place where it has one
 abbrev pub run_fault_text : RunFault → List ℕ
-run_fault_text (Front f) = fault_text f
+run_fault_text (Front f) = front_fault_text f
 run_fault_text (Check f) = check_fault_text f
 run_fault_text Memory = codes "3 Memory"
 run_fault_text Write = codes "71 Write"
@@ -87,7 +87,7 @@ IsEarly Write = ⊥
 
 -- known bytes grow by a report, which goes out whole where the call passes; a beginning of one went out where writing
 -- failed, and then the output tells so; after every other fault nothing was written
-abbrev pub WritesReport : List ℕ → Settings → Option (List ℕ) → Option (List ℕ) → Bool → Result (Unit {0}) RunFault → Type 0
+abbrev pub WritesReport : List ℕ → PlainOptions → Option (List ℕ) → Option (List ℕ) → Bool → Result (Unit {0}) RunFault → Type 0
 WritesReport text options old new failed (Ok x) =
     (failed ≡ false) × ((report : List ℕ) × IsReport text options report × Appends old new report)
 WritesReport text options old new failed (Err Write) =

@@ -27,9 +27,9 @@ pub struct Options {
 }
 
 impl Model for Options {
-    ghost use Rattle.ioa_workers.specs.Options.{Settings, AreInRange};
+    ghost use Rattle.ioa_workers.specs.Options.{PlainOptions, AreInRange};
 
-    ghost Value = { Settings };
+    ghost Value = { PlainOptions };
 
     ghost view = { λ o. record { steps = o.steps; attempts = o.attempts } };
 

@@ -2,7 +2,7 @@
 
 ghost use Rattle.std.specs.Prelude.{◌≡◌, ◌++◌, IfOk, OnOk, map, string_bytes};
 ghost use Rattle.ioa_values.specs.Text.{with_commas};
-ghost use Rattle.ioa_workers.specs.Reports.{action_lines, schedule_part, variable_line, variable_lines, item_text, queue_line, component_lines, states_part, ending_lines, commit_lines, commits_part, report_text};
+ghost use Rattle.ioa_workers.specs.Reports.{action_lines, schedule_text, variable_line, variable_lines, item_text, queue_line, component_lines, states_text, ending_lines, commit_lines, commits_text, report_text};
 
 use ioa_compose::{Conf, Item, NodeConf, Queue};
 use ioa_record::{Ending, Record};
@@ -39,7 +39,7 @@ fn push_schedule(
     schedule: &[Action],
     report: &mut String,
 ) -> Result<(), AllocError>
-    ensures { OnOk result (string_bytes report.new ≡ string_bytes report.old ++ schedule_part names.now schedule.now) }
+    ensures { OnOk result (string_bytes report.new ≡ string_bytes report.old ++ schedule_text names.now schedule.now) }
 {
     let count = schedule.len();
     write!(report, "schedule {count}\n")?;
@@ -55,9 +55,9 @@ fn push_actions(
 ) -> Result<(), AllocError>
     ensures { OnOk result (string_bytes report.new ≡ string_bytes report.old ++ action_lines names.now 0 schedule.now) }
 {
-    for (place, action) in schedule.iter().enumerate() {
+    for (position, action) in schedule.iter().enumerate() {
         let action = show_action(alloc, names, action)?;
-        write!(report, "{place} {action}\n")?;
+        write!(report, "{position} {action}\n")?;
     }
     Ok(())
 }
@@ -69,7 +69,7 @@ fn push_states(
     states: &[Conf],
     report: &mut String,
 ) -> Result<(), AllocError>
-    ensures { OnOk result (string_bytes report.new ≡ string_bytes report.old ++ states_part names.now states.now) }
+    ensures { OnOk result (string_bytes report.new ≡ string_bytes report.old ++ states_text names.now states.now) }
 {
     for state in states {
         push_component(alloc, names, state, report)?;
@@ -107,8 +107,8 @@ fn push_variables(
 ) -> Result<(), AllocError>
     ensures { OnOk result (string_bytes report.new ≡ string_bytes report.old ++ variable_lines names.now node values.now variables.now) }
 {
-    for (place, value) in values.iter().enumerate() {
-        let Some(variable) = variables.get(place) else {
+    for (position, value) in values.iter().enumerate() {
+        let Some(variable) = variables.get(position) else {
             return Ok(());
         };
         push_variable(
@@ -162,9 +162,9 @@ fn show_items(alloc: Global, names: &Names, items: &[Item]) -> Result<String, Al
     ensures { IfOk result (λ s. string_bytes s ≡ with_commas (map (item_text names.now) items.now)) }
 {
     let mut list = String::new(alloc);
-    for (place, item) in items.iter().enumerate() {
-        let piece = show_item(alloc, names, item)?;
-        push_listed(&mut list, place, piece.as_str())?;
+    for (position, item) in items.iter().enumerate() {
+        let text = show_item(alloc, names, item)?;
+        push_listed(&mut list, position, text.as_str())?;
     }
     Ok(list)
 }
@@ -192,7 +192,7 @@ fn push_endings(endings: &[Ending], report: &mut String) -> Result<(), AllocErro
 /// Writes how many actions each worker recorded, worker 0 first, and their total.
 fn push_commits(run_record: &Record, report: &mut String) -> Result<(), AllocError>
     ensures { OnOk result
-        (string_bytes report.new ≡ string_bytes report.old ++ commits_part run_record.now.commits.items) }
+        (string_bytes report.new ≡ string_bytes report.old ++ commits_text run_record.now.commits.items) }
 {
     push_commit_lines(&run_record.commits, report)?;
     let total = run_record.schedule.len();

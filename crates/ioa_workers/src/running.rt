@@ -6,13 +6,13 @@ ghost use Rattle.std.specs.Arc.{arc_value};
 ghost use Rattle.ioa_values.specs.Outcome.{Answers};
 ghost use Rattle.ioa_compose.specs.Composition.{joint_answer};
 ghost use Rattle.std.specs.Ordering.{int_eq};
-ghost use Rattle.ioa_workers.specs.Turns.{IsCounted, node_of};
-ghost use Rattle.ioa_workers.specs.Attempts.{tried_of, turn_at, taken, fire_answer, attempt_answer, Counts, IsStepOf};
+ghost use Rattle.ioa_workers.specs.Turns.{FitsAfterTurn, firing_node};
+ghost use Rattle.ioa_workers.specs.Attempts.{attempt_outcome_of, turn_at, step_outcome, fire_answer, attempt_answer, FitsAfterAttempt, IsStepOf};
 ghost use Rattle.ioa_workers.specs.Recorded.{Continues, IsRunOf};
-ghost use Rattle.ioa_workers.specs.Solo.{IsSoloRun, ending_of, has_ended, is_cut_short, is_under_way, progress_at, round, rounds, short_of_memory, situation_of, visit};
+ghost use Rattle.ioa_workers.specs.Solo.{IsSoloRun, ending_of, has_ended, is_cut_short, is_under_way, progress_at, round, rounds, short_of_memory, course_of, visit};
 
 use crate::options::Options;
-use crate::turn::{Turn, next, node_of};
+use crate::turn::{Turn, firing_node, next};
 use ioa_compose::{Conf, StepFault, find_conf, joint_step, start};
 use ioa_record::{Ending, NodeFault, Record};
 use ioa_system::{Program, System};
@@ -39,7 +39,7 @@ struct Progress {
 
 /// What an attempt of a node comes to, where it meets no fault.
 #[derive(Drop)]
-enum Tried {
+enum AttemptOutcome {
     /// Nothing is left of the block.
     Finished,
     /// The action that was fired is not enabled.
@@ -83,7 +83,7 @@ pub fn run(
 fn go_on(alloc: Global, options: &Options, course: &mut Course, nodes: &mut [Progress])
     ensures execution { Continues options.now.steps course.old course.new }
     ensures solo { (list_any is_cut_short (map ending_of nodes.new) ≡ true)
-        ⊎ ((situation_of course.new, nodes.new) ≡ rounds options.now.steps (options.now.attempts + 1) (situation_of course.old) nodes.old) }
+        ⊎ ((course_of course.new, nodes.new) ≡ rounds options.now.steps (options.now.attempts + 1) (course_of course.old) nodes.old) }
 {
     for _round in 0..options.attempts() + 1 {
         if go_round(alloc, options.steps(), course, nodes).is_err() {
@@ -136,13 +136,13 @@ fn go_round(
     nodes: &mut [Progress],
 ) -> Result<(), AllocError>
     ensures execution { Continues limit course.old course.new }
-    ensures round { OnOk result ((situation_of course.new, nodes.new) ≡ round limit (situation_of course.old) nodes.old) }
+    ensures round { OnOk result ((course_of course.new, nodes.new) ≡ round limit (course_of course.old) nodes.old) }
     ensures stopped { OnErr result (list_any is_under_way nodes.new ≡ true) }
 {
-    for place in 0..nodes.len() {
-        let node = nodes[place];
+    for position in 0..nodes.len() {
+        let node = nodes[position];
         if node.ending.is_none() {
-            nodes[place] = visit(alloc, limit, course, node)?;
+            nodes[position] = visit(alloc, limit, course, node)?;
         }
     }
     Ok(())
@@ -152,8 +152,8 @@ fn go_round(
 fn end_all(nodes: &mut [Progress])
     ensures { nodes.new ≡ map short_of_memory nodes.old }
 {
-    for place in 0..nodes.len() {
-        nodes[place] = short_of_memory(nodes[place]);
+    for position in 0..nodes.len() {
+        nodes[position] = short_of_memory(nodes[position]);
     }
 }
 
@@ -179,7 +179,7 @@ fn visit(
     node: Progress,
 ) -> Result<Progress, AllocError>
     ensures execution { Continues limit course.old course.new }
-    ensures visited { IfOk result (λ p. visit limit (situation_of course.old) node ≡ (situation_of course.new, p)) }
+    ensures visited { IfOk result (λ p. visit limit (course_of course.old) node ≡ (course_of course.new, p)) }
 {
     if node.attempts == 0 {
         return Ok(Progress {
@@ -193,27 +193,27 @@ fn visit(
         ..node
     };
     match outcome {
-        Ok(Tried::Finished) => Ok(Progress {
+        Ok(AttemptOutcome::Finished) => Ok(Progress {
             ending: Some(Ending::Done),
             ..used
         }),
-        Ok(Tried::Missed) => Ok(Progress {
+        Ok(AttemptOutcome::Missed) => Ok(Progress {
             passed: used.passed + 1,
             ..used
         }),
-        Ok(Tried::Taken(action, states)) => {
+        Ok(AttemptOutcome::Taken(action, states)) => {
             commit(course, action, states)?;
             Ok(Progress {
                 passed: used.passed + 1,
                 ..used
             })
         }
-        Err(fault) => ended_by(used, fault),
+        Err(fault) => end_by_fault(used, fault),
     }
 }
 
 /// A node that a fault ends. Want of memory ends no single node.
-fn ended_by(node: Progress, fault: NodeFault) -> Result<Progress, AllocError>
+fn end_by_fault(node: Progress, fault: NodeFault) -> Result<Progress, AllocError>
     ensures { MatchResult result (λ p. (fault ≡ NodeFault.Memory → ⊥) × (p ≡ record node { ending = Some (Ending.Fault fault) })) (λ _. fault ≡ NodeFault.Memory) }
 {
     match fault {
@@ -239,14 +239,19 @@ fn commit(course: &mut Course, action: Action, states: Vec<Conf>) -> Result<(), 
 }
 
 /// One turn of a node on the present configurations, and the step of the action that it fires.
-fn attempt(alloc: Global, limit: u64, course: &Course, node: &Progress) -> Result<Tried, NodeFault>
-    ensures answer { Answers NodeFault.Memory tried_of result
+fn attempt(
+    alloc: Global,
+    limit: u64,
+    course: &Course,
+    node: &Progress,
+) -> Result<AttemptOutcome, NodeFault>
+    ensures answer { Answers NodeFault.Memory attempt_outcome_of result
         (attempt_answer limit course.now.schedule.items course.now.states.items node.now) }
     ensures step { IfOk result (IsStepOf limit course.now) }
-    ensures counts { IfOk result (Counts node.now.passed) }
+    ensures counts { IfOk result (FitsAfterAttempt node.now.passed) }
 {
     match turn_of(alloc, &course.states, node)? {
-        Turn::Done => Ok(Tried::Finished),
+        Turn::Done => Ok(AttemptOutcome::Finished),
         Turn::Fire(action) => fire(alloc, limit, course, node.node, action),
     }
 }
@@ -254,7 +259,7 @@ fn attempt(alloc: Global, limit: u64, course: &Course, node: &Progress) -> Resul
 /// The turn of a node, whose configuration is among these. A node that has none has no block.
 fn turn_of(alloc: Global, states: &[Conf], node: &Progress) -> Result<Turn, TermFault>
     ensures answer { Answers TermFault.Memory (λ t. t) result (turn_at states.now node.now.node node.now.passed) }
-    ensures counts { IfOk result (IsCounted node.now.passed) }
+    ensures counts { IfOk result (FitsAfterTurn node.now.passed) }
 {
     match find_conf(states, Component::Node(node.node)) {
         Some(Conf::Node(conf)) => next(alloc, conf, node.passed),
@@ -271,8 +276,8 @@ fn fire(
     course: &Course,
     node: i64,
     action: Action,
-) -> Result<Tried, NodeFault>
-    ensures answer { Answers NodeFault.Memory tried_of result
+) -> Result<AttemptOutcome, NodeFault>
+    ensures answer { Answers NodeFault.Memory attempt_outcome_of result
         (fire_answer limit course.now.schedule.items course.now.states.items node action) }
     ensures step { IfOk result (IsStepOf limit course.now) }
 {
@@ -285,27 +290,32 @@ fn fire(
 
 /// Whether an action is fired by this node's program.
 fn is_fired_by(action: &Action, node: i64) -> bool
-    ensures { result ≡ int_eq (node_of action.now) node }
+    ensures { result ≡ int_eq (firing_node action.now) node }
 {
-    node_of(action) == node
+    firing_node(action) == node
 }
 
 /// The step of an action by the composition's answer. An action that is not enabled is missed; a step is
 /// `Full` where the schedule is as long as the limit allows.
-fn take(alloc: Global, limit: u64, course: &Course, action: Action) -> Result<Tried, NodeFault>
-    ensures answer { Answers NodeFault.Memory tried_of result
-        (taken limit course.now.schedule.items action (joint_answer action course.now.states.items)) }
+fn take(
+    alloc: Global,
+    limit: u64,
+    course: &Course,
+    action: Action,
+) -> Result<AttemptOutcome, NodeFault>
+    ensures answer { Answers NodeFault.Memory attempt_outcome_of result
+        (step_outcome limit course.now.schedule.items action (joint_answer action course.now.states.items)) }
     ensures step { IfOk result (IsStepOf limit course.now) }
 {
     match joint_step(alloc, &course.states, &action) {
         Ok(states) => {
             if (course.schedule.len() as u64) < limit {
-                Ok(Tried::Taken(action, states))
+                Ok(AttemptOutcome::Taken(action, states))
             } else {
                 Err(NodeFault::Full)
             }
         }
-        Err(StepFault::NotEnabled) => Ok(Tried::Missed),
+        Err(StepFault::NotEnabled) => Ok(AttemptOutcome::Missed),
         Err(StepFault::Undefined) => Err(NodeFault::Undefined),
         Err(StepFault::Range) => Err(NodeFault::Range),
         Err(StepFault::Memory) => Err(NodeFault::Memory),

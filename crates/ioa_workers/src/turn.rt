@@ -6,8 +6,8 @@ ghost use Rattle.ioa_values.specs.Outcome.{Answers};
 ghost use Rattle.ioa_terms.specs.Bindings.{names_of};
 ghost use Rattle.ioa_terms.specs.View.{term_of, statement_of};
 ghost use Rattle.ioa_source.specs.TextView.{variable_of};
-ghost use Rattle.ioa_system.specs.Placed.{ArePlacedTerms, IsPlacedFiring, variable_names};
-ghost use Rattle.ioa_workers.specs.Turns.{view_of, answers, message_of, action_at, statement_answer, node_turn, node_of, IsCounted};
+ghost use Rattle.ioa_system.specs.ResolvedPrograms.{AreResolvedTerms, IsResolvedFiring, variable_names};
+ghost use Rattle.ioa_workers.specs.Turns.{block_bindings, answers, message_and_ends, action_at, statement_answer, node_turn, firing_node, FitsAfterTurn};
 
 use ioa_compose::NodeConf;
 use ioa_source::Variable;
@@ -30,7 +30,7 @@ pub enum Turn {
 /// variables, from left to right, and the first fault met is answered.
 pub fn next(alloc: Global, node: &NodeConf, passed: usize) -> Result<Turn, TermFault>
     ensures answer { Answers TermFault.Memory (λ t. t) result (node_turn node.now passed) }
-    ensures counts { IfOk result (IsCounted passed) }
+    ensures counts { IfOk result (FitsAfterTurn passed) }
 {
     match node.program().schedule().get(passed) {
         None => Ok(Turn::Done),
@@ -44,10 +44,10 @@ fn fire(
     node: &NodeConf,
     statement: &Statement<usize, Shape>,
 ) -> Result<Turn, TermFault>
-    requires { IsPlacedFiring (statement_of statement.now)
+    requires { IsResolvedFiring (statement_of statement.now)
         (variable_names (map variable_of node.now.program.variables)) }
     ensures { Answers TermFault.Memory (λ t. t) result
-        (statement_answer node.now.program.node (view_of node.now) (statement_of statement.now)) }
+        (statement_answer node.now.program.node (block_bindings node.now) (statement_of statement.now)) }
 {
     match statement {
         Statement::Fire(_, name, terms) => {
@@ -60,18 +60,21 @@ fn fire(
 
 /// The values of terms over a node's variables, in order.
 fn arguments_of(alloc: Global, node: &NodeConf, terms: &[Checked]) -> Result<Vec<Value>, TermFault>
-    requires { ArePlacedTerms (map term_of terms.now)
+    requires { AreResolvedTerms (map term_of terms.now)
         (variable_names (map variable_of node.now.program.variables)) }
     ensures { Answers TermFault.Memory (λ v. v.items) result
-        (answers (map term_of terms.now) (view_of node.now)) }
+        (answers (map term_of terms.now) (block_bindings node.now)) }
 {
-    let names = names_of(alloc, node.program().variables())?;
+    let names = variable_names(alloc, node.program().variables())?;
     let env = Env::new(&names, node.variables().as_slice());
     values_of(alloc, terms, &env)
 }
 
 /// The names of variables, in order.
-fn names_of(alloc: Global, variables: &[Variable<usize, Shape>]) -> Result<Vec<Word>, AllocError>
+fn variable_names(
+    alloc: Global,
+    variables: &[Variable<usize, Shape>],
+) -> Result<Vec<Word>, AllocError>
     ensures { IfOk result (λ v. v.items ≡ variable_names (map variable_of variables.now)) }
 {
     let mut names = Vec::new(alloc);
@@ -83,7 +86,7 @@ fn names_of(alloc: Global, variables: &[Variable<usize, Shape>]) -> Result<Vec<W
 
 /// The values of terms in an environment, in order.
 fn values_of(alloc: Global, terms: &[Checked], env: &Env) -> Result<Vec<Value>, TermFault>
-    requires { ArePlacedTerms (map term_of terms.now) (names_of env.now) }
+    requires { AreResolvedTerms (map term_of terms.now) (names_of env.now) }
     ensures { Answers TermFault.Memory (λ v. v.items) result (answers (map term_of terms.now) env.now) }
 {
     let mut values = Vec::new(alloc);
@@ -94,8 +97,8 @@ fn values_of(alloc: Global, terms: &[Checked], env: &Env) -> Result<Vec<Value>, 
 }
 
 /// A message and the two ends of its channel, where arguments are these.
-fn message_of(arguments: &[Value]) -> Option<(&Value, i64, i64)>
-    ensures { option_map (λ p. (p.0.now, p.1, p.2)) result ≡ message_of arguments.now }
+fn message_and_ends(arguments: &[Value]) -> Option<(&Value, i64, i64)>
+    ensures { option_map (λ p. (p.0.now, p.1, p.2)) result ≡ message_and_ends arguments.now }
 {
     match arguments {
         [message, from, to] => Some((message, from.as_number()?, to.as_number()?)),
@@ -112,7 +115,7 @@ fn action_at(
 ) -> Result<Action, AllocError>
     ensures { IfOk result (λ a. a ≡ action_at node name.now arguments.items) }
 {
-    if let Some((message, from, to)) = message_of(&arguments) {
+    if let Some((message, from, to)) = message_and_ends(&arguments) {
         if name.as_str() == "send" {
             return Ok(Action::Send(message.try_copy(alloc)?, from, to));
         }
@@ -128,8 +131,8 @@ fn action_at(
 }
 
 /// The node whose program an action is fired by.
-pub fn node_of(action: &Action) -> i64
-    ensures { result ≡ node_of action.now }
+pub fn firing_node(action: &Action) -> i64
+    ensures { result ≡ firing_node action.now }
 {
     match action {
         Action::Send(_, from, _) => *from,

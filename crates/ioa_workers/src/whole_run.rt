@@ -45,9 +45,9 @@ impl fmt::Display for RunFault {
 
 impl From<FrontFault> for RunFault {
     ghost use Rattle.std.specs.Prelude.{◌≡◌};
-    ghost use Rattle.ioa_workers.specs.WholeRun.{of_front};
+    ghost use Rattle.ioa_workers.specs.WholeRun.{run_fault_of_front};
 
-    ghost from_gives = { λ e f. f ≡ of_front e };
+    ghost from_gives = { λ e f. f ≡ run_fault_of_front e };
 
     fn from(fault: FrontFault) -> Self {
         match fault {
@@ -59,9 +59,9 @@ impl From<FrontFault> for RunFault {
 
 impl From<CheckFault> for RunFault {
     ghost use Rattle.std.specs.Prelude.{◌≡◌};
-    ghost use Rattle.ioa_workers.specs.WholeRun.{of_check};
+    ghost use Rattle.ioa_workers.specs.WholeRun.{run_fault_of_check};
 
-    ghost from_gives = { λ e f. f ≡ of_check e };
+    ghost from_gives = { λ e f. f ≡ run_fault_of_check e };
 
     fn from(fault: CheckFault) -> Self {
         match fault {

@@ -29,8 +29,8 @@ impl Read for Halting<'_> {
             return Err(Error::from(ErrorKind::Interrupted));
         }
         match (self.left.split_first(), buffer.first_mut()) {
-            (Some((byte, left)), Some(place)) => {
-                *place = *byte;
+            (Some((byte, left)), Some(first)) => {
+                *first = *byte;
                 self.left = left;
                 Ok(1)
             }
@@ -61,10 +61,10 @@ fn ill_formed_texts_are_refused_with_their_place(rt: HostRuntime) {
         (b"ab\xe2\x86", 2),
         (b"\xc3\xb6\xc0\xaf", 2),
     ];
-    for (bytes, place) in rows {
+    for (bytes, offset) in rows {
         let mut reader = bytes;
         let fault = read_input(rt.alloc(), &mut reader).err();
-        assert_eq!(rt; fault, Some(InputFault::BadCharacter(place)));
+        assert_eq!(rt; fault, Some(InputFault::BadCharacter(offset)));
     }
 }
 

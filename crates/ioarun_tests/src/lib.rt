@@ -2,12 +2,12 @@
 #![tactic(auto)]
 
 #[cfg(test)]
+mod command_line;
+#[cfg(test)]
 mod input;
 #[cfg(test)]
 mod options;
 #[cfg(test)]
 mod output;
-#[cfg(test)]
-mod program;
 #[cfg(test)]
 mod refusals;

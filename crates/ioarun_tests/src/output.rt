@@ -15,11 +15,11 @@ struct Narrow {
 }
 
 impl Write for Narrow {
-    fn write(&mut self, piece: &[u8]) -> io::Result<usize> {
+    fn write(&mut self, chunk: &[u8]) -> io::Result<usize> {
         if self.written.len() >= self.room {
             return Ok(0);
         }
-        match piece.first() {
+        match chunk.first() {
             Some(byte) => {
                 self.written.push(*byte)?;
                 Ok(1)
@@ -45,8 +45,8 @@ impl Out for Closing {
 
     ghost failed = { λ o. o.stuck };
 
-    fn put(&mut self, piece: &[u8]) -> Result<usize, OutFailed> {
-        if piece.is_empty() {
+    fn put(&mut self, chunk: &[u8]) -> Result<usize, OutFailed> {
+        if chunk.is_empty() {
             return Ok(0);
         }
         if self.puts >= 2 {
@@ -54,7 +54,7 @@ impl Out for Closing {
             return Err(OutFailed);
         }
         self.puts += 1;
-        Ok(piece.len().min(3))
+        Ok(chunk.len().min(3))
     }
 }
 

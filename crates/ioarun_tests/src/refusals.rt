@@ -398,7 +398,7 @@ fn schedules_are_replayed_and_projected(rt: HostRuntime) -> Result<(), Fail> {
     schedule.push(Action::Receive(Value::number(9), 0, 1))?;
     match replay(alloc, &system, &schedule) {
         Ok(_) => assert!(rt; false, "the last message was handed out first"),
-        Err(fault) => assert_eq!(rt; fault.place, 3),
+        Err(fault) => assert_eq!(rt; fault.position, 3),
     }
     Ok(())
 }

@@ -3,7 +3,7 @@ use Rattle.std.specs.Prelude.{◌&&◌}
 use Rattle.std.specs.List.{list_any}
 use Rattle.ioa_terms.specs.Bindings.{same_name}
 use Rattle.ioa_source.specs.TextView.{automaton_of, entry_of}
-use Rattle.ioa_check.specs.Made.{same_kind}
+use Rattle.ioa_check.specs.Correspondence.{same_kind}
 use Rattle.ioa_check.proofs.building.has_entry.Given as goal
 
 -- no entry gone by is of the name

@@ -1,7 +1,7 @@
 use Rattle.std.proofs.Common.{◌≡◌, map, take, drop, length, Ok}
 use Rattle.ioa_source.specs.TextView.{variable_of}
-use Rattle.ioa_system.specs.Placed.{ArePlacedVariables}
-use Rattle.ioa_check.specs.Made.{initial_answer}
+use Rattle.ioa_system.specs.ResolvedPrograms.{AreResolvedVariables}
+use Rattle.ioa_check.specs.Correspondence.{initial_answer}
 use Rattle.ioa_check.proofs.building.initial_values.Given as goal
 
 -- the values of the variables gone by
@@ -9,5 +9,5 @@ abbrev pub invariant-loop-variable : goal.invariant-loop-variable
 invariant-loop-variable l = record {
   many : length l.values.items ≡ l.variable-index;
   values : map initial_answer (take l.variable-index l.variables) ≡ map Ok l.values.items;
-  placed : ArePlacedVariables (map variable_of (drop l.variable-index l.variables));
+  resolved : AreResolvedVariables (map variable_of (drop l.variable-index l.variables));
 }

@@ -2,7 +2,7 @@ use Rattle.std.proofs.Common.{◌≡◌, ◌∙◌, ℕ, List, true, false, inl,
 use Rattle.std.proofs.lemmas.Result.{err_from_is_err_and}
 use Rattle.std.specs.List.{IsDistinct, list_all}
 use Rattle.ioa_terms.specs.Bindings.{same_name}
-use Rattle.ioa_system.specs.Placed.{variable_names}
+use Rattle.ioa_system.specs.ResolvedPrograms.{variable_names}
 use Rattle.ioa_check.specs.Rows.{fires_only}
 use Rattle.ioa_source.specs.TextView.{automaton_of, variable_of}
 use Rattle.ioa_check.specs.Standing.{StandsInAutomaton, StandsInEntries}

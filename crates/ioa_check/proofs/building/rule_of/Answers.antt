@@ -3,10 +3,10 @@ use Rattle.std.proofs.lemmas.Result.{err_from_is_err_and}
 use Rattle.std.proofs.lemmas.List.{length-map}
 use Rattle.std.specs.List.{IsDistinct, list_all}
 use Rattle.ioa_terms.specs.Bindings.{same_name}
-use Rattle.ioa_terms.specs.Placed.{ArePlaced}
+use Rattle.ioa_terms.specs.Resolved.{AreResolved}
 use Rattle.ioa_source.specs.TextView.{automaton_of, entry_of, transition_of, variable_of}
 use Rattle.ioa_source.specs.Sides.{CheckedVariable}
-use Rattle.ioa_system.specs.Placed.{variable_names, own_names, scope_of}
+use Rattle.ioa_system.specs.ResolvedPrograms.{variable_names, own_names, scope_of}
 use Rattle.ioa_check.specs.Rows.{guard_reads_only, assigns_only}
 use Rattle.ioa_check.specs.Standing.{StandsInEntry, is_known_transition}
 use Rattle.ioa_check.proofs.Refused.{fails_weaker, only_weaker, refuses_weaker}
@@ -14,8 +14,8 @@ use Rattle.ioa_check.proofs.Rows.{scope_of-erase, take_first}
 use Rattle.ioa_check.proofs.building.rule_of.Goals as goal
 use Rattle.std.proofs.lemmas.Bool.{and_right}
 
-pub returns-clause-placed : goal.returns-clause-placed
-returns-clause-placed c =
+pub returns-clause-resolved : goal.returns-clause-resolved
+returns-clause-resolved c =
     let scope = c.in_ok-scope.scope in
     let t = transition_of c.in_ok-transition.transition in
     let vs = map variable_of c.args.variables.now in
@@ -25,10 +25,10 @@ returns-clause-placed c =
     let first : take n scope ≡ variable_names vs = ap (take n) c.in_ok-scope.ensures.names ∙ take_first n (variable_names vs) own many in
     record {
       scope = c.in_ok-scope.ensures.names;
-      parameters = c.in_ok-entry.ensures.placed;
+      parameters = c.in_ok-entry.ensures.resolved;
       condition = c.in_ok-entry.ensures.condition scope;
       guard = c.in_ok-transition.ensures.guard;
-      effect = subst (λ (ns : List (List ℕ)). ArePlaced t.effect ns scope) first c.in_ok-transition.ensures.effect;
+      effect = subst (λ (ns : List (List ℕ)). AreResolved t.effect ns scope) first c.in_ok-transition.ensures.effect;
     }
 
 pub returns-clause-rows : goal.returns-clause-rows
@@ -62,8 +62,8 @@ returns-in_err-scope-clause-refused c =
     let p = err_from_is_err_and c.from_residual-in_err-scope.result c.from_residual-in_err-scope.ensures.1 in
     let vs = map variable_of c.args.variables.now in
     let e = entry_of c.args.entry.now in
-    let placed = entry_of c.in_ok-entry.entry in
-    let names : scope_of placed vs ≡ variable_names vs ++ own_names e.parameters = scope_of-erase vs placed e (scope_of placed vs) refl c.in_ok-entry.ensures.same in
+    let resolved = entry_of c.in_ok-entry.entry in
+    let names : scope_of resolved vs ≡ variable_names vs ++ own_names e.parameters = scope_of-erase vs resolved e (scope_of resolved vs) refl c.in_ok-entry.ensures.same in
     rw (p.1, p.2)
     (refuses_weaker
     (only_weaker (StandsInEntry (variable_names vs) (automaton_of c.args.automaton.now).transitions e) (λ wrong d. wrong (subst (λ (ns : List (List ℕ)). IsDistinct same_name ns) (sym names) d)))

@@ -3,9 +3,9 @@ use Rattle.std.proofs.lemmas.List.Elements.{All-push}
 use Rattle.ioa_source.specs.Erasure.{erase_entry}
 use Rattle.ioa_source.specs.TextView.{automaton_of, entry_of, variable_of}
 use Rattle.ioa_system.specs.declared.program.Rule.{Rule}
-use Rattle.ioa_system.specs.Placed.{IsPlacedRule, variable_names}
+use Rattle.ioa_system.specs.ResolvedPrograms.{IsResolvedRule, variable_names}
 use Rattle.ioa_check.specs.Rows.{HasNoEntryRow}
-use Rattle.ioa_check.specs.Made.{HasIntegers, IsRuleOf}
+use Rattle.ioa_check.specs.Correspondence.{HasIntegers, IsRuleOf}
 use Rattle.std.proofs.lemmas.Result.{err_from_is_err_and}
 use Rattle.ioa_check.proofs.Loops.{each_append, each_take, next_push}
 use Rattle.ioa_check.specs.Standing.{StandsInEntries}
@@ -18,7 +18,7 @@ loop-entry-preserved c =
     let rules = c.loop-entry.rules.items in
     let within : i < length c.args.automaton.now.signature.items = rw c.deref-entry-items.ensures.value at c.loop-entry-test.true in
     record {
-      placed = rw c.in_ok-push.ensures.items (All-push (IsPlacedRule (map variable_of c.args.variables.now)) rules c.in_ok-rule.rule c.loop-entry.invariant.placed c.in_ok-rule.ensures.placed);
+      resolved = rw c.in_ok-push.ensures.items (All-push (IsResolvedRule (map variable_of c.args.variables.now)) rules c.in_ok-rule.rule c.loop-entry.invariant.resolved c.in_ok-rule.ensures.resolved);
       signature = rw c.in_ok-push.ensures.items (next_push (λ (r : Rule). erase_entry (entry_of r.entry)) entry_of rules c.in_ok-rule.rule c.args.automaton.now.signature.items i c.entry-item.result c.loop-entry.invariant.signature c.in_ok-rule.ensures.entry within (rw c.deref-entry-items.ensures.value at c.entry-item.is));
       transitions = rw c.in_ok-push.ensures.items (each_append (IsRuleOf (automaton_of c.args.automaton.now)) rules c.in_ok-rule.rule c.loop-entry.invariant.transitions c.in_ok-rule.ensures.transition);
       shapes = rw c.in_ok-push.ensures.items (each_append HasIntegers rules c.in_ok-rule.rule c.loop-entry.invariant.shapes c.in_ok-rule.ensures.shapes);

@@ -2,15 +2,15 @@ use Rattle.std.proofs.Common.{◌≡◌, All, map, take}
 use Rattle.std.specs.List.{AllByRecursion}
 use Rattle.ioa_source.specs.TextView.{automaton_of, entry_of, variable_of}
 use Rattle.ioa_source.specs.Erasure.{erase_entry}
-use Rattle.ioa_system.specs.Placed.{IsPlacedRule, variable_names}
+use Rattle.ioa_system.specs.ResolvedPrograms.{IsResolvedRule, variable_names}
 use Rattle.ioa_check.specs.Rows.{HasNoEntryRow}
-use Rattle.ioa_check.specs.Made.{HasIntegers, IsRuleOf}
+use Rattle.ioa_check.specs.Correspondence.{HasIntegers, IsRuleOf}
 use Rattle.ioa_check.proofs.building.rules_of.Given as goal
 
 -- the rules of the entries gone by
 abbrev pub invariant-loop-entry : goal.invariant-loop-entry
 invariant-loop-entry l = record {
-  placed : All (IsPlacedRule (map variable_of l.variables)) l.rules.items;
+  resolved : All (IsResolvedRule (map variable_of l.variables)) l.rules.items;
   signature : map (λ r. erase_entry (entry_of r.entry)) l.rules.items ≡ map entry_of (take l.entry-index l.automaton.signature.items);
   transitions : AllByRecursion (IsRuleOf (automaton_of l.automaton)) l.rules.items;
   shapes : AllByRecursion HasIntegers l.rules.items;

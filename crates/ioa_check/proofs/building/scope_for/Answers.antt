@@ -1,7 +1,7 @@
 use Rattle.std.proofs.lemmas.Result.{err_from_is_err_and}
 use Rattle.std.proofs.Common.{map}
 use Rattle.ioa_source.specs.TextView.{entry_of, variable_of}
-use Rattle.ioa_system.specs.Placed.{own_names, scope_of, variable_names}
+use Rattle.ioa_system.specs.ResolvedPrograms.{own_names, scope_of, variable_names}
 use Rattle.ioa_check.proofs.Loops.{next_left}
 use Rattle.ioa_check.proofs.Parts.{parameters_repeat}
 use Rattle.ioa_check.proofs.Refused.{first_repeat, only_map}

@@ -1,6 +1,6 @@
 use Rattle.std.proofs.Common.{◌≡◌, map, drop}
 use Rattle.ioa_source.specs.TextView.{entry_of, transition_of}
-use Rattle.ioa_check.specs.Made.{transition_for}
+use Rattle.ioa_check.specs.Correspondence.{transition_for}
 use Rattle.ioa_check.proofs.building.transition_for.Given as goal
 
 -- no transition gone by is the entry's

@@ -1,6 +1,6 @@
 use Rattle.std.proofs.Common.{◌≡◌, map, drop}
 use Rattle.ioa_source.specs.TextView.{declaration_of}
-use Rattle.ioa_check.specs.Made.{automaton_named}
+use Rattle.ioa_check.specs.Correspondence.{automaton_named}
 use Rattle.ioa_check.proofs.checking.automaton_of_name.Given as goal
 
 -- no automaton gone by has the name

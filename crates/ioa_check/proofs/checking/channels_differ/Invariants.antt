@@ -4,5 +4,5 @@ use Rattle.ioa_check.specs.Rows as spec
 use Rattle.ioa_check.proofs.checking.channels_differ.Given as goal
 
 -- the channels gone by differ
-abbrev pub invariant-loop-place : goal.invariant-loop-place
-invariant-loop-place l = IsDistinct spec.same_channel (take l.place l.channels)
+abbrev pub invariant-loop-position : goal.invariant-loop-position
+invariant-loop-position l = IsDistinct spec.same_channel (take l.position l.channels)

@@ -1,6 +1,6 @@
 use Rattle.std.proofs.Common.{◌≡◌, ◌++◌, map, drop}
 use Rattle.ioa_source.specs.TextView.{placement_of}
-use Rattle.ioa_check.specs.Made.{channels_in}
+use Rattle.ioa_check.specs.Correspondence.{channels_in}
 use Rattle.ioa_check.proofs.checking.channels_of.Given as goal
 
 -- the channels gone by, and those that are left

@@ -1,6 +1,6 @@
 use Rattle.std.proofs.Common.{arith}
 use Rattle.ioa_source.specs.TextView.{text_of}
-use Rattle.ioa_check.specs.Made.{node_at}
+use Rattle.ioa_check.specs.Correspondence.{node_at}
 use Rattle.ioa_check.specs.Rows as spec
 use Rattle.ioa_check.proofs.Loops.{all_left}
 use Rattle.ioa_check.proofs.checking.check_nodes.Goals as goal

@@ -1,7 +1,7 @@
 use Rattle.std.proofs.Common.{◌≡◌, map, drop}
 use Rattle.std.specs.List.{list_all}
 use Rattle.ioa_source.specs.TextView.{text_of}
-use Rattle.ioa_check.specs.Made.{node_at}
+use Rattle.ioa_check.specs.Correspondence.{node_at}
 use Rattle.ioa_check.specs.Rows as spec
 use Rattle.ioa_check.proofs.checking.check_nodes.Given as goal
 

@@ -5,7 +5,7 @@ use Rattle.std.specs.Arc.{arc_value}
 use Rattle.std.proofs.Common.{Global}
 use Rattle.std.proofs.lemmas.List.{length-map}
 use Rattle.ioa_system.specs.declared.program.Program.{Program}
-use Rattle.ioa_check.specs.Made.{nodes_in, node_at}
+use Rattle.ioa_check.specs.Correspondence.{nodes_in, node_at}
 use Rattle.ioa_check.proofs.Rows.{numbers_from, few_map}
 use Rattle.ioa_check.proofs.checking.check_placements.Goals as goal
 

@@ -5,5 +5,5 @@ use Rattle.ioa_check.specs.FirstForm.{is_first_declaration}
 use Rattle.ioa_check.proofs.checking.declarations_are_first.Given as goal
 
 -- the declarations that are left decide
-abbrev pub invariant-loop-place : goal.invariant-loop-place
-invariant-loop-place l = list_all is_first_declaration (map declaration_of (drop l.place l.declarations)) ≡ list_all is_first_declaration (map declaration_of l.declarations)
+abbrev pub invariant-loop-index : goal.invariant-loop-index
+invariant-loop-index l = list_all is_first_declaration (map declaration_of (drop l.index l.declarations)) ≡ list_all is_first_declaration (map declaration_of l.declarations)

@@ -1,6 +1,6 @@
 use Rattle.std.proofs.Common.{◌≡◌, map, drop}
 use Rattle.ioa_source.specs.TextView.{text_of}
-use Rattle.ioa_check.specs.Made.{node_at}
+use Rattle.ioa_check.specs.Correspondence.{node_at}
 use Rattle.ioa_check.specs.Rows as spec
 use Rattle.ioa_check.proofs.checking.has_input.Given as goal
 

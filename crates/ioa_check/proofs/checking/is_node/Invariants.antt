@@ -1,5 +1,5 @@
 use Rattle.std.proofs.Common.{◌≡◌, map, drop}
-use Rattle.ioa_check.specs.Made.{node_at}
+use Rattle.ioa_check.specs.Correspondence.{node_at}
 use Rattle.ioa_check.specs.Rows as spec
 use Rattle.ioa_check.proofs.checking.is_node.Given as goal
 

@@ -1,6 +1,6 @@
 use Rattle.std.proofs.Common.{◌≡◌, ◌++◌, map, drop}
 use Rattle.ioa_source.specs.TextView.{placement_of}
-use Rattle.ioa_check.specs.Made.{nodes_in, node_at}
+use Rattle.ioa_check.specs.Correspondence.{nodes_in, node_at}
 use Rattle.ioa_check.proofs.checking.nodes_of.Given as goal
 
 -- the nodes gone by, and those that are left

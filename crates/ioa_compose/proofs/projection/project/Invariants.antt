@@ -1,7 +1,7 @@
 use Rattle.std.proofs.Common.{◌≡◌, take}
-use Rattle.ioa_compose.specs.Executions.{projected}
+use Rattle.ioa_compose.specs.Executions.{projection_of}
 use Rattle.ioa_compose.proofs.projection.project.Given as goal
 
 -- what is kept so far is the projection of the actions gone by
 abbrev pub invariant-loop-action : goal.invariant-loop-action
-invariant-loop-action l = l.kept.items ≡ projected l.component (take l.action-index l.actions)
+invariant-loop-action l = l.kept.items ≡ projection_of l.component (take l.action-index l.actions)

@@ -1,4 +1,4 @@
-use Rattle.ioa_compose.proofs.Runs.{IsReplay-execution, IsReplay-no_execution}
+use Rattle.ioa_compose.proofs.Replays.{IsReplay-execution, IsReplay-no_execution}
 use Rattle.ioa_compose.proofs.replaying.replay_from.Goals as goal
 
 pub returns-clause-execution : goal.returns-clause-execution

@@ -3,5 +3,5 @@ use Rattle.ioa_compose.specs.Executions.{replay_answer}
 use Rattle.ioa_compose.proofs.replaying.steps.Given as goal
 
 -- the replay of the actions that are left goes on where the replay of all of them stands
-abbrev pub invariant-loop-place : goal.invariant-loop-place
-invariant-loop-place l = replay_answer l.place (drop l.place l.actions) l.confs.items ≡ replay_answer 0 l.actions l.fn.start.items
+abbrev pub invariant-loop-position : goal.invariant-loop-position
+invariant-loop-position l = replay_answer l.position (drop l.position l.actions) l.confs.items ≡ replay_answer 0 l.actions l.fn.start.items

@@ -1,4 +1,4 @@
-use Rattle.ioa_operators.proofs.Canonicals.{answered, binary_canonical}
+use Rattle.ioa_operators.proofs.Canonicals.{answer_canonical, binary_canonical}
 use Rattle.ioa_operators.proofs.Memory.{answers, lacks_only_if}
 use Rattle.ioa_operators.specs.Operators.{operator_takes_memory, binary_value}
 use Rattle.ioa_operators.proofs.between.binary.Goals as goal
@@ -13,4 +13,4 @@ returns-clause-memory c = lacks_only_if (operator_takes_memory c.args.operator) 
 
 -- what is meant is canonical
 pub returns-clause-canonical : goal.returns-clause-canonical
-returns-clause-canonical c = λ h k. answered (operator_takes_memory c.args.operator) c.between_values.result _ c.between_values.ensures (binary_canonical c.args.operator c.args.left c.args.right h k)
+returns-clause-canonical c = λ h k. answer_canonical (operator_takes_memory c.args.operator) c.between_values.result _ c.between_values.ensures (binary_canonical c.args.operator c.args.left c.args.right h k)

@@ -1,5 +1,5 @@
 use Rattle.std.proofs.Common.{false}
-use Rattle.ioa_operators.proofs.Canonicals.{answered, unary_canonical}
+use Rattle.ioa_operators.proofs.Canonicals.{answer_canonical, unary_canonical}
 use Rattle.ioa_operators.proofs.Memory.{answers, lacks_only_if}
 use Rattle.ioa_operators.specs.Operators.{unary_value}
 use Rattle.ioa_operators.proofs.between.unary.Goals as goal
@@ -14,4 +14,4 @@ returns-clause-memory c = lacks_only_if false c.before_value.result (unary_value
 
 -- what is meant is canonical
 pub returns-clause-canonical : goal.returns-clause-canonical
-returns-clause-canonical c = answered false c.before_value.result _ c.before_value.ensures (unary_canonical c.args.operator c.args.value.now)
+returns-clause-canonical c = answer_canonical false c.before_value.result _ c.before_value.ensures (unary_canonical c.args.operator c.args.value.now)

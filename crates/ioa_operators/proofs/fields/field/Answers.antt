@@ -1,5 +1,5 @@
 use Rattle.std.proofs.Common.{false}
-use Rattle.ioa_operators.proofs.Canonicals.{answered, field_canonical}
+use Rattle.ioa_operators.proofs.Canonicals.{answer_canonical, field_canonical}
 use Rattle.ioa_operators.proofs.Memory.{answers, lacks_only_if}
 use Rattle.ioa_operators.specs.ShapeView.{shape_of}
 use Rattle.ioa_operators.specs.Shapes.{field_value}
@@ -15,4 +15,4 @@ returns-clause-memory c = lacks_only_if false c.field_of.result (field_value (sh
 
 -- what is meant is canonical
 pub returns-clause-canonical : goal.returns-clause-canonical
-returns-clause-canonical c = λ h. answered false c.field_of.result _ c.field_of.ensures (field_canonical (shape_of c.args.shape.now) c.args.name.now c.args.value h)
+returns-clause-canonical c = λ h. answer_canonical false c.field_of.result _ c.field_of.ensures (field_canonical (shape_of c.args.shape.now) c.args.name.now c.args.value h)

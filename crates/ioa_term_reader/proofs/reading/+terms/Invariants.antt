@@ -1,6 +1,6 @@
 use Rattle.std.proofs.Common.{◌≡◌, ◌+◌, ◌-◌, ◌*◌, map}
 use Rattle.ioa_tokens.specs.declared.mark.Mark.TheVariants as mark
-use Rattle.ioa_cursor.specs.Reading.{collected, skip}
+use Rattle.ioa_cursor.specs.Reading.{collect, skip}
 use Rattle.ioa_terms.specs.View.{term_of}
 use Rattle.ioa_term_reader.specs.Reading as spec
 use Rattle.ioa_term_reader.proofs.reading.+terms.Given as goal
@@ -11,29 +11,29 @@ decreases-read l = 8 * l.depth
 abbrev pub decreases-terms_in : goal.decreases-terms_in
 decreases-terms_in l = 8 * l.depth + 1
 
-abbrev pub decreases-grown : goal.decreases-grown
-decreases-grown l = 8 * l.depth + 1
+abbrev pub decreases-extended_term : goal.decreases-extended_term
+decreases-extended_term l = 8 * l.depth + 1
 
-abbrev pub decreases-bracketed : goal.decreases-bracketed
-decreases-bracketed l = 8 * l.depth + 1
+abbrev pub decreases-bracketed_term : goal.decreases-bracketed_term
+decreases-bracketed_term l = 8 * l.depth + 1
 
-abbrev pub decreases-prefixed : goal.decreases-prefixed
-decreases-prefixed l = 8 * l.depth + 1
+abbrev pub decreases-prefixed_term : goal.decreases-prefixed_term
+decreases-prefixed_term l = 8 * l.depth + 1
 
 abbrev pub decreases-climb : goal.decreases-climb
 decreases-climb l = 8 * l.depth + 2
 
-abbrev pub decreases-called : goal.decreases-called
-decreases-called l = 8 * l.depth + 2
+abbrev pub decreases-call_term : goal.decreases-call_term
+decreases-call_term l = 8 * l.depth + 2
 
-abbrev pub decreases-displayed : goal.decreases-displayed
-decreases-displayed l = 8 * l.depth + 2
+abbrev pub decreases-display_term : goal.decreases-display_term
+decreases-display_term l = 8 * l.depth + 2
 
-abbrev pub decreases-braced : goal.decreases-braced
-decreases-braced l = 8 * l.depth + 3
+abbrev pub decreases-braced_term : goal.decreases-braced_term
+decreases-braced_term l = 8 * l.depth + 3
 
-abbrev pub decreases-marked : goal.decreases-marked
-decreases-marked l = 8 * l.depth + 4
+abbrev pub decreases-marked_term : goal.decreases-marked_term
+decreases-marked_term l = 8 * l.depth + 4
 
 abbrev pub decreases-operand : goal.decreases-operand
 decreases-operand l = 8 * l.depth + 5
@@ -45,5 +45,5 @@ invariant-climb-loop-turn l =
 
 abbrev pub invariant-terms_in-loop-turn : goal.invariant-terms_in-loop-turn
 invariant-terms_in-loop-turn l =
-    collected (skip mark.Comma) (spec.read l.depth l.room 1) (l._turn-end - l._turn) (map term_of l.terms.trees.items) l.tokens
+    collect (skip mark.Comma) (spec.read l.depth l.room 1) (l._turn-end - l._turn) (map term_of l.terms.trees.items) l.tokens
     ≡ spec.terms_in (spec.read l.fn.depth) l.fn.room l.fn.tokens

@@ -1,7 +1,7 @@
 use Rattle.std.proofs.Common.{◌≡◌, ◌++◌, length, map, drop}
 use Rattle.ioa_terms.specs.Bindings.{environment}
-use Rattle.ioa_terms.specs.Placed.{AreAllPlaced, AreArmsPlaced}
-use Rattle.ioa_terms.specs.Bounded.{bounded_all, bounded_choice}
+use Rattle.ioa_terms.specs.Resolved.{AreAllResolved, AreArmsResolved}
+use Rattle.ioa_terms.specs.Stepwise.{stepwise_all, stepwise_choice}
 use Rattle.ioa_terms.specs.PlainTerm.{statements_of, arms_of}
 use Rattle.ioa_terms.specs.View.{statement_of, arm_of}
 use Rattle.ioa_terms.proofs.performance.+performing.Given as goal
@@ -9,16 +9,16 @@ use Rattle.ioa_terms.proofs.performance.+performing.Given as goal
 -- what is left to perform on the present values is the whole on the first ones
 abbrev pub invariant-perform_all-loop-statement : goal.invariant-perform_all-loop-statement
 invariant-perform_all-loop-statement l = record {
-  placed : AreAllPlaced (statements_of (map statement_of (drop l.statement-index l.statements))) l.names (l.names ++ l.constants);
+  resolved : AreAllResolved (statements_of (map statement_of (drop l.statement-index l.statements))) l.names (l.names ++ l.constants);
   named : length l.names ≡ length l.values.items;
-  same : bounded_all (statements_of (map statement_of (drop l.statement-index l.statements))) (environment l.names l.values.items l.constants)
-      ≡ bounded_all (statements_of (map statement_of l.statements)) (environment l.names l.fn.values.items l.constants);
+  same : stepwise_all (statements_of (map statement_of (drop l.statement-index l.statements))) (environment l.names l.values.items l.constants)
+      ≡ stepwise_all (statements_of (map statement_of l.statements)) (environment l.names l.fn.values.items l.constants);
 }
 
 -- the arms that are left decide as all of them do
 abbrev pub invariant-perform_one-loop-arm : goal.invariant-perform_one-loop-arm
 invariant-perform_one-loop-arm l = record {
-  placed : AreArmsPlaced (arms_of (map arm_of (drop l.arm-index l.arm-items))) l.names (l.names ++ l.constants);
-  same : (let e = environment l.names l.values.items l.constants in let rest = bounded_all (statements_of (map statement_of l.rest.items)) e in
-      bounded_choice (arms_of (map arm_of (drop l.arm-index l.arm-items))) rest e ≡ bounded_choice (arms_of (map arm_of l.arm-items)) rest e);
+  resolved : AreArmsResolved (arms_of (map arm_of (drop l.arm-index l.arm-items))) l.names (l.names ++ l.constants);
+  same : (let e = environment l.names l.values.items l.constants in let rest = stepwise_all (statements_of (map statement_of l.rest.items)) e in
+      stepwise_choice (arms_of (map arm_of (drop l.arm-index l.arm-items))) rest e ≡ stepwise_choice (arms_of (map arm_of l.arm-items)) rest e);
 }

@@ -3,5 +3,5 @@ use Rattle.ioa_values.specs.Text.{text, with_commas}
 use Rattle.ioa_terms.proofs.text.show_listed.Given as goal
 
 -- what is written so far are the values gone by
-abbrev pub invariant-loop-place : goal.invariant-loop-place
-invariant-loop-place l = string_bytes l.list ≡ with_commas (map (text l.names) (take l.place l.values))
+abbrev pub invariant-loop-position : goal.invariant-loop-position
+invariant-loop-position l = string_bytes l.list ≡ with_commas (map (text l.names) (take l.position l.values))

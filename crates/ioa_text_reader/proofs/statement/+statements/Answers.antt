@@ -1,7 +1,7 @@
 use Rattle.std.proofs.Common.{sym, ◌∙◌, ◌-◌}
 use Rattle.std.proofs.lemmas.Result.{err_from_is_err_and}
 use Rattle.ioa_tokens.specs.declared.mark.Mark.TheVariants as mark
-use Rattle.ioa_cursor.specs.Reading.{resumed, skip}
+use Rattle.ioa_cursor.specs.Reading.{resumes_with, skip}
 use Rattle.ioa_cursor.proofs.Exits.{none_of_part}
 use Rattle.ioa_cursor.proofs.Lists.{collected_more, collected_done, collected_none, collected_all}
 use Rattle.ioa_text_reader.specs.Reading.{statements_in, one_statement, one_arm, begins_statement}
@@ -32,7 +32,7 @@ all_arms-returns t c = sym c.loop-turn.invariant ∙ collected_all (skip mark.El
 pub statements_in-returns-then-not-resumes_with_statement : goal.statements_in-returns-then-not-resumes_with_statement
 statements_in-returns-then-not-resumes_with_statement t c =
     sym c.loop-turn.invariant
-    ∙ collected_done (resumed mark.Semicolon begins_statement) (one_statement (statements_in (c.args.depth - 1))) _ _ _ _ _ c.loop-turn-test.true (sym c.if-not-resumes_with_statement.ensures)
+    ∙ collected_done (resumes_with mark.Semicolon begins_statement) (one_statement (statements_in (c.args.depth - 1))) _ _ _ _ _ c.loop-turn-test.true (sym c.if-not-resumes_with_statement.ensures)
 
 pub statements_in-returns-in_err-next : goal.statements_in-returns-in_err-next
 statements_in-returns-in_err-next t c =
@@ -40,16 +40,16 @@ statements_in-returns-in_err-next t c =
     rw (p.1, p.2)
     (none_of_part
     (λ n. sym c.loop-turn.invariant
-    ∙ collected_none (resumed mark.Semicolon begins_statement) (one_statement (statements_in (c.args.depth - 1))) _ _ _ _ _ c.loop-turn-test.true (sym c.if-not-resumes_with_statement.ensures) n)
+    ∙ collected_none (resumes_with mark.Semicolon begins_statement) (one_statement (statements_in (c.args.depth - 1))) _ _ _ _ _ c.loop-turn-test.true (sym c.if-not-resumes_with_statement.ensures) n)
     c.in_err-next.ensures)
 
 pub statements_in-loop-turn-preserved : goal.statements_in-loop-turn-preserved
 statements_in-loop-turn-preserved t c =
     rw (sym (some_same c.in_ok-statements-2.ensures))
-    (sym (collected_more (resumed mark.Semicolon begins_statement) (one_statement (statements_in (c.args.depth - 1))) _ _ _ _ _ _ _ c.loop-turn-test.true (sym c.if-not-resumes_with_statement.ensures) c.in_ok-next.ensures)
+    (sym (collected_more (resumes_with mark.Semicolon begins_statement) (one_statement (statements_in (c.args.depth - 1))) _ _ _ _ _ _ _ c.loop-turn-test.true (sym c.if-not-resumes_with_statement.ensures) c.in_ok-next.ensures)
     ∙ c.loop-turn.invariant)
 
 pub statements_in-returns : goal.statements_in-returns
 statements_in-returns t c =
     sym c.loop-turn.invariant
-    ∙ collected_all (resumed mark.Semicolon begins_statement) (one_statement (statements_in (c.args.depth - 1))) _ _ _ _ c.loop-turn-test.false
+    ∙ collected_all (resumes_with mark.Semicolon begins_statement) (one_statement (statements_in (c.args.depth - 1))) _ _ _ _ c.loop-turn-test.false

@@ -4,8 +4,8 @@ use Rattle.ioa_tokens.proofs.Cuts.{after_found}
 use Rattle.ioa_tokens.proofs.cut.tokens.Given as goal
 
 -- the tokens found, and those of what is left, are those of the text
-abbrev pub invariant-loop-place : goal.invariant-loop-place
-invariant-loop-place l = (l.place ≤ length l.bytes) × (after_found l.found.items (tokens_from 0 l.place (drop l.place l.bytes)) ≡ tokens l.bytes)
+abbrev pub invariant-loop-offset : goal.invariant-loop-offset
+invariant-loop-offset l = (l.offset ≤ length l.bytes) × (after_found l.found.items (tokens_from 0 l.offset (drop l.offset l.bytes)) ≡ tokens l.bytes)
 
-abbrev pub decreases-loop-place : goal.decreases-loop-place
-decreases-loop-place l = length l.bytes - l.place
+abbrev pub decreases-loop-offset : goal.decreases-loop-offset
+decreases-loop-offset l = length l.bytes - l.offset

@@ -1,9 +1,9 @@
 use Rattle.std.proofs.Common.{◌≡◌, drop}
 use Rattle.std.specs.Map.{lookup}
 use Rattle.std.specs.Str.{bytes_eq}
-use Rattle.ioa_tokens.specs.Spelling.{spelled}
+use Rattle.ioa_tokens.specs.Tables.{spelled_rows}
 use Rattle.ioa_tokens.proofs.table.meaning.Given as goal
 
 -- the rows gone by spell other words
 abbrev pub invariant-loop-spelling : goal.invariant-loop-spelling
-invariant-loop-spelling g l = lookup (bytes_eq l.word) (spelled l.table) ≡ lookup (bytes_eq l.word) (spelled (drop l.spelling-index l.table))
+invariant-loop-spelling g l = lookup (bytes_eq l.word) (spelled_rows l.table) ≡ lookup (bytes_eq l.word) (spelled_rows (drop l.spelling-index l.table))

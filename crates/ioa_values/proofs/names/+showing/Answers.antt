@@ -3,14 +3,14 @@ use Rattle.ioa_values.specs.Text.{text}
 use Rattle.ioa_values.proofs.Commas.{values_more, entries_more}
 use Rattle.ioa_values.proofs.names.+showing.Goals as goal
 
-pub push_values-loop-place-preserved : goal.push_values-loop-place-preserved
-push_values-loop-place-preserved t c =
-    values_more c.args.names.now (string_bytes c.args.output.now) c.args.values.now.items c.loop-place.place c.value-item.result
-    c.loop-place.invariant c.in_ok-push_separator.ensures c.in_ok-push_shown.ensures (omega arith) (cc c.value-item.is)
+pub push_values-loop-position-preserved : goal.push_values-loop-position-preserved
+push_values-loop-position-preserved t c =
+    values_more c.args.names.now (string_bytes c.args.output.now) c.args.values.now.items c.loop-position.position c.value-item.result
+    c.loop-position.invariant c.in_ok-push_separator.ensures c.in_ok-push_shown.ensures (omega arith) (cc c.value-item.is)
 
-pub push_entries-loop-place-preserved : goal.push_entries-loop-place-preserved
-push_entries-loop-place-preserved t c =
-    entries_more c.args.names.now (string_bytes c.args.output.now) c.args.entries.now.items c.loop-place.place c.entry-item.result
-    c.loop-place.invariant c.in_ok-push_separator.ensures c.in_ok-push_shown.ensures
+pub push_entries-loop-position-preserved : goal.push_entries-loop-position-preserved
+push_entries-loop-position-preserved t c =
+    entries_more c.args.names.now (string_bytes c.args.output.now) c.args.entries.now.items c.loop-position.position c.entry-item.result
+    c.loop-position.invariant c.in_ok-push_separator.ensures c.in_ok-push_shown.ensures
     (c.in_ok-push_shown-2.ensures ∙ ap (λ (x : List ℕ). x ++ text c.args.names.now c.entry-item.result.1) c.in_ok-push_str.ensures.bytes)
     (omega arith) (cc c.entry-item.is)

@@ -4,11 +4,11 @@ use Rattle.ioa_values.specs.Text.{texts, entry_texts, with_commas}
 use Rattle.ioa_values.proofs.names.+showing.Given as goal
 
 -- what is written so far are the values gone by
-abbrev pub invariant-push_values-loop-place : goal.invariant-push_values-loop-place
-invariant-push_values-loop-place l =
-    string_bytes l.output ≡ string_bytes l.initial.output ++ with_commas (texts l.names (items_of (take l.place l.values.items)))
+abbrev pub invariant-push_values-loop-position : goal.invariant-push_values-loop-position
+invariant-push_values-loop-position l =
+    string_bytes l.output ≡ string_bytes l.initial.output ++ with_commas (texts l.names (items_of (take l.position l.values.items)))
 
 -- what is written so far are the entries gone by
-abbrev pub invariant-push_entries-loop-place : goal.invariant-push_entries-loop-place
-invariant-push_entries-loop-place l =
-    string_bytes l.output ≡ string_bytes l.initial.output ++ with_commas (entry_texts l.names (entries_of (take l.place l.entries.items)))
+abbrev pub invariant-push_entries-loop-position : goal.invariant-push_entries-loop-position
+invariant-push_entries-loop-position l =
+    string_bytes l.output ≡ string_bytes l.initial.output ++ with_commas (entry_texts l.names (entries_of (take l.position l.entries.items)))

@@ -3,7 +3,7 @@ use Rattle.ioa_workers.specs.Reports.{variable_lines}
 use Rattle.ioa_workers.proofs.reporting.push_variables.Given as goal
 
 -- what is written so far, and then the lines that are left
-abbrev pub invariant-loop-place : goal.invariant-loop-place
-invariant-loop-place l =
-    string_bytes l.report ++ variable_lines l.names l.node (drop l.place l.values) (drop l.place l.variables)
+abbrev pub invariant-loop-position : goal.invariant-loop-position
+invariant-loop-position l =
+    string_bytes l.report ++ variable_lines l.names l.node (drop l.position l.values) (drop l.position l.variables)
     ≡ string_bytes l.initial.report ++ variable_lines l.names l.node l.values l.variables

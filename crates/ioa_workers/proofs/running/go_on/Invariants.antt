@@ -1,12 +1,12 @@
 use Rattle.std.proofs.Common.{◌≡◌, ◌+◌, ◌-◌}
 use Rattle.ioa_workers.specs.Recorded.{Continues}
-use Rattle.ioa_workers.specs.Solo.{rounds, situation_of}
+use Rattle.ioa_workers.specs.Solo.{rounds, course_of}
 use Rattle.ioa_workers.proofs.running.go_on.Given as goal
 
 -- the schedule goes on from where the run began, and the rounds that are left are the rest of the run
 abbrev pub invariant-loop-round : goal.invariant-loop-round
 invariant-loop-round l = record {
   execution : Continues l.options.steps l.initial.course l.course;
-  rest : rounds l.options.steps (l._round-end - l._round) (situation_of l.course) l.nodes
-      ≡ rounds l.options.steps (l.options.attempts + 1) (situation_of l.initial.course) l.initial.nodes;
+  rest : rounds l.options.steps (l._round-end - l._round) (course_of l.course) l.nodes
+      ≡ rounds l.options.steps (l.options.attempts + 1) (course_of l.initial.course) l.initial.nodes;
 }

@@ -1,8 +1,8 @@
 use Rattle.std.proofs.Common.{◌∙◌, ap, refl, rules, map}
 use Rattle.std.proofs.lemmas.List.{length-map}
 use Rattle.ioa_compose.specs.Start.{start}
-use Rattle.ioa_workers.specs.Solo.{ending_of, situation_of}
-use Rattle.ioa_workers.proofs.Ends.{all_written, solo_from}
+use Rattle.ioa_workers.specs.Solo.{ending_of, course_of}
+use Rattle.ioa_workers.proofs.Termination.{all_written, solo_from}
 use Rattle.ioa_workers.proofs.running.run.Goals as goal
 
 pub returns-clause-run : goal.returns-clause-run
@@ -14,5 +14,5 @@ returns-clause-run c = record {
 
 pub returns-clause-solo : goal.returns-clause-solo
 returns-clause-solo c =
-    solo_from c.args.system.now c.args.options.now _ _ _ (situation_of c.go_on.new.course) c.go_on.new.nodes _ _ c.go_on.ensures.solo
+    solo_from c.args.system.now c.args.options.now _ _ _ (course_of c.go_on.new.course) c.go_on.new.nodes _ _ c.go_on.ensures.solo
     (search rules) (search rules) (search rules) refl refl (c.in_ok-endings.ensures ∙ ap (λ ps. map ending_of ps) (c.deref.ensures.value ∙ all_written c.in_ok-nodes.nodes.len c.go_on.new.nodes c.in_ok-nodes.nodes.items (search rules) (search rules)))

@@ -1,0 +1,51 @@
+-- Terms and statements beside whose names stand the places of the names' values (profile).
+use Rattle.std.specs.Prelude.{◌≡◌, ℕ, List, Some}
+use Rattle.std.specs.List.{AllByRecursion}
+use Rattle.ioa_terms.specs.Bindings.{slot_in}
+use Rattle.ioa_terms.specs.PlainTerm as plain
+use Rattle.ioa_terms.specs.PlainTerm.{PlainTerm, PlainTerms, name, one, two, call, display, field, no_terms, term, PlainTarget, variable, at_key, at_field, PlainStatement, PlainStatements, PlainArms, assign, choose, fire, no_statements, statement, no_arms, arm}
+
+abbrev mutual
+  -- beside each name of a term stands the first place of that name among the names in view
+  pub IsResolved : {D : Type 0} → PlainTerm ℕ D → List (List ℕ) → Type 0
+  IsResolved (plain.number n) names = Unit {0}
+  IsResolved (plain.truth b) names = Unit {0}
+  IsResolved (name x at) names = slot_in x names ≡ Some at
+  IsResolved (one op a) names = IsResolved a names
+  IsResolved (two op a b) names = IsResolved a names × IsResolved b names
+  IsResolved (call w ts) names = AreTermsResolved ts names
+  IsResolved (display form d ts) names = AreTermsResolved ts names
+  IsResolved (field a w d) names = IsResolved a names
+
+  -- the same of each of terms
+  pub AreTermsResolved : {D : Type 0} → PlainTerms ℕ D → List (List ℕ) → Type 0
+  AreTermsResolved no_terms names = Unit {0}
+  AreTermsResolved (term t more) names = IsResolved t names × AreTermsResolved more names
+
+-- the same of a place, which is a variable's, and of its key
+abbrev pub IsResolvedTarget : {D : Type 0} → PlainTarget ℕ D → List (List ℕ) → List (List ℕ) → Type 0
+IsResolvedTarget (variable x at d) variables names = slot_in x variables ≡ Some at
+IsResolvedTarget (at_key x at d k) variables names = (slot_in x variables ≡ Some at) × IsResolved k names
+IsResolvedTarget (at_field x at d f) variables names = slot_in x variables ≡ Some at
+
+abbrev mutual
+  -- the same of a statement: what it assigns are variables, and what it reads are names in view; nothing is asked of a
+  -- firing, which is no part of an effect
+  pub IsResolvedStatement : {D : Type 0} → PlainStatement ℕ D → List (List ℕ) → List (List ℕ) → Type 0
+  IsResolvedStatement (assign p t) variables names = IsResolvedTarget p variables names × IsResolved t names
+  IsResolvedStatement (choose arms rest) variables names = AreArmsResolved arms variables names × AreAllResolved rest variables names
+  IsResolvedStatement (fire kind action arguments) variables names = Unit {0}
+
+  -- the same of each arm
+  pub AreArmsResolved : {D : Type 0} → PlainArms ℕ D → List (List ℕ) → List (List ℕ) → Type 0
+  AreArmsResolved no_arms variables names = Unit {0}
+  AreArmsResolved (arm t body more) variables names = IsResolved t names × AreAllResolved body variables names × AreArmsResolved more variables names
+
+  -- the same of each of statements
+  pub AreAllResolved : {D : Type 0} → PlainStatements ℕ D → List (List ℕ) → List (List ℕ) → Type 0
+  AreAllResolved no_statements variables names = Unit {0}
+  AreAllResolved (statement s more) variables names = IsResolvedStatement s variables names × AreAllResolved more variables names
+
+-- the same of statements in a list
+abbrev pub AreResolved : {D : Type 0} → List (PlainStatement ℕ D) → List (List ℕ) → List (List ℕ) → Type 0
+AreResolved ss variables names = AllByRecursion (λ s. IsResolvedStatement s variables names) ss

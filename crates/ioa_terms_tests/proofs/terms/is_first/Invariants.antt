@@ -1,7 +1,0 @@
-use Rattle.std.proofs.Common.{◌≡◌, ℕ, ◌+◌, Some, drop}
-use Rattle.ioa_terms.specs.Bindings.{place_in}
-use Rattle.ioa_terms_tests.proofs.terms.is_first.Given as goal
-
--- a place among the names that are left is that many places behind those gone by
-abbrev pub invariant-loop-at : goal.invariant-loop-at
-invariant-loop-at l = (k : ℕ) → place_in l.name (drop l.at l.names) ≡ Some k → place_in l.name l.names ≡ Some (l.at + k)

@@ -1,0 +1,300 @@
+//! Texts with the lines that the program writes for them.
+
+use crate::input::Failing;
+use ioa_command::command;
+use ioa_streams::Over;
+use ioa_workers::{Options, RunFault, run_system};
+use std::io;
+use std::io::{Error, ErrorKind, Read, Write};
+use std::test::Fail;
+
+/// Two nodes that hand two messages over one channel.
+const LIST: &str = "automaton Src
+  signature output send(m: Int, const 0, const 1)
+  states n: Int := 7
+  transitions output send(m, 0, 1) pre m = n eff n := n + 1
+  schedule do fire send(n, 0, 1); fire send(n, 0, 1) od
+automaton Dst
+  signature input receive(m: Int, const 0, const 1)
+  states last: Int := 0
+  transitions input receive(m, 0, 1) eff last := m
+  schedule do fire receive(7, 0, 1); fire receive(8, 0, 1) od
+system
+  node 0: Src
+  node 1: Dst
+  channel 0 -> 1
+";
+
+/// The report of its run with the default options.
+const LIST_REPORT: &str = "schedule 4
+0 send(7, 0, 1)
+1 receive(7, 0, 1)
+2 send(8, 0, 1)
+3 receive(8, 0, 1)
+node 0 n = 9
+node 1 last = 8
+channel 0 -> 1 {}
+ending 0 done
+ending 1 done
+worker 0 commits 4
+total 4
+";
+
+/// The same text without its channel.
+const WITHOUT_CHANNEL: &str = "automaton Src
+  signature output send(m: Int, const 0, const 1)
+  states n: Int := 7
+  transitions output send(m, 0, 1) pre m = n eff n := n + 1
+  schedule do fire send(n, 0, 1); fire send(n, 0, 1) od
+automaton Dst
+  signature input receive(m: Int, const 0, const 1)
+  states last: Int := 0
+  transitions input receive(m, 0, 1) eff last := m
+  schedule do fire receive(7, 0, 1); fire receive(8, 0, 1) od
+system
+  node 0: Src
+  node 1: Dst
+";
+
+/// The same text with a receiver that takes from another node.
+const WITHOUT_INPUT: &str = "automaton Src
+  signature output send(m: Int, const 0, const 1)
+  states n: Int := 7
+  transitions output send(m, 0, 1) pre m = n eff n := n + 1
+  schedule do fire send(n, 0, 1); fire send(n, 0, 1) od
+automaton Dst
+  signature input receive(m: Int, const 2, const 1)
+  states last: Int := 0
+  transitions input receive(m, 2, 1) eff last := m
+  schedule do fire receive(7, 0, 1); fire receive(8, 0, 1) od
+system
+  node 0: Src
+  node 1: Dst
+  channel 0 -> 1
+";
+
+/// A node alone.
+const ONE_STATE: &str = "automaton A states x: Int := 3 system node 0: A";
+
+/// The report of its run.
+const ONE_STATE_REPORT: &str =
+    "schedule 0\nnode 0 x = 3\nending 0 done\nworker 0 commits 0\ntotal 0\n";
+
+/// An input with what the program makes of it.
+#[derive(Drop)]
+struct Row {
+    input: &'static [u8],
+    status: u8,
+    out: &'static str,
+    err: &'static str,
+}
+
+/// A run with options of its own.
+#[derive(Drop)]
+struct Limited {
+    steps: u64,
+    attempts: u64,
+    out: &'static str,
+}
+
+/// A writer that takes a few bytes, and then fails.
+#[derive(Drop)]
+struct FailingWriter {
+    written: Vec<u8>,
+    room: usize,
+}
+
+impl Write for FailingWriter {
+    fn write(&mut self, chunk: &[u8]) -> io::Result<usize> {
+        match chunk.first() {
+            Some(byte) if self.written.len() < self.room => {
+                self.written.push(*byte)?;
+                Ok(1)
+            }
+            _ => Err(Error::from(ErrorKind::Other)),
+        }
+    }
+
+    fn flush(&mut self) -> io::Result<()> {
+        Ok(())
+    }
+}
+
+/// What the program makes of a reader: its status, and what it wrote on each stream.
+fn run_on<R: Read>(
+    rt: &HostRuntime,
+    words: &[&str],
+    reader: &mut R,
+) -> Result<(u8, String, String), Fail> {
+    let mut out = Over::new(Vec::new(rt.alloc()));
+    let mut err = Over::new(Vec::new(rt.alloc()));
+    let status = command(rt.alloc(), words, reader, &mut out, &mut err);
+    let out = String::from_utf8(out.into_writer())?;
+    let err = String::from_utf8(err.into_writer())?;
+    Ok((status, out, err))
+}
+
+#[test]
+fn texts_give_their_reports_or_refusals(rt: HostRuntime) -> Result<(), Fail> {
+    let rows = [
+        Row {
+            input: b"",
+            status: 1,
+            out: "",
+            err: "refused 10 Empty at 0\n",
+        },
+        Row {
+            input: ONE_STATE.as_bytes(),
+            status: 0,
+            out: ONE_STATE_REPORT,
+            err: "",
+        },
+        Row {
+            input: b"automaton A system",
+            status: 0,
+            out: "schedule 0\nworker 0 commits 0\ntotal 0\n",
+            err: "",
+        },
+        Row {
+            input: b"9223372036854775808",
+            status: 1,
+            out: "",
+            err: "refused 13 NumberTooLarge at 0\n",
+        },
+        Row {
+            input: WITHOUT_CHANNEL.as_bytes(),
+            status: 0,
+            out: "schedule 0\nnode 0 n = 7\nnode 1 last = 0\nending 0 fault NoChannel\nending 1 fault NoChannel\nworker 0 commits 0\ntotal 0\n",
+            err: "",
+        },
+        Row {
+            input: WITHOUT_INPUT.as_bytes(),
+            status: 1,
+            out: "",
+            err: "refused 28 InputMissing in 2\n",
+        },
+        Row {
+            input: LIST.as_bytes(),
+            status: 0,
+            out: LIST_REPORT,
+            err: "",
+        },
+        Row {
+            input: b"automaton",
+            status: 1,
+            out: "",
+            err: "refused 12 Unexpected at 9\n",
+        },
+        Row {
+            input: b"automaton A $",
+            status: 1,
+            out: "",
+            err: "refused 11 BadCharacter at 12\n",
+        },
+        Row {
+            input: b"automaton\xff",
+            status: 1,
+            out: "",
+            err: "refused 11 BadCharacter at 9\n",
+        },
+    ];
+    for row in &rows {
+        let mut reader = row.input;
+        let (status, out, err) = run_on(&rt, &["ioarun"], &mut reader)?;
+        assert_eq!(rt; out.as_str(), row.out);
+        assert_eq!(rt; err.as_str(), row.err);
+        assert_eq!(rt; status, row.status);
+    }
+    Ok(())
+}
+
+#[test]
+fn lengths_are_limited(rt: HostRuntime) -> Result<(), Fail> {
+    let room = 1_048_576 - ONE_STATE.len() as u64;
+    let mut at_the_limit = ONE_STATE.as_bytes().chain(io::repeat(b' ').take(room));
+    let (status, out, _) = run_on(&rt, &["ioarun"], &mut at_the_limit)?;
+    assert_eq!(rt; out.as_str(), ONE_STATE_REPORT);
+    assert_eq!(rt; status, 0);
+    let rows = [
+        (1_048_577, "refused 15 TooLong at 1048576\n"),
+        (8_388_609, "refused 15 TooLong at 8388608\n"),
+    ];
+    for (length, line) in rows {
+        let mut too_long = io::repeat(b' ').take(length);
+        let (status, out, err) = run_on(&rt, &["ioarun"], &mut too_long)?;
+        assert_eq!(rt; err.as_str(), line);
+        assert_eq!(rt; out.as_str(), "");
+        assert_eq!(rt; status, 1);
+    }
+    Ok(())
+}
+
+#[test]
+fn words_and_failed_reads_are_told(rt: HostRuntime) -> Result<(), Fail> {
+    let mut reader = LIST.as_bytes();
+    let (status, out, err) = run_on(&rt, &["ioarun", "run"], &mut reader)?;
+    assert_eq!(rt; err.as_str(), "ioarun takes no words\n");
+    assert_eq!(rt; out.as_str(), "");
+    assert_eq!(rt; status, 2);
+    let mut failing = b"automaton".as_slice().chain(Failing(ErrorKind::Other));
+    let (status, out, err) = run_on(&rt, &["ioarun"], &mut failing)?;
+    assert_eq!(rt; err.as_str(), "failed 70 Read\n");
+    assert_eq!(rt; out.as_str(), "");
+    assert_eq!(rt; status, 3);
+    Ok(())
+}
+
+#[test]
+fn a_writer_that_fails_has_a_beginning_of_the_report(rt: HostRuntime) -> Result<(), Fail> {
+    for room in [0, 1, 11, ONE_STATE_REPORT.len() - 1] {
+        let mut out = Over::new(FailingWriter {
+            written: Vec::new(rt.alloc()),
+            room,
+        });
+        let mut err = Over::new(Vec::new(rt.alloc()));
+        let mut reader = ONE_STATE.as_bytes();
+        let status = command(rt.alloc(), &["ioarun"], &mut reader, &mut out, &mut err);
+        let written = out.into_writer().written;
+        assert_eq!(rt; written.len(), room);
+        assert!(rt; ONE_STATE_REPORT.as_bytes().starts_with(&written));
+        assert_eq!(rt;
+            err.into_writer().as_slice(),
+            b"failed 71 Write\n".as_slice()
+        );
+        assert_eq!(rt; status, 3);
+    }
+    Ok(())
+}
+
+#[test]
+fn runs_keep_to_their_attempts_and_steps(rt: HostRuntime) -> Result<(), Fail> {
+    let rows = [
+        Limited {
+            steps: 10_000,
+            attempts: 1,
+            out: "schedule 2\n0 send(7, 0, 1)\n1 receive(7, 0, 1)\nnode 0 n = 8\nnode 1 last = 7\nchannel 0 -> 1 {}\nending 0 spent\nending 1 spent\nworker 0 commits 2\ntotal 2\n",
+        },
+        Limited {
+            steps: 3,
+            attempts: 1_000,
+            out: "schedule 3\n0 send(7, 0, 1)\n1 receive(7, 0, 1)\n2 send(8, 0, 1)\nnode 0 n = 9\nnode 1 last = 7\nchannel 0 -> 1 {8}\nending 0 done\nending 1 fault Full\nworker 0 commits 3\ntotal 3\n",
+        },
+    ];
+    for row in &rows {
+        let options = Options::within(row.steps, row.attempts).ok_or("out of range")?;
+        let mut out = Over::new(Vec::new(rt.alloc()));
+        run_system(rt.alloc(), LIST, &options, &mut out)?;
+        let written = String::from_utf8(out.into_writer())?;
+        assert_eq!(rt; written.as_str(), row.out);
+    }
+    Ok(())
+}
+
+#[test]
+fn a_refused_text_writes_nothing(rt: HostRuntime) -> Result<(), Fail> {
+    let mut out = Over::new(Vec::new(rt.alloc()));
+    let outcome = run_system(rt.alloc(), WITHOUT_INPUT, &Options::default(), &mut out);
+    assert!(rt; matches!(&outcome, Err(RunFault::Check(_))));
+    assert!(rt; out.into_writer().is_empty());
+    Ok(())
+}
