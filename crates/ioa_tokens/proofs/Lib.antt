@@ -1,4 +1,4 @@
-pub mod Prefixes
+pub mod PrefixLemmas
 pub mod Tables
 pub mod Numbers
 pub mod Sizes

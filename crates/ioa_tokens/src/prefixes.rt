@@ -48,7 +48,7 @@ fn letters_length(text: &[u8]) -> usize
 }
 
 /// The word that a text begins with.
-#[tactic(auto, using(crate::proofs::Prefixes::prefix_lemmas))]
+#[tactic(auto, using(crate::proofs::PrefixLemmas::prefix_lemmas))]
 pub(crate) fn word_at(text: &[u8]) -> &[u8]
     ensures value { result.now ≡ take_while spec.is_in_word text.now }
     ensures ascii { All (λ c. c < 128) result.now }
@@ -57,7 +57,7 @@ pub(crate) fn word_at(text: &[u8]) -> &[u8]
 }
 
 /// The digits that a text begins with.
-#[tactic(auto, using(crate::proofs::Prefixes::prefix_lemmas))]
+#[tactic(auto, using(crate::proofs::PrefixLemmas::prefix_lemmas))]
 pub(crate) fn digits_at(text: &[u8]) -> &[u8]
     ensures value { result.now ≡ take_while is_ascii_digit text.now }
     ensures digits { All IsAsciiDigit result.now }
@@ -66,7 +66,7 @@ pub(crate) fn digits_at(text: &[u8]) -> &[u8]
 }
 
 /// The backslash that a text begins with, and the letters after it.
-#[tactic(auto, using(crate::proofs::Prefixes::prefix_lemmas))]
+#[tactic(auto, using(crate::proofs::PrefixLemmas::prefix_lemmas))]
 pub(crate) fn backslash_word(text: &[u8]) -> &[u8]
     requires { 0 < length text.now }
     ensures { result.now ≡ spec.backslash_word text.now }
