@@ -10,13 +10,13 @@ use Rattle.ioa_values.specs.DataOrder.{data_cmp, data_cmp_total}
 use Rattle.ioa_values.specs.Collections.{by_order, IsAscending, is_member, with_member, without_member, set_of, union, keys_of, value_at, with_entry, without_key}
 use Rattle.ioa_values.proofs.Equality.{tied_equal}
 
--- what holds at each of the three answers holds of the one that is taken
+-- what holds of each of three in its case holds of the one that the order chooses
 pub by_each : {X : Type 0} (Q : X → Type 0) (o : Ordering) (less equal greater : X) → (o ≡ Less → Q less) → (o ≡ Equal → Q equal) → (o ≡ Greater → Q greater) → Q (by_order o less equal greater)
 by_each Q Less less equal greater p q r = p refl
 by_each Q Equal less equal greater p q r = q refl
 by_each Q Greater less equal greater p q r = r refl
 
--- a function of the one that is taken
+-- a function of the one that the order chooses
 pub of_each : {X Y : Type 0} (f : X → Y) (o : Ordering) (less equal greater : X) → f (by_order o less equal greater) ≡ by_order o (f less) (f equal) (f greater)
 of_each f Less less equal greater = refl
 of_each f Equal less equal greater = refl
@@ -31,13 +31,14 @@ pub all_later : (d x : Data) (xs : List Data) → data_cmp d x ≡ Less → AllB
 all_later d x [] e h = tt
 all_later d x (y ∷ ys) e h = (data_cmp_total.trans d x y e h.0, all_later d x ys e h.1)
 
--- what holds of the members and of one more
+-- what holds of all members and of one more value holds of all members of the set with that value
 pub all_with : (P : Data → Type 0) (d : Data) (xs : List Data) → P d → AllByRecursion P xs → AllByRecursion P (with_member d xs)
 all_with P d [] p h = (p, tt)
 all_with P d (x ∷ xs) p h =
     by_each (AllByRecursion P) (data_cmp d x) (d ∷ x ∷ xs) (x ∷ xs) (x ∷ with_member d xs)
     (λ e. (p, h)) (λ e. h) (λ e. (h.0, all_with P d xs p h.1))
 
+-- what holds of all members holds of those that are left
 pub all_without : (P : Data → Type 0) (d : Data) (xs : List Data) → AllByRecursion P xs → AllByRecursion P (without_member d xs)
 all_without P d [] h = tt
 all_without P d (x ∷ xs) h =

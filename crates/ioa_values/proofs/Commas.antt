@@ -6,7 +6,7 @@ use Rattle.ioa_values.specs.Data.{Data, items_of, entries_of}
 use Rattle.ioa_values.specs.Text.{with_commas, separator, text, texts, entry_text, entry_texts}
 
 -- one more piece behind the others
-with_commas-push : (ts : List (List ℕ)) (t : List ℕ) → with_commas (ts ++ t ∷ []) ≡ with_commas ts ++ (separator (length ts) ++ t)
+pub with_commas-push : (ts : List (List ℕ)) (t : List ℕ) → with_commas (ts ++ t ∷ []) ≡ with_commas ts ++ (separator (length ts) ++ t)
 with_commas-push [] t = refl
 with_commas-push (a ∷ []) t = append_assoc a (codes ", ") t
 with_commas-push (a ∷ (b ∷ more)) t =
@@ -14,7 +14,7 @@ with_commas-push (a ∷ (b ∷ more)) t =
     ∙ sym (append_assoc (a ++ codes ", ") (with_commas (b ∷ more)) (codes ", " ++ t))
 
 -- the same of the pieces that come from a list
-with_commas-more : {X : Type 0} (f : X → List ℕ) (xs : List X) (i : ℕ) (d : X) → i < length xs → with_commas (map f (take (i + 1) xs)) ≡ with_commas (map f (take i xs)) ++ (separator i ++ f (get_or xs i d))
+pub with_commas-more : {X : Type 0} (f : X → List ℕ) (xs : List X) (i : ℕ) (d : X) → i < length xs → with_commas (map f (take (i + 1) xs)) ≡ with_commas (map f (take i xs)) ++ (separator i ++ f (get_or xs i d))
 with_commas-more f xs i d h =
     let many : length (map f (take i xs)) ≡ i = length-map (take i xs) f ∙ length-take-le i xs (omega arith) in
     rw (take_more xs i d h, map-append f (take i xs) (get_or xs i d ∷ []), with_commas-push (map f (take i xs)) (f (get_or xs i d)), many) refl

@@ -1,4 +1,5 @@
 -- the lemmas of this crate
+pub mod AllKept
 pub mod AllOf
 pub mod Ascending
 pub mod Commas
@@ -9,3 +10,4 @@ pub mod Halves
 pub mod Members
 pub mod Merging
 pub mod Positions
+pub mod Rules

@@ -1,5 +1,6 @@
 -- Sets by their members, and maps by the values at their keys.
 use Rattle.std.proofs.Common.{◌≡◌, ◌∙◌, Bool, true, false, not, ◌||◌, ◌&&◌, true≢false, List, [], ◌∷◌, Option, Some, None, refl, sym, ap, if◌then◌else◌}
+use Rattle.std.proofs.Math.Bool.{and-false}
 use Rattle.std.proofs.lemmas.Cmp.{tied_itself}
 use Rattle.std.specs.List.{AllByRecursion}
 use Rattle.std.specs.Option.{is_some}
@@ -35,7 +36,7 @@ member_with x d (y ∷ ys) =
     (λ e. rw (tied_equal d y e) (or_again (same x y) (is_member x ys)))
     (λ e. ap (λ b. same x y || b) (member_with x d ys) ∙ or_swapped (same x y) (same x d) (is_member x ys))
 
--- what is false where a test is true is true only where the test is false
+-- what is false if a test is true is true only if the test is false
 but_not : (b c : Bool) → (b ≡ true → c ≡ false) → c ≡ (not b && c)
 but_not true c h = h refl
 but_not false c h = refl
@@ -48,13 +49,9 @@ but_not_later : (b c m : Bool) → (b ≡ true → c ≡ false) → (b || (not c
 but_not_later true c m h = rw (h refl) refl
 but_not_later false c m h = refl
 
-and_false : (b : Bool) → false ≡ (b && false)
-and_false true = refl
-and_false false = refl
-
 -- a set without a member has the others
 pub member_without : (x d : Data) (xs : List Data) → IsAscending xs → is_member x (without_member d xs) ≡ (not (same x d) && is_member x xs)
-member_without x d [] a = and_false (not (same x d))
+member_without x d [] a = sym (and-false (not (same x d)))
 member_without x d (y ∷ ys) a =
     by_each (λ (zs : List Data). is_member x zs ≡ (not (same x d) && is_member x (y ∷ ys))) (data_cmp d y) (y ∷ ys) ys (y ∷ without_member d ys)
     (λ e. but_not (same x d) (is_member x (y ∷ ys)) (λ s. ap (λ (z : Data). is_member z (y ∷ ys)) (same_equal x d s) ∙ none_same d (y ∷ ys) (e, all_later d y ys e a.0)))
@@ -75,16 +72,16 @@ member_union x (d ∷ xs) ys =
     member_with x d (union xs ys) ∙ ap (λ b. same x d || b) (member_union x xs ys)
     ∙ or_grouped (same x d) (is_member x xs) (is_member x ys)
 
--- the first of a list is one of its members
+-- the first item of a list is one of its members
 is_first : (x : Data) (xs : List Data) → is_member x (x ∷ xs) ≡ true
 is_first x xs = rw (same_itself x) refl
 
--- two tests that are false where a third is true are the same where they are the same beside the third
+-- two tests that are false if a third is true are the same if each gives the same in disjunction with the third
 beside : (b m n : Bool) → (b ≡ true → m ≡ false) → (b ≡ true → n ≡ false) → (b || m) ≡ (b || n) → m ≡ n
 beside true m n p q h = p refl ∙ sym (q refl)
 beside false m n p q h = h
 
--- a set is told by its members
+-- a set is known by its members
 pub same_members : (xs ys : List Data) → IsAscending xs → IsAscending ys → ((x : Data) → is_member x xs ≡ is_member x ys) → xs ≡ ys
 same_members [] [] a b h = refl
 same_members [] (y ∷ ys) a b h = absurd (true≢false (sym (h y ∙ is_first y ys)))
@@ -145,10 +142,10 @@ nothing_but : (b : Bool) (w : Option Data) → (b ≡ true → w ≡ None) → w
 nothing_but true w h = h refl
 nothing_but false w h = refl
 
-taken_out : (o : Ordering) (u : Data) (w : Option Data) → (o ≡ Less → w ≡ None) → (o ≡ Equal → w ≡ None) → w ≡ (if is_eq o then None else by_order o None (Some u) w)
-taken_out Less u w h k = h refl
-taken_out Equal u w h k = k refl
-taken_out Greater u w h k = refl
+removed : (o : Ordering) (u : Data) (w : Option Data) → (o ≡ Less → w ≡ None) → (o ≡ Equal → w ≡ None) → w ≡ (if is_eq o then None else by_order o None (Some u) w)
+removed Less u w h k = h refl
+removed Equal u w h k = k refl
+removed Greater u w h k = refl
 
 -- a map without a key has no value there, and at all others what it had
 pub value_without : (l k : Data) (es : List (Data × Data)) → IsAscending (keys_of es) → value_at l (without_key k es) ≡ (if same l k then None else value_at l es)
@@ -157,7 +154,7 @@ value_without l k (p ∷ more) a =
     by_each (λ (fs : List (Data × Data)). value_at l fs ≡ (if same l k then None else value_at l (p ∷ more))) (data_cmp k p.0)
     (p ∷ more) more (p ∷ without_key k more)
     (λ e. nothing_but (same l k) (value_at l (p ∷ more)) (λ s. rw (same_equal l k s) (rw e refl)))
-    (λ e. rw (tied_equal k p.0 e) (taken_out (data_cmp l p.0) p.1 (value_at l more)
+    (λ e. rw (tied_equal k p.0 e) (removed (data_cmp l p.0) p.1 (value_at l more)
     (λ f. none_at l more (all_later l p.0 (keys_of more) f a.0))
     (λ f. rw (tied_equal l p.0 f) (none_at p.0 more a.0))))
     (λ e.
@@ -167,18 +164,18 @@ value_without l k (p ∷ more) a =
 none_some : {v : Data} → None ≡ Some v → ⊥
 none_some e = true≢false (sym (ap is_some e))
 
--- the value that is there, or another
+-- the value of an option, or another value
 abbrev value_or : Data → Option Data → Data
 value_or u None = u
 value_or u (Some v) = v
 
--- two tails in which neither has a value up to the first key are the same where the maps are
+-- two tails that have no value up to the first key are the same if the maps are
 tails : (o : Ordering) (u v : Data) (w z : Option Data) → (o ≡ Less → w ≡ None) → (o ≡ Less → z ≡ None) → (o ≡ Equal → w ≡ None) → (o ≡ Equal → z ≡ None) → by_order o None (Some u) w ≡ by_order o None (Some v) z → w ≡ z
 tails Less u v w z p q r s h = p refl ∙ sym (q refl)
 tails Equal u v w z p q r s h = r refl ∙ sym (s refl)
 tails Greater u v w z p q r s h = h
 
--- a map is told by the values at its keys
+-- a map is known by the values at its keys
 pub same_values : (es fs : List (Data × Data)) → IsAscending (keys_of es) → IsAscending (keys_of fs) → ((k : Data) → value_at k es ≡ value_at k fs) → es ≡ fs
 same_values [] [] a b h = refl
 same_values [] (f ∷ fs) a b h = absurd (none_some (h f.0 ∙ first_at f fs))

@@ -12,7 +12,7 @@ by_order Less less equal greater = less
 by_order Equal less equal greater = equal
 by_order Greater less equal greater = greater
 
--- whether each item comes before all that stand behind it
+-- each item comes before all the items behind it
 abbrev pub IsAscending : List Data → Type 0
 IsAscending [] = Unit {0}
 IsAscending (x ∷ xs) = AllByRecursion (λ y. data_cmp x y ≡ Less) xs × IsAscending xs
@@ -46,7 +46,7 @@ abbrev pub keys_of : List (Data × Data) → List Data
 keys_of [] = []
 keys_of (p ∷ more) = p.0 ∷ keys_of more
 
--- the value at a key, where the key is there
+-- the value at a key, if the map has the key
 abbrev pub value_at : Data → List (Data × Data) → Option Data
 value_at k [] = None
 value_at k (p ∷ more) = by_order (data_cmp k p.0) None (Some p.1) (value_at k more)

@@ -1,8 +1,9 @@
--- The values of the language, without where they lie in memory.
+-- The values of the language, whatever memory the code keeps them in.
 use Rattle.std.specs.Prelude.{ℕ, ℤ, pos, negsuc, ◌^◌, nat_lt, Bool, true, List, [], ◌∷◌, Option, Some, None}
 
--- a value (profile): a whole number without bound, a truth value, a constant (its place among the text's constants),
--- a tuple, a sequence, a finite set as its members in ascending order, or a finite map as its entries in ascending order of keys
+-- a value (profile): a whole number without bound, a truth value, a constant as its index among the text's constants,
+-- a tuple, a sequence, a finite set as its members in ascending order, or a finite map as its entries in ascending order
+-- of keys
 mutual
   pub data Data : Type 0 where
     number : ℤ → Data
@@ -41,7 +42,7 @@ abbrev pub entries_of : List (Data × Data) → Entries
 entries_of [] = no_entries
 entries_of (p ∷ more) = entry p.0 p.1 (entries_of more)
 
--- the number that a value is
+-- the number, if the value is a number
 abbrev pub as_number : Data → Option ℤ
 as_number (number z) = Some z
 as_number (truth b) = None
@@ -51,7 +52,7 @@ as_number (sequence ds) = None
 as_number (finite_set ds) = None
 as_number (finite_map es) = None
 
--- the truth value that a value is
+-- the truth value, if the value is one
 abbrev pub as_truth : Data → Option Bool
 as_truth (number z) = None
 as_truth (truth b) = Some b

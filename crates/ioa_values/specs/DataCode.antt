@@ -2,7 +2,8 @@
 use Rattle.std.specs.Prelude.{◌≡◌, ℕ, ℤ, pos, negsuc, Bool, true, false, refl}
 use Rattle.std.proofs.Common.{zero, suc, sym, ap, ◌∙◌}
 use base.Stored.{Gv, gnil, gnum, gcons, Coded}
-use Rattle.ioa_values.specs.Data.{Data, number, truth, constant, tuple, sequence, finite_set, finite_map, Items, no_items, item, Entries, no_entries, entry}
+use Rattle.ioa_values.specs.Data.{Data, number, truth, constant, tuple, sequence, finite_set, finite_map}
+use Rattle.ioa_values.specs.Data.{Items, no_items, item, Entries, no_entries, entry}
 
 encode_number : ℤ → Gv
 encode_number (pos n) = gcons (gnum 0) (gnum n)
@@ -54,7 +55,7 @@ decode_kind (suc (suc (suc (suc zero)))) t ds es = sequence ds
 decode_kind (suc (suc (suc (suc (suc zero))))) t ds es = finite_set ds
 decode_kind (suc (suc (suc (suc (suc (suc k)))))) t ds es = finite_map es
 
--- the value that a tree stands for
+-- the value that a tree was made of
 mutual
   decode : Gv → Data
   decode gnil = truth false

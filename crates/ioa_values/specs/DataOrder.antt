@@ -3,14 +3,16 @@ use Rattle.std.specs.Prelude.{◌≡◌, ℕ, ℤ, pos, Bool, true, false, List,
 use Rattle.std.specs.declared.cmp.Ordering.{Ordering}
 use Rattle.std.specs.Ordering.{nat_cmp, int_cmp, bool_cmp, ordering_then, on, eq_by_cmp, as_partial_cmp}
 use Rattle.std.specs.declared.cmp.Ordering.TheVariants.{Less, Equal, Greater}
-use Rattle.std.specs.Cmp.{IsTotalOrder, IsEquivalence, IsPartialOrder, IsPartialEquivalence, partial_order_from_total, partial_equiv_from_equiv}
+use Rattle.std.specs.Cmp.{IsTotalOrder, IsEquivalence, IsPartialOrder, IsPartialEquivalence}
+use Rattle.std.specs.Cmp.{partial_order_from_total, partial_equiv_from_equiv}
 use Rattle.std.specs.Cmp.Lexicographic.{slice_cmp}
 use Rattle.std.proofs.lemmas.Cmp.{int_cmp_total, on_total, lists_total, eq_by_cmp_equiv}
 use Rattle.std.proofs.Common.{subst, sym, ap, ◌∙◌, arith}
 use Rattle.std.proofs.lemmas.Bool.Decides.{nat_tests}
-use Rattle.ioa_values.specs.Data.{Data, number, truth, constant, tuple, sequence, finite_set, finite_map, Items, no_items, item, Entries, no_entries, entry}
+use Rattle.ioa_values.specs.Data.{Data, number, truth, constant, tuple, sequence, finite_set, finite_map}
+use Rattle.ioa_values.specs.Data.{Items, no_items, item, Entries, no_entries, entry}
 
--- the place of a value's kind among the kinds: numbers, truth values, constants, tuples, sequences, sets and maps
+-- the position of a value's kind among the kinds: numbers, truth values, constants, tuples, sequences, sets and maps
 abbrev pub kind : Data → ℕ
 kind (number z) = 0
 kind (truth b) = 1
@@ -33,7 +35,7 @@ abbrev mutual
   data_cmp (finite_map es) (finite_map fs) = entries_cmp es fs
   data_cmp a b = nat_cmp (kind a) (kind b)
 
-  -- the first two items that differ decide; a beginning stands before the longer list
+  -- the first two items that differ decide; a list that another one begins with comes first
   pub items_cmp : Items → Items → Ordering
   items_cmp no_items no_items = Equal
   items_cmp no_items (item y ys) = Less
@@ -45,7 +47,8 @@ abbrev mutual
   entries_cmp no_entries no_entries = Equal
   entries_cmp no_entries (entry l w fs) = Less
   entries_cmp (entry k v es) no_entries = Greater
-  entries_cmp (entry k v es) (entry l w fs) = ordering_then (data_cmp k l) (ordering_then (data_cmp v w) (entries_cmp es fs))
+  entries_cmp (entry k v es) (entry l w fs) =
+      ordering_then (data_cmp k l) (ordering_then (data_cmp v w) (entries_cmp es fs))
 
 -- whether two values are the same
 abbrev pub same : Data → Data → Bool
@@ -56,8 +59,8 @@ abbrev digit : Bool → ℤ
 digit false = pos 0
 digit true = pos 1
 
--- a value as a list of numbers that is ordered as it is, with what follows it: its kind, and then what it holds; 1 stands
--- before each item and 0 at the end
+-- a value as a list of numbers that is ordered as the value is, with what follows it: its kind, and then what it holds;
+-- 1 comes before each item and 0 at the end
 abbrev mutual
   digits : Data → List ℤ → List ℤ
   digits (number z) r = pos 0 ∷ z ∷ r
@@ -86,7 +89,7 @@ then_then Less b c = refl
 then_then Equal b c = refl
 then_then Greater b c = refl
 
--- constants are ordered as the numbers of their places
+-- constants are ordered as their indices
 constants_order : (k l : ℕ) → int_cmp (pos k) (pos l) ≡ nat_cmp k l
 constants_order k l = grind (arith, nat_tests)
 
@@ -97,7 +100,8 @@ truths_order true false = refl
 truths_order true true = refl
 
 mutual
-  digits-order : (a b : Data) (r s : List ℤ) → slice_cmp int_cmp (digits a r) (digits b s) ≡ ordering_then (data_cmp a b) (slice_cmp int_cmp r s)
+  digits-order : (a b : Data) (r s : List ℤ) →
+      slice_cmp int_cmp (digits a r) (digits b s) ≡ ordering_then (data_cmp a b) (slice_cmp int_cmp r s)
   digits-order (number m) (number n) r s = refl
   digits-order (truth a) (truth b) r s = ap (λ o. ordering_then o (slice_cmp int_cmp r s)) (truths_order a b)
   digits-order (constant k) (constant l) r s = ap (λ o. ordering_then o (slice_cmp int_cmp r s)) (constants_order k l)
@@ -107,7 +111,9 @@ mutual
   digits-order (finite_map es) (finite_map fs) r s = entries-order es fs r s
   digits-order a b r s = refl
 
-  items-order : (xs ys : Items) (r s : List ℤ) → slice_cmp int_cmp (items_digits xs r) (items_digits ys s) ≡ ordering_then (items_cmp xs ys) (slice_cmp int_cmp r s)
+  items-order : (xs ys : Items) (r s : List ℤ) →
+      slice_cmp int_cmp (items_digits xs r) (items_digits ys s)
+      ≡ ordering_then (items_cmp xs ys) (slice_cmp int_cmp r s)
   items-order no_items no_items r s = refl
   items-order no_items (item y ys) r s = refl
   items-order (item x xs) no_items r s = refl
@@ -116,7 +122,9 @@ mutual
       ∙ ap (ordering_then (data_cmp x y)) (items-order xs ys r s)
       ∙ sym (then_then (data_cmp x y) (items_cmp xs ys) (slice_cmp int_cmp r s))
 
-  entries-order : (es fs : Entries) (r s : List ℤ) → slice_cmp int_cmp (entries_digits es r) (entries_digits fs s) ≡ ordering_then (entries_cmp es fs) (slice_cmp int_cmp r s)
+  entries-order : (es fs : Entries) (r s : List ℤ) →
+      slice_cmp int_cmp (entries_digits es r) (entries_digits fs s)
+      ≡ ordering_then (entries_cmp es fs) (slice_cmp int_cmp r s)
   entries-order no_entries no_entries r s = refl
   entries-order no_entries (entry l w fs) r s = refl
   entries-order (entry k v es) no_entries r s = refl
@@ -132,7 +140,8 @@ same-order a b = digits-order a b [] [] ∙ then_equal (data_cmp a b)
 
 -- the order is total
 pub data_cmp_total : IsTotalOrder data_cmp
-data_cmp_total = subst IsTotalOrder (λ i a b. same-order a b i) (on_total (λ d. digits d []) (lists_total int_cmp_total))
+data_cmp_total =
+    subst IsTotalOrder (λ i a b. same-order a b i) (on_total (λ d. digits d []) (lists_total int_cmp_total))
 
 pub same_equivalence : IsEquivalence same
 same_equivalence = eq_by_cmp_equiv data_cmp_total

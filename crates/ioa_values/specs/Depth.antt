@@ -1,8 +1,9 @@
 -- How deep a value is (form): what each recursion over values counts down.
 use Rattle.std.specs.Prelude.{ℕ, ◌+◌, max}
-use Rattle.ioa_values.specs.Data.{Data, number, truth, constant, tuple, sequence, finite_set, finite_map, Items, no_items, item, Entries, no_entries, entry}
+use Rattle.ioa_values.specs.Data.{Data, number, truth, constant, tuple, sequence, finite_set, finite_map}
+use Rattle.ioa_values.specs.Data.{Items, no_items, item, Entries, no_entries, entry}
 
--- how many collections stand one in another, at most
+-- how many collections are nested in one another, at most
 abbrev mutual
   pub depth : Data → ℕ
   depth (number z) = 0

@@ -16,7 +16,8 @@ most-le-items [] = omega arith
 most-le-items (d ∷ ds) = omega (arith, most-le-items ds)
 
 -- of entries
-pub most-le-entries : (es : List (Data × Data)) → most (weighed-ValueForm-Map-0-at-2.weight Data (λ d. depth d + 1)) es ≤ entries_depth (entries_of es) + 1
+pub most-le-entries : (es : List (Data × Data)) →
+    most (weighed-ValueForm-Map-0-at-2.weight Data (λ d. depth d + 1)) es ≤ entries_depth (entries_of es) + 1
 most-le-entries [] = omega arith
 most-le-entries (e ∷ es) = omega (arith, most-le-entries es)
 

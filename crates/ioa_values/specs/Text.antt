@@ -1,8 +1,9 @@
--- Values as text (profile): numbers are decimal with `-` for negative ones, truth values are `true` and `false`, a constant
--- is its name, a tuple is `[a, b]`, a sequence or a set is `{a, b}`, and a map is `{k -> v, l -> w}`.
+-- Values as text (profile): numbers are decimal with `-` for negative ones, truth values are `true` and `false`, a
+-- constant is its name, a tuple is `[a, b]`, a sequence or a set is `{a, b}`, and a map is `{k -> v, l -> w}`.
 use Rattle.std.specs.Prelude.{ℕ, zero, suc, List, [], ◌∷◌, ◌++◌, Bool, true, false, codes, get_or}
 use Rattle.std.specs.Fmt.{signed_decimal}
-use Rattle.ioa_values.specs.Data.{Data, number, truth, constant, tuple, sequence, finite_set, finite_map, Items, no_items, item, Entries, no_entries, entry}
+use Rattle.ioa_values.specs.Data.{Data, number, truth, constant, tuple, sequence, finite_set, finite_map}
+use Rattle.ioa_values.specs.Data.{Items, no_items, item, Entries, no_entries, entry}
 
 -- texts one after another, with a comma and a space between
 abbrev pub with_commas : List (List ℕ) → List ℕ
@@ -10,7 +11,7 @@ with_commas [] = []
 with_commas (first ∷ []) = first
 with_commas (first ∷ (second ∷ more)) = first ++ codes ", " ++ with_commas (second ∷ more)
 
--- what stands before the text at a place among others
+-- what is written in front of the text at a position: nothing at the first, and else a comma and a space
 abbrev pub separator : ℕ → List ℕ
 separator zero = []
 separator (suc position) = codes ", "

@@ -1,5 +1,6 @@
--- What a value's own node stands for (view).
-use Rattle.ioa_values.specs.Data.{Data, number, truth, constant, tuple, sequence, finite_set, finite_map, items_of, entries_of}
+-- What the form of a value in the code means (view).
+use Rattle.ioa_values.specs.Data.{Data, number, truth, constant, tuple, sequence, finite_set, finite_map}
+use Rattle.ioa_values.specs.Data.{items_of, entries_of}
 use Rattle.ioa_values.specs.declared.value.ValueForm.{ValueForm}
 use Rattle.ioa_values.specs.declared.value.ValueForm.TheVariants.{Number, Truth, Constant, Tuple, Sequence, Set, Map}
 

@@ -1,4 +1,5 @@
-//! Words and values of the language, and the words in which most contracts tell an outcome.
+//! Words and values of the language, and the definitions by which most contracts say what a call
+//! returns.
 #![tactic(auto)]
 
 pub mod collections;
@@ -8,6 +9,6 @@ mod value;
 mod word;
 
 pub use laws::{maps_law, sets_law};
-pub use names::{Names, push_shown, show};
+pub use names::{Names, push_separator, push_shown, show};
 pub use value::{Value, ValueForm};
 pub use word::Word;

@@ -3,6 +3,7 @@
 ghost use Rattle.std.specs.Prelude.{◌≡◌, ◌++◌, IfOk, OnOk, [], string_bytes, codes, get_or};
 ghost use Rattle.std.specs.Fmt.{signed_decimal};
 ghost use Rattle.ioa_values.specs.Data.{items_of, entries_of};
+ghost use Rattle.ioa_values.specs.Outcome.{Writes};
 ghost use Rattle.ioa_values.specs.Text.{text, texts, entry_texts, with_commas, separator};
 
 use crate::value::{Value, ValueForm};
@@ -10,7 +11,7 @@ use crate::word::Word;
 use std::alloc::{AllocError, Global};
 use std::marker::Model;
 
-/// The names of the text's constants, in the order of their declaration: a constant is its place
+/// The names of the text's constants, in the order of their declaration: a constant is its index
 /// among them. A contract sees the list of the names.
 #[derive(Debug, Drop)]
 pub struct Names {
@@ -61,12 +62,12 @@ pub fn show(alloc: Global, names: &Names, value: &Value) -> Result<String, Alloc
     Ok(output)
 }
 
-/// Writes the text of a value behind what is written. Where memory runs out a part of the text may
-/// stand there.
+/// Writes the text of a value behind what is already written. If memory runs out, a part of the text
+/// may have been written.
 #[cycle(showing)]
 #[tactic(auto, using(crate::proofs::Falls::most_items, crate::proofs::Falls::most_entries))]
 pub fn push_shown(output: &mut String, names: &Names, value: &Value) -> Result<(), AllocError>
-    ensures { OnOk result (string_bytes output.new ≡ string_bytes output.old ++ text names.now value.now) }
+    ensures { OnOk result (Writes output.old output.new (text names.now value.now)) }
 {
     match &value.form {
         ValueForm::Number(n) => push_number(output, *n),
@@ -81,15 +82,15 @@ pub fn push_shown(output: &mut String, names: &Names, value: &Value) -> Result<(
 
 /// Writes a number.
 fn push_number(output: &mut String, n: i64) -> Result<(), AllocError>
-    ensures { OnOk result (string_bytes output.new ≡ string_bytes output.old ++ signed_decimal n) }
+    ensures { OnOk result (Writes output.old output.new (signed_decimal n)) }
 {
     write!(output, "{n}")?;
     Ok(())
 }
 
-/// Writes the name of the constant at a place, where it has one.
+/// Writes the name of the constant of an index, if it has a name.
 fn push_name(output: &mut String, names: &Names, index: usize) -> Result<(), AllocError>
-    ensures { OnOk result (string_bytes output.new ≡ string_bytes output.old ++ get_or names.now index []) }
+    ensures { OnOk result (Writes output.old output.new (get_or names.now index [])) }
 {
     match names.as_slice().get(index) {
         Some(word) => output.push_str(word.as_str()),
@@ -106,7 +107,8 @@ fn push_enclosed(
     values: &Vec<Value>,
     right: &str,
 ) -> Result<(), AllocError>
-    ensures { OnOk result (string_bytes output.new ≡ string_bytes output.old ++ (left.now ++ with_commas (texts names.now (items_of values.now.items)) ++ right.now)) }
+    ensures { OnOk result (Writes output.old output.new
+        (left.now ++ with_commas (texts names.now (items_of values.now.items)) ++ right.now)) }
 {
     output.push_str(left)?;
     push_values(output, names, values)?;
@@ -116,7 +118,7 @@ fn push_enclosed(
 /// Writes values with commas between them.
 #[cycle(showing)]
 fn push_values(output: &mut String, names: &Names, values: &Vec<Value>) -> Result<(), AllocError>
-    ensures { OnOk result (string_bytes output.new ≡ string_bytes output.old ++ with_commas (texts names.now (items_of values.now.items))) }
+    ensures { OnOk result (Writes output.old output.new (with_commas (texts names.now (items_of values.now.items)))) }
 {
     for (position, value) in values.iter().enumerate() {
         push_separator(output, position)?;
@@ -132,7 +134,8 @@ fn push_map(
     names: &Names,
     entries: &Vec<(Value, Value)>,
 ) -> Result<(), AllocError>
-    ensures { OnOk result (string_bytes output.new ≡ string_bytes output.old ++ (codes "{" ++ with_commas (entry_texts names.now (entries_of entries.now.items)) ++ codes "}")) }
+    ensures { OnOk result (Writes output.old output.new
+        (codes "{" ++ with_commas (entry_texts names.now (entries_of entries.now.items)) ++ codes "}")) }
 {
     output.push_str("{")?;
     push_entries(output, names, entries)?;
@@ -146,7 +149,8 @@ fn push_entries(
     names: &Names,
     entries: &Vec<(Value, Value)>,
 ) -> Result<(), AllocError>
-    ensures { OnOk result (string_bytes output.new ≡ string_bytes output.old ++ with_commas (entry_texts names.now (entries_of entries.now.items))) }
+    ensures { OnOk result (Writes output.old output.new
+        (with_commas (entry_texts names.now (entries_of entries.now.items)))) }
 {
     for (position, entry) in entries.iter().enumerate() {
         push_separator(output, position)?;
@@ -157,9 +161,10 @@ fn push_entries(
     Ok(())
 }
 
-/// Writes what stands before the piece of a list at a place: a comma and a space, but for the first.
-fn push_separator(output: &mut String, position: usize) -> Result<(), AllocError>
-    ensures { OnOk result (string_bytes output.new ≡ string_bytes output.old ++ separator position) }
+/// Writes what separates the text at a position from the one before it: a comma and a space, but
+/// nothing in front of the first.
+pub fn push_separator(output: &mut String, position: usize) -> Result<(), AllocError>
+    ensures { OnOk result (Writes output.old output.new (separator position)) }
 {
     if position > 0 {
         output.push_str(", ")?;

@@ -2,7 +2,8 @@
 
 ghost use Rattle.std.specs.Prelude.{◌≡◌, ◌↔◌, IfOk, IsTrue, true};
 ghost use Rattle.std.specs.Ordering.{ordering_then};
-ghost use Rattle.ioa_values.specs.Data.{number, truth, constant, tuple, sequence, items_of, entries_of, as_number, as_truth, is_within};
+ghost use Rattle.ioa_values.specs.Data.{number, truth, constant, tuple, sequence, items_of, entries_of};
+ghost use Rattle.ioa_values.specs.Data.{as_number, as_truth, is_within};
 ghost use Rattle.ioa_values.specs.DataOrder.{same, data_cmp, items_cmp, entries_cmp, kind};
 
 use std::alloc::{AllocError, Global};
@@ -27,7 +28,7 @@ pub enum ValueForm {
     Number(i64),
     /// A truth value.
     Truth(bool),
-    /// A constant, by its place among the text's constants.
+    /// A constant, by its index among the text's constants.
     Constant(usize),
     /// A tuple of its parts.
     Tuple(Vec<Value>),
@@ -78,7 +79,7 @@ impl Value {
         }
     }
 
-    /// The constant at a place among the text's constants.
+    /// The constant of an index among the text's constants.
     pub fn constant(index: usize) -> Self
         ensures { result ≡ constant index }
     {
@@ -105,7 +106,7 @@ impl Value {
         }
     }
 
-    /// The number, where the value is one.
+    /// The number, if the value is one.
     pub fn as_number(&self) -> Option<i64>
         ensures { result ≡ as_number self.now }
     {
@@ -115,7 +116,7 @@ impl Value {
         }
     }
 
-    /// The truth value, where the value is one.
+    /// The truth value, if the value is one.
     pub fn as_truth(&self) -> Option<bool>
         ensures { result ≡ as_truth self.now }
     {
@@ -125,8 +126,8 @@ impl Value {
         }
     }
 
-    /// An equal value with its own memory. Costs time and memory in proportion to the value. Whatever
-    /// it answers, a value of the code that is a number lies in 64 bits.
+    /// An equal value with its own memory. Costs time and memory in proportion to the value. If the
+    /// value is a number, it lies within 64 bits, whether the copy succeeds or not.
     #[cycle(copying)]
     #[tactic(auto, using(crate::proofs::Falls::most_items, crate::proofs::Falls::most_entries))]
     pub fn try_copy(&self, alloc: Global) -> Result<Self, AllocError>
@@ -145,7 +146,7 @@ impl Value {
         Ok(Value { form })
     }
 
-    /// The place of the value's kind in the order of kinds.
+    /// The position of the value's kind in the order of kinds.
     fn kind(&self) -> u8
         ensures { result ≡ kind self.now }
     {
@@ -161,7 +162,7 @@ impl Value {
     }
 
     /// The order of values (profile): numbers by size, false before true, constants as declared, lists
-    /// item by item with a beginning before the longer list, sets and maps as their ascending lists;
+    /// item by item with a list that another one begins with first, sets and maps as their ascending lists;
     /// values of two kinds by their kinds, in the order of `ValueForm`.
     #[cycle(comparing)]
     #[tactic(auto, using(crate::proofs::Falls::most_items, crate::proofs::Falls::most_entries))]
