@@ -1,4 +1,5 @@
 -- the lemmas of this crate
+pub mod Holding
 pub mod ItemLists
 pub mod ShapeLists
 pub mod Canonicals

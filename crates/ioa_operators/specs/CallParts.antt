@@ -6,7 +6,7 @@ use Rattle.ioa_operators.specs.declared.functions.CallParts.TheVariants.{One, Tw
 use Rattle.ioa_operators.specs.declared.fault.TermFault.{TermFault}
 use Rattle.ioa_operators.specs.declared.fault.TermFault.TheVariants.{Undefined}
 
--- the call takes what is `found`, seen through `view`, and answers `Undefined` where nothing is
+-- the call returns what is `found`, seen through `view`, and `Undefined` if nothing is
 abbrev pub Takes : {X A : Type 0} → (X → A) → Result X TermFault → Option A → Type 0
 Takes view (Ok x) found = found ≡ Some (view x)
 Takes view (Err e) found = (e ≡ Undefined) × (found ≡ None)

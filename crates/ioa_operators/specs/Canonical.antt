@@ -1,7 +1,8 @@
 -- Values in which every set and every map, at any depth, ascends (profile).
 use Rattle.std.specs.Prelude.{List}
 use Rattle.std.specs.List.{AllByRecursion}
-use Rattle.ioa_values.specs.Data.{Data, Items, Entries, number, truth, constant, tuple, sequence, finite_set, finite_map, no_items, item, no_entries, entry, list_of, pairs_of}
+use Rattle.ioa_values.specs.Data.{Data, number, truth, constant, tuple, sequence, finite_set, finite_map}
+use Rattle.ioa_values.specs.Data.{Items, no_items, item, Entries, no_entries, entry, list_of, pairs_of}
 use Rattle.ioa_values.specs.Collections.{IsAscending, keys_of}
 
 abbrev mutual
@@ -29,6 +30,9 @@ abbrev mutual
 abbrev pub AllCanonical : List Data → Type 0
 AllCanonical ds = AllByRecursion IsCanonical ds
 
--- each key and each value of a list of entries
+-- an entry, its key and its value, and each entry of a list
+abbrev pub IsCanonicalEntry : Data × Data → Type 0
+IsCanonicalEntry p = IsCanonical p.0 × IsCanonical p.1
+
 abbrev pub AllEntriesCanonical : List (Data × Data) → Type 0
-AllEntriesCanonical es = AllByRecursion (λ p. IsCanonical p.0 × IsCanonical p.1) es
+AllEntriesCanonical es = AllByRecursion IsCanonicalEntry es

@@ -1,12 +1,16 @@
--- What the operators, functions and displays of the language mean between values (profile). A part of another kind than
--- is taken gives no value; items, members, keys and the sides of `=` may be of any kind.
-use Rattle.std.specs.Prelude.{ℕ, ℤ, pos, ◌+ℤ◌, ◌-ℤ◌, ◌*ℤ◌, neg_ℤ, int_lt, int_le, Bool, true, false, ◌&&◌, ◌||◌, not, if◌then◌else◌, List, [], ◌∷◌, ◌++◌, Option, Some, None, length, codes, nat_eq}
+-- What the operators and functions of the language mean between values (profile). A part of another kind than the
+-- operator or function takes gives no value; items, members, keys and the sides of `=` may be of any kind.
+use Rattle.std.specs.Prelude.{ℕ, ℤ, pos, ◌+ℤ◌, ◌-ℤ◌, ◌*ℤ◌, neg_ℤ, int_lt, int_le, nat_eq}
+use Rattle.std.specs.Prelude.{Bool, true, false, ◌&&◌, ◌||◌, not, if◌then◌else◌}
+use Rattle.std.specs.Prelude.{List, [], ◌∷◌, ◌++◌, Option, Some, None, length, codes}
 use Rattle.std.specs.Int.{int_div_euclid, int_rem_euclid}
 use Rattle.std.specs.Option.{option_and_then, option_map}
 use lib.Pointwise.{pointwise}
-use Rattle.ioa_values.specs.Data.{Data, number, truth, constant, tuple, sequence, finite_set, finite_map, items_of, list_of, entries_of, pairs_of, as_number, as_truth}
+use Rattle.ioa_values.specs.Data.{Data, number, truth, constant, tuple, sequence, finite_set, finite_map}
+use Rattle.ioa_values.specs.Data.{items_of, list_of, entries_of, pairs_of, as_number, as_truth}
 use Rattle.ioa_values.specs.DataOrder.{same}
-use Rattle.ioa_values.specs.Collections.{is_member, with_member, without_member, union, value_at, with_entry, without_key}
+use Rattle.ioa_values.specs.Collections.{is_member, with_member, without_member, union}
+use Rattle.ioa_values.specs.Collections.{value_at, with_entry, without_key}
 use Rattle.ioa_operators.specs.declared.operator.UnaryOperator.{UnaryOperator}
 use Rattle.ioa_operators.specs.declared.operator.UnaryOperator.TheVariants as one
 use Rattle.ioa_operators.specs.declared.operator.BinaryOperator.{BinaryOperator}
@@ -110,7 +114,8 @@ binary_value two.AtLeast x y = on_numbers (λ m n. truth (int_le n m)) x y
 binary_value two.Member x y = has_member x y
 binary_value two.Prepend x y = option_map (λ ds. sequence_of (x ∷ ds)) (as_sequence y)
 binary_value two.Append x y = option_map (λ ds. sequence_of (ds ++ y ∷ [])) (as_sequence x)
-binary_value two.Concatenate x y = option_and_then (λ ds. option_map (λ es. sequence_of (ds ++ es)) (as_sequence y)) (as_sequence x)
+binary_value two.Concatenate x y =
+    option_and_then (λ ds. option_map (λ es. sequence_of (ds ++ es)) (as_sequence y)) (as_sequence x)
 binary_value two.Plus x y = on_numbers (λ m n. number (m +ℤ n)) x y
 binary_value two.Minus x y = on_numbers (λ m n. number (m -ℤ n)) x y
 binary_value two.Times x y = on_numbers (λ m n. number (m *ℤ n)) x y
@@ -124,7 +129,7 @@ operator_takes_memory two.Concatenate = true
 operator_takes_memory two.At = true
 operator_takes_memory _ = false
 
--- the quotient rounded down and the rest, of a divisor that is at least 1
+-- the quotient rounded down, or what it leaves, if the divisor is at least 1
 abbrev pub division_value : (ℤ → ℤ → ℤ) → ℤ → ℤ → Option Data
 division_value f m n = if int_le (pos 1) n then Some (number (f m n)) else None
 

@@ -1,5 +1,6 @@
--- What the shapes of the code stand for (view).
-use Rattle.ioa_operators.specs.Shapes.{PlainShape, truths, integers, naturals, constants, tuples, sequences, sets, maps, shapes_of}
+-- What the shapes of the code mean (view).
+use Rattle.ioa_operators.specs.Shapes.{PlainShape, truths, integers, naturals, constants, tuples, sequences, sets, maps}
+use Rattle.ioa_operators.specs.Shapes.{shapes_of}
 use Rattle.ioa_operators.specs.declared.shape.Shape.{Shape, fold-Shape}
 use Rattle.ioa_operators.specs.declared.shape.Shape.TheOpen.{Shape-F}
 

@@ -1,18 +1,20 @@
--- Shapes (profile): what sorts stand for, with the enumerations and tuple types that they name written out.
-use Rattle.std.specs.Prelude.{ℕ, pos, int_le, nat_le, nat_lt, nat_eq, ◌+◌, Bool, true, false, ◌&&◌, if◌then◌else◌, List, [], ◌∷◌, Option, Some, None, slice_get, slice_set}
+-- Shapes (profile): what sorts mean, with the enumerations and tuple types that they name written out.
+use Rattle.std.specs.Prelude.{ℕ, pos, int_le, nat_le, nat_lt, nat_eq, ◌+◌, Bool, true, false, ◌&&◌, if◌then◌else◌}
+use Rattle.std.specs.Prelude.{List, [], ◌∷◌, Option, Some, None, slice_get, slice_set}
 use Rattle.std.specs.List.{position}
 use Rattle.std.specs.Option.{option_and_then, option_map}
 use lib.Pointwise.{pointwise}
-use Rattle.ioa_values.specs.Data.{Data, Items, Entries, number, truth, constant, tuple, sequence, finite_set, finite_map, no_items, item, no_entries, entry, items_of}
+use Rattle.ioa_values.specs.Data.{Data, number, truth, constant, tuple, sequence, finite_set, finite_map}
+use Rattle.ioa_values.specs.Data.{Items, no_items, item, Entries, no_entries, entry, items_of}
 use Rattle.ioa_values.specs.Collections.{set_of}
 use Rattle.ioa_operators.specs.Operators.{as_tuple, sequence_of, finite_set_of, finite_map_of}
 use Rattle.ioa_operators.specs.declared.shape.DisplayForm.{DisplayForm}
 use Rattle.ioa_operators.specs.declared.shape.DisplayForm.TheVariants.{Braces, Brackets}
 
 mutual
-  -- the truth values; the whole numbers; those that are not negative; the constants of an enumeration, from a place on;
-  -- the tuples of a type, with the names and the shapes of its fields; the sequences and sets of items of a shape;
-  -- the maps of keys and values of two shapes
+  -- the truth values; the whole numbers; those that are not negative; the constants of an enumeration, by the index of
+  -- the first and their number; the tuples of a type, with the names and the shapes of its fields; the sequences and
+  -- sets of items of a shape; the maps of keys and values of two shapes
   pub data PlainShape : Type 0 where
     truths : PlainShape
     integers : PlainShape
@@ -31,7 +33,7 @@ abbrev pub shapes_of : List PlainShape → PlainShapes
 shapes_of [] = no_shapes
 shapes_of (s ∷ more) = shape s (shapes_of more)
 
--- whether a value has a shape: a negative number is no natural, wherever it stands
+-- whether a value has a shape: a negative number is no natural, at any depth
 abbrev mutual
   pub has_shape : PlainShape → Data → Bool
   has_shape truths (truth b) = true
@@ -60,7 +62,7 @@ abbrev mutual
   entries_have k v no_entries = true
   entries_have k v (entry d e es) = has_shape k d && (has_shape v e && entries_have k v es)
 
--- a shape in which integers stand for naturals where `also` says so, in all its parts
+-- a shape, with integers for naturals in all its parts if `also` is true
 abbrev mutual
   pub wide_shape_if : Bool → PlainShape → PlainShape
   wide_shape_if also truths = truths
@@ -76,11 +78,11 @@ abbrev mutual
   wide_shapes_if also no_shapes = no_shapes
   wide_shapes_if also (shape s ss) = shape (wide_shape_if also s) (wide_shapes_if also ss)
 
--- a shape in which integers stand for naturals, in all its parts: what a value's sort is when its sign is not looked at
+-- a shape with integers for naturals in all its parts: what is left of a sort if the sign of a number does not matter
 abbrev pub wide_shape : PlainShape → PlainShape
 wide_shape s = wide_shape_if true s
 
--- the place of a name among the names of fields
+-- the position of a name among the names of fields
 abbrev pub field_position : List ℕ → List (List ℕ) → Option ℕ
 field_position w names = position (pointwise nat_eq w) names
 
@@ -89,7 +91,12 @@ abbrev pub part_named : List (List ℕ) → List ℕ → Data → Option Data
 part_named names w d = option_and_then (λ ds. option_and_then (slice_get ds) (field_position w names)) (as_tuple d)
 
 abbrev pub with_part : List (List ℕ) → List ℕ → Data → Data → Option Data
-with_part names w v d = option_and_then (λ ds. option_and_then (λ i. option_map (λ old. tuple (items_of (slice_set ds i v))) (slice_get ds i)) (field_position w names)) (as_tuple d)
+with_part names w v d =
+    option_and_then
+    (λ ds. option_and_then
+    (λ i. option_map (λ old. tuple (items_of (slice_set ds i v))) (slice_get ds i))
+    (field_position w names))
+    (as_tuple d)
 
 -- the field of a name, of a value of a tuple type
 abbrev pub field_value : PlainShape → List ℕ → Data → Option Data
@@ -107,7 +114,8 @@ abbrev pub display_value : DisplayForm → PlainShape → List Data → Option D
 display_value Braces (sequences s) ds = Some (sequence_of ds)
 display_value Braces (sets s) ds = Some (finite_set_of (set_of ds))
 display_value Braces (maps k v) [] = Some (finite_map_of [])
-display_value Brackets (tuples type names ss) ds = if have_shapes ss (items_of ds) then Some (tuple (items_of ds)) else None
+display_value Brackets (tuples type names ss) ds =
+    if have_shapes ss (items_of ds) then Some (tuple (items_of ds)) else None
 display_value _ _ _ = None
 
 -- whether a display asks for memory beyond that of its parts: that of a set, to put its members in order

@@ -15,18 +15,20 @@ use crate::truths::{conjunction, disjunction, equivalence, implication, negation
 use ioa_values::Value;
 use std::alloc::Global;
 
-/// The value of an operator before a value (profile). Answers 1 Undefined where the value is of a wrong
-/// sort, and 2 Range where its negative lies outside 64 bits. Takes no memory.
+/// The value of an operator before a value (profile). Returns `Undefined (1)` if the value is of another
+/// kind than the operator takes, and `Range (2)` if the negative of a number lies outside 64 bits. Takes
+/// no memory.
 pub fn unary(operator: UnaryOperator, value: &Value) -> Result<Value, TermFault>
     ensures value { Answers TermFault.Memory (λ v. v) result (checked_result (unary_value operator value.now)) }
-    ensures memory { LacksMemoryOnlyIf false result (checked_result (unary_value operator value.now)) }
+    ensures memory { LacksMemoryOnlyIf false result (unary_value operator value.now) }
     ensures canonical { IfOk result IsCanonical }
 {
     before_value(operator, value)
 }
 
+/// The value of an operator before a value, in one exact clause.
 fn before_value(operator: UnaryOperator, value: &Value) -> Result<Value, TermFault>
-    ensures { AnswersOrLacks false result (checked_result (unary_value operator value.now)) }
+    ensures { AnswersOrLacks false result (unary_value operator value.now) }
 {
     match operator {
         UnaryOperator::Not => negation(value),
@@ -34,10 +36,11 @@ fn before_value(operator: UnaryOperator, value: &Value) -> Result<Value, TermFau
     }
 }
 
-/// The value of an operator between two values (profile). Answers 1 Undefined where a value is of another
-/// kind than the operator takes or a map lacks the key, 2 Range where the result lies outside 64 bits, and 3 Memory where none is
-/// left for `-|`, `|-`, `||` or the copy that `m[k]` makes. Takes the values over, and their memory where
-/// the result is made of it: costs time in proportion to the values, and `|-` that of one more item.
+/// The value of an operator between two values (profile). Returns `Undefined (1)` if a value is of another
+/// kind than the operator takes or a map lacks the key, `Range (2)` if the result lies outside 64 bits, and
+/// `Memory (3)` if no memory is left for `-|`, `|-`, `||` or the copy that `m[k]` makes. The values are
+/// used up, and the result is made of their memory if it can be. Costs time in proportion to the values,
+/// and `|-` that of one more item.
 pub fn binary(
     alloc: Global,
     operator: BinaryOperator,
@@ -45,19 +48,20 @@ pub fn binary(
     right: Value,
 ) -> Result<Value, TermFault>
     ensures value { Answers TermFault.Memory (λ v. v) result (checked_result (binary_value operator left right)) }
-    ensures memory { LacksMemoryOnlyIf (operator_takes_memory operator) result (checked_result (binary_value operator left right)) }
+    ensures memory { LacksMemoryOnlyIf (operator_takes_memory operator) result (binary_value operator left right) }
     ensures canonical { IsCanonical left → IsCanonical right → IfOk result IsCanonical }
 {
     between_values(alloc, operator, left, right)
 }
 
+/// The value of an operator between two values, in one exact clause.
 fn between_values(
     alloc: Global,
     operator: BinaryOperator,
     left: Value,
     right: Value,
 ) -> Result<Value, TermFault>
-    ensures { AnswersOrLacks (operator_takes_memory operator) result (checked_result (binary_value operator left right)) }
+    ensures { AnswersOrLacks (operator_takes_memory operator) result (binary_value operator left right) }
 {
     match operator {
         BinaryOperator::Equivalent => equivalence(&left, &right),

@@ -10,35 +10,39 @@ ghost use Rattle.ioa_operators.specs.ShapeView.{shape_of};
 use crate::fault::TermFault;
 use crate::maps::map;
 use crate::sets::set_of_values;
-use crate::shape::{DisplayForm, Shape, all_admit};
+use crate::shape::{DisplayForm, Shape, each_admits};
 use ioa_values::Value;
 use std::alloc::Global;
 
-/// The value of a display of these parts where it has a shape (profile). Answers 1 Undefined where no such
-/// display has the shape, where that of a map has parts, and where those of a tuple are not as many as its
-/// fields or lack their shapes; 3 Memory where none is left to put a set in order. The items of a sequence
-/// or a set are not asked for their shape. Takes over the parts and their memory. Costs time in proportion
-/// to the parts, and at a set what `collections::set_of` costs.
+/// The value of a display of these parts that has a shape (profile). Returns `Undefined (1)` if no such
+/// display has the shape, if the display of a map has parts, or if the parts of a tuple are not as many as
+/// its fields or lack their shapes. Returns `Memory (3)` if no memory is left to put a set in order. The
+/// shapes of the items of a sequence or a set are not checked. The parts are used up, and the value is made
+/// of their memory. Costs time in proportion to the parts, and for a set what `collections::set_of` costs.
 pub fn display(
     alloc: Global,
     form: DisplayForm,
     shape: &Shape,
     parts: Vec<Value>,
 ) -> Result<Value, TermFault>
-    ensures value { Answers TermFault.Memory (λ v. v) result (checked_result (display_value form (shape_of shape.now) parts.items)) }
-    ensures memory { LacksMemoryOnlyIf (display_takes_memory form (shape_of shape.now)) result (checked_result (display_value form (shape_of shape.now) parts.items)) }
+    ensures value { Answers TermFault.Memory (λ v. v) result
+        (checked_result (display_value form (shape_of shape.now) parts.items)) }
+    ensures memory { LacksMemoryOnlyIf (display_takes_memory form (shape_of shape.now)) result
+        (display_value form (shape_of shape.now) parts.items) }
     ensures canonical { AllCanonical parts.items → IfOk result IsCanonical }
 {
     make_display(alloc, form, shape, parts)
 }
 
+/// The value of a display, in one exact clause.
 fn make_display(
     alloc: Global,
     form: DisplayForm,
     shape: &Shape,
     parts: Vec<Value>,
 ) -> Result<Value, TermFault>
-    ensures { AnswersOrLacks (display_takes_memory form (shape_of shape.now)) result (checked_result (display_value form (shape_of shape.now) parts.items)) }
+    ensures { AnswersOrLacks (display_takes_memory form (shape_of shape.now)) result
+        (display_value form (shape_of shape.now) parts.items) }
 {
     match form {
         DisplayForm::Braces => braces(alloc, shape, parts),
@@ -48,7 +52,8 @@ fn make_display(
 
 /// The value of `{..}`.
 fn braces(alloc: Global, shape: &Shape, parts: Vec<Value>) -> Result<Value, TermFault>
-    ensures { AnswersOrLacks (display_takes_memory DisplayForm.Braces (shape_of shape.now)) result (checked_result (display_value DisplayForm.Braces (shape_of shape.now) parts.items)) }
+    ensures { AnswersOrLacks (display_takes_memory DisplayForm.Braces (shape_of shape.now)) result
+        (display_value DisplayForm.Braces (shape_of shape.now) parts.items) }
 {
     match shape {
         Shape::Sequences(_) => Ok(Value::sequence(parts)),
@@ -63,11 +68,12 @@ fn braces(alloc: Global, shape: &Shape, parts: Vec<Value>) -> Result<Value, Term
 
 /// The value of `[..]`: a tuple whose parts have the shapes of its fields.
 fn brackets(shape: &Shape, parts: Vec<Value>) -> Result<Value, TermFault>
-    ensures { AnswersOrLacks (display_takes_memory DisplayForm.Brackets (shape_of shape.now)) result (checked_result (display_value DisplayForm.Brackets (shape_of shape.now) parts.items)) }
+    ensures { AnswersOrLacks (display_takes_memory DisplayForm.Brackets (shape_of shape.now)) result
+        (display_value DisplayForm.Brackets (shape_of shape.now) parts.items) }
 {
     match shape {
         Shape::Tuples(_, _, shapes) => {
-            if all_admit(shapes, &parts) {
+            if each_admits(shapes, &parts) {
                 Ok(Value::tuple(parts))
             } else {
                 Err(TermFault::Undefined)

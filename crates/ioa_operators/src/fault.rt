@@ -1,4 +1,4 @@
-//! What evaluation answers where there is no value.
+//! What evaluation returns if there is no value.
 
 use std::alloc::{AllocError, AllocFailed};
 use std::fmt;
@@ -7,7 +7,7 @@ use thiserror::Error;
 /// Why a term, a list of statements or an operator has no value here.
 #[derive(Debug, Drop, Error)]
 pub enum TermFault {
-    /// 1: a part that is taken has no value.
+    /// 1: a part that is evaluated has no value.
     Undefined,
     /// 2: a number met lies outside 64 bits, an intermediate one too.
     Range,

@@ -13,20 +13,22 @@ use crate::shape::Shape;
 use ioa_values::{Value, Word};
 use std::mem;
 
-/// The field of a name, of a value of a tuple type (profile). Answers 1 Undefined where the shape is no
-/// tuple type's or has no such field, and where the value is no tuple or ends before that field. Takes the
-/// value over; its other fields are dropped. Takes no memory. Costs time in proportion to the names of the
+/// The field of a name, of a value of a tuple type (profile). Returns `Undefined (1)` if the shape is no
+/// tuple type's or has no such field, or if the value is no tuple or ends before that field. The value is
+/// used up, and its other fields are dropped. Takes no memory. Costs time in proportion to the names of the
 /// fields and the value.
 pub fn field(shape: &Shape, name: &Word, value: Value) -> Result<Value, TermFault>
-    ensures value { Answers TermFault.Memory (λ v. v) result (checked_result (field_value (shape_of shape.now) name.now value)) }
-    ensures memory { LacksMemoryOnlyIf false result (checked_result (field_value (shape_of shape.now) name.now value)) }
+    ensures value { Answers TermFault.Memory (λ v. v) result
+        (checked_result (field_value (shape_of shape.now) name.now value)) }
+    ensures memory { LacksMemoryOnlyIf false result (field_value (shape_of shape.now) name.now value) }
     ensures canonical { IsCanonical value → IfOk result IsCanonical }
 {
     field_of(shape, name, value)
 }
 
+/// The field of a name, in one exact clause.
 fn field_of(shape: &Shape, name: &Word, value: Value) -> Result<Value, TermFault>
-    ensures { AnswersOrLacks false result (checked_result (field_value (shape_of shape.now) name.now value)) }
+    ensures { AnswersOrLacks false result (field_value (shape_of shape.now) name.now value) }
 {
     match shape {
         Shape::Tuples(_, names, _) => field_among(names, name, value),
@@ -34,25 +36,27 @@ fn field_of(shape: &Shape, name: &Word, value: Value) -> Result<Value, TermFault
     }
 }
 
-/// The tuple in which the field of a name has another value (profile). Answers 1 Undefined where the shape
-/// is no tuple type's or has no such field, and where the value is no tuple or ends before that field. The
-/// new value is not asked for its shape. Takes the values over, and the tuple's memory. Costs time in
-/// proportion to the names of the fields and to what is replaced.
+/// The tuple in which the field of a name has another value (profile). Returns `Undefined (1)` if the shape
+/// is no tuple type's or has no such field, or if the value is no tuple or ends before that field. The
+/// shape of the new value is not checked. The values are used up, and the result has the tuple's memory.
+/// Costs time in proportion to the names of the fields and to the value that is replaced.
 pub fn replace_field(
     shape: &Shape,
     name: &Word,
     new: Value,
     value: Value,
 ) -> Result<Value, TermFault>
-    ensures value { Answers TermFault.Memory (λ v. v) result (checked_result (with_field (shape_of shape.now) name.now new value)) }
-    ensures memory { LacksMemoryOnlyIf false result (checked_result (with_field (shape_of shape.now) name.now new value)) }
+    ensures value { Answers TermFault.Memory (λ v. v) result
+        (checked_result (with_field (shape_of shape.now) name.now new value)) }
+    ensures memory { LacksMemoryOnlyIf false result (with_field (shape_of shape.now) name.now new value) }
     ensures canonical { IsCanonical new → IsCanonical value → IfOk result IsCanonical }
 {
     put_field(shape, name, new, value)
 }
 
+/// The tuple in which the field of a name has another value, in one exact clause.
 fn put_field(shape: &Shape, name: &Word, new: Value, value: Value) -> Result<Value, TermFault>
-    ensures { AnswersOrLacks false result (checked_result (with_field (shape_of shape.now) name.now new value)) }
+    ensures { AnswersOrLacks false result (with_field (shape_of shape.now) name.now new value) }
 {
     match shape {
         Shape::Tuples(_, names, _) => replace_among(names, name, new, value),
@@ -60,8 +64,9 @@ fn put_field(shape: &Shape, name: &Word, new: Value, value: Value) -> Result<Val
     }
 }
 
+/// The part of a tuple whose parts have these names.
 fn field_among(names: &Vec<Word>, name: &Word, value: Value) -> Result<Value, TermFault>
-    ensures { AnswersOrLacks false result (checked_result (part_named names.now.items name.now value)) }
+    ensures { AnswersOrLacks false result (part_named names.now.items name.now value) }
 {
     let mut parts = parts_of_tuple(value)?;
     match position_of(names, name) {
@@ -70,13 +75,14 @@ fn field_among(names: &Vec<Word>, name: &Word, value: Value) -> Result<Value, Te
     }
 }
 
+/// The tuple, whose parts have these names, with another value for one of them.
 fn replace_among(
     names: &Vec<Word>,
     name: &Word,
     new: Value,
     value: Value,
 ) -> Result<Value, TermFault>
-    ensures { AnswersOrLacks false result (checked_result (with_part names.now.items name.now new value)) }
+    ensures { AnswersOrLacks false result (with_part names.now.items name.now new value) }
 {
     let mut parts = parts_of_tuple(value)?;
     match position_of(names, name) {
@@ -88,14 +94,14 @@ fn replace_among(
     }
 }
 
-/// The place of a field's name.
+/// The position of a field's name.
 fn position_of(names: &Vec<Word>, name: &Word) -> Option<usize>
     ensures { result ≡ field_position name.now names.now.items }
 {
     names.iter().position(|other| name == other)
 }
 
-/// Puts a value in the place of another, which is dropped.
+/// Replaces the value at a position by another, and drops the old one.
 fn put_at(parts: &mut Vec<Value>, position: usize, new: Value)
     requires { position < length parts.old.items }
     ensures { parts.new.items ≡ slice_set parts.old.items position new }

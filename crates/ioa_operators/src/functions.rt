@@ -5,7 +5,8 @@ ghost use Rattle.ioa_operators.specs.Canonical.{AllCanonical, IsCanonical};
 ghost use Rattle.ioa_values.specs.Outcome.{Answers};
 ghost use Rattle.ioa_operators.specs.RangeCheck.{AnswersOrLacks, LacksMemoryOnlyIf, checked_result};
 ghost use Rattle.ioa_operators.specs.CallParts.{list_of_parts};
-ghost use Rattle.ioa_operators.specs.Operators.{call_one, call_two, call_three, call_value, call_takes_memory, function_named};
+ghost use Rattle.ioa_operators.specs.Operators.{call_one, call_two, call_three, call_value};
+ghost use Rattle.ioa_operators.specs.Operators.{call_takes_memory, function_named};
 
 use crate::fault::TermFault;
 use crate::lists::{head, length, size, tail};
@@ -17,7 +18,7 @@ use ioa_values::{Value, Word};
 use std::alloc::Global;
 
 impl Function {
-    /// The function that a call names (profile), and none where no function has the name.
+    /// The function that a call names (profile), and none if no function has the name.
     pub fn named(name: &Word) -> Option<Function>
         ensures { result ≡ function_named name.now }
     {
@@ -47,21 +48,22 @@ enum CallParts {
     Three(Value, Value, Value),
 }
 
-/// The value of a function at the values of its parts (profile). Answers 1 Undefined where there are more
-/// or fewer parts than the function has, one is of another kind than it takes, a sequence is empty whose
-/// `head` or `tail` is taken, or a divisor is below 1; 2 Range where the result lies outside 64 bits; and 3 Memory where none
-/// is left for `insert`, `union` or `update`. Takes the values over, and their memory where the result is
-/// made of it: costs time in proportion to the values.
+/// The value of a function of the values of its parts (profile). Returns `Undefined (1)` if there are more
+/// or fewer parts than the function takes, one is of another kind than it takes, the sequence of `head` or
+/// `tail` is empty, or a divisor is below 1. Returns `Range (2)` if the result lies outside 64 bits, and
+/// `Memory (3)` if no memory is left for `insert`, `union` or `update`. The values are used up, and the
+/// result is made of their memory if it can be. Costs time in proportion to the values.
 pub fn call(alloc: Global, function: Function, parts: Vec<Value>) -> Result<Value, TermFault>
     ensures value { Answers TermFault.Memory (λ v. v) result (checked_result (call_value function parts.items)) }
-    ensures memory { LacksMemoryOnlyIf (call_takes_memory function) result (checked_result (call_value function parts.items)) }
+    ensures memory { LacksMemoryOnlyIf (call_takes_memory function) result (call_value function parts.items) }
     ensures canonical { AllCanonical parts.items → IfOk result IsCanonical }
 {
     apply_function(alloc, function, parts)
 }
 
+/// The value of a function, in one exact clause.
 fn apply_function(alloc: Global, function: Function, parts: Vec<Value>) -> Result<Value, TermFault>
-    ensures { AnswersOrLacks (call_takes_memory function) result (checked_result (call_value function parts.items)) }
+    ensures { AnswersOrLacks (call_takes_memory function) result (call_value function parts.items) }
 {
     match few(parts) {
         Some(CallParts::One(value)) => call_of_one(function, value),
@@ -73,9 +75,10 @@ fn apply_function(alloc: Global, function: Function, parts: Vec<Value>) -> Resul
     }
 }
 
-/// The parts, where there are one, two or three.
+/// The parts, if there are one, two or three.
 fn few(parts: Vec<Value>) -> Option<CallParts>
-    ensures { MatchOption result ((f : Function) → call_value f parts.items ≡ None) (λ p. parts.items ≡ list_of_parts p) }
+    ensures { MatchOption result ((f : Function) → call_value f parts.items ≡ None)
+        (λ p. parts.items ≡ list_of_parts p) }
 {
     let mut parts = parts.into_iter();
     let first = parts.next()?;
@@ -93,7 +96,7 @@ fn few(parts: Vec<Value>) -> Option<CallParts>
 
 /// The value of a function of one value.
 fn call_of_one(function: Function, value: Value) -> Result<Value, TermFault>
-    ensures { AnswersOrLacks (call_takes_memory function) result (checked_result (call_one function value)) }
+    ensures { AnswersOrLacks (call_takes_memory function) result (call_one function value) }
 {
     match function {
         Function::Head => head(value),
@@ -111,7 +114,7 @@ fn call_of_two(
     left: Value,
     right: Value,
 ) -> Result<Value, TermFault>
-    ensures { AnswersOrLacks (call_takes_memory function) result (checked_result (call_two function left right)) }
+    ensures { AnswersOrLacks (call_takes_memory function) result (call_two function left right) }
 {
     match function {
         Function::Quotient => quotient(&left, &right),
@@ -132,7 +135,7 @@ fn call_of_three(
     second: Value,
     third: Value,
 ) -> Result<Value, TermFault>
-    ensures { AnswersOrLacks (call_takes_memory function) result (checked_result (call_three function first second third)) }
+    ensures { AnswersOrLacks (call_takes_memory function) result (call_three function first second third) }
 {
     match function {
         Function::Update => update(first, second, third),

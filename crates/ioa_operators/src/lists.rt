@@ -1,7 +1,7 @@
 //! Operators and functions of sequences.
 
 ghost use Rattle.std.specs.Prelude.{true, false};
-ghost use Rattle.ioa_operators.specs.RangeCheck.{AnswersOrLacks, checked_result};
+ghost use Rattle.ioa_operators.specs.RangeCheck.{AnswersOrLacks};
 ghost use Rattle.ioa_operators.specs.Operators.{binary_value, call_one};
 
 use crate::fault::TermFault;
@@ -11,26 +11,26 @@ use ioa_values::{Value, ValueForm, collections};
 
 /// A value, and then the items of a sequence. Costs time in proportion to the sequence.
 pub(crate) fn prepend(item: Value, sequence: Value) -> Result<Value, TermFault>
-    ensures { AnswersOrLacks true result (checked_result (binary_value BinaryOperator.Prepend item sequence)) }
+    ensures { AnswersOrLacks true result (binary_value BinaryOperator.Prepend item sequence) }
 {
     let mut items = items_of_sequence(sequence)?;
     items.insert(0, item)?;
     Ok(Value::sequence(items))
 }
 
-/// The items of a sequence, and then a value. The sequence's memory is taken over.
+/// The items of a sequence, and then a value. The result has the sequence's memory.
 pub(crate) fn append(sequence: Value, item: Value) -> Result<Value, TermFault>
-    ensures { AnswersOrLacks true result (checked_result (binary_value BinaryOperator.Append sequence item)) }
+    ensures { AnswersOrLacks true result (binary_value BinaryOperator.Append sequence item) }
 {
     let mut items = items_of_sequence(sequence)?;
     items.push(item)?;
     Ok(Value::sequence(items))
 }
 
-/// The items of two sequences. Costs time in proportion to the second one, and takes over the memory
+/// The items of two sequences. Costs time in proportion to the second one. The result has the memory
 /// of the first.
 pub(crate) fn concatenate(left: Value, right: Value) -> Result<Value, TermFault>
-    ensures { AnswersOrLacks true result (checked_result (binary_value BinaryOperator.Concatenate left right)) }
+    ensures { AnswersOrLacks true result (binary_value BinaryOperator.Concatenate left right) }
 {
     let mut items = items_of_sequence(left)?;
     let mut more = items_of_sequence(right)?;
@@ -41,7 +41,7 @@ pub(crate) fn concatenate(left: Value, right: Value) -> Result<Value, TermFault>
 /// Whether a value is an item of a sequence or a member of a set. Costs one comparison an item.
 #[tactic(auto, using(crate::proofs::ItemLists::list_of_items))]
 pub(crate) fn membership(value: &Value, whole: &Value) -> Result<Value, TermFault>
-    ensures { AnswersOrLacks false result (checked_result (binary_value BinaryOperator.Member value.now whole.now)) }
+    ensures { AnswersOrLacks false result (binary_value BinaryOperator.Member value.now whole.now) }
 {
     match &whole.form {
         ValueForm::Sequence(items) => Ok(Value::truth(collections::contains(items, value))),
@@ -52,7 +52,7 @@ pub(crate) fn membership(value: &Value, whole: &Value) -> Result<Value, TermFaul
 
 /// The first item of a sequence that is not empty.
 pub(crate) fn head(sequence: Value) -> Result<Value, TermFault>
-    ensures { AnswersOrLacks false result (checked_result (call_one Function.Head sequence)) }
+    ensures { AnswersOrLacks false result (call_one Function.Head sequence) }
 {
     let items = items_of_sequence(sequence)?;
     match items.into_iter().next() {
@@ -62,10 +62,10 @@ pub(crate) fn head(sequence: Value) -> Result<Value, TermFault>
 }
 
 /// The items but the first of a sequence that is not empty. Costs time in proportion to the sequence,
-/// whose memory is taken over.
+/// whose memory the result has.
 #[tactic(auto, using(crate::proofs::ItemLists::rest_of_some))]
 pub(crate) fn tail(sequence: Value) -> Result<Value, TermFault>
-    ensures { AnswersOrLacks false result (checked_result (call_one Function.Tail sequence)) }
+    ensures { AnswersOrLacks false result (call_one Function.Tail sequence) }
 {
     let mut items = items_of_sequence(sequence)?;
     if items.is_empty() {
@@ -77,7 +77,7 @@ pub(crate) fn tail(sequence: Value) -> Result<Value, TermFault>
 
 /// How many items a sequence has.
 pub(crate) fn length(sequence: Value) -> Result<Value, TermFault>
-    ensures { AnswersOrLacks false result (checked_result (call_one Function.Length sequence)) }
+    ensures { AnswersOrLacks false result (call_one Function.Length sequence) }
 {
     let items = items_of_sequence(sequence)?;
     count_value(items.len())
@@ -86,7 +86,7 @@ pub(crate) fn length(sequence: Value) -> Result<Value, TermFault>
 /// How many members a set has, or how many keys a map has.
 #[tactic(auto, using(crate::proofs::ItemLists::list_of_items, crate::proofs::ItemLists::pairs_of_entries))]
 pub(crate) fn size(whole: &Value) -> Result<Value, TermFault>
-    ensures { AnswersOrLacks false result (checked_result (call_one Function.Size whole.now)) }
+    ensures { AnswersOrLacks false result (call_one Function.Size whole.now) }
 {
     match &whole.form {
         ValueForm::Set(members) => count_value(members.len()),

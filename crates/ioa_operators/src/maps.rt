@@ -2,7 +2,7 @@
 
 ghost use Rattle.std.specs.Prelude.{◌≡◌, true, false};
 ghost use Rattle.ioa_values.specs.Data.{finite_map, entries_of};
-ghost use Rattle.ioa_operators.specs.RangeCheck.{AnswersOrLacks, checked_result};
+ghost use Rattle.ioa_operators.specs.RangeCheck.{AnswersOrLacks};
 ghost use Rattle.ioa_operators.specs.Operators.{binary_value, call_two, call_three};
 
 use crate::fault::TermFault;
@@ -23,7 +23,7 @@ pub(crate) fn map(entries: Vec<(Value, Value)>) -> Value
 /// A copy of the value of a map at a key. Costs time in proportion to the map's entries and to that value.
 #[tactic(auto, using(crate::proofs::ItemLists::pairs_of_entries))]
 pub(crate) fn at_key(alloc: Global, whole: &Value, key: &Value) -> Result<Value, TermFault>
-    ensures { AnswersOrLacks true result (checked_result (binary_value BinaryOperator.At whole.now key.now)) }
+    ensures { AnswersOrLacks true result (binary_value BinaryOperator.At whole.now key.now) }
 {
     match &whole.form {
         ValueForm::Map(entries) => match collections::get(entries, key) {
@@ -34,9 +34,9 @@ pub(crate) fn at_key(alloc: Global, whole: &Value, key: &Value) -> Result<Value,
     }
 }
 
-/// A map in which a key has a value. Costs time in proportion to the map, whose memory is taken over.
+/// A map in which a key has a value. Costs time in proportion to the map, whose memory the result has.
 pub(crate) fn update(whole: Value, key: Value, value: Value) -> Result<Value, TermFault>
-    ensures { AnswersOrLacks true result (checked_result (call_three Function.Update whole key value)) }
+    ensures { AnswersOrLacks true result (call_three Function.Update whole key value) }
 {
     let entries = entries_of_map(whole)?;
     let entries = collections::update(entries, key, value)?;
@@ -45,7 +45,7 @@ pub(crate) fn update(whole: Value, key: Value, value: Value) -> Result<Value, Te
 
 /// A map without a key. Costs time in proportion to the map, and takes no memory.
 pub(crate) fn remove(whole: Value, key: &Value) -> Result<Value, TermFault>
-    ensures { AnswersOrLacks false result (checked_result (call_two Function.Remove whole key.now)) }
+    ensures { AnswersOrLacks false result (call_two Function.Remove whole key.now) }
 {
     let entries = entries_of_map(whole)?;
     Ok(map(collections::remove_key(entries, key)))
@@ -54,7 +54,7 @@ pub(crate) fn remove(whole: Value, key: &Value) -> Result<Value, TermFault>
 /// Whether a map has a key. Costs time in proportion to the map's entries.
 #[tactic(auto, using(crate::proofs::ItemLists::pairs_of_entries))]
 pub(crate) fn key_membership(whole: &Value, key: &Value) -> Result<Value, TermFault>
-    ensures { AnswersOrLacks false result (checked_result (call_two Function.Defined whole.now key.now)) }
+    ensures { AnswersOrLacks false result (call_two Function.Defined whole.now key.now) }
 {
     match &whole.form {
         ValueForm::Map(entries) => Ok(Value::truth(collections::get(entries, key).is_some())),

@@ -1,7 +1,7 @@
 //! Operators and functions between numbers.
 
 ghost use Rattle.std.specs.Prelude.{false};
-ghost use Rattle.ioa_operators.specs.RangeCheck.{AnswersOrLacks, checked_result};
+ghost use Rattle.ioa_operators.specs.RangeCheck.{AnswersOrLacks};
 ghost use Rattle.ioa_operators.specs.Operators.{unary_value, binary_value, call_two};
 
 use crate::fault::TermFault;
@@ -11,7 +11,7 @@ use ioa_values::Value;
 
 /// The number with the other sign.
 pub(crate) fn negative(value: &Value) -> Result<Value, TermFault>
-    ensures { AnswersOrLacks false result (checked_result (unary_value UnaryOperator.Negative value.now)) }
+    ensures { AnswersOrLacks false result (unary_value UnaryOperator.Negative value.now) }
 {
     let n = number_of(value)?;
     match n.checked_neg() {
@@ -22,7 +22,7 @@ pub(crate) fn negative(value: &Value) -> Result<Value, TermFault>
 
 /// The sum of two numbers.
 pub(crate) fn sum(left: &Value, right: &Value) -> Result<Value, TermFault>
-    ensures { AnswersOrLacks false result (checked_result (binary_value BinaryOperator.Plus left.now right.now)) }
+    ensures { AnswersOrLacks false result (binary_value BinaryOperator.Plus left.now right.now) }
 {
     let m = number_of(left)?;
     let n = number_of(right)?;
@@ -34,7 +34,7 @@ pub(crate) fn sum(left: &Value, right: &Value) -> Result<Value, TermFault>
 
 /// The difference of two numbers.
 pub(crate) fn difference(left: &Value, right: &Value) -> Result<Value, TermFault>
-    ensures { AnswersOrLacks false result (checked_result (binary_value BinaryOperator.Minus left.now right.now)) }
+    ensures { AnswersOrLacks false result (binary_value BinaryOperator.Minus left.now right.now) }
 {
     let m = number_of(left)?;
     let n = number_of(right)?;
@@ -46,7 +46,7 @@ pub(crate) fn difference(left: &Value, right: &Value) -> Result<Value, TermFault
 
 /// The product of two numbers.
 pub(crate) fn product(left: &Value, right: &Value) -> Result<Value, TermFault>
-    ensures { AnswersOrLacks false result (checked_result (binary_value BinaryOperator.Times left.now right.now)) }
+    ensures { AnswersOrLacks false result (binary_value BinaryOperator.Times left.now right.now) }
 {
     let m = number_of(left)?;
     let n = number_of(right)?;
@@ -58,7 +58,7 @@ pub(crate) fn product(left: &Value, right: &Value) -> Result<Value, TermFault>
 
 /// Whether a number is below another.
 pub(crate) fn less(left: &Value, right: &Value) -> Result<Value, TermFault>
-    ensures { AnswersOrLacks false result (checked_result (binary_value BinaryOperator.Less left.now right.now)) }
+    ensures { AnswersOrLacks false result (binary_value BinaryOperator.Less left.now right.now) }
 {
     let m = number_of(left)?;
     let n = number_of(right)?;
@@ -67,7 +67,7 @@ pub(crate) fn less(left: &Value, right: &Value) -> Result<Value, TermFault>
 
 /// Whether a number is below another or the same.
 pub(crate) fn at_most(left: &Value, right: &Value) -> Result<Value, TermFault>
-    ensures { AnswersOrLacks false result (checked_result (binary_value BinaryOperator.AtMost left.now right.now)) }
+    ensures { AnswersOrLacks false result (binary_value BinaryOperator.AtMost left.now right.now) }
 {
     let m = number_of(left)?;
     let n = number_of(right)?;
@@ -76,7 +76,7 @@ pub(crate) fn at_most(left: &Value, right: &Value) -> Result<Value, TermFault>
 
 /// Whether a number is above another.
 pub(crate) fn greater(left: &Value, right: &Value) -> Result<Value, TermFault>
-    ensures { AnswersOrLacks false result (checked_result (binary_value BinaryOperator.Greater left.now right.now)) }
+    ensures { AnswersOrLacks false result (binary_value BinaryOperator.Greater left.now right.now) }
 {
     let m = number_of(left)?;
     let n = number_of(right)?;
@@ -85,7 +85,7 @@ pub(crate) fn greater(left: &Value, right: &Value) -> Result<Value, TermFault>
 
 /// Whether a number is above another or the same.
 pub(crate) fn at_least(left: &Value, right: &Value) -> Result<Value, TermFault>
-    ensures { AnswersOrLacks false result (checked_result (binary_value BinaryOperator.AtLeast left.now right.now)) }
+    ensures { AnswersOrLacks false result (binary_value BinaryOperator.AtLeast left.now right.now) }
 {
     let m = number_of(left)?;
     let n = number_of(right)?;
@@ -94,7 +94,7 @@ pub(crate) fn at_least(left: &Value, right: &Value) -> Result<Value, TermFault>
 
 /// The quotient rounded down, of a divisor that is at least 1.
 pub(crate) fn quotient(left: &Value, right: &Value) -> Result<Value, TermFault>
-    ensures { AnswersOrLacks false result (checked_result (call_two Function.Quotient left.now right.now)) }
+    ensures { AnswersOrLacks false result (call_two Function.Quotient left.now right.now) }
 {
     let m = number_of(left)?;
     let n = number_of(right)?;
@@ -107,7 +107,7 @@ pub(crate) fn quotient(left: &Value, right: &Value) -> Result<Value, TermFault>
 
 /// What the quotient leaves, of a divisor that is at least 1.
 pub(crate) fn remainder(left: &Value, right: &Value) -> Result<Value, TermFault>
-    ensures { AnswersOrLacks false result (checked_result (call_two Function.Remainder left.now right.now)) }
+    ensures { AnswersOrLacks false result (call_two Function.Remainder left.now right.now) }
 {
     let m = number_of(left)?;
     let n = number_of(right)?;

@@ -14,11 +14,11 @@ pub enum UnaryOperator {
 pub enum BinaryOperator {
     /// `<=>`: whether two truth values are the same.
     Equivalent,
-    /// `=>`: true where the left side is false.
+    /// `=>`: true if the left side is false.
     Implies,
-    /// `\/`: true where the left side is true.
+    /// `\/`: true if the left side is true.
     Or,
-    /// `/\`: false where the left side is false.
+    /// `/\`: false if the left side is false.
     And,
     /// `=`: whether two values are the same.
     Equal,

@@ -3,7 +3,7 @@
 ghost use Rattle.std.specs.Prelude.{Some, pos, false};
 ghost use Rattle.ioa_values.specs.Data.{number, as_number, as_truth};
 ghost use Rattle.ioa_operators.specs.Operators.{as_tuple, as_sequence, as_set, as_map};
-ghost use Rattle.ioa_operators.specs.RangeCheck.{AnswersOrLacks, checked_result};
+ghost use Rattle.ioa_operators.specs.RangeCheck.{AnswersOrLacks};
 ghost use Rattle.ioa_operators.specs.CallParts.{Takes};
 
 use crate::fault::TermFault;
@@ -69,7 +69,7 @@ pub(crate) fn parts_of_tuple(value: Value) -> Result<Vec<Value>, TermFault>
 
 /// A part itself as the value of the whole: a number in it is kept in 64 bits, so that it is in range.
 pub(crate) fn part(value: Value) -> Result<Value, TermFault>
-    ensures { AnswersOrLacks false result (checked_result (Some value)) }
+    ensures { AnswersOrLacks false result (Some value) }
 {
     match value.form {
         ValueForm::Number(n) => Ok(Value::number(n)),
@@ -79,7 +79,7 @@ pub(crate) fn part(value: Value) -> Result<Value, TermFault>
 
 /// How many there are, as a value.
 pub(crate) fn count_value(many: usize) -> Result<Value, TermFault>
-    ensures { AnswersOrLacks false result (checked_result (Some (number (pos many)))) }
+    ensures { AnswersOrLacks false result (Some (number (pos many))) }
 {
     match i64::try_from(many) {
         Ok(n) => Ok(Value::number(n)),

@@ -3,7 +3,7 @@
 ghost use Rattle.std.specs.Prelude.{◌≡◌, ◌↔◌, IfOk, IsTrue, Some, true, false};
 ghost use Rattle.ioa_values.specs.Collections.{IsAscending, set_of, union};
 ghost use Rattle.ioa_values.specs.Data.{finite_set, items_of};
-ghost use Rattle.ioa_operators.specs.RangeCheck.{AnswersOrLacks, checked_result};
+ghost use Rattle.ioa_operators.specs.RangeCheck.{AnswersOrLacks};
 ghost use Rattle.ioa_operators.specs.Operators.{call_two, finite_set_of};
 
 use crate::fault::TermFault;
@@ -22,9 +22,9 @@ fn set(members: Vec<Value>) -> Value
     }
 }
 
-/// A set with one more member. Costs time in proportion to the set, whose memory is taken over.
+/// A set with one more member. Costs time in proportion to the set, whose memory the result has.
 pub(crate) fn insert(member: Value, whole: Value) -> Result<Value, TermFault>
-    ensures { AnswersOrLacks true result (checked_result (call_two Function.Insert member whole)) }
+    ensures { AnswersOrLacks true result (call_two Function.Insert member whole) }
 {
     let members = members_of_set(whole)?;
     let members = collections::insert(members, member)?;
@@ -33,7 +33,7 @@ pub(crate) fn insert(member: Value, whole: Value) -> Result<Value, TermFault>
 
 /// A set without a member. Costs time in proportion to the set, and takes no memory.
 pub(crate) fn delete(member: &Value, whole: Value) -> Result<Value, TermFault>
-    ensures { AnswersOrLacks false result (checked_result (call_two Function.Delete member.now whole)) }
+    ensures { AnswersOrLacks false result (call_two Function.Delete member.now whole) }
 {
     let members = members_of_set(whole)?;
     Ok(set(collections::remove(members, member)))
@@ -41,7 +41,7 @@ pub(crate) fn delete(member: &Value, whole: Value) -> Result<Value, TermFault>
 
 /// The members of either of two sets. Costs time in proportion to both, as their members ascend.
 pub(crate) fn unite(alloc: Global, left: Value, right: Value) -> Result<Value, TermFault>
-    ensures { AnswersOrLacks true result (checked_result (call_two Function.Union left right)) }
+    ensures { AnswersOrLacks true result (call_two Function.Union left right) }
 {
     let left = members_of_set(left)?;
     let right = members_of_set(right)?;
@@ -49,16 +49,16 @@ pub(crate) fn unite(alloc: Global, left: Value, right: Value) -> Result<Value, T
     Ok(set(members))
 }
 
-/// The set of values, doubles dropped. Costs what `collections::set_of` costs.
+/// The set of values, without doubles. Costs what `collections::set_of` costs.
 pub(crate) fn set_of_values(alloc: Global, values: Vec<Value>) -> Result<Value, TermFault>
-    ensures { AnswersOrLacks true result (checked_result (Some (finite_set_of (set_of values.items)))) }
+    ensures { AnswersOrLacks true result (Some (finite_set_of (set_of values.items))) }
 {
     let members = collections::set_of(alloc, values)?;
     Ok(set(members))
 }
 
-/// The union of two lists of members: merged where they ascend, as those of every set do that is made
-/// here, and else inserted one by one.
+/// The union of two lists of members. If both ascend, as the members of every set that is made here do,
+/// they are merged, and else inserted one by one.
 fn members_of_either(
     alloc: Global,
     left: Vec<Value>,

@@ -2,14 +2,15 @@
 
 ghost use Rattle.std.specs.Prelude.{◌≡◌, ◌+◌, [], ◌&&◌, IfOk, map, nat_le, nat_lt};
 ghost use Rattle.ioa_values.specs.Data.{items_of};
-ghost use Rattle.ioa_operators.specs.Shapes.{naturals, constants, has_shape, have_shapes, all_have, shapes_of, wide_shape, wide_shape_if, wide_shapes_if};
+ghost use Rattle.ioa_operators.specs.Shapes.{naturals, constants, shapes_of, has_shape, have_shapes, all_have};
+ghost use Rattle.ioa_operators.specs.Shapes.{wide_shape, wide_shape_if, wide_shapes_if};
 ghost use Rattle.ioa_operators.specs.ShapeView.{shape_of};
 
 use ioa_values::{Value, ValueForm, Word};
 use std::alloc::{AllocError, Global};
 use std::sync::Arc;
 
-/// What a sort stands for, with the enumerations and tuple types that it names written out (profile).
+/// What a sort means, with the enumerations and tuple types that it names written out (profile).
 /// Parts are shared, so a shape takes no more memory than the text that it was made of.
 #[derive(Drop)]
 pub enum Shape {
@@ -19,7 +20,7 @@ pub enum Shape {
     Integers,
     /// `Nat`.
     Naturals,
-    /// An enumeration: its name, the place of its first constant, and how many there are.
+    /// An enumeration: its name, the index of its first constant, and how many there are.
     Constants(Word, usize, usize),
     /// A tuple type: its name, and the names and the shapes of its fields.
     Tuples(Word, Arc<Vec<Word>>, Arc<Vec<Shape>>),
@@ -77,15 +78,15 @@ impl Shape {
         self.fits(value, false)
     }
 
-    /// Whether a value has the shape when no sign is looked at: a negative number passes for a natural
-    /// too, wherever it stands. Costs time in proportion to the value.
+    /// Whether a value has the shape if signs do not matter: a negative number passes for a natural too,
+    /// at any depth. Costs time in proportion to the value.
     pub fn admits_negative(&self, value: &Value) -> bool
         ensures { result ≡ has_shape (wide_shape (shape_of self.now)) value.now }
     {
         self.fits(value, true)
     }
 
-    /// Whether a value has the shape, where a negative number passes for a natural or not.
+    /// Whether a value has the shape; if `negative` is true, a negative number passes for a natural too.
     #[cycle(admitting)]
     fn fits(&self, value: &Value, negative: bool) -> bool
         ensures { result ≡ has_shape (wide_shape_if negative (shape_of self.now)) value.now }
@@ -96,15 +97,15 @@ impl Shape {
             Shape::Naturals => is_natural(value, negative),
             Shape::Constants(_, from, many) => is_constant(value, *from, *many),
             Shape::Tuples(_, _, shapes) => match &value.form {
-                ValueForm::Tuple(parts) => all_fit(shapes, parts, negative),
+                ValueForm::Tuple(parts) => each_fits(shapes, parts, negative),
                 _ => false,
             },
             Shape::Sequences(items) => match &value.form {
-                ValueForm::Sequence(values) => fits_all(items, values, negative),
+                ValueForm::Sequence(values) => all_fit(items, values, negative),
                 _ => false,
             },
             Shape::Sets(members) => match &value.form {
-                ValueForm::Set(values) => fits_all(members, values, negative),
+                ValueForm::Set(values) => all_fit(members, values, negative),
                 _ => false,
             },
             Shape::Maps(keys, values) => match &value.form {
@@ -122,7 +123,7 @@ impl Shape {
     }
 }
 
-/// Whether a value is a number, which is not negative unless that passes.
+/// Whether a value is a natural number; if `negative` is true, a negative number passes too.
 fn is_natural(value: &Value, negative: bool) -> bool
     ensures { result ≡ has_shape (wide_shape_if negative naturals) value.now }
 {
@@ -132,7 +133,7 @@ fn is_natural(value: &Value, negative: bool) -> bool
     }
 }
 
-/// Whether a value is one of the constants from a place on.
+/// Whether a value is one of the constants from an index on.
 fn is_constant(value: &Value, from: usize, many: usize) -> bool
     ensures { result ≡ has_shape (constants [] from many) value.now }
 {
@@ -142,6 +143,7 @@ fn is_constant(value: &Value, from: usize, many: usize) -> bool
     }
 }
 
+/// Whether an index is one of the indices from another on.
 fn lies_among(index: usize, from: usize, many: usize) -> bool
     ensures { result ≡ (nat_le from index && nat_lt index (from + many)) }
 {
@@ -150,16 +152,17 @@ fn lies_among(index: usize, from: usize, many: usize) -> bool
 
 /// Whether values have shapes, one by one.
 #[tactic(auto, using(crate::proofs::WideShapes::all_narrow))]
-pub(crate) fn all_admit(shapes: &Vec<Shape>, values: &Vec<Value>) -> bool
+pub(crate) fn each_admits(shapes: &Vec<Shape>, values: &Vec<Value>) -> bool
     ensures { result ≡ have_shapes (shapes_of (map shape_of shapes.now.items)) (items_of values.now.items) }
 {
-    all_fit(shapes, values, false)
+    each_fits(shapes, values, false)
 }
 
-/// Whether values have shapes, one by one, where a negative number passes for a natural or not.
+/// Whether values have shapes, one by one; if `negative` is true, negative numbers pass for naturals too.
 #[cycle(admitting)]
-fn all_fit(shapes: &Vec<Shape>, values: &Vec<Value>, negative: bool) -> bool
-    ensures { result ≡ have_shapes (wide_shapes_if negative (shapes_of (map shape_of shapes.now.items))) (items_of values.now.items) }
+fn each_fits(shapes: &Vec<Shape>, values: &Vec<Value>, negative: bool) -> bool
+    ensures { result ≡ have_shapes (wide_shapes_if negative (shapes_of (map shape_of shapes.now.items)))
+        (items_of values.now.items) }
 {
     for position in 0..shapes.len().min(values.len()) {
         if !shapes[position].fits(&values[position], negative) {
@@ -169,9 +172,9 @@ fn all_fit(shapes: &Vec<Shape>, values: &Vec<Value>, negative: bool) -> bool
     shapes.len() == values.len()
 }
 
-/// Whether values all have a shape, where a negative number passes for a natural or not.
+/// Whether values all have a shape; if `negative` is true, negative numbers pass for naturals too.
 #[cycle(admitting)]
-fn fits_all(shape: &Shape, values: &Vec<Value>, negative: bool) -> bool
+fn all_fit(shape: &Shape, values: &Vec<Value>, negative: bool) -> bool
     ensures { result ≡ all_have (wide_shape_if negative (shape_of shape.now)) (items_of values.now.items) }
 {
     for value in values {

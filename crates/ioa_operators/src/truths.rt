@@ -3,7 +3,7 @@
 ghost use Rattle.std.specs.Prelude.{◌≡◌, false};
 ghost use Rattle.std.specs.Option.{option_map};
 ghost use Rattle.ioa_values.specs.Data.{truth};
-ghost use Rattle.ioa_operators.specs.RangeCheck.{AnswersOrLacks, checked_result};
+ghost use Rattle.ioa_operators.specs.RangeCheck.{AnswersOrLacks};
 ghost use Rattle.ioa_operators.specs.Operators.{unary_value, binary_value, left_decision};
 
 use crate::fault::TermFault;
@@ -13,7 +13,7 @@ use ioa_values::{Value, ValueForm};
 
 /// The other truth value.
 pub(crate) fn negation(value: &Value) -> Result<Value, TermFault>
-    ensures { AnswersOrLacks false result (checked_result (unary_value UnaryOperator.Not value.now)) }
+    ensures { AnswersOrLacks false result (unary_value UnaryOperator.Not value.now) }
 {
     let b = truth_of(value)?;
     Ok(Value::truth(!b))
@@ -21,7 +21,7 @@ pub(crate) fn negation(value: &Value) -> Result<Value, TermFault>
 
 /// Whether two truth values are the same.
 pub(crate) fn equivalence(left: &Value, right: &Value) -> Result<Value, TermFault>
-    ensures { AnswersOrLacks false result (checked_result (binary_value BinaryOperator.Equivalent left.now right.now)) }
+    ensures { AnswersOrLacks false result (binary_value BinaryOperator.Equivalent left.now right.now) }
 {
     let a = truth_of(left)?;
     let b = truth_of(right)?;
@@ -30,7 +30,7 @@ pub(crate) fn equivalence(left: &Value, right: &Value) -> Result<Value, TermFaul
 
 /// Whether the left side is false or the right side is true.
 pub(crate) fn implication(left: &Value, right: &Value) -> Result<Value, TermFault>
-    ensures { AnswersOrLacks false result (checked_result (binary_value BinaryOperator.Implies left.now right.now)) }
+    ensures { AnswersOrLacks false result (binary_value BinaryOperator.Implies left.now right.now) }
 {
     let a = truth_of(left)?;
     let b = truth_of(right)?;
@@ -39,7 +39,7 @@ pub(crate) fn implication(left: &Value, right: &Value) -> Result<Value, TermFaul
 
 /// Whether either side is true.
 pub(crate) fn disjunction(left: &Value, right: &Value) -> Result<Value, TermFault>
-    ensures { AnswersOrLacks false result (checked_result (binary_value BinaryOperator.Or left.now right.now)) }
+    ensures { AnswersOrLacks false result (binary_value BinaryOperator.Or left.now right.now) }
 {
     let a = truth_of(left)?;
     let b = truth_of(right)?;
@@ -48,7 +48,7 @@ pub(crate) fn disjunction(left: &Value, right: &Value) -> Result<Value, TermFaul
 
 /// Whether both sides are true.
 pub(crate) fn conjunction(left: &Value, right: &Value) -> Result<Value, TermFault>
-    ensures { AnswersOrLacks false result (checked_result (binary_value BinaryOperator.And left.now right.now)) }
+    ensures { AnswersOrLacks false result (binary_value BinaryOperator.And left.now right.now) }
 {
     let a = truth_of(left)?;
     let b = truth_of(right)?;
@@ -56,7 +56,7 @@ pub(crate) fn conjunction(left: &Value, right: &Value) -> Result<Value, TermFaul
 }
 
 /// What the left side of `/\`, `\/` or `=>` decides alone: false decides the first and the last, true
-/// the second. The right side is not taken then.
+/// the second. The right side is not evaluated then.
 pub fn left_decision(operator: BinaryOperator, left: &Value) -> Option<bool>
     ensures { option_map (λ b. truth b) result ≡ left_decision operator left.now }
 {
@@ -68,6 +68,7 @@ pub fn left_decision(operator: BinaryOperator, left: &Value) -> Option<bool>
     }
 }
 
+/// What the left side of `/\` decides alone.
 fn conjunction_decision(left: &Value) -> Option<bool>
     ensures { option_map (λ b. truth b) result ≡ left_decision BinaryOperator.And left.now }
 {
@@ -77,6 +78,7 @@ fn conjunction_decision(left: &Value) -> Option<bool>
     }
 }
 
+/// What the left side of `\/` decides alone.
 fn disjunction_decision(left: &Value) -> Option<bool>
     ensures { option_map (λ b. truth b) result ≡ left_decision BinaryOperator.Or left.now }
 {
@@ -86,6 +88,7 @@ fn disjunction_decision(left: &Value) -> Option<bool>
     }
 }
 
+/// What the left side of `=>` decides alone.
 fn implication_decision(left: &Value) -> Option<bool>
     ensures { option_map (λ b. truth b) result ≡ left_decision BinaryOperator.Implies left.now }
 {

@@ -5,7 +5,7 @@ use Rattle.ioa_operators.proofs.between.binary.Goals as goal
 
 -- the value is what is meant
 pub returns-clause-value : goal.returns-clause-value
-returns-clause-value c = answers (operator_takes_memory c.args.operator) c.between_values.result _ c.between_values.ensures
+returns-clause-value c = answers (operator_takes_memory c.args.operator) c.between_values.result (binary_value c.args.operator c.args.left c.args.right) c.between_values.ensures
 
 -- memory is lacked only where it is taken
 pub returns-clause-memory : goal.returns-clause-memory

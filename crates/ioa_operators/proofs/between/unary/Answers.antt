@@ -6,7 +6,7 @@ use Rattle.ioa_operators.proofs.between.unary.Goals as goal
 
 -- the value is what is meant
 pub returns-clause-value : goal.returns-clause-value
-returns-clause-value c = answers false c.before_value.result _ c.before_value.ensures
+returns-clause-value c = answers false c.before_value.result (unary_value c.args.operator c.args.value.now) c.before_value.ensures
 
 -- no memory is taken
 pub returns-clause-memory : goal.returns-clause-memory

@@ -7,7 +7,7 @@ use Rattle.ioa_operators.proofs.fields.field.Goals as goal
 
 -- the value is what is meant
 pub returns-clause-value : goal.returns-clause-value
-returns-clause-value c = answers false c.field_of.result _ c.field_of.ensures
+returns-clause-value c = answers false c.field_of.result (field_value (shape_of c.args.shape.now) c.args.name.now c.args.value) c.field_of.ensures
 
 -- no memory is taken
 pub returns-clause-memory : goal.returns-clause-memory

@@ -5,7 +5,7 @@ use Rattle.ioa_operators.proofs.functions.call.Goals as goal
 
 -- the value is what is meant
 pub returns-clause-value : goal.returns-clause-value
-returns-clause-value c = answers (call_takes_memory c.args.function) c.apply_function.result _ c.apply_function.ensures
+returns-clause-value c = answers (call_takes_memory c.args.function) c.apply_function.result (call_value c.args.function c.args.parts.items) c.apply_function.ensures
 
 -- memory is lacked only where it is taken
 pub returns-clause-memory : goal.returns-clause-memory

@@ -5,13 +5,13 @@ use Rattle.ioa_operators.specs.ShapeView.{shape_of}
 use Rattle.ioa_operators.proofs.shape.+admitting.Given as goal
 
 -- the values and entries gone by have their shapes
-abbrev pub invariant-all_fit-loop-position : goal.invariant-all_fit-loop-position
-invariant-all_fit-loop-position l =
+abbrev pub invariant-each_fits-loop-position : goal.invariant-each_fits-loop-position
+invariant-each_fits-loop-position l =
     have_shapes (wide_shapes_if l.negative (shapes_of (map shape_of l.shapes.items))) (items_of l.values.items)
     ≡ have_shapes (wide_shapes_if l.negative (shapes_of (map shape_of (drop l.position l.shapes.items)))) (items_of (drop l.position l.values.items))
 
-abbrev pub invariant-fits_all-loop-value : goal.invariant-fits_all-loop-value
-invariant-fits_all-loop-value l =
+abbrev pub invariant-all_fit-loop-value : goal.invariant-all_fit-loop-value
+invariant-all_fit-loop-value l =
     all_have (wide_shape_if l.negative (shape_of l.shape)) (items_of l.values.items)
     ≡ all_have (wide_shape_if l.negative (shape_of l.shape)) (items_of (drop l.value-index l.values.items))
 
