@@ -10,7 +10,7 @@ use Rattle.ioa_values.proofs.Ascending.{all_with, all_without, with_member_ascen
 use Rattle.ioa_values.specs.Data.{Data, Items, Entries, number, truth, constant, tuple, sequence, finite_set, finite_map, no_items, item, no_entries, entry, list_of, pairs_of, items_of, entries_of, as_number, as_truth, is_within}
 use Rattle.ioa_values.specs.Collections.{IsAscending, keys_of, with_member, without_member, set_of, union, value_at, with_entry, without_key}
 use Rattle.ioa_operators.specs.Operators.{sequence_of, finite_set_of, finite_map_of, as_sequence, as_set, as_map, unary_value, binary_value, first, rest, count, is_there, call_one, call_two, call_three, call_value, same_truth}
-use Rattle.ioa_operators.specs.Shapes.{PlainShape, tuples, sequences, sets, maps, display_value, field_value, with_field, field_position, have_shapes}
+use Rattle.ioa_operators.specs.Shapes.{PlainShape, tuples, sequences, sets, maps, display_value, field_value, with_field, field_position, replaced_part, have_shapes}
 use Rattle.ioa_operators.specs.RangeCheck.{AnswersOrLacks, checked_result}
 use Rattle.ioa_operators.specs.declared.fault.TermFault.{TermFault}
 use Rattle.ioa_operators.specs.declared.fault.TermFault.TheVariants.{Range}
@@ -161,7 +161,7 @@ field_canonical _ w _ h = tt
 
 pub with_field_canonical : (s : PlainShape) (w : List ℕ) (v d : Data) → IsCanonical v → IsCanonical d → IfSome (with_field s w v d) IsCanonical
 with_field_canonical (tuples type names ss) w v (tuple ds) h k =
-    and_then_holds_any IsCanonical (λ i. option_map (λ old. tuple (items_of (slice_set (list_of ds) i v))) (slice_get (list_of ds) i)) (field_position w names)
+    and_then_holds_any IsCanonical (replaced_part (list_of ds) v) (field_position w names)
     (λ i. map_holds_any IsCanonical (λ (old : Data). tuple (items_of (slice_set (list_of ds) i v))) (slice_get (list_of ds) i)
     (λ old. items_all (slice_set (list_of ds) i v) (all_replaced IsCanonical (list_of ds) i v h (all_items ds k))))
 with_field_canonical _ w v _ h k = tt

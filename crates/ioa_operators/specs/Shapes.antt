@@ -86,17 +86,18 @@ wide_shape s = wide_shape_if true s
 abbrev pub field_position : List ℕ → List (List ℕ) → Option ℕ
 field_position w names = position (pointwise nat_eq w) names
 
--- the part of a tuple whose parts have these names, and the tuple with another value there
+-- the part of a name, of a tuple whose parts have these names
 abbrev pub part_named : List (List ℕ) → List ℕ → Data → Option Data
 part_named names w d = option_and_then (λ ds. option_and_then (slice_get ds) (field_position w names)) (as_tuple d)
 
+-- the tuple of these parts with another value at a position, if there is a part at it
+abbrev pub replaced_part : List Data → Data → ℕ → Option Data
+replaced_part ds v i = option_map (λ old. tuple (items_of (slice_set ds i v))) (slice_get ds i)
+
+-- the tuple with another value for the part of a name
 abbrev pub with_part : List (List ℕ) → List ℕ → Data → Data → Option Data
 with_part names w v d =
-    option_and_then
-    (λ ds. option_and_then
-    (λ i. option_map (λ old. tuple (items_of (slice_set ds i v))) (slice_get ds i))
-    (field_position w names))
-    (as_tuple d)
+    option_and_then (λ ds. option_and_then (replaced_part ds v) (field_position w names)) (as_tuple d)
 
 -- the field of a name, of a value of a tuple type
 abbrev pub field_value : PlainShape → List ℕ → Data → Option Data
