@@ -14,7 +14,7 @@ use Rattle.ioa_tokens.specs.declared.token.Token.{Token}
 use Rattle.ioa_tokens.specs.declared.token.Token.TheVariants as token
 use Rattle.ioa_tokens.specs.declared.written.Gap.{Gap}
 use Rattle.ioa_tokens.specs.declared.written.Gap.TheVariants as gap
-use Rattle.ioa_tokens.specs.Tables.{mark_text, left_out_text, signs}
+use Rattle.ioa_tokens.specs.Tables.{mark_text, left_out_text, signs, reserved_words, left_out_words}
 use Rattle.ioa_tokens.specs.Lexeme.{is_in_word, is_space}
 use Rattle.ioa_tokens.specs.Written.{Head, letter, digit, sign, text_head, token_head, word_ends, number_ends, letters_end, sign_ends, spelling_ends, token_ends, begins_longer, token_text, written_text, IsToken, AreTokens, IsApartFrom}
 use Rattle.ioa_tokens.proofs.Ends.{Stops, spelling_takes, takes}
@@ -149,11 +149,13 @@ spelling_headed (c ∷ more) headed =
 
 -- each mark begins so
 pub mark_headed : (m : Mark) → is_headed (mark_text m) ≡ true
+unfolding mark_text signs reserved_words
 mark_headed mark.Equivalent = refl
 mark_headed _ = refl
 
 -- each left-out word does
 pub left_out_headed : (w : LeftOut) → is_headed (left_out_text w) ≡ true
+unfolding left_out_text left_out_words
 left_out_headed left_out.Uses = refl
 left_out_headed _ = refl
 

@@ -159,3 +159,54 @@ pub(crate) fn left_out_word(word: &[u8]) -> Option<LeftOut>
 {
     meaning(&LEFT_OUT, word)
 }
+
+/// The text of the first row for a mark, if there is one.
+fn text_of_mark(table: &[(&'static str, Mark)], wanted: Mark) -> Option<&'static str>
+    ensures { option_map (λ text. text.now) result
+        ≡ spec.text_where (λ mark. spec.same_mark mark wanted) (spec.spelled_rows table.now) }
+{
+    for (text, mark) in table {
+        if *mark == wanted {
+            return Some(*text);
+        }
+    }
+    None
+}
+
+/// The text of the first row for a left-out word, if there is one.
+fn text_of_left_out(table: &[(&'static str, LeftOut)], wanted: LeftOut) -> Option<&'static str>
+    ensures { option_map (λ text. text.now) result
+        ≡ spec.text_where (λ word. spec.same_left_out word wanted) (spec.spelled_rows table.now) }
+{
+    for (text, word) in table {
+        if *word == wanted {
+            return Some(*text);
+        }
+    }
+    None
+}
+
+/// How a sign or a reserved word is written. Each mark has a row, so the empty text is never returned.
+#[tactic(auto, unfolding(crate::specs::Tables::mark_text, crate::specs::Tables::signs, crate::specs::Tables::reserved_words))]
+pub(crate) fn mark_text(mark: Mark) -> &'static str
+    ensures { result.now ≡ spec.mark_text mark }
+{
+    if let Some(text) = text_of_mark(&SIGNS, mark) {
+        return text;
+    }
+    match text_of_mark(&RESERVED, mark) {
+        Some(text) => text,
+        None => "",
+    }
+}
+
+/// How a left-out word is written. Each has a row, so the empty text is never returned.
+#[tactic(auto, unfolding(crate::specs::Tables::left_out_text, crate::specs::Tables::left_out_words))]
+pub(crate) fn left_out_text(word: LeftOut) -> &'static str
+    ensures { result.now ≡ spec.left_out_text word }
+{
+    match text_of_left_out(&LEFT_OUT, word) {
+        Some(text) => text,
+        None => "",
+    }
+}
