@@ -11,7 +11,7 @@ use Rattle.ioa_tokens.specs.declared.token.Token.{Token}
 use Rattle.ioa_tokens.specs.declared.token.Token.TheVariants as token
 use Rattle.ioa_tokens.specs.declared.written.Gap.{Gap}
 use Rattle.ioa_tokens.specs.declared.written.Gap.TheVariants as gap
-use Rattle.ioa_tokens.specs.Tables.{mark_text, left_out_text, signs, reserved_words}
+use Rattle.ioa_tokens.specs.Tables.{mark_text, left_out_text, signs, reserved}
 use Rattle.ioa_tokens.specs.Written.{Head, letter, digit, sign, text_head, gap_text, token_head, token_ends, token_text, written_text, spelling_ends, sign_ends, begins_longer, may_touch, IsApartFrom}
 use Rattle.ioa_tokens.proofs.Touching.{and_false, no_prefix, is_headed, mark_headed, left_out_headed}
 
@@ -102,7 +102,7 @@ sign_closed text (sign c) none = ap not (none c)
 
 -- so do these marks
 closed_ends : (m : Mark) (head : Head) → is_closed m ≡ true → token_ends (token.Mark m) head ≡ true
-unfolding mark_text signs reserved_words
+unfolding mark_text signs reserved
 closed_ends mark.OpenRound head closed = sign_closed (codes "(") head (λ c. refl)
 closed_ends mark.CloseRound head closed = sign_closed (codes ")") head (λ c. refl)
 closed_ends mark.OpenSquare head closed = sign_closed (codes "[") head (λ c. refl)

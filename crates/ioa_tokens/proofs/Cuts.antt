@@ -41,7 +41,7 @@ pub next_lexeme : (offset : ℕ) (text : List ℕ) → 0 < length text → token
 next_lexeme offset [] nonempty = absurd (omega arith)
 next_lexeme offset (c ∷ text) nonempty = ap (with_lexeme offset (lexeme_at (c ∷ text)).0) (rest_of_lexeme (lexeme_at (c ∷ text)).1 offset c text (lexeme_sized (c ∷ text) nonempty).0)
 
--- at a place, with the tokens found before it
+-- at an offset, with the tokens found before it
 module _ (found : List LocatedToken) (offset : ℕ) (text : List ℕ) (meant : Result (List LocatedToken) CutFault) (within : offset < length text) (before : after_found found (tokens_from 0 offset (drop offset text)) ≡ meant) (p : Lexeme × ℕ) (is : p ≡ lexeme_at (drop offset text)) where
   -- the piece there is no longer than what is left, and no shorter than a byte
   pub lexeme_within : (0 < p.1) × (offset + p.1 ≤ length text)

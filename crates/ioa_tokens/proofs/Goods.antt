@@ -100,7 +100,7 @@ with_lexeme_good offset (lexeme.Token t) (Err fault) good found = tt
 with_lexeme_good offset lexeme.TooLarge after good found = tt
 with_lexeme_good offset lexeme.Stray after good found = tt
 
--- from a place on
+-- from an offset on
 tokens_from_good : (left offset : ℕ) (text : List ℕ) → AreFound (tokens_from left offset text)
 tokens_from_good left offset [] = tt
 tokens_from_good (suc left) offset (c ∷ text) = tokens_from_good left (offset + 1) text

@@ -15,7 +15,7 @@ use Rattle.ioa_tokens.specs.declared.mark.LeftOut.TheVariants as left_out
 use Rattle.ioa_tokens.specs.declared.token.Token.{Token}
 use Rattle.ioa_tokens.specs.declared.token.Token.TheVariants as token
 use Rattle.ioa_tokens.specs.declared.lexeme.Lexeme.TheVariants as lexeme
-use Rattle.ioa_tokens.specs.Tables.{mark_text, left_out_text, signs, sign_at_head, reserved_words, left_out_words}
+use Rattle.ioa_tokens.specs.Tables.{mark_text, left_out_text, signs, sign_at_head, reserved, left_out_words}
 use Rattle.ioa_tokens.specs.Lexeme.{is_in_word, is_space, word_lexeme, number_lexeme, sign_lexeme, lexeme_at, fixed_token, backslash_word, token_or_stray, greatest_number}
 use Rattle.ioa_tokens.specs.Written.{token_text, begins_longer, IsToken}
 use Rattle.ioa_tokens.proofs.Ends.{Stops, prefix_whole, sign_stays, spelling_takes, takes}
@@ -71,7 +71,7 @@ at_word text t rest letter all is ends = word_at text rest letter all ends ∙ i
 
 -- a sign or a reserved word at the head
 pub mark_at : (m : Mark) (rest : List ℕ) → Stops (spelling_takes (mark_text m)) rest → lexeme_at (mark_text m ++ rest) ≡ (lexeme.Token (token.Mark m), length (mark_text m))
-unfolding lexeme_at mark_text signs reserved_words left_out_words
+unfolding lexeme_at mark_text signs reserved left_out_words
 mark_at mark.Equivalent rest ends = at_sign mark.Equivalent rest refl refl ends
 mark_at mark.And rest ends = at_sign mark.And rest refl refl ends
 mark_at mark.Or rest ends = at_sign mark.Or rest refl refl ends
@@ -107,7 +107,7 @@ mark_at m rest ends = at_word (mark_text m) (token.Mark m) rest refl refl refl e
 
 -- a left-out word at the head
 pub left_out_at : (w : LeftOut) (rest : List ℕ) → Stops (spelling_takes (left_out_text w)) rest → lexeme_at (left_out_text w ++ rest) ≡ (lexeme.Token (token.LeftOut w), length (left_out_text w))
-unfolding lexeme_at left_out_text signs reserved_words left_out_words
+unfolding lexeme_at left_out_text signs reserved left_out_words
 left_out_at left_out.ForAll rest ends = ap (λ word. (token_or_stray (fixed_token word), length word)) (at_letters (codes "A") rest refl ends)
 left_out_at left_out.Exists rest ends = ap (λ word. (token_or_stray (fixed_token word), length word)) (at_letters (codes "E") rest refl ends)
 left_out_at w rest ends = at_word (left_out_text w) (token.LeftOut w) rest refl refl refl ends

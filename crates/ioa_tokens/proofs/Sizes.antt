@@ -1,4 +1,4 @@
--- A piece takes at least one byte of the text that it stands at the head of, and no more than the text has.
+-- The piece at the head of a text has at least one byte, and no more than the text.
 use Rattle.std.proofs.Common.{◌≡◌, ℕ, ◌<◌, ◌≤◌, ◌+◌, Bool, true, nat_eq, List, [], ◌∷◌, length, take, drop, get_or, Option, Some, None, refl, sym, ap, arith, subst, min, ⊎_elim, ltb-true}
 use Rattle.std.specs.List.{prefix_len, starts_with, take_while, list_all}
 use Rattle.std.specs.Map.{lookup_entry}

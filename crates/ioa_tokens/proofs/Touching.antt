@@ -1,4 +1,4 @@
--- What stands behind a token lets it end.
+-- What comes after a token lets it end.
 use Rattle.std.proofs.Common.{◌≡◌, ℕ, ◌<◌, Bool, true, false, not, nat_eq, List, [], ◌∷◌, ◌++◌, length, refl, sym, ap, arith, subst, ◌∙◌, true≢false, pos, negsuc, decimal, append_assoc, ⊎_elim, eqb-true}
 use Rattle.std.specs.List.{list_all, list_any, starts_with}
 use Rattle.std.specs.Prelude.{map, ◌&&◌, ◌||◌, slice_index, if◌then◌else◌}
@@ -14,7 +14,7 @@ use Rattle.ioa_tokens.specs.declared.token.Token.{Token}
 use Rattle.ioa_tokens.specs.declared.token.Token.TheVariants as token
 use Rattle.ioa_tokens.specs.declared.written.Gap.{Gap}
 use Rattle.ioa_tokens.specs.declared.written.Gap.TheVariants as gap
-use Rattle.ioa_tokens.specs.Tables.{mark_text, left_out_text, signs, reserved_words, left_out_words}
+use Rattle.ioa_tokens.specs.Tables.{mark_text, left_out_text, signs, reserved, left_out_words}
 use Rattle.ioa_tokens.specs.Lexeme.{is_in_word, is_space}
 use Rattle.ioa_tokens.specs.Written.{Head, letter, digit, sign, text_head, token_head, word_ends, number_ends, letters_end, sign_ends, spelling_ends, token_ends, begins_longer, token_text, written_text, IsToken, AreTokens, IsApartFrom}
 use Rattle.ioa_tokens.proofs.Ends.{Stops, spelling_takes, takes}
@@ -149,7 +149,7 @@ spelling_headed (c ∷ more) headed =
 
 -- each mark begins so
 pub mark_headed : (m : Mark) → is_headed (mark_text m) ≡ true
-unfolding mark_text signs reserved_words
+unfolding mark_text signs reserved
 mark_headed mark.Equivalent = refl
 mark_headed _ = refl
 

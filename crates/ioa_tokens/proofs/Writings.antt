@@ -55,7 +55,7 @@ gap_blank gap.Joined = refl
 gap_blank gap.Spaced = refl
 gap_blank (gap.NewLine indent) = spaces_blank indent
 
--- the tokens that are written from a place on, each with its place
+-- the tokens that are written from an offset on, each with its offset
 abbrev pub located_from : ℕ → List (Gap × Token) → List LocatedToken
 located_from offset [] = []
 located_from offset (w ∷ ws) =
@@ -67,7 +67,7 @@ located_tokens : (offset : ℕ) (ws : List (Gap × Token)) → map (λ (p : Loca
 located_tokens offset [] = refl
 located_tokens offset (w ∷ ws) = ap (λ (ts : List Token). w.1 ∷ ts) (located_tokens (offset + length (gap_text w.0) + length (token_text w.1)) ws)
 
--- a written text, cut from a place on
+-- a written text, cut from an offset on
 tokens_from_written : (ws : List (Gap × Token)) (offset : ℕ) (end : List ℕ) → AreTokens (map (λ w. w.1) ws) → AreApart ws → list_all is_space end ≡ true → tokens_from 0 offset (written_text ws ++ end) ≡ Ok (located_from offset ws)
 tokens_from_written [] offset end good apart blank = ap (tokens_from 0 offset) (sym (append-nil end)) ∙ spaces_pass end [] offset blank
 tokens_from_written (w ∷ ws) offset end good apart blank =

@@ -1,5 +1,6 @@
--- What stands at the head of a text, and how many bytes it takes (profile).
-use Rattle.std.specs.Prelude.{ℕ, ◌+◌, List, length, take, drop, slice_index, Option, Some, None, Bool, not, ◌||◌, ◌==◌, nat_le, if◌then◌else◌, unwrap_or, pos}
+-- The piece at the head of a text, and how many bytes it has (profile).
+use Rattle.std.specs.Prelude.{ℕ, ◌+◌, List, length, take, drop, slice_index, Option, Some, None, unwrap_or, pos}
+use Rattle.std.specs.Prelude.{Bool, not, ◌||◌, ◌==◌, nat_le, if◌then◌else◌}
 use Rattle.std.specs.List.{prefix_len, take_while}
 use Rattle.std.specs.Char.{is_ascii_alphabetic, is_ascii_alphanumeric, is_ascii_digit}
 use Rattle.std.specs.Str.{byte}
@@ -10,6 +11,7 @@ use Rattle.ioa_tokens.specs.declared.token.Token.{Token}
 use Rattle.ioa_tokens.specs.declared.token.Token.TheVariants as token
 use Rattle.ioa_tokens.specs.declared.lexeme.Lexeme.{Lexeme}
 use Rattle.ioa_tokens.specs.declared.lexeme.Lexeme.TheVariants as lexeme
+use Rattle.ioa_tokens.specs.declared.lexeme.TheConstants.{GREATEST}
 use Rattle.ioa_tokens.specs.Tables.{sign_at_head, reserved_word, left_out_word}
 
 -- white space is space, tab, carriage return and line feed
@@ -28,17 +30,18 @@ is_in_word c = is_ascii_alphanumeric c || (c == byte "_")
 abbrev pub backslash_word : List ℕ → List ℕ
 backslash_word text = take (1 + prefix_len is_ascii_alphabetic (drop 1 text)) text
 
--- the token that a word stands for, if it is reserved or left out
+-- the token of a word that is reserved or left out
 abbrev pub fixed_token : List ℕ → Option Token
-fixed_token word = option_or (option_map token.Mark (reserved_word word)) (option_map token.LeftOut (left_out_word word))
+fixed_token word =
+    option_or (option_map token.Mark (reserved_word word)) (option_map token.LeftOut (left_out_word word))
 
 -- a word that is neither reserved nor left out is a name
 abbrev pub word_lexeme : List ℕ → Lexeme × ℕ
 word_lexeme word = (lexeme.Token (unwrap_or (fixed_token word) (token.Word word)), length word)
 
--- 2 ^ 63 - 1
+-- the greatest number: 2 ^ 63 - 1
 abbrev pub greatest_number : ℕ
-greatest_number = 9223372036854775807
+greatest_number = GREATEST
 
 -- a number above the greatest is too large
 abbrev pub number_or_too_large : ℕ → Lexeme
@@ -53,11 +56,12 @@ abbrev pub token_or_stray : Option Token → Lexeme
 token_or_stray (Some t) = lexeme.Token t
 token_or_stray None = lexeme.Stray
 
--- the longest sign, else what a backslash begins, else a character that begins nothing
+-- the longest sign; if there is none, the word that a backslash begins; otherwise a character that begins no token
 abbrev pub sign_lexeme : Option (List ℕ × Mark) → List ℕ → Lexeme × ℕ
 sign_lexeme (Some row) text = (lexeme.Token (token.Mark row.1), length row.0)
 sign_lexeme None text =
-    if slice_index text 0 == byte "\\" then (token_or_stray (fixed_token (backslash_word text)), length (backslash_word text))
+    let word = backslash_word text in
+    if slice_index text 0 == byte "\\" then (token_or_stray (fixed_token word), length word)
     else (lexeme.Stray, 1)
 
 -- the piece at the head of a text, by its first character

@@ -1,5 +1,4 @@
--- How the signs and the words of the language are written (profile). The tables are those of the code: `SIGNS`, `RESERVED` and
--- `LEFT_OUT`.
+-- How the signs and the words of the language are written (profile). The tables are the constants of the code.
 use Rattle.std.specs.Prelude.{ℕ, Bool, List, [], ◌∷◌, map, nat_eq, Option, Some, None, if◌then◌else◌}
 use Rattle.std.specs.List.{starts_with}
 use Rattle.std.specs.Map.{lookup, lookup_entry}
@@ -21,7 +20,7 @@ spelled_row row = (row.0.now, row.1)
 abbrev pub spelled_rows : {A : Type 0} → List (Bor (List ℕ) × A) → List (List ℕ × A)
 spelled_rows rows = map spelled_row rows
 
--- a row of a table that is a constant, where a text is by its bytes alone
+-- the same of a table that is a constant: there a reference to a text has only its bytes
 abbrev pub constant_row : {A : Type 0} → record { now : List ℕ } × A → List ℕ × A
 constant_row row = (row.0.now, row.1)
 
@@ -30,17 +29,17 @@ unfoldable pub signs : List (List ℕ × Mark)
 signs = map constant_row SIGNS
 
 -- the reserved words, and the sign that is written with letters
-unfoldable pub reserved_words : List (List ℕ × Mark)
-reserved_words = map constant_row RESERVED
+unfoldable pub reserved : List (List ℕ × Mark)
+reserved = map constant_row RESERVED
 
 -- the words that the profile leaves out
 unfoldable pub left_out_words : List (List ℕ × LeftOut)
 left_out_words = map constant_row LEFT_OUT
 
 -- the text of the first row whose meaning passes a test, if a row's does
-abbrev pub text_where : {A : Type 0} → (A → Bool) → List (List ℕ × A) → Option (List ℕ)
-text_where is [] = None
-text_where is (row ∷ rows) = if is row.1 then Some row.0 else text_where is rows
+abbrev pub first_text : {A : Type 0} → (A → Bool) → List (List ℕ × A) → Option (List ℕ)
+first_text is [] = None
+first_text is (row ∷ rows) = if is row.1 then Some row.0 else first_text is rows
 
 -- whether two marks are the same
 abbrev pub same_mark : Mark → Mark → Bool
@@ -53,19 +52,19 @@ same_left_out = sameb left_out_contract.the_type
 -- how a sign or a reserved word is written
 unfoldable pub mark_text : Mark → List ℕ
 mark_text m =
-    unwrap_or (option_or (text_where (λ k. same_mark k m) signs) (text_where (λ k. same_mark k m) reserved_words)) []
+    unwrap_or (option_or (first_text (λ k. same_mark k m) signs) (first_text (λ k. same_mark k m) reserved)) []
 
 -- how a left-out word is written
 unfoldable pub left_out_text : LeftOut → List ℕ
-left_out_text word = unwrap_or (text_where (λ k. same_left_out k word) left_out_words) []
+left_out_text word = unwrap_or (first_text (λ k. same_left_out k word) left_out_words) []
 
--- the longest sign that a text begins with, and its spelling
+-- the longest sign that a text begins with, and how it is written
 abbrev pub sign_at_head : List ℕ → Option (List ℕ × Mark)
 sign_at_head text = lookup_entry (starts_with nat_eq text) signs
 
 -- the mark of a reserved word
 abbrev pub reserved_word : List ℕ → Option Mark
-reserved_word word = lookup (bytes_eq word) reserved_words
+reserved_word word = lookup (bytes_eq word) reserved
 
 -- the left-out word of these bytes
 abbrev pub left_out_word : List ℕ → Option LeftOut

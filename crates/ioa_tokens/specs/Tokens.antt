@@ -7,7 +7,7 @@ use Rattle.ioa_tokens.specs.declared.lexeme.Lexeme.{Lexeme}
 use Rattle.ioa_tokens.specs.declared.lexeme.Lexeme.TheVariants as lexeme
 use Rattle.ioa_tokens.specs.Lexeme.{lexeme_at}
 
--- a piece at a place, before the tokens of what comes after it: the first refusal from the left stands
+-- a piece at an offset, and the tokens of the text after it: the first refusal from the left is the refusal of both
 abbrev pub with_lexeme : ℕ → Lexeme → Result (List LocatedToken) CutFault → Result (List LocatedToken) CutFault
 with_lexeme offset lexeme.Gap after = after
 with_lexeme offset (lexeme.Token t) (Ok ts) = Ok (record { token = t; offset = offset } ∷ ts)
@@ -15,11 +15,13 @@ with_lexeme offset (lexeme.Token t) (Err e) = Err e
 with_lexeme offset lexeme.TooLarge after = Err (NumberTooLarge offset)
 with_lexeme offset lexeme.Stray after = Err (BadCharacter offset)
 
--- the tokens of a text that begins at a place, once the bytes that are left of the piece before it have gone by
+-- the tokens of a text that begins at an offset, of whose first bytes so many belong to the piece before
 abbrev pub tokens_from : ℕ → ℕ → List ℕ → Result (List LocatedToken) CutFault
 tokens_from left offset [] = Ok []
 tokens_from (suc left) offset (c ∷ text) = tokens_from left (offset + 1) text
-tokens_from zero offset (c ∷ text) = with_lexeme offset (lexeme_at (c ∷ text)).0 (tokens_from ((lexeme_at (c ∷ text)).1 - 1) (offset + 1) text)
+tokens_from zero offset (c ∷ text) =
+    let piece = lexeme_at (c ∷ text) in
+    with_lexeme offset piece.0 (tokens_from (piece.1 - 1) (offset + 1) text)
 
 -- the tokens of a text, or the first character or number that is refused
 unfoldable pub tokens : List ℕ → Result (List LocatedToken) CutFault

@@ -8,9 +8,9 @@ use crate::lexeme::{Lexeme, lexeme_at};
 use crate::token::LocatedToken;
 use std::alloc::Global;
 
-/// The tokens of a text, each with its place; white space and comments are left away. A text that
-/// holds characters that begin no token, or numbers that are too large, is refused by the first of
-/// them from the left. `CutFault::Memory` where there is not memory enough. Source: profile.
+/// The tokens of a text, each with its offset. White space and comments are no tokens. A text is refused
+/// at the first character that begins no token (`BadCharacter`, 11) or the first number that is too large
+/// (`NumberTooLarge`, 13), whichever comes first. `Memory` (3) if memory runs out. Source: profile.
 #[tactic(auto, using(crate::proofs::Sizes::lexeme_sized))]
 pub fn tokens<'a>(alloc: Global, text: &'a str) -> Result<Vec<LocatedToken<'a>>, CutFault>
     ensures { Answers CutFault.Memory (λ v. v.items) result (spec.tokens text.now) }

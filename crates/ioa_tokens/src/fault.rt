@@ -4,14 +4,14 @@ use std::alloc::{AllocError, AllocFailed};
 use std::fmt;
 use thiserror::Error;
 
-/// Why a text is not cut into tokens. A place is counted in bytes from 0. Source: profile.
+/// Why a text is not cut into tokens. An offset counts bytes from 0. Source: profile.
 #[derive(Debug, Drop, Error)]
 pub enum CutFault {
-    /// 11: the character at this place begins no token.
+    /// 11: the character at this offset begins no token.
     BadCharacter(usize),
-    /// 13: the number that begins at this place is above 9223372036854775807.
+    /// 13: the number that begins at this offset is above 9223372036854775807.
     NumberTooLarge(usize),
-    /// 3: there was not memory enough.
+    /// 3: memory ran out.
     Memory,
 }
 

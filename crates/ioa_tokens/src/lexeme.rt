@@ -1,4 +1,4 @@
-//! What stands at the head of a text.
+//! The piece at the head of a text: white space, a token, or what is refused.
 
 ghost use Rattle.std.specs.Prelude.{◌≡◌, ◌<◌, ◌≤◌, All, pos, length};
 ghost use Rattle.std.specs.Char.{IsAsciiDigit};
@@ -14,7 +14,7 @@ use crate::token::{Token, TokenWord};
 /// The greatest number.
 const GREATEST: u64 = 9223372036854775807;
 
-/// What stands at the head of a text.
+/// The piece at the head of a text.
 #[derive(Debug, Drop)]
 pub(crate) enum Lexeme<'a> {
     /// White space, or a comment.
@@ -27,7 +27,7 @@ pub(crate) enum Lexeme<'a> {
     Stray,
 }
 
-/// The token that a word stands for, if it is reserved or left out.
+/// The token of a word that is reserved or left out.
 fn fixed_token<'a>(word: &[u8]) -> Option<Token<'a>>
     ensures { result ≡ spec.fixed_token word.now }
 {
@@ -40,7 +40,7 @@ fn fixed_token<'a>(word: &[u8]) -> Option<Token<'a>>
     }
 }
 
-/// The number that digits write, where it is not too large.
+/// The number that digits write, if it is not above the greatest.
 fn number(digits: &[u8]) -> Option<i64>
     requires { All IsAsciiDigit digits.now }
     ensures { let n = digits_value 10 digits.now in
@@ -81,7 +81,8 @@ fn number_lexeme<'a>(digits: &'a [u8]) -> (Lexeme<'a>, usize)
     (lexeme, digits.len())
 }
 
-/// A sign, else what a backslash begins, else a character that begins nothing.
+/// The longest sign that a text begins with. If there is none, the word that a backslash begins, and
+/// otherwise a character that begins no token.
 fn sign_lexeme<'a>(text: &'a [u8]) -> (Lexeme<'a>, usize)
     requires { 0 < length text.now }
     ensures { result ≡ spec.sign_lexeme (sign_at_head text.now) text.now }
@@ -99,7 +100,7 @@ fn sign_lexeme<'a>(text: &'a [u8]) -> (Lexeme<'a>, usize)
     }
 }
 
-/// The piece at the head of a text, and how many bytes it takes.
+/// The piece at the head of a text, and how many bytes it has.
 #[tactic(auto, unfolding(crate::specs::Lexeme::lexeme_at))]
 pub(crate) fn lexeme_at<'a>(text: &'a [u8]) -> (Lexeme<'a>, usize)
     requires { 0 < length text.now }

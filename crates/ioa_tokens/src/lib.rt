@@ -1,5 +1,5 @@
-//! The tokens of the language: words, numbers, signs and reserved words, each with its place, and how
-//! they are written.
+//! The tokens of the language: names, numbers, signs, reserved words and left-out words, each with its
+//! offset, and how they are written.
 #![tactic(auto)]
 
 mod cut;

@@ -154,7 +154,7 @@ pub enum Mark {
 }
 
 impl Mark {
-    /// How the sign or the reserved word is spelled.
+    /// How the sign or the reserved word is written.
     pub fn as_str(self) -> &'static str
         ensures { result.now ≡ spec.mark_text self }
     {
@@ -162,8 +162,8 @@ impl Mark {
     }
 }
 
-/// A word of the I/O automata language that the profile leaves out. It is no name either, so that a
-/// text which uses it is refused and not misread. Source: profile.
+/// A word of the I/O automata language that the profile leaves out. It is no name either: a text that
+/// uses it is refused and not misread. Source: profile.
 #[derive(Clone, Copy, Debug, PartialEq, Eq)]
 pub enum LeftOut {
     /// `uses`

@@ -1,4 +1,4 @@
-//! How far the characters of one kind reach at the head of a text.
+//! The characters of one kind that a text begins with.
 
 ghost use Rattle.std.specs.Prelude.{◌≡◌, ◌<◌, All, length};
 ghost use Rattle.std.specs.List.{prefix_len, take_while};
@@ -12,35 +12,35 @@ pub(crate) fn is_space(c: u8) -> bool
     matches!(c, b' ' | b'\t' | b'\r' | b'\n')
 }
 
-/// Whether a word goes on with a character.
+/// Whether a character may be in a word behind its first letter.
 fn is_in_word(c: u8) -> bool
     ensures { result ≡ spec.is_in_word c }
 {
     c.is_ascii_alphanumeric() || c == b'_'
 }
 
-/// How many bytes are left of the line.
+/// How many bytes come before the end of the line.
 pub(crate) fn line_length(text: &[u8]) -> usize
     ensures { result ≡ prefix_len spec.is_in_line text.now }
 {
     text.iter().take_while(|c| **c != b'\n').count()
 }
 
-/// How many bytes the word at the head has.
+/// How many bytes the word at the head of a text has.
 fn word_length(text: &[u8]) -> usize
     ensures { result ≡ prefix_len spec.is_in_word text.now }
 {
     text.iter().take_while(|c| is_in_word(**c)).count()
 }
 
-/// How many digits stand at the head.
+/// How many digits the text begins with.
 fn digits_length(text: &[u8]) -> usize
     ensures { result ≡ prefix_len is_ascii_digit text.now }
 {
     text.iter().take_while(|c| c.is_ascii_digit()).count()
 }
 
-/// How many letters stand at the head.
+/// How many letters the text begins with.
 fn letters_length(text: &[u8]) -> usize
     ensures { result ≡ prefix_len is_ascii_alphabetic text.now }
 {

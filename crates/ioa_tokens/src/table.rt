@@ -1,4 +1,4 @@
-//! How the signs and the words of the language are spelled.
+//! How the signs and the words of the language are written: the only place where their texts are.
 
 ghost use Rattle.std.specs.Prelude.{◌≡◌, nat_eq};
 ghost use Rattle.std.specs.List.{starts_with};
@@ -9,7 +9,8 @@ ghost use Rattle.ioa_tokens.specs.Tables as spec;
 
 use crate::mark::{LeftOut, Mark};
 
-/// The signs, longest first, but `\in`, which is spelled with letters.
+/// The signs, except `\in`, which is written with letters. A sign comes before each shorter one that it
+/// begins with.
 static SIGNS: [(&str, Mark); 30] = [
     ("<=>", Mark::Equivalent),
     ("/\\", Mark::And),
@@ -43,7 +44,7 @@ static SIGNS: [(&str, Mark); 30] = [
     ("@", Mark::AtSign),
 ];
 
-/// The reserved words, and the sign that is spelled with letters.
+/// The reserved words, and the sign that is written with letters.
 static RESERVED: [(&str, Mark); 41] = [
     ("automaton", Mark::Automaton),
     ("signature", Mark::Signature),
@@ -88,7 +89,7 @@ static RESERVED: [(&str, Mark); 41] = [
     ("\\in", Mark::Member),
 ];
 
-/// The left-out words.
+/// The words that the profile leaves out.
 static LEFT_OUT: [(&str, LeftOut); 19] = [
     ("uses", LeftOut::Uses),
     ("assumes", LeftOut::Assumes),
@@ -111,7 +112,7 @@ static LEFT_OUT: [(&str, LeftOut); 19] = [
     ("choose", LeftOut::Choose),
 ];
 
-/// The first row of a table whose spelling a text begins with.
+/// The first row of a table that a text begins with.
 fn row_at_head<T: Copy>(table: &[(&'static str, T)], text: &[u8]) -> Option<(&'static str, T)>
     ensures { option_map spec.spelled_row result
         ≡ lookup_entry (starts_with nat_eq text.now) (spec.spelled_rows table.now) }
@@ -124,7 +125,7 @@ fn row_at_head<T: Copy>(table: &[(&'static str, T)], text: &[u8]) -> Option<(&'s
     None
 }
 
-/// What a table has for a word.
+/// The meaning of the first row of a table that is a word, if there is one.
 fn meaning<T: Copy>(table: &[(&str, T)], word: &[u8]) -> Option<T>
     ensures { result ≡ lookup (bytes_eq word.now) (spec.spelled_rows table.now) }
 {
@@ -136,7 +137,7 @@ fn meaning<T: Copy>(table: &[(&str, T)], word: &[u8]) -> Option<T>
     None
 }
 
-/// The longest sign that a text begins with, and its spelling.
+/// The longest sign that a text begins with, and how it is written.
 #[tactic(auto, unfolding(crate::specs::Tables::signs))]
 pub(crate) fn sign_at(text: &[u8]) -> Option<(&'static str, Mark)>
     ensures { option_map spec.spelled_row result ≡ spec.sign_at_head text.now }
@@ -145,7 +146,7 @@ pub(crate) fn sign_at(text: &[u8]) -> Option<(&'static str, Mark)>
 }
 
 /// The mark of a reserved word.
-#[tactic(auto, unfolding(crate::specs::Tables::reserved_words))]
+#[tactic(auto, unfolding(crate::specs::Tables::reserved))]
 pub(crate) fn reserved_word(word: &[u8]) -> Option<Mark>
     ensures { result ≡ spec.reserved_word word.now }
 {
@@ -160,41 +161,28 @@ pub(crate) fn left_out_word(word: &[u8]) -> Option<LeftOut>
     meaning(&LEFT_OUT, word)
 }
 
-/// The text of the first row for a mark, if there is one.
-fn text_of_mark(table: &[(&'static str, Mark)], wanted: Mark) -> Option<&'static str>
+/// The text of the first row of a table with this meaning, if there is one.
+fn text_of<T: Copy + PartialEq>(table: &[(&'static str, T)], wanted: T) -> Option<&'static str>
     ensures { option_map (λ text. text.now) result
-        ≡ spec.text_where (λ mark. spec.same_mark mark wanted) (spec.spelled_rows table.now) }
+        ≡ spec.first_text (λ m. T.eq m wanted) (spec.spelled_rows table.now) }
 {
-    for (text, mark) in table {
-        if *mark == wanted {
+    for (text, meaning) in table {
+        if *meaning == wanted {
             return Some(*text);
         }
     }
     None
 }
 
-/// The text of the first row for a left-out word, if there is one.
-fn text_of_left_out(table: &[(&'static str, LeftOut)], wanted: LeftOut) -> Option<&'static str>
-    ensures { option_map (λ text. text.now) result
-        ≡ spec.text_where (λ word. spec.same_left_out word wanted) (spec.spelled_rows table.now) }
-{
-    for (text, word) in table {
-        if *word == wanted {
-            return Some(*text);
-        }
-    }
-    None
-}
-
-/// How a sign or a reserved word is written. Each mark has a row, so the empty text is never returned.
-#[tactic(auto, unfolding(crate::specs::Tables::mark_text, crate::specs::Tables::signs, crate::specs::Tables::reserved_words))]
+/// How a sign or a reserved word is written. Each has a row, so the empty text is never returned.
+#[tactic(auto, unfolding(crate::specs::Tables::mark_text, crate::specs::Tables::signs, crate::specs::Tables::reserved))]
 pub(crate) fn mark_text(mark: Mark) -> &'static str
     ensures { result.now ≡ spec.mark_text mark }
 {
-    if let Some(text) = text_of_mark(&SIGNS, mark) {
+    if let Some(text) = text_of(&SIGNS, mark) {
         return text;
     }
-    match text_of_mark(&RESERVED, mark) {
+    match text_of(&RESERVED, mark) {
         Some(text) => text,
         None => "",
     }
@@ -205,7 +193,7 @@ pub(crate) fn mark_text(mark: Mark) -> &'static str
 pub(crate) fn left_out_text(word: LeftOut) -> &'static str
     ensures { result.now ≡ spec.left_out_text word }
 {
-    match text_of_left_out(&LEFT_OUT, word) {
+    match text_of(&LEFT_OUT, word) {
         Some(text) => text,
         None => "",
     }

@@ -1,4 +1,4 @@
-//! Tokens and their places.
+//! Tokens and their offsets.
 
 ghost use Rattle.std.specs.Prelude.{◌≡◌, ◌<◌, All};
 
@@ -45,11 +45,11 @@ pub enum Token<'a> {
     LeftOut(LeftOut),
 }
 
-/// A token, and where it stands in a text. Source: profile.
+/// A token, and its offset in a text. Source: profile.
 #[derive(Debug, Drop)]
 pub struct LocatedToken<'a> {
     /// The token.
     pub token: Token<'a>,
-    /// Where its first byte stands, counted in bytes from 0.
+    /// The offset of its first byte: how many bytes of the text come before it.
     pub offset: usize,
 }

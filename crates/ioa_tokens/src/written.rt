@@ -8,7 +8,7 @@ ghost use Rattle.ioa_tokens.specs.Written as spec;
 use crate::mark::Mark;
 use std::alloc::AllocError;
 
-/// What stands before a token that is written. Source: profile.
+/// What is written before a token. Source: profile.
 #[derive(Clone, Copy, Debug, PartialEq, Eq)]
 pub enum Gap {
     /// Nothing.
@@ -19,7 +19,7 @@ pub enum Gap {
     NewLine(usize),
 }
 
-/// Writes spaces behind a text.
+/// Writes spaces at the end of a text.
 fn push_spaces(text: &mut String, count: usize) -> Result<(), AllocError>
     ensures { OnOk result (string_bytes text.new ≡ string_bytes text.old ++ repeat count (codes " ")) }
 {
@@ -29,7 +29,7 @@ fn push_spaces(text: &mut String, count: usize) -> Result<(), AllocError>
     Ok(())
 }
 
-/// Writes a line feed and spaces behind a text.
+/// Writes a line feed and spaces at the end of a text.
 fn push_line(text: &mut String, indent: usize) -> Result<(), AllocError>
     ensures { OnOk result (string_bytes text.new ≡ string_bytes text.old ++ (codes "\n" ++ repeat indent (codes " "))) }
 {
@@ -37,7 +37,7 @@ fn push_line(text: &mut String, indent: usize) -> Result<(), AllocError>
     push_spaces(text, indent)
 }
 
-/// Writes what stands before a token behind a text.
+/// Writes a gap at the end of a text.
 fn push_gap(text: &mut String, gap: Gap) -> Result<(), AllocError>
     ensures { OnOk result (string_bytes text.new ≡ string_bytes text.old ++ spec.gap_text gap) }
 {
@@ -48,7 +48,7 @@ fn push_gap(text: &mut String, gap: Gap) -> Result<(), AllocError>
     }
 }
 
-/// Writes the text of a token behind a gap.
+/// Writes a gap and the text of a token at the end of a text.
 fn push_lexeme(text: &mut String, gap: Gap, lexeme: &str) -> Result<(), AllocError>
     ensures { OnOk result (string_bytes text.new ≡ string_bytes text.old ++ (spec.gap_text gap ++ lexeme.now)) }
 {
@@ -56,7 +56,8 @@ fn push_lexeme(text: &mut String, gap: Gap, lexeme: &str) -> Result<(), AllocErr
     text.push_str(lexeme)
 }
 
-/// Writes a name behind a text. Where memory runs out, a part of it may be written. Source: profile.
+/// Writes a gap and a name at the end of a text. If memory runs out, only a part may be written.
+/// Source: profile.
 pub fn push_word(text: &mut String, gap: Gap, word: &str) -> Result<(), AllocError>
     ensures { OnOk result (string_bytes text.new
         ≡ string_bytes text.old ++ (spec.gap_text gap ++ spec.token_text (token.Word word.now))) }
@@ -64,7 +65,8 @@ pub fn push_word(text: &mut String, gap: Gap, word: &str) -> Result<(), AllocErr
     push_lexeme(text, gap, word)
 }
 
-/// Writes a number behind a text. Where memory runs out, a part of it may be written. Source: profile.
+/// Writes a gap and a number at the end of a text. If memory runs out, only a part may be written.
+/// Source: profile.
 pub fn push_number(text: &mut String, gap: Gap, number: i64) -> Result<(), AllocError>
     ensures { OnOk result (string_bytes text.new
         ≡ string_bytes text.old ++ (spec.gap_text gap ++ spec.token_text (token.Number number))) }
@@ -73,8 +75,8 @@ pub fn push_number(text: &mut String, gap: Gap, number: i64) -> Result<(), Alloc
     write!(text, "{number}")
 }
 
-/// Writes a sign or a reserved word behind a text. Where memory runs out, a part of it may be
-/// written. Source: profile.
+/// Writes a gap and a sign or a reserved word at the end of a text. If memory runs out, only a part may
+/// be written. Source: profile.
 pub fn push_mark(text: &mut String, gap: Gap, mark: Mark) -> Result<(), AllocError>
     ensures { OnOk result (string_bytes text.new
         ≡ string_bytes text.old ++ (spec.gap_text gap ++ spec.token_text (token.Mark mark))) }
