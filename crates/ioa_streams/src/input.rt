@@ -12,7 +12,7 @@ use thiserror::Error;
 pub const INPUT_LIMIT: usize = 8_388_608;
 
 /// The greatest number of turns in which an input is read: one for each byte, and one for its end.
-const MOST_TURNS: usize = 8_388_609;
+const MOST_TURNS: usize = INPUT_LIMIT + 1;
 
 /// How many bytes a turn reads at most.
 const CHUNK_LENGTH: usize = 4096;
@@ -20,13 +20,14 @@ const CHUNK_LENGTH: usize = 4096;
 /// Why an input gives no text.
 #[derive(Debug, Drop, PartialEq, Eq, Error)]
 pub enum InputFault {
-    /// 70: a read failed, or the input came to no end in 8,388,609 turns.
+    /// `Read` (70): a read failed, or the input did not end within `MOST_TURNS` turns.
     Read,
-    /// 15: the input has more than 8,388,608 bytes.
+    /// `TooLong` (15): the input has more than [`INPUT_LIMIT`] bytes.
     TooLong,
-    /// 11: the input is not UTF-8. The place is that of the first byte of the first ill-formed sequence.
+    /// `BadCharacter` (11): the input is not UTF-8. The number is the offset of the first byte of the first
+    /// ill-formed sequence.
     BadCharacter(usize),
-    /// 3: memory ran out.
+    /// `Memory` (3): memory ran out.
     Memory,
 }
 
@@ -39,7 +40,7 @@ impl fmt::Display for InputFault {
     fn fmt<W: fmt::Write>(&self, f: &mut fmt::Formatter<W>) -> fmt::Result {
         match self {
             InputFault::Read => write!(f, "70 Read"),
-            InputFault::TooLong => write!(f, "15 TooLong at 8388608"),
+            InputFault::TooLong => write!(f, "15 TooLong at {INPUT_LIMIT}"),
             InputFault::BadCharacter(offset) => write!(f, "11 BadCharacter at {offset}"),
             InputFault::Memory => write!(f, "3 Memory"),
         }
@@ -59,8 +60,9 @@ impl From<AllocError> for InputFault {
 
 /// Reads the whole of an input as a text.
 ///
-/// [`InputFault::BadCharacter`] comes only for an input that was read to its end. An interrupted read is tried
-/// again, and counts as a turn. After a fault the reader stands where reading stopped.
+/// The length is tested before the characters are: [`InputFault::BadCharacter`] comes only for an input that was read
+/// to its end. An interrupted read is tried again, and counts as a turn. After a fault the reader keeps what was not
+/// read.
 #[tactic(auto, using(crate::proofs::Utf8::valid_len_below))]
 pub fn read_input<R: Read>(alloc: Global, reader: &mut R) -> Result<String, InputFault>
     ensures all { IfOk result (λ s. IfSome (R.remaining reader.old) (λ bs. string_bytes s ≡ bs)) }
@@ -74,7 +76,7 @@ pub fn read_input<R: Read>(alloc: Global, reader: &mut R) -> Result<String, Inpu
     })
 }
 
-/// The bytes of the whole input.
+/// Reads the bytes of the whole input.
 fn read_bytes<R: Read>(alloc: Global, reader: &mut R) -> Result<Vec<u8>, InputFault>
     ensures all { IfOk result (λ v. IfSome (R.remaining reader.old) (λ bs. v.items ≡ bs)) }
     ensures short { IfOk result (λ v. vec_len v ≤ INPUT_LIMIT) }

@@ -1,4 +1,4 @@
-//! Where output goes: an [`Out`], and a writer of the standard library as one.
+//! Outputs: the trait [`Out`], and a writer of the standard library as one.
 
 ghost use Rattle.std.specs.Prelude.{◌≡◌, ◌≤◌, ◌||◌, ℕ, Bool, true, false, List, length, IfOk, OnOk, OnErr, Option};
 ghost use Rattle.std.specs.Io.KnownBytes.{Appends, WriteAppends};
@@ -8,7 +8,7 @@ use std::fmt;
 use std::io::Write;
 use thiserror::Error;
 
-/// A fault of an [`Out`], for which the program answers 71: nothing of the piece went out.
+/// A fault of an [`Out`]: nothing of the piece went out. The program then refuses with `Write` (71).
 #[derive(Clone, Copy, Debug, PartialEq, Eq, Error)]
 pub struct OutFailed;
 
@@ -22,10 +22,10 @@ impl fmt::Display for OutFailed {
     }
 }
 
-/// A place where output goes piece by piece, and that knows whether it ever failed.
+/// An output that takes a text piece by piece, and that knows whether it ever failed.
 ///
-/// A contract sees two things of it. `bytes` is what went out so far, where that is known: standard output tells
-/// nothing. `failed` tells whether a `put` of a piece that was not empty ever failed or took nothing.
+/// A contract sees two things of it. `bytes` is what went out so far, if that is known: of standard output nothing is
+/// known. `failed` says whether a `put` of a piece that was not empty ever failed or took nothing.
 pub trait Out {
     ghost bytes: { Self → Option (List ℕ) };
 
@@ -91,15 +91,14 @@ impl<W: Write> Out for Over<W> {
     }
 }
 
-/// Puts out a whole text, piece by piece. At a fault a beginning of it went out, and the `Out` tells that it
-/// failed; a piece of which nothing was taken is a fault.
+/// Puts out a whole text, piece by piece. After a fault a beginning of the text went out, and the `Out` says that it
+/// failed. A piece of which nothing was taken is a fault.
 pub fn put_all<O: Out>(out: &mut O, text: &[u8]) -> Result<(), OutFailed>
     requires { O.failed out.old ≡ false }
-    ensures ok { OnOk result (Appends (O.bytes out.old) (O.bytes out.new) text.now) }
+    ensures whole { OnOk result (Appends (O.bytes out.old) (O.bytes out.new) text.now) }
     ensures well { OnOk result (O.failed out.new ≡ false) }
-    ensures beginning { OnErr result
-        (AppendsBeginning (O.bytes out.old) (O.bytes out.new) text.now) }
-    ensures told { OnErr result (O.failed out.new ≡ true) }
+    ensures beginning { OnErr result (AppendsBeginning (O.bytes out.old) (O.bytes out.new) text.now) }
+    ensures failed { OnErr result (O.failed out.new ≡ true) }
 {
     let mut sent = 0;
     while sent < text.len() {
