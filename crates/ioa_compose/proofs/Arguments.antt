@@ -29,7 +29,7 @@ arguments_agree_short (p ∷ ps) (v ∷ vs) h =
     let e : arguments_agree ps vs ≡ false = arguments_agree_short ps vs (λ q. h (omega arith)) in
     rw e (and_false (parameter_agrees p v))
 
--- where the parameters or the arguments end, no value of their own is left
+-- if the parameters or the arguments end, no value of their own is left
 pub own_values_end : {A : Type 0} (f : A → CheckedParameter) (ps : List A) (vs : List Data) (i : ℕ) → i ≡ min (length ps) (length vs) → own_values (map f (drop i ps)) (drop i vs) ≡ []
 own_values_end f [] vs zero h = refl
 own_values_end f [] vs (suc i) h = refl
@@ -38,7 +38,7 @@ own_values_end f (p ∷ ps) [] (suc i) h = absurd (omega arith)
 own_values_end f (p ∷ ps) (v ∷ vs) zero h = absurd (omega arith)
 own_values_end f (p ∷ ps) (v ∷ vs) (suc i) h = own_values_end f ps vs i (omega arith)
 
--- where the parameters or the arguments end, no negative number is left
+-- if the parameters or the arguments end, no negative number is left
 pub are_natural_end : {A : Type 0} (f : A → CheckedParameter) (ps : List A) (vs : List Data) (i : ℕ) → i ≡ min (length ps) (length vs) → are_natural (map f (drop i ps)) (drop i vs) ≡ true
 are_natural_end f [] vs zero h = refl
 are_natural_end f [] vs (suc i) h = refl

@@ -21,7 +21,7 @@ use Rattle.ioa_compose.specs.Queues.{QueueState, queue_state, queue_answer, item
 use Rattle.ioa_compose.specs.Participants.{same_component}
 use Rattle.ioa_compose.specs.Composition.{component_of, component_names, conf_answer, find_conf, put_conf, put_confs}
 
--- two names are told to be those of one component exactly where they are equal
+-- the test says that two names are those of one component exactly if they are equal
 pub Decides-same_component : (k l : Component) → Decides (same_component k l) (k ≡ l)
 Decides-same_component (Node i) (Node j) = Decides-like _ (λ e. ap Node e) (λ e. cc) (Decides-int_eq i j)
 Decides-same_component (Node i) (Channel j l) = (λ h. absurd (cc), λ e. absurd (cc))
@@ -77,7 +77,7 @@ component_of-conf_answer a (conf.Queue q) d h = kept (queue_answer q a) refl h
     kept (Ok s) e h = let same_state : conf.Queue s ≡ d = cc in rw (← same_state) (component-queue_answer q a s e)
     kept (Err f) e h = absurd (cc)
 
--- the configuration that is found bears the name
+-- the configuration that is found has the name
 pub component_of-find_conf : (k : Component) (cs : List Conf) (c : Conf) → find_conf k cs ≡ Some c → component_of c ≡ k
 component_of-find_conf k [] c h = absurd (cc)
 component_of-find_conf k (b ∷ cs) c h = by_test (same_component k (component_of b)) refl h (component_of-find_conf k cs c)
@@ -86,7 +86,7 @@ component_of-find_conf k (b ∷ cs) c h = by_test (same_component k (component_o
     by_test true e h further = let this : b ≡ c = cc in rw (← this) (sym ((Decides-same_component k (component_of b)).0 e))
     by_test false e h further = further h
 
--- a configuration that is put in the place of one of its name is found there
+-- a configuration that replaces one of its name is found by that name
 pub find_conf-put_conf_same : (k : Component) (d : Conf) (cs : List Conf) (c : Conf) → component_of d ≡ k → find_conf k cs ≡ Some c → find_conf k (put_conf d cs) ≡ Some d
 find_conf-put_conf_same k d [] c name h = absurd (cc)
 find_conf-put_conf_same k d (b ∷ cs) c name h = by_test (same_component k (component_of b)) refl h (find_conf-put_conf_same k d cs c name)
@@ -109,7 +109,7 @@ find_conf-put_conf_other k d (b ∷ cs) h = by_test (same_component (component_o
         rw (e, h, not_b) refl
     by_test false e further = rw e (ap (λ o. if same_component k (component_of b) then Some b else o) further)
 
--- where neither of two tests is true, the first is false
+-- if neither of two tests is true, the first is false
 first_false : (s t : Bool) → (s || t) ≡ false → s ≡ false
 first_false true t h = absurd (cc)
 first_false false t h = refl
@@ -119,7 +119,7 @@ second_false : (s t : Bool) → (s || t) ≡ false → t ≡ false
 second_false true t h = absurd (cc)
 second_false false t h = h
 
--- what is put in the places of others is not found
+-- a configuration that replaces one of another name is not found
 pub find_conf-put_confs_other : (k : Component) (ds cs : List Conf) → list_any (same_component k) (map component_of ds) ≡ false → find_conf k (put_confs ds cs) ≡ find_conf k cs
 find_conf-put_confs_other k [] cs h = refl
 find_conf-put_confs_other k (d ∷ ds) cs h =

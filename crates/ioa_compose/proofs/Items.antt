@@ -8,14 +8,14 @@ use Rattle.ioa_compose.specs.declared.queue.Item.TheVariants.{Message, Stimulus}
 use Rattle.ioa_compose.specs.declared.fault.StepFault.TheVariants.{NotEnabled}
 use Rattle.ioa_compose.specs.Queues.{same_item, items_behind}
 
--- two items are told to be the same exactly where they are equal
+-- the test says that two items are the same exactly if they are equal
 pub same_item_is : (x y : Item) → IsTrue (same_item x y) ↔ (x ≡ y)
 same_item_is (Message m) (Message n) = (λ h. ap Message (same_equal m n h), λ e. let k : m ≡ n = cc in rw (← k) (same_itself m))
 same_item_is (Message m) (Stimulus b) = (λ h. absurd (cc), λ e. absurd (cc))
 same_item_is (Stimulus a) (Message n) = (λ h. absurd (cc), λ e. absurd (cc))
 same_item_is (Stimulus a) (Stimulus b) = (λ h. ap Stimulus ((same_node_action_is a b).0 h), λ e. let k : a ≡ b = cc in (same_node_action_is a b).1 k)
 
--- a queue goes on behind an item exactly where the item stands first
+-- there are items behind an item exactly if it is the first
 pub items_behind_is : (x : Item) (items rest : List Item) → (items_behind x items ≡ Ok rest) ↔ (items ≡ x ∷ rest)
 items_behind_is x [] rest = (λ h. absurd (cc), λ e. absurd (cc))
 items_behind_is x (y ∷ more) rest = (by_test (same_item y x) refl, taken)

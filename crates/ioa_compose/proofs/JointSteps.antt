@@ -78,7 +78,7 @@ pub record StepsTo (a : Action) (c : Conf) (k : Component) (next : List Conf) : 
   pub step : conf_answer a c ≡ Ok new
   pub found : find_conf k next ≡ Some new
 
--- once own steps are put in, the component is found where its own led
+-- once own steps are put in, the component has the configuration that its own step led to
 own_step : (k : Component) (a : Action) (ks : List Component) (cs ds : List Conf) (c : Conf) → own_steps a (find_confs ks cs) ≡ Ok ds → find_conf k cs ≡ Some c → list_any (same_component k) ks ≡ true →
     (held : List Conf) (b : Conf) → find_conf k held ≡ Some b → StepsTo a c k (put_confs ds held)
 own_step k a [] cs ds c h found part held b there = absurd (cc)
@@ -134,7 +134,7 @@ is_found k a (l ∷ ks) cs ds h part =
     by_test old found further true e part = record { conf = old; found = rw ((Decides-same_component k l).0 e) found }
     by_test old found further false e part = further part
 
--- what is answered is a joint step
+-- the result is a joint step
 pub joint_answer-is : (a : Action) (cs next : List Conf) → joint_answer a cs ≡ Ok next → IsJointStep a cs next
 joint_answer-is a cs next h = record {
   participants = λ k part. taken k part;
@@ -155,7 +155,7 @@ record HasSteps (a : Action) (ks : List Component) (cs : List Conf) : Type 0 whe
   present : list_any is_none (find_confs ks cs) ≡ false
   steps : own_steps a (find_confs ks cs) ≡ Ok changed
 
--- where each component has a step, all own steps are there
+-- if each component has a step, all own steps are there
 has_steps : (a : Action) (ks : List Component) (cs : List Conf) → ((k : Component) → list_any (same_component k) ks ≡ true → HasStep a k cs) → HasSteps a ks cs
 has_steps a [] cs each = record { changed = []; present = refl; steps = refl }
 has_steps a (k ∷ ks) cs each =
@@ -167,7 +167,7 @@ has_steps a (k ∷ ks) cs each =
     second_true true t h = refl
     second_true false t h = h
 
--- where each participant has a step there is a joint step
+-- if each participant has a step there is a joint step
 pub joint_answer-exists : (a : Action) (cs : List Conf) → AllHaveSteps a cs → (next : List Conf) × (joint_answer a cs ≡ Ok next)
 joint_answer-exists a cs each =
     let p : HasSteps a (participants_of a) cs = has_steps a (participants_of a) cs each in

@@ -25,7 +25,7 @@ use Rattle.ioa_compose.specs.NodeStep.{truth_answer, value_answer, guard_answer,
 abbrev AreWithin : List Data → Type 0
 AreWithin ds = list_all is_within ds ≡ true
 
--- results one after another are within 64 bits where both parts are
+-- results one after another are within 64 bits if both parts are
 two_true : (a b : Bool) → a ≡ true → b ≡ true → a && b ≡ true
 two_true a b h k = ap (λ x. x && b) h ∙ k
 
@@ -39,7 +39,7 @@ all_within xs ys h k = list_all-append is_within xs ys ∙ two_true (list_all is
 within_both : (xs ys : List Data) → AreWithin (xs ++ ys) → AreWithin xs × AreWithin ys
 within_both xs ys h = both_true (list_all is_within xs) (list_all is_within ys) (sym (list_all-append is_within xs ys) ∙ h)
 
--- what is judged is a value exactly where that is the value and every number met lies within 64 bits
+-- what is judged is a value exactly if that is the value and every number met lies within 64 bits
 range_check_by : {A : Type 0} (b : Bool) (o : Option A) (v : A) → (if b then ok_or o term.Undefined else Err term.Range) ≡ Ok v → (b ≡ true) × (o ≡ Some v)
 range_check_by true (Some w) v h = (refl, cc)
 range_check_by true None v h = absurd (cc)
@@ -62,7 +62,7 @@ truth_answer_true (sequence ds) h = absurd (cc)
 truth_answer_true (finite_set ds) h = absurd (cc)
 truth_answer_true (finite_map es) h = absurd (cc)
 
--- a guard passes exactly where it holds and its numbers lie within 64 bits
+-- a guard passes exactly if it holds and its numbers lie within 64 bits
 guard_parts : (g : Option CheckedTerm) (e : Bindings) → guard_answer g e ≡ Ok tt → AreWithin (numbers_met_by_guard g e) × GuardHolds g e
 guard_parts None e h = (refl, tt)
 guard_parts (Some t) e h = by_value (answer t e) refl h
@@ -138,7 +138,7 @@ step_left n e t args b left within natural condition guard effect =
     ∙ ap (λ r. and_then r (λ _. transition_answer n t b)) (guard_passes e.condition b p.0 condition)
     ∙ transition_left n t b left p.1 guard effect
 
--- a configuration that a node answers is one to which its step leads, and what it meets lies within 64 bits
+-- the result at a node is a configuration to which its step leads, and what the step meets lies within 64 bits
 pub is_node_step : (c : NodeState) (a : Action) (d : NodeState) → node_answer c a ≡ Ok d → IsNodeStep a c d × FitsNodeStep a c
 unfolding node_answer
 is_node_step c a d = by_rule (rule_for a c.program.rules) refl
@@ -163,7 +163,7 @@ is_node_step c a d = by_rule (rule_for a c.program.rules) refl
     by_rule (Some r) q h = by_values r q (rule_answer c.program c.variables a (Some r)) refl h
     by_rule None q h = absurd (cc)
 
--- and a node answers each such configuration
+-- and each such configuration is the result
 pub node_answer_is : (c : NodeState) (a : Action) (d : NodeState) → IsNodeStep a c d → FitsNodeStep a c → node_answer c a ≡ Ok d
 unfolding node_answer
 node_answer_is c a d p fits =

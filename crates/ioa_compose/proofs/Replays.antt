@@ -9,7 +9,7 @@ use Rattle.ioa_compose.specs.declared.replaying.ReplayFault.{ReplayFault}
 use Rattle.ioa_compose.specs.Composition.{joint_answer}
 use Rattle.ioa_compose.specs.Executions.{after_step, replay, replay_answer, replay_after_step, IsReplay}
 
--- there is a replay exactly where no fault is the answer
+-- there is a replay exactly if the result is no fault
 pub replay_by_answer : (n : ℕ) (actions : List Action) (cs : List Conf) → replay actions cs ≡ result_ok (replay_answer n actions cs)
 replay_by_answer n [] cs = refl
 replay_by_answer n (a ∷ more) cs = at_step (joint_answer a cs) (λ next. replay_by_answer (n + 1) more next)
@@ -30,7 +30,7 @@ IsReplay-no_execution view (Ok x) actions cs h = tt
 IsReplay-no_execution view (Err e) actions cs (inl m) = inl m
 IsReplay-no_execution view (Err e) actions cs (inr h) = inr (rw (replay_by_answer 0 actions cs, h) refl)
 
--- the replay of a list that begins with another goes on where that one ends
+-- the replay of a list that begins with another goes on from the end of that one
 pub replay-append : (actions more : List Action) (cs mid : List Conf) → replay actions cs ≡ Some mid → replay (actions ++ more) cs ≡ replay more mid
 replay-append [] more cs mid h = let same_confs : cs ≡ mid = cc in rw same_confs refl
 replay-append (a ∷ actions) more cs mid h = at_step (joint_answer a cs) h (λ next e. replay-append actions more next mid e)

@@ -34,15 +34,17 @@ messages_sent i j actions = filter_map (message_sent i j) actions
 abbrev pub messages_received : ℤ → ℤ → List Action → List Data
 messages_received i j actions = filter_map (message_received i j) actions
 
--- each channel has handed out, in order, a first part of what stood in it and what was then sent on it, and holds the
--- rest (Lynch 14.1)
+-- each channel has handed out, in order, a first part of what it held at the start and what was then sent on it, and
+-- holds the rest (Lynch 14.1)
 abbrev pub HandsOutInOrder : List Conf → List Action → List Conf → Type 0
 HandsOutInOrder start actions confs =
     (i j : ℤ) (q : QueueState) → find_conf (Channel i j) start ≡ Some (Queue q) →
-    (r : QueueState) × (find_conf (Channel i j) confs ≡ Some (Queue r)) × (q.items ++ map Message (messages_sent i j actions) ≡ map Message (messages_received i j actions) ++ r.items)
+    (r : QueueState) × (find_conf (Channel i j) confs ≡ Some (Queue r))
+    × (q.items ++ map Message (messages_sent i j actions) ≡ map Message (messages_received i j actions) ++ r.items)
 
 -- each channel that was empty has handed out a first part of what was sent on it, and holds the rest (Lynch 14.1)
 abbrev pub HandsOutPrefix : List Conf → List Action → List Conf → Type 0
 HandsOutPrefix start actions confs =
     (i j : ℤ) (q : QueueState) → find_conf (Channel i j) start ≡ Some (Queue q) → q.items ≡ [] →
-    (r : QueueState) × (find_conf (Channel i j) confs ≡ Some (Queue r)) × (map Message (messages_sent i j actions) ≡ map Message (messages_received i j actions) ++ r.items)
+    (r : QueueState) × (find_conf (Channel i j) confs ≡ Some (Queue r))
+    × (map Message (messages_sent i j actions) ≡ map Message (messages_received i j actions) ++ r.items)

@@ -11,18 +11,18 @@ use Rattle.ioa_compose.specs.StepFaults.{step_fault_text}
 use Rattle.ioa_compose.specs.Participants.{takes_part}
 use Rattle.ioa_compose.specs.Composition.{conf_answer, joint_answer, find_conf}
 
--- further steps after a step, where there is one
+-- further steps after a step; none if it is no step
 abbrev pub after_step : {C : Type 0} → (C → Option C) → Result C StepFault → Option C
 after_step steps (Ok c) = steps c
 after_step steps (Err e) = None
 
--- the configurations after the joint steps by a list of actions, where each is a step: a schedule has an execution
--- from the start exactly where there are some (Lynch 8.1)
+-- the configurations after the joint steps by a list of actions, if each action is a step: a schedule has an execution
+-- from the start exactly if there are some (Lynch 8.1)
 abbrev pub replay : List Action → List Conf → Option (List Conf)
 replay [] cs = Some cs
 replay (a ∷ more) cs = after_step (replay more) (joint_answer a cs)
 
--- one component's configuration after its own steps by a list of actions, where each is a step (Lynch 8.1)
+-- one component's configuration after its own steps by a list of actions, if each action is a step (Lynch 8.1)
 abbrev pub replay_one : List Action → Conf → Option Conf
 replay_one [] c = Some c
 replay_one (a ∷ more) c = after_step (replay_one more) (conf_answer a c)
@@ -31,21 +31,23 @@ replay_one (a ∷ more) c = after_step (replay_one more) (conf_answer a c)
 abbrev pub projection_of : Component → List Action → List Action
 projection_of k actions = filter (takes_part k) actions
 
--- further steps after the step at place `n`, or its fault with the place
-abbrev pub replay_after_step : ℕ → (List Conf → Result (List Conf) ReplayFault) → Result (List Conf) StepFault → Result (List Conf) ReplayFault
+-- further steps after the step by the action at position `n`, or its fault with that position
+abbrev pub replay_after_step : ℕ → (List Conf → Result (List Conf) ReplayFault) → Result (List Conf) StepFault
+    → Result (List Conf) ReplayFault
 replay_after_step n steps (Ok cs) = steps cs
 replay_after_step n steps (Err e) = Err (record { position = n; fault = e })
 
--- the configurations after a list of actions, or the first that is no step: its place, counted from `n`, and the fault
+-- the configurations after a list of actions, or the position of the first that is no step, counted from `n`, and its
+-- fault
 abbrev pub replay_answer : ℕ → List Action → List Conf → Result (List Conf) ReplayFault
 replay_answer n [] cs = Ok cs
 replay_answer n (a ∷ more) cs = replay_after_step n (replay_answer (n + 1) more) (joint_answer a cs)
 
--- a fault of a replay as text: the step's, and its place (profile)
+-- a fault of a replay as text: the step's, and the position of its action (profile)
 abbrev pub replay_fault_text : ReplayFault → List ℕ
 replay_fault_text f = step_fault_text f.fault ++ (codes " at " ++ decimal f.position)
 
--- a replay computes `meant`, or memory ran out at some place
+-- a replay computes `meant`, or memory ran out
 abbrev pub IsReplay : {X : Type 0} → (X → List Conf) → Result X ReplayFault → Result (List Conf) ReplayFault → Type 0
 IsReplay view (Ok x) meant = meant ≡ Ok (view x)
 IsReplay view (Err e) meant = (e.fault ≡ Memory) ⊎ (meant ≡ Err e)
@@ -53,4 +55,5 @@ IsReplay view (Err e) meant = (e.fault ≡ Memory) ⊎ (meant ≡ Err e)
 -- each component's own replay of its projection leads to the configuration that it has at the end (Lynch 8.2)
 abbrev pub ProjectsOnEach : List Conf → List Action → List Conf → Type 0
 ProjectsOnEach start actions confs =
-    (k : Component) (c : Conf) → find_conf k start ≡ Some c → (d : Conf) × (find_conf k confs ≡ Some d) × (replay_one (projection_of k actions) c ≡ Some d)
+    (k : Component) (c : Conf) → find_conf k start ≡ Some c
+    → (d : Conf) × (find_conf k confs ≡ Some d) × (replay_one (projection_of k actions) c ≡ Some d)

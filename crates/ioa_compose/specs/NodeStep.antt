@@ -1,5 +1,6 @@
 -- Steps of a node's automaton (Lynch 8.1).
-use Rattle.std.specs.Prelude.{◌≡◌, ℕ, Bool, true, false, not, ◌&&◌, if◌then◌else◌, List, [], ◌∷◌, ◌++◌, Option, Some, None, Result, Ok, Err, map, length, take, find, codes}
+use Rattle.std.specs.Prelude.{◌≡◌, ℕ, Bool, true, false, not, ◌&&◌, if◌then◌else◌, Option, Some, None, Result, Ok, Err}
+use Rattle.std.specs.Prelude.{List, [], ◌∷◌, ◌++◌, map, length, take, find, codes}
 use Rattle.std.specs.List.{zip, list_all}
 use Rattle.ioa_values.specs.Data.{Data, number, truth, as_truth, is_within}
 use Rattle.ioa_values.specs.Outcome.{and_then}
@@ -60,37 +61,38 @@ abbrev pub constant_agrees : Result Data TermFault → Data → Bool
 constant_agrees (Ok u) v = same u v
 constant_agrees (Err f) v = false
 
--- whether a value is one of a parameter's: it is the constant, or is of the sort, where a negative number passes for a
--- natural
+-- whether a value is one that a parameter takes: it is the constant, or it has the shape; a negative number passes for
+-- a Nat here
 abbrev pub parameter_agrees : CheckedParameter → Data → Bool
 parameter_agrees (const t) v = constant_agrees (answer t []) v
 parameter_agrees (named d) v = has_shape (wide_shape (shape_of d.shape)) v
 
--- whether arguments are those of an entry's parameters: as many, and each one of its own parameter's
+-- whether arguments are those of an entry's parameters: there are as many, and each parameter takes its own
 abbrev pub arguments_agree : List CheckedParameter → List Data → Bool
 arguments_agree [] [] = true
 arguments_agree [] (v ∷ vs) = false
 arguments_agree (p ∷ more) [] = false
 arguments_agree (p ∷ more) (v ∷ vs) = parameter_agrees p v && arguments_agree more vs
 
--- whether no negative number stands for a natural in an argument
+-- whether an argument holds no negative number where its sort says Nat
 abbrev pub is_natural : CheckedParameter → Data → Bool
 is_natural (const t) v = true
 is_natural (named d) v = has_shape (shape_of d.shape) v
 
--- whether none does in arguments beside their parameters
+-- whether no argument holds one, each beside its parameter
 abbrev pub are_natural : List CheckedParameter → List Data → Bool
 are_natural [] vs = true
 are_natural (p ∷ more) [] = true
 are_natural (p ∷ more) (v ∷ vs) = is_natural p v && are_natural more vs
 
--- what arguments answer: a negative number is no value of a natural's
+-- the test of arguments: a negative number has no value as a Nat
 abbrev pub naturals_answer : List CheckedParameter → List Data → Result (Unit {0}) StepFault
 naturals_answer ps vs = if are_natural ps vs then Ok tt else Err Undefined
 
 -- whether an action is one of an entry's
 abbrev pub entry_agrees : Action → CheckedEntry → Bool
-entry_agrees a e = same_name e.name (action_name a) && (kind_agrees a e.kind && arguments_agree e.parameters (action_arguments a))
+entry_agrees a e =
+    same_name e.name (action_name a) && (kind_agrees a e.kind && arguments_agree e.parameters (action_arguments a))
 
 -- the argument of a parameter that has a name of its own
 abbrev pub own_value : CheckedParameter → Data → List Data
@@ -103,57 +105,58 @@ own_values [] vs = []
 own_values (p ∷ more) [] = []
 own_values (p ∷ more) (v ∷ vs) = own_value p v ++ own_values more vs
 
--- what guard and effect read: the state variables and the entry's own parameters
+-- what the guard and the effect read: the state variables and the entry's own parameters
 abbrev pub entry_bindings : CheckedEntry → List CheckedVariable → Action → List Data → Bindings
 entry_bindings e variables a vs = zip (scope_of e variables) (vs ++ own_values e.parameters (action_arguments a))
 
--- a guard passes where it is true
+-- a guard passes if it is true
 abbrev pub truth_answer : Option Bool → Result (Unit {0}) StepFault
 truth_answer None = Err NotEnabled
 truth_answer (Some true) = Ok tt
 truth_answer (Some false) = Err NotEnabled
 
--- what a guard answers by its value: nothing where that is true
+-- the test of a guard by its value: it passes if that is true
 abbrev pub value_answer : Result Data TermFault → Result (Unit {0}) StepFault
 value_answer (Err f) = Err (step_fault f)
 value_answer (Ok v) = truth_answer (as_truth v)
 
--- what a guard answers: nothing where it is true, or where there is none
+-- the test of a guard: it passes if it is true, or if there is none
 abbrev pub guard_answer : Option CheckedTerm → Bindings → Result (Unit {0}) StepFault
 guard_answer None e = Ok tt
 guard_answer (Some t) e = value_answer (answer t e)
 
--- the values of the state variables that an effect leaves
+-- the values of the state variables after an effect
 abbrev pub effect_answer : ℕ → Result Bindings TermFault → Result (List Data) StepFault
 effect_answer n (Ok e) = Ok (take n (map (λ b. b.1) e))
 effect_answer n (Err f) = Err (step_fault f)
 
--- what a transition answers over n state variables: their new values, or the first fault of guard and effect
+-- the result of a transition over n state variables: their new values, or the first fault of guard and effect
 abbrev pub transition_answer : ℕ → CheckedTransition → Bindings → Result (List Data) StepFault
 transition_answer n t b = and_then (guard_answer t.pre b) (λ _. effect_answer n (answer_by t.effect b))
 
--- what an entry and its transition answer to arguments over n state variables: the first fault of the arguments, the
--- entry's condition, guard and effect, or the new values
+-- the result of an entry and its transition for these arguments, over n state variables: the first fault of the
+-- arguments, the entry's condition, the guard and the effect, or the new values
 abbrev pub step_answer : ℕ → CheckedEntry → CheckedTransition → List Data → Bindings → Result (List Data) StepFault
 step_answer n e t args b =
-    and_then (naturals_answer e.parameters args) (λ _. and_then (guard_answer e.condition b) (λ _. transition_answer n t b))
+    and_then (naturals_answer e.parameters args)
+    (λ _. and_then (guard_answer e.condition b) (λ _. transition_answer n t b))
 
 -- the rule of an action: the first whose entry it is one of
 abbrev pub rule_for : Action → List Rule → Option Rule
 rule_for a rules = find (λ r. entry_agrees a (entry_of r.entry)) rules
 
--- what a program leaves of its variables' values by the rule of an action
+-- the values of a program's variables after an action, by the rule of that action
 abbrev pub rule_answer : Parts → List Data → Action → Option Rule → Result (List Data) StepFault
 rule_answer p vs a None = Err NotMine
 rule_answer p vs a (Some r) =
     step_answer (length vs) (entry_of r.entry) (transition_of r.transition) (action_arguments a)
     (entry_bindings (entry_of r.entry) (map variable_of p.variables) a vs)
 
--- what a program leaves of its variables' values by an action, or why the action is no step
+-- the values of a program's variables after an action, or why the action is no step
 abbrev pub program_answer : Parts → List Data → Action → Result (List Data) StepFault
 program_answer p vs a = rule_answer p vs a (rule_for a p.rules)
 
--- what a node answers to an action: its new configuration, or why there is none
+-- the result of an action at a node: its new configuration, or why there is none
 unfoldable pub node_answer : NodeState → Action → Result NodeState StepFault
 node_answer c a = and_then (program_answer c.program c.variables a) (λ vs. Ok (node_state c.program vs))
 
@@ -166,9 +169,9 @@ abbrev pub GuardHolds : Option CheckedTerm → Bindings → Type 0
 GuardHolds None e = Unit {0}
 GuardHolds (Some t) e = value t e ≡ Some (truth true)
 
--- a step of a node from one configuration to another, over numbers without bound (Lynch 8.1): by the first rule that has
--- the action, no argument is negative for a natural, the entry's condition and the guard hold, and each state variable
--- has the value that the effect leaves it; the program stays
+-- a step of a node from one configuration to another, over numbers without bound (Lynch 8.1): by the first rule that
+-- has the action, no argument holds a negative number where its sort says Nat, the entry's condition and the guard
+-- hold, and each state variable has its value after the effect; the program stays
 pub record IsNodeStep (a : Action) (c d : NodeState) : Type 0 where
   pub rule : Rule
   pub mine : rule_for a c.program.rules ≡ Some rule
@@ -187,8 +190,12 @@ numbers_met_by_guard (Some t) e = numbers_met t e
 -- the results that a rule meets: its entry's condition, its guard and its effect, one after another
 abbrev pub numbers_met_by_rule : Rule → Bindings → List Data
 numbers_met_by_rule r e =
-    numbers_met_by_guard (entry_of r.entry).condition e ++ (numbers_met_by_guard (transition_of r.transition).pre e ++ numbers_met_by (transition_of r.transition).effect e)
+    numbers_met_by_guard (entry_of r.entry).condition e
+    ++ (numbers_met_by_guard (transition_of r.transition).pre e
+    ++ numbers_met_by (transition_of r.transition).effect e)
 
 -- every number that the rule of an action meets lies within 64 bits (profile)
 abbrev pub FitsNodeStep : Action → NodeState → Type 0
-FitsNodeStep a c = (r : Rule) → rule_for a c.program.rules ≡ Some r → list_all is_within (numbers_met_by_rule r (rule_bindings r a c)) ≡ true
+FitsNodeStep a c =
+    (r : Rule) → rule_for a c.program.rules ≡ Some r
+    → list_all is_within (numbers_met_by_rule r (rule_bindings r a c)) ≡ true

@@ -34,20 +34,20 @@ same_item (Message m) (Stimulus b) = false
 same_item (Stimulus a) (Message n) = false
 same_item (Stimulus a) (Stimulus b) = same_node_action a b
 
--- the queue with an item behind its last (Lynch 14.1)
+-- the queue with one more item at the end (Lynch 14.1)
 abbrev pub with_last : Item → QueueState → QueueState
 with_last x q = queue_state q.component (q.items ++ x ∷ [])
 
--- the items behind an item that stands first (Lynch 14.1)
+-- the items behind this item, if it is the first (Lynch 14.1)
 abbrev pub items_behind : Item → List Item → Result (List Item) StepFault
 items_behind x [] = Err NotEnabled
 items_behind x (y ∷ more) = if same_item y x then Ok more else Err NotEnabled
 
--- the queue without an item that stands first
+-- the queue without this item, if it is the first
 abbrev pub without_first : Item → QueueState → Result QueueState StepFault
 without_first x q = and_then (items_behind x q.items) (λ items. Ok (queue_state q.component items))
 
--- what a queue answers to an action: its new state, or why there is none (Lynch 8.1 and 14.1)
+-- the result of an action at a queue: its new state, or why there is none (Lynch 8.1 and 14.1)
 abbrev pub queue_answer : QueueState → Action → Result QueueState StepFault
 queue_answer q (action.Send m i j) = Ok (with_last (Message m) q)
 queue_answer q (action.Receive m i j) = without_first (Message m) q

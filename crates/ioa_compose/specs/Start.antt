@@ -17,10 +17,10 @@ node_start p = Node (node_state p p.initial)
 abbrev pub channel_start : Channel → Conf
 channel_start c = Queue (queue_state (component.Channel c.from c.to) [])
 
--- a script starts with the stimuli declared, of which this form has none
+-- a script starts with the stimuli declared; no form that runs today declares any
 abbrev pub script_start : Parts → Conf
 script_start p = Queue (queue_state (component.Script p.node) [])
 
--- the start configurations: nodes by number, channels as declared, scripts by number
+-- the start configurations: nodes by number, channels in the order of their declaration, scripts by number
 abbrev pub start : SystemParts → List Conf
 start s = map node_start s.programs ++ map channel_start s.channels ++ map script_start s.programs

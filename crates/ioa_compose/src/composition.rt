@@ -5,7 +5,8 @@ ghost use Rattle.std.specs.List.{position_from};
 ghost use Rattle.std.specs.Option.{option_copied};
 ghost use Rattle.ioa_values.specs.Outcome.{Answers};
 ghost use Rattle.ioa_compose.specs.Participants.{participants_of, same_component};
-ghost use Rattle.ioa_compose.specs.Composition.{component_of, find_conf, put_conf, put_confs, find_confs, changes_of, joint_answer};
+ghost use Rattle.ioa_compose.specs.Composition.{component_of, find_conf, put_conf, put_confs};
+ghost use Rattle.ioa_compose.specs.Composition.{find_confs, changes_of, joint_answer};
 
 use crate::configuration::Conf;
 use crate::fault::StepFault;
@@ -13,22 +14,18 @@ use crate::parties::{Parties, participants};
 use ioa_terms::{Action, Component};
 use std::alloc::{AllocError, Global};
 
-/// The configuration of a component, the first where several bear its name.
+/// The configuration of a component; the first one if several bear its name.
 pub fn find_conf(confs: &[Conf], component: Component) -> Option<&Conf>
     ensures { option_copied result ≡ find_conf component confs.now }
 {
-    for conf in confs {
-        if component == conf.component() {
-            return Some(conf);
-        }
-    }
-    None
+    confs.iter().find(|conf| component == conf.component())
 }
 
-/// The new configurations of the participants of an action, the queue's first. `NoChannel` where one
-/// of them has no configuration; else the first fault of their own steps, the queue's first.
+/// The new configurations of the participants of an action, the queue's first. `NoChannel` (42) if one of them has
+/// no configuration; else the first fault of their own steps, the queue's first.
 pub fn changes(alloc: Global, confs: &[Conf], action: &Action) -> Result<Vec<Conf>, StepFault>
-    ensures { Answers StepFault.Memory (λ v. v.items) result (changes_of action.now (find_confs (participants_of action.now) confs.now)) }
+    ensures { Answers StepFault.Memory (λ v. v.items) result
+        (changes_of action.now (find_confs (participants_of action.now) confs.now)) }
 {
     let mut changed = Vec::new(alloc);
     match participants(action) {
@@ -52,15 +49,15 @@ pub fn changes(alloc: Global, confs: &[Conf], action: &Action) -> Result<Vec<Con
     Ok(changed)
 }
 
-/// The place of a component's configuration, the first where several bear its name.
+/// The position of a component's configuration; of the first one if several bear its name.
 fn position_of(confs: &[Conf], component: Component) -> Option<usize>
     ensures { result ≡ position_from (λ c. same_component component (component_of c)) 0 confs.now }
 {
     confs.iter().position(|conf| component == conf.component())
 }
 
-/// Puts a configuration in the place of the one that bears its component's name; does nothing where
-/// there is none. Takes no memory.
+/// Replaces the configuration that bears the name of this one's component; does nothing if there is none. Takes no
+/// memory.
 pub fn put_conf(confs: &mut Vec<Conf>, conf: Conf)
     ensures { confs.new.items ≡ put_conf conf confs.old.items }
 {
@@ -69,7 +66,7 @@ pub fn put_conf(confs: &mut Vec<Conf>, conf: Conf)
     }
 }
 
-/// Puts each configuration in its component's place. Takes no memory.
+/// Replaces the configuration of the same component by each of these. Takes no memory.
 pub fn put_confs(confs: &mut Vec<Conf>, changed: Vec<Conf>)
     ensures { confs.new.items ≡ put_confs changed.items confs.old.items }
 {
@@ -89,9 +86,9 @@ pub fn copy_confs(alloc: Global, confs: &[Conf]) -> Result<Vec<Conf>, AllocError
     Ok(copied)
 }
 
-/// The configurations after a joint step by an action: each participant takes its own step, and all
-/// others stay (Lynch 8.2). `NoChannel` where a participant is no component; else the first fault of
-/// the participants' own steps, the queue's first.
+/// The configurations after a joint step by an action: each participant takes its own step, and all others stay
+/// (Lynch 8.2). `NoChannel` (42) if a participant is no component; else the first fault of the participants' own
+/// steps, the queue's first.
 pub fn joint_step(alloc: Global, confs: &[Conf], action: &Action) -> Result<Vec<Conf>, StepFault>
     ensures { Answers StepFault.Memory (λ v. v.items) result (joint_answer action.now confs.now) }
 {

@@ -40,8 +40,8 @@ impl Conf {
         }
     }
 
-    /// The configuration after the component's own step by an action (Lynch 8.1), or the component's
-    /// own fault. It is meant for an action in which the component takes part.
+    /// The configuration after the component's own step by an action (Lynch 8.1), or the component's own fault. It is
+    /// meant for an action in which the component takes part, and does not test that.
     #[tactic(auto, unfolding(crate::specs::Composition::conf_answer))]
     pub fn step(&self, alloc: Global, action: &Action) -> Result<Self, StepFault>
         ensures { Answers StepFault.Memory (λ c. c) result (conf_answer action.now self.now) }

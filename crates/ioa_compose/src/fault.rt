@@ -8,18 +8,18 @@ use thiserror::Error;
 /// Why an action is no step of a configuration.
 #[derive(Debug, Drop, Error)]
 pub enum StepFault {
-    /// 1: the condition of the entry, the guard or the effect meets a part that has no value, or a negative
-    /// number stands for a natural in an argument.
+    /// `Undefined` (1): the condition of the entry, the guard or the effect meets a part that has no value, or an
+    /// argument holds a negative number where its sort says Nat.
     Undefined,
-    /// 2: the condition of the entry, the guard or the effect meets a number outside 64 bits.
+    /// `Range` (2): the condition of the entry, the guard or the effect meets a number outside 64 bits.
     Range,
-    /// 3: no memory was left.
+    /// `Memory` (3): memory ran out.
     Memory,
-    /// 40: the action is not enabled.
+    /// `NotEnabled` (40): the action is not enabled.
     NotEnabled,
-    /// 41: the action is not in the node's signature, or is none that a queue takes part in.
+    /// `NotMine` (41): the action is not in the node's signature, or no queue takes part in it.
     NotMine,
-    /// 42: a participant of the action is no component of the system.
+    /// `NoChannel` (42): a participant of the action is no component of the system.
     NoChannel,
 }
 

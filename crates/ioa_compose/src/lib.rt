@@ -16,7 +16,6 @@ mod starting;
 pub use composition::{changes, copy_confs, find_conf, joint_step, put_conf, put_confs};
 pub use configuration::Conf;
 pub use fault::StepFault;
-pub use ioa_system::{Program, Rule, Scope, System};
 pub use laws::{joint_step_law, node_step_law, prefix_law, projection_law, queue_step_law};
 pub use node::NodeConf;
 pub use parties::{Parties, participants, takes_part_in};

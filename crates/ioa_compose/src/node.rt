@@ -14,7 +14,7 @@ use std::alloc::{AllocError, Global};
 use std::marker::Model;
 use std::sync::Arc;
 
-/// The configuration of a node: its program, which it shares, and the values of its state variables.
+/// The configuration of a node: its program, which is shared, and the values of its state variables.
 #[derive(Drop)]
 pub struct NodeConf {
     program: Arc<Program>,
@@ -77,11 +77,11 @@ impl NodeConf {
         Ok(NodeConf { program, variables })
     }
 
-    /// The configuration after an action (Lynch 8.1). `NotMine` where the action is not in the node's
-    /// signature; else the first fault of the arguments, the entry's condition, the guard and the effect:
-    /// `Range` where a number met lies outside 64 bits, `Undefined` where a part has no value or a negative
-    /// number stands for a natural, `NotEnabled` where condition or guard is not true. It is meant for an
-    /// action in which the node takes part, and does not test that.
+    /// The configuration after an action (Lynch 8.1). `NotMine` (41) if the action is not in the node's signature;
+    /// else the first fault of the arguments, the entry's condition, the guard and the effect: `Range` (2) if a
+    /// number met lies outside 64 bits, `Undefined` (1) if a part has no value or an argument holds a negative number
+    /// where its sort says Nat, `NotEnabled` (40) if the condition or the guard is not true. It is meant for an action
+    /// in which the node takes part, and does not test that.
     #[tactic(auto, unfolding(crate::specs::NodeStep::node_answer))]
     pub fn step(&self, alloc: Global, action: &Action) -> Result<Self, StepFault>
         ensures { Answers StepFault.Memory (λ c. c) result (node_answer self.now action.now) }

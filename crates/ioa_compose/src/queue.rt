@@ -10,7 +10,7 @@ use ioa_terms::{Action, Component, NodeAction, Value};
 use std::alloc::{AllocError, Global};
 use std::marker::Model;
 
-/// What stands in a queue.
+/// An item of a queue.
 #[derive(Debug, Drop)]
 pub enum Item {
     /// A message on its way through a channel.
@@ -59,8 +59,8 @@ fn copy_items(alloc: Global, items: &[Item]) -> Result<Vec<Item>, AllocError>
     Ok(copied)
 }
 
-/// The queue of a channel or of a script: what was put in and has not come out, in order. A contract
-/// sees the name of its component and the list of its items.
+/// The queue of a channel or of a script: the items that were put in and have not come out, in order. A contract sees
+/// the name of its component and the list of its items.
 #[derive(Debug, Drop)]
 pub struct Queue {
     component: Component,
@@ -120,7 +120,7 @@ impl Queue {
         })
     }
 
-    /// The queue with an item behind its last (Lynch 14.1).
+    /// The queue with one more item at the end (Lynch 14.1).
     pub fn after_send(&self, alloc: Global, item: Item) -> Result<Self, StepFault>
         ensures { Answers StepFault.Memory (λ q. q) result (Ok (with_last item self.now)) }
     {
@@ -132,12 +132,13 @@ impl Queue {
         })
     }
 
-    /// The queue without its first item (Lynch 14.1). `NotEnabled` where the first is another, or there
-    /// is none.
+    /// The queue without its first item, which is to be this one (Lynch 14.1). `NotEnabled` (40) if the first item is
+    /// another, or there is none.
     pub fn after_receive(&self, alloc: Global, item: &Item) -> Result<Self, StepFault>
         ensures answer { Answers StepFault.Memory (λ q. q) result (without_first item.now self.now) }
         ensures first { IfOk result (λ q. self.now.items ≡ item.now ∷ q.items) }
-        ensures not_first { IsErrOf result StepFault.NotEnabled → (rest : List Item) → self.now.items ≢ item.now ∷ rest }
+        ensures not_first { IsErrOf result StepFault.NotEnabled
+            → (rest : List Item) → self.now.items ≢ item.now ∷ rest }
     {
         match self.items.as_slice() {
             [] => Err(StepFault::NotEnabled),
@@ -154,10 +155,9 @@ impl Queue {
         }
     }
 
-    /// The queue after an action (Lynch 8.1 and 14.1): a send puts its message in, a receive takes its
-    /// message out, and a stimulus takes itself out. `NotEnabled` where what is to come out does not
-    /// stand first, `NotMine` for an action that has no queue. It is meant for an action in which the
-    /// queue takes part, and does not test that.
+    /// The queue after an action (Lynch 8.1 and 14.1): a send puts its message in, a receive takes its message out, and
+    /// a stimulus takes itself out. `NotEnabled` (40) if the item to come out is not the first, `NotMine` (41) for an
+    /// action that has no queue. It is meant for an action in which the queue takes part, and does not test that.
     pub fn step(&self, alloc: Global, action: &Action) -> Result<Self, StepFault>
         ensures { Answers StepFault.Memory (λ q. q) result (queue_answer self.now action.now) }
     {

@@ -17,9 +17,9 @@ use thiserror::Error;
 /// Why a list of actions has no execution.
 #[derive(Debug, Drop, Error)]
 pub struct ReplayFault {
-    /// The place of the first action that is no step, counted from 0.
+    /// The position of the first action that is no step, counted from 0.
     pub position: usize,
-    /// Why it is none.
+    /// Why it is no step.
     pub fault: StepFault,
 }
 
@@ -35,7 +35,7 @@ impl fmt::Display for ReplayFault {
     }
 }
 
-/// The joint steps by a list of actions, one after another.
+/// The configurations after the joint steps by a list of actions, one after another.
 fn steps(alloc: Global, start: Vec<Conf>, actions: &[Action]) -> Result<Vec<Conf>, ReplayFault>
     ensures { IsReplay (λ v. v.items) result (replay_answer 0 actions.now start.items) }
 {
@@ -49,8 +49,8 @@ fn steps(alloc: Global, start: Vec<Conf>, actions: &[Action]) -> Result<Vec<Conf
     Ok(confs)
 }
 
-/// The configurations after the joint steps by a list of actions (Lynch 8.1), or the first action that
-/// is no step, with the fault of the joint step there. For want of memory it may stop at any place.
+/// The configurations after the joint steps by a list of actions (Lynch 8.1), or the position of the first action that
+/// is no step, with the fault of its joint step. If memory runs out it may stop at any action.
 pub fn replay_from(
     alloc: Global,
     start: Vec<Conf>,
@@ -58,18 +58,19 @@ pub fn replay_from(
 ) -> Result<Vec<Conf>, ReplayFault>
     ensures answer { IsReplay (λ v. v.items) result (replay_answer 0 actions.now start.items) }
     ensures execution { IfOk result (λ v. replay actions.now start.items ≡ Some v.items) }
-    ensures no_execution { IfErr result (λ e. (e.fault ≡ StepFault.Memory) ⊎ (replay actions.now start.items ≡ None)) }
+    ensures no_execution { IfErr result
+        (λ e. (e.fault ≡ StepFault.Memory) ⊎ (replay actions.now start.items ≡ None)) }
 {
     steps(alloc, start, actions)
 }
 
-/// The configurations after the joint steps by a list of actions from a system's start (Lynch 8.1), or
-/// the first action that is no step, with the fault of the joint step there. For want of memory it may
-/// stop at any place.
+/// The configurations after the joint steps by a list of actions from a system's start (Lynch 8.1), or the position of
+/// the first action that is no step, with the fault of its joint step. If memory runs out it may stop at any action.
 pub fn replay(alloc: Global, system: &System, actions: &[Action]) -> Result<Vec<Conf>, ReplayFault>
     ensures answer { IsReplay (λ v. v.items) result (replay_answer 0 actions.now (start system.now)) }
     ensures execution { IfOk result (λ v. replay actions.now (start system.now) ≡ Some v.items) }
-    ensures no_execution { IfErr result (λ e. (e.fault ≡ StepFault.Memory) ⊎ (replay actions.now (start system.now) ≡ None)) }
+    ensures no_execution { IfErr result
+        (λ e. (e.fault ≡ StepFault.Memory) ⊎ (replay actions.now (start system.now) ≡ None)) }
 {
     match start(alloc, system) {
         Ok(confs) => replay_from(alloc, confs, actions),

@@ -1,4 +1,4 @@
-//! Which rule of a program an action takes, and what it leaves.
+//! The rule of a program that an action takes, and the values that the rule leaves.
 
 ghost use Rattle.std.specs.Prelude.{◌≡◌, ◌++◌, ◌≤◌, [], ◌∷◌, IfOk, OnOk, IfSome, true, map, length};
 ghost use Rattle.std.specs.Option.{option_copied, option_map};
@@ -7,7 +7,8 @@ ghost use Rattle.ioa_source.specs.TextView.{entry_of, transition_of, variable_of
 ghost use Rattle.ioa_terms.specs.View.{term_of, statement_of};
 ghost use Rattle.ioa_values.specs.Data.{number};
 ghost use Rattle.ioa_values.specs.Outcome.{Answers};
-ghost use Rattle.ioa_system.specs.ResolvedPrograms.{IsResolvedRule, IsResolvedGuard, IsResolvedParameter, AreResolvedParameters};
+ghost use Rattle.ioa_system.specs.ResolvedPrograms.{IsResolvedRule, IsResolvedGuard};
+ghost use Rattle.ioa_system.specs.ResolvedPrograms.{IsResolvedParameter, AreResolvedParameters};
 ghost use Rattle.ioa_compose.specs.NodeStep as spec;
 ghost use Rattle.ioa_terms.specs.Meaning.{answer};
 ghost use Rattle.ioa_terms.specs.Performance.{answer_by};
@@ -63,7 +64,7 @@ fn message_arguments(
     Ok(arguments)
 }
 
-/// Whether an action's kind is an entry's.
+/// Whether an action is of an entry's kind.
 fn kind_agrees(action: &Action, kind: Kind) -> bool
     ensures { result ≡ spec.kind_agrees action.now kind }
 {
@@ -83,7 +84,7 @@ fn kind_agrees(action: &Action, kind: Kind) -> bool
     }
 }
 
-/// Whether a value is one of a parameter's, where a negative number passes for a natural.
+/// Whether a value is one that a parameter takes. A negative number passes for a Nat here.
 fn parameter_agrees(
     alloc: Global,
     parameter: &Parameter<usize, Shape>,
@@ -98,7 +99,7 @@ fn parameter_agrees(
     }
 }
 
-/// Whether a value is the one of a term that reads no name.
+/// Whether a value is that of a term that reads no name.
 fn constant_agrees(alloc: Global, term: &Checked, value: &Value) -> Result<bool, AllocError>
     requires { IsResolved (term_of term.now) [] }
     ensures { IfOk result (λ b. b ≡ spec.constant_agrees (answer (term_of term.now) []) value.now) }
@@ -131,7 +132,7 @@ fn arguments_agree(
     Ok(true)
 }
 
-/// Passes where no negative number stands for a natural in an argument.
+/// Passes if no argument holds a negative number where its sort says Nat; else `Undefined` (1).
 fn pass_naturals(
     parameters: &[Parameter<usize, Shape>],
     arguments: &[Value],
@@ -146,7 +147,7 @@ fn pass_naturals(
     Ok(())
 }
 
-/// Whether no negative number stands for a natural in an argument.
+/// Whether an argument holds no negative number where its sort says Nat.
 fn is_natural(parameter: &Parameter<usize, Shape>, argument: &Value) -> bool
     ensures { result ≡ spec.is_natural (parameter_of parameter.now) argument.now }
 {
@@ -156,7 +157,7 @@ fn is_natural(parameter: &Parameter<usize, Shape>, argument: &Value) -> bool
     }
 }
 
-/// Whether an action, with these arguments, is one of an entry's.
+/// Whether an action with these arguments is one of an entry's.
 fn entry_agrees(
     alloc: Global,
     entry: &Entry<usize, Shape>,
@@ -176,7 +177,7 @@ fn entry_agrees(
     arguments_agree(alloc, &entry.parameters, arguments)
 }
 
-/// The rule that an action takes, with these arguments, where there is one.
+/// The rule that an action with these arguments takes, if there is one.
 pub fn rule_for<'a>(
     alloc: Global,
     program: &'a Program,
@@ -196,7 +197,7 @@ pub fn rule_for<'a>(
     Ok(None)
 }
 
-/// What a program leaves of its state variables' values by an action.
+/// The values of a program's state variables after an action.
 pub fn values_after(
     alloc: Global,
     program: &Program,
@@ -215,21 +216,24 @@ pub fn values_after(
     }
 }
 
-/// What a transition leaves of the state variables: arguments first, then the entry's condition, guard
-/// and effect.
+/// The values of the state variables after a transition. The arguments are tested first, then the entry's condition,
+/// then the guard, and then the effect is performed.
 fn take_transition(
     alloc: Global,
     rule: &Rule,
     arguments: &[Value],
     variables: &[Value],
 ) -> Result<Vec<Value>, StepFault>
+    // the names in the rule are resolved, and each has a value
     requires condition { IsResolvedGuard (entry_of rule.now.entry).condition rule.now.scope }
     requires guard { IsResolvedGuard (transition_of rule.now.transition).pre rule.now.scope }
     requires effect { AreResolved (transition_of rule.now.transition).effect rule.now.scope rule.now.scope }
     requires named { length rule.now.scope
         ≡ length (variables.now ++ spec.own_values (entry_of rule.now.entry).parameters arguments.now) }
+    // the new values, one for each variable
     ensures after { Answers StepFault.Memory (λ v. v.items) result
-        (spec.step_answer (length variables.now) (entry_of rule.now.entry) (transition_of rule.now.transition) arguments.now
+        (spec.step_answer (length variables.now) (entry_of rule.now.entry) (transition_of rule.now.transition)
+        arguments.now
         (zip rule.now.scope
         (variables.now ++ spec.own_values (entry_of rule.now.entry).parameters arguments.now))) }
     ensures valued { IfOk result (λ v. length v.items ≡ length variables.now) }
@@ -248,7 +252,7 @@ fn take_transition(
     )
 }
 
-/// The values that an effect leaves, of the first `count` names.
+/// The values of the first `count` names after an effect.
 #[tactic(auto, using(crate::proofs::Arguments::effect_answer_zip, ioa_terms::proofs::Slots::no_constants))]
 fn take_effect(
     alloc: Global,
@@ -257,9 +261,11 @@ fn take_effect(
     values: Vec<Value>,
     count: usize,
 ) -> Result<Vec<Value>, StepFault>
+    // the names in the effect are resolved, and each has a value
     requires resolved { AreResolved (map statement_of effect.now) scope.now scope.now }
     requires named { length scope.now ≡ length values.items }
     requires within { count ≤ length values.items }
+    // `count` new values
     ensures after { Answers StepFault.Memory (λ v. v.items) result
         (spec.effect_answer count (answer_by (map statement_of effect.now) (zip scope.now values.items))) }
     ensures valued { IfOk result (λ v. length v.items ≡ count) }
@@ -276,7 +282,8 @@ fn values_in_view(
     arguments: &[Value],
     variables: &[Value],
 ) -> Result<Vec<Value>, AllocError>
-    ensures { IfOk result (λ v. v.items ≡ variables.now ++ spec.own_values (entry_of entry.now).parameters arguments.now) }
+    ensures { IfOk result
+        (λ v. v.items ≡ variables.now ++ spec.own_values (entry_of entry.now).parameters arguments.now) }
 {
     let mut values = copies(alloc, variables)?;
     let count = entry.parameters.len().min(arguments.len());
@@ -286,7 +293,7 @@ fn values_in_view(
     Ok(values)
 }
 
-/// Puts the argument of a parameter with a name of its own at the end.
+/// Adds the argument at the end if the parameter has a name of its own.
 fn push_own(
     alloc: Global,
     values: &mut Vec<Value>,
@@ -305,7 +312,7 @@ fn push_own(
     }
 }
 
-/// Passes where a guard is true, or the condition of an entry.
+/// Passes if a guard, or the condition of an entry, is true or missing; else `NotEnabled` (40).
 fn pass_guard(alloc: Global, pre: &Option<Checked>, env: &Env) -> Result<(), StepFault>
     requires { IsResolvedGuard (option_map term_of pre.now) (names_of env.now) }
     ensures { Answers StepFault.Memory (λ _. tt) result (spec.guard_answer (option_map term_of pre.now) env.now) }

@@ -13,8 +13,8 @@ use ioa_terms::Component;
 use std::alloc::{AllocError, Global};
 use std::sync::Arc;
 
-/// The start configurations of a system's components (Lynch 8.1): of the nodes, node 0 first, of the
-/// channels as declared, and of the scripts, node 0's first.
+/// The start configurations of a system's components (Lynch 8.1): of the nodes, node 0 first, then of the channels in
+/// the order of their declaration, then of the scripts, node 0's first.
 pub fn start(alloc: Global, system: &System) -> Result<Vec<Conf>, AllocError>
     ensures { IfOk result (λ v. v.items ≡ start system.now) }
 {
@@ -25,7 +25,7 @@ pub fn start(alloc: Global, system: &System) -> Result<Vec<Conf>, AllocError>
     Ok(confs)
 }
 
-/// Puts the start configurations of nodes at the end.
+/// Adds the start configurations of nodes at the end.
 fn start_nodes(
     alloc: Global,
     confs: &mut Vec<Conf>,
@@ -39,7 +39,7 @@ fn start_nodes(
     Ok(())
 }
 
-/// Puts the empty queues of channels at the end.
+/// Adds the empty queues of channels at the end.
 fn start_channels(
     alloc: Global,
     confs: &mut Vec<Conf>,
@@ -54,7 +54,7 @@ fn start_channels(
     Ok(())
 }
 
-/// Puts the empty scripts of nodes at the end.
+/// Adds the empty scripts of nodes at the end.
 fn start_scripts(
     alloc: Global,
     confs: &mut Vec<Conf>,
