@@ -1,4 +1,4 @@
-//! How nodes end.
+//! The endings of nodes.
 
 use ioa_terms::TermFault;
 use std::fmt;
@@ -6,17 +6,17 @@ use std::fmt;
 /// Why a node ended before its block did (profile).
 #[derive(Clone, Copy, Debug, PartialEq, Eq)]
 pub enum NodeFault {
-    /// 1: an argument, a guard or an effect met a part that has no value.
+    /// `Undefined` (1): an argument, a guard or an effect met a part that has no value.
     Undefined,
-    /// 2: an argument, a guard or an effect met a number outside 64 bits.
+    /// `Range` (2): an argument, a guard or an effect met a number outside 64 bits.
     Range,
-    /// 3: no memory was left.
+    /// `Memory` (3): memory ran out.
     Memory,
-    /// 41: the action is another node's, or is not in the node's signature.
+    /// `NotMine` (41): the action is another node's, or is not in the node's signature.
     NotMine,
-    /// 42: the action's channel is not declared.
+    /// `NoChannel` (42): the action's channel is not declared.
     NoChannel,
-    /// 52: the schedule has as many actions as the step limit allows.
+    /// `Full` (52): the schedule has as many actions as the step limit allows.
     Full,
 }
 
@@ -56,7 +56,7 @@ impl From<TermFault> for NodeFault {
 /// How a node ended (profile).
 #[derive(Clone, Copy, Debug, PartialEq, Eq)]
 pub enum Ending {
-    /// Nothing was left of its block.
+    /// It came to the end of its block.
     Done,
     /// No attempt was left.
     Spent,

@@ -1,4 +1,4 @@
-//! What a run leaves: the record of its schedule and last states, and how its nodes ended.
+//! What a run leaves: a record of its schedule and its last configurations, and the endings of its nodes.
 #![tactic(auto)]
 
 mod ending;
