@@ -29,16 +29,16 @@ module _ (next : List Token → Option (PlainSort × List Token)) where
   item_read s xs ys e = rw e refl
 
   seq_read : (s : PlainSort) (xs ys : List Token) → reading.item_sort next xs ≡ read_next s ys → reading.sort_by next (token.Mark mark.Seq ∷ xs) ≡ read_next (sequences s) ys
-  unfolding reading.sort_by reading.marked_sort at_word mark_first behind bind choose
+  unfolding reading.marked_sort at_word mark_first behind bind choose
   seq_read s xs ys e = rw e refl
 
   set_read : (s : PlainSort) (xs ys : List Token) → reading.item_sort next xs ≡ read_next s ys → reading.sort_by next (token.Mark mark.Set ∷ xs) ≡ read_next (sets s) ys
-  unfolding reading.sort_by reading.marked_sort at_word mark_first behind bind choose
+  unfolding reading.marked_sort at_word mark_first behind bind choose
   set_read s xs ys e = rw e refl
 
   map_read : (k v : PlainSort) (xs ys zs : List Token) → next xs ≡ read_next k (token.Mark mark.Comma ∷ ys) → next ys ≡ read_next v (token.Mark mark.CloseSquare ∷ zs) →
       reading.sort_by next (token.Mark mark.Map ∷ token.Mark mark.OpenSquare ∷ xs) ≡ read_next (maps k v) zs
-  unfolding reading.sort_by reading.marked_sort reading.map_sort at_word mark_first behind expect skip bind choose
+  unfolding reading.marked_sort reading.map_sort at_word mark_first behind expect skip bind choose
   map_read k v xs ys zs e f = rw e (rw f refl)
 
 sort_is : (room : ℕ) (xs : List Token) → reading.sort room xs ≡ reading.sort_by (reading.sort_in room) xs
@@ -46,19 +46,19 @@ unfolding reading.sort_in
 sort_is room xs = refl
 
 bool_read : (room : ℕ) (xs : List Token) → reading.sort room (token.Mark mark.Bool ∷ xs) ≡ read_next booleans xs
-unfolding reading.sort_in reading.sort_by reading.marked_sort at_word mark_first behind bind choose
+unfolding reading.sort_in reading.marked_sort at_word mark_first behind bind choose
 bool_read room xs = refl
 
 int_read : (room : ℕ) (xs : List Token) → reading.sort room (token.Mark mark.Int ∷ xs) ≡ read_next integers xs
-unfolding reading.sort_in reading.sort_by reading.marked_sort at_word mark_first behind bind choose
+unfolding reading.sort_in reading.marked_sort at_word mark_first behind bind choose
 int_read room xs = refl
 
 nat_read : (room : ℕ) (xs : List Token) → reading.sort room (token.Mark mark.Nat ∷ xs) ≡ read_next naturals xs
-unfolding reading.sort_in reading.sort_by reading.marked_sort at_word mark_first behind bind choose
+unfolding reading.sort_in reading.marked_sort at_word mark_first behind bind choose
 nat_read room xs = refl
 
 named_read : (room : ℕ) (w : List ℕ) (xs : List Token) → reading.sort room (token.Word w ∷ xs) ≡ read_next (named_type w) xs
-unfolding reading.sort_in reading.sort_by at_word word bind choose
+unfolding reading.sort_in at_word word bind choose
 named_read room w xs = refl
 
 -- a sort is read whatever follows it

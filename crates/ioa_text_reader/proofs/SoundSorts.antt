@@ -78,7 +78,6 @@ module _ (room : ℕ) (next : List Token → Option (PlainSort × List Token))
   marked_sound _ xs ys s e = absurd cc
 
   sort_by_sound : (xs ys : List Token) (s : PlainSort) → reading.sort_by next xs ≡ read_next s ys → SpellsSort room s xs ys
-  unfolding reading.sort_by
   sort_by_sound xs ys s e =
       let P : Type 0 = SpellsSort room s xs ys in
       choose_cases P e

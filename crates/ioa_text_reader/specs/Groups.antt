@@ -1,4 +1,4 @@
--- What the code's names of one sort stand for (view).
+-- The code's names of one sort as values of the grammar (view).
 use Rattle.std.specs.Prelude.{List}
 use Rattle.ioa_source.specs.Sides.{SourceDeclared}
 use Rattle.ioa_source.specs.SortView.{sort_of}

@@ -7,3 +7,5 @@ pub mod Parsing
 pub mod Reading
 pub mod StatementHeights
 pub mod Texts
+-- the steps of reading, which the attributes `unfolding(..)` name
+pub use Rattle.ioa_cursor.specs.Reading.{bind, choose}

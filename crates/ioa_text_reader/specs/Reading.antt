@@ -1,5 +1,7 @@
--- How the reader goes through the tokens (profile): a definition for each production, which answers the tree and what comes after it.
-use Rattle.std.specs.Prelude.{ℕ, zero, suc, Bool, true, false, List, [], ◌∷◌, map, Option, Some, None, nat_le, if◌then◌else◌}
+-- How the reader goes through the tokens (profile): a definition for each production, which returns the tree and the
+-- tokens after it.
+use Rattle.std.specs.Prelude.{ℕ, zero, suc, Bool, true, false, List, [], ◌∷◌, map}
+use Rattle.std.specs.Prelude.{Option, Some, None, nat_le, if◌then◌else◌}
 use Rattle.ioa_tokens.specs.declared.token.Token.{Token}
 use Rattle.ioa_tokens.specs.declared.mark.Mark.{Mark}
 use Rattle.ioa_tokens.specs.declared.mark.Mark.TheVariants as mark
@@ -9,19 +11,27 @@ use Rattle.ioa_terms.specs.PlainTerm as plain
 use Rattle.ioa_terms.specs.PlainTerm.{statements_of, arms_of}
 use Rattle.ioa_source.specs.PlainSort.{PlainSort, booleans, integers, naturals, sequences, sets, maps, named_type}
 use Rattle.ioa_source.specs.PlainText as declarations
-use Rattle.ioa_source.specs.Sides.{SourceTerm as Term, SourceTarget as Target, SourceStatement as Statement, SourceStatements as Statements, SourceDeclared as Declared, SourceParameter as Parameter, SourceEntry as Entry, SourceVariable as Variable, SourceTransition as Transition, SourceForm as Form, SourceType as TypeOf, SourceAutomaton as Automaton, SourceDeclaration as Declaration, SourceNode as Node, SourcePlacement as Placement, SourceText}
-use Rattle.ioa_cursor.specs.Reading.{◌>>=◌, choose, skip, expect, word, numeral, at, at_word, mark_first, behind, begins_with, resumes_with, several, several_more, section, optional, several_lists, several_more_lists, end}
+use Rattle.ioa_source.specs.Sides.{SourceTerm as Term, SourceTarget as Target, SourceStatement as Statement}
+use Rattle.ioa_source.specs.Sides.{SourceStatements as Statements, SourceDeclared as Declared}
+use Rattle.ioa_source.specs.Sides.{SourceParameter as Parameter, SourceEntry as Entry, SourceVariable as Variable}
+use Rattle.ioa_source.specs.Sides.{SourceTransition as Transition, SourceForm as Form, SourceType as TypeOf}
+use Rattle.ioa_source.specs.Sides.{SourceAutomaton as Automaton, SourceDeclaration as Declaration}
+use Rattle.ioa_source.specs.Sides.{SourceNode as Node, SourcePlacement as Placement, SourceText}
+use Rattle.ioa_cursor.specs.Reading.{◌>>=◌, choose, skip, expect, word, numeral, end}
+use Rattle.ioa_cursor.specs.Reading.{at, at_word, mark_first, behind, begins_with, resumes_with}
+use Rattle.ioa_cursor.specs.Reading.{several, several_more, section, optional, several_lists, several_more_lists}
 use Rattle.ioa_term_reader.specs.Heights.{height_limit}
 use Rattle.ioa_term_reader.specs.Grammar.{bracket_limit}
 use Rattle.ioa_term_reader.specs.Reading.{term}
 use Rattle.ioa_text_reader.specs.Grammar.{Call, declare, inner_limit}
 use Rattle.ioa_text_reader.specs.StatementHeights.{statement_height}
 
--- a sort is read by what reads the sorts in its brackets
+-- `next` reads the sorts in the brackets of a sort
 module _ (next : List Token → Option (PlainSort × List Token)) where
   -- [ Sort ]
   unfoldable pub item_sort : List Token → Option (PlainSort × List Token)
-  item_sort xs = expect mark.OpenSquare xs >>= λ o. next o.1 >>= λ s. expect mark.CloseSquare s.1 >>= λ c. Some (s.0, c.1)
+  item_sort xs =
+      expect mark.OpenSquare xs >>= λ o. next o.1 >>= λ s. expect mark.CloseSquare s.1 >>= λ c. Some (s.0, c.1)
 
   -- [ Sort , Sort ]
   unfoldable pub map_sort : List Token → Option (PlainSort × List Token)
@@ -29,7 +39,7 @@ module _ (next : List Token → Option (PlainSort × List Token)) where
       expect mark.OpenSquare xs >>= λ o. next o.1 >>= λ k. expect mark.Comma k.1 >>= λ m. next m.1 >>= λ v.
       expect mark.CloseSquare v.1 >>= λ c. Some (maps k.0 v.0, c.1)
 
-  -- the sort that a mark begins, behind it
+  -- the sort that a mark begins, after the mark
   unfoldable pub marked_sort : Mark → List Token → Option (PlainSort × List Token)
   marked_sort mark.Bool xs = Some (booleans, xs)
   marked_sort mark.Int xs = Some (integers, xs)
@@ -39,18 +49,18 @@ module _ (next : List Token → Option (PlainSort × List Token)) where
   marked_sort mark.Map xs = map_sort xs
   marked_sort _ xs = None
 
-  unfoldable pub sort_by : List Token → Option (PlainSort × List Token)
+  abbrev pub sort_by : List Token → Option (PlainSort × List Token)
   sort_by xs =
       choose (at_word xs)
       (word xs >>= λ w. Some (named_type w.0, w.1))
       (mark_first xs >>= λ m. marked_sort m (behind xs))
 
--- Sort; one bracket less may be open within than it is deep
+-- Sort, whose brackets are fewer than `depth` deep
 unfoldable pub sort_in : ℕ → List Token → Option (PlainSort × List Token)
 sort_in zero xs = None
 sort_in (suc depth) xs = sort_by (sort_in depth) xs
 
--- Sort, where so many brackets more may be opened
+-- Sort. `room` is how many more brackets may be opened.
 abbrev pub sort : ℕ → List Token → Option (PlainSort × List Token)
 sort room xs = sort_in (suc room) xs
 
@@ -60,7 +70,8 @@ words xs = several_more (skip mark.Comma) word [] xs
 
 -- Word {, Word} : Sort
 unfoldable pub declared_group : ℕ → List Token → Option (List Declared × List Token)
-declared_group room xs = words xs >>= λ ws. expect mark.Colon ws.1 >>= λ c. sort room c.1 >>= λ s. Some (declare s.0 ws.0, s.1)
+declared_group room xs =
+    words xs >>= λ ws. expect mark.Colon ws.1 >>= λ c. sort room c.1 >>= λ s. Some (declare s.0 ws.0, s.1)
 
 -- Declared {, Declared}
 unfoldable pub declared_names : ℕ → List Token → Option (List Declared × List Token)
@@ -78,12 +89,14 @@ unfoldable pub parameters : ℕ → List Token → Option (List Parameter × Lis
 parameters room xs = several_more_lists (skip mark.Comma) (parameter_group room) xs
 
 -- [ ( [X] ) ]
-abbrev pub in_brackets : {A : Type 0} → (List Token → Option (List A × List Token)) → List Token → Option (List A × List Token)
+abbrev pub in_brackets : {A : Type 0} →
+    (List Token → Option (List A × List Token)) → List Token → Option (List A × List Token)
 in_brackets read xs =
     choose (skip mark.OpenRound xs).0
     (choose (skip mark.CloseRound (skip mark.OpenRound xs).1).0
     (Some ([], (skip mark.CloseRound (skip mark.OpenRound xs).1).1))
-    (read (skip mark.CloseRound (skip mark.OpenRound xs).1).1 >>= λ r. expect mark.CloseRound r.1 >>= λ c. Some (r.0, c.1)))
+    (read (skip mark.CloseRound (skip mark.OpenRound xs).1).1 >>= λ r.
+    expect mark.CloseRound r.1 >>= λ c. Some (r.0, c.1)))
     (Some ([], (skip mark.OpenRound xs).1))
 
 -- Term {, Term}, in brackets
@@ -98,14 +111,14 @@ arguments xs = in_brackets terms xs
 unfoldable pub call : List Token → Option (Call × List Token)
 call xs = word xs >>= λ w. arguments w.1 >>= λ ts. Some (record { name = w.0; arguments = ts.0 }, ts.1)
 
--- the kind that a mark is
+-- the kind that a mark says, if it says one
 abbrev pub kind_of : Mark → Option Kind
 kind_of mark.Input = Some kinds.Input
 kind_of mark.Output = Some kinds.Output
 kind_of mark.Internal = Some kinds.Internal
 kind_of _ = None
 
--- the kind that comes first, where one does
+-- the kind that comes first, if one does
 unfoldable pub kind_first : List Token → Option Kind
 kind_first xs = mark_first xs >>= λ m. kind_of m
 
@@ -157,9 +170,10 @@ variable xs =
 unfoldable pub variables : List Token → Option (List Variable × List Token)
 variables xs = several_more (skip mark.Comma) variable [] xs
 
--- Term ], behind the word and the first bracket of a place
+-- Term ], after the word `w` and the bracket that opens
 unfoldable pub key_target : List ℕ → List Token → Option (Target × List Token)
-key_target w xs = term inner_limit xs >>= λ t. expect mark.CloseSquare t.1 >>= λ c. Some (plain.at_key w tt tt t.0, c.1)
+key_target w xs =
+    term inner_limit xs >>= λ t. expect mark.CloseSquare t.1 >>= λ c. Some (plain.at_key w tt tt t.0, c.1)
 
 -- Word, Word [ Term ], or Word . Word
 unfoldable pub target : List Token → Option (Target × List Token)
@@ -171,11 +185,12 @@ target xs =
     (word (skip mark.Dot (skip mark.OpenSquare w.1).1).1 >>= λ f. Some (plain.at_field w.0 tt tt f.0, f.1))
     (Some (plain.variable w.0 tt tt, (skip mark.Dot (skip mark.OpenSquare w.1).1).1)))
 
--- Place := Term
+-- Target := Term
 unfoldable pub assignment : List Token → Option (Statement × List Token)
-assignment xs = target xs >>= λ p. expect mark.Assign p.1 >>= λ a. term bracket_limit a.1 >>= λ t. Some (plain.assign p.0 t.0, t.1)
+assignment xs =
+    target xs >>= λ p. expect mark.Assign p.1 >>= λ a. term bracket_limit a.1 >>= λ t. Some (plain.assign p.0 t.0, t.1)
 
--- a statement, where it is not too high
+-- a statement, if it is not too high
 unfoldable pub limited_statement : Statement → Option Statement
 limited_statement s = if nat_le (statement_height s) height_limit then Some s else None
 
@@ -183,11 +198,13 @@ limited_statement s = if nat_le (statement_height s) height_limit then Some s el
 unfoldable pub begins_statement : List Token → Bool
 begins_statement xs = if at_word xs then true else at mark.If xs
 
--- a statement is read by what reads the statements in it
+-- `next` reads the statements in a statement
 module _ (next : List Token → Option (List Statement × List Token)) where
   -- Term then Statements
   unfoldable pub one_arm : List Token → Option ((Term × Statements) × List Token)
-  one_arm xs = term bracket_limit xs >>= λ t. expect mark.Then t.1 >>= λ e. next e.1 >>= λ ss. Some ((t.0, statements_of ss.0), ss.1)
+  one_arm xs =
+      term bracket_limit xs >>= λ t. expect mark.Then t.1 >>= λ e. next e.1 >>= λ ss.
+      Some ((t.0, statements_of ss.0), ss.1)
 
   -- Term then Statements {elseif Term then Statements}
   unfoldable pub all_arms : List Token → Option (List (Term × Statements) × List Token)
@@ -200,19 +217,21 @@ module _ (next : List Token → Option (List Statement × List Token)) where
       (next (skip mark.Else xs).1 >>= λ ss. expect mark.Fi ss.1 >>= λ c. Some (ss.0, c.1))
       (expect mark.Fi (skip mark.Else xs).1 >>= λ c. Some ([], c.1))
 
-  -- if Arms [else Statements] fi, behind the first word
+  -- if Arms [else Statements] fi, after the first word
   unfoldable pub choice : List Token → Option (Statement × List Token)
   choice xs =
-      all_arms xs >>= λ arms. rest_of arms.1 >>= λ r. limited_statement (plain.choose (arms_of arms.0) (statements_of r.0)) >>= λ s. Some (s, r.1)
+      all_arms xs >>= λ arms. rest_of arms.1 >>= λ r.
+      limited_statement (plain.choose (arms_of arms.0) (statements_of r.0)) >>= λ s. Some (s, r.1)
 
-  -- Place := Term, or if Arms [else Statements] fi
+  -- Target := Term, or if Arms [else Statements] fi
   unfoldable pub one_statement : List Token → Option (Statement × List Token)
   one_statement xs = choose (skip mark.If xs).0 (choice (skip mark.If xs).1) (assignment (skip mark.If xs).1)
 
--- Statement {; Statement} [;]; the statements in a statement are one less deep
+-- Statement {; Statement} [;]. The statements in a statement are read at one depth less.
 unfoldable pub statements_in : ℕ → List Token → Option (List Statement × List Token)
 statements_in zero xs = None
-statements_in (suc depth) xs = several_more (resumes_with mark.Semicolon begins_statement) (one_statement (statements_in depth)) [] xs
+statements_in (suc depth) xs =
+    several_more (resumes_with mark.Semicolon begins_statement) (one_statement (statements_in depth)) [] xs
 
 -- the statements of an effect
 unfoldable pub statements : List Token → Option (List Statement × List Token)
@@ -280,26 +299,40 @@ schedule_part xs = section mark.Schedule block xs
 unfoldable pub head : List Token → Option (List Declared × List Token)
 head xs =
     choose (skip mark.OpenRound xs).0
-    (declared_names inner_limit (skip mark.OpenRound xs).1 >>= λ ds. expect mark.CloseRound ds.1 >>= λ c. Some (ds.0, c.1))
+    (declared_names inner_limit (skip mark.OpenRound xs).1 >>= λ ds.
+    expect mark.CloseRound ds.1 >>= λ c. Some (ds.0, c.1))
     (Some ([], (skip mark.OpenRound xs).1))
 
--- an automaton behind its first word: Word, and its five parts
+-- an automaton after its first word: Word, and its five parts
 unfoldable pub automaton : List Token → Option (Automaton × List Token)
 automaton xs =
-    word xs >>= λ w. head w.1 >>= λ h. signature_part h.1 >>= λ g. states_part g.1 >>= λ v. transitions_part v.1 >>= λ t. schedule_part t.1 >>= λ b.
-    Some (record { name = w.0; parameters = h.0; signature = g.0; states = v.0; transitions = t.0; schedule = b.0 }, b.1)
+    word xs >>= λ w. head w.1 >>= λ h. signature_part h.1 >>= λ g. states_part g.1 >>= λ v.
+    transitions_part v.1 >>= λ t. schedule_part t.1 >>= λ b.
+    Some (
+      record {
+        name = w.0;
+        parameters = h.0;
+        signature = g.0;
+        states = v.0;
+        transitions = t.0;
+        schedule = b.0;
+      },
+      b.1,
+    )
 
 -- enumeration of Word {, Word}, or tuple of Declared {, Declared}
 unfoldable pub form : List Token → Option (Form × List Token)
 form xs =
     choose (skip mark.Enumeration xs).0
-    (expect mark.Of (skip mark.Enumeration xs).1 >>= λ o. words o.1 >>= λ ws. Some (declarations.enumeration ws.0, ws.1))
-    (expect mark.Tuple (skip mark.Enumeration xs).1 >>= λ t. expect mark.Of t.1 >>= λ o. declared_names bracket_limit o.1 >>= λ ds.
-    Some (declarations.tuple_of ds.0, ds.1))
+    (expect mark.Of (skip mark.Enumeration xs).1 >>= λ o. words o.1 >>= λ ws.
+    Some (declarations.enumeration ws.0, ws.1))
+    (expect mark.Tuple (skip mark.Enumeration xs).1 >>= λ t. expect mark.Of t.1 >>= λ o.
+    declared_names bracket_limit o.1 >>= λ ds. Some (declarations.tuple_of ds.0, ds.1))
 
--- a type behind its first word: Word = Form
+-- a type after its first word: Word = Form
 unfoldable pub type_declaration : List Token → Option (TypeOf × List Token)
-type_declaration xs = word xs >>= λ w. expect mark.Equal w.1 >>= λ e. form e.1 >>= λ f. Some (record { name = w.0; form = f.0 }, f.1)
+type_declaration xs =
+    word xs >>= λ w. expect mark.Equal w.1 >>= λ e. form e.1 >>= λ f. Some (record { name = w.0; form = f.0 }, f.1)
 
 -- whether a declaration begins
 unfoldable pub at_declaration : List Token → Bool
@@ -320,7 +353,7 @@ all_declarations xs = several (begins_with at_declaration) declaration xs
 unfoldable pub at_placement : List Token → Bool
 at_placement xs = if at mark.Node xs then true else at mark.Channel xs
 
--- Number : Call, behind the first word
+-- Number : Call, after the first word
 unfoldable pub node : List Token → Option (Node × List Token)
 node xs =
     numeral xs >>= λ n. expect mark.Colon n.1 >>= λ c. call c.1 >>= λ a.
@@ -331,7 +364,8 @@ unfoldable pub placement : List Token → Option (Placement × List Token)
 placement xs =
     choose (skip mark.Node xs).0
     (node (skip mark.Node xs).1 >>= λ n. Some (declarations.node n.0, n.1))
-    (expect mark.Channel (skip mark.Node xs).1 >>= λ c. numeral c.1 >>= λ i. expect mark.Arrow i.1 >>= λ a. numeral a.1 >>= λ j.
+    (expect mark.Channel (skip mark.Node xs).1 >>= λ c. numeral c.1 >>= λ i.
+    expect mark.Arrow i.1 >>= λ a. numeral a.1 >>= λ j.
     Some (declarations.channel (record { from = i.0; to = j.0 }), j.1))
 
 -- {Placement}

@@ -20,7 +20,7 @@ use ioa_tokens::Mark;
 use std::alloc::Global;
 
 /// [`:=` Term]
-#[tactic(auto, unfolding(crate::specs::Reading::initial, ioa_cursor::specs::Reading::bind, ioa_cursor::specs::Reading::choose))]
+#[tactic(auto, unfolding(crate::specs::Reading::initial, crate::specs::bind, crate::specs::choose))]
 fn initial(alloc: Global, tokens: &mut Tokens<'_>) -> Result<Option<Term>, Unread>
     ensures { Reads (option_map term_of) (spec.initial tokens.old) result tokens.new }
 {
@@ -32,7 +32,7 @@ fn initial(alloc: Global, tokens: &mut Tokens<'_>) -> Result<Option<Term>, Unrea
 }
 
 /// Word `:` Sort [`:=` Term]
-#[tactic(auto, unfolding(crate::specs::Reading::variable, ioa_cursor::specs::Reading::bind))]
+#[tactic(auto, unfolding(crate::specs::Reading::variable, crate::specs::bind))]
 fn variable(alloc: Global, tokens: &mut Tokens<'_>) -> Result<Variable<(), ()>, Unread>
     ensures { Reads variable_of (spec.variable tokens.old) result tokens.new }
 {
@@ -51,7 +51,7 @@ fn variable(alloc: Global, tokens: &mut Tokens<'_>) -> Result<Variable<(), ()>, 
 }
 
 /// Variable {`,` Variable}
-#[tactic(auto, unfolding(crate::specs::Reading::variables, ioa_cursor::specs::Reading::bind))]
+#[tactic(auto, unfolding(crate::specs::Reading::variables, crate::specs::bind))]
 fn variables(alloc: Global, tokens: &mut Tokens<'_>) -> Result<Vec<Variable<(), ()>>, Unread>
     ensures { Reads (λ v. map variable_of v.items) (spec.variables tokens.old) result tokens.new }
 {
@@ -67,7 +67,7 @@ fn variables(alloc: Global, tokens: &mut Tokens<'_>) -> Result<Vec<Variable<(), 
 }
 
 /// Term [`;`]
-#[tactic(auto, unfolding(crate::specs::Reading::guard, ioa_cursor::specs::Reading::bind))]
+#[tactic(auto, unfolding(crate::specs::Reading::guard, crate::specs::bind))]
 fn guard(alloc: Global, tokens: &mut Tokens<'_>) -> Result<Term, Unread>
     ensures { Reads term_of (spec.guard tokens.old) result tokens.new }
 {
@@ -77,7 +77,7 @@ fn guard(alloc: Global, tokens: &mut Tokens<'_>) -> Result<Term, Unread>
 }
 
 /// [`pre` Term [`;`]]
-#[tactic(auto, unfolding(crate::specs::Reading::guard_part, ioa_cursor::specs::Reading::bind, ioa_cursor::specs::Reading::choose))]
+#[tactic(auto, unfolding(crate::specs::Reading::guard_part, crate::specs::bind, crate::specs::choose))]
 fn guard_part(alloc: Global, tokens: &mut Tokens<'_>) -> Result<Option<Term>, Unread>
     ensures { Reads (option_map term_of) (spec.guard_part tokens.old) result tokens.new }
 {
@@ -89,7 +89,7 @@ fn guard_part(alloc: Global, tokens: &mut Tokens<'_>) -> Result<Option<Term>, Un
 }
 
 /// Kind Call [`pre` Term [`;`]] [`eff` Statements]
-#[tactic(auto, unfolding(crate::specs::Reading::transition, ioa_cursor::specs::Reading::bind))]
+#[tactic(auto, unfolding(crate::specs::Reading::transition, crate::specs::bind))]
 fn transition(alloc: Global, tokens: &mut Tokens<'_>) -> Result<Transition<(), ()>, Unread>
     ensures { Reads transition_of (spec.transition tokens.old) result tokens.new }
 {
@@ -122,7 +122,7 @@ fn transitions(alloc: Global, tokens: &mut Tokens<'_>) -> Result<Vec<Transition<
 }
 
 /// `fire` [Kind] Call
-#[tactic(auto, unfolding(crate::specs::Reading::firing, ioa_cursor::specs::Reading::bind, ioa_cursor::specs::Reading::choose))]
+#[tactic(auto, unfolding(crate::specs::Reading::firing, crate::specs::bind, crate::specs::choose))]
 fn firing(alloc: Global, tokens: &mut Tokens<'_>) -> Result<Statement<(), ()>, Unread>
     ensures { Reads statement_of (spec.firing tokens.old) result tokens.new }
 {
@@ -137,7 +137,7 @@ fn firing(alloc: Global, tokens: &mut Tokens<'_>) -> Result<Statement<(), ()>, U
 }
 
 /// Fire {`;` Fire} [`;`]
-#[tactic(auto, unfolding(crate::specs::Reading::firings, ioa_cursor::specs::Reading::bind))]
+#[tactic(auto, unfolding(crate::specs::Reading::firings, crate::specs::bind))]
 fn firings(alloc: Global, tokens: &mut Tokens<'_>) -> Result<Vec<Statement<(), ()>>, Unread>
     ensures { Reads (λ v. map statement_of v.items) (spec.firings tokens.old) result tokens.new }
 {
@@ -153,7 +153,7 @@ fn firings(alloc: Global, tokens: &mut Tokens<'_>) -> Result<Vec<Statement<(), (
 }
 
 /// `do` [Fire {`;` Fire} [`;`]] `od`
-#[tactic(auto, unfolding(crate::specs::Reading::block, ioa_cursor::specs::Reading::bind, ioa_cursor::specs::Reading::choose))]
+#[tactic(auto, unfolding(crate::specs::Reading::block, crate::specs::bind, crate::specs::choose))]
 fn block(alloc: Global, tokens: &mut Tokens<'_>) -> Result<Vec<Statement<(), ()>>, Unread>
     ensures { Reads (λ v. map statement_of v.items) (spec.block tokens.old) result tokens.new }
 {
@@ -167,7 +167,7 @@ fn block(alloc: Global, tokens: &mut Tokens<'_>) -> Result<Vec<Statement<(), ()>
 }
 
 /// [`states` Variable {`,` Variable}]
-#[tactic(auto, unfolding(crate::specs::Reading::states_part, ioa_cursor::specs::Reading::choose))]
+#[tactic(auto, unfolding(crate::specs::Reading::states_part, crate::specs::choose))]
 fn states_part(alloc: Global, tokens: &mut Tokens<'_>) -> Result<Vec<Variable<(), ()>>, Unread>
     ensures { Reads (λ v. map variable_of v.items) (spec.states_part tokens.old) result tokens.new }
 {
@@ -178,7 +178,7 @@ fn states_part(alloc: Global, tokens: &mut Tokens<'_>) -> Result<Vec<Variable<()
 }
 
 /// [`transitions` {Transition}]
-#[tactic(auto, unfolding(crate::specs::Reading::transitions_part, ioa_cursor::specs::Reading::choose))]
+#[tactic(auto, unfolding(crate::specs::Reading::transitions_part, crate::specs::choose))]
 fn transitions_part(
     alloc: Global,
     tokens: &mut Tokens<'_>,
@@ -192,7 +192,7 @@ fn transitions_part(
 }
 
 /// [`schedule` Block]
-#[tactic(auto, unfolding(crate::specs::Reading::schedule_part, ioa_cursor::specs::Reading::choose))]
+#[tactic(auto, unfolding(crate::specs::Reading::schedule_part, crate::specs::choose))]
 fn schedule_part(alloc: Global, tokens: &mut Tokens<'_>) -> Result<Vec<Statement<(), ()>>, Unread>
     ensures { Reads (λ v. map statement_of v.items) (spec.schedule_part tokens.old) result tokens.new }
 {
@@ -203,7 +203,7 @@ fn schedule_part(alloc: Global, tokens: &mut Tokens<'_>) -> Result<Vec<Statement
 }
 
 /// [`(` Declared {`,` Declared} `)`]
-#[tactic(auto, unfolding(crate::specs::Reading::head, ioa_cursor::specs::Reading::bind, ioa_cursor::specs::Reading::choose))]
+#[tactic(auto, unfolding(crate::specs::Reading::head, crate::specs::bind, crate::specs::choose))]
 fn head(alloc: Global, tokens: &mut Tokens<'_>) -> Result<Vec<Declared<()>>, Unread>
     ensures { Reads (λ v. map declared_of v.items) (spec.head tokens.old) result tokens.new }
 {
@@ -215,9 +215,9 @@ fn head(alloc: Global, tokens: &mut Tokens<'_>) -> Result<Vec<Declared<()>>, Unr
     Ok(parameters)
 }
 
-/// Word [`(` Declared {`,` Declared} `)`] [Signature] [States] [Transitions] [Schedule], behind
+/// Word [`(` Declared {`,` Declared} `)`] [Signature] [States] [Transitions] [Schedule], after
 /// `automaton`
-#[tactic(auto, unfolding(crate::specs::Reading::automaton, ioa_cursor::specs::Reading::bind))]
+#[tactic(auto, unfolding(crate::specs::Reading::automaton, crate::specs::bind))]
 pub(crate) fn automaton(alloc: Global, tokens: &mut Tokens<'_>) -> Result<Automaton<(), ()>, Unread>
     ensures { Reads automaton_of (spec.automaton tokens.old) result tokens.new }
 {

@@ -7,26 +7,26 @@ ghost use Rattle.ioa_text_reader.specs.Calls.{call_of};
 ghost use Rattle.ioa_text_reader.specs.Reading as spec;
 
 use ioa_cursor::{Tokens, Unread};
-use ioa_term_reader::term;
+use ioa_term_reader::{BRACKET_LIMIT, term};
 use ioa_terms::{Kind, Term, Word};
 use ioa_tokens::Mark;
 use std::alloc::Global;
 
-/// How many brackets may be open at once within the brackets of a call, an entry, an automaton or a
-/// place, which are open too.
-pub(crate) const INNER_LIMIT: usize = 127;
+/// How many brackets may be opened within the brackets of a call, an entry, an automaton or a target:
+/// these are open, too.
+pub(crate) const INNER_LIMIT: usize = BRACKET_LIMIT - 1;
 
 /// An action as a text writes it.
 #[derive(Drop)]
 pub(crate) struct ActionCall {
     /// Its name.
     pub(crate) name: Word,
-    /// Its arguments, none where it has no brackets.
+    /// Its arguments; none if it has no brackets.
     pub(crate) arguments: Vec<Term>,
 }
 
 /// Term {`,` Term}, in brackets
-#[tactic(auto, unfolding(crate::specs::Reading::terms, ioa_cursor::specs::Reading::bind))]
+#[tactic(auto, unfolding(crate::specs::Reading::terms, crate::specs::bind))]
 fn terms(alloc: Global, tokens: &mut Tokens<'_>) -> Result<Vec<Term>, Unread>
     ensures { Reads (λ v. map term_of v.items) (spec.terms tokens.old) result tokens.new }
 {
@@ -43,7 +43,7 @@ fn terms(alloc: Global, tokens: &mut Tokens<'_>) -> Result<Vec<Term>, Unread>
 }
 
 /// [`(` [Term {`,` Term}] `)`]
-#[tactic(auto, unfolding(crate::specs::Reading::arguments, ioa_cursor::specs::Reading::bind, ioa_cursor::specs::Reading::choose))]
+#[tactic(auto, unfolding(crate::specs::Reading::arguments, crate::specs::bind, crate::specs::choose))]
 fn arguments(alloc: Global, tokens: &mut Tokens<'_>) -> Result<Vec<Term>, Unread>
     ensures { Reads (λ v. map term_of v.items) (spec.arguments tokens.old) result tokens.new }
 {
@@ -59,7 +59,7 @@ fn arguments(alloc: Global, tokens: &mut Tokens<'_>) -> Result<Vec<Term>, Unread
 }
 
 /// Word [`(` [Term {`,` Term}] `)`]
-#[tactic(auto, unfolding(crate::specs::Reading::call, ioa_cursor::specs::Reading::bind))]
+#[tactic(auto, unfolding(crate::specs::Reading::call, crate::specs::bind))]
 pub(crate) fn call(alloc: Global, tokens: &mut Tokens<'_>) -> Result<ActionCall, Unread>
     ensures { Reads call_of (spec.call tokens.old) result tokens.new }
 {
@@ -68,7 +68,7 @@ pub(crate) fn call(alloc: Global, tokens: &mut Tokens<'_>) -> Result<ActionCall,
     Ok(ActionCall { name, arguments })
 }
 
-/// The kind that a mark is.
+/// The kind that a mark says, if it says one.
 fn kind_of(mark: Mark) -> Option<Kind>
     ensures { result ≡ spec.kind_of mark }
 {
@@ -80,8 +80,8 @@ fn kind_of(mark: Mark) -> Option<Kind>
     }
 }
 
-/// The kind that comes first, where one does.
-#[tactic(auto, unfolding(crate::specs::Reading::kind_first, ioa_cursor::specs::Reading::bind))]
+/// The kind that comes first, if one does.
+#[tactic(auto, unfolding(crate::specs::Reading::kind_first, crate::specs::bind))]
 fn kind_first(tokens: &Tokens<'_>) -> Option<Kind>
     ensures { result ≡ spec.kind_first tokens.now }
 {
@@ -97,7 +97,7 @@ pub(crate) fn at_kind(tokens: &Tokens<'_>) -> bool
 }
 
 /// `input`, `output` or `internal`
-#[tactic(auto, unfolding(crate::specs::Reading::kind, ioa_cursor::specs::Reading::bind))]
+#[tactic(auto, unfolding(crate::specs::Reading::kind, crate::specs::bind))]
 pub(crate) fn kind(tokens: &mut Tokens<'_>) -> Result<Kind, Unread>
     ensures { Reads (λ k. k) (spec.kind tokens.old) result tokens.new }
 {

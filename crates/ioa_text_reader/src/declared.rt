@@ -57,7 +57,7 @@ impl NamesOfSort {
 }
 
 /// Word {`,` Word}
-#[tactic(auto, unfolding(crate::specs::Reading::words, ioa_cursor::specs::Reading::bind))]
+#[tactic(auto, unfolding(crate::specs::Reading::words, crate::specs::bind))]
 pub(crate) fn words(alloc: Global, tokens: &mut Tokens<'_>) -> Result<Vec<Word>, Unread>
     ensures { Reads (λ v. v.items) (spec.words tokens.old) result tokens.new }
 {
@@ -73,8 +73,8 @@ pub(crate) fn words(alloc: Global, tokens: &mut Tokens<'_>) -> Result<Vec<Word>,
     Ok(words)
 }
 
-/// Word {`,` Word} `:` Sort. `room` is how many brackets more may be opened.
-#[tactic(auto, unfolding(crate::specs::Reading::declared_group, ioa_cursor::specs::Reading::bind))]
+/// Word {`,` Word} `:` Sort. `room` is how many more brackets may be opened.
+#[tactic(auto, unfolding(crate::specs::Reading::declared_group, crate::specs::bind))]
 fn declared_group(
     alloc: Global,
     tokens: &mut Tokens<'_>,
@@ -89,7 +89,7 @@ fn declared_group(
 }
 
 /// Declared {`,` Declared}
-#[tactic(auto, unfolding(crate::specs::Reading::declared_names, ioa_cursor::specs::Reading::bind))]
+#[tactic(auto, unfolding(crate::specs::Reading::declared_names, crate::specs::bind))]
 pub(crate) fn declared_names(
     alloc: Global,
     tokens: &mut Tokens<'_>,
@@ -110,7 +110,7 @@ pub(crate) fn declared_names(
 }
 
 /// `const` Term, or Declared
-#[tactic(auto, unfolding(crate::specs::Reading::parameter_group, ioa_cursor::specs::Reading::bind, ioa_cursor::specs::Reading::choose))]
+#[tactic(auto, unfolding(crate::specs::Reading::parameter_group, crate::specs::bind, crate::specs::choose))]
 fn parameter_group(
     alloc: Global,
     tokens: &mut Tokens<'_>,
@@ -128,7 +128,7 @@ fn parameter_group(
 }
 
 /// Param {`,` Param}
-#[tactic(auto, unfolding(crate::specs::Reading::parameters, ioa_cursor::specs::Reading::bind))]
+#[tactic(auto, unfolding(crate::specs::Reading::parameters, crate::specs::bind))]
 pub(crate) fn parameters(
     alloc: Global,
     tokens: &mut Tokens<'_>,

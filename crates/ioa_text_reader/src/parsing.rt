@@ -17,9 +17,9 @@ use ioa_tokens::{CutFault, LocatedToken, tokens};
 use std::alloc::Global;
 
 /// How many bytes a text has at most.
-const LENGTH_LIMIT: usize = 1_048_576;
+pub(crate) const LENGTH_LIMIT: usize = 1_048_576;
 
-/// What the reader makes of a text.
+/// Reads a text.
 fn read(alloc: Global, text: &str) -> Result<Source, FrontFault>
     ensures { Parses result text.now }
 {
@@ -42,7 +42,7 @@ fn read(alloc: Global, text: &str) -> Result<Source, FrontFault>
     }
 }
 
-/// Why a text of these tokens that ends there is refused.
+/// The refusal of a text with these tokens and of length `end`, for the reader's `unread`.
 fn refusal(unread: &Unread, located: &[LocatedToken<'_>], end: usize) -> FrontFault
     ensures { result ≡ refusal_of unread.now located.now end }
 {
@@ -54,22 +54,27 @@ fn refusal(unread: &Unread, located: &[LocatedToken<'_>], end: usize) -> FrontFa
     }
 }
 
-/// The source that a text spells. A text that spells none is refused: 15 where it is longer than
-/// 1048576 bytes, else 11 or 13 by the first character or number that is no token, else 10 where it
-/// has no token, else 12 at the first token that no text has there, 16 where that is a word that the
-/// profile leaves out, or 14 within a part that is too high. 3 may come in place of any of these but 15,
-/// where memory runs out. Source: profile.
+/// The source that a text spells. A text that spells none is refused. The refusal is `TooLong` (15) if
+/// the text is longer than 1048576 bytes. Else it is `BadCharacter` (11) or `NumberTooLarge` (13) for the
+/// first character or number that is no token, and else `Empty` (10) if there is no token. Else the first
+/// token with which no text goes on is `Unexpected` (12), or `LeftOut` (16) if it is a word that the
+/// profile leaves out, and a part that is too high is `TooDeep` (14). `Memory` (3) may come instead of any
+/// of these but 15, if memory runs out. Source: profile.
 pub fn parse(alloc: Global, text: &str) -> Result<Source, FrontFault>
+    // What comes is right.
     ensures found { IfOk result (λ s. TextSpells (text_of s.text) text.now) }
     ensures refused { IfErr result (λ e. StandsInText e text.now) }
-    ensures exact { (e : FrontFault) → is_exact e ≡ true → StandsInText e text.now → MatchResult result (λ _. ⊥) (λ f. (f ≡ FrontFault.Memory) ⊎ (f ≡ e)) }
+    // What is right comes, or Memory.
+    ensures exact { (e : FrontFault) → is_exact e ≡ true → StandsInText e text.now →
+        MatchResult result (λ _. ⊥) (λ f. (f ≡ FrontFault.Memory) ⊎ (f ≡ e)) }
     ensures long { length_limit < length text.now → MatchResult result (λ _. ⊥) (λ e. e ≡ FrontFault.TooLong) }
-    ensures only { (p : SourceText) → length text.now ≤ length_limit → TextSpells p text.now → MatchResult result (λ s. text_of s.text ≡ p) (λ e. e ≡ FrontFault.Memory) }
+    ensures only { (p : SourceText) → length text.now ≤ length_limit → TextSpells p text.now →
+        MatchResult result (λ s. text_of s.text ≡ p) (λ e. e ≡ FrontFault.Memory) }
 {
     read(alloc, text)
 }
 
-/// The law that tokens spell one source at most.
+/// The law that tokens spell at most one source.
 pub fn one_source()
     ensures { (p q : SourceText) (tokens : List Token) → Spells p tokens → Spells q tokens → p ≡ q }
 {}

@@ -17,7 +17,7 @@ use ioa_tokens::Mark;
 use std::alloc::Global;
 
 /// [`(` [Param {`,` Param}] `)`]
-#[tactic(auto, unfolding(crate::specs::Reading::entry_parameters, ioa_cursor::specs::Reading::bind, ioa_cursor::specs::Reading::choose))]
+#[tactic(auto, unfolding(crate::specs::Reading::entry_parameters, crate::specs::bind, crate::specs::choose))]
 fn entry_parameters(
     alloc: Global,
     tokens: &mut Tokens<'_>,
@@ -36,7 +36,7 @@ fn entry_parameters(
 }
 
 /// [`where` Term]
-#[tactic(auto, unfolding(crate::specs::Reading::condition, ioa_cursor::specs::Reading::bind, ioa_cursor::specs::Reading::choose))]
+#[tactic(auto, unfolding(crate::specs::Reading::condition, crate::specs::bind, crate::specs::choose))]
 fn condition(alloc: Global, tokens: &mut Tokens<'_>) -> Result<Option<Term>, Unread>
     ensures { Reads (option_map term_of) (spec.condition tokens.old) result tokens.new }
 {
@@ -48,7 +48,7 @@ fn condition(alloc: Global, tokens: &mut Tokens<'_>) -> Result<Option<Term>, Unr
 }
 
 /// Word [`(` [Param {`,` Param}] `)`] [`where` Term]
-#[tactic(auto, unfolding(crate::specs::Reading::entry, ioa_cursor::specs::Reading::bind))]
+#[tactic(auto, unfolding(crate::specs::Reading::entry, crate::specs::bind))]
 fn entry(alloc: Global, tokens: &mut Tokens<'_>, kind: Kind) -> Result<Entry<(), ()>, Unread>
     ensures { Reads entry_of (spec.entry kind tokens.old) result tokens.new }
 {
@@ -64,7 +64,7 @@ fn entry(alloc: Global, tokens: &mut Tokens<'_>, kind: Kind) -> Result<Entry<(),
 }
 
 /// Entry {`,` Entry} [`,`]
-#[tactic(auto, unfolding(crate::specs::Reading::entries, ioa_cursor::specs::Reading::bind))]
+#[tactic(auto, unfolding(crate::specs::Reading::entries, crate::specs::bind))]
 fn entries(alloc: Global, tokens: &mut Tokens<'_>, kind: Kind) -> Result<Vec<Entry<(), ()>>, Unread>
     ensures { Reads (λ v. map entry_of v.items) (spec.entries kind tokens.old) result tokens.new }
 {
@@ -80,7 +80,7 @@ fn entries(alloc: Global, tokens: &mut Tokens<'_>, kind: Kind) -> Result<Vec<Ent
 }
 
 /// Kind Entry {`,` Entry} [`,`]
-#[tactic(auto, unfolding(crate::specs::Reading::group, ioa_cursor::specs::Reading::bind))]
+#[tactic(auto, unfolding(crate::specs::Reading::group, crate::specs::bind))]
 fn group(alloc: Global, tokens: &mut Tokens<'_>) -> Result<Vec<Entry<(), ()>>, Unread>
     ensures { Reads (λ v. map entry_of v.items) (spec.group tokens.old) result tokens.new }
 {
@@ -105,7 +105,7 @@ fn groups(alloc: Global, tokens: &mut Tokens<'_>) -> Result<Vec<Entry<(), ()>>, 
 }
 
 /// [`signature` {Kind Entry {`,` Entry} [`,`]}]
-#[tactic(auto, unfolding(crate::specs::Reading::signature_part, ioa_cursor::specs::Reading::choose))]
+#[tactic(auto, unfolding(crate::specs::Reading::signature_part, crate::specs::choose))]
 pub(crate) fn signature_part(
     alloc: Global,
     tokens: &mut Tokens<'_>,

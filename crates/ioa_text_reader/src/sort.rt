@@ -9,9 +9,9 @@ use ioa_source::Sort;
 use ioa_tokens::Mark;
 use std::alloc::Global;
 
-/// Sort. `room` is how many brackets more may be opened.
+/// Sort. `room` is how many more brackets may be opened.
 #[cycle(sort)]
-#[tactic(auto, unfolding(crate::specs::Reading::sort_in, crate::specs::Reading::sort_by, ioa_cursor::specs::Reading::bind, ioa_cursor::specs::Reading::choose))]
+#[tactic(auto, unfolding(crate::specs::Reading::sort_in, crate::specs::bind, crate::specs::choose))]
 pub(crate) fn sort(alloc: Global, tokens: &mut Tokens<'_>, room: usize) -> Result<Sort, Unread>
     ensures { Reads sort_of (spec.sort room tokens.old) result tokens.new }
 {
@@ -29,9 +29,9 @@ pub(crate) fn sort(alloc: Global, tokens: &mut Tokens<'_>, room: usize) -> Resul
     }
 }
 
-/// The sort that a mark begins, behind it. `refusal` is the refusal of the mark.
+/// The sort that a mark begins, after the mark. `refusal` is the refusal of the mark.
 #[cycle(sort)]
-#[tactic(auto, unfolding(crate::specs::Reading::marked_sort, ioa_cursor::specs::Reading::bind))]
+#[tactic(auto, unfolding(crate::specs::Reading::marked_sort, crate::specs::bind))]
 fn marked_sort(
     alloc: Global,
     tokens: &mut Tokens<'_>,
@@ -60,7 +60,7 @@ fn marked_sort(
 
 /// `[` Sort `]`
 #[cycle(sort)]
-#[tactic(auto, unfolding(crate::specs::Reading::item_sort, ioa_cursor::specs::Reading::bind))]
+#[tactic(auto, unfolding(crate::specs::Reading::item_sort, crate::specs::bind))]
 fn item_sort(alloc: Global, tokens: &mut Tokens<'_>, room: usize) -> Result<Sort, Unread>
     ensures { Reads sort_of (spec.item_sort (spec.sort_in room) tokens.old) result tokens.new }
 {
@@ -73,7 +73,7 @@ fn item_sort(alloc: Global, tokens: &mut Tokens<'_>, room: usize) -> Result<Sort
 
 /// `[` Sort `,` Sort `]`
 #[cycle(sort)]
-#[tactic(auto, unfolding(crate::specs::Reading::map_sort, ioa_cursor::specs::Reading::bind))]
+#[tactic(auto, unfolding(crate::specs::Reading::map_sort, crate::specs::bind))]
 fn map_sort(alloc: Global, tokens: &mut Tokens<'_>, room: usize) -> Result<Sort, Unread>
     ensures { Reads sort_of (spec.map_sort (spec.sort_in room) tokens.old) result tokens.new }
 {
@@ -87,7 +87,7 @@ fn map_sort(alloc: Global, tokens: &mut Tokens<'_>, room: usize) -> Result<Sort,
     Ok(Sort::Map(Box::new(alloc, keys)?, Box::new(alloc, values)?))
 }
 
-/// A sort behind a bracket, for which there may be no room: then the refusal is `deep`.
+/// Sort, after a bracket. If there is no room for the bracket, the refusal is `deep`.
 #[cycle(sort)]
 #[tactic(auto, unfolding(crate::specs::Reading::sort_in))]
 fn inner_sort(

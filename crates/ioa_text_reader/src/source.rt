@@ -6,7 +6,7 @@ ghost use Rattle.ioa_source.specs.TextView.{text_of};
 
 use ioa_source::Text;
 
-/// What a text spells. Each value is spelled by some text; `parse` makes them. Source: profile.
+/// The tree of a text. Some text spells each value; `parse` makes them. Source: profile.
 #[derive(Drop)]
 pub struct Source {
     text: Text<(), ()>,
@@ -14,7 +14,7 @@ pub struct Source {
 }
 
 impl Source {
-    /// The source of a tree that some text spells.
+    /// The source with a tree that some text spells.
     pub(crate) fn new(text: Text<(), ()>) -> Self
         requires { ∥ IsSource (text_of text) ∥₁ }
         ensures { result.text ≡ text }

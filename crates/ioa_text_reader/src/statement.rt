@@ -1,4 +1,4 @@
-//! Places and the statements of an effect.
+//! Targets and the statements of an effect.
 
 ghost use Rattle.std.specs.Prelude.{◌≡◌, map};
 ghost use Rattle.ioa_cursor.specs.Outcome.{Reads};
@@ -17,8 +17,8 @@ use ioa_terms::{Statement, Word};
 use ioa_tokens::Mark;
 use std::alloc::Global;
 
-/// Term `]`, behind the word and the first bracket of a place
-#[tactic(auto, unfolding(crate::specs::Reading::key_target, ioa_cursor::specs::Reading::bind))]
+/// Term `]`, after the word `name` and the bracket that opens
+#[tactic(auto, unfolding(crate::specs::Reading::key_target, crate::specs::bind))]
 fn key_target(alloc: Global, tokens: &mut Tokens<'_>, name: Word) -> Result<BuiltTarget, Unread>
     ensures { Reads (λ b. target_of b.target) (spec.key_target name tokens.old) result tokens.new }
 {
@@ -28,7 +28,7 @@ fn key_target(alloc: Global, tokens: &mut Tokens<'_>, name: Word) -> Result<Buil
 }
 
 /// Word, Word `[` Term `]`, or Word `.` Word
-#[tactic(auto, unfolding(crate::specs::Reading::target, ioa_cursor::specs::Reading::bind, ioa_cursor::specs::Reading::choose))]
+#[tactic(auto, unfolding(crate::specs::Reading::target, crate::specs::bind, crate::specs::choose))]
 fn target(alloc: Global, tokens: &mut Tokens<'_>) -> Result<BuiltTarget, Unread>
     ensures { Reads (λ b. target_of b.target) (spec.target tokens.old) result tokens.new }
 {
@@ -43,8 +43,8 @@ fn target(alloc: Global, tokens: &mut Tokens<'_>) -> Result<BuiltTarget, Unread>
     Ok(BuiltTarget::field(name, field))
 }
 
-/// Place `:=` Term
-#[tactic(auto, unfolding(crate::specs::Reading::assignment, ioa_cursor::specs::Reading::bind))]
+/// Target `:=` Term
+#[tactic(auto, unfolding(crate::specs::Reading::assignment, crate::specs::bind))]
 fn assignment(alloc: Global, tokens: &mut Tokens<'_>) -> Result<BuiltStatement, Unread>
     ensures { Reads (λ b. statement_of b.statement) (spec.assignment tokens.old) result tokens.new }
 {
@@ -62,8 +62,8 @@ fn begins_statement(tokens: &Tokens<'_>) -> bool
     tokens.at_word() || tokens.at(Mark::If)
 }
 
-/// The refusal where statements can go no deeper: 14 where one begins, which would be too high, else
-/// that of what comes next. Source: profile.
+/// The refusal at the depth below which no statement is read: `TooDeep` (14) if a statement begins,
+/// which would be too high, else the refusal of what comes next. Source: profile.
 fn refusal_at_depth(tokens: &Tokens<'_>) -> Unread {
     if begins_statement(tokens) {
         tokens.too_deep()
@@ -72,7 +72,7 @@ fn refusal_at_depth(tokens: &Tokens<'_>) -> Unread {
     }
 }
 
-/// Whether statements go on behind a semicolon; takes the semicolon.
+/// Whether statements go on after a semicolon. Goes past the semicolon.
 #[tactic(auto, unfolding(ioa_cursor::specs::Reading::resumes_with))]
 fn resumes_with_statement(tokens: &mut Tokens<'_>) -> bool
     ensures { (result, tokens.new) ≡ cursor.resumes_with mark.Semicolon spec.begins_statement tokens.old }
@@ -84,9 +84,9 @@ fn resumes_with_statement(tokens: &mut Tokens<'_>) -> bool
     }
 }
 
-/// Statement {`;` Statement} [`;`]; the statements in a statement are one less deep.
+/// Statement {`;` Statement} [`;`]. The statements in a statement are read at one depth less.
 #[cycle(statements)]
-#[tactic(auto, unfolding(crate::specs::Reading::statements_in, ioa_cursor::specs::Reading::bind))]
+#[tactic(auto, unfolding(crate::specs::Reading::statements_in, crate::specs::bind))]
 fn statements_in(
     alloc: Global,
     tokens: &mut Tokens<'_>,
@@ -109,15 +109,16 @@ fn statements_in(
     Ok(statements)
 }
 
-/// Place `:=` Term, or `if` Arms [`else` Statements] `fi`
+/// Target `:=` Term, or `if` Arms [`else` Statements] `fi`
 #[cycle(statements)]
-#[tactic(auto, unfolding(crate::specs::Reading::one_statement, ioa_cursor::specs::Reading::choose))]
+#[tactic(auto, unfolding(crate::specs::Reading::one_statement, crate::specs::choose))]
 fn one_statement(
     alloc: Global,
     tokens: &mut Tokens<'_>,
     depth: usize,
 ) -> Result<BuiltStatement, Unread>
-    ensures { Reads (λ b. statement_of b.statement) (spec.one_statement (spec.statements_in depth) tokens.old) result tokens.new }
+    ensures { Reads (λ b. statement_of b.statement)
+        (spec.one_statement (spec.statements_in depth) tokens.old) result tokens.new }
 {
     let deep = tokens.too_deep();
     if tokens.skip(Mark::If) {
@@ -127,17 +128,18 @@ fn one_statement(
     }
 }
 
-/// `if` Arms [`else` Statements] `fi`, behind the first word. `deep` is the refusal of a tree that is
-/// too high.
+/// `if` Arms [`else` Statements] `fi`, after the first word. `deep` is the refusal of a tree that is too
+/// high.
 #[cycle(statements)]
-#[tactic(auto, unfolding(crate::specs::Reading::choice, ioa_cursor::specs::Reading::bind))]
+#[tactic(auto, unfolding(crate::specs::Reading::choice, crate::specs::bind))]
 fn choice(
     alloc: Global,
     tokens: &mut Tokens<'_>,
     depth: usize,
     deep: Unread,
 ) -> Result<BuiltStatement, Unread>
-    ensures { Reads (λ b. statement_of b.statement) (spec.choice (spec.statements_in depth) tokens.old) result tokens.new }
+    ensures { Reads (λ b. statement_of b.statement)
+        (spec.choice (spec.statements_in depth) tokens.old) result tokens.new }
 {
     let arms = all_arms(alloc, tokens, depth)?;
     let rest = rest_of(alloc, tokens, depth)?;
@@ -146,9 +148,10 @@ fn choice(
 
 /// Term `then` Statements {`elseif` Term `then` Statements}
 #[cycle(statements)]
-#[tactic(auto, unfolding(crate::specs::Reading::all_arms, ioa_cursor::specs::Reading::bind))]
+#[tactic(auto, unfolding(crate::specs::Reading::all_arms, crate::specs::bind))]
 fn all_arms(alloc: Global, tokens: &mut Tokens<'_>, depth: usize) -> Result<BuiltArms, Unread>
-    ensures { Reads (λ l. map arm_of l.arms.items) (spec.all_arms (spec.statements_in depth) tokens.old) result tokens.new }
+    ensures { Reads (λ l. map arm_of l.arms.items)
+        (spec.all_arms (spec.statements_in depth) tokens.old) result tokens.new }
 {
     let first = one_arm(alloc, tokens, depth)?;
     let mut arms = BuiltArms::new(alloc).with_arm(first)?;
@@ -164,7 +167,7 @@ fn all_arms(alloc: Global, tokens: &mut Tokens<'_>, depth: usize) -> Result<Buil
 
 /// Term `then` Statements
 #[cycle(statements)]
-#[tactic(auto, unfolding(crate::specs::Reading::one_arm, ioa_cursor::specs::Reading::bind))]
+#[tactic(auto, unfolding(crate::specs::Reading::one_arm, crate::specs::bind))]
 fn one_arm(alloc: Global, tokens: &mut Tokens<'_>, depth: usize) -> Result<BuiltArm, Unread>
     ensures { Reads (λ b. arm_of b.arm) (spec.one_arm (spec.statements_in depth) tokens.old) result tokens.new }
 {
@@ -176,9 +179,10 @@ fn one_arm(alloc: Global, tokens: &mut Tokens<'_>, depth: usize) -> Result<Built
 
 /// [`else` Statements] `fi`
 #[cycle(statements)]
-#[tactic(auto, unfolding(crate::specs::Reading::rest_of, ioa_cursor::specs::Reading::bind, ioa_cursor::specs::Reading::choose))]
+#[tactic(auto, unfolding(crate::specs::Reading::rest_of, crate::specs::bind, crate::specs::choose))]
 fn rest_of(alloc: Global, tokens: &mut Tokens<'_>, depth: usize) -> Result<BuiltStatements, Unread>
-    ensures { Reads (λ l. map statement_of l.statements.items) (spec.rest_of (spec.statements_in depth) tokens.old) result tokens.new }
+    ensures { Reads (λ l. map statement_of l.statements.items) (spec.rest_of (spec.statements_in depth) tokens.old)
+        result tokens.new }
 {
     if !tokens.skip(Mark::Else) {
         tokens.expect(Mark::Fi)?;
@@ -199,7 +203,7 @@ fn statements(alloc: Global, tokens: &mut Tokens<'_>) -> Result<Vec<Statement<()
 }
 
 /// [`eff` Statements]
-#[tactic(auto, unfolding(crate::specs::Reading::effect, ioa_cursor::specs::Reading::choose))]
+#[tactic(auto, unfolding(crate::specs::Reading::effect, crate::specs::choose))]
 pub(crate) fn effect(
     alloc: Global,
     tokens: &mut Tokens<'_>,

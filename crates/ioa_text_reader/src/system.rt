@@ -15,7 +15,7 @@ use ioa_tokens::Mark;
 use std::alloc::Global;
 
 /// `enumeration` `of` Word {`,` Word}, or `tuple` `of` Declared {`,` Declared}
-#[tactic(auto, unfolding(crate::specs::Reading::form, ioa_cursor::specs::Reading::bind, ioa_cursor::specs::Reading::choose))]
+#[tactic(auto, unfolding(crate::specs::Reading::form, crate::specs::bind, crate::specs::choose))]
 fn form(alloc: Global, tokens: &mut Tokens<'_>) -> Result<TypeForm<()>, Unread>
     ensures { Reads form_of (spec.form tokens.old) result tokens.new }
 {
@@ -30,8 +30,8 @@ fn form(alloc: Global, tokens: &mut Tokens<'_>) -> Result<TypeForm<()>, Unread>
     Ok(TypeForm::Tuple(fields))
 }
 
-/// Word `=` Form, behind `type`
-#[tactic(auto, unfolding(crate::specs::Reading::type_declaration, ioa_cursor::specs::Reading::bind))]
+/// Word `=` Form, after `type`
+#[tactic(auto, unfolding(crate::specs::Reading::type_declaration, crate::specs::bind))]
 fn type_declaration(alloc: Global, tokens: &mut Tokens<'_>) -> Result<TypeDeclaration<()>, Unread>
     ensures { Reads type_of (spec.type_declaration tokens.old) result tokens.new }
 {
@@ -50,7 +50,7 @@ fn at_declaration(tokens: &Tokens<'_>) -> bool
 }
 
 /// Type or Automaton
-#[tactic(auto, unfolding(crate::specs::Reading::declaration, ioa_cursor::specs::Reading::bind, ioa_cursor::specs::Reading::choose))]
+#[tactic(auto, unfolding(crate::specs::Reading::declaration, crate::specs::bind, crate::specs::choose))]
 fn declaration(alloc: Global, tokens: &mut Tokens<'_>) -> Result<Declaration<(), ()>, Unread>
     ensures { Reads declaration_of (spec.declaration tokens.old) result tokens.new }
 {
@@ -86,8 +86,8 @@ fn at_placement(tokens: &Tokens<'_>) -> bool
     tokens.at(Mark::Node) || tokens.at(Mark::Channel)
 }
 
-/// Number `:` Call, behind `node`
-#[tactic(auto, unfolding(crate::specs::Reading::node, ioa_cursor::specs::Reading::bind))]
+/// Number `:` Call, after `node`
+#[tactic(auto, unfolding(crate::specs::Reading::node, crate::specs::bind))]
 fn node(alloc: Global, tokens: &mut Tokens<'_>) -> Result<Node<(), ()>, Unread>
     ensures { Reads node_of (spec.node tokens.old) result tokens.new }
 {
@@ -102,7 +102,7 @@ fn node(alloc: Global, tokens: &mut Tokens<'_>) -> Result<Node<(), ()>, Unread>
 }
 
 /// `node` Number `:` Call, or `channel` Number `->` Number
-#[tactic(auto, unfolding(crate::specs::Reading::placement, ioa_cursor::specs::Reading::bind, ioa_cursor::specs::Reading::choose))]
+#[tactic(auto, unfolding(crate::specs::Reading::placement, crate::specs::bind, crate::specs::choose))]
 fn one_placement(alloc: Global, tokens: &mut Tokens<'_>) -> Result<Placement<(), ()>, Unread>
     ensures { Reads placement_of (spec.placement tokens.old) result tokens.new }
 {
@@ -133,7 +133,7 @@ fn placements(alloc: Global, tokens: &mut Tokens<'_>) -> Result<Vec<Placement<()
 }
 
 /// {Type or Automaton} `system` {Node or Channel}, and then the end
-#[tactic(auto, unfolding(crate::specs::Reading::whole, ioa_cursor::specs::Reading::bind))]
+#[tactic(auto, unfolding(crate::specs::Reading::whole, crate::specs::bind))]
 pub(crate) fn whole(alloc: Global, tokens: &mut Tokens<'_>) -> Result<Text<(), ()>, Unread>
     ensures { Reads text_of (spec.whole tokens.old) result tokens.new }
 {
