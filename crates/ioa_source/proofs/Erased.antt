@@ -1,4 +1,4 @@
--- What is spelled has nothing to erase.
+-- A text as it is spelled has no annotation to erase.
 use Rattle.std.proofs.Common.{◌≡◌, List, [], ◌∷◌, Option, Some, None, map, refl, ap}
 use Rattle.std.specs.Option.{option_map}
 use Rattle.ioa_terms.specs.PlainTerm.{number, truth, name, one, two, call, display, field, no_terms, term, variable, at_key, at_field, assign, choose, fire, no_statements, statement, no_arms, arm}
@@ -6,7 +6,7 @@ use Rattle.ioa_source.specs.PlainText.{const, named, enumeration, tuple_of, type
 use Rattle.ioa_source.specs.Sides.{SourceTerm, SourceTerms, SourceTarget, SourceStatement, SourceStatements, SourceArms, SourceDeclared, SourceParameter, SourceEntry, SourceVariable, SourceTransition, SourceAutomaton, SourceForm, SourceType, SourceDeclaration, SourceNode, SourcePlacement, SourceText}
 use Rattle.ioa_source.specs.Erasure.{erase_term, erase_terms, erase_target, erase_statement, erase_statements, erase_arms, erase_declared, erase_parameter, erase_entry, erase_variable, erase_transition, erase_automaton, erase_form, erase_type, erase_declaration, erase_node, erase_placement, erase}
 
--- what changes no item changes no list, and nothing that may be there
+-- a function that changes no item changes no list, and no option
 each : {A : Type 0} (f : A → A) → ((x : A) → f x ≡ x) → (xs : List A) → map f xs ≡ xs
 each f same [] = refl
 each f same (x ∷ xs) = λ i. same x i ∷ each f same xs i

@@ -1,4 +1,4 @@
--- Two proofs that two texts are the same are the same: what texts are made of is data.
+-- Two proofs that two texts are the same are the same, since the parts of texts are plain data.
 use Rattle.std.proofs.Common.{◌≡◌, ℕ, List, Option, Some, None, refl}
 use Rattle.std.proofs.Math.IntN.{ℤ_set}
 use Rattle.std.proofs.Math.Nat.{ℕ_set}
@@ -38,7 +38,7 @@ unfolding as_option as_maybe
 as_it_was None = refl
 as_it_was (Some a) = refl
 
--- what may be there is a set where what there is is one
+-- the options of a set are a set
 pub Option-set : {A : Type 0} → IsSet A → IsSet (Option A)
 Option-set s = retract_set as_maybe as_option as_it_was (maybe_set s)
 

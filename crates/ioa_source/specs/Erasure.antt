@@ -1,10 +1,19 @@
--- A checked text without what stands beside its names, displays, fields, assigned variables and declared sorts: the text
--- as it is spelled (profile).
+-- A checked text without the annotations of its names, displays, fields, assigned variables and declared sorts:
+-- the text as it is spelled (profile).
 use Rattle.std.specs.Prelude.{map}
 use Rattle.std.specs.Option.{option_map}
-use Rattle.ioa_terms.specs.PlainTerm.{PlainTerm, PlainTerms, number, truth, name, one, two, call, display, field, no_terms, term, PlainTarget, variable, at_key, at_field, PlainStatement, PlainStatements, PlainArms, assign, choose, fire, no_statements, statement, no_arms, arm}
-use Rattle.ioa_source.specs.PlainText.{PlainDeclared, PlainParameter, const, named, PlainEntry, PlainVariable, PlainTransition, PlainAutomaton, PlainForm, enumeration, tuple_of, PlainType, PlainDeclaration, type_named, automaton, PlainNode, PlainPlacement, node, channel, PlainText}
-use Rattle.ioa_source.specs.Sides.{SourceTerm, SourceTerms, SourceTarget, SourceStatement, SourceStatements, SourceArms, SourceDeclared, SourceParameter, SourceEntry, SourceVariable, SourceTransition, SourceAutomaton, SourceForm, SourceType, SourceDeclaration, SourceNode, SourcePlacement, SourceText}
+use Rattle.ioa_terms.specs.PlainTerm.{PlainTerm, PlainTerms, PlainTarget, PlainStatement, PlainStatements, PlainArms}
+use Rattle.ioa_terms.specs.PlainTerm.{number, truth, name, one, two, call, display, field, no_terms, term}
+use Rattle.ioa_terms.specs.PlainTerm.{variable, at_key, at_field, assign, choose, fire}
+use Rattle.ioa_terms.specs.PlainTerm.{no_statements, statement, no_arms, arm}
+use Rattle.ioa_source.specs.PlainText.{PlainDeclared, PlainParameter, PlainEntry, PlainVariable, PlainTransition}
+use Rattle.ioa_source.specs.PlainText.{PlainAutomaton, PlainForm, PlainType, PlainDeclaration}
+use Rattle.ioa_source.specs.PlainText.{PlainNode, PlainPlacement, PlainText}
+use Rattle.ioa_source.specs.PlainText.{const, named, enumeration, tuple_of, type_named, automaton, node, channel}
+use Rattle.ioa_source.specs.Sides.{SourceTerm, SourceTerms, SourceTarget, SourceStatement, SourceStatements, SourceArms}
+use Rattle.ioa_source.specs.Sides.{SourceDeclared, SourceParameter, SourceEntry, SourceVariable, SourceTransition}
+use Rattle.ioa_source.specs.Sides.{SourceAutomaton, SourceForm, SourceType, SourceDeclaration}
+use Rattle.ioa_source.specs.Sides.{SourceNode, SourcePlacement, SourceText}
 
 abbrev mutual
   -- a term without annotations
@@ -50,7 +59,12 @@ erase_parameter (const t) = const (erase_term t)
 erase_parameter (named d) = named (erase_declared d)
 
 abbrev pub erase_entry : {N D : Type 0} → PlainEntry N D → SourceEntry
-erase_entry e = record { kind = e.kind; name = e.name; parameters = map erase_parameter e.parameters; condition = option_map erase_term e.condition }
+erase_entry e = record {
+  kind = e.kind;
+  name = e.name;
+  parameters = map erase_parameter e.parameters;
+  condition = option_map erase_term e.condition;
+}
 
 abbrev pub erase_variable : {N D : Type 0} → PlainVariable N D → SourceVariable
 erase_variable v = record { declared = erase_declared v.declared; initial = option_map erase_term v.initial }

@@ -1,4 +1,4 @@
--- what the contracts of this crate and of those above it cite
+-- the definitions that the contracts of this crate and of the crates above it cite
 pub mod PlainSort
 pub mod SortView
 pub mod PlainText

@@ -1,4 +1,4 @@
--- Sorts as a text spells them (profile), without where they lie in memory.
+-- Sorts as a text spells them (profile), as plain data without memory.
 use Rattle.std.specs.Prelude.{ℕ, List}
 
 -- a sort: of truth values, of whole numbers, of those from 0 on, of sequences, of finite sets, of finite maps from keys

@@ -1,5 +1,5 @@
--- What a text declares (profile; automata and transitions Lynch 8.1), without where it lies in memory. `N` stands beside a name, `D` beside a display, a field, an
--- assigned variable and a declared sort.
+-- What a text declares (profile; automata and transitions Lynch 8.1), as plain data without memory. `N` annotates
+-- each name that a term or a target reads; `D` annotates each display, field, assigned variable and declared sort.
 use Rattle.std.specs.Prelude.{ℕ, ℤ, List, Option}
 use Rattle.ioa_terms.specs.declared.tree.Kind.{Kind}
 use Rattle.ioa_terms.specs.PlainTerm.{PlainTerm, PlainStatement}
@@ -19,7 +19,7 @@ pub data PlainParameter (N D : Type 0) : Type 0 where
   named : PlainDeclared D → PlainParameter N D
   deriving IsSet as PlainParameter-set
 
--- an entry of a signature, with the condition behind `where`, where one is written
+-- an entry of a signature, with the condition behind `where`, if one is written
 pub record PlainEntry (N D : Type 0) : Type 0 where
   pub kind : Kind
   pub name : List ℕ
@@ -27,7 +27,7 @@ pub record PlainEntry (N D : Type 0) : Type 0 where
   pub condition : Option (PlainTerm N D)
   deriving IsSet as PlainEntry-set
 
--- a state variable, with the term of its value in the start state, where one is written
+-- a state variable, with the term of its value in the start state, if one is written
 pub record PlainVariable (N D : Type 0) : Type 0 where
   pub declared : PlainDeclared D
   pub initial : Option (PlainTerm N D)
@@ -64,7 +64,7 @@ pub record PlainType (D : Type 0) : Type 0 where
   pub form : PlainForm D
   deriving IsSet as PlainType-set
 
--- what stands before the system
+-- a declaration, before the system section
 pub data PlainDeclaration (N D : Type 0) : Type 0 where
   type_named : PlainType D → PlainDeclaration N D
   automaton : PlainAutomaton N D → PlainDeclaration N D
@@ -77,7 +77,7 @@ pub record PlainNode (N D : Type 0) : Type 0 where
   pub arguments : List (PlainTerm N D)
   deriving IsSet as PlainNode-set
 
--- what stands in the system section
+-- an item of the system section
 pub data PlainPlacement (N D : Type 0) : Type 0 where
   node : PlainNode N D → PlainPlacement N D
   channel : Channel → PlainPlacement N D

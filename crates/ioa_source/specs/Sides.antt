@@ -1,12 +1,14 @@
--- The two sides that a text has (form). As it is spelled nothing stands beside a name, a display, a field, an assigned
--- variable or a declared sort. In a checked system the place of its value stands beside a name, and a shape beside the
--- others.
+-- The two annotations of trees, in the two forms that they have (form). In a text as it is spelled both are nothing.
+-- In a checked system a name has the slot of its value, and each display, field, assigned variable and declared sort
+-- has a shape.
 use Rattle.std.specs.Prelude.{ℕ}
 use Rattle.ioa_operators.specs.declared.shape.Shape.{Shape}
 use Rattle.ioa_terms.specs.PlainTerm.{PlainTerm, PlainTerms, PlainTarget, PlainStatement, PlainStatements, PlainArms}
-use Rattle.ioa_source.specs.PlainText.{PlainDeclared, PlainParameter, PlainEntry, PlainVariable, PlainTransition, PlainAutomaton, PlainForm, PlainType, PlainDeclaration, PlainNode, PlainPlacement, PlainText}
+use Rattle.ioa_source.specs.PlainText.{PlainDeclared, PlainParameter, PlainEntry, PlainVariable, PlainTransition}
+use Rattle.ioa_source.specs.PlainText.{PlainAutomaton, PlainForm, PlainType, PlainDeclaration}
+use Rattle.ioa_source.specs.PlainText.{PlainNode, PlainPlacement, PlainText}
 
--- what a text spells
+-- the trees of a text as it is spelled
 abbrev pub SourceTerm : Type 0
 SourceTerm = PlainTerm (Unit {0}) (Unit {0})
 
@@ -61,7 +63,7 @@ SourcePlacement = PlainPlacement (Unit {0}) (Unit {0})
 abbrev pub SourceText : Type 0
 SourceText = PlainText (Unit {0}) (Unit {0})
 
--- what a checked system holds
+-- the trees of a checked system
 abbrev pub CheckedTerm : Type 0
 CheckedTerm = PlainTerm ℕ Shape
 

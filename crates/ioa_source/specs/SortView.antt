@@ -1,4 +1,4 @@
--- What the sorts of the code stand for (view).
+-- The plain data of the code's sorts (view).
 use Rattle.ioa_source.specs.PlainSort.{PlainSort, booleans, integers, naturals, sequences, sets, maps, named_type}
 use Rattle.ioa_source.specs.declared.sort.Sort.{Sort, fold-Sort}
 use Rattle.ioa_source.specs.declared.sort.Sort.TheOpen.{Sort-F}

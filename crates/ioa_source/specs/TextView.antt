@@ -1,9 +1,12 @@
--- What the trees of the code stand for (view).
+-- The plain data of the code's trees (view).
 use Rattle.std.specs.Prelude.{map}
 use Rattle.std.specs.Option.{option_map}
 use Rattle.ioa_terms.specs.View.{term_of, statement_of}
 use Rattle.ioa_source.specs.SortView.{sort_of}
-use Rattle.ioa_source.specs.PlainText.{PlainDeclared, PlainParameter, const, named, PlainEntry, PlainVariable, PlainTransition, PlainAutomaton, PlainForm, enumeration, tuple_of, PlainType, PlainDeclaration, type_named, automaton, PlainNode, PlainPlacement, node, channel, PlainText}
+use Rattle.ioa_source.specs.PlainText.{PlainDeclared, PlainParameter, PlainEntry, PlainVariable, PlainTransition}
+use Rattle.ioa_source.specs.PlainText.{PlainAutomaton, PlainForm, PlainType, PlainDeclaration}
+use Rattle.ioa_source.specs.PlainText.{PlainNode, PlainPlacement, PlainText}
+use Rattle.ioa_source.specs.PlainText.{const, named, enumeration, tuple_of, type_named, automaton, node, channel}
 use Rattle.ioa_source.specs.declared.declaration.Declared.{Declared}
 use Rattle.ioa_source.specs.declared.declaration.Parameter.{Parameter}
 use Rattle.ioa_source.specs.declared.declaration.Parameter.TheVariants as parameter
@@ -29,7 +32,12 @@ parameter_of (parameter.Const t) = const (term_of t)
 parameter_of (parameter.Declared d) = named (declared_of d)
 
 abbrev pub entry_of : {N D : Type 0} → Entry N D → PlainEntry N D
-entry_of e = record { kind = e.kind; name = e.name; parameters = map parameter_of e.parameters.items; condition = option_map term_of e.condition }
+entry_of e = record {
+  kind = e.kind;
+  name = e.name;
+  parameters = map parameter_of e.parameters.items;
+  condition = option_map term_of e.condition;
+}
 
 abbrev pub variable_of : {N D : Type 0} → Variable N D → PlainVariable N D
 variable_of v = record { declared = declared_of v.declared; initial = option_map term_of v.initial }

@@ -1,6 +1,7 @@
-//! What a text declares. `N` stands beside each name that a term or a place reads: nothing in a text,
-//! the place of its value in a checked system. `D` stands beside a display, a field, an assigned
-//! variable and a declared sort: nothing in a text, a shape in a checked system.
+//! What a text declares. The trees have two annotations. `N` annotates each name that a term or a
+//! target reads: with nothing in a text, with the slot of its value in a checked system. `D` annotates
+//! each display, field, assigned variable and declared sort: with nothing in a text, with a shape in a
+//! checked system.
 
 use crate::sort::Sort;
 use ioa_terms::{Kind, Statement, Tree, Word};
@@ -12,7 +13,7 @@ pub struct Declared<D> {
     pub name: Word,
     /// The sort of its values, as it is spelled.
     pub sort: Sort,
-    /// What the sort stands for, where it is known.
+    /// The shape of the sort's values, in a checked system.
     pub shape: D,
 }
 
@@ -32,9 +33,9 @@ pub struct Entry<N, D> {
     pub kind: Kind,
     /// The actions' name.
     pub name: Word,
-    /// What their arguments are.
+    /// The parameters, one for each argument of an action.
     pub parameters: Vec<Parameter<N, D>>,
-    /// Which of them the actions are, where it is written: behind `where`.
+    /// The condition behind `where`, if one is written: only actions that meet it are in the signature.
     pub condition: Option<Tree<N, D>>,
 }
 
@@ -43,7 +44,7 @@ pub struct Entry<N, D> {
 pub struct Variable<N, D> {
     /// Its name and sort.
     pub declared: Declared<D>,
-    /// The term of its value in the start state, where one is written.
+    /// The term of its value in the start state, if one is written.
     pub initial: Option<Tree<N, D>>,
 }
 
@@ -56,7 +57,7 @@ pub struct Transition<N, D> {
     pub name: Word,
     /// The head's arguments, which repeat the entry's parameters.
     pub arguments: Vec<Tree<N, D>>,
-    /// The guard, where one is written.
+    /// The guard, if one is written.
     pub pre: Option<Tree<N, D>>,
     /// The effect's statements in order.
     pub effect: Vec<Statement<N, D>>,
@@ -67,7 +68,7 @@ pub struct Transition<N, D> {
 pub struct Automaton<N, D> {
     /// Its name.
     pub name: Word,
-    /// Its parameters, which a node gives values.
+    /// Its parameters, to which a node gives values.
     pub parameters: Vec<Declared<D>>,
     /// The entries of its signature.
     pub signature: Vec<Entry<N, D>>,
@@ -75,7 +76,7 @@ pub struct Automaton<N, D> {
     pub states: Vec<Variable<N, D>>,
     /// Its transitions.
     pub transitions: Vec<Transition<N, D>>,
-    /// The statements of its schedule block; none where it has no block.
+    /// The statements of its schedule block; none if it has no block.
     pub schedule: Vec<Statement<N, D>>,
 }
 
@@ -97,7 +98,7 @@ pub struct TypeDeclaration<D> {
     pub form: TypeForm<D>,
 }
 
-/// What stands in a text before its system (profile).
+/// A declaration of a text, before the system section (profile).
 #[derive(Drop)]
 pub enum Declaration<N, D> {
     /// A type.
@@ -126,7 +127,7 @@ pub struct Channel {
     pub to: i64,
 }
 
-/// What stands in the system section (profile).
+/// An item of the system section (profile).
 #[derive(Drop)]
 pub enum Placement<N, D> {
     /// A node.
@@ -138,8 +139,8 @@ pub enum Placement<N, D> {
 /// A whole text (profile).
 #[derive(Drop)]
 pub struct Text<N, D> {
-    /// What it declares before the system, in order.
+    /// The declarations before the system section, in order.
     pub declarations: Vec<Declaration<N, D>>,
-    /// What the system section places, in order.
+    /// The nodes and channels of the system section, in order.
     pub system: Vec<Placement<N, D>>,
 }

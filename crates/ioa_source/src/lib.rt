@@ -1,4 +1,4 @@
-//! Texts as trees: types, automata with their schedules, and the system that places them.
+//! Texts as trees: types, automata with their schedules, and the system section.
 #![tactic(auto)]
 
 mod declaration;

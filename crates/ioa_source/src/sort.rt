@@ -6,7 +6,7 @@ ghost use Rattle.ioa_source.specs.SortView.{sort_of};
 use ioa_terms::Word;
 use std::alloc::{AllocError, Global};
 
-/// A sort as a text spells it. Source: profile.
+/// A sort as a text spells it (profile).
 #[derive(Drop)]
 pub enum Sort {
     /// `Bool`: the truth values.

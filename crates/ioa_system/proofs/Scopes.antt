@@ -1,4 +1,4 @@
--- The place of a name.
+-- The slot of a name.
 use Rattle.std.proofs.Common.{◌≡◌, ℕ, suc, ◌+◌, Bool, true, false, List, [], ◌∷◌, Option, Some, None, refl, ap, ◌∙◌, length, cond, ltb, arith, if◌then◌else◌}
 use Rattle.std.specs.Prelude.{not}
 use Rattle.std.proofs.lemmas.Bool.Decides.{nat_tests}
@@ -14,7 +14,7 @@ first_or_later : (t : Bool) (k many : ℕ) → cond (ltb (cond (not t) (1 + k) 0
 first_or_later true k many = let e : ltb 0 (suc many) ≡ true = grind (arith, nat_tests) in rw e refl
 first_or_later false k many = let e : ltb (1 + k) (suc many) ≡ ltb k many = grind (arith, nat_tests) in rw e (shifted (ltb k many) k)
 
--- the first place by a test is the first place of the name
+-- the first position that passes the test is the slot of the name
 pub position_slot : (names : List (List ℕ)) (x : List ℕ) → position (same_name x) names ≡ slot_in x names
 position_slot [] x = refl
 position_slot (n ∷ names) x =

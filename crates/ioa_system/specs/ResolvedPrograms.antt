@@ -1,4 +1,4 @@
--- When each name that a step reads stands beside the place of its value (profile).
+-- When each name that a step reads is resolved to the slot of its value (profile).
 use Rattle.std.specs.Prelude.{◌≡◌, ℕ, List, [], ◌∷◌, ◌++◌, Option, Some, None, map, length, All}
 use Rattle.std.specs.List.{AllByRecursion}
 use Rattle.ioa_terms.specs.Resolved.{IsResolved, AreResolved}
@@ -28,21 +28,22 @@ variable_names vs = map (λ v. v.declared.name) vs
 abbrev pub scope_of : {N D M E : Type 0} → PlainEntry N D → List (PlainVariable M E) → List (List ℕ)
 scope_of e vs = variable_names vs ++ own_names e.parameters
 
--- a constant parameter reads no name
+-- a constant parameter reads no name; of another nothing is said
 abbrev pub IsResolvedParameter : CheckedParameter → Type 0
 IsResolvedParameter (const t) = IsResolved t []
 IsResolvedParameter (named d) = Unit {0}
 
+-- the same of each parameter
 abbrev pub AreResolvedParameters : List CheckedParameter → Type 0
 AreResolvedParameters ps = AllByRecursion IsResolvedParameter ps
 
+-- the names of a term, if there is one, are resolved among these names
 abbrev pub IsResolvedGuard : Option CheckedTerm → List (List ℕ) → Type 0
 IsResolvedGuard None names = Unit {0}
 IsResolvedGuard (Some t) names = IsResolved t names
 
--- a rule in which the names that its step reads or assigns stand beside the places of their values: those of constant
--- parameters, of the entry's condition, of guard and of effect, which assigns state variables alone. No step reads the
--- arguments of the head.
+-- a rule in which the names that its step reads or assigns are resolved: those of constant parameters, of the entry's
+-- condition, of guard and of effect. The effect assigns state variables alone. No step reads the arguments of the head.
 pub record IsResolvedRule (vs : List CheckedVariable) (r : Rule) : Type 0 where
   pub scope : r.scope ≡ scope_of (entry_of r.entry) vs
   pub parameters : AreResolvedParameters (entry_of r.entry).parameters
@@ -50,21 +51,22 @@ pub record IsResolvedRule (vs : List CheckedVariable) (r : Rule) : Type 0 where
   pub guard : IsResolvedGuard (transition_of r.transition).pre r.scope
   pub effect : AreResolved (transition_of r.transition).effect (variable_names vs) r.scope
 
--- each of terms is placed among these names
+-- the names of each term are resolved among these names
 abbrev pub AreResolvedTerms : List CheckedTerm → List (List ℕ) → Type 0
 AreResolvedTerms ts names = AllByRecursion (λ t. IsResolved t names) ts
 
--- each argument of a firing is placed among the variables; of another statement of a schedule nothing is said
+-- the names of a firing's arguments are resolved among the variables; of another statement nothing is said
 abbrev pub IsResolvedFiring : CheckedStatement → List (List ℕ) → Type 0
 IsResolvedFiring (assign p t) names = Unit {0}
 IsResolvedFiring (choose arms rest) names = Unit {0}
 IsResolvedFiring (fire k a ts) names = AreResolvedTerms ts names
 
+-- the same of each statement of a schedule block
 abbrev pub AreResolvedFirings : List CheckedStatement → List (List ℕ) → Type 0
 AreResolvedFirings ss names = AllByRecursion (λ s. IsResolvedFiring s names) ss
 
--- a program with an initial value for each variable, in which the names that a step or a firing of the schedule reads
--- stand beside the places of their values
+-- a program in which each name that a step or a firing of the schedule reads is resolved, and which has an initial
+-- value for each state variable
 pub record IsResolvedProgram (p : Parts) : Type 0 where
   pub rules : All (IsResolvedRule (map variable_of p.variables)) p.rules
   pub valued : length p.initial ≡ length p.variables

@@ -1,4 +1,4 @@
--- What a checked system is made of (view).
+-- The parts of a checked system, as plain data (view).
 use Rattle.std.specs.Prelude.{ℕ, List, refl}
 use Rattle.std.specs.Coded.{Coded, code_by, coded×, coded_ℕ, coded_list}
 use Rattle.ioa_source.specs.declared.declaration.Channel.{Channel}
@@ -11,9 +11,11 @@ pub record SystemParts : Type 0 where
   pub programs : List Parts
   pub channels : List Channel
 
+-- a system of these parts
 abbrev pub system : List (List ℕ) → List Parts → List Channel → SystemParts
 system ns ps cs = record { names = ns; programs = ps; channels = cs }
 
+-- the code of the parts: a nest of pairs
 abbrev pub system_code : Coded SystemParts
 system_code =
     code_by (List (List ℕ) × (List Parts × List Channel))

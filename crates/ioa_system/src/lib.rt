@@ -1,4 +1,5 @@
-//! Checked systems: the programs of nodes, whose names stand beside the places of their values, and channels.
+//! Checked systems: the programs of nodes, in which names are resolved to the slots of their values,
+//! and channels.
 #![tactic(auto)]
 
 mod program;

@@ -19,12 +19,12 @@ pub struct Rule {
     pub entry: Entry<usize, Shape>,
     /// Its transition.
     pub transition: Transition<usize, Shape>,
-    /// The names that guard and effect may read, each at the place that stands beside it there.
+    /// The names in view in guard and effect. The slot of a name there is its index among these.
     pub scope: Scope,
 }
 
-/// A node's program. Its type keeps that each name that a step or a firing of the schedule reads
-/// stands beside the place of its value, and that each state variable has an initial value.
+/// A node's program. Its type guarantees that each name that a step or a firing of the schedule reads
+/// is resolved to the slot of its value, and that each state variable has an initial value.
 #[derive(Drop)]
 pub struct Program {
     node: i64,
@@ -47,7 +47,8 @@ impl Model for Program {
 
     ghost use Rattle.ioa_system.specs.ResolvedPrograms.{IsResolvedProgram};
 
-    ghost invariant = { λ p. IsResolvedProgram (parts p.node p.rules.items p.variables.items p.initial.items p.schedule.items) };
+    ghost invariant = { λ p.
+        IsResolvedProgram (parts p.node p.rules.items p.variables.items p.initial.items p.schedule.items) };
 }
 
 impl Program {
@@ -107,7 +108,8 @@ impl Program {
     /// The statements of the schedule block.
     pub fn schedule(&self) -> &[Statement<usize, Shape>]
         ensures value { result.now ≡ self.now.schedule }
-        ensures resolved { AreResolvedFirings (map statement_of result.now) (variable_names (map variable_of self.now.variables)) }
+        ensures resolved { AreResolvedFirings (map statement_of result.now)
+            (variable_names (map variable_of self.now.variables)) }
     {
         self.schedule.as_slice()
     }

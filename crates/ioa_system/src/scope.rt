@@ -1,4 +1,4 @@
-//! Names in view, numbered in the order in which they are first declared.
+//! Names in view. The slot of a name is its index in the order of declaration, counted from 0.
 
 ghost use Rattle.std.specs.Prelude.{◌≡◌, ◌++◌, [], ◌∷◌, IfOk, OnOk, OnErr, MatchBool, not};
 ghost use Rattle.std.specs.List.{list_any, IsDistinct};
@@ -9,7 +9,7 @@ use ioa_terms::Word;
 use std::alloc::{AllocError, Global};
 use std::marker::Model;
 
-/// Names that differ from each other, each at the place of its declaration. A contract sees the list.
+/// Names that differ from each other, in the order of declaration. A contract sees the list.
 #[derive(Drop)]
 pub struct Scope {
     names: IndexSet<Word>,
@@ -33,10 +33,11 @@ impl Scope {
         }
     }
 
-    /// Declares a name behind the others, where it is new; tells whether it was. Where memory runs
-    /// out the names stay as they were.
+    /// Declares a name behind the others if it is new, and returns whether it was. If memory runs
+    /// out the names are left as they were.
     pub fn declare(&mut self, name: Word) -> Result<bool, AllocError>
-        ensures ok { IfOk result (λ fresh. MatchBool fresh (self.new ≡ self.old ++ name ∷ []) (self.new ≡ self.old)) }
+        ensures ok { IfOk result (λ fresh.
+            MatchBool fresh (self.new ≡ self.old ++ name ∷ []) (self.new ≡ self.old)) }
         ensures fresh { IfOk result (λ fresh. fresh ≡ not (list_any (same_name name) self.old)) }
         ensures differ { OnOk result (IsDistinct same_name self.old → IsDistinct same_name self.new) }
         ensures err { OnErr result (self.new ≡ self.old) }
@@ -45,7 +46,7 @@ impl Scope {
         Ok(fresh)
     }
 
-    /// The place of a name, where it is declared.
+    /// The slot of a name, if it is declared.
     #[tactic(auto, using(crate::proofs::Scopes::position_slot))]
     pub fn slot_of(&self, name: &Word) -> Option<usize>
         ensures { result ≡ slot_in name.now self.now }

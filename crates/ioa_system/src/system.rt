@@ -33,7 +33,7 @@ impl Model for System {
 }
 
 impl System {
-    /// The system of these constants, programs and channels, which are taken as they are.
+    /// The system of these constants, programs and channels. Nothing is checked of them here.
     pub fn new(names: Names, programs: Vec<Arc<Program>>, channels: Vec<Channel>) -> Self
         ensures { result ≡ system names (map arc_value programs.items) channels.items }
     {
