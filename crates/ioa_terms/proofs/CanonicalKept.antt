@@ -12,14 +12,13 @@ use Rattle.ioa_terms.specs.PlainTerm.{PlainTerm, PlainTerms, name, one, two, cal
 use Rattle.ioa_terms.specs.Meaning.{value, values, named_call_value}
 use Rattle.ioa_terms.specs.Performance.{target_name, target_shape, updated_map, assignment_value, fitting_value, test_value, by_test, after_one, after_choice, after_all, after}
 use Rattle.ioa_terms.specs.Ascending.{IsAscendingEnvironment}
-use Rattle.ioa_terms.proofs.ShapesKept.{one_or_other}
 use Rattle.ioa_operators.proofs.Canonicals.{unary_canonical, binary_canonical, call_canonical, display_canonical, field_canonical, with_field_canonical}
 use Rattle.ioa_operators.specs.declared.operator.BinaryOperator.{BinaryOperator}
 use Rattle.ioa_operators.specs.declared.operator.BinaryOperator.TheVariants.{Implies, Or, And}
 use Rattle.ioa_operators.specs.declared.operator.Function.{Function}
 use Rattle.ioa_operators.specs.declared.operator.Function.TheVariants as function
 use Rattle.ioa_operators.specs.declared.shape.Shape.{Shape}
-use Rattle.ioa_operators.proofs.Canonicals.{map_holds, and_then_holds}
+use Rattle.ioa_operators.proofs.Holding.{map_holds, and_then_holds, or_holds}
 
 -- what holds of both of two holds of the one that is chosen
 by_condition : {A : Type 0} (P : A → Type 0) (b : Bool) (x y : A) → P x → P y → P (if b then x else y)
@@ -66,7 +65,7 @@ mutual
   term_canonical e g (one op a) = and_then_holds IsCanonical IsCanonical (unary_value op) (value a e) (term_canonical e g a) (λ v h. unary_canonical op v)
   term_canonical e g (two op a b) =
       and_then_holds IsCanonical IsCanonical (λ v. option_or (left_decision op v) (option_and_then (binary_value op v) (value b e))) (value a e) (term_canonical e g a)
-      (λ v h. one_or_other IsCanonical (left_decision op v) (option_and_then (binary_value op v) (value b e)) (decision_canonical op v)
+      (λ v h. or_holds IsCanonical (left_decision op v) (option_and_then (binary_value op v) (value b e)) (decision_canonical op v)
       (and_then_holds IsCanonical IsCanonical (binary_value op v) (value b e) (term_canonical e g b) (λ w k. binary_canonical op v w h k)))
   term_canonical e g (call w ts) = and_then_holds AllCanonical IsCanonical (named_call_value w) (values ts e) (terms_canonical e g ts) (function_canonical (function_named w))
   term_canonical e g (display form d ts) =

@@ -2,7 +2,6 @@
 pub mod Stepwise
 pub mod Performed
 pub mod Slots
-pub mod Commas
 pub mod ShapesKept
 pub mod Sound
 pub mod SameActions

@@ -138,7 +138,7 @@ mutual
 pub stepwise_by_is : {N : Type 0} (ss : List (PlainStatement N Shape)) (e : Bindings) → stepwise_all (statements_of ss) e ≡ answer_by ss e
 stepwise_by_is ss e = stepwise_all_is (statements_of ss) e
 
--- statements of a list are placed one by one
+-- statements of a list are resolved one by one
 pub all_resolved : {D : Type 0} (ss : List (PlainStatement ℕ D)) (variables names : List (List ℕ)) → AreResolved ss variables names → AreAllResolved (statements_of ss) variables names
 all_resolved [] variables names h = tt
 all_resolved (s ∷ ss) variables names h = (h.0, all_resolved ss variables names h.1)

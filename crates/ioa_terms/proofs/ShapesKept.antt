@@ -1,16 +1,16 @@
 -- Values that operators, functions, displays and fields make of values with their shapes have theirs.
-use Rattle.std.proofs.Common.{◌≡◌, ℕ, zero, suc, ℤ, Bool, true, false, List, [], ◌∷◌, ◌++◌, Option, Some, None, refl, subst, if◌then◌else◌}
-use Rattle.std.specs.Prelude.{slice_get, pos, int_le, int_lt, ◌+ℤ◌, ◌-ℤ◌, ◌*ℤ◌, neg_ℤ, not, ◌&&◌, ◌||◌}
+use Rattle.std.proofs.Common.{◌≡◌, ℕ, zero, suc, Bool, true, false, List, [], ◌∷◌, ◌++◌, Option, Some, None, refl, subst, if◌then◌else◌}
+use Rattle.std.specs.Prelude.{slice_get, int_le, int_lt, ◌+ℤ◌, ◌-ℤ◌, ◌*ℤ◌, neg_ℤ, not, ◌&&◌, ◌||◌}
 use Rattle.std.specs.Int.{int_div_euclid, int_rem_euclid}
 use Rattle.std.specs.List.{AllByRecursion}
 use Rattle.std.specs.Option.{IfSome, option_and_then, option_map, option_or}
 use Rattle.ioa_values.proofs.AllOf.{all_appended}
-use Rattle.ioa_values.proofs.Ascending.{by_each, all_with, all_without}
-use Rattle.ioa_operators.proofs.Canonicals.{all_of_list, all_of_either, map_holds, and_then_holds, map_holds_any, and_then_holds_any}
+use Rattle.ioa_values.proofs.AllKept.{all_of_list, all_of_either, all_with_entry, all_without_key, value_at_holds}
+use Rattle.ioa_values.proofs.Ascending.{all_with, all_without}
+use Rattle.ioa_operators.proofs.Holding.{map_holds, and_then_holds, map_holds_any, and_then_holds_any, test_holds, numbers_hold, truths_hold, division_holds, member_holds, size_holds, first_holds, rest_holds}
 use Rattle.ioa_values.specs.Data.{Data, Items, Entries, number, truth, tuple, sequence, finite_set, finite_map, no_items, item, no_entries, entry, list_of, pairs_of, items_of, entries_of, as_number, as_truth}
-use Rattle.ioa_values.specs.DataOrder.{data_cmp}
 use Rattle.ioa_values.specs.Collections.{with_member, without_member, set_of, union, value_at, with_entry, without_key}
-use Rattle.ioa_operators.specs.Operators.{sequence_of, finite_set_of, finite_map_of, as_sequence, as_set, as_map, on_numbers, on_truths, on_division, division_value, unary_value, binary_value, left_decision, has_member, first, rest, count, size_value, is_there, call_value, same_truth}
+use Rattle.ioa_operators.specs.Operators.{sequence_of, finite_set_of, finite_map_of, as_sequence, as_set, as_map, unary_value, binary_value, left_decision, first, rest, count, is_there, call_value, same_truth}
 use Rattle.ioa_operators.specs.Shapes.{PlainShape, PlainShapes, truths, integers, naturals, constants, tuples, sequences, sets, maps, no_shapes, shape, has_shape, have_shapes, all_have, entries_have, display_value, field_value, field_position}
 use Rattle.ioa_terms.specs.Sorted.{shape_in_terms, UnaryIs, negation, negative, BinaryIs, equivalent, implies, either, both, equal, differ, below, at_most, above, at_least, item_of, member_of, prepended, appended, joined, sum, difference, product, at_key, FunctionIs, head, tail, items, members, keys, quotient, remainder, inserted, deleted, united, updated, removed, defined, DisplayIs, listed_shapes, field_shape}
 use Rattle.ioa_operators.specs.declared.operator.UnaryOperator.{UnaryOperator}
@@ -68,55 +68,6 @@ map_entries : (k v : PlainShape) (x : Data) → Has (maps k v) x → IfSome (as_
 map_entries k v (finite_map es) h = all_entries k v es h
 map_entries k v _ h = tt
 
--- what holds of the entries of a map and of one more, of those that are left, and of the value at a key
-with_entry_has : (k v : PlainShape) (x y : Data) (es : List (Data × Data)) → Has k x → Has v y → AllByRecursion (HasEntry k v) es → AllByRecursion (HasEntry k v) (with_entry x y es)
-with_entry_has k v x y [] p q h = ((p, q), tt)
-with_entry_has k v x y (e ∷ es) p q h =
-    by_each (AllByRecursion (HasEntry k v)) (data_cmp x e.0) ((x, y) ∷ e ∷ es) ((x, y) ∷ es) (e ∷ with_entry x y es)
-    (λ l. ((p, q), h)) (λ l. ((p, q), h.1)) (λ l. (h.0, with_entry_has k v x y es p q h.1))
-
-without_key_has : (k v : PlainShape) (x : Data) (es : List (Data × Data)) → AllByRecursion (HasEntry k v) es → AllByRecursion (HasEntry k v) (without_key x es)
-without_key_has k v x [] h = tt
-without_key_has k v x (e ∷ es) h =
-    by_each (AllByRecursion (HasEntry k v)) (data_cmp x e.0) (e ∷ es) es (e ∷ without_key x es)
-    (λ l. h) (λ l. h.1) (λ l. (h.0, without_key_has k v x es h.1))
-
-value_at_has : (k v : PlainShape) (x : Data) (es : List (Data × Data)) → AllByRecursion (HasEntry k v) es → IfSome (value_at x es) (Has v)
-value_at_has k v x [] h = tt
-value_at_has k v x (e ∷ es) h =
-    by_each (λ (o : Option Data). IfSome o (Has v)) (data_cmp x e.0) None (Some e.1) (value_at x es)
-    (λ l. tt) (λ l. h.0.1) (λ l. value_at_has k v x es h.1)
-
-pub one_or_other : (P : Data → Type 0) (o p : Option Data) → IfSome o P → IfSome p P → IfSome (option_or o p) P
-one_or_other P None p h g = g
-one_or_other P (Some v) p h g = h
-
--- the value of a test
-of_test : (b : Bool) (s : PlainShape) (v : Data) → (b ≡ true → Has s v) → IfSome (if b then Some v else None) (Has s)
-of_test true s v g = g refl
-of_test false s v g = tt
-
-of_numbers : (s : PlainShape) (f : ℤ → ℤ → Data) (x y : Data) → ((m n : ℤ) → Has s (f m n)) → IfSome (on_numbers f x y) (Has s)
-of_numbers s f x y g = and_then_holds_any (Has s) (λ m. option_map (f m) (as_number y)) (as_number x) (λ m. map_holds_any (Has s) (f m) (as_number y) (g m))
-
-of_truths : (f : Bool → Bool → Bool) (x y : Data) → IfSome (on_truths f x y) (Has truths)
-of_truths f x y = and_then_holds_any (Has truths) (λ a. option_map (λ b. truth (f a b)) (as_truth y)) (as_truth x) (λ a. map_holds_any (Has truths) (λ b. truth (f a b)) (as_truth y) (λ b. refl))
-
-of_division : (f : ℤ → ℤ → ℤ) (x y : Data) → IfSome (on_division f x y) (Has integers)
-of_division f x y =
-    and_then_holds_any (Has integers) (λ m. option_and_then (division_value f m) (as_number y)) (as_number x)
-    (λ m. and_then_holds_any (Has integers) (division_value f m) (as_number y) (λ n. of_test (int_le (pos 1) n) integers (number (f m n)) (λ h. refl)))
-
-of_member : (d x : Data) → IfSome (has_member d x) (Has truths)
-of_member d (sequence ds) = refl
-of_member d (finite_set ds) = refl
-of_member d _ = tt
-
-size_has : (v : Data) → IfSome (size_value v) (Has integers)
-size_has (finite_set ds) = refl
-size_has (finite_map es) = refl
-size_has _ = tt
-
 -- what an operator before a value makes
 pub unary_has : {op : UnaryOperator} {x s : PlainShape} → UnaryIs op x s → (v : Data) → IfSome (unary_value op v) (Has s)
 unary_has negation v = map_holds_any (Has truths) (λ b. truth (not b)) (as_truth v) (λ b. refl)
@@ -134,18 +85,18 @@ decision_has _ v = tt
 
 -- what an operator between values makes
 pub binary_has : {op : BinaryOperator} {x y s : PlainShape} → BinaryIs op x y s → (v w : Data) → Has x v → Has y w → IfSome (binary_value op v w) (Has s)
-binary_has equivalent v w h k = of_truths same_truth v w
-binary_has implies v w h k = of_truths (λ a b. not a || b) v w
-binary_has either v w h k = of_truths (λ a b. a || b) v w
-binary_has both v w h k = of_truths (λ a b. a && b) v w
+binary_has equivalent v w h k = truths_hold (Has truths) same_truth v w (λ b. refl)
+binary_has implies v w h k = truths_hold (Has truths) (λ a b. not a || b) v w (λ b. refl)
+binary_has either v w h k = truths_hold (Has truths) (λ a b. a || b) v w (λ b. refl)
+binary_has both v w h k = truths_hold (Has truths) (λ a b. a && b) v w (λ b. refl)
 binary_has equal v w h k = refl
 binary_has differ v w h k = refl
-binary_has below v w h k = of_numbers truths (λ m n. truth (int_lt m n)) v w (λ m n. refl)
-binary_has at_most v w h k = of_numbers truths (λ m n. truth (int_le m n)) v w (λ m n. refl)
-binary_has above v w h k = of_numbers truths (λ m n. truth (int_lt n m)) v w (λ m n. refl)
-binary_has at_least v w h k = of_numbers truths (λ m n. truth (int_le n m)) v w (λ m n. refl)
-binary_has item_of v w h k = of_member v w
-binary_has member_of v w h k = of_member v w
+binary_has below v w h k = numbers_hold (Has truths) (λ m n. truth (int_lt m n)) v w (λ m n. refl)
+binary_has at_most v w h k = numbers_hold (Has truths) (λ m n. truth (int_le m n)) v w (λ m n. refl)
+binary_has above v w h k = numbers_hold (Has truths) (λ m n. truth (int_lt n m)) v w (λ m n. refl)
+binary_has at_least v w h k = numbers_hold (Has truths) (λ m n. truth (int_le n m)) v w (λ m n. refl)
+binary_has item_of v w h k = member_holds (Has truths) v w (λ b. refl)
+binary_has member_of v w h k = member_holds (Has truths) v w (λ b. refl)
 binary_has (prepended {x}) v w h k =
     map_holds (AllByRecursion (Has x)) (Has (sequences x)) (λ ds. sequence_of (v ∷ ds)) (as_sequence w) (sequence_items x w k) (λ ds p. items_all x (v ∷ ds) (h, p))
 binary_has (appended {x}) v w h k =
@@ -155,19 +106,11 @@ binary_has (joined {x}) v w h k =
     and_then_holds (AllByRecursion (Has x)) (Has (sequences x)) (λ ds. option_map (λ es. sequence_of (ds ++ es)) (as_sequence w)) (as_sequence v) (sequence_items x v h)
     (λ ds p. map_holds (AllByRecursion (Has x)) (Has (sequences x)) (λ es. sequence_of (ds ++ es)) (as_sequence w) (sequence_items x w k)
     (λ es q. items_all x (ds ++ es) (all_appended (Has x) ds es p q)))
-binary_has sum v w h k = of_numbers integers (λ m n. number (m +ℤ n)) v w (λ m n. refl)
-binary_has difference v w h k = of_numbers integers (λ m n. number (m -ℤ n)) v w (λ m n. refl)
-binary_has product v w h k = of_numbers integers (λ m n. number (m *ℤ n)) v w (λ m n. refl)
+binary_has sum v w h k = numbers_hold (Has integers) (λ m n. number (m +ℤ n)) v w (λ m n. refl)
+binary_has difference v w h k = numbers_hold (Has integers) (λ m n. number (m -ℤ n)) v w (λ m n. refl)
+binary_has product v w h k = numbers_hold (Has integers) (λ m n. number (m *ℤ n)) v w (λ m n. refl)
 binary_has (at_key {k = x} {v = y}) v w h k =
-    and_then_holds (AllByRecursion (HasEntry x y)) (Has y) (value_at w) (as_map v) (map_entries x y v h) (λ es p. value_at_has x y w es p)
-
-first_has : (s : PlainShape) (ds : List Data) → AllByRecursion (Has s) ds → IfSome (first ds) (Has s)
-first_has s [] h = tt
-first_has s (d ∷ ds) h = h.0
-
-rest_has : (s : PlainShape) (ds : List Data) → AllByRecursion (Has s) ds → IfSome (rest ds) (Has (sequences s))
-rest_has s [] h = tt
-rest_has s (d ∷ ds) h = items_all s ds h.1
+    and_then_holds (AllByRecursion (HasEntry x y)) (Has y) (value_at w) (as_map v) (map_entries x y v h) (λ es p. value_at_holds (Has x) (Has y) w es p)
 
 -- values of one, two and three shapes are one, two and three
 pub one_value : (Q : List Data → Type 0) (x : PlainShape) → ((v : Data) → Has x v → Q (v ∷ [])) → (vs : List Data) → HaveEach (x ∷ []) vs → Q vs
@@ -187,21 +130,21 @@ three_values Q x y z g (u ∷ vs) h = two_values (λ ws. Q (u ∷ ws)) y z (λ v
 pub function_has : {f : Function} {xs : List PlainShape} {s : PlainShape} → FunctionIs f xs s → (vs : List Data) → HaveEach xs vs → IfSome (call_value f vs) (Has s)
 function_has (head {x}) vs h =
     one_value (λ vs. IfSome (call_value function.Head vs) (Has x)) (sequences x)
-    (λ v k. and_then_holds (AllByRecursion (Has x)) (Has x) first (as_sequence v) (sequence_items x v k) (first_has x)) vs h
+    (λ v k. and_then_holds (AllByRecursion (Has x)) (Has x) first (as_sequence v) (sequence_items x v k) (first_holds (Has x))) vs h
 function_has (tail {x}) vs h =
     one_value (λ vs. IfSome (call_value function.Tail vs) (Has (sequences x))) (sequences x)
-    (λ v k. and_then_holds (AllByRecursion (Has x)) (Has (sequences x)) rest (as_sequence v) (sequence_items x v k) (rest_has x)) vs h
+    (λ v k. and_then_holds (AllByRecursion (Has x)) (Has (sequences x)) rest (as_sequence v) (sequence_items x v k) (rest_holds (Has x) (Has (sequences x)) (items_all x))) vs h
 function_has (items {x}) vs h =
     one_value (λ vs. IfSome (call_value function.Length vs) (Has integers)) (sequences x)
     (λ v k. map_holds_any (Has integers) (λ (ds : List Data). count ds) (as_sequence v) (λ ds. refl)) vs h
 function_has (members {x}) vs h =
-    one_value (λ vs. IfSome (call_value function.Size vs) (Has integers)) (sets x) (λ v k. size_has v) vs h
+    one_value (λ vs. IfSome (call_value function.Size vs) (Has integers)) (sets x) (λ v k. size_holds (Has integers) v (λ z. refl)) vs h
 function_has (keys {k} {v}) vs h =
-    one_value (λ vs. IfSome (call_value function.Size vs) (Has integers)) (maps k v) (λ v k. size_has v) vs h
+    one_value (λ vs. IfSome (call_value function.Size vs) (Has integers)) (maps k v) (λ v k. size_holds (Has integers) v (λ z. refl)) vs h
 function_has quotient vs h =
-    two_values (λ vs. IfSome (call_value function.Quotient vs) (Has integers)) integers integers (λ v w k l. of_division int_div_euclid v w) vs h
+    two_values (λ vs. IfSome (call_value function.Quotient vs) (Has integers)) integers integers (λ v w k l. division_holds (Has integers) int_div_euclid v w (λ z. refl)) vs h
 function_has remainder vs h =
-    two_values (λ vs. IfSome (call_value function.Remainder vs) (Has integers)) integers integers (λ v w k l. of_division int_rem_euclid v w) vs h
+    two_values (λ vs. IfSome (call_value function.Remainder vs) (Has integers)) integers integers (λ v w k l. division_holds (Has integers) int_rem_euclid v w (λ z. refl)) vs h
 function_has (inserted {x}) vs h =
     two_values (λ vs. IfSome (call_value function.Insert vs) (Has (sets x))) x (sets x)
     (λ v w k l. map_holds (AllByRecursion (Has x)) (Has (sets x)) (λ ds. finite_set_of (with_member v ds)) (as_set w) (set_members x w l)
@@ -218,11 +161,11 @@ function_has (united {x}) vs h =
 function_has (updated {k = x} {v = y}) vs h =
     three_values (λ vs. IfSome (call_value function.Update vs) (Has (maps x y))) (maps x y) x y
     (λ u v w j k l. map_holds (AllByRecursion (HasEntry x y)) (Has (maps x y)) (λ es. finite_map_of (with_entry v w es)) (as_map u) (map_entries x y u j)
-    (λ es p. entries_all x y (with_entry v w es) (with_entry_has x y v w es k l p))) vs h
+    (λ es p. entries_all x y (with_entry v w es) (all_with_entry (HasEntry x y) v w es (k, l) p))) vs h
 function_has (removed {k = x} {v = y}) vs h =
     two_values (λ vs. IfSome (call_value function.Remove vs) (Has (maps x y))) (maps x y) x
     (λ v w k l. map_holds (AllByRecursion (HasEntry x y)) (Has (maps x y)) (λ es. finite_map_of (without_key w es)) (as_map v) (map_entries x y v k)
-    (λ es p. entries_all x y (without_key w es) (without_key_has x y w es p))) vs h
+    (λ es p. entries_all x y (without_key w es) (all_without_key (HasEntry x y) w es p))) vs h
 function_has (defined {k = x} {v = y}) vs h =
     two_values (λ vs. IfSome (call_value function.Defined vs) (Has truths)) (maps x y) x
     (λ v w k l. map_holds_any (Has truths) (λ es. truth (is_there (value_at w es))) (as_map v) (λ es. refl)) vs h
@@ -244,10 +187,10 @@ pub display_has : (form : DisplayForm) (s : PlainShape) (xs : List PlainShape) (
 display_has Braces (sequences x) xs vs d h = items_all x vs (all_alike x xs vs d h)
 display_has Braces (sets x) xs vs d h = items_all x (set_of vs) (all_of_list (Has x) vs (all_alike x xs vs d h))
 display_has Braces (maps k v) xs vs d h = no_values (λ vs. IfSome (display_value Braces (maps k v) vs) (Has (maps k v))) refl xs vs d h
-display_has Brackets (tuples type names fields) xs vs d h = of_test (have_shapes fields (items_of vs)) (tuples type names fields) (tuple (items_of vs)) (λ k. k)
+display_has Brackets (tuples type names fields) xs vs d h = test_holds (Has (tuples type names fields)) (have_shapes fields (items_of vs)) (tuple (items_of vs)) (λ k. k)
 display_has form s xs vs d h = absurd d
 
--- where naturals count as integers a value has its shape too
+-- a value with a shape has it too with integers for naturals
 mutual
   pub shape_in_terms_has : (s : PlainShape) (v : Data) → has_shape s v ≡ true → has_shape (shape_in_terms s) v ≡ true
   shape_in_terms_has truths v h = h
@@ -276,7 +219,7 @@ mutual
       let q = and_parts (has_shape y v) (entries_have x y es) p.1 in
       rw (shape_in_terms_has x k p.0, shape_in_terms_has y v q.0) (shape_in_terms_entries x y es q.1)
 
--- the field at a place has the shape at that place
+-- the field at a position has the shape at that position
 part_has : (ss : PlainShapes) (ds : Items) (i : ℕ) (s : PlainShape) → have_shapes ss ds ≡ true → option_map shape_in_terms (slice_get (listed_shapes ss) i) ≡ Some s → IfSome (slice_get (list_of ds) i) (Has s)
 part_has ss no_items i s h e = tt
 part_has no_shapes (item d ds) i s h e = absurd (cc)

@@ -1,4 +1,4 @@
--- Names and the places of their values.
+-- Names and the slots of their values.
 use Rattle.std.proofs.Common.{◌≡◌, ℕ, zero, suc, ◌+◌, ◌<◌, ◌≤◌, min, Bool, true, false, List, [], ◌∷◌, ◌++◌, Option, Some, None, refl, sym, ap, ◌∙◌, length, take, set, arith, if◌then◌else◌, inl, inr, ◌⊎◌, get_or, append-nil}
 use Rattle.std.specs.List.{zip, slice_get}
 use Rattle.std.proofs.lemmas.List.{map-append}
@@ -10,14 +10,14 @@ use Rattle.ioa_operators.specs.declared.shape.Shape.{Shape}
 use Rattle.ioa_values.specs.Data.{Data, constant}
 use Rattle.ioa_terms.specs.Bindings.{Bindings, lookup, put, slot_in, names_of, same_name, constants_from, environment}
 
--- what stands at a place of a variable
+-- what is at the slot of a variable
 pub environment_variable : (names : List (List ℕ)) (vs : List Data) (cs : List (List ℕ)) (i : ℕ) (d : Data) → i < length names → i < length vs → option_map (λ (b : List ℕ × Data). b.1) (slice_get (environment names vs cs) i) ≡ Some (get_or vs i d)
 environment_variable [] vs cs i d h g = absurd (omega arith)
 environment_variable (n ∷ names) [] cs i d h g = absurd (omega arith)
 environment_variable (n ∷ names) (v ∷ vs) cs zero d h g = refl
 environment_variable (n ∷ names) (v ∷ vs) cs (suc i) d h g = environment_variable names vs cs i d (omega arith) (omega arith)
 
--- behind the variables stand the constants
+-- behind the variables are the constants
 behind : (names : List (List ℕ)) (vs : List Data) (cs : List (List ℕ)) (i j : ℕ) → i ≡ min (length names) (length vs) + j → slice_get (environment names vs cs) i ≡ slice_get (constants_from 0 cs) j
 behind [] vs cs i j h = ap (slice_get (constants_from 0 cs)) (omega arith)
 behind (n ∷ names) [] cs i j h = ap (slice_get (constants_from 0 cs)) (omega arith)
@@ -34,11 +34,11 @@ no_constant k [] j h = refl
 no_constant k (c ∷ cs) zero h = absurd (omega arith)
 no_constant k (c ∷ cs) (suc j) h = no_constant (k + 1) cs j (omega arith)
 
--- what stands at a place of a constant
+-- what is at the slot of a constant
 pub environment_constant : (names : List (List ℕ)) (vs : List Data) (cs : List (List ℕ)) (i j : ℕ) → i ≡ min (length names) (length vs) + j → j < length cs → option_map (λ (b : List ℕ × Data). b.1) (slice_get (environment names vs cs) i) ≡ Some (constant j)
 environment_constant names vs cs i j at h = rw (behind names vs cs i j at) (constant_at 0 cs j h ∙ ap (λ n. Some (constant n)) (omega arith))
 
--- behind the constants stands nothing
+-- behind the constants is nothing
 pub environment_past : (names : List (List ℕ)) (vs : List Data) (cs : List (List ℕ)) (i j : ℕ) → i ≡ min (length names) (length vs) + j → length cs ≤ j → None ≡ option_map (λ (b : List ℕ × Data). b.1) (slice_get (environment names vs cs) i)
 environment_past names vs cs i j at h = rw (behind names vs cs i j at) (no_constant 0 cs j h)
 
@@ -50,7 +50,7 @@ slot_first : (t : Bool) (names : List (List ℕ)) (x : List ℕ) (p : ℕ) → (
 slot_first true names x p h = inl (refl, cc)
 slot_first false names x p h = let m = mapped (slot_in x names) p h in inr (refl, m.0, m.1, m.2)
 
--- the value of a name stands at its first place
+-- the value of a name is at its slot
 pub lookup_slot : (e : Bindings) (x : List ℕ) (p : ℕ) → slot_in x (names_of e) ≡ Some p → lookup x e ≡ option_map (λ (b : List ℕ × Data). b.1) (slice_get e p)
 lookup_slot [] x p h = absurd (cc)
 lookup_slot (b ∷ e) x p h =
@@ -59,7 +59,7 @@ lookup_slot (b ∷ e) x p h =
       | inr w ↦ rw (w.0, w.3) (lookup_slot e x w.1 w.2)
     ]
 
--- a place of a name is one of the places
+-- the slot of a name is below the number of names
 pub slot_within : (names : List (List ℕ)) (x : List ℕ) (p : ℕ) → slot_in x names ≡ Some p → p < length names
 slot_within [] x p h = absurd (cc)
 slot_within (n ∷ names) x p h =
@@ -68,7 +68,7 @@ slot_within (n ∷ names) x p h =
       | inr w ↦ let less = slot_within names x w.1 w.2 in omega arith
     ]
 
--- a place among names is the same among more names
+-- the slot of a name is the same among more names
 pub slot_among_more : (names more : List (List ℕ)) (x : List ℕ) (p : ℕ) → slot_in x names ≡ Some p → slot_in x (names ++ more) ≡ Some p
 slot_among_more [] more x p h = absurd (cc)
 slot_among_more (n ∷ names) more x p h =
@@ -77,7 +77,7 @@ slot_among_more (n ∷ names) more x p h =
       | inr w ↦ rw (w.0, w.3, slot_among_more names more x w.1 w.2) (ap (λ k. Some k) (omega arith))
     ]
 
--- a new value under a variable's name stands at the variable's place
+-- a new value of a variable is at the variable's slot
 pub put_environment : (names : List (List ℕ)) (vs : List Data) (cs : List (List ℕ)) (x : List ℕ) (p : ℕ) (v : Data) → length names ≡ length vs → slot_in x names ≡ Some p → put x v (environment names vs cs) ≡ environment names (set vs p v) cs
 put_environment [] vs cs x p v many h = absurd (cc)
 put_environment (n ∷ names) [] cs x p v many h = absurd (omega arith)
@@ -103,7 +103,7 @@ names_environment names vs cs h = rw (map-append (λ (b : List ℕ × Data). b.0
 pub no_constants : (names : List (List ℕ)) (vs : List Data) → environment names vs [] ≡ zip names vs
 no_constants names vs = append-nil (zip names vs)
 
--- the place of a name that stands among the first names
+-- the slot of a name that is among the first names
 pub slot_among_first : (names : List (List ℕ)) (x : List ℕ) (p count : ℕ) → slot_in x names ≡ Some p → p < count → slot_in x (take count names) ≡ Some p
 slot_among_first [] x p count h l = absurd (cc)
 slot_among_first (n ∷ names) x p zero h l = absurd (omega arith)
@@ -113,7 +113,7 @@ slot_among_first (n ∷ names) x p (suc count) h l =
       | inr w ↦ rw (w.0, w.3, slot_among_first names x w.1 count w.2 (omega arith)) (ap (λ k. Some k) (omega arith))
     ]
 
--- a place that may be assigned is one where more variables may be
+-- a target is one too if there are more variables
 target_widely : {D : Type 0} (p : PlainTarget ℕ D) (xs more names : List (List ℕ)) → IsResolvedTarget p xs names → IsResolvedTarget p (xs ++ more) names
 target_widely (variable x at d) xs more names h = slot_among_more xs more x at h
 target_widely (at_key x at d k) xs more names h = (slot_among_more xs more x at h.0, h.1)
@@ -138,6 +138,6 @@ pub resolved_widely : {D : Type 0} (ss : List (PlainStatement ℕ D)) (xs more n
 resolved_widely [] xs more names h = tt
 resolved_widely (s ∷ ss) xs more names h = (statement_widely s xs more names h.0, resolved_widely ss xs more names h.1)
 
--- a place of a variable is one among the names in view
+-- a target among the variables is one among the names in view
 pub target_among_more : (p : PlainTarget ℕ Shape) (names more : List (List ℕ)) → IsResolvedTarget p names (names ++ more) → IsResolvedTarget p (names ++ more) (names ++ more)
 target_among_more p names more h = target_widely p names more (names ++ more) h

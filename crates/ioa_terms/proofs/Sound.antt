@@ -10,9 +10,9 @@ use Rattle.ioa_terms.specs.PlainTerm as plain
 use Rattle.ioa_terms.specs.PlainTerm.{PlainTerm, PlainTerms, name, one, two, call, display, field, no_terms, term}
 use Rattle.ioa_terms.specs.Meaning.{value, values, named_call_value}
 use Rattle.ioa_terms.specs.Sorted.{NameShapes, shape_named, shape_in_terms, HasShape, HaveShapes, IsShaped}
-use Rattle.ioa_terms.proofs.ShapesKept.{Has, HaveEach, shape_in_terms_has, one_or_other, unary_has, decision_has, binary_has, function_has, display_has, field_has}
+use Rattle.ioa_terms.proofs.ShapesKept.{Has, HaveEach, shape_in_terms_has, unary_has, decision_has, binary_has, function_has, display_has, field_has}
 use Rattle.ioa_operators.specs.declared.shape.Shape.{Shape}
-use Rattle.ioa_operators.proofs.Canonicals.{map_holds, and_then_holds}
+use Rattle.ioa_operators.proofs.Holding.{map_holds, and_then_holds, or_holds}
 
 each : (P : Data → Type 0) (o : Option Data) → ((v : Data) → o ≡ Some v → P v) → IfSome o P
 each P None g = tt
@@ -33,7 +33,7 @@ mutual
   sound names e g (one op a) s h = and_then_holds (Has h.0) (Has s) (unary_value op) (value a e) (sound names e g a h.0 h.1) (λ v k. unary_has h.2 v)
   sound names e g (two op a b) s h =
       and_then_holds (Has h.0) (Has s) (λ v. option_or (left_decision op v) (option_and_then (binary_value op v) (value b e))) (value a e) (sound names e g a h.0 h.2)
-      (λ v k. one_or_other (Has s) (left_decision op v) (option_and_then (binary_value op v) (value b e)) (decision_has h.4 v)
+      (λ v k. or_holds (Has s) (left_decision op v) (option_and_then (binary_value op v) (value b e)) (decision_has h.4 v)
       (and_then_holds (Has h.1) (Has s) (binary_value op v) (value b e) (sound names e g b h.1 h.3) (λ w l. binary_has h.4 v w k l)))
   sound names e g (call w ts) s h =
       and_then_holds (HaveEach h.1) (Has s) (named_call_value w) (values ts e) (all_sound names e g ts h.1 h.3) (λ vs k. rw (h.2) (function_has h.4 vs k))

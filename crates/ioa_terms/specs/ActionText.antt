@@ -1,5 +1,5 @@
 -- Actions as text (profile): `send(m, i, j)`, `receive(m, i, j)`, and `a(v, w)@k` or `a@k` for all others.
-use Rattle.std.specs.Prelude.{ℕ, ℤ, zero, suc, List, [], ◌∷◌, ◌++◌, map, codes}
+use Rattle.std.specs.Prelude.{ℕ, ℤ, List, [], ◌∷◌, ◌++◌, map, codes}
 use Rattle.std.specs.Fmt.{signed_decimal}
 use Rattle.ioa_values.specs.Data.{Data}
 use Rattle.ioa_values.specs.Text.{text, with_commas}
@@ -7,7 +7,7 @@ use Rattle.ioa_terms.specs.declared.action.NodeAction.{NodeAction}
 use Rattle.ioa_terms.specs.declared.action.Action.{Action}
 use Rattle.ioa_terms.specs.declared.action.Action.TheVariants.{Send, Receive, Local, Stimulus}
 
--- arguments in round brackets with commas between, or nothing where there are none
+-- arguments in round brackets with commas between, or nothing if there are none
 abbrev pub arguments_text : List (List ℕ) → List Data → List ℕ
 arguments_text names [] = []
 arguments_text names (v ∷ vs) = codes "(" ++ with_commas (map (text names) (v ∷ vs)) ++ codes ")"
@@ -19,7 +19,8 @@ node_action_text names a = a.name ++ (arguments_text names a.arguments ++ (codes
 -- a send or a receive: its name, and in round brackets the message's text and the two nodes
 abbrev pub message_text : List ℕ → List ℕ → ℤ → ℤ → List ℕ
 message_text name message i j =
-    name ++ (codes "(" ++ (message ++ (codes ", " ++ (signed_decimal i ++ (codes ", " ++ (signed_decimal j ++ codes ")"))))))
+    name
+    ++ (codes "(" ++ (message ++ (codes ", " ++ (signed_decimal i ++ (codes ", " ++ (signed_decimal j ++ codes ")"))))))
 
 -- an action
 abbrev pub action_text : List (List ℕ) → Action → List ℕ
@@ -27,8 +28,3 @@ action_text names (Send m i j) = message_text (codes "send") (text names m) i j
 action_text names (Receive m i j) = message_text (codes "receive") (text names m) i j
 action_text names (Local a) = node_action_text names a
 action_text names (Stimulus a) = node_action_text names a
-
--- a piece of a list that is written with commas, by its place there
-abbrev pub after_comma : ℕ → List ℕ → List ℕ
-after_comma zero item = item
-after_comma (suc n) item = codes ", " ++ item

@@ -10,11 +10,11 @@ use Rattle.ioa_terms.specs.declared.action.NodeAction.{NodeAction}
 use Rattle.ioa_terms.specs.declared.action.Action.{Action}
 use Rattle.ioa_terms.specs.declared.action.Action.TheVariants.{Send, Receive, Local, Stimulus}
 
--- two actions of nodes: node, name and arguments are
+-- two actions of nodes are the same if their nodes, names and arguments are
 abbrev pub same_node_action : NodeAction → NodeAction → Bool
 same_node_action a b = int_eq a.node b.node && (pointwise nat_eq a.name b.name && all_same a.arguments b.arguments)
 
--- two actions: kind and parts are
+-- two actions are the same if their kinds and parts are
 abbrev pub same_action : Action → Action → Bool
 same_action (Send m i j) (Send n k l) = same m n && (int_eq i k && int_eq j l)
 same_action (Receive m i j) (Receive n k l) = same m n && (int_eq i k && int_eq j l)
@@ -22,11 +22,14 @@ same_action (Local a) (Local b) = same_node_action a b
 same_action (Stimulus a) (Stimulus b) = same_node_action a b
 same_action a b = false
 
--- how two actions of nodes compare: the first of node, name and arguments that differs decides; names compare byte by byte
+-- how two actions of nodes compare: the first of node, name and arguments that differs decides; names compare byte by
+-- byte
 abbrev pub node_action_cmp : NodeAction → NodeAction → Ordering
-node_action_cmp a b = ordering_then (int_cmp a.node b.node) (ordering_then (slice_cmp nat_cmp a.name b.name) (list_cmp a.arguments b.arguments))
+node_action_cmp a b =
+    ordering_then (int_cmp a.node b.node)
+    (ordering_then (slice_cmp nat_cmp a.name b.name) (list_cmp a.arguments b.arguments))
 
--- the place of an action's kind among the kinds: sends, receives, local actions and stimuli
+-- the position of an action's kind among the kinds: sends, receives, local actions and stimuli
 abbrev pub action_kind : Action → ℕ
 action_kind (Send m i j) = 0
 action_kind (Receive m i j) = 1

@@ -17,7 +17,7 @@ abbrev pub lookup : List ℕ → Bindings → Option Data
 lookup x [] = None
 lookup x (b ∷ e) = if same_name x b.0 then Some b.1 else lookup x e
 
--- the environment in which a name has another value; the same where the name is not bound
+-- the environment in which a name has another value; if the name is not bound, the same environment
 abbrev pub put : List ℕ → Data → Bindings → Bindings
 put x v [] = []
 put x v (b ∷ e) = if same_name x b.0 then (b.0, v) ∷ e else b ∷ put x v e
@@ -26,12 +26,12 @@ put x v (b ∷ e) = if same_name x b.0 then (b.0, v) ∷ e else b ∷ put x v e
 abbrev pub names_of : Bindings → List (List ℕ)
 names_of e = map (λ b. b.0) e
 
--- the first place of a name in a list of names
+-- the first position of a name in a list of names: its slot
 abbrev pub slot_in : List ℕ → List (List ℕ) → Option ℕ
 slot_in x [] = None
 slot_in x (y ∷ ys) = if same_name x y then Some 0 else option_map (λ k. k + 1) (slot_in x ys)
 
--- the constants of the text's enumerations, each under its name: a constant is its place among them
+-- the constants of the text's enumerations, each under its name: a constant is its index among them
 abbrev pub constants_from : ℕ → List (List ℕ) → Bindings
 constants_from k [] = []
 constants_from k (w ∷ ws) = (w, constant k) ∷ constants_from (k + 1) ws

@@ -5,13 +5,14 @@ use Rattle.std.specs.Ordering.{nat_cmp, int_cmp, ordering_then}
 use Rattle.ioa_terms.specs.declared.component.Component.{Component}
 use Rattle.ioa_terms.specs.declared.component.Component.TheVariants.{Node, Channel, Script}
 
--- the place of a component's kind among the kinds
+-- the position of a component's kind among the kinds
 abbrev pub component_kind : Component → ℕ
 component_kind (Node i) = 0
 component_kind (Channel i j) = 1
 component_kind (Script i) = 2
 
--- how two components compare: those of one kind by their nodes, a channel's sender first; those of two kinds by their kinds
+-- how two components compare: those of one kind by their nodes, a channel's sender first; those of two kinds by their
+-- kinds
 abbrev pub component_cmp : Component → Component → Ordering
 component_cmp (Node i) (Node k) = int_cmp i k
 component_cmp (Channel i j) (Channel k l) = ordering_then (int_cmp i k) (int_cmp j l)

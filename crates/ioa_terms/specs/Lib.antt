@@ -1,4 +1,4 @@
--- the values, and what operators do with them, which terms stand on
+-- the values of terms, and what operators do with values
 pub use Rattle.ioa_values.specs.Collections
 pub use Rattle.ioa_values.specs.Data
 pub use Rattle.ioa_values.specs.DataOrder

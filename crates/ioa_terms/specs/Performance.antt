@@ -7,7 +7,9 @@ use Rattle.ioa_operators.specs.Shapes.{PlainShape, has_shape, with_field}
 use Rattle.ioa_operators.specs.ShapeView.{shape_of}
 use Rattle.ioa_operators.specs.RangeCheck.{range_check}
 use Rattle.ioa_terms.specs.Bindings.{Bindings, lookup, put}
-use Rattle.ioa_terms.specs.PlainTerm.{PlainTerm, PlainTarget, variable, at_key, at_field, PlainStatement, PlainStatements, PlainArms, assign, choose, fire, no_statements, statement, no_arms, arm, statements_of}
+use Rattle.ioa_terms.specs.PlainTerm.{PlainTerm, PlainTarget, variable, at_key, at_field}
+use Rattle.ioa_terms.specs.PlainTerm.{PlainStatement, PlainStatements, PlainArms, assign, choose, fire}
+use Rattle.ioa_terms.specs.PlainTerm.{no_statements, statement, no_arms, arm, statements_of}
 use Rattle.ioa_terms.specs.Meaning.{value, numbers_met, if_any}
 use Rattle.ioa_operators.specs.declared.operator.Function.TheVariants as function
 use Rattle.ioa_operators.specs.declared.shape.Shape.{Shape}
@@ -32,10 +34,14 @@ updated_map k v m = call_value function.Update (m ∷ k ∷ v ∷ [])
 -- tuple with it as the field
 abbrev pub assignment_value : {N : Type 0} → PlainTarget N Shape → PlainTerm N Shape → Bindings → Option Data
 assignment_value (variable x at d) t e = value t e
-assignment_value (at_key x at d k) t e = option_and_then (λ i. option_and_then (λ v. option_and_then (updated_map i v) (lookup x e)) (value t e)) (value k e)
-assignment_value (at_field x at d f) t e = option_and_then (λ v. option_and_then (with_field (shape_of d) f v) (lookup x e)) (value t e)
+assignment_value (at_key x at d k) t e =
+    option_and_then
+    (λ i. option_and_then (λ v. option_and_then (updated_map i v) (lookup x e)) (value t e))
+    (value k e)
+assignment_value (at_field x at d f) t e =
+    option_and_then (λ v. option_and_then (with_field (shape_of d) f v) (lookup x e)) (value t e)
 
--- a value where a shape is wanted: a negative number is no natural
+-- the value, if it has the shape: a negative number is no natural
 abbrev pub fitting_value : PlainShape → Data → Option Data
 fitting_value s v = if has_shape s v then Some v else None
 
@@ -43,7 +49,7 @@ fitting_value s v = if has_shape s v then Some v else None
 abbrev pub test_value : {N : Type 0} → PlainTerm N Shape → Bindings → Option Bool
 test_value t e = option_and_then as_truth (value t e)
 
--- what comes after a test: one of two, or neither where the test has no truth value
+-- what comes after a test: one of two, or neither if the test has no truth value
 abbrev pub by_test : {A : Type 0} → Option Bool → A → A → A → A
 by_test None neither held other = neither
 by_test (Some true) neither held other = held
@@ -52,11 +58,13 @@ by_test (Some false) neither held other = other
 abbrev mutual
   -- the environment after one statement; a firing is no part of an effect and leaves none
   pub after_one : {N : Type 0} → PlainStatement N Shape → Bindings → Option Bindings
-  after_one (assign p t) e = option_map (λ v. put (target_name p) v e) (option_and_then (fitting_value (target_shape p)) (assignment_value p t e))
+  after_one (assign p t) e =
+      option_map (λ v. put (target_name p) v e)
+      (option_and_then (fitting_value (target_shape p)) (assignment_value p t e))
   after_one (choose arms rest) e = after_choice arms (after_all rest e) e
   after_one (fire kind action arguments) e = None
 
-  -- the environment after the first arm whose test is true, or what is left where none is
+  -- the environment after the first arm whose test is true, or after the rest if none is
   pub after_choice : {N : Type 0} → PlainArms N Shape → Option Bindings → Bindings → Option Bindings
   after_choice no_arms rest e = rest
   after_choice (arm t body more) rest e = by_test (test_value t e) None (after_all body e) (after_choice more rest e)
@@ -66,7 +74,7 @@ abbrev mutual
   after_all no_statements e = Some e
   after_all (statement s more) e = option_and_then (after_all more) (after_one s e)
 
--- what comes after a statement: nothing where it leaves no environment
+-- what comes after a statement: nothing if it leaves no environment
 abbrev pub numbers_met_after : Option Bindings → (Bindings → List Data) → List Data
 numbers_met_after None more = []
 numbers_met_after (Some e) more = more e
@@ -87,12 +95,15 @@ abbrev mutual
   -- the results that a choice meets: tests in order, and then those of what is chosen
   pub numbers_met_by_choice : {N : Type 0} → PlainArms N Shape → List Data → Bindings → List Data
   numbers_met_by_choice no_arms rest e = rest
-  numbers_met_by_choice (arm t body more) rest e = numbers_met t e ++ by_test (test_value t e) [] (numbers_met_by_all body e) (numbers_met_by_choice more rest e)
+  numbers_met_by_choice (arm t body more) rest e =
+      numbers_met t e
+      ++ by_test (test_value t e) [] (numbers_met_by_all body e) (numbers_met_by_choice more rest e)
 
   -- the results that statements meet, one statement after another
   pub numbers_met_by_all : {N : Type 0} → PlainStatements N Shape → Bindings → List Data
   numbers_met_by_all no_statements e = []
-  numbers_met_by_all (statement s more) e = numbers_met_by_one s e ++ numbers_met_after (after_one s e) (numbers_met_by_all more)
+  numbers_met_by_all (statement s more) e =
+      numbers_met_by_one s e ++ numbers_met_after (after_one s e) (numbers_met_by_all more)
 
 -- the same of statements in a list
 abbrev pub after : {N : Type 0} → List (PlainStatement N Shape) → Bindings → Option Bindings
@@ -101,6 +112,6 @@ after ss e = after_all (statements_of ss) e
 abbrev pub numbers_met_by : {N : Type 0} → List (PlainStatement N Shape) → Bindings → List Data
 numbers_met_by ss e = numbers_met_by_all (statements_of ss) e
 
--- what performing statements answers
+-- what the performance of statements returns
 abbrev pub answer_by : {N : Type 0} → List (PlainStatement N Shape) → Bindings → Result Bindings TermFault
 answer_by ss e = range_check (numbers_met_by ss e) (after ss e)

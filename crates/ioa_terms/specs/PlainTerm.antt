@@ -1,6 +1,6 @@
--- Terms and statements without where they lie in memory. `N` stands beside a name: nothing in a text, the place of
--- the name's value in a checked system. `D` stands beside a display, a field and an assigned variable: nothing in a
--- text, a shape in a checked system.
+-- Terms and statements, whatever memory the code keeps them in. Each name has an annotation of type `N`: in a text
+-- nothing, in a checked system the slot of the name's value. Each display, field and assigned variable has an
+-- annotation of type `D`: in a text nothing, in a checked system a shape.
 use Rattle.std.specs.Prelude.{ℕ, ℤ, Bool, List, [], ◌∷◌, Option}
 use Rattle.ioa_operators.specs.declared.operator.UnaryOperator.{UnaryOperator}
 use Rattle.ioa_operators.specs.declared.operator.BinaryOperator.{BinaryOperator}
@@ -30,7 +30,7 @@ abbrev pub terms_of : {N D : Type 0} → List (PlainTerm N D) → PlainTerms N D
 terms_of [] = no_terms
 terms_of (t ∷ more) = term t (terms_of more)
 
--- where an assignment puts a value (profile): a variable, a map's value at a key, or a tuple's field
+-- the target of an assignment (profile): a variable, a map's value at a key, or a tuple's field
 pub data PlainTarget (N D : Type 0) : Type 0 where
   variable : List ℕ → N → D → PlainTarget N D
   at_key : List ℕ → N → D → PlainTerm N D → PlainTarget N D
@@ -39,7 +39,7 @@ pub data PlainTarget (N D : Type 0) : Type 0 where
 
 mutual
   -- a statement (profile): an assignment, an `if` of arms and the rest, or in a schedule the firing of an action, with
-  -- its kind where that is written
+  -- its kind if that is written
   pub data PlainStatement (N D : Type 0) : Type 0 where
     assign : PlainTarget N D → PlainTerm N D → PlainStatement N D
     choose : PlainArms N D → PlainStatements N D → PlainStatement N D

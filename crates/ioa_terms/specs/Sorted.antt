@@ -1,11 +1,12 @@
--- Which shape a term's value has (profile), told from the shapes of the names in view alone. In a term naturals count as
+-- Which shape a term's value has (profile), by the shapes of the names in view alone. In a term naturals count as
 -- integers: a difference of two naturals may be negative.
 use Rattle.std.specs.Prelude.{◌≡◌, ℕ, true, if◌then◌else◌, List, [], ◌∷◌, Option, Some, None, map, slice_get}
 use Rattle.std.specs.Option.{option_and_then, option_map}
 use Rattle.std.specs.List.{AllByRecursion}
 use Rattle.ioa_values.specs.Data.{Data}
 use Rattle.ioa_operators.specs.Operators.{function_named}
-use Rattle.ioa_operators.specs.Shapes.{PlainShape, PlainShapes, truths, integers, naturals, constants, tuples, sequences, sets, maps, no_shapes, shape, has_shape, field_position}
+use Rattle.ioa_operators.specs.Shapes.{PlainShape, truths, integers, naturals, constants, tuples, sequences, sets, maps}
+use Rattle.ioa_operators.specs.Shapes.{PlainShapes, no_shapes, shape, has_shape, field_position}
 use Rattle.ioa_operators.specs.ShapeView.{shape_of}
 use Rattle.ioa_terms.specs.Bindings.{Bindings, same_name, lookup}
 use Rattle.ioa_terms.specs.PlainTerm as plain
@@ -13,14 +14,18 @@ use Rattle.ioa_terms.specs.PlainTerm.{PlainTerm, PlainTerms, name, one, two, cal
 use Rattle.ioa_operators.specs.declared.operator.UnaryOperator.{UnaryOperator}
 use Rattle.ioa_operators.specs.declared.operator.UnaryOperator.TheVariants.{Not, Negative}
 use Rattle.ioa_operators.specs.declared.operator.BinaryOperator.{BinaryOperator}
-use Rattle.ioa_operators.specs.declared.operator.BinaryOperator.TheVariants.{Equivalent, Implies, Or, And, Equal, NotEqual, Less, AtMost, Greater, AtLeast, Member, Prepend, Append, Concatenate, Plus, Minus, Times, At}
+use Rattle.ioa_operators.specs.declared.operator.BinaryOperator.TheVariants.{Equivalent, Implies, Or, And, Equal}
+use Rattle.ioa_operators.specs.declared.operator.BinaryOperator.TheVariants.{NotEqual, Less, AtMost, Greater, AtLeast}
+use Rattle.ioa_operators.specs.declared.operator.BinaryOperator.TheVariants.{Member, Prepend, Append, Concatenate}
+use Rattle.ioa_operators.specs.declared.operator.BinaryOperator.TheVariants.{Plus, Minus, Times, At}
 use Rattle.ioa_operators.specs.declared.operator.Function.{Function}
-use Rattle.ioa_operators.specs.declared.operator.Function.TheVariants.{Head, Tail, Length, Size, Quotient, Remainder, Insert, Delete, Union, Update, Remove, Defined}
+use Rattle.ioa_operators.specs.declared.operator.Function.TheVariants.{Head, Tail, Length, Size, Quotient, Remainder}
+use Rattle.ioa_operators.specs.declared.operator.Function.TheVariants.{Insert, Delete, Union, Update, Remove, Defined}
 use Rattle.ioa_operators.specs.declared.shape.DisplayForm.{DisplayForm}
 use Rattle.ioa_operators.specs.declared.shape.DisplayForm.TheVariants.{Braces, Brackets}
 use Rattle.ioa_operators.specs.declared.shape.Shape.{Shape}
 
--- a shape where naturals count as integers, inside sequences, sets and maps too; a tuple type keeps its fields
+-- a shape with integers for naturals, inside sequences, sets and maps too; a tuple type keeps its fields
 abbrev pub shape_in_terms : PlainShape → PlainShape
 shape_in_terms truths = truths
 shape_in_terms integers = integers
@@ -97,7 +102,7 @@ field_shape w (sequences s) = None
 field_shape w (sets s) = None
 field_shape w (maps k v) = None
 
--- a display: the shapes of its parts and of its value; of a tuple type all fields stand in their order
+-- a display: the shapes of its parts and of its value; a tuple has all the fields of its type, in their order
 abbrev pub DisplayIs : DisplayForm → List PlainShape → PlainShape → Type 0
 DisplayIs Braces xs (sequences x) = AllByRecursion (λ y. y ≡ x) xs
 DisplayIs Braces xs (sets x) = AllByRecursion (λ y. y ≡ x) xs
@@ -106,16 +111,20 @@ DisplayIs Brackets xs (tuples type names fields) = xs ≡ map shape_in_terms (li
 DisplayIs form xs s = ⊥
 
 abbrev mutual
-  -- a term has a shape; a name has its own, where naturals count as integers; a display has the one that stands beside it
+  -- a term has a shape: a name has its own, with integers for naturals, and a display has the one of its annotation
   pub HasShape : {N : Type 0} → NameShapes → PlainTerm N Shape → PlainShape → Type 0
   HasShape names (plain.number n) s = s ≡ integers
   HasShape names (plain.truth b) s = s ≡ truths
   HasShape names (name x at) s = option_map shape_in_terms (shape_named x names) ≡ Some s
   HasShape names (one op a) s = (x : PlainShape) × HasShape names a x × UnaryIs op x s
-  HasShape names (two op a b) s = (x : PlainShape) × (y : PlainShape) × HasShape names a x × HasShape names b y × BinaryIs op x y s
-  HasShape names (call w ts) s = (f : Function) × (xs : List PlainShape) × (function_named w ≡ Some f) × HaveShapes names ts xs × FunctionIs f xs s
-  HasShape names (display form d ts) s = (xs : List PlainShape) × (s ≡ shape_of d) × HaveShapes names ts xs × DisplayIs form xs (shape_of d)
-  HasShape names (field a w d) s = HasShape names a (shape_of d) × (option_map shape_in_terms (field_shape w (shape_of d)) ≡ Some s)
+  HasShape names (two op a b) s =
+      (x : PlainShape) × (y : PlainShape) × HasShape names a x × HasShape names b y × BinaryIs op x y s
+  HasShape names (call w ts) s =
+      (f : Function) × (xs : List PlainShape) × (function_named w ≡ Some f) × HaveShapes names ts xs × FunctionIs f xs s
+  HasShape names (display form d ts) s =
+      (xs : List PlainShape) × (s ≡ shape_of d) × HaveShapes names ts xs × DisplayIs form xs (shape_of d)
+  HasShape names (field a w d) s =
+      HasShape names a (shape_of d) × (option_map shape_in_terms (field_shape w (shape_of d)) ≡ Some s)
 
   -- terms have shapes, one by one
   pub HaveShapes : {N : Type 0} → NameShapes → PlainTerms N Shape → List PlainShape → Type 0
@@ -126,4 +135,5 @@ abbrev mutual
 
 -- each value of an environment has the shape of its name
 abbrev pub IsShaped : NameShapes → Bindings → Type 0
-IsShaped names e = (x : List ℕ) (s : PlainShape) (v : Data) → shape_named x names ≡ Some s → lookup x e ≡ Some v → has_shape s v ≡ true
+IsShaped names e = (x : List ℕ) (s : PlainShape) (v : Data) →
+    shape_named x names ≡ Some s → lookup x e ≡ Some v → has_shape s v ≡ true

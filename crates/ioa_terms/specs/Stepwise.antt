@@ -1,4 +1,4 @@
--- Evaluation one step after another, each step judged as it is taken (form): equal to the meaning, by a law.
+-- Evaluation step by step, each step checked when it is made (form). It is equal to the meaning, by a lemma.
 use Rattle.std.specs.Prelude.{ℕ, Bool, true, false, List, [], ◌∷◌, Option, Some, None, Result, Ok, Err}
 use Rattle.std.specs.Option.{option_and_then}
 use Rattle.ioa_values.specs.Outcome.{and_then}
@@ -11,50 +11,62 @@ use Rattle.ioa_terms.specs.Bindings.{Bindings, lookup, put}
 use Rattle.ioa_terms.specs.Meaning.{named_call_value}
 use Rattle.ioa_terms.specs.Performance.{target_name, target_shape, updated_map, fitting_value}
 use Rattle.ioa_terms.specs.PlainTerm as plain
-use Rattle.ioa_terms.specs.PlainTerm.{PlainTerm, PlainTerms, name, one, two, call, display, field, no_terms, term, PlainTarget, variable, at_key, at_field, PlainStatement, PlainStatements, PlainArms, assign, choose, fire, no_statements, statement, no_arms, arm}
+use Rattle.ioa_terms.specs.PlainTerm.{PlainTerm, PlainTerms, name, one, two, call, display, field, no_terms, term}
+use Rattle.ioa_terms.specs.PlainTerm.{PlainTarget, variable, at_key, at_field}
+use Rattle.ioa_terms.specs.PlainTerm.{PlainStatement, PlainStatements, PlainArms, assign, choose, fire}
+use Rattle.ioa_terms.specs.PlainTerm.{no_statements, statement, no_arms, arm}
 use Rattle.ioa_operators.specs.declared.operator.BinaryOperator.{BinaryOperator}
 use Rattle.ioa_operators.specs.declared.shape.Shape.{Shape}
 use Rattle.ioa_operators.specs.declared.fault.TermFault.{TermFault}
 use Rattle.ioa_operators.specs.declared.fault.TermFault.TheVariants.{Undefined}
 
--- what the left side decides, or else an operator with what the right side answers
+-- what the left side decides, or else the operator with the result of the right side
 abbrev pub with_right : BinaryOperator → Data → Option Data → Result Data TermFault → Result Data TermFault
 with_right op x (Some d) right = checked_result (Some d)
 with_right op x None right = and_then right (λ y. checked_result (binary_value op x y))
 
 abbrev mutual
-  -- the value of a term, each part judged before the next is taken
+  -- the value of a term, each part checked before the next is evaluated
   pub stepwise_answer : {N : Type 0} → PlainTerm N Shape → Bindings → Result Data TermFault
   stepwise_answer (plain.number n) e = checked_result (Some (number n))
   stepwise_answer (plain.truth b) e = checked_result (Some (truth b))
   stepwise_answer (name x at) e = checked_result (lookup x e)
   stepwise_answer (one op a) e = and_then (stepwise_answer a e) (λ x. checked_result (unary_value op x))
-  stepwise_answer (two op a b) e = and_then (stepwise_answer a e) (λ x. with_right op x (left_decision op x) (stepwise_answer b e))
+  stepwise_answer (two op a b) e =
+      and_then (stepwise_answer a e) (λ x. with_right op x (left_decision op x) (stepwise_answer b e))
   stepwise_answer (call w ts) e = and_then (stepwise_answers ts e) (λ vs. checked_result (named_call_value w vs))
-  stepwise_answer (display form d ts) e = and_then (stepwise_answers ts e) (λ vs. checked_result (display_value form (shape_of d) vs))
+  stepwise_answer (display form d ts) e =
+      and_then (stepwise_answers ts e) (λ vs. checked_result (display_value form (shape_of d) vs))
   stepwise_answer (field a w d) e = and_then (stepwise_answer a e) (λ x. checked_result (field_value (shape_of d) w x))
 
   -- the values of terms, one after another
   pub stepwise_answers : {N : Type 0} → PlainTerms N Shape → Bindings → Result (List Data) TermFault
   stepwise_answers no_terms e = Ok []
-  stepwise_answers (term t more) e = and_then (stepwise_answer t e) (λ v. and_then (stepwise_answers more e) (λ vs. Ok (v ∷ vs)))
+  stepwise_answers (term t more) e =
+      and_then (stepwise_answer t e) (λ v. and_then (stepwise_answers more e) (λ vs. Ok (v ∷ vs)))
 
 -- the truth value of a test
 abbrev pub stepwise_test : {N : Type 0} → PlainTerm N Shape → Bindings → Result Bool TermFault
 stepwise_test t e = and_then (stepwise_answer t e) (λ v. range_check [] (as_truth v))
 
 -- the new value of a variable, whatever its shape
-abbrev pub stepwise_assignment : {N : Type 0} → PlainTarget N Shape → PlainTerm N Shape → Bindings → Result Data TermFault
+abbrev pub stepwise_assignment : {N : Type 0} →
+    PlainTarget N Shape → PlainTerm N Shape → Bindings → Result Data TermFault
 stepwise_assignment (variable x at d) t e = stepwise_answer t e
-stepwise_assignment (at_key x at d k) t e = and_then (stepwise_answer k e) (λ i. and_then (stepwise_answer t e) (λ v. checked_result (option_and_then (updated_map i v) (lookup x e))))
-stepwise_assignment (at_field x at d f) t e = and_then (stepwise_answer t e) (λ v. checked_result (option_and_then (with_field (shape_of d) f v) (lookup x e)))
+stepwise_assignment (at_key x at d k) t e =
+    and_then (stepwise_answer k e)
+    (λ i. and_then (stepwise_answer t e) (λ v. checked_result (option_and_then (updated_map i v) (lookup x e))))
+stepwise_assignment (at_field x at d f) t e =
+    and_then (stepwise_answer t e)
+    (λ v. checked_result (option_and_then (with_field (shape_of d) f v) (lookup x e)))
 
--- the environment where a variable has a new value, which is to have its shape
+-- the environment in which a variable has a new value; `Undefined (1)` if the value lacks the variable's shape
 abbrev pub put_fitting_value : List ℕ → PlainShape → Bindings → Data → Result Bindings TermFault
 put_fitting_value x s e v = and_then (range_check [] (fitting_value s v)) (λ w. Ok (put x w e))
 
--- one of two, by what a test answers
-abbrev pub if_answered : Result Bool TermFault → Result Bindings TermFault → Result Bindings TermFault → Result Bindings TermFault
+-- one of two, by the result of a test
+abbrev pub if_answered :
+    Result Bool TermFault → Result Bindings TermFault → Result Bindings TermFault → Result Bindings TermFault
 if_answered (Ok true) held other = held
 if_answered (Ok false) held other = other
 if_answered (Err f) held other = Err f
@@ -62,14 +74,17 @@ if_answered (Err f) held other = Err f
 abbrev mutual
   -- the environment after one statement; a firing is no part of an effect
   pub stepwise_one : {N : Type 0} → PlainStatement N Shape → Bindings → Result Bindings TermFault
-  stepwise_one (assign p t) e = and_then (stepwise_assignment p t e) (put_fitting_value (target_name p) (target_shape p) e)
+  stepwise_one (assign p t) e =
+      and_then (stepwise_assignment p t e) (put_fitting_value (target_name p) (target_shape p) e)
   stepwise_one (choose arms rest) e = stepwise_choice arms (stepwise_all rest e) e
   stepwise_one (fire kind action arguments) e = Err Undefined
 
-  -- the environment after the first arm whose test is true, or what the rest answers where none is
-  pub stepwise_choice : {N : Type 0} → PlainArms N Shape → Result Bindings TermFault → Bindings → Result Bindings TermFault
+  -- the environment after the first arm whose test is true, or the result of the rest if none is
+  pub stepwise_choice : {N : Type 0} →
+      PlainArms N Shape → Result Bindings TermFault → Bindings → Result Bindings TermFault
   stepwise_choice no_arms rest e = rest
-  stepwise_choice (arm t body more) rest e = if_answered (stepwise_test t e) (stepwise_all body e) (stepwise_choice more rest e)
+  stepwise_choice (arm t body more) rest e =
+      if_answered (stepwise_test t e) (stepwise_all body e) (stepwise_choice more rest e)
 
   -- the environment after statements in order, each seeing what the one before left
   pub stepwise_all : {N : Type 0} → PlainStatements N Shape → Bindings → Result Bindings TermFault

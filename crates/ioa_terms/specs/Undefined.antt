@@ -1,7 +1,8 @@
 -- The closed list of what has no value though its parts have the shapes that it takes (profile).
 use Rattle.std.specs.Prelude.{pos, int_lt, Bool, true, false, not, ◌||◌, List, [], ◌∷◌}
 use Rattle.std.specs.Option.{is_some}
-use Rattle.ioa_values.specs.Data.{Data, Items, Entries, number, tuple, sequence, finite_set, finite_map, no_items, item, no_entries, entry, items_of, pairs_of}
+use Rattle.ioa_values.specs.Data.{Data, number, tuple, sequence, finite_set, finite_map}
+use Rattle.ioa_values.specs.Data.{Items, no_items, item, Entries, no_entries, entry, items_of, pairs_of}
 use Rattle.ioa_values.specs.Collections.{value_at}
 use Rattle.ioa_operators.specs.Shapes.{PlainShape, PlainShapes, naturals, tuples, sequences, sets, maps, shape}
 use Rattle.ioa_operators.specs.declared.operator.BinaryOperator.{BinaryOperator}
@@ -11,7 +12,7 @@ use Rattle.ioa_operators.specs.declared.operator.Function.TheVariants.{Head, Tai
 use Rattle.ioa_operators.specs.declared.shape.DisplayForm.{DisplayForm}
 use Rattle.ioa_operators.specs.declared.shape.DisplayForm.TheVariants.{Brackets}
 
--- `m[k]` where the map has no value at the key
+-- `m[k]` of a map that has no value at the key
 abbrev pub is_missing_key : BinaryOperator → Data → Data → Bool
 is_missing_key At (finite_map es) k = not (is_some (value_at k (pairs_of es)))
 is_missing_key _ _ _ = false
@@ -28,7 +29,7 @@ is_low_divisor Quotient (x ∷ number n ∷ []) = int_lt n (pos 1)
 is_low_divisor Remainder (x ∷ number n ∷ []) = int_lt n (pos 1)
 is_low_divisor _ _ = false
 
--- whether a negative number stands for a natural of the shape, anywhere in the value
+-- whether the value has a negative number, at any depth, where the shape has a natural
 abbrev mutual
   pub has_negative : PlainShape → Data → Bool
   has_negative naturals (number z) = int_lt z (pos 0)
@@ -53,7 +54,7 @@ abbrev mutual
   entries_negative k v no_entries = false
   entries_negative k v (entry d e es) = has_negative k d || (has_negative v e || entries_negative k v es)
 
--- a tuple display where a negative number stands for a natural
+-- a tuple display with a negative number for a natural
 abbrev pub is_negative_tuple : DisplayForm → PlainShape → List Data → Bool
 is_negative_tuple Brackets (tuples type names fields) vs = have_negative fields (items_of vs)
 is_negative_tuple _ _ _ = false

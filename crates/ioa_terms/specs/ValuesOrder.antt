@@ -1,10 +1,11 @@
--- The order of lists of values (profile): the first two values that differ decide, and a beginning stands before the longer
--- list.
+-- The order of lists of values (profile): the first two values that differ decide, and a list that another one begins
+-- with comes first.
 use Rattle.std.specs.Prelude.{◌≡◌, Bool, List, Option, Some, refl}
 use Rattle.std.specs.declared.cmp.Ordering.{Ordering}
 use Rattle.std.specs.Ordering.{as_partial_cmp, eq_by_cmp}
 use Rattle.std.specs.Cmp.{IsTotalOrder, IsEquivalence, IsPartialOrder, IsPartialEquivalence, partial_equiv_from_equiv}
-use Rattle.std.specs.Cmp.Lexicographic.{slice_cmp, slice_partial_cmp, lists_equiv, lists_po, lists_total, lists_agrees, lists_ties}
+use Rattle.std.specs.Cmp.Lexicographic.{slice_cmp, slice_partial_cmp}
+use Rattle.std.specs.Cmp.Lexicographic.{lists_equiv, lists_po, lists_total, lists_agrees, lists_ties}
 use lib.Pointwise.{pointwise}
 use Rattle.ioa_values.specs.Data.{Data}
 use Rattle.ioa_values.specs.DataOrder.{same, data_cmp, same_equivalence, data_cmp_partial, data_cmp_total}

@@ -1,4 +1,4 @@
--- What the trees of the code stand for (view).
+-- What the trees of the code mean (view).
 use Rattle.std.specs.Prelude.{map}
 use Rattle.ioa_terms.specs.declared.tree.Tree.{Tree, fold-Tree}
 use Rattle.ioa_terms.specs.declared.tree.Tree.TheOpen.{Tree-F}
@@ -7,7 +7,9 @@ use Rattle.ioa_terms.specs.declared.tree.Target.TheVariants as target
 use Rattle.ioa_terms.specs.declared.tree.Statement.{Statement, fold-Statement}
 use Rattle.ioa_terms.specs.declared.tree.Statement.TheOpen.{Statement-F, Arm-F}
 use Rattle.ioa_terms.specs.declared.tree.Arm.{Arm, fold-Arm}
-use Rattle.ioa_terms.specs.PlainTerm.{PlainTerm, number, truth, name, one, two, call, display, field, terms_of, PlainTarget, variable, at_key, at_field, PlainStatement, PlainStatements, assign, choose, fire, statements_of, arms_of}
+use Rattle.ioa_terms.specs.PlainTerm.{PlainTerm, number, truth, name, one, two, call, display, field, terms_of}
+use Rattle.ioa_terms.specs.PlainTerm.{PlainTarget, variable, at_key, at_field}
+use Rattle.ioa_terms.specs.PlainTerm.{PlainStatement, PlainStatements, assign, choose, fire, statements_of, arms_of}
 
 abbrev pub view_step : {N D : Type 0} → Tree-F N D (PlainTerm N D) → PlainTerm N D
 view_step (Tree-F.Number n) = number n
@@ -23,23 +25,26 @@ view_step (Tree-F.Field a w d) = field a.value w d
 abbrev pub term_of : {N D : Type 0} → Tree N D → PlainTerm N D
 term_of {N} {D} = fold-Tree N D (PlainTerm N D) view_step
 
--- a place
+-- a target
 abbrev pub target_of : {N D : Type 0} → Target N D → PlainTarget N D
 target_of (target.Variable w x d) = variable w x d
 target_of (target.At w x d t) = at_key w x d (term_of t)
 target_of (target.Field w x d f) = at_field w x d f
 
-abbrev pub statement_step : {N D : Type 0} → Statement-F N D (PlainStatement N D) (PlainTerm N D × PlainStatements N D) → PlainStatement N D
+abbrev pub statement_step : {N D : Type 0} →
+    Statement-F N D (PlainStatement N D) (PlainTerm N D × PlainStatements N D) → PlainStatement N D
 statement_step (Statement-F.Assign p t) = assign (target_of p) (term_of t)
 statement_step (Statement-F.If arms rest) = choose (arms_of arms.items) (statements_of rest.items)
 statement_step (Statement-F.Fire k w ts) = fire k w (map term_of ts.items)
 
-abbrev pub arm_step : {N D : Type 0} → Arm-F N D (PlainStatement N D) (PlainTerm N D × PlainStatements N D) → PlainTerm N D × PlainStatements N D
+abbrev pub arm_step : {N D : Type 0} →
+    Arm-F N D (PlainStatement N D) (PlainTerm N D × PlainStatements N D) → PlainTerm N D × PlainStatements N D
 arm_step a = (term_of a.test, statements_of a.body.items)
 
 -- a statement
 abbrev pub statement_of : {N D : Type 0} → Statement N D → PlainStatement N D
-statement_of {N} {D} = fold-Statement N D (PlainStatement N D) (PlainTerm N D × PlainStatements N D) statement_step arm_step
+statement_of {N} {D} =
+    fold-Statement N D (PlainStatement N D) (PlainTerm N D × PlainStatements N D) statement_step arm_step
 
 -- an arm: its test and its statements
 abbrev pub arm_of : {N D : Type 0} → Arm N D → PlainTerm N D × PlainStatements N D

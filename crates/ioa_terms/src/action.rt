@@ -120,7 +120,7 @@ pub struct NodeAction {
 }
 
 /// An action of a system (Lynch 8.1 and 14.1; stimuli are the profile's). Actions are ordered by kind,
-/// as the kinds stand here, and then by their parts from left to right.
+/// in the order of the variants, and then by their parts from left to right.
 #[derive(Debug, Drop, PartialEq, Eq, PartialOrd, Ord)]
 pub enum Action {
     /// `send(m, i, j)`: node i puts message m into channel i -> j.

@@ -8,7 +8,7 @@ use std::fmt;
 
 /// The name of a component: a node's automaton, the queue of a declared channel, or the queue of a
 /// node's scripted stimuli (Lynch 8.2 and 14.1, and profile for scripts). Components are ordered by
-/// kind, as the kinds stand here, and then by their nodes from left to right.
+/// kind, in the order of the variants, and then by their nodes from left to right.
 #[derive(Clone, Copy, Debug, PartialEq, Eq, PartialOrd, Ord)]
 pub enum Component {
     /// The node of a number.

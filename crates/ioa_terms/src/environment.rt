@@ -9,9 +9,9 @@ ghost use Rattle.ioa_terms.specs.Slots.{slot_value};
 use ioa_values::{Value, Word};
 use std::marker::Model;
 
-/// The values that a term may read, each at its place, with their names beside them: those of variables
-/// first, and the constants behind them. A contract sees the pairs of names and values; the first pair
-/// of a name is the one that counts.
+/// The values that a term may read, each at its slot, with their names: those of variables first, and
+/// the constants behind them. A contract sees the pairs of names and values; the first pair of a name is
+/// the one that counts.
 #[derive(Drop)]
 pub struct Env<'a> {
     names: &'a [Word],
@@ -31,18 +31,18 @@ impl<'a> Model for Env<'a> {
     ghost view = { λ e. environment e.names.now e.values.now e.constants.now };
 }
 
-/// What stands at a place of an environment.
+/// What is at a slot of an environment.
 #[derive(Clone, Copy)]
 pub enum Slot<'a> {
     /// A variable's value.
     Variable(&'a Value),
-    /// A constant, by its place among the text's constants.
+    /// A constant, by its index among the text's constants.
     Constant(usize),
 }
 
 impl<'a> Env<'a> {
-    /// The environment of these names and values, the first value under the first name; what is left
-    /// over of either counts for nothing. It has no constants.
+    /// The environment of these names and values, the first value under the first name. If there are more
+    /// names than values, or more values than names, the last ones are ignored. It has no constants.
     #[tactic(auto, using(crate::proofs::Slots::names_zip, crate::proofs::Slots::no_constants))]
     pub fn new(names: &'a [Word], values: &'a [Value]) -> Self
         ensures value { result ≡ zip names.now values.now }
@@ -68,7 +68,7 @@ impl<'a> Env<'a> {
         }
     }
 
-    /// What stands at a place, where there is something.
+    /// What is at a slot, if there is something.
     pub fn get(&self, slot: usize) -> Option<Slot<'a>>
         ensures { option_map slot_value result ≡ option_map (λ b. b.1) (slice_get self.now slot) }
     {

@@ -17,21 +17,25 @@ use ioa_operators::{Function, TermFault, binary, call, display, field, left_deci
 use ioa_values::{Value, Word};
 use std::alloc::Global;
 
-/// The value of a term in an environment (profile). Parts are taken from left to right, and the first
-/// fault met is answered: `Undefined` where a part has no value, `Range` where a number lies outside
-/// 64 bits, an intermediate one too, `Memory` where none is left. Costs time in proportion to the term
-/// and to the values that it reads and makes.
+/// The value of a term in an environment (profile). Parts are evaluated from left to right, and the first
+/// fault is returned: `Undefined (1)` if a part has no value, `Range (2)` if a number lies outside 64 bits,
+/// an intermediate one too, and `Memory (3)` if no memory is left. Costs time in proportion to the term and
+/// to the values that it reads and makes.
 #[tactic(auto, using(crate::proofs::Stepwise::stepwise_is))]
 pub fn eval(alloc: Global, term: &Checked, env: &Env) -> Result<Value, TermFault>
     requires { IsResolved (term_of term.now) (names_of env.now) }
     ensures { Answers TermFault.Memory (λ v. v) result (answer (term_of term.now) env.now) }
 {
-    evaluate(alloc, term, env)
+    evaluate_stepwise(alloc, term, env)
 }
 
-/// The value of a term, step by step.
+/// The value of a term, each part checked before the next is evaluated.
 #[cycle(evaluating)]
-pub(crate) fn evaluate(alloc: Global, term: &Checked, env: &Env) -> Result<Value, TermFault>
+pub(crate) fn evaluate_stepwise(
+    alloc: Global,
+    term: &Checked,
+    env: &Env,
+) -> Result<Value, TermFault>
     requires { IsResolved (term_of term.now) (names_of env.now) }
     ensures { Answers TermFault.Memory (λ v. v) result (stepwise_answer (term_of term.now) env.now) }
 {
@@ -40,29 +44,29 @@ pub(crate) fn evaluate(alloc: Global, term: &Checked, env: &Env) -> Result<Value
         Checked::Truth(b) => Ok(Value::truth(*b)),
         Checked::Name(name, slot) => read_name(alloc, env, name, *slot),
         Checked::One(operator, a) => {
-            let part = evaluate(alloc, a, env)?;
+            let part = evaluate_stepwise(alloc, a, env)?;
             unary(*operator, &part)
         }
         Checked::Two(operator, a, b) => {
-            let left = evaluate(alloc, a, env)?;
+            let left = evaluate_stepwise(alloc, a, env)?;
             match left_decision(*operator, &left) {
                 Some(decision) => Ok(Value::truth(decision)),
                 None => {
-                    let right = evaluate(alloc, b, env)?;
+                    let right = evaluate_stepwise(alloc, b, env)?;
                     binary(alloc, *operator, left, right)
                 }
             }
         }
         Checked::Call(name, parts) => {
-            let values = evaluate_all(alloc, parts, env)?;
+            let values = evaluate_all_stepwise(alloc, parts, env)?;
             call_named(alloc, name, values)
         }
         Checked::Display(form, shape, parts) => {
-            let values = evaluate_all(alloc, parts, env)?;
+            let values = evaluate_all_stepwise(alloc, parts, env)?;
             display(alloc, *form, shape, values)
         }
         Checked::Field(whole, name, shape) => {
-            let value = evaluate(alloc, whole, env)?;
+            let value = evaluate_stepwise(alloc, whole, env)?;
             field(shape, name, value)
         }
     }
@@ -70,19 +74,24 @@ pub(crate) fn evaluate(alloc: Global, term: &Checked, env: &Env) -> Result<Value
 
 /// The values of terms, in order.
 #[cycle(evaluating)]
-fn evaluate_all(alloc: Global, parts: &Vec<Checked>, env: &Env) -> Result<Vec<Value>, TermFault>
+fn evaluate_all_stepwise(
+    alloc: Global,
+    parts: &Vec<Checked>,
+    env: &Env,
+) -> Result<Vec<Value>, TermFault>
     requires { AreTermsResolved (terms_of (map term_of parts.now.items)) (names_of env.now) }
-    ensures { Answers TermFault.Memory (λ v. v.items) result (stepwise_answers (terms_of (map term_of parts.now.items)) env.now) }
+    ensures { Answers TermFault.Memory (λ v. v.items) result
+        (stepwise_answers (terms_of (map term_of parts.now.items)) env.now) }
 {
     let mut values = Vec::new(alloc);
     for part in parts {
-        let value = evaluate(alloc, part, env)?;
+        let value = evaluate_stepwise(alloc, part, env)?;
         values.push(value)?;
     }
     Ok(values)
 }
 
-/// The value of a name, as a term has it.
+/// The value of a name, for a term.
 fn read_name(alloc: Global, env: &Env, name: &Word, slot: usize) -> Result<Value, TermFault>
     requires { slot_in name.now (names_of env.now) ≡ Some slot }
     ensures { Answers TermFault.Memory (λ v. v) result (checked_result (lookup name.now env.now)) }
@@ -90,7 +99,7 @@ fn read_name(alloc: Global, env: &Env, name: &Word, slot: usize) -> Result<Value
     read(alloc, env, name, slot)
 }
 
-/// A copy of the value of a name, which stands at its place.
+/// A copy of the value of a name, which is at its slot.
 #[tactic(auto, using(crate::proofs::Slots::lookup_slot))]
 pub(crate) fn read(alloc: Global, env: &Env, name: &Word, slot: usize) -> Result<Value, TermFault>
     requires { slot_in name.now (names_of env.now) ≡ Some slot }

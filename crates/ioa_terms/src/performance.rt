@@ -8,13 +8,15 @@ ghost use Rattle.ioa_operators.specs.Shapes.{with_field};
 ghost use Rattle.ioa_operators.specs.ShapeView.{shape_of};
 ghost use Rattle.ioa_terms.specs.Bindings.{environment, slot_in, names_of, lookup};
 ghost use Rattle.ioa_terms.specs.Performance.{answer_by, updated_map};
-ghost use Rattle.ioa_terms.specs.Resolved.{AreResolved, AreAllResolved, IsResolved, IsResolvedStatement, IsResolvedTarget};
-ghost use Rattle.ioa_terms.specs.Stepwise.{stepwise_answer, stepwise_all, stepwise_one, stepwise_test, stepwise_assignment, put_fitting_value};
+ghost use Rattle.ioa_terms.specs.Resolved.{AreResolved, AreAllResolved, IsResolved};
+ghost use Rattle.ioa_terms.specs.Resolved.{IsResolvedStatement, IsResolvedTarget};
+ghost use Rattle.ioa_terms.specs.Stepwise.{stepwise_answer, stepwise_all, stepwise_one, stepwise_test};
+ghost use Rattle.ioa_terms.specs.Stepwise.{stepwise_assignment, put_fitting_value};
 ghost use Rattle.ioa_terms.specs.PlainTerm.{assign, statements_of};
 ghost use Rattle.ioa_terms.specs.View.{statement_of, target_of, term_of};
 
 use crate::environment::Env;
-use crate::evaluation::{evaluate, read};
+use crate::evaluation::{evaluate_stepwise, read};
 use crate::tree::{Arm, Checked, Statement, Target};
 use ioa_operators::{Function, Shape, TermFault, call, replace_field};
 use ioa_values::{Value, Word};
@@ -23,11 +25,11 @@ use std::mem;
 
 /// The values after statements in order, each seeing what the one before left (profile). `names` are
 /// the names of the values, in the same order; `constants` are those of the text's constants, which
-/// terms may read too. The first fault met is answered, and the values are dropped then: `Undefined`
-/// where a term has no value, a test no truth value, or a new value not the variable's shape, `Range`
-/// where a number lies outside 64 bits, an intermediate one too, `Memory` where none is left. A firing
-/// is no part of an effect: it is `Undefined`. Costs time in proportion to the statements performed and
-/// to the values that they read and make.
+/// terms may read too. The first fault is returned, and the values are dropped then: `Undefined (1)` if a
+/// term has no value, a test has no truth value, or a new value has not the variable's shape, `Range (2)`
+/// if a number lies outside 64 bits, an intermediate one too, and `Memory (3)` if no memory is left. A
+/// firing is no part of an effect: it is `Undefined (1)`. Costs time in proportion to the statements
+/// performed and to the values that they read and make.
 #[tactic(auto, using(crate::proofs::Performed::stepwise_by_is, crate::proofs::Performed::all_resolved))]
 pub fn perform(
     alloc: Global,
@@ -54,10 +56,12 @@ fn perform_all(
     constants: &[Word],
     mut values: Vec<Value>,
 ) -> Result<Vec<Value>, TermFault>
-    requires resolved { AreAllResolved (statements_of (map statement_of statements.now)) names.now (names.now ++ constants.now) }
+    requires resolved { AreAllResolved (statements_of (map statement_of statements.now))
+        names.now (names.now ++ constants.now) }
     requires named { length names.now ≡ length values.items }
     ensures after { Answers TermFault.Memory (λ vs. environment names.now vs.items constants.now) result
-        (stepwise_all (statements_of (map statement_of statements.now)) (environment names.now values.items constants.now)) }
+        (stepwise_all (statements_of (map statement_of statements.now))
+        (environment names.now values.items constants.now)) }
     ensures named { IfOk result (λ vs. length names.now ≡ length vs.items) }
 {
     for statement in statements {
@@ -105,16 +109,17 @@ fn holds(
 ) -> Result<bool, TermFault>
     requires resolved { IsResolved (term_of test.now) (names.now ++ constants.now) }
     requires named { length names.now ≡ length values.now }
-    ensures { Answers TermFault.Memory (λ b. b) result (stepwise_test (term_of test.now) (environment names.now values.now constants.now)) }
+    ensures { Answers TermFault.Memory (λ b. b) result
+        (stepwise_test (term_of test.now) (environment names.now values.now constants.now)) }
 {
-    let value = evaluate(alloc, test, &Env::with_constants(names, values, constants))?;
+    let value = evaluate_stepwise(alloc, test, &Env::with_constants(names, values, constants))?;
     match value.as_truth() {
         Some(truth) => Ok(truth),
         None => Err(TermFault::Undefined),
     }
 }
 
-/// The values after a variable has its new one.
+/// The values after an assignment.
 #[tactic(auto, using(crate::proofs::Slots::target_among_more))]
 fn assign(
     alloc: Global,
@@ -124,10 +129,12 @@ fn assign(
     constants: &[Word],
     values: Vec<Value>,
 ) -> Result<Vec<Value>, TermFault>
-    requires resolved { IsResolvedStatement (assign (target_of target.now) (term_of term.now)) names.now (names.now ++ constants.now) }
+    requires resolved { IsResolvedStatement (assign (target_of target.now) (term_of term.now))
+        names.now (names.now ++ constants.now) }
     requires named { length names.now ≡ length values.items }
     ensures after { Answers TermFault.Memory (λ vs. environment names.now vs.items constants.now) result
-        (stepwise_one (assign (target_of target.now) (term_of term.now)) (environment names.now values.items constants.now)) }
+        (stepwise_one (assign (target_of target.now) (term_of term.now))
+        (environment names.now values.items constants.now)) }
     ensures named { IfOk result (λ vs. length names.now ≡ length vs.items) }
 {
     let value = assignment_value(
@@ -152,16 +159,17 @@ fn assignment_value(
 ) -> Result<Value, TermFault>
     requires target { IsResolvedTarget (target_of target.now) (names_of env.now) (names_of env.now) }
     requires term { IsResolved (term_of term.now) (names_of env.now) }
-    ensures { Answers TermFault.Memory (λ v. v) result (stepwise_assignment (target_of target.now) (term_of term.now) env.now) }
+    ensures { Answers TermFault.Memory (λ v. v) result
+        (stepwise_assignment (target_of target.now) (term_of term.now) env.now) }
 {
     match target {
-        Target::Variable(_, _, _) => evaluate(alloc, term, env),
+        Target::Variable(_, _, _) => evaluate_stepwise(alloc, term, env),
         Target::At(name, at, _, key) => {
-            let key = evaluate(alloc, key, env)?;
+            let key = evaluate_stepwise(alloc, key, env)?;
             assignment_value_at_key(alloc, name, *at, key, term, env)
         }
         Target::Field(name, at, shape, field) => {
-            let value = evaluate(alloc, term, env)?;
+            let value = evaluate_stepwise(alloc, term, env)?;
             replace(alloc, name, *at, shape, field, value, env)
         }
     }
@@ -179,9 +187,10 @@ fn assignment_value_at_key(
     requires target { slot_in name.now (names_of env.now) ≡ Some at }
     requires term { IsResolved (term_of term.now) (names_of env.now) }
     ensures { Answers TermFault.Memory (λ v. v) result
-        (and_then (stepwise_answer (term_of term.now) env.now) (λ v. checked_result (option_and_then (updated_map key v) (lookup name.now env.now)))) }
+        (and_then (stepwise_answer (term_of term.now) env.now)
+        (λ v. checked_result (option_and_then (updated_map key v) (lookup name.now env.now)))) }
 {
-    let value = evaluate(alloc, term, env)?;
+    let value = evaluate_stepwise(alloc, term, env)?;
     update(alloc, name, at, key, value, env)
 }
 
@@ -195,7 +204,8 @@ fn update(
     env: &Env,
 ) -> Result<Value, TermFault>
     requires { slot_in name.now (names_of env.now) ≡ Some at }
-    ensures { Answers TermFault.Memory (λ v. v) result (checked_result (option_and_then (updated_map key value) (lookup name.now env.now))) }
+    ensures { Answers TermFault.Memory (λ v. v) result
+        (checked_result (option_and_then (updated_map key value) (lookup name.now env.now))) }
 {
     let map = read(alloc, env, name, at)?;
     let mut parts = Vec::new(alloc);
@@ -223,7 +233,7 @@ fn replace(
     replace_field(shape, field, value, whole)
 }
 
-/// The values where a variable has another one, which is to have the variable's shape.
+/// The values with another one for a variable; `Undefined (1)` if it has not the variable's shape.
 #[tactic(auto, using(crate::proofs::Slots::put_environment, crate::proofs::Slots::slot_within))]
 fn put(
     name: &Word,
@@ -248,7 +258,7 @@ fn put(
     }
 }
 
-/// Puts a value in the place of another.
+/// Replaces the value at a slot, and drops the old one.
 fn set(values: &mut Vec<Value>, slot: usize, value: Value)
     requires { slot < length values.old.items }
     ensures { values.new.items ≡ slice_set values.old.items slot value }

@@ -2,21 +2,20 @@
 
 ghost use Rattle.std.specs.Prelude.{◌≡◌, ◌++◌, IfOk, OnOk, map, string_bytes, codes};
 ghost use Rattle.std.specs.Fmt.{signed_decimal};
-ghost use Rattle.ioa_values.specs.Text.{text, with_commas};
-ghost use Rattle.ioa_terms.specs.ActionText.{after_comma, arguments_text, node_action_text, message_text, action_text};
+ghost use Rattle.ioa_values.specs.Outcome.{Writes};
+ghost use Rattle.ioa_values.specs.Text.{text, with_commas, separator};
+ghost use Rattle.ioa_terms.specs.ActionText.{arguments_text, node_action_text, message_text, action_text};
 
 use crate::action::{Action, NodeAction};
-use ioa_values::{Names, Value, show};
+use ioa_values::{Names, Value, push_separator, show};
 use std::alloc::{AllocError, Global};
 
 /// Writes a piece of a list behind the pieces before it, with a comma and a space between; `position` is
-/// its place in the list.
+/// the position of the piece in the list.
 pub fn push_listed(list: &mut String, position: usize, item: &str) -> Result<(), AllocError>
-    ensures { OnOk result (string_bytes list.new ≡ string_bytes list.old ++ after_comma position item.now) }
+    ensures { OnOk result (Writes list.old list.new (separator position ++ item.now)) }
 {
-    if position > 0 {
-        list.push_str(", ")?;
-    }
+    push_separator(list, position)?;
     list.push_str(item)
 }
 
@@ -32,7 +31,7 @@ fn show_listed(alloc: Global, names: &Names, values: &[Value]) -> Result<String,
     Ok(list)
 }
 
-/// The arguments of an action in round brackets, or nothing where it has none.
+/// The arguments of an action in round brackets, or nothing if it has none.
 fn show_arguments(alloc: Global, names: &Names, values: &[Value]) -> Result<String, AllocError>
     ensures { IfOk result (λ s. string_bytes s ≡ arguments_text names.now values.now) }
 {
@@ -45,14 +44,14 @@ fn show_arguments(alloc: Global, names: &Names, values: &[Value]) -> Result<Stri
     }
 }
 
-/// The text of an action that bears its node: name, arguments and node.
+/// The text of an action of a node: name, arguments and node.
 fn show_at_node(alloc: Global, name: &str, arguments: &str, node: i64) -> Result<String, AllocError>
     ensures { IfOk result (λ s. string_bytes s ≡ name.now ++ (arguments.now ++ (codes "@" ++ signed_decimal node))) }
 {
     format!(in alloc; "{name}{arguments}@{node}")
 }
 
-/// The text of an action that bears its node (profile): `a(v, w)@k`, or `a@k` where it has no arguments.
+/// The text of an action of a node (profile): `a(v, w)@k`, or `a@k` if it has no arguments.
 pub fn show_node_action(
     alloc: Global,
     names: &Names,
@@ -78,7 +77,7 @@ fn show_message(
 }
 
 /// The text of an action (profile): `send(m, i, j)`, `receive(m, i, j)`, and for all others `a(v, w)@k`,
-/// or `a@k` where it has no arguments.
+/// or `a@k` if it has no arguments.
 pub fn show_action(alloc: Global, names: &Names, action: &Action) -> Result<String, AllocError>
     ensures { IfOk result (λ s. string_bytes s ≡ action_text names.now action.now) }
 {

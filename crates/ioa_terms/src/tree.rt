@@ -14,9 +14,9 @@ pub enum Kind {
     Internal,
 }
 
-/// A term. `N` is what stands beside a name: nothing in a text, the place of the name's value in a
-/// checked system. `D` is what stands beside a display, a field and an assigned variable: nothing in
-/// a text, the shape of its values in a checked system.
+/// A term. `N` is the annotation of a name: in a text nothing, in a checked system the slot of the name's
+/// value. `D` is the annotation of a display, a field and an assigned variable: in a text nothing, in a
+/// checked system the shape of its values.
 #[derive(Drop)]
 pub enum Tree<N, D> {
     /// A number.
@@ -40,10 +40,10 @@ pub enum Tree<N, D> {
 /// A term as a text spells it.
 pub type Term = Tree<(), ()>;
 
-/// A term of a checked system: beside each name the place of its value in the environment.
+/// A term of a checked system: each name has the slot of its value in the environment.
 pub type Checked = Tree<usize, Shape>;
 
-/// Where an assignment puts a value (profile), with the shape of the variable.
+/// The target of an assignment (profile), with the shape of the variable.
 #[derive(Drop)]
 pub enum Target<N, D> {
     /// `x`: a variable.
@@ -60,7 +60,7 @@ pub enum Target<N, D> {
 pub struct Arm<N, D> {
     /// The test.
     pub test: Tree<N, D>,
-    /// The statements that are performed where the test is true.
+    /// The statements that are performed if the test is true.
     pub body: Vec<Statement<N, D>>,
 }
 
@@ -72,6 +72,6 @@ pub enum Statement<N, D> {
     Assign(Target<N, D>, Tree<N, D>),
     /// `if t then s elseif u then s else s fi`: the first arm whose test is true, or the rest.
     If(Vec<Arm<N, D>>, Vec<Statement<N, D>>),
-    /// `fire a(t, u)`, in schedule blocks alone, with the action's kind where it is written.
+    /// `fire a(t, u)`, in schedule blocks alone, with the action's kind if it is written.
     Fire(Option<Kind>, Word, Vec<Tree<N, D>>),
 }

@@ -1,4 +1,4 @@
-use Rattle.ioa_terms.proofs.Commas.{with_commas-more}
+use Rattle.ioa_values.proofs.Commas.{with_commas-more}
 use Rattle.ioa_workers.specs.Reports.{item_text}
 use Rattle.ioa_workers.proofs.reporting.show_items.Goals as goal
 
