@@ -45,7 +45,7 @@ static DIVISIONS: [(Function, i64, i64, &str); 6] = [
     (Function::Insert, 7, 2, "1 Undefined"),
 ];
 
-/// The text of a value, or of the fault in its place.
+/// The text of a value, or of the fault.
 fn answer_text(alloc: Global, answer: Result<Value, TermFault>) -> Result<String, AllocError> {
     match answer {
         Ok(value) => show(alloc, &Names::none(alloc), &value),

@@ -3,7 +3,8 @@
 
 ghost use Rattle.std.specs.Prelude.{◌≡◌, ◌≤◌, IsTrue, Some, map, length};
 ghost use Rattle.ioa_terms.specs.Bindings.{slot_in};
-ghost use Rattle.ioa_terms.specs.Resolved.{IsResolved, AreTermsResolved, IsResolvedTarget, IsResolvedStatement, AreArmsResolved, AreAllResolved};
+ghost use Rattle.ioa_terms.specs.Resolved.{IsResolved, AreTermsResolved, IsResolvedTarget};
+ghost use Rattle.ioa_terms.specs.Resolved.{IsResolvedStatement, AreArmsResolved, AreAllResolved};
 ghost use Rattle.ioa_terms.specs.PlainTerm.{terms_of, statements_of, arms_of};
 ghost use Rattle.ioa_terms.specs.View.{term_of, target_of, statement_of, arm_of};
 
@@ -138,8 +139,8 @@ static ROWS: [(&str, &str); 102] = [
     ("1 tial/1", "Undefined"),
 ];
 
-/// Statements, performed where x = 1, y = 2, n = 0 (a natural), m is the empty map and p the pair of 3 and
-/// 4, and the values that they leave, or the fault.
+/// Statements, and the values that they leave, or the fault. They are performed with x = 1, y = 2, n = 0 (a
+/// natural), m the empty map and p the pair of 3 and 4.
 static EFFECTS: [(&str, &str); 13] = [
     ("x := y ; y := x", "2, 2, 0, {}, [3, 4]"),
     ("x := x 1 + ; x := x 1 +", "3, 2, 0, {}, [3, 4]"),
@@ -259,14 +260,12 @@ fn last(alloc: Global, stack: &mut Vec<Checked>, many: usize) -> Result<Vec<Chec
     Ok(parts)
 }
 
-/// The place of a name.
+/// The slot of a name, or the number of names if it is not among them.
 fn slot_of(name: &str, names: &[Word]) -> usize {
-    for (slot, other) in names.iter().enumerate() {
-        if other.as_str() == name {
-            return slot;
-        }
-    }
-    names.len()
+    names
+        .iter()
+        .position(|other| other.as_str() == name)
+        .unwrap_or(names.len())
 }
 
 /// The term that a word makes of those before it.
@@ -317,7 +316,7 @@ fn term(alloc: Global, text: &str, names: &[Word]) -> Result<Checked, Fail> {
     Ok(stack.pop().ok_or("a term is missing")?)
 }
 
-/// Whether a place is the first one of a name.
+/// Whether a slot is the first one of a name.
 fn is_first(name: &Word, slot: usize, names: &[Word]) -> bool
     ensures { IsTrue result → slot_in name.now names.now ≡ Some slot }
 {
@@ -329,7 +328,7 @@ fn is_first(name: &Word, slot: usize, names: &[Word]) -> bool
     false
 }
 
-/// Whether beside each name of a term stands its place.
+/// Whether each name of a term has its slot.
 #[cycle(resolving)]
 fn is_resolved(term: &Checked, names: &[Word]) -> bool
     ensures { IsTrue result → IsResolved (term_of term.now) names.now }
@@ -379,7 +378,7 @@ fn answer(
     }
 }
 
-/// Whether beside the name of a place stands that of a variable, and the key is placed.
+/// Whether the name of a target has its slot among the variables, and the key's names have theirs.
 fn is_resolved_target(target: &Target<usize, Shape>, variables: &[Word], names: &[Word]) -> bool
     ensures { IsTrue result → IsResolvedTarget (target_of target.now) variables.now names.now }
 {
@@ -390,7 +389,7 @@ fn is_resolved_target(target: &Target<usize, Shape>, variables: &[Word], names: 
     }
 }
 
-/// Whether a statement is placed.
+/// Whether each name of a statement has its slot.
 #[cycle(resolving_statements)]
 fn is_resolved_statement(
     statement: &Statement<usize, Shape>,
@@ -429,7 +428,8 @@ fn are_resolved_statements(
     variables: &[Word],
     names: &[Word],
 ) -> bool
-    ensures { IsTrue result → AreAllResolved (statements_of (map statement_of statements.now.items)) variables.now names.now }
+    ensures { IsTrue result →
+        AreAllResolved (statements_of (map statement_of statements.now.items)) variables.now names.now }
 {
     for statement in statements {
         if !is_resolved_statement(statement, variables, names) {
@@ -479,7 +479,7 @@ fn shape_of_variable(alloc: Global, name: &str) -> Result<Shape, Fail> {
     }
 }
 
-/// The place of a text.
+/// The target of a text.
 fn parse_target(alloc: Global, text: &str, names: &[Word]) -> Result<Target<usize, Shape>, Fail> {
     if let Some((name, key)) = text.split_once(" at ") {
         let at = slot_of(name, names);
