@@ -18,7 +18,7 @@ mutual
   same_shapes no_shapes = refl
   same_shapes (shape s ss) = rw (same_shape s, same_shapes ss) refl
 
--- so a value has the one where it has the other
+-- so a value has the one if it has the other
 pub narrow : (s : PlainShape) (d : Data) → has_shape (wide_shape_if false s) d ≡ has_shape s d
 narrow s d = rw (same_shape s) refl
 

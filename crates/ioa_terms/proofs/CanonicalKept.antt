@@ -30,7 +30,7 @@ after_test P None x y z h k l = h
 after_test P (Some true) x y z h k l = k
 after_test P (Some false) x y z h k l = l
 
--- the value of a name, and the environment where a name has another value
+-- the value of a name, and the environment in which a name has another value
 lookup_canonical : (x : List ℕ) (e : Bindings) → IsAscendingEnvironment e → IfSome (lookup x e) IsCanonical
 lookup_canonical x [] g = tt
 lookup_canonical x (b ∷ e) g =
@@ -51,7 +51,7 @@ decision_canonical Implies (truth false) = tt
 decision_canonical Implies _ = tt
 decision_canonical _ v = tt
 
--- what a function makes, where there is one
+-- what a function makes, if there is one
 function_canonical : (o : Option Function) (vs : List Data) → AllCanonical vs → IfSome (option_and_then (λ f. call_value f vs) o) IsCanonical
 function_canonical None vs h = tt
 function_canonical (Some f) vs h = call_canonical f vs h
@@ -115,7 +115,7 @@ mutual
   statements_canonical (statement s more) e g =
       and_then_holds IsAscendingEnvironment IsAscendingEnvironment (after_all more) (after_one s e) (statement_canonical s e g) (λ f h. statements_canonical more f h)
 
--- the value of a term, and the environment after statements, where there is one
+-- the value of a term, and the environment after statements, if there is one
 pub value_ascends : {N : Type 0} (e : Bindings) → IsAscendingEnvironment e → (t : PlainTerm N Shape) (v : Data) → value t e ≡ Some v → IsCanonical v
 value_ascends e g t v k = rw k at (term_canonical e g t)
 

@@ -1,4 +1,4 @@
--- A value has a shape where it has it but for signs, and no negative number stands for a natural.
+-- A value has a shape if and only if it has it but for signs, and has no negative number for a natural.
 use Rattle.std.proofs.Common.{◌≡◌, ℕ, ◌+◌, ℤ, pos, negsuc, Bool, true, false, refl, sym, ap, ◌∙◌, arith}
 use Rattle.std.specs.Prelude.{nat_le, nat_lt, int_le, int_lt, not, ◌&&◌, ◌||◌, map}
 use Rattle.std.proofs.lemmas.Bool.{and_parts}
@@ -70,7 +70,7 @@ mutual
       (both (has_shape v e) (has_shape (wide_shape_if true v) e) (has_negative v e) (entries_have k v es) (entries_have (wide_shape_if true k) (wide_shape_if true v) es) (entries_negative k v es)
       (has_but_for_signs v e) (entries_but_for_signs k v es))
 
--- where naturals count as integers no sign is looked at
+-- with integers for naturals, signs do not matter
 shape_in_terms_wide : (s : PlainShape) → wide_shape_if true (shape_in_terms s) ≡ wide_shape_if true s
 shape_in_terms_wide truths = refl
 shape_in_terms_wide integers = refl
@@ -94,6 +94,6 @@ each_but_for_signs (shape s ss) (item d ds) h =
     let p = and_parts (has_shape (shape_in_terms s) d) (have_shapes (shapes_of (map shape_in_terms (listed_shapes ss))) ds) h in
     rw (shape_in_terms_but_for_signs s d p.0) (each_but_for_signs ss ds p.1)
 
--- values of a tuple's fields, but for their signs, have the fields' shapes where no negative number stands for a natural
+-- values that have the shapes of a tuple's fields but for signs have them if none has a negative number for a natural
 pub fields_but_for_signs : (ss : PlainShapes) (ds : Items) → have_shapes (shapes_of (map shape_in_terms (listed_shapes ss))) ds ≡ true → have_shapes ss ds ≡ not (have_negative ss ds)
 fields_but_for_signs ss ds h = have_but_for_signs ss ds ∙ ap (λ b. b && not (have_negative ss ds)) (each_but_for_signs ss ds h)

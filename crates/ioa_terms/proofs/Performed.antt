@@ -68,7 +68,7 @@ key_first dk dt (Some i) vt f =
     ∙ ap (λ (r : Result Data TermFault). if list_all is_within dk then r else Err Range) (and_step dt vt (f i))
     ∙ sym (range_check_append dk dt (option_and_then (f i) vt))
 
--- what an assignment gives its variable is judged as a whole
+-- what an assignment gives its variable is checked as a whole
 stepwise_assignment_is : {N : Type 0} (p : PlainTarget N Shape) (t : PlainTerm N Shape) (e : Bindings) → stepwise_assignment p t e ≡ range_check (numbers_met_by_assignment p t e) (assignment_value p t e)
 stepwise_assignment_is (variable x at d) t e = stepwise_is t e
 stepwise_assignment_is (at_key x at d k) t e =
@@ -87,7 +87,7 @@ map_and_then : {A B C : Type 0} (f : A → Option B) (g : B → C) (o : Option A
 map_and_then f g None = refl
 map_and_then f g (Some v) = refl
 
--- the new value is put where it has the variable's shape
+-- the new value is put if it has the variable's shape
 put_is : (ds : List Data) (o : Option Data) (x : List ℕ) (s : PlainShape) (e : Bindings) → and_then (range_check ds o) (put_fitting_value x s e) ≡ range_check ds (option_map (λ w. put x w e) (option_and_then (fitting_value s) o))
 put_is ds o x s e =
     ap (λ (f : Data → Result Bindings TermFault). and_then (range_check ds o) f) (λ j v. put_one x s e v j)
@@ -105,13 +105,13 @@ answered_some : (b t : Bool) (held other : Result Bindings TermFault) → if_ans
 answered_some true t held other = refl
 answered_some false t held other = refl
 
--- what comes after a test is judged with it
+-- what comes after a test is checked with it
 choice_is : (ds held other : List Data) (o : Option Bool) (y n : Option Bindings) → if_answered (range_check ds o) (range_check held y) (range_check other n) ≡ range_check (ds ++ by_test o [] held other) (by_test o None y n)
 choice_is ds held other None y n = rw (append-nil ds) (answered_none (list_all is_within ds) (range_check held y) (range_check other n))
 choice_is ds held other (Some true) y n = answered_some (list_all is_within ds) true (range_check held y) (range_check other n) ∙ sym (range_check_append ds held y)
 choice_is ds held other (Some false) y n = answered_some (list_all is_within ds) false (range_check held y) (range_check other n) ∙ sym (range_check_append ds other n)
 
--- what comes after a statement is judged with it
+-- what comes after a statement is checked with it
 next_is : (ds : List Data) (o : Option Bindings) (more : Bindings → List Data) (next : Bindings → Option Bindings) → and_then (range_check ds o) (λ e. range_check (more e) (next e)) ≡ range_check (ds ++ numbers_met_after o more) (option_and_then next o)
 next_is ds None more next = rw (append-nil ds) (range_check_none ds (λ e. range_check (more e) (next e)))
 next_is ds (Some e) more next = range_check_some ds e (λ e. range_check (more e) (next e)) ∙ sym (range_check_append ds (more e) (next e))
@@ -134,7 +134,7 @@ mutual
       ap (λ (f : Bindings → Result Bindings TermFault). and_then (stepwise_one s e) f) (λ j v. stepwise_all_is more v j)
       ∙ rw (stepwise_one_is s e) (next_is (numbers_met_by_one s e) (after_one s e) (numbers_met_by_all more) (after_all more))
 
--- statements, performed one after another, are judged as a whole
+-- statements, performed one after another, are checked as a whole
 pub stepwise_by_is : {N : Type 0} (ss : List (PlainStatement N Shape)) (e : Bindings) → stepwise_all (statements_of ss) e ≡ answer_by ss e
 stepwise_by_is ss e = stepwise_all_is (statements_of ss) e
 

@@ -1,4 +1,4 @@
--- Actions that are told to be the same are equal.
+-- Actions that the test finds the same are equal.
 use Rattle.std.proofs.Common.{◌≡◌, ℤ, List, refl, ap}
 use Rattle.std.specs.Prelude.{◌↔◌, IsTrue, ◌&&◌}
 use Rattle.std.specs.Ordering.{int_eq}
@@ -17,7 +17,7 @@ use Rattle.ioa_terms.specs.declared.action.Action.TheVariants.{Send, Receive, Lo
 Decides-same : (a b : Data) → Decides (same a b) (a ≡ b)
 Decides-same a b = (same_equal a b, λ e. rw (← e) (same_itself a))
 
--- lists of values are told to be the same where they are equal
+-- the test finds two lists of values the same if and only if they are equal
 Decides-all_same : (vs ws : List Data) → Decides (all_same vs ws) (vs ≡ ws)
 Decides-all_same vs ws = slice_eq-Decides Decides-same vs ws _ refl
 
@@ -28,7 +28,7 @@ Decides-node a b =
     (Decides-and _ _ (Decides-int_eq a.node b.node)
     (Decides-and _ _ (bytes_eq-Decides a.name b.name) (Decides-all_same a.arguments b.arguments)))
 
--- two actions of nodes are told to be the same exactly where they are equal
+-- the test finds two actions of nodes the same if and only if they are equal
 pub same_node_action_is : (a b : NodeAction) → IsTrue (same_node_action a b) ↔ (a ≡ b)
 same_node_action_is = Decides-node
 
@@ -36,7 +36,7 @@ same_node_action_is = Decides-node
 parts_same : (m n : Data) (i j k l : ℤ) → Decides (same m n && (int_eq i k && int_eq j l)) ((m ≡ n) × ((i ≡ k) × (j ≡ l)))
 parts_same m n i j k l = Decides-and _ _ (Decides-same m n) (Decides-and _ _ (Decides-int_eq i k) (Decides-int_eq j l))
 
--- two actions are told to be the same exactly where they are equal
+-- the test finds two actions the same if and only if they are equal
 pub same_action_is : (a b : Action) → IsTrue (same_action a b) ↔ (a ≡ b)
 same_action_is (Send m i j) (Send n k l) =
     let d = parts_same m n i j k l in

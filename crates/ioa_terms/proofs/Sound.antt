@@ -50,6 +50,6 @@ mutual
       and_then_holds (Has x) (HaveEach (x ∷ xs)) (λ v. option_map (λ vs. v ∷ vs) (values more e)) (value t e) (sound names e g t x h.0)
       (λ v k. map_holds (HaveEach xs) (HaveEach (x ∷ xs)) (λ vs. v ∷ vs) (values more e) (all_sound names e g more xs h.1) (λ vs l. (k, l)))
 
--- the value of a term, where it has one, has the shape of the term
+-- the value of a term, if it has one, has the shape of the term
 pub value_has : {N : Type 0} (names : NameShapes) (e : Bindings) → IsShaped names e → (t : PlainTerm N Shape) (s : PlainShape) → HasShape names t s → (v : Data) → value t e ≡ Some v → has_shape s v ≡ true
 value_has names e g t s h v k = rw k at (sound names e g t s h)

@@ -24,7 +24,7 @@ two_tests : {X : Type 0} (a b : Bool) (x y : X) → (if a && b then x else y) �
 two_tests true b x y = refl
 two_tests false b x y = refl
 
--- what is met first is judged first
+-- what is met first is checked first
 pub range_check_append : {A : Type 0} (xs ys : List Data) (v : Option A) → range_check (xs ++ ys) v ≡ (if list_all is_within xs then range_check ys v else Err Range)
 range_check_append xs ys v = rw (list_all-append is_within xs ys) (two_tests (list_all is_within xs) (list_all is_within ys) (ok_or v Undefined) (Err Range))
 
@@ -54,7 +54,7 @@ one_part : {A : Type 0} (f : A → Option Data) (da : List Data) (va : Option A)
 one_part f da None = rw (append-nil da) (range_check_none da (λ x. checked_result (f x)))
 one_part f da (Some x) = range_check_some da x (λ x. checked_result (f x)) ∙ sym (range_check_append da (result_of (f x)) (f x))
 
--- the right side, which may be taken or not
+-- the right side, which may be evaluated or not
 right_part : (op : BinaryOperator) (x : Data) (o : Option Data) (db : List Data) (vb : Option Data) → with_right op x o (range_check db vb) ≡ range_check (if_none o db ++ result_of (option_or o (option_and_then (binary_value op x) vb))) (option_or o (option_and_then (binary_value op x) vb))
 right_part op x None db vb = one_part (binary_value op x) db vb
 right_part op x (Some d) db vb = refl
@@ -75,7 +75,7 @@ one_more da db (Some v) vb =
     ∙ sym (range_check_append da db (option_map (λ vs. v ∷ vs) vb))
 
 mutual
-  -- a term, evaluated part by part, is judged as a whole
+  -- a term, evaluated part by part, is checked as a whole
   pub stepwise_is : {N : Type 0} (t : PlainTerm N Shape) (e : Bindings) → stepwise_answer t e ≡ answer t e
   stepwise_is (plain.number n) e = refl
   stepwise_is (plain.truth b) e = refl
@@ -86,7 +86,7 @@ mutual
   stepwise_is (display form d ts) e = rw (all_stepwise_is ts e) (one_part (display_value form (shape_of d)) (all_numbers_met ts e) (values ts e))
   stepwise_is (field a w d) e = rw (stepwise_is a e) (one_part (field_value (shape_of d) w) (numbers_met a e) (value a e))
 
-  -- terms, evaluated one after another, are judged as a whole
+  -- terms, evaluated one after another, are checked as a whole
   pub all_stepwise_is : {N : Type 0} (ts : PlainTerms N Shape) (e : Bindings) → stepwise_answers ts e ≡ range_check (all_numbers_met ts e) (values ts e)
   all_stepwise_is no_terms e = refl
   all_stepwise_is (term t more) e = rw (stepwise_is t e, all_stepwise_is more e) (one_more (numbers_met t e) (all_numbers_met more e) (value t e) (values more e))

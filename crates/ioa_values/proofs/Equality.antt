@@ -20,7 +20,7 @@ truths_tied false true e = absurd (cc)
 truths_tied true false e = absurd (cc)
 truths_tied true true e = refl
 
--- where one after another leaves two apart by neither, each leaves them so
+-- if two orders, one after the other, tie two values, each of them does
 first_tied : (o p : Ordering) → ordering_then o p ≡ Equal → o ≡ Equal
 first_tied Less p e = e
 first_tied Equal p e = refl
@@ -69,14 +69,14 @@ answer_equal Less e = absurd (cc)
 answer_equal Equal e = refl
 answer_equal Greater e = absurd (cc)
 
--- values that are not told apart are the same value
+-- values that the test finds the same are equal
 pub same_equal : (a b : Data) → same a b ≡ true → a ≡ b
 same_equal a b e = tied_equal a b (answer_equal (data_cmp a b) e)
 
--- no value is told apart from itself
+-- the test finds a value the same as itself
 pub same_itself : (a : Data) → same a a ≡ true
 same_itself a = ap is_eq (tied_itself data_cmp_total a)
 
--- two values are told to be the same exactly where they are equal
+-- the test finds two values the same if and only if they are equal
 pub same_is : (a b : Data) → IsTrue (same a b) ↔ (a ≡ b)
 same_is a b = (same_equal a b, λ e. rw (← e) (same_itself a))

@@ -7,7 +7,7 @@ use Rattle.ioa_operators.proofs.between.binary.Goals as goal
 pub returns-clause-value : goal.returns-clause-value
 returns-clause-value c = answers (operator_takes_memory c.args.operator) c.between_values.result (binary_value c.args.operator c.args.left c.args.right) c.between_values.ensures
 
--- memory is lacked only where it is taken
+-- only a call that takes memory lacks it
 pub returns-clause-memory : goal.returns-clause-memory
 returns-clause-memory c = lacks_only_if (operator_takes_memory c.args.operator) c.between_values.result (binary_value c.args.operator c.args.left c.args.right) c.between_values.ensures
 

@@ -8,7 +8,7 @@ use Rattle.ioa_operators.proofs.between.unary.Goals as goal
 pub returns-clause-value : goal.returns-clause-value
 returns-clause-value c = answers false c.before_value.result (unary_value c.args.operator c.args.value.now) c.before_value.ensures
 
--- no memory is taken
+-- the call takes no memory
 pub returns-clause-memory : goal.returns-clause-memory
 returns-clause-memory c = lacks_only_if false c.before_value.result (unary_value c.args.operator c.args.value.now) c.before_value.ensures
 

@@ -8,7 +8,7 @@ use Rattle.ioa_operators.proofs.displays.display.Goals as goal
 pub returns-clause-value : goal.returns-clause-value
 returns-clause-value c = answers (display_takes_memory c.args.form (shape_of c.args.shape.now)) c.make_display.result (display_value c.args.form (shape_of c.args.shape.now) c.args.parts.items) c.make_display.ensures
 
--- memory is lacked only where it is taken
+-- only a call that takes memory lacks it
 pub returns-clause-memory : goal.returns-clause-memory
 returns-clause-memory c = lacks_only_if (display_takes_memory c.args.form (shape_of c.args.shape.now)) c.make_display.result (display_value c.args.form (shape_of c.args.shape.now) c.args.parts.items) c.make_display.ensures
 

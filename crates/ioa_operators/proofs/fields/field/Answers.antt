@@ -9,7 +9,7 @@ use Rattle.ioa_operators.proofs.fields.field.Goals as goal
 pub returns-clause-value : goal.returns-clause-value
 returns-clause-value c = answers false c.field_of.result (field_value (shape_of c.args.shape.now) c.args.name.now c.args.value) c.field_of.ensures
 
--- no memory is taken
+-- the call takes no memory
 pub returns-clause-memory : goal.returns-clause-memory
 returns-clause-memory c = lacks_only_if false c.field_of.result (field_value (shape_of c.args.shape.now) c.args.name.now c.args.value) c.field_of.ensures
 

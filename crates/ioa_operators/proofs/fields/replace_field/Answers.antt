@@ -9,7 +9,7 @@ use Rattle.ioa_operators.proofs.fields.replace_field.Goals as goal
 pub returns-clause-value : goal.returns-clause-value
 returns-clause-value c = answers false c.put_field.result (with_field (shape_of c.args.shape.now) c.args.name.now c.args.new c.args.value) c.put_field.ensures
 
--- no memory is taken
+-- the call takes no memory
 pub returns-clause-memory : goal.returns-clause-memory
 returns-clause-memory c = lacks_only_if false c.put_field.result (with_field (shape_of c.args.shape.now) c.args.name.now c.args.new c.args.value) c.put_field.ensures
 

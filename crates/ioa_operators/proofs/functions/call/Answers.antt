@@ -7,7 +7,7 @@ use Rattle.ioa_operators.proofs.functions.call.Goals as goal
 pub returns-clause-value : goal.returns-clause-value
 returns-clause-value c = answers (call_takes_memory c.args.function) c.apply_function.result (call_value c.args.function c.args.parts.items) c.apply_function.ensures
 
--- memory is lacked only where it is taken
+-- only a call that takes memory lacks it
 pub returns-clause-memory : goal.returns-clause-memory
 returns-clause-memory c = lacks_only_if (call_takes_memory c.args.function) c.apply_function.result (call_value c.args.function c.args.parts.items) c.apply_function.ensures
 
