@@ -1,4 +1,4 @@
--- In a text that has no row of refusal none stands.
+-- To a text that has no row of refusal none applies.
 use Rattle.std.proofs.Common.{◌≡◌, ℕ, zero, suc, pos, Bool, true, false, List, [], ◌∷◌, ◌++◌, Option, Some, None, inl, inr, refl, subst, ◌∙◌, length, arith, Contains}
 use Rattle.std.proofs.lemmas.Bool.{and_parts, or_right}
 use Rattle.std.proofs.lemmas.Bool.Decides.{Decides-eqb}
@@ -35,7 +35,7 @@ not_both h k = absurd (cc)
 both_pass : {b c : Bool} → b ≡ true → c ≡ true → (b && c) ≡ true
 both_pass h k = rw (h, k) refl
 
--- what passes each item passes an item that is there
+-- a test that all items pass, an item of the list passes
 one_of : {A : Type 0} (p : A → Bool) (xs : List A) (x : A) → list_all p xs ≡ true → Contains xs x → p x ≡ true
 one_of p xs x h c = by_test (p x) refl
   where
@@ -43,7 +43,7 @@ one_of p xs x h c = by_test (p x) refl
     by_test true e = refl
     by_test false e = absurd (not_both h (all_contained p xs x c e))
 
--- what holds of each item holds of an item that is there
+-- a fact of all items is one of an item of the list
 each_of : {A : Type 0} (P : A → Type 0) (xs : List A) (x : A) → AllByRecursion P xs → Contains xs x → P x
 each_of P [] x h c = absurd (omega (arith, c.1))
 each_of P (y ∷ xs) x h (zero, within, at) = subst P at h.0
@@ -81,7 +81,7 @@ known_message : (p : SourceParameter) → is_message p ≡ true → is_known_par
 known_message (const t) h = absurd (cc)
 known_message (named d) h = h
 
--- an end of a channel is known where it reads no name
+-- an end of a channel is known if it reads no name
 known_end : (p : SourceParameter) → is_end p ≡ true → rows.reads_no_name p ≡ true → is_known_parameter p ≡ true
 known_end (const t) h k = k
 known_end (named d) h k = absurd (cc)
@@ -90,7 +90,7 @@ known_end (named d) h k = absurd (cc)
 too_many : (n : ℕ) → nat_eq (suc (suc (suc (suc n)))) 3 ≡ true → ⊥
 too_many n h = let three : suc (suc (suc (suc n))) ≡ 3 = (Decides-eqb (suc (suc (suc (suc n)))) 3).0 h in omega (arith, three)
 
--- the parameters of an entry of the first form are known where its constants read no name
+-- the parameters of an entry of the first form are known if its constants read no name
 known_parameters : (ps : List SourceParameter) → are_first_parameters ps ≡ true → list_all rows.reads_no_name ps ≡ true → list_all is_known_parameter ps ≡ true
 known_parameters [] h k = absurd (cc)
 known_parameters (p ∷ []) h k = absurd (cc)
@@ -157,7 +157,7 @@ own_in_view names ps x h = list_any-append (same_name x) names (own_names ps) �
 known_variable : (v : SourceVariable) → is_first_variable v ≡ true → rows.guard_reads_only [] v.initial ≡ true → is_known_variable v ≡ true
 known_variable v h k = both_pass k (and_parts (is_first_sort v.declared.sort) (passes_or_none is_numeral v.initial) h).0
 
--- a number where one has to be is one where one may be
+-- an initial term that has to be a number may be one
 number_begins : (o : Option SourceTerm) → rows.is_number_term o ≡ true → passes_or_none is_number o ≡ true
 number_begins None h = refl
 number_begins (Some t) h = h
@@ -173,7 +173,7 @@ module _ (names : List (List ℕ)) (ts : List SourceTransition) (e : SourceEntry
       (both_pass (repeated_head (names ++ own_names e.parameters) e.parameters h.transition.arguments (own_in_view names e.parameters) h.head h.constant_names)
       (both_pass h.guard_names h.effect_names))
 
-  -- no row of an entry stands
+  -- no row applies to an entry
   pub none_in_entry : (r : Row) → StandsInEntry names ts e r → ⊥
   none_in_entry row.Unknown s = not_both (passed (λ t. is_known_entry e && is_known_transition names (names ++ own_names e.parameters) t) known s.0 s.1) s.2
   none_in_entry row.Twice s = s h.differ
@@ -189,7 +189,7 @@ module _ (names : List (List ℕ)) (ts : List SourceTransition) (e : SourceEntry
   none_in_entry row.Limit s = s
   none_in_entry row.BadArgument s = not_both (passed (λ t. pointwise rows.argument_repeats e.parameters t.arguments) h.head s.0 s.1) s.2
 
--- no row of an automaton stands without its entries, but for initial terms that have no value
+-- no row applies to an automaton without its entries, but for initial terms that have no value
 none_in_parts : (a : SourceAutomaton) → is_first_automaton a ≡ true → HasNoAutomatonRow a → (r : Row) → StandsInParts a r → (r ≡ row.BadArgument) × HasNoValue a.states
 none_in_parts a form h row.Unknown s =
     absurd (not_both
@@ -209,7 +209,7 @@ none_in_parts a form h row.NodeGap s = absurd s
 none_in_parts a form h row.Limit s = absurd s
 none_in_parts a form h row.BadArgument s = (refl, s)
 
--- no row of an automaton stands, but for initial terms that have no value
+-- no row applies to an automaton, but for initial terms that have no value
 none_in_automaton : (a : SourceAutomaton) → is_first_automaton a ≡ true → HasNoAutomatonRow a → (r : Row) → StandsInAutomaton a r → (r ≡ row.BadArgument) × HasNoValue a.states
 none_in_automaton a form h r (inl s) = none_in_parts a form h r s
 none_in_automaton a form h r (inr s) =
@@ -221,7 +221,7 @@ none_in_automaton a form h r (inr s) =
 is_number_there : (ns : List SourceNode) (k : ℤ) (n : SourceNode) → Contains ns n → n.number ≡ k → rows.is_node ns k ≡ true
 is_number_there ns k n c e = list_any_at (λ m. int_eq m.number k) ns c.0 n c.1 (rw (c.2, e) (int_eq_equiv.refl k))
 
--- no row of a text stands without its automata
+-- no row applies to a text without its automata
 none_in_whole : (t : SourceText) → HasNoRow t → (r : Row) → StandsInWhole t r → ⊥
 none_in_whole t h row.Unknown s = not_both (both_pass h.first_declarations (both_pass h.first_placements (both_pass h.system.declared h.system.ends))) s
 none_in_whole t h row.Twice s = s (h.automata_differ, h.system.nodes_differ, h.system.channels_differ)
@@ -236,7 +236,7 @@ none_in_whole t h row.NodeGap s =
 none_in_whole t h row.Limit s = s (h.system.few_nodes, h.system.few_channels)
 none_in_whole t h row.BadArgument s = not_both h.system.at_home s
 
--- no row of a text stands, but for initial terms that have no value
+-- no row applies to a text, but for initial terms that have no value
 pub none_stands : (t : SourceText) → HasNoRow t → (r : Row) → StandsIn t r → (r ≡ row.BadArgument) × ((a : SourceAutomaton) × Contains (automata_in t.declarations) a × HasNoValue a.states)
 none_stands t h r (inl s) = absurd (none_in_whole t h r s)
 none_stands t h r (inr s) =

@@ -1,4 +1,4 @@
--- Rows of parts, which stand in the automaton and the text that they are parts of.
+-- Rows of parts apply to the automaton and the text of which they are parts.
 use Rattle.std.proofs.Common.{◌≡◌, ◌<◌, ◌+◌, ℕ, suc, Bool, true, false, List, [], ◌∷◌, ◌++◌, Option, Some, None, inl, inr, refl, sym, ap, subst, ◌∙◌, length, map, take, drop, get_or, cond, arith, Contains}
 use Rattle.std.proofs.lemmas.List.{map-append, append_assoc, append-nil, length-map}
 use Rattle.std.proofs.lemmas.List.Elements.{Contains-append_left, Contains-append_right}
@@ -21,7 +21,7 @@ use Rattle.ioa_check.specs.Correspondence.{automata_in, automaton_in}
 use Rattle.ioa_check.specs.Standing.{StandsInAutomata, StandsInInitial, StandsInParts, StandsInVariables, begins_with_number, is_known_variable}
 use Rattle.ioa_check.proofs.Refused.{all_contained, all_fails, first_repeat, parts_at}
 
--- what an item stands for is there where the item is
+-- if a list contains an item, its image contains the item's image
 contains_map : {A B : Type 0} (f : A → B) (xs : List A) (x : A) → Contains xs x → Contains (map f xs) (f x)
 contains_map f xs x c = (c.0, rw (length-map xs f) c.1, get_or-map f xs c.0 x ∙ ap f c.2)
 

@@ -1,4 +1,4 @@
--- Rows that stand: from the part in which the code finds one to the whole.
+-- Rows that apply: from the part in which the code finds one to the whole.
 use Rattle.std.proofs.Common.{◌≡◌, ◌<◌, ◌+◌, ℕ, zero, suc, Bool, true, false, ◌||◌, List, [], ◌∷◌, ◌++◌, Option, Some, None, ◌≤◌, if◌then◌else◌, refl, sym, ap, subst, ◌∙◌, length, map, take, drop, get_or, arith, Contains}
 use Rattle.std.proofs.lemmas.Bool.Decides.{nat_tests}
 use Rattle.std.proofs.lemmas.List.{take_more, take-append-drop, map-append, length-map}
@@ -48,11 +48,11 @@ pub all_fails : {A B : Type 0} (p : B → Bool) (f : A → B) (ys : List A) (i :
 all_fails p f ys i y h within at =
     list_all_at p (map f ys) i (f y) (rw (length-map ys f) within) (rw (get_or-map f ys i y, ← at) h)
 
--- the same, of an item that is there
+-- the same, of an item that a list contains
 pub all_contained : {A : Type 0} (p : A → Bool) (xs : List A) (x : A) → Contains xs x → p x ≡ false → list_all p xs ≡ false
 all_contained p xs x c h = list_all_at p xs c.0 x c.1 (rw c.2 h)
 
--- an item by its place is there
+-- an item at a position of a list is one of its items
 pub contained : {A B : Type 0} (f : A → B) (ys : List A) (i : ℕ) (y : A) → i < length ys → y ≡ get_or ys i y → Contains (map f ys) (f y)
 contained f ys i y within at = (i, rw (length-map ys f) within, get_or-map f ys i y ∙ ap f (sym at))
 
@@ -61,7 +61,7 @@ pub fails_each : {A B : Type 0} (p q : B → Bool) (f : A → B) (ys : List A) (
 fails_each p q f ys i y e h within at =
     refuses_weaker (fails_weaker (Fails (list_all p (map f ys)) (list_all q (map f ys))) (λ k. all_fails p f ys i y k within at) (λ k. all_fails q f ys i y k within at)) e h
 
--- the first items of a list differ where all do
+-- if all items of a list differ, the first ones do
 distinct_first : {A : Type 0} (e : A → A → Bool) (xs ys : List A) → IsDistinct e (xs ++ ys) → IsDistinct e xs
 unfolding IsDistinct
 distinct_first e [] ys d = tt
@@ -95,7 +95,7 @@ any_name x (y ∷ names) = rw (same_name-sym x y, any_name x names) refl
 pub declared_twice : (x : List ℕ) (names : List (List ℕ)) → list_any (same_name x) names ≡ true → IsDistinct same_name (names ++ x ∷ []) → ⊥
 declared_twice x names h d = repeats_push same_name names x (sym (any_name x names) ∙ h) d
 
--- a list is what is gone by, the item, and what is left
+-- a list is the items before an item, the item, and the items after it
 pub parts_at : {A : Type 0} (ys : List A) (i : ℕ) (y : A) → i < length ys → y ≡ get_or ys i y → ys ≡ (take i ys ++ y ∷ []) ++ drop (i + 1) ys
 parts_at {A} ys i y within at =
     let gone : take (i + 1) ys ≡ take i ys ++ y ∷ [] = take_more ys i y within ∙ ap (λ (z : A). take i ys ++ z ∷ []) (sym at) in
@@ -110,19 +110,19 @@ distinct_at {A} {B} e f ys i y within at d =
     ∙ ap (λ (zs : List B). zs ++ map f (drop (i + 1) ys)) (map-append f (take i ys) (y ∷ [])) in
     distinct_first e (map f (take i ys) ++ f y ∷ []) (map f (drop (i + 1) ys)) (subst (λ (zs : List B). IsDistinct e zs) whole d)
 
--- the one row, where more follows from it
+-- a weaker statement about the one row
 pub only_map : (k : Row) {P Q : Type 0} → (P → Q) → (e : Refusal) → Refuses (Only k P) e → Refuses (Only k Q) e
 only_map k h (refusal.Row r) p = (p.0, h p.1)
 only_map k h refusal.Memory p = tt
 
--- an item that one before it is equal to, by its place
+-- an item of a position to which an earlier item is equal
 pub repeats_in : {A : Type 0} (e : A → A → Bool) (ys : List A) (i : ℕ) (d : A) → list_any (λ x. e x (get_or ys i d)) (take i ys) ≡ true → i < length ys → IsDistinct e ys → ⊥
 repeats_in {A} e ys i d h within all =
     let parts : ys ≡ (take i ys ++ get_or ys i d ∷ []) ++ drop (i + 1) ys =
     sym (take-append-drop (i + 1) ys) ∙ ap (λ (zs : List A). zs ++ drop (i + 1) ys) (take_more ys i d within) in
     repeats_push e (take i ys) (get_or ys i d) h (distinct_first e (take i ys ++ get_or ys i d ∷ []) (drop (i + 1) ys) (subst (λ (zs : List A). IsDistinct e zs) parts all))
 
--- the same, of what the items stand for
+-- the same, of the images of the items under a function
 pub repeats_in-map : {A B : Type 0} (e : B → B → Bool) (f : A → B) (ys : List A) (i : ℕ) (y : A) → list_any (λ x. e x (f y)) (map f (take i ys)) ≡ true → i < length ys → y ≡ get_or ys i y → IsDistinct e (map f ys) → ⊥
 repeats_in-map e f ys i y h within at d = repeats_push e (map f (take i ys)) (f y) h (distinct_at e f ys i y within at d)
 
@@ -130,7 +130,7 @@ two_maps : {A B C : Type 0} (g : B → C) (f : A → B) (xs : List A) (y : A) (z
 two_maps g f xs y zs =
     rw (map-append f (xs ++ y ∷ []) zs, map-append f xs (y ∷ []), map-append g (map f xs ++ f y ∷ []) (map f zs), map-append g (map f xs) (f y ∷ [])) refl
 
--- names of items that differ, where one cannot be declared behind those before it
+-- if the name of one item repeats an earlier name, the names of all items do not differ
 pub names_repeat : {A B C : Type 0} (e : C → C → Bool) (g : B → C) (f : A → B) (ys : List A) (i : ℕ) (y : A) (old : List C) → (IsDistinct e (old ++ g (f y) ∷ []) → ⊥) → old ≡ map g (map f (take i ys)) → i < length ys → y ≡ get_or ys i y → IsDistinct e (map g (map f ys)) → ⊥
 names_repeat {A} {B} {C} e g f ys i y old wrong same within at d =
     let whole : map g (map f ys) ≡ (map g (map f (take i ys)) ++ g (f y) ∷ []) ++ map g (map f (drop (i + 1) ys)) =
@@ -139,11 +139,11 @@ names_repeat {A} {B} {C} e g f ys i y old wrong same within at d =
     distinct_first e (map g (map f (take i ys)) ++ g (f y) ∷ []) (map g (map f (drop (i + 1) ys))) (subst (λ (zs : List C). IsDistinct e zs) whole d) in
     wrong (subst (λ (zs : List C). IsDistinct e (zs ++ g (f y) ∷ [])) (sym same) first)
 
--- names that differ, where the first ones do not
+-- if the first names do not differ, all names do not
 pub first_repeat : (xs ys : List (List ℕ)) → (IsDistinct same_name xs → ⊥) → IsDistinct same_name (xs ++ ys) → ⊥
 first_repeat xs ys wrong d = wrong (distinct_first same_name xs ys d)
 
--- a name that has no place is none of the names
+-- a name that has no slot is none of the names
 pub none_slot : (x : List ℕ) (names : List (List ℕ)) → None ≡ slot_in x names → list_any (same_name x) names ≡ false
 none_slot x [] h = refl
 none_slot x (y ∷ ys) h = by_test (same_name x y) (λ e. none_slot x ys e) h
@@ -171,7 +171,7 @@ first_of p (x ∷ xs) (suc n) h = any_of_first (p x) (list_any p xs) (list_any p
 pub none_first_slot : (x : List ℕ) (names : List (List ℕ)) (count : ℕ) → None ≡ slot_in x names → list_any (same_name x) (take count names) ≡ false
 none_first_slot x names count h = first_of (same_name x) names count (none_slot x names h)
 
--- a name whose place comes after the first names is none of them
+-- a name whose slot comes after the first names is none of them
 pub later_slot : (x : List ℕ) (names : List (List ℕ)) (at count : ℕ) → Some at ≡ slot_in x names → count ≤ at → list_any (same_name x) (take count names) ≡ false
 later_slot x [] at zero h l = refl
 later_slot x [] at (suc count) h l = refl

@@ -1,4 +1,4 @@
--- Facts of a text, from those of what is made of it.
+-- Facts of a text, from those of the program that is made of it.
 use Rattle.std.proofs.Common.{◌≡◌, ◌≢◌, ◌<◌, ◌≤◌, ◌+◌, ℕ, zero, suc, pos, Bool, true, false, List, [], ◌∷◌, ◌++◌, refl, sym, ap, subst, ◌∙◌, length, map, take, get_or, arith, Contains}
 use Rattle.std.proofs.lemmas.List.{take_more, map-append, length-map}
 use Rattle.std.proofs.Math.Seq.{take-append_seam}
@@ -26,7 +26,7 @@ pointwise_short E (x ∷ xs) (y ∷ ys) h = rw (pointwise_short E xs ys (λ q. h
     and_false true = refl
     and_false false = refl
 
--- parameters have the same names without what stands beside the names of their terms
+-- parameters have the same names without their annotations
 own_names-erase : (ps : List CheckedParameter) → own_names (map erase_parameter ps) ≡ own_names ps
 own_names-erase [] = refl
 own_names-erase (const t ∷ ps) = own_names-erase ps
@@ -47,7 +47,7 @@ scope_of-erase vs resolved e scope s same =
 pub variables_erased : (a : SourceAutomaton) (vs : List CheckedVariable) → map erase_variable vs ≡ a.states → variable_names vs ≡ variable_names a.states
 variables_erased a vs same = sym (variable_names-erase vs) ∙ ap (λ (xs : List SourceVariable). variable_names xs) same
 
--- the rows of entries, where the variables are those of the automaton
+-- the rows of entries, if the variables are those of the automaton
 pub entries_erased : (a : SourceAutomaton) (vs : List CheckedVariable) → map erase_variable vs ≡ a.states → AllByRecursion (HasNoEntryRow (variable_names vs) a.transitions) a.signature → AllByRecursion (HasNoEntryRow (variable_names a.states) a.transitions) a.signature
 entries_erased a vs same h =
     let names : variable_names vs ≡ variable_names a.states = sym (variable_names-erase vs) ∙ ap (λ (xs : List SourceVariable). variable_names xs) same in
@@ -65,7 +65,7 @@ distinct_push {A} e (x ∷ xs) y d h =
 pub distinct_take : {A : Type 0} (e : A → A → Bool) (ys : List A) (i : ℕ) (d : A) → IsDistinct e (take i ys) → list_any (λ x. e x (get_or ys i d)) (take i ys) ≡ false → i < length ys → IsDistinct e (take (i + 1) ys)
 distinct_take e ys i d h none within = rw (take_more ys i d within) (distinct_push e (take i ys) (get_or ys i d) h none)
 
--- the same, of what the items stand for
+-- the same, of the images of the items under a function
 pub distinct_take-map : {A B : Type 0} (e : B → B → Bool) (f : A → B) (ys : List A) (i : ℕ) (y : A) → IsDistinct e (map f (take i ys)) → list_any (λ x. e x (f y)) (map f (take i ys)) ≡ false → i < length ys → y ≡ get_or ys i y → IsDistinct e (map f (take (i + 1) ys))
 distinct_take-map e f ys i y d h within at =
     rw (take_more ys i y within, map-append f (take i ys) (get_or ys i y ∷ []), ← at) (distinct_push e (map f (take i ys)) (f y) d h)
@@ -79,13 +79,13 @@ nodes_from t j (p ∷ ps) h (suc k) l =
     let later : (n : SourceNode) × Contains (nodes_in t.system) n × (n.number ≡ pos ((j + 1) + k)) = nodes_from t (j + 1) ps h.1 k (omega arith) in
     let same : (j + 1) + k ≡ j + suc k = omega arith in (later.0, later.1, later.2 ∙ ap pos same)
 
--- where each node has a program, the nodes' numbers are 0 to n - 1
+-- if each node has a program, the nodes' numbers are 0 to n - 1
 pub numbers_from : (t : SourceText) (ps : List Parts) (many : ℕ) → AreNodesOf t 0 ps → length ps ≡ many → (k : ℕ) → k < many → (n : SourceNode) × Contains (nodes_in t.system) n × (n.number ≡ pos k)
 numbers_from t ps many h e k l =
     let there : (n : SourceNode) × Contains (nodes_in t.system) n × (n.number ≡ pos (0 + k)) = nodes_from t 0 ps h k (omega arith) in
     let same : 0 + k ≡ k = omega arith in (there.0, there.1, there.2 ∙ ap pos same)
 
--- no more items than what they stand for
+-- a list has no more items than its image
 pub few_map : {A B : Type 0} (f : A → B) (xs : List A) (ys : List B) (most : ℕ) → map f xs ≡ ys → length xs ≤ most → length ys ≤ most
 few_map {A} {B} f xs ys most e h = subst (λ (zs : List B). length zs ≤ most) e (rw (length-map xs f) h)
 

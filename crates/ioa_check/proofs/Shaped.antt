@@ -12,7 +12,7 @@ use Rattle.ioa_terms.specs.PlainTerm.{number, name, two}
 use Rattle.ioa_source.specs.Sides.{CheckedTerm}
 use Rattle.ioa_check.specs.FirstSorts.{is_guard, is_number}
 
--- a name that has a place among integers is an integer
+-- a name that has a slot among integers is an integer
 named_has : (names : NameShapes) → AllByRecursion (λ n. n.1 ≡ integers) names → (x : List ℕ) (at : ℕ) → slot_in x (map (λ n. n.0) names) ≡ Some at → shape_named x names ≡ Some integers
 named_has [] all x at h = absurd (cc)
 named_has (n ∷ names) all x at h = by_test (same_name x n.0) (λ k e. named_has names all.1 x k e) h

@@ -1,6 +1,7 @@
 -- When a system is the one that a text describes (profile).
 use Rattle.std.specs.Borrow.{Bor}
-use Rattle.std.specs.Prelude.{◌≡◌, ℕ, pos, Bool, true, false, ◌&&◌, List, [], ◌∷◌, ◌++◌, ◌+◌, Option, Some, None, Result, Ok, Err, map, length, find, Contains}
+use Rattle.std.specs.Prelude.{◌≡◌, ℕ, pos, Bool, true, false, ◌&&◌, List, [], ◌∷◌, ◌++◌, ◌+◌}
+use Rattle.std.specs.Prelude.{Option, Some, None, Result, Ok, Err, map, length, find, Contains}
 use Rattle.ioa_operators.specs.declared.shape.Shape.{Shape}
 use Rattle.std.specs.List.{AllByRecursion}
 use Rattle.ioa_values.specs.Data.{Data}
@@ -24,7 +25,8 @@ use Rattle.ioa_source.specs.PlainText.{PlainEntry, PlainTransition, const, named
 use Rattle.ioa_source.specs.PlainText as plain
 use Rattle.ioa_source.specs.declared.declaration.Node.{Node}
 use Rattle.ioa_source.specs.declared.declaration.Channel.{Channel}
-use Rattle.ioa_source.specs.Sides.{CheckedDeclared, CheckedParameter, CheckedStatement, CheckedTerm, SourceAutomaton, SourceDeclaration, SourceNode, SourcePlacement, SourceText}
+use Rattle.ioa_source.specs.Sides.{CheckedDeclared, CheckedParameter, CheckedStatement, CheckedTerm}
+use Rattle.ioa_source.specs.Sides.{SourceAutomaton, SourceDeclaration, SourceNode, SourcePlacement, SourceText}
 use Rattle.ioa_system.specs.declared.program.Rule.{Rule}
 use Rattle.ioa_system.specs.Parts.{Parts}
 use Rattle.ioa_system.specs.Systems.{SystemParts}
@@ -45,7 +47,7 @@ same_kind Internal Internal = true
 abbrev pub transition_for : {N D : Type 0} → PlainEntry N D → List (PlainTransition N D) → Option (PlainTransition N D)
 transition_for e ts = find (λ t. same_name t.name e.name && same_kind t.kind e.kind) ts
 
--- beside an assigned variable stands the shape of its sort, which is Int in this form
+-- an assigned variable has the shape of its sort, which is Int in this form
 abbrev pub AssignsInteger : CheckedStatement → Type 0
 AssignsInteger (assign p t) = target_shape p ≡ integers
 AssignsInteger (choose arms rest) = ⊥
@@ -56,7 +58,7 @@ abbrev pub IsShapeOf : PlainSort → PlainShape → Type 0
 IsShapeOf sort.integers s = s ≡ integers
 IsShapeOf _ s = ⊥
 
--- beside a declared sort stands its shape
+-- a declared name has the shape of its sort
 abbrev pub HasItsShape : CheckedDeclared → Type 0
 HasItsShape d = IsShapeOf d.sort (shape_of d.shape)
 
@@ -65,26 +67,27 @@ abbrev pub HasParameterShape : CheckedParameter → Type 0
 HasParameterShape (const t) = Unit {0}
 HasParameterShape (named d) = HasItsShape d
 
--- what a term answers that reads no name; where none is written there is no value
+-- the value or the fault of a term that reads no name; without a term there is no value
 abbrev pub term_answer : Option CheckedTerm → Result Data TermFault
 term_answer None = Err Undefined
 term_answer (Some t) = answer t []
 
 -- a rule of an automaton: its transition is the one of its entry
 abbrev pub IsRuleOf : SourceAutomaton → Rule → Type 0
-IsRuleOf a r = transition_for (erase_entry (entry_of r.entry)) a.transitions ≡ Some (erase_transition (transition_of r.transition))
+IsRuleOf a r =
+    transition_for (erase_entry (entry_of r.entry)) a.transitions ≡ Some (erase_transition (transition_of r.transition))
 
--- a rule in which each named parameter's sort and each assigned variable stand beside their shapes
+-- a rule in which each named parameter and each assigned variable has the shape of its sort
 pub record HasIntegers (r : Rule) : Type 0 where
   pub parameters : AllByRecursion HasParameterShape (entry_of r.entry).parameters
   pub effect : AllByRecursion AssignsInteger (transition_of r.transition).effect
 
--- what the initial term of a state variable answers; it reads no name
+-- the value or the fault of a state variable's initial term, which reads no name
 abbrev pub initial_answer : Variable ℕ Shape → Result Data TermFault
 initial_answer v = term_answer (variable_of v).initial
 
--- a program of an automaton: without what stands beside its names and sorts it is what the automaton's text says, and
--- beside each sort stands its shape
+-- a program of an automaton: without its annotations it is the automaton as the text has it, and each declared name has
+-- the shape of its sort
 pub record IsProgramOf (a : SourceAutomaton) (p : Parts) : Type 0 where
   pub signature : map (λ r. erase_entry (entry_of r.entry)) p.rules ≡ a.signature
   pub transitions : AllByRecursion (IsRuleOf a) p.rules
@@ -94,7 +97,7 @@ pub record IsProgramOf (a : SourceAutomaton) (p : Parts) : Type 0 where
   pub initial : map initial_answer p.variables ≡ map Ok p.initial
   pub schedule : map erase_statement (map statement_of p.schedule) ≡ a.schedule
 
--- the automaton that a declaration is, where it is one
+-- the automaton that a declaration declares, if it declares one
 abbrev pub automaton_in : SourceDeclaration → List SourceAutomaton
 automaton_in (plain.type_named t) = []
 automaton_in (plain.automaton a) = a ∷ []
@@ -104,15 +107,15 @@ abbrev pub automata_in : List SourceDeclaration → List SourceAutomaton
 automata_in [] = []
 automata_in (d ∷ more) = automaton_in d ++ automata_in more
 
--- the automaton of a name, the first where several bear it
+-- the automaton of a name, the first if several have it
 abbrev pub automaton_named : List ℕ → List SourceDeclaration → Option SourceAutomaton
 automaton_named x ds = find (λ a. same_name a.name x) (automata_in ds)
 
--- the node that a reference points at
+-- the node behind a reference
 abbrev pub node_at : Bor (Node (Unit {0}) (Unit {0})) → SourceNode
 node_at n = node_of n.now
 
--- the node that a placement is, where it is one
+-- the node of an item of the system section, if it is one
 abbrev pub node_in : SourcePlacement → List SourceNode
 node_in (plain.node n) = n ∷ []
 node_in (plain.channel c) = []
@@ -122,7 +125,7 @@ abbrev pub nodes_in : List SourcePlacement → List SourceNode
 nodes_in [] = []
 nodes_in (p ∷ more) = node_in p ++ nodes_in more
 
--- the channel that a placement is, where it is one
+-- the channel of an item of the system section, if it is one
 abbrev pub channel_in : SourcePlacement → List Channel
 channel_in (plain.node n) = []
 channel_in (plain.channel c) = c ∷ []
@@ -132,7 +135,7 @@ abbrev pub channels_in : List SourcePlacement → List Channel
 channels_in [] = []
 channels_in (p ∷ more) = channel_in p ++ channels_in more
 
--- a node of a text: one of the system section of this number, on which this automaton is placed
+-- the system section has a node of this number, on which this automaton is placed
 pub record IsPlacedOn (t : SourceText) (k : ℕ) (a : SourceAutomaton) : Type 0 where
   pub node : SourceNode
   pub declared : Contains (nodes_in t.system) node

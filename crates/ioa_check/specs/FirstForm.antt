@@ -1,5 +1,7 @@
--- The first form of the language (profile): what a checked system can be made of. What stands outside it is refused 20.
-use Rattle.std.specs.Prelude.{ℕ, Bool, true, false, ◌&&◌, ◌||◌, not, nat_eq, codes, slice_get, List, Option, Some, None, length}
+-- The first form of the language (profile): the texts that run today. A text that is not of this form is refused by
+-- `Unknown` (20).
+use Rattle.std.specs.Prelude.{ℕ, Bool, true, false, ◌&&◌, ◌||◌, not, nat_eq, codes, slice_get}
+use Rattle.std.specs.Prelude.{List, Option, Some, None, length}
 use Rattle.std.specs.List.{list_all}
 use Rattle.std.specs.Option.{is_some}
 use Rattle.ioa_terms.specs.Bindings.{same_name}
@@ -8,15 +10,16 @@ use Rattle.ioa_terms.specs.declared.tree.Kind.TheVariants.{Input, Output, Intern
 use Rattle.ioa_source.specs.PlainSort.{PlainSort, integers}
 use Rattle.ioa_terms.specs.PlainTerm.{number, variable, at_key, at_field, assign, choose, fire}
 use Rattle.ioa_source.specs.PlainText.{const, named, type_named, automaton, node, channel}
-use Rattle.ioa_source.specs.Sides.{SourceAutomaton, SourceDeclaration, SourceEntry, SourceParameter, SourceTarget, SourcePlacement, SourceStatement, SourceTerm, SourceTransition, SourceVariable}
+use Rattle.ioa_source.specs.Sides.{SourceAutomaton, SourceDeclaration, SourceEntry, SourceParameter, SourceTarget}
+use Rattle.ioa_source.specs.Sides.{SourcePlacement, SourceStatement, SourceTerm, SourceTransition, SourceVariable}
 use Rattle.ioa_check.specs.FirstSorts.{is_number, is_guard}
 
--- the test of what there is
+-- there is a value, and it passes the test
 abbrev pub passes : {A : Type 0} → (A → Bool) → Option A → Bool
 passes test None = false
 passes test (Some x) = test x
 
--- the test of what there may be
+-- the value, if there is one, passes the test
 abbrev pub passes_or_none : {A : Type 0} → (A → Bool) → Option A → Bool
 passes_or_none test None = true
 passes_or_none test (Some x) = test x
@@ -48,7 +51,9 @@ is_end (named d) = false
 -- a message and the two ends of its channel
 abbrev pub are_first_parameters : List SourceParameter → Bool
 are_first_parameters ps =
-    nat_eq (length ps) 3 && (passes is_message (slice_get ps 0) && (passes is_end (slice_get ps 1) && passes is_end (slice_get ps 2)))
+    nat_eq (length ps) 3
+    && (passes is_message (slice_get ps 0)
+    && (passes is_end (slice_get ps 1) && passes is_end (slice_get ps 2)))
 
 -- an input is named `receive` and an output `send`; there are no others
 abbrev pub is_first_name : Kind → List ℕ → Bool
@@ -60,7 +65,7 @@ is_first_name Internal w = false
 abbrev pub is_first_entry : SourceEntry → Bool
 is_first_entry e = is_first_name e.kind e.name && (are_first_parameters e.parameters && not (is_some e.condition))
 
--- a state variable of sort Int; its initial term, where one is written, is a number
+-- a state variable of sort Int; its initial term, if one is written, is a number
 abbrev pub is_first_variable : SourceVariable → Bool
 is_first_variable v = is_first_sort v.declared.sort && passes_or_none is_numeral v.initial
 
@@ -91,14 +96,17 @@ is_first_kind Internal = false
 -- a transition
 abbrev pub is_first_transition : SourceTransition → Bool
 is_first_transition t =
-    is_first_kind t.kind && (list_all is_first_term t.arguments && (passes_or_none is_first_term t.pre && list_all is_first_assignment t.effect))
+    is_first_kind t.kind
+    && (list_all is_first_term t.arguments
+    && (passes_or_none is_first_term t.pre && list_all is_first_assignment t.effect))
 
 -- an automaton without parameters
 abbrev pub is_first_automaton : SourceAutomaton → Bool
 is_first_automaton a =
     nat_eq (length a.parameters) 0
     && (list_all is_first_entry a.signature
-    && (list_all is_first_variable a.states && (list_all is_first_transition a.transitions && list_all is_first_firing a.schedule)))
+    && (list_all is_first_variable a.states
+    && (list_all is_first_transition a.transitions && list_all is_first_firing a.schedule)))
 
 -- a declaration: an automaton
 abbrev pub is_first_declaration : SourceDeclaration → Bool

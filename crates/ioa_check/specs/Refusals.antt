@@ -34,7 +34,7 @@ row_name row.NodeGap = codes "NodeGap"
 row_name row.Limit = codes "Limit"
 row_name row.BadArgument = codes "BadArgument"
 
--- a fault: the number and the name of its row, and the place of the declaration
+-- a fault: the number and the name of its row, and the index of the declaration
 abbrev pub check_fault_text : CheckFault → List ℕ
 check_fault_text (fault.Refused r index) =
     decimal (row_number r) ++ (codes " " ++ (row_name r ++ (codes " in " ++ decimal index)))

@@ -1,5 +1,7 @@
--- When no row of refusal stands in a text of the first form (profile).
-use Rattle.std.specs.Prelude.{◌≡◌, ◌≤◌, ◌<◌, ℕ, ℤ, pos, Bool, true, false, ◌&&◌, ◌||◌, not, codes, slice_get, List, [], ◌++◌, Option, Some, None, map, length, nat_eq, Contains}
+-- When no row of refusal applies to a text of the first form (profile). A number before a definition is that of the row
+-- that a text is refused by if it fails the test.
+use Rattle.std.specs.Prelude.{◌≡◌, ◌≤◌, ◌<◌, ℕ, ℤ, pos, Bool, true, false, ◌&&◌, ◌||◌, not, codes, slice_get}
+use Rattle.std.specs.Prelude.{List, [], ◌++◌, Option, Some, None, map, length, nat_eq, Contains}
 use Rattle.std.specs.List.{AllByRecursion, IsDistinct, list_all, list_any}
 use Rattle.std.specs.Option.{is_some}
 use Rattle.std.specs.Ordering.{int_eq}
@@ -14,9 +16,22 @@ use Rattle.ioa_source.specs.PlainText.{const, named}
 use Rattle.ioa_check.specs.FirstSorts.{is_first, is_number, is_guard}
 use Rattle.ioa_system.specs.ResolvedPrograms.{own_names, variable_names}
 use Rattle.ioa_check.specs.FirstForm.{is_first_declaration, is_first_placement, passes_or_none}
-use Rattle.ioa_check.specs.Correspondence.{same_kind, transition_for, automata_in, automaton_named, nodes_in, channels_in}
+use Rattle.ioa_check.specs.Correspondence.{same_kind, transition_for, automata_in, automaton_named}
+use Rattle.ioa_check.specs.Correspondence.{nodes_in, channels_in}
+use Rattle.ioa_check.specs.declared.checking.TheConstants.{MOST_CHANNELS, MOST_NODES}
 use Rattle.ioa_source.specs.declared.declaration.Channel.{Channel}
-use Rattle.ioa_source.specs.Sides.{SourceAutomaton, SourceDeclaration, SourceEntry, SourceNode, SourceParameter, SourceTarget, SourceStatement, SourceTerm, SourceText, SourceTransition}
+use Rattle.ioa_source.specs.Sides.{SourceAutomaton, SourceDeclaration, SourceEntry, SourceNode, SourceParameter}
+use Rattle.ioa_source.specs.Sides.{SourceTarget, SourceStatement, SourceTerm, SourceText, SourceTransition}
+
+-- the names of entries, of transitions and of automata
+abbrev pub entry_names : List SourceEntry → List (List ℕ)
+entry_names es = map (λ e. e.name) es
+
+abbrev pub transition_names : List SourceTransition → List (List ℕ)
+transition_names ts = map (λ t. t.name) ts
+
+abbrev pub automaton_names : List SourceAutomaton → List (List ℕ)
+automaton_names automata = map (λ a. a.name) automata
 
 -- 20: a transition is of the name and kind of an entry
 abbrev pub has_entry : List SourceEntry → SourceTransition → Bool
@@ -38,6 +53,16 @@ fires_as_many es (assign p t) = true
 fires_as_many es (choose arms rest) = true
 fires_as_many es (fire k x ts) = list_all (takes_as_many x (length ts)) es
 
+-- 20: the transitions of an automaton have entries, and its firings; 22: and as many arguments
+abbrev pub transitions_have_entries : SourceAutomaton → Bool
+transitions_have_entries a = list_all (has_entry a.signature) a.transitions
+
+abbrev pub firings_have_entries : SourceAutomaton → Bool
+firings_have_entries a = list_all (fires_entry a.signature) a.schedule
+
+abbrev pub firings_have_as_many : SourceAutomaton → Bool
+firings_have_as_many a = list_all (fires_as_many a.signature) a.schedule
+
 -- 22: the arguments of a firing are numbers
 abbrev pub fires_numbers : SourceStatement → Bool
 fires_numbers (assign p t) = true
@@ -55,7 +80,7 @@ abbrev pub is_number_constant : SourceParameter → Bool
 is_number_constant (const t) = is_number t
 is_number_constant (named d) = true
 
--- 22: a guard, where there is one, is a truth value
+-- 22: a guard, if there is one, is a truth value
 abbrev pub is_guard_or_none : Option SourceTerm → Bool
 is_guard_or_none None = true
 is_guard_or_none (Some t) = is_guard t
@@ -89,12 +114,12 @@ reads_only names (name x at) = list_any (same_name x) names
 reads_only names (two f a b) = is_first f && (reads_only names a && reads_only names b)
 reads_only names _ = false
 
--- 20: the names that a guard reads, where there is one
+-- 20: the names that a guard reads, if there is one, are in view
 abbrev pub guard_reads_only : List (List ℕ) → Option SourceTerm → Bool
 guard_reads_only names None = true
 guard_reads_only names (Some t) = reads_only names t
 
--- 20: what a constant reads: no name
+-- 20: a constant reads no name
 abbrev pub reads_no_name : SourceParameter → Bool
 reads_no_name (const t) = reads_only [] t
 reads_no_name (named d) = true
@@ -117,10 +142,10 @@ fires_only names (assign p t) = false
 fires_only names (choose arms rest) = false
 fires_only names (fire k x ts) = list_all (reads_only names) ts
 
--- an entry and its transition, where the state variables have these names
+-- no row applies to an entry and its transition, in an automaton whose state variables have these names
 pub record HasNoEntryRow (names : List (List ℕ)) (ts : List SourceTransition) (e : SourceEntry) : Type 0 where
   pub transition : SourceTransition
-  -- 25: it is there
+  -- 25: there is one
   pub found : transition_for e ts ≡ Some transition
   -- 24: an input has no guard
   pub input_pre : is_some transition.pre && same_kind e.kind Input ≡ false
@@ -132,22 +157,22 @@ pub record HasNoEntryRow (names : List (List ℕ)) (ts : List SourceTransition) 
   pub constants : list_all is_number_constant e.parameters ≡ true
   pub guard : is_guard_or_none transition.pre ≡ true
   pub effect : list_all assigns_number transition.effect ≡ true
-  -- 20: constants read no name; guard and effect read what is in view, and assignments are to state variables
+  -- 20: constants read no name; guard and effect read names in view, and assignments are to state variables
   pub constant_names : list_all reads_no_name e.parameters ≡ true
   pub guard_names : guard_reads_only (names ++ own_names e.parameters) transition.pre ≡ true
   pub effect_names : list_all (assigns_only names (names ++ own_names e.parameters)) transition.effect ≡ true
 
--- an automaton
+-- no row applies to an automaton
 pub record HasNoAutomatonRow (a : SourceAutomaton) : Type 0 where
   -- 21: its entries' names differ, its state variables', and its transitions'
-  pub entries_differ : IsDistinct same_name (map (λ e. e.name) a.signature)
+  pub entries_differ : IsDistinct same_name (entry_names a.signature)
   pub variables_differ : IsDistinct same_name (variable_names a.states)
-  pub transitions_differ : IsDistinct same_name (map (λ t. t.name) a.transitions)
+  pub transitions_differ : IsDistinct same_name (transition_names a.transitions)
   -- 20: its transitions and firings are of entries
-  pub transitions : list_all (has_entry a.signature) a.transitions ≡ true
-  pub firings : list_all (fires_entry a.signature) a.schedule ≡ true
+  pub transitions : transitions_have_entries a ≡ true
+  pub firings : firings_have_entries a ≡ true
   -- 22: its firings have as many arguments as their entries, and they are numbers
-  pub many : list_all (fires_as_many a.signature) a.schedule ≡ true
+  pub many : firings_have_as_many a ≡ true
   pub arguments : list_all fires_numbers a.schedule ≡ true
   -- 20: which read state variables alone
   pub read : list_all (fires_only (variable_names a.states)) a.schedule ≡ true
@@ -160,7 +185,7 @@ pub record HasNoAutomatonRow (a : SourceAutomaton) : Type 0 where
   -- each entry and its transition
   pub entries : AllByRecursion (HasNoEntryRow (variable_names a.states) a.transitions) a.signature
 
--- the parameter at a place is the constant of a number
+-- a parameter, if there is one, is the constant of a number
 abbrev pub is_constant : Option SourceParameter → ℤ → Bool
 is_constant None k = false
 is_constant (Some (const (number n))) k = int_eq n k
@@ -177,17 +202,19 @@ is_at_home k e =
     (not (same_name e.name (codes "send")) || is_constant (slice_get e.parameters 1) k)
     && (not (same_name e.name (codes "receive")) || is_constant (slice_get e.parameters 2) k)
 
--- 34: the sends of a node's automaton, where it is declared, are from that node, and its receives to it
+-- 34: the sends of a node's automaton, if it is declared, are from that node, and its receives to it
 abbrev pub has_its_own : List SourceDeclaration → SourceNode → Bool
 has_its_own ds n = passes_or_none (λ a. list_all (is_at_home n.number) a.signature) (automaton_named n.automaton ds)
 
 -- 28: an automaton has a `receive` from a node
 abbrev pub takes_from : ℤ → SourceAutomaton → Bool
-takes_from k a = list_any (λ e. same_name e.name (codes "receive") && is_constant (slice_get e.parameters 1) k) a.signature
+takes_from k a =
+    list_any (λ e. same_name e.name (codes "receive") && is_constant (slice_get e.parameters 1) k) a.signature
 
--- 28: a node that is the receiver of a channel takes messages of its sender, where its automaton is declared
+-- 28: a node that is the receiver of a channel takes messages of its sender, if its automaton is declared
 abbrev pub receives_if_receiver : List SourceDeclaration → Channel → SourceNode → Bool
-receives_if_receiver ds c n = not (int_eq n.number c.to) || passes_or_none (takes_from c.from) (automaton_named n.automaton ds)
+receives_if_receiver ds c n =
+    not (int_eq n.number c.to) || passes_or_none (takes_from c.from) (automaton_named n.automaton ds)
 
 -- 28: each node that is the receiver of a channel takes messages of its sender
 abbrev pub has_input : List SourceDeclaration → List SourceNode → Channel → Bool
@@ -213,16 +240,37 @@ same_number m n = int_eq m.number n.number
 abbrev pub same_channel : Channel → Channel → Bool
 same_channel c d = int_eq c.from d.from && int_eq c.to d.to
 
--- a system section
+-- no row applies to a node, nor to nodes, in a text with these declarations
+pub record HasNoNodeRow (ds : List SourceDeclaration) (n : SourceNode) : Type 0 where
+  pub declared : is_declared ds n ≡ true
+  pub at_home : has_its_own ds n ≡ true
+
+pub record HaveNoNodeRow (ds : List SourceDeclaration) (ns : List SourceNode) : Type 0 where
+  pub declared : list_all (is_declared ds) ns ≡ true
+  pub at_home : list_all (has_its_own ds) ns ≡ true
+
+-- no row applies to a channel, nor to channels, in a text with these declarations and nodes
+pub record HasNoChannelRow (ds : List SourceDeclaration) (ns : List SourceNode) (c : Channel) : Type 0 where
+  pub two : joins_two c ≡ true
+  pub ends : joins_nodes ns c ≡ true
+  pub inputs : has_input ds ns c ≡ true
+
+pub record HaveNoChannelRow (ds : List SourceDeclaration) (ns : List SourceNode) (cs : List Channel) : Type 0 where
+  pub two : list_all joins_two cs ≡ true
+  pub ends : list_all (joins_nodes ns) cs ≡ true
+  pub inputs : list_all (has_input ds ns) cs ≡ true
+
+-- no row applies to a system section
 pub record HasNoSystemRow (t : SourceText) : Type 0 where
-  -- 31: at most 64 nodes and 256 channels
-  pub few_nodes : length (nodes_in t.system) ≤ 64
-  pub few_channels : length (channels_in t.system) ≤ 256
+  -- 31: there are not too many nodes and channels
+  pub few_nodes : length (nodes_in t.system) ≤ MOST_NODES
+  pub few_channels : length (channels_in t.system) ≤ MOST_CHANNELS
   -- 21: the nodes' numbers differ, and the channels
   pub nodes_differ : IsDistinct same_number (nodes_in t.system)
   pub channels_differ : IsDistinct same_channel (channels_in t.system)
   -- 30: the nodes' numbers are 0 to n - 1
-  pub numbers : (k : ℕ) → k < length (nodes_in t.system) → (n : SourceNode) × Contains (nodes_in t.system) n × (n.number ≡ pos k)
+  pub numbers : (k : ℕ) → k < length (nodes_in t.system) →
+      (n : SourceNode) × Contains (nodes_in t.system) n × (n.number ≡ pos k)
   -- 20: each node's automaton is declared, and the ends of each channel are nodes
   pub declared : list_all (is_declared t.declarations) (nodes_in t.system) ≡ true
   pub ends : list_all (joins_nodes (nodes_in t.system)) (channels_in t.system) ≡ true
@@ -233,13 +281,13 @@ pub record HasNoSystemRow (t : SourceText) : Type 0 where
   -- 28: the receiver of each channel takes messages of its sender
   pub inputs : list_all (has_input t.declarations (nodes_in t.system)) (channels_in t.system) ≡ true
 
--- a whole text
+-- no row applies to a whole text
 pub record HasNoRow (t : SourceText) : Type 0 where
   -- 20: each declaration and each part of the system section is of the first form
   pub first_declarations : list_all is_first_declaration t.declarations ≡ true
   pub first_placements : list_all is_first_placement t.system ≡ true
   -- 21: the automata's names differ
-  pub automata_differ : IsDistinct same_name (map (λ a. a.name) (automata_in t.declarations))
+  pub automata_differ : IsDistinct same_name (automaton_names (automata_in t.declarations))
   -- each automaton
   pub automata : AllByRecursion HasNoAutomatonRow (automata_in t.declarations)
   -- the system section

@@ -1,5 +1,6 @@
--- Which rows of refusal stand in a text of the language (profile): what each number says.
-use Rattle.std.specs.Prelude.{◌≡◌, ◌≤◌, ◌<◌, ◌⊎◌, ℕ, pos, Bool, true, false, ◌&&◌, not, List, [], ◌++◌, Option, Some, None, Err, map, length, Contains}
+-- Which rows of refusal apply to a text of the language (profile): what each number says.
+use Rattle.std.specs.Prelude.{◌≡◌, ◌≤◌, ◌<◌, ◌⊎◌, ℕ, pos, Bool, true, false, ◌&&◌, not, List, [], ◌++◌}
+use Rattle.std.specs.Prelude.{Option, Some, None, Result, Err, IfErr, map, length, Contains}
 use Rattle.std.specs.List.{IsDistinct, list_all}
 use Rattle.std.specs.Option.{is_some}
 use lib.Pointwise.{pointwise}
@@ -10,10 +11,13 @@ use Rattle.ioa_terms.specs.Meaning.{answer}
 use Rattle.ioa_terms.specs.declared.tree.Kind.TheVariants.{Input}
 use Rattle.ioa_source.specs.Erasure.{erase_variable}
 use Rattle.ioa_source.specs.PlainText.{const, named}
-use Rattle.ioa_source.specs.Sides.{CheckedTerm, CheckedVariable, SourceAutomaton, SourceEntry, SourceParameter, SourceText, SourceTransition, SourceVariable}
+use Rattle.ioa_source.specs.Sides.{SourceAutomaton, SourceEntry, SourceParameter, SourceText, SourceTransition}
+use Rattle.ioa_source.specs.Sides.{SourceDeclaration, SourceNode, SourceVariable, CheckedTerm, CheckedVariable}
 use Rattle.ioa_source.specs.TextView.{variable_of}
+use Rattle.ioa_source.specs.declared.declaration.Channel.{Channel}
 use Rattle.ioa_source.specs.declared.declaration.Variable.{Variable}
 use Rattle.ioa_system.specs.ResolvedPrograms.{own_names, variable_names}
+use Rattle.ioa_check.specs.declared.checking.TheConstants.{MOST_CHANNELS, MOST_NODES}
 use Rattle.ioa_check.specs.declared.refusal.CheckFault.{CheckFault}
 use Rattle.ioa_check.specs.declared.refusal.CheckFault.TheVariants as fault
 use Rattle.ioa_check.specs.declared.refusal.Refusal.{Refusal}
@@ -25,16 +29,24 @@ use Rattle.ioa_check.specs.FirstSorts.{is_number}
 use Rattle.ioa_check.specs.Correspondence.{automata_in, channels_in, nodes_in, same_kind, transition_for}
 use Rattle.ioa_check.specs.Rows as rows
 
--- this stands where a row is refused; a refusal for want of memory says nothing
+-- if a row is refused, this holds of it; of a refusal for want of memory nothing is said
 abbrev pub Refuses : (Row → Type 0) → Refusal → Type 0
 Refuses stands (refusal.Row r) = stands r
 Refuses stands refusal.Memory = Unit {0}
 
--- the row is this one, and this stands
+-- the same, if a function returns a refusal
+abbrev pub IfRefused : {A : Type 0} → Result A Refusal → (Row → Type 0) → Type 0
+IfRefused result stands = IfErr result (Refuses stands)
+
+-- the row is this one, and this holds
 abbrev pub Only : Row → Type 0 → Row → Type 0
 Only k stands r = (k ≡ r) × stands
 
--- of a test of forms and names and a test of sorts, the one that fails gives the row
+-- if a function refuses a row, it is this one, and this holds
+abbrev pub RefusesOnly : {A : Type 0} → Result A Refusal → Row → Type 0 → Type 0
+RefusesOnly result k stands = IfRefused result (Only k stands)
+
+-- of two tests, the one that fails gives the row: 20 for the test of forms and names, 22 for the test of sorts
 abbrev pub Fails : (form sort : Bool) → Row → Type 0
 Fails form sort row.Unknown = form ≡ false
 Fails form sort row.Sorts = sort ≡ false
@@ -49,7 +61,7 @@ is_known_parameter (named d) = is_first_sort d.sort
 abbrev pub is_known_variable : SourceVariable → Bool
 is_known_variable v = rows.guard_reads_only [] v.initial && is_first_sort v.declared.sort
 
--- 22: the initial term of a state variable, where there is one, is a number
+-- 22: the initial term of a state variable, if there is one, is a number
 abbrev pub begins_with_number : SourceVariable → Bool
 begins_with_number v = passes_or_none is_number v.initial
 
@@ -64,7 +76,7 @@ StandsInVariables vs _ = ⊥
 abbrev pub HasTransition : SourceEntry → List SourceTransition → (SourceTransition → Type 0) → Type 0
 HasTransition e ts holds = (t : SourceTransition) × (transition_for e ts ≡ Some t) × holds t
 
--- 20: the terms of a head and a guard read what is in view, and so does an effect, which assigns to the variables
+-- 20: head, guard and effect read names in view alone, and the effect assigns to state variables alone
 abbrev pub is_known_transition : (variables names : List (List ℕ)) → SourceTransition → Bool
 is_known_transition variables names t =
     list_all (rows.reads_only names) t.arguments
@@ -74,19 +86,22 @@ is_known_transition variables names t =
 abbrev pub is_sorted_transition : SourceTransition → Bool
 is_sorted_transition t = rows.is_guard_or_none t.pre && list_all rows.assigns_number t.effect
 
--- 20: what is_known_parameter says of the parameters of an entry, which has no condition
+-- 20: the parameters of an entry are known, and it has no condition
 abbrev pub is_known_entry : SourceEntry → Bool
 is_known_entry e = list_all is_known_parameter e.parameters && not (is_some e.condition)
 
--- the rows of an entry and its transition, where the state variables have these names
+-- the rows of an entry and its transition, in an automaton whose state variables have these names
 abbrev pub StandsInEntry : List (List ℕ) → List SourceTransition → SourceEntry → Row → Type 0
 StandsInEntry names ts e row.Unknown =
-    HasTransition e ts (λ t. (is_known_entry e && is_known_transition names (names ++ own_names e.parameters) t) ≡ false)
+    HasTransition e ts (λ t.
+    (is_known_entry e && is_known_transition names (names ++ own_names e.parameters) t) ≡ false)
 StandsInEntry names ts e row.Twice = IsDistinct same_name (names ++ own_names e.parameters) → ⊥
-StandsInEntry names ts e row.Sorts = HasTransition e ts (λ t. (list_all rows.is_number_constant e.parameters && is_sorted_transition t) ≡ false)
+StandsInEntry names ts e row.Sorts =
+    HasTransition e ts (λ t. (list_all rows.is_number_constant e.parameters && is_sorted_transition t) ≡ false)
 StandsInEntry names ts e row.InputPre = HasTransition e ts (λ t. (is_some t.pre && same_kind e.kind Input) ≡ true)
 StandsInEntry names ts e row.NoTransition = transition_for e ts ≡ None
-StandsInEntry names ts e row.BadArgument = HasTransition e ts (λ t. pointwise rows.argument_repeats e.parameters t.arguments ≡ false)
+StandsInEntry names ts e row.BadArgument =
+    HasTransition e ts (λ t. pointwise rows.argument_repeats e.parameters t.arguments ≡ false)
 StandsInEntry names ts e _ = ⊥
 
 -- the rows of entries
@@ -98,7 +113,7 @@ abbrev pub LacksValue : Option CheckedTerm → Type 0
 LacksValue None = ⊥
 LacksValue (Some t) = (f : TermFault) × (answer t [] ≡ Err f)
 
--- the rows of an initial term, with the places of its names beside them: 23 where there is none, 34 where it has no value
+-- the rows of a resolved initial term: 23 if there is none, 34 if it has no value
 abbrev pub StandsInInitial : Option CheckedTerm → Row → Type 0
 StandsInInitial t row.NoInitial = is_some t ≡ false
 StandsInInitial t row.BadArgument = LacksValue t
@@ -115,15 +130,16 @@ HasNoValue vs = (v : CheckedVariable) × Contains vs (erase_variable v) × Stand
 -- the rows of an automaton without those of its entries
 abbrev pub StandsInParts : SourceAutomaton → Row → Type 0
 StandsInParts a row.Unknown =
-    (list_all (rows.has_entry a.signature) a.transitions
-    && (list_all (rows.fires_entry a.signature) a.schedule
-    && (list_all (rows.fires_only (variable_names a.states)) a.schedule && list_all is_known_variable a.states))) ≡ false
+    (rows.transitions_have_entries a
+    && (rows.firings_have_entries a
+    && (list_all (rows.fires_only (variable_names a.states)) a.schedule
+    && list_all is_known_variable a.states))) ≡ false
 StandsInParts a row.Twice =
-    IsDistinct same_name (map (λ e. e.name) a.signature)
-    × IsDistinct same_name (map (λ t. t.name) a.transitions)
+    IsDistinct same_name (rows.entry_names a.signature)
+    × IsDistinct same_name (rows.transition_names a.transitions)
     × IsDistinct same_name (variable_names a.states) → ⊥
 StandsInParts a row.Sorts =
-    (list_all (rows.fires_as_many a.signature) a.schedule
+    (rows.firings_have_as_many a
     && (list_all rows.fires_numbers a.schedule && list_all begins_with_number a.states)) ≡ false
 StandsInParts a row.NoInitial = list_all (λ v. is_some v.initial) a.states ≡ false
 StandsInParts a row.BadArgument = HasNoValue a.states
@@ -142,24 +158,28 @@ StandsInWhole t row.Unknown =
     && (list_all (rows.is_declared t.declarations) (nodes_in t.system)
     && list_all (rows.joins_nodes (nodes_in t.system)) (channels_in t.system)))) ≡ false
 StandsInWhole t row.Twice =
-    IsDistinct same_name (map (λ a. a.name) (automata_in t.declarations))
+    IsDistinct same_name (rows.automaton_names (automata_in t.declarations))
     × IsDistinct rows.same_number (nodes_in t.system)
     × IsDistinct rows.same_channel (channels_in t.system) → ⊥
-StandsInWhole t row.InputMissing = list_all (rows.has_input t.declarations (nodes_in t.system)) (channels_in t.system) ≡ false
+StandsInWhole t row.InputMissing =
+    list_all (rows.has_input t.declarations (nodes_in t.system)) (channels_in t.system) ≡ false
 StandsInWhole t row.SelfChannel = list_all rows.joins_two (channels_in t.system) ≡ false
-StandsInWhole t row.NodeGap = (k : ℕ) × (k < length (nodes_in t.system)) × (rows.is_node (nodes_in t.system) (pos k) ≡ false)
-StandsInWhole t row.Limit = (length (nodes_in t.system) ≤ 64) × (length (channels_in t.system) ≤ 256) → ⊥
+StandsInWhole t row.NodeGap =
+    (k : ℕ) × (k < length (nodes_in t.system)) × (rows.is_node (nodes_in t.system) (pos k) ≡ false)
+StandsInWhole t row.Limit =
+    (length (nodes_in t.system) ≤ MOST_NODES) × (length (channels_in t.system) ≤ MOST_CHANNELS) → ⊥
 StandsInWhole t row.BadArgument = list_all (rows.has_its_own t.declarations) (nodes_in t.system) ≡ false
 StandsInWhole t _ = ⊥
 
 -- the rows of a text
 abbrev pub StandsIn : SourceText → Row → Type 0
-StandsIn t r = StandsInWhole t r ⊎ ((a : SourceAutomaton) × Contains (automata_in t.declarations) a × StandsInAutomaton a r)
+StandsIn t r =
+    StandsInWhole t r ⊎ ((a : SourceAutomaton) × Contains (automata_in t.declarations) a × StandsInAutomaton a r)
 
--- the same of automata, each after those before it
+-- the rows of automata, in a text in which these names are those of earlier automata
 abbrev pub StandsInAutomata : List (List ℕ) → List SourceAutomaton → Row → Type 0
 StandsInAutomata names automata r =
-    Only row.Twice (IsDistinct same_name (names ++ map (λ a. a.name) automata) → ⊥) r
+    Only row.Twice (IsDistinct same_name (names ++ rows.automaton_names automata) → ⊥) r
     ⊎ ((a : SourceAutomaton) × Contains automata a × StandsInAutomaton a r)
 
 -- of two tests of nodes, the one that fails gives the row
@@ -168,6 +188,13 @@ FailsOfNodes declared at_home row.Unknown = declared ≡ false
 FailsOfNodes declared at_home row.BadArgument = at_home ≡ false
 FailsOfNodes declared at_home _ = ⊥
 
+-- the rows of a node, and of nodes, in a text with these declarations
+abbrev pub StandsInNode : List SourceDeclaration → SourceNode → Row → Type 0
+StandsInNode ds n = FailsOfNodes (rows.is_declared ds n) (rows.has_its_own ds n)
+
+abbrev pub StandsInNodes : List SourceDeclaration → List SourceNode → Row → Type 0
+StandsInNodes ds ns = FailsOfNodes (list_all (rows.is_declared ds) ns) (list_all (rows.has_its_own ds) ns)
+
 -- of three tests of channels, the one that fails gives the row
 abbrev pub FailsOfChannels : (two ends inputs : Bool) → Row → Type 0
 FailsOfChannels two ends inputs row.Unknown = ends ≡ false
@@ -175,16 +202,25 @@ FailsOfChannels two ends inputs row.InputMissing = inputs ≡ false
 FailsOfChannels two ends inputs row.SelfChannel = two ≡ false
 FailsOfChannels two ends inputs _ = ⊥
 
--- the refusal in the top declaration of a place
+-- the rows of a channel, and of channels, in a text with these declarations and nodes
+abbrev pub StandsInChannel : List SourceDeclaration → List SourceNode → Channel → Row → Type 0
+StandsInChannel ds ns c = FailsOfChannels (rows.joins_two c) (rows.joins_nodes ns c) (rows.has_input ds ns c)
+
+abbrev pub StandsInChannels : List SourceDeclaration → List SourceNode → List Channel → Row → Type 0
+StandsInChannels ds ns cs =
+    FailsOfChannels (list_all rows.joins_two cs) (list_all (rows.joins_nodes ns) cs)
+    (list_all (rows.has_input ds ns) cs)
+
+-- the fault of a refusal in the top declaration of an index
 abbrev pub fault_at : Refusal → ℕ → CheckFault
 fault_at (refusal.Row r) index = fault.Refused r index
 fault_at refusal.Memory index = fault.Memory
 
--- this stands where a row is answered; a fault for want of memory says nothing
+-- if a fault names a row, this holds of it; of a fault for want of memory nothing is said
 abbrev pub FaultSays : (Row → Type 0) → CheckFault → Type 0
 FaultSays stands (fault.Refused r index) = stands r
 FaultSays stands fault.Memory = Unit {0}
 
--- where a fault stands: its row stands in the text. Memory may be refused anywhere.
+-- the row of a fault applies to the text. Memory may run out anywhere.
 abbrev pub StandsInSource : CheckFault → SourceText → Type 0
 StandsInSource f t = FaultSays (StandsIn t) f

@@ -1,18 +1,21 @@
 //! A node's program, made of its automaton.
 
-ghost use Rattle.std.specs.Prelude.{◌≡◌, ◌&&◌, true, nat_eq, ◌++◌, All, [], ◌∷◌, IfOk, IfErr, OnOk, Ok, false, map, take, length};
+ghost use Rattle.std.specs.Prelude.{◌≡◌, ◌&&◌, true, ◌++◌, [], ◌∷◌, IfOk, OnOk, Ok, false, map, length};
 ghost use Rattle.std.specs.Option.{option_map, option_copied, is_some};
 ghost use lib.Pointwise.{pointwise};
 ghost use Rattle.std.specs.List.{AllByRecursion, IsDistinct, list_all, list_any};
 ghost use Rattle.ioa_terms.specs.Bindings.{same_name};
-ghost use Rattle.ioa_check.specs.Rows.{HasNoEntryRow, HasNoAutomatonRow, has_entry, fires_entry, fires_as_many, takes_as_many, guard_reads_only, assigns_only, assigns_number, is_guard_or_none, argument_repeats, same_term};
-ghost use Rattle.ioa_source.specs.Erasure.{erase_entry, erase_transition};
-ghost use Rattle.ioa_check.specs.Correspondence.{AssignsInteger, HasIntegers, IsProgramOf, IsRuleOf, initial_answer, term_answer, transition_for, same_kind};
-ghost use Rattle.ioa_check.specs.Standing.{Fails, Only, Refuses, StandsInAutomaton, StandsInEntries, StandsInEntry, StandsInInitial, StandsInInitials, is_known_transition, is_sorted_transition};
 ghost use Rattle.ioa_terms.specs.View.{term_of, statement_of};
 ghost use Rattle.ioa_source.specs.TextView.{automaton_of, parameter_of, entry_of, transition_of, variable_of};
-ghost use Rattle.ioa_terms.specs.Resolved.{AreResolved};
-ghost use Rattle.ioa_system.specs.ResolvedPrograms.{IsResolvedRule, AreResolvedVariables, IsResolvedGuard, own_name, variable_names, scope_of};
+ghost use Rattle.ioa_system.specs.ResolvedPrograms.{AreResolvedVariables, IsResolvedGuard};
+ghost use Rattle.ioa_system.specs.ResolvedPrograms.{own_name, variable_names, scope_of};
+ghost use Rattle.ioa_check.specs.Correspondence.{IsProgramOf, initial_answer, term_answer, transition_for, same_kind};
+ghost use Rattle.ioa_check.specs.Resolutions.{IsTransitionOf, IsRuleFor, AreRulesFor, FailsOfTransition};
+ghost use Rattle.ioa_check.specs.Rows as spec;
+ghost use Rattle.ioa_check.specs.Rows.{HasNoEntryRow, HasNoAutomatonRow, entry_names, transition_names, has_entry};
+ghost use Rattle.ioa_check.specs.Rows.{fires_entry, fires_as_many, takes_as_many, argument_repeats, same_term};
+ghost use Rattle.ioa_check.specs.Standing.{Fails, IfRefused, RefusesOnly, StandsInAutomaton, StandsInEntries};
+ghost use Rattle.ioa_check.specs.Standing.{StandsInEntry, StandsInInitial, StandsInInitials};
 
 use crate::refusal::{Refusal, Row};
 use crate::resolving::{
@@ -24,7 +27,7 @@ use ioa_system::{Program, Rule, Scope};
 use ioa_terms::{Checked, Env, Kind, Shape, Statement, Term, TermFault, Tree, Value, Word, eval};
 use std::alloc::Global;
 
-/// The program of a node that an automaton is placed on.
+/// The program of a node on which an automaton is placed.
 pub(crate) fn program_of(
     alloc: Global,
     node: i64,
@@ -33,7 +36,7 @@ pub(crate) fn program_of(
     ensures node { IfOk result (λ p. p.node ≡ node) }
     ensures made { IfOk result (IsProgramOf (automaton_of automaton.now)) }
     ensures rows { OnOk result (HasNoAutomatonRow (automaton_of automaton.now)) }
-    ensures refused { IfErr result (Refuses (StandsInAutomaton (automaton_of automaton.now))) }
+    ensures refused { IfRefused result (StandsInAutomaton (automaton_of automaton.now)) }
 {
     entries_differ(alloc, automaton)?;
     transitions_differ(alloc, automaton)?;
@@ -47,11 +50,12 @@ pub(crate) fn program_of(
     Ok(Program::new(node, rules, variables, initial, schedule))
 }
 
-/// The names of the state variables, which differ.
+/// The names of the state variables. A name that is declared twice is refused by `Twice` (21).
 fn names_of(alloc: Global, variables: &[Variable<usize, Shape>]) -> Result<Scope, Refusal>
     ensures names { IfOk result (λ s. s ≡ variable_names (map variable_of variables.now)) }
     ensures differ { IfOk result (IsDistinct same_name) }
-    ensures refused { IfErr result (Refuses (Only Row.Twice (IsDistinct same_name (variable_names (map variable_of variables.now)) → ⊥))) }
+    ensures refused { RefusesOnly result Row.Twice
+        (IsDistinct same_name (variable_names (map variable_of variables.now)) → ⊥) }
 {
     let mut names = Scope::new(alloc);
     for variable in variables {
@@ -60,11 +64,11 @@ fn names_of(alloc: Global, variables: &[Variable<usize, Shape>]) -> Result<Scope
     Ok(names)
 }
 
-/// Declares a name that is new.
+/// Declares a name. One that is declared already is refused by `Twice` (21).
 pub(crate) fn declare(alloc: Global, names: &mut Scope, name: &Word) -> Result<(), Refusal>
     ensures added { OnOk result (names.new ≡ names.old ++ name.now ∷ []) }
     ensures differ { OnOk result (IsDistinct same_name names.old → IsDistinct same_name names.new) }
-    ensures refused { IfErr result (Refuses (Only Row.Twice (IsDistinct same_name (names.old ++ name.now ∷ []) → ⊥))) }
+    ensures refused { RefusesOnly result Row.Twice (IsDistinct same_name (names.old ++ name.now ∷ []) → ⊥) }
 {
     let fresh = names.declare(name.try_copy(alloc)?)?;
     if fresh {
@@ -83,7 +87,8 @@ fn scope_for(
 ) -> Result<Scope, Refusal>
     ensures names { IfOk result (λ s. s ≡ scope_of (entry_of entry.now) (map variable_of variables.now)) }
     ensures differ { IfOk result (IsDistinct same_name) }
-    ensures refused { IfErr result (Refuses (Only Row.Twice (IsDistinct same_name (scope_of (entry_of entry.now) (map variable_of variables.now)) → ⊥))) }
+    ensures refused { RefusesOnly result Row.Twice
+        (IsDistinct same_name (scope_of (entry_of entry.now) (map variable_of variables.now)) → ⊥) }
 {
     let mut names = names_of(alloc, variables)?;
     for parameter in &entry.parameters {
@@ -100,7 +105,8 @@ fn declare_parameter(
 ) -> Result<(), Refusal>
     ensures added { OnOk result (names.new ≡ names.old ++ own_name (parameter_of parameter.now)) }
     ensures differ { OnOk result (IsDistinct same_name names.old → IsDistinct same_name names.new) }
-    ensures refused { IfErr result (Refuses (Only Row.Twice (IsDistinct same_name (names.old ++ own_name (parameter_of parameter.now)) → ⊥))) }
+    ensures refused { RefusesOnly result Row.Twice
+        (IsDistinct same_name (names.old ++ own_name (parameter_of parameter.now)) → ⊥) }
 {
     match parameter {
         Parameter::Const(_) => Ok(()),
@@ -116,7 +122,7 @@ fn initial_values(
     requires { AreResolvedVariables (map variable_of variables.now) }
     ensures many { IfOk result (λ vs. length vs.items ≡ length variables.now) }
     ensures values { IfOk result (λ vs. map initial_answer variables.now ≡ map Ok vs.items) }
-    ensures refused { IfErr result (Refuses (StandsInInitials variables.now)) }
+    ensures refused { IfRefused result (StandsInInitials variables.now) }
 {
     let mut values = Vec::new(alloc);
     for variable in variables {
@@ -130,7 +136,7 @@ fn initial_values(
 fn initial_value(alloc: Global, initial: &Option<Checked>) -> Result<Value, Refusal>
     requires { IsResolvedGuard (option_map term_of initial.now) [] }
     ensures value { IfOk result (λ v. term_answer (option_map term_of initial.now) ≡ Ok v) }
-    ensures refused { IfErr result (Refuses (StandsInInitial (option_map term_of initial.now))) }
+    ensures refused { IfRefused result (StandsInInitial (option_map term_of initial.now)) }
 {
     let Some(term) = initial else {
         return Err(Refusal::Row(Row::NoInitial));
@@ -149,13 +155,14 @@ fn rules_of(
     automaton: &Automaton<(), ()>,
     variables: &[Variable<usize, Shape>],
 ) -> Result<Vec<Rule>, Refusal>
-    ensures resolved { IfOk result (λ rs. All (IsResolvedRule (map variable_of variables.now)) rs.items) }
-    ensures signature { IfOk result (λ rs. map (λ r. erase_entry (entry_of r.entry)) rs.items ≡ (automaton_of automaton.now).signature) }
-    ensures transitions { IfOk result (λ rs. AllByRecursion (IsRuleOf (automaton_of automaton.now)) rs.items) }
-    ensures shapes { IfOk result (λ rs. AllByRecursion HasIntegers rs.items) }
-    ensures rows { OnOk result (AllByRecursion (HasNoEntryRow (variable_names (map variable_of variables.now)) (automaton_of automaton.now).transitions)
+    ensures made { IfOk result (λ rs.
+        AreRulesFor (map variable_of variables.now) (automaton_of automaton.now) rs.items) }
+    ensures rows { OnOk result (AllByRecursion
+        (HasNoEntryRow (variable_names (map variable_of variables.now)) (automaton_of automaton.now).transitions)
         (automaton_of automaton.now).signature) }
-    ensures refused { IfErr result (Refuses (StandsInEntries (variable_names (map variable_of variables.now)) (automaton_of automaton.now).transitions (automaton_of automaton.now).signature)) }
+    ensures refused { IfRefused result
+        (StandsInEntries (variable_names (map variable_of variables.now)) (automaton_of automaton.now).transitions
+        (automaton_of automaton.now).signature) }
 {
     let mut rules = Vec::new(alloc);
     for entry in &automaton.signature {
@@ -172,12 +179,14 @@ fn rule_of(
     entry: &Entry<(), ()>,
     variables: &[Variable<usize, Shape>],
 ) -> Result<Rule, Refusal>
-    ensures resolved { IfOk result (IsResolvedRule (map variable_of variables.now)) }
-    ensures entry { IfOk result (λ r. erase_entry (entry_of r.entry) ≡ entry_of entry.now) }
-    ensures transition { IfOk result (IsRuleOf (automaton_of automaton.now)) }
-    ensures shapes { IfOk result HasIntegers }
-    ensures rows { OnOk result (HasNoEntryRow (variable_names (map variable_of variables.now)) (automaton_of automaton.now).transitions (entry_of entry.now)) }
-    ensures refused { IfErr result (Refuses (StandsInEntry (variable_names (map variable_of variables.now)) (automaton_of automaton.now).transitions (entry_of entry.now))) }
+    ensures made { IfOk result
+        (IsRuleFor (map variable_of variables.now) (automaton_of automaton.now) (entry_of entry.now)) }
+    ensures rows { OnOk result
+        (HasNoEntryRow (variable_names (map variable_of variables.now)) (automaton_of automaton.now).transitions
+        (entry_of entry.now)) }
+    ensures refused { IfRefused result
+        (StandsInEntry (variable_names (map variable_of variables.now)) (automaton_of automaton.now).transitions
+        (entry_of entry.now)) }
 {
     let Some(transition) = transition_for(automaton, entry) else {
         return Err(Refusal::Row(Row::NoTransition));
@@ -208,22 +217,15 @@ fn has_input_pre(entry: &Entry<(), ()>, transition: &Transition<(), ()>) -> bool
     }
 }
 
-/// A transition, its names placed among those in view.
+/// Resolves a transition. The state variables are the first `count` names in view.
 fn resolve_transition(
     alloc: Global,
     scope: &Scope,
     count: usize,
     transition: &Transition<(), ()>,
 ) -> Result<Transition<usize, Shape>, Refusal>
-    ensures same { IfOk result (λ t. erase_transition (transition_of t) ≡ transition_of transition.now) }
-    ensures guard { IfOk result (λ t. IsResolvedGuard (transition_of t).pre scope.now) }
-    ensures effect { IfOk result (λ t. AreResolved (transition_of t).effect (take count scope.now) scope.now) }
-    ensures shapes { IfOk result (λ t. AllByRecursion AssignsInteger (transition_of t).effect) }
-    ensures sort { OnOk result (is_guard_or_none (transition_of transition.now).pre ≡ true) }
-    ensures guard_names { OnOk result (guard_reads_only scope.now (transition_of transition.now).pre ≡ true) }
-    ensures numbers { OnOk result (list_all assigns_number (transition_of transition.now).effect ≡ true) }
-    ensures names { OnOk result (list_all (assigns_only (take count scope.now) scope.now) (transition_of transition.now).effect ≡ true) }
-    ensures refused { IfErr result (Refuses (Fails (is_known_transition (take count scope.now) scope.now (transition_of transition.now)) (is_sorted_transition (transition_of transition.now)))) }
+    ensures made { IfOk result (λ t. IsTransitionOf count scope.now (transition_of transition.now) (transition_of t)) }
+    ensures refused { IfRefused result (FailsOfTransition count scope.now (transition_of transition.now)) }
 {
     let name = transition.name.try_copy(alloc)?;
     let arguments = resolve_terms(alloc, scope, &transition.arguments)?;
@@ -238,7 +240,7 @@ fn resolve_transition(
     })
 }
 
-/// The transition of an entry's name.
+/// The transition that has the name and kind of an entry.
 fn transition_for<'a>(
     automaton: &'a Automaton<(), ()>,
     entry: &Entry<(), ()>,
@@ -254,7 +256,8 @@ fn transition_for<'a>(
     None
 }
 
-/// Whether a head repeats its entry: the same term at a constant, the same name elsewhere.
+/// Whether the arguments of a head repeat the parameters of its entry: the same term as a constant, the
+/// same name as a declared one.
 fn head_repeats(parameters: &[Parameter<(), ()>], arguments: &[Term]) -> bool
     ensures { result ≡ pointwise argument_repeats (map parameter_of parameters.now) (map term_of arguments.now) }
 {
@@ -282,7 +285,7 @@ fn argument_repeats(parameter: &Parameter<(), ()>, argument: &Term) -> bool
     }
 }
 
-/// Whether two terms of the first form are spelled by the same tree.
+/// Whether two terms of the form that runs today are the same tree.
 fn same_term(left: &Term, right: &Term) -> bool
     ensures { result ≡ same_term (term_of left.now) (term_of right.now) }
 {
@@ -294,10 +297,11 @@ fn same_term(left: &Term, right: &Term) -> bool
     }
 }
 
-/// Passes where no two entries have one name.
+/// Passes if no two entries have one name.
 fn entries_differ(alloc: Global, automaton: &Automaton<(), ()>) -> Result<(), Refusal>
-    ensures differ { OnOk result (IsDistinct same_name (map (λ e. e.name) (automaton_of automaton.now).signature)) }
-    ensures refused { IfErr result (Refuses (Only Row.Twice (IsDistinct same_name (map (λ e. e.name) (automaton_of automaton.now).signature) → ⊥))) }
+    ensures differ { OnOk result (IsDistinct same_name (entry_names (automaton_of automaton.now).signature)) }
+    ensures refused { RefusesOnly result Row.Twice
+        (IsDistinct same_name (entry_names (automaton_of automaton.now).signature) → ⊥) }
 {
     let mut names = Scope::new(alloc);
     for entry in &automaton.signature {
@@ -306,10 +310,11 @@ fn entries_differ(alloc: Global, automaton: &Automaton<(), ()>) -> Result<(), Re
     Ok(())
 }
 
-/// Passes where no two transitions have one name.
+/// Passes if no two transitions have one name.
 fn transitions_differ(alloc: Global, automaton: &Automaton<(), ()>) -> Result<(), Refusal>
-    ensures differ { OnOk result (IsDistinct same_name (map (λ t. t.name) (automaton_of automaton.now).transitions)) }
-    ensures refused { IfErr result (Refuses (Only Row.Twice (IsDistinct same_name (map (λ t. t.name) (automaton_of automaton.now).transitions) → ⊥))) }
+    ensures differ { OnOk result (IsDistinct same_name (transition_names (automaton_of automaton.now).transitions)) }
+    ensures refused { RefusesOnly result Row.Twice
+        (IsDistinct same_name (transition_names (automaton_of automaton.now).transitions) → ⊥) }
 {
     let mut names = Scope::new(alloc);
     for transition in &automaton.transitions {
@@ -318,10 +323,11 @@ fn transitions_differ(alloc: Global, automaton: &Automaton<(), ()>) -> Result<()
     Ok(())
 }
 
-/// Passes where each transition is of an entry's name and kind.
+/// Passes if each transition has the name and kind of an entry.
 fn transitions_have_entries(automaton: &Automaton<(), ()>) -> Result<(), Refusal>
-    ensures known { OnOk result (list_all (has_entry (automaton_of automaton.now).signature) (automaton_of automaton.now).transitions ≡ true) }
-    ensures refused { IfErr result (Refuses (Only Row.Unknown (list_all (has_entry (automaton_of automaton.now).signature) (automaton_of automaton.now).transitions ≡ false))) }
+    ensures known { OnOk result (spec.transitions_have_entries (automaton_of automaton.now) ≡ true) }
+    ensures refused { RefusesOnly result Row.Unknown
+        (spec.transitions_have_entries (automaton_of automaton.now) ≡ false) }
 {
     for transition in &automaton.transitions {
         if !has_entry(automaton, transition) {
@@ -331,7 +337,7 @@ fn transitions_have_entries(automaton: &Automaton<(), ()>) -> Result<(), Refusal
     Ok(())
 }
 
-/// Whether a transition is of an entry's name and kind.
+/// Whether a transition has the name and kind of an entry.
 fn has_entry(automaton: &Automaton<(), ()>, transition: &Transition<(), ()>) -> bool
     ensures { result ≡ has_entry (automaton_of automaton.now).signature (transition_of transition.now) }
 {
@@ -343,11 +349,13 @@ fn has_entry(automaton: &Automaton<(), ()>, transition: &Transition<(), ()>) -> 
     false
 }
 
-/// Passes where each firing is of an entry's name and has as many arguments.
+/// Passes if each firing has the name of an entry, and as many arguments as that has parameters.
 fn firings_have_entries(automaton: &Automaton<(), ()>) -> Result<(), Refusal>
-    ensures known { OnOk result (list_all (fires_entry (automaton_of automaton.now).signature) (automaton_of automaton.now).schedule ≡ true) }
-    ensures many { OnOk result (list_all (fires_as_many (automaton_of automaton.now).signature) (automaton_of automaton.now).schedule ≡ true) }
-    ensures refused { IfErr result (Refuses (Fails (list_all (fires_entry (automaton_of automaton.now).signature) (automaton_of automaton.now).schedule) (list_all (fires_as_many (automaton_of automaton.now).signature) (automaton_of automaton.now).schedule))) }
+    ensures known { OnOk result (spec.firings_have_entries (automaton_of automaton.now) ≡ true) }
+    ensures many { OnOk result (spec.firings_have_as_many (automaton_of automaton.now) ≡ true) }
+    ensures refused { IfRefused result
+        (Fails (spec.firings_have_entries (automaton_of automaton.now))
+        (spec.firings_have_as_many (automaton_of automaton.now))) }
 {
     for statement in &automaton.schedule {
         if !fires_entry(automaton, statement) {
@@ -360,7 +368,7 @@ fn firings_have_entries(automaton: &Automaton<(), ()>) -> Result<(), Refusal>
     Ok(())
 }
 
-/// Whether a statement is a firing of an entry's name.
+/// Whether a statement is a firing that has the name of an entry.
 fn fires_entry(automaton: &Automaton<(), ()>, statement: &Statement<(), ()>) -> bool
     ensures { result ≡ fires_entry (automaton_of automaton.now).signature (statement_of statement.now) }
 {
@@ -382,7 +390,7 @@ fn is_entry(automaton: &Automaton<(), ()>, name: &Word) -> bool
     false
 }
 
-/// Whether a statement, where it is a firing, has as many arguments as the entries of its name have
+/// Whether a statement, if it is a firing, has as many arguments as the entries of its name have
 /// parameters.
 fn fires_as_many(automaton: &Automaton<(), ()>, statement: &Statement<(), ()>) -> bool
     ensures { result ≡ fires_as_many (automaton_of automaton.now).signature (statement_of statement.now) }
@@ -395,7 +403,8 @@ fn fires_as_many(automaton: &Automaton<(), ()>, statement: &Statement<(), ()>) -
 
 /// Whether the entries of a name have as many parameters as there are arguments.
 fn takes_as_many(automaton: &Automaton<(), ()>, name: &Word, arguments: &[Term]) -> bool
-    ensures { result ≡ list_all (takes_as_many name.now (length (map term_of arguments.now))) (automaton_of automaton.now).signature }
+    ensures { result ≡ list_all (takes_as_many name.now (length (map term_of arguments.now)))
+        (automaton_of automaton.now).signature }
 {
     for entry in &automaton.signature {
         if entry.name == *name && entry.parameters.len() != arguments.len() {

@@ -1,17 +1,24 @@
 //! From a text to a system, or the first row of refusal found in it.
 
-ghost use Rattle.std.specs.Prelude.{◌≡◌, ◌<◌, ◌≤◌, ◌^◌, ◌++◌, ◌∷◌, [], ◌&&◌, not, true, false, slice_get, pos, Some, Contains, IfOk, IfErr, OnOk, IfSome, IfNone, ◌⊎◌, map, length};
+ghost use Rattle.std.specs.Prelude.{◌≡◌, ◌<◌, ◌≤◌, ◌^◌, ◌++◌, ◌∷◌, [], ◌&&◌, ◌⊎◌, true, false, slice_get, pos};
+ghost use Rattle.std.specs.Prelude.{Some, Contains, IfOk, IfErr, OnOk, IfSome, IfNone, map, length};
 ghost use Rattle.std.specs.List.{AllByRecursion, IsDistinct, list_all, list_any};
-ghost use Rattle.ioa_terms.specs.Bindings.{same_name};
 ghost use Rattle.std.specs.Option.{option_map, option_copied};
 ghost use Rattle.std.specs.Arc.{arc_value};
-ghost use Rattle.ioa_source.specs.TextView.{text_of, declaration_of, node_of, placement_of, automaton_of, entry_of, parameter_of};
+ghost use Rattle.ioa_terms.specs.Bindings.{same_name};
+ghost use Rattle.ioa_source.specs.TextView.{text_of, declaration_of, node_of, placement_of};
+ghost use Rattle.ioa_source.specs.TextView.{automaton_of, entry_of, parameter_of};
 ghost use Rattle.ioa_source.specs.Sides.{SourceNode};
-ghost use Rattle.ioa_check.specs.Correspondence.{IsSystemOf, IsNodeOf, AreNodesOf, nodes_in, channels_in, automaton_named, automaton_in, automata_in, node_at};
-ghost use Rattle.ioa_check.specs.Rows as spec;
-ghost use Rattle.ioa_check.specs.Rows.{HasNoRow, HasNoSystemRow, HasNoAutomatonRow};
+ghost use Rattle.ioa_check.specs.Correspondence.{IsSystemOf, IsNodeOf, AreNodesOf, nodes_in, channels_in, node_at};
+ghost use Rattle.ioa_check.specs.Correspondence.{automaton_named, automaton_in, automata_in};
+ghost use Rattle.ioa_check.specs.declared.checking.TheConstants.{MOST_CHANNELS, MOST_NODES};
 ghost use Rattle.ioa_check.specs.FirstForm.{is_first_declaration, is_first_placement, passes_or_none};
-ghost use Rattle.ioa_check.specs.Standing.{FaultSays, FailsOfChannels, FailsOfNodes, Only, Refuses, StandsInSource, StandsIn, StandsInAutomata, StandsInAutomaton};
+ghost use Rattle.ioa_check.specs.Rows as spec;
+ghost use Rattle.ioa_check.specs.Rows.{HasNoRow, HasNoSystemRow, HasNoAutomatonRow, automaton_names};
+ghost use Rattle.ioa_check.specs.Rows.{HasNoNodeRow, HaveNoNodeRow, HasNoChannelRow, HaveNoChannelRow};
+ghost use Rattle.ioa_check.specs.Standing.{FaultSays, IfRefused, Only, RefusesOnly, StandsInSource, StandsIn};
+ghost use Rattle.ioa_check.specs.Standing.{StandsInAutomata, StandsInAutomaton, StandsInNode, StandsInNodes};
+ghost use Rattle.ioa_check.specs.Standing.{StandsInChannel, StandsInChannels};
 
 use crate::building::{declare, program_of};
 use crate::first_form::{is_first_declaration, is_first_placement};
@@ -28,9 +35,9 @@ const MOST_NODES: usize = 64;
 /// The greatest number of channels.
 const MOST_CHANNELS: usize = 256;
 
-/// Makes the system that the tree of a source describes. If rows of refusal stand in the source, one of
-/// them is returned, with the index of its declaration: 20 for the first declaration that is not of the
-/// form that runs today, if there is one. The tree is lent, so it is there after a refusal too.
+/// Makes the system that the tree of a source describes. If rows of refusal apply to the source, one of
+/// them is returned, with the index of its declaration: `Unknown` (20) for the first declaration that is
+/// not of the form that runs today, if there is one. The tree is lent, so it is there after a refusal too.
 pub fn check(alloc: Global, text: &Text<(), ()>) -> Result<System, CheckFault>
     ensures system { IfOk result (IsSystemOf (text_of text.now)) }
     ensures rows { OnOk result (HasNoRow (text_of text.now)) }
@@ -44,11 +51,13 @@ pub fn check(alloc: Global, text: &Text<(), ()>) -> Result<System, CheckFault>
     }
 }
 
-/// Passes where the whole text is of the first form.
+/// Passes if the whole text is of the form that runs today.
 fn check_first_form(text: &Text<(), ()>) -> Result<(), CheckFault>
     ensures declarations { OnOk result (list_all is_first_declaration (text_of text.now).declarations ≡ true) }
     ensures placements { OnOk result (list_all is_first_placement (text_of text.now).system ≡ true) }
-    ensures refused { IfErr result (FaultSays (Only Row.Unknown ((list_all is_first_declaration (text_of text.now).declarations && list_all is_first_placement (text_of text.now).system) ≡ false))) }
+    ensures refused { IfErr result (FaultSays (Only Row.Unknown
+        ((list_all is_first_declaration (text_of text.now).declarations
+        && list_all is_first_placement (text_of text.now).system) ≡ false))) }
 {
     declarations_are_first(&text.declarations)?;
     if !placements_are_first(&text.system) {
@@ -57,10 +66,11 @@ fn check_first_form(text: &Text<(), ()>) -> Result<(), CheckFault>
     Ok(())
 }
 
-/// Passes where each declaration is of the first form.
+/// Passes if each declaration is of the form that runs today.
 fn declarations_are_first(declarations: &[Declaration<(), ()>]) -> Result<(), CheckFault>
     ensures first { OnOk result (list_all is_first_declaration (map declaration_of declarations.now) ≡ true) }
-    ensures refused { IfErr result (FaultSays (Only Row.Unknown (list_all is_first_declaration (map declaration_of declarations.now) ≡ false))) }
+    ensures refused { IfErr result (FaultSays (Only Row.Unknown
+        (list_all is_first_declaration (map declaration_of declarations.now) ≡ false))) }
 {
     for (index, declaration) in declarations.iter().enumerate() {
         if !is_first_declaration(declaration) {
@@ -70,7 +80,7 @@ fn declarations_are_first(declarations: &[Declaration<(), ()>]) -> Result<(), Ch
     Ok(())
 }
 
-/// Whether each part of a system section is of the first form.
+/// Whether each item of a system section is of the form that runs today.
 fn placements_are_first(placements: &[Placement<(), ()>]) -> bool
     ensures { result ≡ list_all is_first_placement (map placement_of placements.now) }
 {
@@ -82,11 +92,13 @@ fn placements_are_first(placements: &[Placement<(), ()>]) -> bool
     true
 }
 
-/// Passes where no row stands in a declaration before the system.
+/// Passes if no row applies to a declaration before the system section.
 fn check_declarations(alloc: Global, declarations: &[Declaration<(), ()>]) -> Result<(), CheckFault>
-    ensures differ { OnOk result (IsDistinct same_name (map (λ a. a.name) (automata_in (map declaration_of declarations.now)))) }
+    ensures differ { OnOk result
+        (IsDistinct same_name (automaton_names (automata_in (map declaration_of declarations.now)))) }
     ensures rows { OnOk result (AllByRecursion HasNoAutomatonRow (automata_in (map declaration_of declarations.now))) }
-    ensures refused { IfErr result (FaultSays (StandsInAutomata [] (automata_in (map declaration_of declarations.now)))) }
+    ensures refused { IfErr result
+        (FaultSays (StandsInAutomata [] (automata_in (map declaration_of declarations.now)))) }
 {
     let mut names = Scope::new(alloc);
     for index in 0..declarations.len() {
@@ -98,16 +110,18 @@ fn check_declarations(alloc: Global, declarations: &[Declaration<(), ()>]) -> Re
     Ok(())
 }
 
-/// Passes where no row stands in a declaration; an automaton's name is declared.
+/// Passes if no row applies to a declaration. The name of an automaton is added to the names.
 fn check_declaration(
     alloc: Global,
     names: &mut Scope,
     declaration: &Declaration<(), ()>,
 ) -> Result<(), Refusal>
-    ensures added { OnOk result (names.new ≡ names.old ++ map (λ a. a.name) (automaton_in (declaration_of declaration.now))) }
+    ensures added { OnOk result
+        (names.new ≡ names.old ++ automaton_names (automaton_in (declaration_of declaration.now))) }
     ensures differ { OnOk result (IsDistinct same_name names.old → IsDistinct same_name names.new) }
     ensures rows { OnOk result (AllByRecursion HasNoAutomatonRow (automaton_in (declaration_of declaration.now))) }
-    ensures refused { IfErr result (Refuses (StandsInAutomata names.old (automaton_in (declaration_of declaration.now)))) }
+    ensures refused { IfRefused result
+        (StandsInAutomata names.old (automaton_in (declaration_of declaration.now))) }
 {
     match declaration {
         Declaration::Type(_) => Ok(()),
@@ -115,7 +129,7 @@ fn check_declaration(
     }
 }
 
-/// Passes where an automaton's name is new and a program can be made of it.
+/// Passes if an automaton's name is new and a program can be made of it.
 fn check_named(
     alloc: Global,
     names: &mut Scope,
@@ -124,16 +138,16 @@ fn check_named(
     ensures added { OnOk result (names.new ≡ names.old ++ (automaton_of automaton.now).name ∷ []) }
     ensures differ { OnOk result (IsDistinct same_name names.old → IsDistinct same_name names.new) }
     ensures rows { OnOk result (HasNoAutomatonRow (automaton_of automaton.now)) }
-    ensures refused { IfErr result (Refuses (StandsInAutomata names.old (automaton_of automaton.now ∷ []))) }
+    ensures refused { IfRefused result (StandsInAutomata names.old (automaton_of automaton.now ∷ [])) }
 {
     declare(alloc, names, &automaton.name)?;
     check_automaton(alloc, automaton)
 }
 
-/// Passes where a program can be made of an automaton.
+/// Passes if a program can be made of an automaton.
 fn check_automaton(alloc: Global, automaton: &Automaton<(), ()>) -> Result<(), Refusal>
     ensures rows { OnOk result (HasNoAutomatonRow (automaton_of automaton.now)) }
-    ensures refused { IfErr result (Refuses (StandsInAutomaton (automaton_of automaton.now))) }
+    ensures refused { IfRefused result (StandsInAutomaton (automaton_of automaton.now)) }
 {
     let _program = program_of(alloc, 0, automaton)?;
     Ok(())
@@ -143,7 +157,7 @@ fn check_automaton(alloc: Global, automaton: &Automaton<(), ()>) -> Result<(), R
 fn check_placements(alloc: Global, text: &Text<(), ()>) -> Result<System, Refusal>
     ensures system { IfOk result (IsSystemOf (text_of text.now)) }
     ensures rows { OnOk result (HasNoSystemRow (text_of text.now)) }
-    ensures refused { IfErr result (Refuses (StandsIn (text_of text.now))) }
+    ensures refused { IfRefused result (StandsIn (text_of text.now)) }
 {
     let nodes = nodes_of(alloc, text)?;
     let channels = channels_of(alloc, text)?;
@@ -155,11 +169,12 @@ fn check_placements(alloc: Global, text: &Text<(), ()>) -> Result<System, Refusa
     Ok(System::new(Names::none(alloc), programs, channels))
 }
 
-/// The nodes of a text, as declared: at most 64.
+/// The nodes of a text, in the order of declaration: at most `MOST_NODES`.
 fn nodes_of<'a>(alloc: Global, text: &'a Text<(), ()>) -> Result<Vec<&'a Node<(), ()>>, Refusal>
     ensures all { IfOk result (λ ns. map node_at ns.items ≡ nodes_in (text_of text.now).system) }
-    ensures few { IfOk result (λ ns. length ns.items ≤ 64) }
-    ensures refused { IfErr result (Refuses (Only Row.Limit (length (nodes_in (text_of text.now).system) ≤ 64 → ⊥))) }
+    ensures few { IfOk result (λ ns. length ns.items ≤ MOST_NODES) }
+    ensures refused { RefusesOnly result Row.Limit
+        (length (nodes_in (text_of text.now).system) ≤ MOST_NODES → ⊥) }
 {
     let mut nodes: Vec<&'a Node<(), ()>> = Vec::new(alloc);
     for placement in &text.system {
@@ -173,11 +188,12 @@ fn nodes_of<'a>(alloc: Global, text: &'a Text<(), ()>) -> Result<Vec<&'a Node<()
     Ok(nodes)
 }
 
-/// The channels of a text, as declared: at most 256.
+/// The channels of a text, in the order of declaration: at most `MOST_CHANNELS`.
 fn channels_of(alloc: Global, text: &Text<(), ()>) -> Result<Vec<Channel>, Refusal>
     ensures all { IfOk result (λ cs. cs.items ≡ channels_in (text_of text.now).system) }
-    ensures few { IfOk result (λ cs. length cs.items ≤ 256) }
-    ensures refused { IfErr result (Refuses (Only Row.Limit (length (channels_in (text_of text.now).system) ≤ 256 → ⊥))) }
+    ensures few { IfOk result (λ cs. length cs.items ≤ MOST_CHANNELS) }
+    ensures refused { RefusesOnly result Row.Limit
+        (length (channels_in (text_of text.now).system) ≤ MOST_CHANNELS → ⊥) }
 {
     let mut channels: Vec<Channel> = Vec::new(alloc);
     for placement in &text.system {
@@ -191,10 +207,10 @@ fn channels_of(alloc: Global, text: &Text<(), ()>) -> Result<Vec<Channel>, Refus
     Ok(channels)
 }
 
-/// Passes where no two nodes have one number.
+/// Passes if no two nodes have one number.
 fn numbers_differ(nodes: &[&Node<(), ()>]) -> Result<(), Refusal>
     ensures differ { OnOk result (IsDistinct spec.same_number (map node_at nodes.now)) }
-    ensures refused { IfErr result (Refuses (Only Row.Twice (IsDistinct spec.same_number (map node_at nodes.now) → ⊥))) }
+    ensures refused { RefusesOnly result Row.Twice (IsDistinct spec.same_number (map node_at nodes.now) → ⊥) }
 {
     for position in 0..nodes.len() {
         let node = nodes[position];
@@ -224,10 +240,10 @@ fn is_node(nodes: &[&Node<(), ()>], number: i64) -> bool
     false
 }
 
-/// Passes where no two channels are between the same nodes in the same direction.
+/// Passes if no two channels are between the same nodes in the same direction.
 fn channels_differ(channels: &[Channel]) -> Result<(), Refusal>
     ensures differ { OnOk result (IsDistinct spec.same_channel channels.now) }
-    ensures refused { IfErr result (Refuses (Only Row.Twice (IsDistinct spec.same_channel channels.now → ⊥))) }
+    ensures refused { RefusesOnly result Row.Twice (IsDistinct spec.same_channel channels.now → ⊥) }
 {
     for (position, channel) in channels.iter().enumerate() {
         if is_channel(&channels[..position], channel) {
@@ -249,12 +265,10 @@ fn is_channel(channels: &[Channel], channel: &Channel) -> bool
     false
 }
 
-/// Passes where each node's automaton is declared, its sends are from that node and its receives to
-/// it.
+/// Passes if each node's automaton is declared, its sends are from that node and its receives to it.
 fn check_nodes(text: &Text<(), ()>, nodes: &[&Node<(), ()>]) -> Result<(), Refusal>
-    ensures declared { OnOk result (list_all (spec.is_declared (text_of text.now).declarations) (map node_at nodes.now) ≡ true) }
-    ensures at_home { OnOk result (list_all (spec.has_its_own (text_of text.now).declarations) (map node_at nodes.now) ≡ true) }
-    ensures refused { IfErr result (Refuses (FailsOfNodes (list_all (spec.is_declared (text_of text.now).declarations) (map node_at nodes.now)) (list_all (spec.has_its_own (text_of text.now).declarations) (map node_at nodes.now)))) }
+    ensures rows { OnOk result (HaveNoNodeRow (text_of text.now).declarations (map node_at nodes.now)) }
+    ensures refused { IfRefused result (StandsInNodes (text_of text.now).declarations (map node_at nodes.now)) }
 {
     for node in nodes {
         check_node(text, node)?;
@@ -262,11 +276,10 @@ fn check_nodes(text: &Text<(), ()>, nodes: &[&Node<(), ()>]) -> Result<(), Refus
     Ok(())
 }
 
-/// Passes where a node's automaton is declared, its sends are from that node and its receives to it.
+/// Passes if a node's automaton is declared, its sends are from that node and its receives to it.
 fn check_node(text: &Text<(), ()>, node: &Node<(), ()>) -> Result<(), Refusal>
-    ensures declared { OnOk result (spec.is_declared (text_of text.now).declarations (node_of node.now) ≡ true) }
-    ensures at_home { OnOk result (spec.has_its_own (text_of text.now).declarations (node_of node.now) ≡ true) }
-    ensures refused { IfErr result (Refuses (FailsOfNodes (spec.is_declared (text_of text.now).declarations (node_of node.now)) (spec.has_its_own (text_of text.now).declarations (node_of node.now)))) }
+    ensures rows { OnOk result (HasNoNodeRow (text_of text.now).declarations (node_of node.now)) }
+    ensures refused { IfRefused result (StandsInNode (text_of text.now).declarations (node_of node.now)) }
 {
     match automaton_of_name(&text.declarations, &node.automaton) {
         None => Err(Refusal::Row(Row::Unknown)),
@@ -280,16 +293,16 @@ fn check_node(text: &Text<(), ()>, node: &Node<(), ()>) -> Result<(), Refusal>
     }
 }
 
-/// Passes where each channel joins two nodes and its receiver takes messages of its sender.
+/// Passes if each channel joins two nodes and its receiver takes messages of its sender.
 fn check_channels(
     text: &Text<(), ()>,
     nodes: &[&Node<(), ()>],
     channels: &[Channel],
 ) -> Result<(), Refusal>
-    ensures two { OnOk result (list_all spec.joins_two channels.now ≡ true) }
-    ensures ends { OnOk result (list_all (spec.joins_nodes (map node_at nodes.now)) channels.now ≡ true) }
-    ensures inputs { OnOk result (list_all (spec.has_input (text_of text.now).declarations (map node_at nodes.now)) channels.now ≡ true) }
-    ensures refused { IfErr result (Refuses (FailsOfChannels (list_all spec.joins_two channels.now) (list_all (spec.joins_nodes (map node_at nodes.now)) channels.now) (list_all (spec.has_input (text_of text.now).declarations (map node_at nodes.now)) channels.now))) }
+    ensures rows { OnOk result
+        (HaveNoChannelRow (text_of text.now).declarations (map node_at nodes.now) channels.now) }
+    ensures refused { IfRefused result
+        (StandsInChannels (text_of text.now).declarations (map node_at nodes.now) channels.now) }
 {
     for channel in channels {
         check_channel(text, nodes, channel)?;
@@ -297,16 +310,16 @@ fn check_channels(
     Ok(())
 }
 
-/// Passes where a channel joins two nodes and its receiver takes messages of its sender.
+/// Passes if a channel joins two nodes and its receiver takes messages of its sender.
 fn check_channel(
     text: &Text<(), ()>,
     nodes: &[&Node<(), ()>],
     channel: &Channel,
 ) -> Result<(), Refusal>
-    ensures two { OnOk result (spec.joins_two channel.now ≡ true) }
-    ensures ends { OnOk result (spec.joins_nodes (map node_at nodes.now) channel.now ≡ true) }
-    ensures inputs { OnOk result (spec.has_input (text_of text.now).declarations (map node_at nodes.now) channel.now ≡ true) }
-    ensures refused { IfErr result (Refuses (FailsOfChannels (spec.joins_two channel.now) (spec.joins_nodes (map node_at nodes.now) channel.now) (spec.has_input (text_of text.now).declarations (map node_at nodes.now) channel.now))) }
+    ensures rows { OnOk result
+        (HasNoChannelRow (text_of text.now).declarations (map node_at nodes.now) channel.now) }
+    ensures refused { IfRefused result
+        (StandsInChannel (text_of text.now).declarations (map node_at nodes.now) channel.now) }
 {
     if channel.from == channel.to {
         return Err(Refusal::Row(Row::SelfChannel));
@@ -342,9 +355,10 @@ fn receives_if_receiver(text: &Text<(), ()>, node: &Node<(), ()>, channel: &Chan
     node.number != channel.to || node_takes_from(text, node, channel.from)
 }
 
-/// Whether the automaton of a node, where it is declared, has a `receive` from a node.
+/// Whether the automaton of a node, if it is declared, has a `receive` from a node.
 fn node_takes_from(text: &Text<(), ()>, node: &Node<(), ()>, sender: i64) -> bool
-    ensures { result ≡ passes_or_none (spec.takes_from sender) (automaton_named node.now.automaton (text_of text.now).declarations) }
+    ensures { result ≡ passes_or_none (spec.takes_from sender)
+        (automaton_named node.now.automaton (text_of text.now).declarations) }
 {
     match automaton_of_name(&text.declarations, &node.automaton) {
         None => true,
@@ -352,7 +366,7 @@ fn node_takes_from(text: &Text<(), ()>, node: &Node<(), ()>, sender: i64) -> boo
     }
 }
 
-/// The automaton that is placed on the node of a number.
+/// The automaton of the node that has a number.
 fn automaton_on<'a>(
     text: &'a Text<(), ()>,
     nodes: &[&'a Node<(), ()>],
@@ -361,7 +375,10 @@ fn automaton_on<'a>(
     ensures placed { IfOk result (λ a. (n : SourceNode) × Contains (map node_at nodes.now) n × (n.number ≡ number)
         × (automaton_named n.automaton (map declaration_of text.entry.now.declarations.items)
         ≡ Some (automaton_of a.now))) }
-    ensures refused { IfErr result (Refuses (λ r. Only Row.NodeGap (spec.is_node (map node_at nodes.now) number ≡ false) r ⊎ Only Row.Unknown (list_all (spec.is_declared (text_of text.now).declarations) (map node_at nodes.now) ≡ false) r)) }
+    ensures refused { IfRefused result (λ r.
+        Only Row.NodeGap (spec.is_node (map node_at nodes.now) number ≡ false) r
+        ⊎ Only Row.Unknown
+        (list_all (spec.is_declared (text_of text.now).declarations) (map node_at nodes.now) ≡ false) r) }
 {
     let Some(node) = node_of_number(nodes, number) else {
         return Err(Refusal::Row(Row::NodeGap));
@@ -372,7 +389,7 @@ fn automaton_on<'a>(
     }
 }
 
-/// The node of a number.
+/// The node that has a number.
 fn node_of_number<'a>(nodes: &[&'a Node<(), ()>], number: i64) -> Option<&'a Node<(), ()>>
     ensures number { IfSome result (λ n. n.now.number ≡ number) }
     ensures declared { IfSome result (λ n. Contains (map node_at nodes.now) (node_at n)) }
@@ -386,7 +403,7 @@ fn node_of_number<'a>(nodes: &[&'a Node<(), ()>], number: i64) -> Option<&'a Nod
     None
 }
 
-/// The automaton of a name.
+/// The automaton that has a name.
 fn automaton_of_name<'a>(
     declarations: &'a [Declaration<(), ()>],
     name: &Word,
@@ -413,7 +430,7 @@ fn programs_of(
     requires { map node_at nodes.now ≡ nodes_in (text_of text.now).system }
     ensures nodes { IfOk result (λ ps. AreNodesOf (text_of text.now) 0 (map arc_value ps.items)) }
     ensures many { IfOk result (λ ps. length ps.items ≡ length nodes.now) }
-    ensures refused { IfErr result (Refuses (StandsIn (text_of text.now))) }
+    ensures refused { IfRefused result (StandsIn (text_of text.now)) }
 {
     let mut programs = Vec::new(alloc);
     for position in 0..nodes.len() {
@@ -423,7 +440,7 @@ fn programs_of(
     Ok(programs)
 }
 
-/// The program of a node.
+/// The program of the node that has a number.
 fn node_program(
     alloc: Global,
     text: &Text<(), ()>,
@@ -433,7 +450,9 @@ fn node_program(
     requires nodes { map node_at nodes.now ≡ nodes_in (text_of text.now).system }
     requires small { position < 2 ^ 63 }
     ensures node { IfOk result (λ p. IsNodeOf (text_of text.now) position (arc_value p)) }
-    ensures refused { IfErr result (Refuses (λ r. Only Row.NodeGap (spec.is_node (map node_at nodes.now) (pos position) ≡ false) r ⊎ StandsIn (text_of text.now) r)) }
+    ensures refused { IfRefused result (λ r.
+        Only Row.NodeGap (spec.is_node (map node_at nodes.now) (pos position) ≡ false) r
+        ⊎ StandsIn (text_of text.now) r) }
 {
     let number = position as i64;
     let automaton = automaton_on(text, nodes, number)?;
@@ -467,7 +486,7 @@ fn entry_is_at_home(entry: &Entry<(), ()>, number: i64) -> bool
     true
 }
 
-/// Whether the parameter at a place is the constant of a number.
+/// Whether there is a parameter at a position, and it is the constant of a number.
 fn has_constant(parameters: &[Parameter<(), ()>], position: usize, number: i64) -> bool
     ensures { result ≡ spec.is_constant (slice_get (map parameter_of parameters.now) position) number }
 {

@@ -1,11 +1,12 @@
-//! Which texts are of the first form of the language.
+//! Which texts are of the form that runs today: the first form of the language.
 
 ghost use Rattle.std.specs.Prelude.{◌≡◌, map, slice_get};
 ghost use Rattle.std.specs.List.{list_all};
 ghost use Rattle.std.specs.Option.{option_map};
 ghost use Rattle.ioa_source.specs.SortView.{sort_of};
 ghost use Rattle.ioa_terms.specs.View.{term_of, target_of, statement_of};
-ghost use Rattle.ioa_source.specs.TextView.{automaton_of, declaration_of, entry_of, parameter_of, placement_of, transition_of, variable_of};
+ghost use Rattle.ioa_source.specs.TextView.{automaton_of, declaration_of, entry_of, parameter_of};
+ghost use Rattle.ioa_source.specs.TextView.{placement_of, transition_of, variable_of};
 ghost use Rattle.ioa_check.specs.FirstForm as spec;
 ghost use Rattle.ioa_check.specs.FirstSorts as sorts;
 
@@ -23,7 +24,7 @@ pub(crate) fn is_first_declaration(declaration: &Declaration<(), ()>) -> bool
     }
 }
 
-/// Whether a part of the system section is a node without arguments, or a channel.
+/// Whether an item of the system section is a node without arguments, or a channel.
 pub(crate) fn is_first_placement(placement: &Placement<(), ()>) -> bool
     ensures { result ≡ spec.is_first_placement (placement_of placement.now) }
 {
@@ -106,7 +107,7 @@ fn has_message(parameters: &[Parameter<(), ()>]) -> bool
     }
 }
 
-/// Whether the parameter at a place is an end of a channel.
+/// Whether there is a parameter at a position, and it is an end of a channel.
 fn has_end(parameters: &[Parameter<(), ()>], position: usize) -> bool
     ensures { result ≡ spec.passes spec.is_end (slice_get (map parameter_of parameters.now) position) }
 {
@@ -165,7 +166,7 @@ fn is_first_variable(variable: &Variable<(), ()>) -> bool
     is_first_sort(&variable.declared.sort) && is_numeral_or_none(&variable.initial)
 }
 
-/// Whether a term is a number, where there is one.
+/// Whether a term, if there is one, is a number as it is written.
 fn is_numeral_or_none(term: &Option<Term>) -> bool
     ensures { result ≡ spec.passes_or_none spec.is_numeral (option_map term_of term.now) }
 {
@@ -229,7 +230,7 @@ fn are_first_terms(terms: &[Term]) -> bool
     true
 }
 
-/// Whether a term is of the first form, where there is one.
+/// Whether a term, if there is one, is of the first form.
 fn is_first_or_none(term: &Option<Term>) -> bool
     ensures { result ≡ spec.passes_or_none spec.is_first_term (option_map term_of term.now) }
 {
@@ -268,7 +269,7 @@ fn is_first_assignment(statement: &Statement<(), ()>) -> bool
     }
 }
 
-/// Whether a place is a variable as a whole.
+/// Whether a target is a variable as a whole.
 fn is_first_target(target: &Target<(), ()>) -> bool
     ensures { result ≡ spec.is_first_target (target_of target.now) }
 {

@@ -1,4 +1,4 @@
-//! Laws of checked texts: what functions ensure that do nothing. They tie the definitions of the
+//! Laws of checked texts: the contracts of functions that do nothing. They tie the definitions of the
 //! check to one another and to the sorts of terms.
 
 ghost use Rattle.std.specs.Prelude.{◌≡◌, true, map, Contains};
@@ -14,19 +14,21 @@ ghost use Rattle.ioa_check.specs.Correspondence.{automata_in};
 ghost use Rattle.ioa_check.specs.Rows.{HasNoRow};
 ghost use Rattle.ioa_check.specs.Standing.{HasNoValue, StandsIn};
 
-/// The sorts of the first form are shapes of terms: where the names in view are integers, and each
-/// name that a term reads stands beside its place among them, a number has the shape of integers, and
-/// a guard that of truth values.
+/// The sorts of the form that runs today are shapes of terms. If the names in view are integers, and
+/// each name that a term reads is resolved to its slot among them, then a number has the shape of
+/// integers, and a guard that of truth values.
 pub fn first_sorts_law()
-    ensures number { (names : NameShapes) → AllByRecursion (λ n. n.1 ≡ integers) names → (t : CheckedTerm) → IsResolved t (map (λ n. n.0) names) →
-        is_number t ≡ true → HasShape names t integers }
-    ensures guard { (names : NameShapes) → AllByRecursion (λ n. n.1 ≡ integers) names → (t : CheckedTerm) → IsResolved t (map (λ n. n.0) names) →
-        is_guard t ≡ true → HasShape names t truths }
+    ensures number { (names : NameShapes) → AllByRecursion (λ n. n.1 ≡ integers) names → (t : CheckedTerm) →
+        IsResolved t (map (λ n. n.0) names) → is_number t ≡ true → HasShape names t integers }
+    ensures guard { (names : NameShapes) → AllByRecursion (λ n. n.1 ≡ integers) names → (t : CheckedTerm) →
+        IsResolved t (map (λ n. n.0) names) → is_guard t ≡ true → HasShape names t truths }
 {}
 
-/// In a text that has no row of refusal none stands, but for 34 of an initial term that has no value,
-/// of which `HasNoRow` says nothing: such a term would be a number outside 64 bits.
+/// If a text has no row of refusal by `HasNoRow`, then no row applies to it by `StandsIn` either, with
+/// one exception: `BadArgument` (34) for an initial term that has no value. `HasNoRow` says nothing of
+/// these: such a term would be a number outside 64 bits.
 pub fn rows_law()
     ensures { (t : SourceText) → HasNoRow t → (r : Row) → StandsIn t r →
-        (r ≡ row.BadArgument) × ((a : SourceAutomaton) × Contains (automata_in t.declarations) a × HasNoValue a.states) }
+        (r ≡ row.BadArgument)
+        × ((a : SourceAutomaton) × Contains (automata_in t.declarations) a × HasNoValue a.states) }
 {}

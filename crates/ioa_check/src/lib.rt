@@ -1,4 +1,4 @@
-//! From a source to a system: names placed, programs made, and the rows of refusal.
+//! From a source to a system: names resolved, programs made, and the rows of refusal.
 #![tactic(auto)]
 
 mod building;

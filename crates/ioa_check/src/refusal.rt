@@ -1,4 +1,4 @@
-//! Why a text is no system.
+//! Why no system is made of a text.
 
 ghost use Rattle.std.specs.Prelude.{◌≡◌};
 ghost use Rattle.ioa_check.specs.Refusals.{row_name, row_number};
@@ -11,10 +11,10 @@ use thiserror::Error;
 /// What is wrong with a text that is spelled as the language asks (profile).
 #[derive(Clone, Copy, Debug, PartialEq, Eq)]
 pub enum Row {
-    /// 20: a name, an action of that kind, or a node is not declared, or may not be assigned there; or what stands
-    /// there is not of the first form.
+    /// 20: a name, an action of that kind, or a node is not declared, or may not be assigned there; or
+    /// the text is not of the form that runs today.
     Unknown,
-    /// 21: a second automaton, variable, parameter, entry, transition, node or channel of one name.
+    /// 21: two automata, variables, parameters, entries, transitions, nodes or channels of one name.
     Twice,
     /// 22: a term of the wrong sort, or a wrong number of arguments.
     Sorts,
@@ -32,7 +32,7 @@ pub enum Row {
     NodeGap,
     /// 31: more than 64 nodes or 256 channels.
     Limit,
-    /// 34: an initial value that has none, a head that does not repeat its entry, or a `send` or
+    /// 34: an initial term that has no value, a head that does not repeat its entry, or a `send` or
     /// `receive` that is not its node's.
     BadArgument,
 }
@@ -90,12 +90,12 @@ impl fmt::Display for Row {
 /// Why `check` makes no system of a source.
 #[derive(Debug, Drop, Error)]
 pub enum CheckFault {
-    /// 20 to 34: a row stands in the top declaration of this place, counted from 0; the system comes
-    /// after the others.
+    /// 20 to 34: a row applies to the top declaration of this index, counted from 0. The system section
+    /// comes after the declarations.
     Refused {
         /// Which row.
         row: Row,
-        /// The place of the declaration.
+        /// The index of the declaration.
         index: usize,
     },
     /// 3: no memory was left.
@@ -119,17 +119,17 @@ impl fmt::Display for CheckFault {
     }
 }
 
-/// A refusal whose place is still to be told.
+/// A refusal, before the index of its declaration is known.
 #[derive(Debug, Drop)]
 pub(crate) enum Refusal {
-    /// A row stands.
+    /// A row applies.
     Row(Row),
     /// No memory was left.
     Memory,
 }
 
 impl Refusal {
-    /// The refusal in the top declaration of a place.
+    /// The fault of a refusal in the top declaration of an index.
     pub(crate) fn at(self, index: usize) -> CheckFault
         ensures { result ≡ fault_at self index }
     {

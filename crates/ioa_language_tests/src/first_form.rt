@@ -1,4 +1,5 @@
-//! Each form of the later language is refused 20 with its place; the first form is not.
+//! A text of the form that runs today is checked. A text with one part of a later form is refused by
+//! `Unknown` (20), with the index of the declaration that has the part.
 
 use ioa_check::check;
 use ioa_source::{
@@ -30,7 +31,7 @@ fn two(alloc: Global, operator: BinaryOperator, text: &str, number: i64) -> Resu
     Ok(Term::Two(operator, left, right))
 }
 
-/// A name of sort Nat in the later form, and else of sort Int.
+/// A declared name: of sort Nat in the later form, and otherwise of sort Int.
 fn declared_name(alloc: Global, text: &str, is_later: bool) -> Result<Declared<()>, Fail> {
     let name = word(alloc, text)?;
     let sort = if is_later { Sort::Nat } else { Sort::Int };
@@ -41,7 +42,7 @@ fn declared_name(alloc: Global, text: &str, is_later: bool) -> Result<Declared<(
     })
 }
 
-/// An internal action in the later form, and else an output.
+/// The kind of an internal action in the later form, and otherwise of an output.
 fn kind_of(is_later: bool) -> Kind {
     if is_later {
         Kind::Internal
@@ -112,7 +113,7 @@ fn assignment(alloc: Global, later: &str) -> Result<Statement<(), ()>, Fail> {
     Ok(Statement::Assign(target, two(alloc, operator, "n", 1)?))
 }
 
-/// The assignment, as the rest of an `if` in the later form.
+/// The assignment: in the later form as the `else` part of an `if`.
 fn statement(alloc: Global, later: &str) -> Result<Statement<(), ()>, Fail> {
     let statement = assignment(alloc, later)?;
     if later == "choice" {
@@ -212,7 +213,7 @@ fn enumeration(alloc: Global) -> Result<TypeDeclaration<()>, Fail> {
     })
 }
 
-/// A text of the first form, or with one part of a later form.
+/// A text of the form that runs today, or the same text with one part of a later form.
 fn text(alloc: Global, later: &str) -> Result<Text<(), ()>, Fail> {
     let mut declarations = Vec::new(alloc);
     declarations.push(Declaration::Automaton(empty(alloc, "Idle")?))?;
@@ -242,7 +243,7 @@ fn the_first_form_is_checked(rt: HostRuntime) -> Result<(), Fail> {
 }
 
 #[test]
-fn later_forms_are_refused_with_their_places(rt: HostRuntime) -> Result<(), Fail> {
+fn later_forms_are_refused_with_their_indices(rt: HostRuntime) -> Result<(), Fail> {
     let rows = [
         ("type", 2),
         ("parameter", 1),

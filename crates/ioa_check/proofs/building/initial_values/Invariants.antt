@@ -4,7 +4,7 @@ use Rattle.ioa_system.specs.ResolvedPrograms.{AreResolvedVariables}
 use Rattle.ioa_check.specs.Correspondence.{initial_answer}
 use Rattle.ioa_check.proofs.building.initial_values.Given as goal
 
--- the values of the variables gone by
+-- the values of the variables so far
 abbrev pub invariant-loop-variable : goal.invariant-loop-variable
 invariant-loop-variable l = record {
   many : length l.values.items ≡ l.variable-index;

@@ -4,7 +4,7 @@ use Rattle.ioa_terms.specs.Bindings.{same_name}
 use Rattle.ioa_source.specs.TextView.{automaton_of, entry_of}
 use Rattle.ioa_check.proofs.building.is_entry.Given as goal
 
--- no entry gone by is of the name
+-- no entry so far is of the name
 abbrev pub invariant-loop-entry : goal.invariant-loop-entry
 invariant-loop-entry l =
     list_any (λ e. same_name e.name l.name) (map entry_of (drop l.entry-index l.automaton.signature.items))

@@ -5,7 +5,7 @@ use Rattle.ioa_source.specs.TextView.{variable_of}
 use Rattle.ioa_system.specs.ResolvedPrograms.{variable_names}
 use Rattle.ioa_check.proofs.building.names_of.Given as goal
 
--- the names gone by are declared, and differ
+-- the names so far are declared, and differ
 abbrev pub invariant-loop-variable : goal.invariant-loop-variable
 invariant-loop-variable l = record {
   names : l.names ≡ variable_names (map variable_of (take l.variable-index l.variables));

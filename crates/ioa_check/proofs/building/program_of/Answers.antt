@@ -16,8 +16,8 @@ pub returns-clause-rows : goal.returns-clause-rows
 returns-clause-rows c =
     let a = automaton_of c.args.automaton.now in
     let vs = map variable_of c.in_ok-variables.variables.items in
-    let names : c.in_ok-names.names ≡ variable_names a.states = (rw c.deref-3.ensures.value at c.in_ok-names.ensures.names) ∙ variables_erased a vs (rw c.deref.ensures.value at c.in_ok-variables.ensures.same) in
-    let read : list_all (fires_only c.in_ok-names.names) a.schedule ≡ true = rw c.deref-5.ensures.value at c.in_ok-schedule.ensures.names in
+    let names : c.in_ok-names.names ≡ variable_names a.states = (rw c.deref-3.ensures.value at c.in_ok-names.ensures.names) ∙ variables_erased a vs (rw c.deref.ensures.value at c.in_ok-variables.ensures.made.same) in
+    let read : list_all (fires_only c.in_ok-names.names) a.schedule ≡ true = rw c.deref-5.ensures.value at c.in_ok-schedule.ensures.made.known in
     record {
       read = subst (λ (ns : List (List ℕ)). list_all (fires_only ns) a.schedule ≡ true) names read;
       entries_differ = c.in_ok-entries_differ.ensures.differ;
@@ -26,17 +26,17 @@ returns-clause-rows c =
       transitions = c.in_ok-transitions_have_entries.ensures.known;
       firings = c.in_ok-firings_have_entries.ensures.known;
       many = c.in_ok-firings_have_entries.ensures.many;
-      arguments = rw c.deref-5.ensures.value at c.in_ok-schedule.ensures.numbers;
-      initials = rw c.deref.ensures.value at c.in_ok-variables.ensures.initials;
-      initial_numbers = rw c.deref.ensures.value at c.in_ok-variables.ensures.numbers;
-      initial_names = rw c.deref.ensures.value at c.in_ok-variables.ensures.names;
-      entries = entries_erased (automaton_of c.args.automaton.now) (map variable_of c.in_ok-variables.variables.items) (rw c.deref.ensures.value at c.in_ok-variables.ensures.same) (rw c.deref-4.ensures.value at c.in_ok-rules.ensures.rows);
+      arguments = rw c.deref-5.ensures.value at c.in_ok-schedule.ensures.made.sorted;
+      initials = rw c.deref.ensures.value at c.in_ok-variables.ensures.made.initials;
+      initial_numbers = rw c.deref.ensures.value at c.in_ok-variables.ensures.made.sorted;
+      initial_names = rw c.deref.ensures.value at c.in_ok-variables.ensures.made.known;
+      entries = entries_erased (automaton_of c.args.automaton.now) (map variable_of c.in_ok-variables.variables.items) (rw c.deref.ensures.value at c.in_ok-variables.ensures.made.same) (rw c.deref-4.ensures.value at c.in_ok-rules.ensures.rows);
     }
 
 pub returns-in_err-initial-clause-refused : goal.returns-in_err-initial-clause-refused
 returns-in_err-initial-clause-refused c =
     let p = err_from_is_err_and c.from_residual-in_err-initial.result c.from_residual-in_err-initial.ensures.1 in
-    let same = rw c.deref.ensures.value at c.in_ok-variables.ensures.same in
+    let same = rw c.deref.ensures.value at c.in_ok-variables.ensures.made.same in
     rw (p.1, p.2)
     (refuses_weaker (λ r h. inl (initial_stands (automaton_of c.args.automaton.now) c.in_ok-variables.variables.items same h.0 h.1 r h.2))
     _ (rw c.deref-2.ensures.value at c.in_err-initial.ensures.refused))
@@ -46,7 +46,7 @@ returns-in_err-names-clause-refused c =
     let p = err_from_is_err_and c.from_residual-in_err-names.result c.from_residual-in_err-names.ensures.1 in
     let a = automaton_of c.args.automaton.now in
     let vs = map variable_of c.in_ok-variables.variables.items in
-    let same : variable_names vs ≡ variable_names a.states = variables_erased a vs (rw c.deref.ensures.value at c.in_ok-variables.ensures.same) in
+    let same : variable_names vs ≡ variable_names a.states = variables_erased a vs (rw c.deref.ensures.value at c.in_ok-variables.ensures.made.same) in
     rw (p.1, p.2)
     (refuses_weaker (only_weaker (StandsInAutomaton a) (λ wrong. inl (λ d. wrong (subst (λ (ns : List (List ℕ)). IsDistinct same_name ns) (sym same) d.2))))
     _ (rw c.deref-3.ensures.value at c.in_err-names.ensures.refused))
@@ -56,7 +56,7 @@ returns-in_err-rules-clause-refused c =
     let p = err_from_is_err_and c.from_residual-in_err-rules.result c.from_residual-in_err-rules.ensures.1 in
     let a = automaton_of c.args.automaton.now in
     let vs = map variable_of c.in_ok-variables.variables.items in
-    let same : variable_names vs ≡ variable_names a.states = variables_erased a vs (rw c.deref.ensures.value at c.in_ok-variables.ensures.same) in
+    let same : variable_names vs ≡ variable_names a.states = variables_erased a vs (rw c.deref.ensures.value at c.in_ok-variables.ensures.made.same) in
     rw (p.1, p.2)
     (refuses_weaker (λ r h. inr (subst (λ (ns : List (List ℕ)). StandsInEntries ns a.transitions a.signature r) same h))
     _ (rw c.deref-4.ensures.value at c.in_err-rules.ensures.refused))
@@ -66,7 +66,7 @@ returns-in_err-schedule-clause-refused c =
     let p = err_from_is_err_and c.from_residual-in_err-schedule.result c.from_residual-in_err-schedule.ensures.1 in
     let a = automaton_of c.args.automaton.now in
     let vs = map variable_of c.in_ok-variables.variables.items in
-    let names : c.in_ok-names.names ≡ variable_names a.states = (rw c.deref-3.ensures.value at c.in_ok-names.ensures.names) ∙ variables_erased a vs (rw c.deref.ensures.value at c.in_ok-variables.ensures.same) in
+    let names : c.in_ok-names.names ≡ variable_names a.states = (rw c.deref-3.ensures.value at c.in_ok-names.ensures.names) ∙ variables_erased a vs (rw c.deref.ensures.value at c.in_ok-variables.ensures.made.same) in
     rw (p.1, p.2)
     (refuses_weaker
     (fails_weaker (StandsInAutomaton a)

@@ -14,8 +14,8 @@ use Rattle.ioa_check.proofs.Rows.{scope_of-erase, take_first}
 use Rattle.ioa_check.proofs.building.rule_of.Goals as goal
 use Rattle.std.proofs.lemmas.Bool.{and_right}
 
-pub returns-clause-resolved : goal.returns-clause-resolved
-returns-clause-resolved c =
+pub returns-clause-made : goal.returns-clause-made
+returns-clause-made c =
     let scope = c.in_ok-scope.scope in
     let t = transition_of c.in_ok-transition.transition in
     let vs = map variable_of c.args.variables.now in
@@ -24,11 +24,19 @@ returns-clause-resolved c =
     let many : n ≡ length (variable_names vs) = sym (length-map vs (λ (v : CheckedVariable). v.declared.name) ∙ length-map c.args.variables.now variable_of) in
     let first : take n scope ≡ variable_names vs = ap (take n) c.in_ok-scope.ensures.names ∙ take_first n (variable_names vs) own many in
     record {
-      scope = c.in_ok-scope.ensures.names;
-      parameters = c.in_ok-entry.ensures.resolved;
-      condition = c.in_ok-entry.ensures.condition scope;
-      guard = c.in_ok-transition.ensures.guard;
-      effect = subst (λ (ns : List (List ℕ)). AreResolved t.effect ns scope) first c.in_ok-transition.ensures.effect;
+      resolved = record {
+        scope = c.in_ok-scope.ensures.names;
+        parameters = c.in_ok-entry.ensures.made.resolved;
+        condition = c.in_ok-entry.ensures.made.condition scope;
+        guard = c.in_ok-transition.ensures.made.guard.resolved;
+        effect = subst (λ (ns : List (List ℕ)). AreResolved t.effect ns scope) first c.in_ok-transition.ensures.made.effect.resolved;
+      };
+      entry = c.in_ok-entry.ensures.made.same;
+      transition = search rules;
+      shapes = record {
+        parameters = c.in_ok-entry.ensures.made.shapes;
+        effect = c.in_ok-transition.ensures.made.effect.shapes;
+      };
     }
 
 pub returns-clause-rows : goal.returns-clause-rows
@@ -38,22 +46,22 @@ returns-clause-rows c =
     let vs = map variable_of c.args.variables.now in
     let own = own_names (entry_of c.args.entry.now).parameters in
     let names : scope ≡ variable_names vs ++ own =
-    scope_of-erase vs (entry_of c.in_ok-entry.entry) (entry_of c.args.entry.now) scope c.in_ok-scope.ensures.names c.in_ok-entry.ensures.same in
+    scope_of-erase vs (entry_of c.in_ok-entry.entry) (entry_of c.args.entry.now) scope c.in_ok-scope.ensures.names c.in_ok-entry.ensures.made.same in
     let many : length c.args.variables.now ≡ length (variable_names vs) = sym (length-map vs (λ (v : CheckedVariable). v.declared.name) ∙ length-map c.args.variables.now variable_of) in
     let first : take (length c.args.variables.now) (variable_names vs ++ own) ≡ variable_names vs = take_first (length c.args.variables.now) (variable_names vs) own many in
     let written : list_all (assigns_only (take (length c.args.variables.now) (variable_names vs ++ own)) (variable_names vs ++ own)) t.effect ≡ true =
-    subst (λ (ns : List (List ℕ)). list_all (assigns_only (take (length c.args.variables.now) ns) ns) t.effect ≡ true) names c.in_ok-transition.ensures.names in
+    subst (λ (ns : List (List ℕ)). list_all (assigns_only (take (length c.args.variables.now) ns) ns) t.effect ≡ true) names c.in_ok-transition.ensures.made.effect.known in
     record {
       transition = t;
       found = sym c.in-Some.ensures;
       input_pre = search rules;
       head = search rules;
       differ = subst (λ (ns : List (List ℕ)). IsDistinct same_name ns) names c.in_ok-scope.ensures.differ;
-      constants = c.in_ok-entry.ensures.numbers;
-      guard = c.in_ok-transition.ensures.sort;
-      effect = c.in_ok-transition.ensures.numbers;
-      constant_names = c.in_ok-entry.ensures.names;
-      guard_names = subst (λ (ns : List (List ℕ)). guard_reads_only ns t.pre ≡ true) names c.in_ok-transition.ensures.guard_names;
+      constants = c.in_ok-entry.ensures.made.sorted;
+      guard = c.in_ok-transition.ensures.made.guard.sorted;
+      effect = c.in_ok-transition.ensures.made.effect.sorted;
+      constant_names = c.in_ok-entry.ensures.made.known;
+      guard_names = subst (λ (ns : List (List ℕ)). guard_reads_only ns t.pre ≡ true) names c.in_ok-transition.ensures.made.guard.known;
       effect_names = subst (λ (ns : List (List ℕ)). list_all (assigns_only ns (variable_names vs ++ own)) t.effect ≡ true) first written;
     }
 
@@ -63,7 +71,7 @@ returns-in_err-scope-clause-refused c =
     let vs = map variable_of c.args.variables.now in
     let e = entry_of c.args.entry.now in
     let resolved = entry_of c.in_ok-entry.entry in
-    let names : scope_of resolved vs ≡ variable_names vs ++ own_names e.parameters = scope_of-erase vs resolved e (scope_of resolved vs) refl c.in_ok-entry.ensures.same in
+    let names : scope_of resolved vs ≡ variable_names vs ++ own_names e.parameters = scope_of-erase vs resolved e (scope_of resolved vs) refl c.in_ok-entry.ensures.made.same in
     rw (p.1, p.2)
     (refuses_weaker
     (only_weaker (StandsInEntry (variable_names vs) (automaton_of c.args.automaton.now).transitions e) (λ wrong d. wrong (subst (λ (ns : List (List ℕ)). IsDistinct same_name ns) (sym names) d)))
@@ -79,7 +87,7 @@ returns-in_err-transition-clause-refused c =
     let own = own_names e.parameters in
     let n = length c.args.variables.now in
     let names : scope ≡ variable_names vs ++ own =
-    scope_of-erase vs (entry_of c.in_ok-entry.entry) e scope c.in_ok-scope.ensures.names c.in_ok-entry.ensures.same in
+    scope_of-erase vs (entry_of c.in_ok-entry.entry) e scope c.in_ok-scope.ensures.names c.in_ok-entry.ensures.made.same in
     let many : n ≡ length (variable_names vs) = sym (length-map vs (λ (v : CheckedVariable). v.declared.name) ∙ length-map c.args.variables.now variable_of) in
     let first : take n (variable_names vs ++ own) ≡ variable_names vs = take_first n (variable_names vs) own many in
     rw (p.1, p.2)

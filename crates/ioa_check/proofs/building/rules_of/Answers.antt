@@ -18,10 +18,10 @@ loop-entry-preserved c =
     let rules = c.loop-entry.rules.items in
     let within : i < length c.args.automaton.now.signature.items = rw c.deref-entry-items.ensures.value at c.loop-entry-test.true in
     record {
-      resolved = rw c.in_ok-push.ensures.items (All-push (IsResolvedRule (map variable_of c.args.variables.now)) rules c.in_ok-rule.rule c.loop-entry.invariant.resolved c.in_ok-rule.ensures.resolved);
-      signature = rw c.in_ok-push.ensures.items (next_push (λ (r : Rule). erase_entry (entry_of r.entry)) entry_of rules c.in_ok-rule.rule c.args.automaton.now.signature.items i c.entry-item.result c.loop-entry.invariant.signature c.in_ok-rule.ensures.entry within (rw c.deref-entry-items.ensures.value at c.entry-item.is));
-      transitions = rw c.in_ok-push.ensures.items (each_append (IsRuleOf (automaton_of c.args.automaton.now)) rules c.in_ok-rule.rule c.loop-entry.invariant.transitions c.in_ok-rule.ensures.transition);
-      shapes = rw c.in_ok-push.ensures.items (each_append HasIntegers rules c.in_ok-rule.rule c.loop-entry.invariant.shapes c.in_ok-rule.ensures.shapes);
+      resolved = rw c.in_ok-push.ensures.items (All-push (IsResolvedRule (map variable_of c.args.variables.now)) rules c.in_ok-rule.rule c.loop-entry.invariant.resolved c.in_ok-rule.ensures.made.resolved);
+      signature = rw c.in_ok-push.ensures.items (next_push (λ (r : Rule). erase_entry (entry_of r.entry)) entry_of rules c.in_ok-rule.rule c.args.automaton.now.signature.items i c.entry-item.result c.loop-entry.invariant.signature c.in_ok-rule.ensures.made.entry within (rw c.deref-entry-items.ensures.value at c.entry-item.is));
+      transitions = rw c.in_ok-push.ensures.items (each_append (IsRuleOf (automaton_of c.args.automaton.now)) rules c.in_ok-rule.rule c.loop-entry.invariant.transitions c.in_ok-rule.ensures.made.transition);
+      shapes = rw c.in_ok-push.ensures.items (each_append HasIntegers rules c.in_ok-rule.rule c.loop-entry.invariant.shapes c.in_ok-rule.ensures.made.shapes);
       rows = each_take (HasNoEntryRow (variable_names (map variable_of c.args.variables.now)) (automaton_of c.args.automaton.now).transitions) entry_of c.args.automaton.now.signature.items i c.entry-item.result c.loop-entry.invariant.rows c.in_ok-rule.ensures.rows within (rw c.deref-entry-items.ensures.value at c.entry-item.is);
     }
 

@@ -7,7 +7,7 @@ use Rattle.ioa_check.specs.Rows.{HasNoEntryRow}
 use Rattle.ioa_check.specs.Correspondence.{HasIntegers, IsRuleOf}
 use Rattle.ioa_check.proofs.building.rules_of.Given as goal
 
--- the rules of the entries gone by
+-- the rules of the entries so far
 abbrev pub invariant-loop-entry : goal.invariant-loop-entry
 invariant-loop-entry l = record {
   resolved : All (IsResolvedRule (map variable_of l.variables)) l.rules.items;

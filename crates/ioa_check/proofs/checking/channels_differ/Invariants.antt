@@ -3,6 +3,6 @@ use Rattle.std.specs.List.{IsDistinct}
 use Rattle.ioa_check.specs.Rows as spec
 use Rattle.ioa_check.proofs.checking.channels_differ.Given as goal
 
--- the channels gone by differ
+-- the channels so far differ
 abbrev pub invariant-loop-position : goal.invariant-loop-position
 invariant-loop-position l = IsDistinct spec.same_channel (take l.position l.channels)

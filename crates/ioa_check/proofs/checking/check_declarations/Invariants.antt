@@ -6,7 +6,7 @@ use Rattle.ioa_check.specs.Correspondence.{automata_in}
 use Rattle.ioa_check.specs.Rows as spec
 use Rattle.ioa_check.proofs.checking.check_declarations.Given as goal
 
--- the declarations gone by
+-- the declarations so far
 abbrev pub invariant-loop-index : goal.invariant-loop-index
 invariant-loop-index l = record {
   names : l.names ≡ map (λ a. a.name) (automata_in (map declaration_of (take l.index l.declarations)));

@@ -4,6 +4,6 @@ use Rattle.ioa_check.specs.Correspondence.{node_at}
 use Rattle.ioa_check.specs.Rows as spec
 use Rattle.ioa_check.proofs.checking.numbers_differ.Given as goal
 
--- the numbers gone by differ
+-- the numbers so far differ
 abbrev pub invariant-loop-position : goal.invariant-loop-position
 invariant-loop-position l = IsDistinct spec.same_number (map node_at (take l.position l.nodes))

@@ -6,7 +6,7 @@ use Rattle.ioa_source.specs.TextView.{automaton_of, entry_of}
 use Rattle.ioa_check.specs.Rows as spec
 use Rattle.ioa_check.proofs.checking.takes_from.Given as goal
 
--- no entry gone by is such a `receive`
+-- no entry so far is such a `receive`
 abbrev pub invariant-loop-entry : goal.invariant-loop-entry
 invariant-loop-entry l =
     list_any (λ e. same_name e.name (codes "receive") && spec.is_constant (slice_get e.parameters 1) l.sender) (map entry_of (drop l.entry-index l.automaton.signature.items)) ≡ list_any (λ e. same_name e.name (codes "receive") && spec.is_constant (slice_get e.parameters 1) l.sender) (automaton_of l.automaton).signature

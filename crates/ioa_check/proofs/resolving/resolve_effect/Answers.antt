@@ -22,9 +22,9 @@ loop-statement-preserved c =
     let statement = c.statement-item.result in
     let assignment = c.in_ok-resolve_assignment in
     record {
-      same = rw c.in_ok-push.ensures.items (same_push erase_statement statement_of statement_of resolved assignment.field-0 c.args.effect.now i statement c.loop-statement.invariant.same assignment.ensures.same (omega arith) c.statement-item.is);
-      resolved = rw c.in_ok-push.ensures.items (each_push (λ (s : CheckedStatement). IsResolvedStatement s (take c.args.count c.args.scope.now) c.args.scope.now) statement_of resolved assignment.field-0 c.loop-statement.invariant.resolved assignment.ensures.resolved);
-      shapes = rw c.in_ok-push.ensures.items (each_push AssignsInteger statement_of resolved assignment.field-0 c.loop-statement.invariant.shapes assignment.ensures.shape);
-      numbers = all_left assigns_number statement_of c.args.effect.now i statement c.loop-statement.invariant.numbers assignment.ensures.number (omega arith) c.statement-item.is;
-      names = all_left (assigns_only (take c.args.count c.args.scope.now) c.args.scope.now) statement_of c.args.effect.now i statement c.loop-statement.invariant.names assignment.ensures.names (omega arith) c.statement-item.is;
+      same = rw c.in_ok-push.ensures.items (same_push erase_statement statement_of statement_of resolved assignment.field-0 c.args.effect.now i statement c.loop-statement.invariant.same assignment.ensures.made.same (omega arith) c.statement-item.is);
+      resolved = rw c.in_ok-push.ensures.items (each_push (λ (s : CheckedStatement). IsResolvedStatement s (take c.args.count c.args.scope.now) c.args.scope.now) statement_of resolved assignment.field-0 c.loop-statement.invariant.resolved assignment.ensures.made.resolved);
+      shapes = rw c.in_ok-push.ensures.items (each_push AssignsInteger statement_of resolved assignment.field-0 c.loop-statement.invariant.shapes assignment.ensures.made.shape);
+      sorted = all_left assigns_number statement_of c.args.effect.now i statement c.loop-statement.invariant.sorted assignment.ensures.made.sorted (omega arith) c.statement-item.is;
+      known = all_left (assigns_only (take c.args.count c.args.scope.now) c.args.scope.now) statement_of c.args.effect.now i statement c.loop-statement.invariant.known assignment.ensures.made.known (omega arith) c.statement-item.is;
     }

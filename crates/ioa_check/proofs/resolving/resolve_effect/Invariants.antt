@@ -7,12 +7,12 @@ use Rattle.ioa_terms.specs.Resolved.{AreResolved}
 use Rattle.ioa_check.specs.Correspondence.{AssignsInteger}
 use Rattle.ioa_check.proofs.resolving.resolve_effect.Given as goal
 
--- what is gone by is placed
+-- the items so far are resolved, and the items that are left decide the tests
 abbrev pub invariant-loop-statement : goal.invariant-loop-statement
 invariant-loop-statement l = record {
   same : map erase_statement (map statement_of l.resolved.items) ≡ map statement_of (take l.statement-index l.effect);
   resolved : AreResolved (map statement_of l.resolved.items) (take l.count l.scope) l.scope;
   shapes : AllByRecursion AssignsInteger (map statement_of l.resolved.items);
-  numbers : list_all assigns_number (map statement_of (drop l.statement-index l.effect)) ≡ list_all assigns_number (map statement_of l.effect);
-  names : list_all (assigns_only (take l.count l.scope) l.scope) (map statement_of (drop l.statement-index l.effect)) ≡ list_all (assigns_only (take l.count l.scope) l.scope) (map statement_of l.effect);
+  sorted : list_all assigns_number (map statement_of (drop l.statement-index l.effect)) ≡ list_all assigns_number (map statement_of l.effect);
+  known : list_all (assigns_only (take l.count l.scope) l.scope) (map statement_of (drop l.statement-index l.effect)) ≡ list_all (assigns_only (take l.count l.scope) l.scope) (map statement_of l.effect);
 }

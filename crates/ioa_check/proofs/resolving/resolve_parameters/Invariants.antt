@@ -7,12 +7,12 @@ use Rattle.ioa_system.specs.ResolvedPrograms.{AreResolvedParameters}
 use Rattle.ioa_check.specs.Correspondence.{HasParameterShape}
 use Rattle.ioa_check.proofs.resolving.resolve_parameters.Given as goal
 
--- what is gone by is placed
+-- the items so far are resolved, and the items that are left decide the tests
 abbrev pub invariant-loop-parameter : goal.invariant-loop-parameter
 invariant-loop-parameter l = record {
   same : map erase_parameter (map parameter_of l.resolved.items) ≡ map parameter_of (take l.parameter-index l.parameters);
   resolved : AreResolvedParameters (map parameter_of l.resolved.items);
   shapes : AllByRecursion HasParameterShape (map parameter_of l.resolved.items);
-  numbers : list_all is_number_constant (map parameter_of (drop l.parameter-index l.parameters)) ≡ list_all is_number_constant (map parameter_of l.parameters);
-  names : list_all reads_no_name (map parameter_of (drop l.parameter-index l.parameters)) ≡ list_all reads_no_name (map parameter_of l.parameters);
+  sorted : list_all is_number_constant (map parameter_of (drop l.parameter-index l.parameters)) ≡ list_all is_number_constant (map parameter_of l.parameters);
+  known : list_all reads_no_name (map parameter_of (drop l.parameter-index l.parameters)) ≡ list_all reads_no_name (map parameter_of l.parameters);
 }

@@ -21,8 +21,8 @@ loop-statement-preserved c =
     let statement = c.statement-item.result in
     let firing = c.in_ok-resolve_firing in
     record {
-      same = rw c.in_ok-push.ensures.items (same_push erase_statement statement_of statement_of resolved firing.field-0 c.args.schedule.now i statement c.loop-statement.invariant.same firing.ensures.same (omega arith) c.statement-item.is);
-      resolved = rw c.in_ok-push.ensures.items (each_push (λ (s : CheckedStatement). IsResolvedFiring s c.args.variables.now) statement_of resolved firing.field-0 c.loop-statement.invariant.resolved firing.ensures.resolved);
-      numbers = all_left fires_numbers statement_of c.args.schedule.now i statement c.loop-statement.invariant.numbers firing.ensures.numbers (omega arith) c.statement-item.is;
-      names = all_left (fires_only c.args.variables.now) statement_of c.args.schedule.now i statement c.loop-statement.invariant.names firing.ensures.names (omega arith) c.statement-item.is;
+      same = rw c.in_ok-push.ensures.items (same_push erase_statement statement_of statement_of resolved firing.field-0 c.args.schedule.now i statement c.loop-statement.invariant.same firing.ensures.made.same (omega arith) c.statement-item.is);
+      resolved = rw c.in_ok-push.ensures.items (each_push (λ (s : CheckedStatement). IsResolvedFiring s c.args.variables.now) statement_of resolved firing.field-0 c.loop-statement.invariant.resolved firing.ensures.made.resolved);
+      sorted = all_left fires_numbers statement_of c.args.schedule.now i statement c.loop-statement.invariant.sorted firing.ensures.made.sorted (omega arith) c.statement-item.is;
+      known = all_left (fires_only c.args.variables.now) statement_of c.args.schedule.now i statement c.loop-statement.invariant.known firing.ensures.made.known (omega arith) c.statement-item.is;
     }

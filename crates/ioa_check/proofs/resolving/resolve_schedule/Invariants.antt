@@ -6,11 +6,11 @@ use Rattle.ioa_source.specs.Erasure.{erase_statement}
 use Rattle.ioa_system.specs.ResolvedPrograms.{AreResolvedFirings}
 use Rattle.ioa_check.proofs.resolving.resolve_schedule.Given as goal
 
--- what is gone by is placed
+-- the items so far are resolved, and the items that are left decide the tests
 abbrev pub invariant-loop-statement : goal.invariant-loop-statement
 invariant-loop-statement l = record {
   same : map erase_statement (map statement_of l.resolved.items) ≡ map statement_of (take l.statement-index l.schedule);
   resolved : AreResolvedFirings (map statement_of l.resolved.items) l.variables;
-  numbers : list_all fires_numbers (map statement_of (drop l.statement-index l.schedule)) ≡ list_all fires_numbers (map statement_of l.schedule);
-  names : list_all (fires_only l.variables) (map statement_of (drop l.statement-index l.schedule)) ≡ list_all (fires_only l.variables) (map statement_of l.schedule);
+  sorted : list_all fires_numbers (map statement_of (drop l.statement-index l.schedule)) ≡ list_all fires_numbers (map statement_of l.schedule);
+  known : list_all (fires_only l.variables) (map statement_of (drop l.statement-index l.schedule)) ≡ list_all (fires_only l.variables) (map statement_of l.schedule);
 }

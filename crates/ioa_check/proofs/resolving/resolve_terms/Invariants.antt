@@ -6,10 +6,10 @@ use Rattle.ioa_source.specs.Erasure.{erase_term}
 use Rattle.ioa_system.specs.ResolvedPrograms.{AreResolvedTerms}
 use Rattle.ioa_check.proofs.resolving.resolve_terms.Given as goal
 
--- the terms gone by are placed
+-- the terms so far are resolved, and the terms that are left decide the test
 abbrev pub invariant-loop-term : goal.invariant-loop-term
 invariant-loop-term l = record {
   same : map erase_term (map term_of l.resolved.items) ≡ map term_of (take l.term-index l.terms);
   resolved : AreResolvedTerms (map term_of l.resolved.items) l.scope;
-  names : list_all (reads_only l.scope) (map term_of (drop l.term-index l.terms)) ≡ list_all (reads_only l.scope) (map term_of l.terms);
+  known : list_all (reads_only l.scope) (map term_of (drop l.term-index l.terms)) ≡ list_all (reads_only l.scope) (map term_of l.terms);
 }

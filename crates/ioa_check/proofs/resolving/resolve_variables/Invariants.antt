@@ -8,13 +8,13 @@ use Rattle.ioa_system.specs.ResolvedPrograms.{AreResolvedVariables}
 use Rattle.ioa_check.specs.Correspondence.{HasItsShape}
 use Rattle.ioa_check.proofs.resolving.resolve_variables.Given as goal
 
--- what is gone by is placed
+-- the items so far are resolved, and the items that are left decide the tests
 abbrev pub invariant-loop-variable : goal.invariant-loop-variable
 invariant-loop-variable l = record {
   same : map erase_variable (map variable_of l.resolved.items) ≡ map variable_of (take l.variable-index l.variables);
   resolved : AreResolvedVariables (map variable_of l.resolved.items);
   shapes : AllByRecursion (λ v. HasItsShape v.declared) (map variable_of l.resolved.items);
   initials : list_all (λ v. is_some v.initial) (map variable_of (drop l.variable-index l.variables)) ≡ list_all (λ v. is_some v.initial) (map variable_of l.variables);
-  numbers : list_all (λ v. is_number_term v.initial) (map variable_of (drop l.variable-index l.variables)) ≡ list_all (λ v. is_number_term v.initial) (map variable_of l.variables);
-  names : list_all (λ v. guard_reads_only [] v.initial) (map variable_of (drop l.variable-index l.variables)) ≡ list_all (λ v. guard_reads_only [] v.initial) (map variable_of l.variables);
+  sorted : list_all (λ v. is_number_term v.initial) (map variable_of (drop l.variable-index l.variables)) ≡ list_all (λ v. is_number_term v.initial) (map variable_of l.variables);
+  known : list_all (λ v. guard_reads_only [] v.initial) (map variable_of (drop l.variable-index l.variables)) ≡ list_all (λ v. guard_reads_only [] v.initial) (map variable_of l.variables);
 }

@@ -1,0 +1,202 @@
+-- When a resolved part of a checked system is that of a part of a text (profile): without its annotations it is the
+-- part as the text has it, each name has its slot, and each sort its shape. Each record also says which tests the part
+-- has passed; the definition `FailsOf..` after it says by which row a part that fails one of them is refused.
+use Rattle.std.specs.Prelude.{◌≡◌, ℕ, true, not, List, [], Option, map, take, All}
+use Rattle.std.specs.List.{AllByRecursion, list_all}
+use Rattle.std.specs.Option.{is_some, option_map}
+use Rattle.ioa_terms.specs.Resolved.{IsResolved, IsResolvedStatement, AreResolved}
+use Rattle.ioa_source.specs.TextView.{entry_of}
+use Rattle.ioa_source.specs.Erasure.{erase_term, erase_statement, erase_parameter}
+use Rattle.ioa_source.specs.Erasure.{erase_entry, erase_variable, erase_transition}
+use Rattle.ioa_source.specs.Sides.{SourceTerm, SourceTarget, SourceStatement, SourceParameter}
+use Rattle.ioa_source.specs.Sides.{SourceEntry, SourceVariable, SourceTransition, SourceAutomaton}
+use Rattle.ioa_source.specs.Sides.{CheckedTerm, CheckedStatement, CheckedParameter}
+use Rattle.ioa_source.specs.Sides.{CheckedEntry, CheckedVariable, CheckedTransition}
+use Rattle.ioa_system.specs.declared.program.Rule.{Rule}
+use Rattle.ioa_system.specs.ResolvedPrograms.{IsResolvedGuard, AreResolvedTerms, IsResolvedRule}
+use Rattle.ioa_system.specs.ResolvedPrograms.{IsResolvedParameter, AreResolvedParameters, AreResolvedVariables}
+use Rattle.ioa_system.specs.ResolvedPrograms.{IsResolvedFiring, AreResolvedFirings}
+use Rattle.ioa_check.specs.declared.refusal.Row.{Row}
+use Rattle.ioa_check.specs.Correspondence.{AssignsInteger, HasItsShape, HasParameterShape, HasIntegers, IsRuleOf}
+use Rattle.ioa_check.specs.Rows.{reads_only, reads_no_name, guard_reads_only, writes_only, assigns_only, fires_only}
+use Rattle.ioa_check.specs.Rows.{assigns_number, fires_numbers, is_number_constant, is_number_term, is_guard_or_none}
+use Rattle.ioa_check.specs.Standing.{Fails, is_known_parameter, is_known_entry}
+use Rattle.ioa_check.specs.Standing.{is_known_transition, is_sorted_transition}
+
+-- a term whose names are among these
+pub record IsTermOf (names : List (List ℕ)) (t : SourceTerm) (c : CheckedTerm) : Type 0 where
+  pub same : erase_term c ≡ t
+  pub resolved : IsResolved c names
+  -- 20: it is of the form that runs today, and its names are in view
+  pub known : reads_only names t ≡ true
+
+abbrev pub FailsOfTerm : List (List ℕ) → SourceTerm → Row → Type 0
+FailsOfTerm names t = Fails (reads_only names t) true
+
+-- terms, one for each of the text's
+pub record AreTermsOf (names : List (List ℕ)) (ts : List SourceTerm) (cs : List CheckedTerm) : Type 0 where
+  pub same : map erase_term cs ≡ ts
+  pub resolved : AreResolvedTerms cs names
+  -- 20: they are of the form that runs today, and their names are in view
+  pub known : list_all (reads_only names) ts ≡ true
+
+abbrev pub FailsOfTerms : List (List ℕ) → List SourceTerm → Row → Type 0
+FailsOfTerms names ts = Fails (list_all (reads_only names) ts) true
+
+-- the target of an assignment, which has to be a state variable
+abbrev pub FailsOfTarget : ℕ → List (List ℕ) → SourceTarget → Row → Type 0
+FailsOfTarget count names t = Fails (writes_only (take count names) t) true
+
+-- a statement of an effect: an assignment to one of the first `count` names in view
+pub record IsAssignmentOf
+    (count : ℕ) (names : List (List ℕ)) (s : SourceStatement) (c : CheckedStatement) : Type 0 where
+  pub same : erase_statement c ≡ s
+  pub resolved : IsResolvedStatement c (take count names) names
+  pub shape : AssignsInteger c
+  -- 20: it is an assignment to a state variable, and the names that it reads are in view
+  pub known : assigns_only (take count names) names s ≡ true
+  -- 22: the assigned term is a number
+  pub sorted : assigns_number s ≡ true
+
+abbrev pub FailsOfAssignment : ℕ → List (List ℕ) → SourceStatement → Row → Type 0
+FailsOfAssignment count names s = Fails (assigns_only (take count names) names s) (assigns_number s)
+
+-- an effect
+pub record IsEffectOf
+    (count : ℕ) (names : List (List ℕ)) (ss : List SourceStatement) (cs : List CheckedStatement) : Type 0 where
+  pub same : map erase_statement cs ≡ ss
+  pub resolved : AreResolved cs (take count names) names
+  pub shapes : AllByRecursion AssignsInteger cs
+  -- 20: its statements are assignments to state variables, and the names that they read are in view
+  pub known : list_all (assigns_only (take count names) names) ss ≡ true
+  -- 22: the assigned terms are numbers
+  pub sorted : list_all assigns_number ss ≡ true
+
+abbrev pub FailsOfEffect : ℕ → List (List ℕ) → List SourceStatement → Row → Type 0
+FailsOfEffect count names ss = Fails (list_all (assigns_only (take count names) names) ss) (list_all assigns_number ss)
+
+-- a guard, if there is one
+pub record IsGuardOf (names : List (List ℕ)) (t : Option SourceTerm) (c : Option CheckedTerm) : Type 0 where
+  pub same : option_map erase_term c ≡ t
+  pub resolved : IsResolvedGuard c names
+  -- 20: it is of the form that runs today, and its names are in view
+  pub known : guard_reads_only names t ≡ true
+  -- 22: it is a truth value
+  pub sorted : is_guard_or_none t ≡ true
+
+abbrev pub FailsOfGuard : List (List ℕ) → Option SourceTerm → Row → Type 0
+FailsOfGuard names t = Fails (guard_reads_only names t) (is_guard_or_none t)
+
+-- a statement of a schedule block: a firing whose arguments read these state variables
+pub record IsFiringOf (variables : List (List ℕ)) (s : SourceStatement) (c : CheckedStatement) : Type 0 where
+  pub same : erase_statement c ≡ s
+  pub resolved : IsResolvedFiring c variables
+  -- 20: it is a firing, and its arguments read state variables alone
+  pub known : fires_only variables s ≡ true
+  -- 22: its arguments are numbers
+  pub sorted : fires_numbers s ≡ true
+
+abbrev pub FailsOfFiring : List (List ℕ) → SourceStatement → Row → Type 0
+FailsOfFiring variables s = Fails (fires_only variables s) (fires_numbers s)
+
+-- a schedule block
+pub record IsScheduleOf
+    (variables : List (List ℕ)) (ss : List SourceStatement) (cs : List CheckedStatement) : Type 0 where
+  pub same : map erase_statement cs ≡ ss
+  pub resolved : AreResolvedFirings cs variables
+  -- 20: its statements are firings, and their arguments read state variables alone
+  pub known : list_all (fires_only variables) ss ≡ true
+  -- 22: their arguments are numbers
+  pub sorted : list_all fires_numbers ss ≡ true
+
+abbrev pub FailsOfSchedule : List (List ℕ) → List SourceStatement → Row → Type 0
+FailsOfSchedule variables ss = Fails (list_all (fires_only variables) ss) (list_all fires_numbers ss)
+
+-- a parameter of an entry
+pub record IsParameterOf (p : SourceParameter) (c : CheckedParameter) : Type 0 where
+  pub same : erase_parameter c ≡ p
+  pub resolved : IsResolvedParameter c
+  pub shape : HasParameterShape c
+  -- 20: a constant reads no name
+  pub known : reads_no_name p ≡ true
+  -- 22: a constant is a number
+  pub sorted : is_number_constant p ≡ true
+
+abbrev pub FailsOfParameter : SourceParameter → Row → Type 0
+FailsOfParameter p = Fails (is_known_parameter p) (is_number_constant p)
+
+-- the parameters of an entry
+pub record AreParametersOf (ps : List SourceParameter) (cs : List CheckedParameter) : Type 0 where
+  pub same : map erase_parameter cs ≡ ps
+  pub resolved : AreResolvedParameters cs
+  pub shapes : AllByRecursion HasParameterShape cs
+  -- 20: constants read no name
+  pub known : list_all reads_no_name ps ≡ true
+  -- 22: constants are numbers
+  pub sorted : list_all is_number_constant ps ≡ true
+
+abbrev pub FailsOfParameters : List SourceParameter → Row → Type 0
+FailsOfParameters ps = Fails (list_all is_known_parameter ps) (list_all is_number_constant ps)
+
+-- an entry of a signature, which has no condition
+pub record IsEntryOf (e : SourceEntry) (c : CheckedEntry) : Type 0 where
+  pub same : erase_entry c ≡ e
+  pub resolved : AreResolvedParameters c.parameters
+  pub condition : (names : List (List ℕ)) → IsResolvedGuard c.condition names
+  pub shapes : AllByRecursion HasParameterShape c.parameters
+  -- 20: constants read no name
+  pub known : list_all reads_no_name e.parameters ≡ true
+  -- 22: constants are numbers
+  pub sorted : list_all is_number_constant e.parameters ≡ true
+
+abbrev pub FailsOfEntry : SourceEntry → Row → Type 0
+FailsOfEntry e = Fails (is_known_entry e) (list_all is_number_constant e.parameters)
+
+-- a state variable
+pub record IsVariableOf (v : SourceVariable) (c : CheckedVariable) : Type 0 where
+  pub same : erase_variable c ≡ v
+  pub resolved : IsResolvedGuard c.initial []
+  pub shape : HasItsShape c.declared
+  -- 23: it has an initial term
+  pub initial : is_some v.initial ≡ true
+  -- 20: which reads no name
+  pub known : guard_reads_only [] v.initial ≡ true
+  -- 22: and is a number
+  pub sorted : is_number_term v.initial ≡ true
+
+-- the state variables
+pub record AreVariablesOf (vs : List SourceVariable) (cs : List CheckedVariable) : Type 0 where
+  pub same : map erase_variable cs ≡ vs
+  pub resolved : AreResolvedVariables cs
+  pub shapes : AllByRecursion (λ v. HasItsShape v.declared) cs
+  -- 23: each has an initial term
+  pub initials : list_all (λ v. is_some v.initial) vs ≡ true
+  -- 20: which reads no name
+  pub known : list_all (λ v. guard_reads_only [] v.initial) vs ≡ true
+  -- 22: and is a number
+  pub sorted : list_all (λ v. is_number_term v.initial) vs ≡ true
+
+-- a transition in which these names are in view, the state variables being the first `count` of them
+pub record IsTransitionOf
+    (count : ℕ) (names : List (List ℕ)) (t : SourceTransition) (c : CheckedTransition) : Type 0 where
+  pub same : erase_transition c ≡ t
+  pub guard : IsGuardOf names t.pre c.pre
+  pub effect : IsEffectOf count names t.effect c.effect
+
+abbrev pub FailsOfTransition : ℕ → List (List ℕ) → SourceTransition → Row → Type 0
+FailsOfTransition count names t = Fails (is_known_transition (take count names) names t) (is_sorted_transition t)
+
+-- the rule of an entry of an automaton with these state variables
+pub record IsRuleFor
+    (variables : List CheckedVariable) (a : SourceAutomaton) (e : SourceEntry) (r : Rule) : Type 0 where
+  pub resolved : IsResolvedRule variables r
+  pub entry : erase_entry (entry_of r.entry) ≡ e
+  pub transition : IsRuleOf a r
+  pub shapes : HasIntegers r
+
+-- the rules of an automaton with these state variables, one for each entry
+pub record AreRulesFor (variables : List CheckedVariable) (a : SourceAutomaton) (rs : List Rule) : Type 0 where
+  pub resolved : All (IsResolvedRule variables) rs
+  pub signature : map (λ r. erase_entry (entry_of r.entry)) rs ≡ a.signature
+  pub transitions : AllByRecursion (IsRuleOf a) rs
+  pub shapes : AllByRecursion HasIntegers rs
