@@ -1,5 +1,5 @@
--- How a text is printed, as tokens: each name with its own sort, each entry with its own kind, no mark at the end of a list
--- (profile).
+-- The tokens that print puts for each part of a text (profile): each name has its own sort, each entry its own kind,
+-- and no mark ends a list.
 use Rattle.std.specs.Prelude.{ℕ, List, [], ◌∷◌, ◌++◌, Option, Some, None}
 use Rattle.ioa_tokens.specs.declared.token.Token.{Token}
 use Rattle.ioa_tokens.specs.declared.token.Token.TheVariants as token
@@ -7,13 +7,18 @@ use Rattle.ioa_tokens.specs.declared.mark.Mark.{Mark}
 use Rattle.ioa_tokens.specs.declared.mark.Mark.TheVariants as mark
 use Rattle.ioa_terms.specs.declared.tree.Kind.{Kind}
 use Rattle.ioa_terms.specs.declared.tree.Kind.TheVariants as kind
-use Rattle.ioa_terms.specs.PlainTerm.{variable, at_key, at_field, assign, choose, fire, no_statements, statement, statements_of, no_arms, arm}
+use Rattle.ioa_terms.specs.PlainTerm.{variable, at_key, at_field, assign, choose, fire}
+use Rattle.ioa_terms.specs.PlainTerm.{no_statements, statement, statements_of, no_arms, arm}
 use Rattle.ioa_source.specs.PlainSort.{PlainSort, booleans, integers, naturals, sequences, sets, maps, named_type}
 use Rattle.ioa_source.specs.PlainText.{const, named, enumeration, tuple_of, type_named, automaton, node, channel}
-use Rattle.ioa_source.specs.Sides.{SourceTerm as Term, SourceTarget as Target, SourceStatement as Statement, SourceStatements as Statements, SourceArms as Arms, SourceDeclared as Declared, SourceParameter as Parameter, SourceEntry as Entry, SourceVariable as Variable, SourceTransition as Transition, SourceForm as Form, SourceDeclaration as Declaration, SourcePlacement as Placement, SourceText}
+use Rattle.ioa_source.specs.Sides.{SourceTerm as Term, SourceTarget as Target, SourceStatement as Statement}
+use Rattle.ioa_source.specs.Sides.{SourceStatements as Statements, SourceArms as Arms, SourceDeclared as Declared}
+use Rattle.ioa_source.specs.Sides.{SourceParameter as Parameter, SourceEntry as Entry, SourceVariable as Variable}
+use Rattle.ioa_source.specs.Sides.{SourceTransition as Transition, SourceForm as Form, SourceDeclaration as Declaration}
+use Rattle.ioa_source.specs.Sides.{SourcePlacement as Placement, SourceText}
 use Rattle.ioa_term_reader.specs.Spelling.{spelling}
 
--- a mark before each item
+-- items, each after a mark
 abbrev pub more_separated_spelling : {A : Type 0} → Mark → (A → List Token) → List A → List Token
 more_separated_spelling m spell [] = []
 more_separated_spelling m spell (a ∷ more) = token.Mark m ∷ (spell a ++ more_separated_spelling m spell more)
@@ -28,32 +33,38 @@ abbrev pub joined_spelling : {A : Type 0} → (A → List Token) → List A → 
 joined_spelling spell [] = []
 joined_spelling spell (a ∷ more) = spell a ++ joined_spelling spell more
 
--- items with commas between in round brackets, and nothing where there is no item
+-- items with commas between in round brackets, and nothing if there is no item
 abbrev pub bracketed_spelling : {A : Type 0} → (A → List Token) → List A → List Token
 bracketed_spelling spell [] = []
-bracketed_spelling spell (a ∷ more) = token.Mark mark.OpenRound ∷ (separated_spelling mark.Comma spell (a ∷ more) ++ token.Mark mark.CloseRound ∷ [])
+bracketed_spelling spell (a ∷ more) =
+    token.Mark mark.OpenRound ∷ (separated_spelling mark.Comma spell (a ∷ more) ++ token.Mark mark.CloseRound ∷ [])
 
--- a part behind its word, and nothing where it has no item
+-- a part after its word, and nothing if it has no item
 abbrev pub section_spelling : {A : Type 0} → Mark → (List A → List Token) → List A → List Token
 section_spelling m spell [] = []
 section_spelling m spell (a ∷ more) = token.Mark m ∷ spell (a ∷ more)
 
--- an item behind its word, and nothing where there is none
+-- an item after its word, and nothing if there is none
 abbrev pub optional_spelling : {A : Type 0} → Mark → (A → List Token) → Option A → List Token
 optional_spelling m spell None = []
 optional_spelling m spell (Some a) = token.Mark m ∷ spell a
 
+-- Word
 abbrev pub word_spelling : List ℕ → List Token
 word_spelling w = token.Word w ∷ []
 
+-- Sort
 abbrev pub sort_spelling : PlainSort → List Token
 sort_spelling booleans = token.Mark mark.Bool ∷ []
 sort_spelling integers = token.Mark mark.Int ∷ []
 sort_spelling naturals = token.Mark mark.Nat ∷ []
-sort_spelling (sequences s) = token.Mark mark.Seq ∷ token.Mark mark.OpenSquare ∷ (sort_spelling s ++ token.Mark mark.CloseSquare ∷ [])
-sort_spelling (sets s) = token.Mark mark.Set ∷ token.Mark mark.OpenSquare ∷ (sort_spelling s ++ token.Mark mark.CloseSquare ∷ [])
+sort_spelling (sequences s) =
+    token.Mark mark.Seq ∷ token.Mark mark.OpenSquare ∷ (sort_spelling s ++ token.Mark mark.CloseSquare ∷ [])
+sort_spelling (sets s) =
+    token.Mark mark.Set ∷ token.Mark mark.OpenSquare ∷ (sort_spelling s ++ token.Mark mark.CloseSquare ∷ [])
 sort_spelling (maps k v) =
-    token.Mark mark.Map ∷ token.Mark mark.OpenSquare ∷ (sort_spelling k ++ (token.Mark mark.Comma ∷ (sort_spelling v ++ token.Mark mark.CloseSquare ∷ [])))
+    token.Mark mark.Map ∷ token.Mark mark.OpenSquare ∷ (sort_spelling k
+    ++ (token.Mark mark.Comma ∷ (sort_spelling v ++ token.Mark mark.CloseSquare ∷ [])))
 sort_spelling (named_type w) = token.Word w ∷ []
 
 -- Word : Sort
@@ -65,6 +76,7 @@ abbrev pub parameter_spelling : Parameter → List Token
 parameter_spelling (const t) = token.Mark mark.Const ∷ spelling t
 parameter_spelling (named d) = declared_spelling d
 
+-- the word of a kind
 abbrev pub kind_mark : Kind → Mark
 kind_mark kind.Input = mark.Input
 kind_mark kind.Output = mark.Output
@@ -74,37 +86,52 @@ kind_mark kind.Internal = mark.Internal
 abbrev pub call_spelling : List ℕ → List Term → List Token
 call_spelling w ts = token.Word w ∷ bracketed_spelling spelling ts
 
+-- [ ( Param {, Param} ) ]
+abbrev pub parameters_spelling : List Parameter → List Token
+parameters_spelling ps = bracketed_spelling parameter_spelling ps
+
 -- Kind Word [ ( Param {, Param} ) ] [where Term]
 abbrev pub entry_spelling : Entry → List Token
 entry_spelling e =
-    token.Mark (kind_mark e.kind) ∷ token.Word e.name ∷ (bracketed_spelling parameter_spelling e.parameters ++ optional_spelling mark.Where spelling e.condition)
+    token.Mark (kind_mark e.kind) ∷ token.Word e.name ∷
+    (parameters_spelling e.parameters ++ optional_spelling mark.Where spelling e.condition)
+
+-- [signature {Kind Word [ ( Param {, Param} ) ] [where Term]}]
+abbrev pub signature_spelling : List Entry → List Token
+signature_spelling es = section_spelling mark.Signature (joined_spelling entry_spelling) es
 
 -- Word : Sort [:= Term]
 abbrev pub variable_spelling : Variable → List Token
 variable_spelling v = declared_spelling v.declared ++ optional_spelling mark.Assign spelling v.initial
 
+-- [states Variable {, Variable}]
+abbrev pub states_spelling : List Variable → List Token
+states_spelling vs = section_spelling mark.States (separated_spelling mark.Comma variable_spelling) vs
+
 -- Word, Word [ Term ], or Word . Word
 abbrev pub target_spelling : Target → List Token
 target_spelling (variable w at shape) = token.Word w ∷ []
-target_spelling (at_key w at shape t) = token.Word w ∷ token.Mark mark.OpenSquare ∷ (spelling t ++ token.Mark mark.CloseSquare ∷ [])
+target_spelling (at_key w at shape t) =
+    token.Word w ∷ token.Mark mark.OpenSquare ∷ (spelling t ++ token.Mark mark.CloseSquare ∷ [])
 target_spelling (at_field w at shape f) = token.Word w ∷ token.Mark mark.Dot ∷ token.Word f ∷ []
 
--- a kind, where it is written
+-- a kind, if one is written
 abbrev pub kind_spelling : Option Kind → List Token
 kind_spelling None = []
 kind_spelling (Some k) = token.Mark (kind_mark k) ∷ []
 
--- what stands between an `if` without an `else` and with one and its `fi`
+-- [else Statements]: `xs` are the tokens of the statements
 abbrev pub else_spelling : Statements → List Token → List Token
 else_spelling no_statements xs = []
 else_spelling (statement s more) xs = token.Mark mark.Else ∷ xs
 
 abbrev mutual
-  -- Place := Term, if Term then Statements {elseif Term then Statements} [else Statements] fi, or fire [Kind] Call
+  -- Target := Term, if Term then Statements {elseif Term then Statements} [else Statements] fi, or fire [Kind] Call
   pub statement_spelling : Statement → List Token
   statement_spelling (assign p t) = target_spelling p ++ (token.Mark mark.Assign ∷ spelling t)
   statement_spelling (choose arms rest) =
-      token.Mark mark.If ∷ (arms_spelling arms ++ (else_spelling rest (statements_spelling rest) ++ token.Mark mark.Fi ∷ []))
+      token.Mark mark.If ∷ (arms_spelling arms
+      ++ (else_spelling rest (statements_spelling rest) ++ token.Mark mark.Fi ∷ []))
   statement_spelling (fire k w ts) = token.Mark mark.Fire ∷ (kind_spelling k ++ call_spelling w ts)
 
   -- Statement {; Statement}
@@ -112,55 +139,86 @@ abbrev mutual
   statements_spelling no_statements = []
   statements_spelling (statement s more) = statement_spelling s ++ more_statements_spelling more
 
-  -- a semicolon before each statement
+  -- statements, each after a semicolon
   pub more_statements_spelling : Statements → List Token
   more_statements_spelling no_statements = []
-  more_statements_spelling (statement s more) = token.Mark mark.Semicolon ∷ (statement_spelling s ++ more_statements_spelling more)
+  more_statements_spelling (statement s more) =
+      token.Mark mark.Semicolon ∷ (statement_spelling s ++ more_statements_spelling more)
 
   -- Term then Statements {elseif Term then Statements}
   pub arms_spelling : Arms → List Token
   arms_spelling no_arms = []
-  arms_spelling (arm t body more) = spelling t ++ (token.Mark mark.Then ∷ (statements_spelling body ++ more_arms_spelling more))
+  arms_spelling (arm t body more) =
+      spelling t ++ (token.Mark mark.Then ∷ (statements_spelling body ++ more_arms_spelling more))
 
-  -- `elseif` before each arm
+  -- arms, each after `elseif`
   pub more_arms_spelling : Arms → List Token
   more_arms_spelling no_arms = []
   more_arms_spelling (arm t body more) =
-      token.Mark mark.ElseIf ∷ (spelling t ++ (token.Mark mark.Then ∷ (statements_spelling body ++ more_arms_spelling more)))
+      token.Mark mark.ElseIf ∷ (spelling t
+      ++ (token.Mark mark.Then ∷ (statements_spelling body ++ more_arms_spelling more)))
 
 -- the statements of an effect
 abbrev pub effect_spelling : List Statement → List Token
 effect_spelling ss = statements_spelling (statements_of ss)
 
+-- the last part of an `if`: [else Statements]
+abbrev pub rest_spelling : List Statement → List Token
+rest_spelling ss = else_spelling (statements_of ss) (effect_spelling ss)
+
+-- [eff Statements]
+abbrev pub effect_part_spelling : List Statement → List Token
+effect_part_spelling ss = section_spelling mark.Eff effect_spelling ss
+
 -- Kind Call [pre Term] [eff Statements]
 abbrev pub transition_spelling : Transition → List Token
 transition_spelling t =
-    token.Mark (kind_mark t.kind) ∷ (call_spelling t.name t.arguments ++ (optional_spelling mark.Pre spelling t.pre ++ section_spelling mark.Eff effect_spelling t.effect))
+    token.Mark (kind_mark t.kind) ∷ (call_spelling t.name t.arguments
+    ++ (optional_spelling mark.Pre spelling t.pre ++ effect_part_spelling t.effect))
+
+-- [transitions {Transition}]
+abbrev pub transitions_spelling : List Transition → List Token
+transitions_spelling ts = section_spelling mark.Transitions (joined_spelling transition_spelling) ts
 
 -- do Statements od
 abbrev pub block_spelling : List Statement → List Token
 block_spelling ss = token.Mark mark.Do ∷ (effect_spelling ss ++ token.Mark mark.Od ∷ [])
 
+-- [schedule do Statements od]
+abbrev pub schedule_spelling : List Statement → List Token
+schedule_spelling ss = section_spelling mark.Schedule block_spelling ss
+
 -- enumeration of Word {, Word}, or tuple of Declared {, Declared}
 abbrev pub form_spelling : Form → List Token
-form_spelling (enumeration ws) = token.Mark mark.Enumeration ∷ token.Mark mark.Of ∷ separated_spelling mark.Comma word_spelling ws
-form_spelling (tuple_of ds) = token.Mark mark.Tuple ∷ token.Mark mark.Of ∷ separated_spelling mark.Comma declared_spelling ds
+form_spelling (enumeration ws) =
+    token.Mark mark.Enumeration ∷ token.Mark mark.Of ∷ separated_spelling mark.Comma word_spelling ws
+form_spelling (tuple_of ds) =
+    token.Mark mark.Tuple ∷ token.Mark mark.Of ∷ separated_spelling mark.Comma declared_spelling ds
+
+-- [ ( Declared {, Declared} ) ]
+abbrev pub head_spelling : List Declared → List Token
+head_spelling ds = bracketed_spelling declared_spelling ds
 
 -- type Word = Form, or automaton Word [ ( Declared {, Declared} ) ] [Signature] [States] [Transitions] [Schedule]
 abbrev pub declaration_spelling : Declaration → List Token
-declaration_spelling (type_named t) = token.Mark mark.Type ∷ token.Word t.name ∷ token.Mark mark.Equal ∷ form_spelling t.form
+declaration_spelling (type_named t) =
+    token.Mark mark.Type ∷ token.Word t.name ∷ token.Mark mark.Equal ∷ form_spelling t.form
 declaration_spelling (automaton a) =
-    token.Mark mark.Automaton ∷ token.Word a.name ∷ (bracketed_spelling declared_spelling a.parameters
-    ++ (section_spelling mark.Signature (joined_spelling entry_spelling) a.signature
-    ++ (section_spelling mark.States (separated_spelling mark.Comma variable_spelling) a.states
-    ++ (section_spelling mark.Transitions (joined_spelling transition_spelling) a.transitions
-    ++ section_spelling mark.Schedule block_spelling a.schedule))))
+    token.Mark mark.Automaton ∷ token.Word a.name ∷ (head_spelling a.parameters
+    ++ (signature_spelling a.signature
+    ++ (states_spelling a.states
+    ++ (transitions_spelling a.transitions
+    ++ schedule_spelling a.schedule))))
 
 -- node Number : Call, or channel Number -> Number
 abbrev pub placement_spelling : Placement → List Token
-placement_spelling (node n) = token.Mark mark.Node ∷ token.Number n.number ∷ token.Mark mark.Colon ∷ call_spelling n.automaton n.arguments
-placement_spelling (channel c) = token.Mark mark.Channel ∷ token.Number c.from ∷ token.Mark mark.Arrow ∷ token.Number c.to ∷ []
+placement_spelling (node n) =
+    token.Mark mark.Node ∷ token.Number n.number ∷ token.Mark mark.Colon ∷ call_spelling n.automaton n.arguments
+placement_spelling (channel c) =
+    token.Mark mark.Channel ∷ token.Number c.from ∷ token.Mark mark.Arrow ∷ token.Number c.to ∷ []
 
 -- a whole text
 abbrev pub text_spelling : SourceText → List Token
-text_spelling p = joined_spelling declaration_spelling p.declarations ++ (token.Mark mark.System ∷ joined_spelling placement_spelling p.system)
+text_spelling p =
+    joined_spelling declaration_spelling p.declarations
+    ++ (token.Mark mark.System ∷ joined_spelling placement_spelling p.system)

@@ -1,4 +1,4 @@
--- Where a token may stand right behind another (form): a test that is enough for what print joins.
+-- Whether a token may follow another without a gap (form): a test that is enough for the tokens that print joins.
 use Rattle.std.specs.Prelude.{Bool, true, false, ◌||◌, ◌&&◌}
 use Rattle.ioa_tokens.specs.declared.token.Token.{Token}
 use Rattle.ioa_tokens.specs.declared.token.Token.TheVariants as token
@@ -22,11 +22,11 @@ is_part_end (token.Mark mark.Semicolon) = true
 is_part_end (token.Mark mark.Colon) = true
 is_part_end _ = false
 
--- the tokens that may stand right behind any
+-- the tokens that may follow any token without a gap
 abbrev pub follows_any : Token → Bool
 follows_any t = is_opening t || is_part_end t
 
--- the tokens behind which any may stand
+-- the tokens that any token may follow without a gap
 abbrev pub precedes_any : Token → Bool
 precedes_any (token.Mark mark.OpenRound) = true
 precedes_any (token.Mark mark.OpenSquare) = true
@@ -48,6 +48,6 @@ is_plain (token.Mark mark.True) = true
 is_plain (token.Mark mark.False) = true
 is_plain _ = false
 
--- whether the second token may stand right behind the first by one of these rules
+-- whether the second token may follow the first without a gap, by one of these rules
 abbrev pub touches : Token → Token → Bool
 touches before after = follows_any after || (precedes_any before || (is_prefix before && is_plain after))

@@ -1,11 +1,13 @@
 //! The pieces of declarations.
 
-ghost use Rattle.std.specs.Prelude.{◌≡◌, ◌++◌, OnOk, map};
+ghost use Rattle.std.specs.Prelude.{map};
 ghost use Rattle.ioa_tokens.specs.declared.mark.Mark.TheVariants as mark;
 ghost use Rattle.ioa_source.specs.SortView.{sort_of};
 ghost use Rattle.ioa_terms.specs.View.{statement_of};
-ghost use Rattle.ioa_source.specs.TextView.{declared_of, parameter_of, entry_of, variable_of, transition_of, automaton_of, form_of, type_of, declaration_of};
+ghost use Rattle.ioa_source.specs.TextView.{declared_of, parameter_of, entry_of, variable_of, transition_of};
+ghost use Rattle.ioa_source.specs.TextView.{automaton_of, form_of, type_of, declaration_of};
 ghost use Rattle.ioa_source.specs.PlainText as plain;
+ghost use Rattle.ioa_front.specs.Pieces.{Puts};
 ghost use Rattle.ioa_front.specs.Spelling as spec;
 
 use crate::piece::Pieces;
@@ -22,7 +24,7 @@ use std::alloc::AllocError;
 
 /// Puts a sort.
 fn put_sort<'a>(out: &mut Pieces<'a>, sort: &'a Sort) -> Result<(), AllocError>
-    ensures { OnOk result (out.new ≡ out.old ++ spec.sort_spelling (sort_of sort.now)) }
+    ensures { Puts (spec.sort_spelling (sort_of sort.now)) result out.old out.new }
 {
     match sort {
         Sort::Bool => out.put_mark(Mark::Bool),
@@ -54,7 +56,7 @@ fn put_sort<'a>(out: &mut Pieces<'a>, sort: &'a Sort) -> Result<(), AllocError>
 
 /// Puts a name with its sort.
 fn put_declared<'a>(out: &mut Pieces<'a>, declared: &'a Declared<()>) -> Result<(), AllocError>
-    ensures { OnOk result (out.new ≡ out.old ++ spec.declared_spelling (declared_of declared.now)) }
+    ensures { Puts (spec.declared_spelling (declared_of declared.now)) result out.old out.new }
 {
     out.put_word(&declared.name)?;
     out.put_mark(Mark::Colon)?;
@@ -66,7 +68,8 @@ fn put_all_declared<'a>(
     out: &mut Pieces<'a>,
     declarations: &'a [Declared<()>],
 ) -> Result<(), AllocError>
-    ensures { OnOk result (out.new ≡ out.old ++ spec.separated_spelling mark.Comma spec.declared_spelling (map declared_of declarations.now)) }
+    ensures { Puts (spec.separated_spelling mark.Comma spec.declared_spelling (map declared_of declarations.now))
+        result out.old out.new }
 {
     let mut first = true;
     for declared in declarations {
@@ -77,9 +80,9 @@ fn put_all_declared<'a>(
     Ok(())
 }
 
-/// Puts an automaton's parameters in round brackets, and nothing where it has none.
+/// Puts an automaton's parameters in round brackets, and nothing if it has none.
 fn put_head<'a>(out: &mut Pieces<'a>, parameters: &'a [Declared<()>]) -> Result<(), AllocError>
-    ensures { OnOk result (out.new ≡ out.old ++ spec.bracketed_spelling spec.declared_spelling (map declared_of parameters.now)) }
+    ensures { Puts (spec.head_spelling (map declared_of parameters.now)) result out.old out.new }
 {
     match parameters {
         [] => Ok(()),
@@ -96,7 +99,7 @@ fn put_parameter<'a>(
     out: &mut Pieces<'a>,
     parameter: &'a Parameter<(), ()>,
 ) -> Result<(), AllocError>
-    ensures { OnOk result (out.new ≡ out.old ++ spec.parameter_spelling (parameter_of parameter.now)) }
+    ensures { Puts (spec.parameter_spelling (parameter_of parameter.now)) result out.old out.new }
 {
     match parameter {
         Parameter::Const(term) => {
@@ -112,7 +115,8 @@ fn put_all_parameters<'a>(
     out: &mut Pieces<'a>,
     parameters: &'a [Parameter<(), ()>],
 ) -> Result<(), AllocError>
-    ensures { OnOk result (out.new ≡ out.old ++ spec.separated_spelling mark.Comma spec.parameter_spelling (map parameter_of parameters.now)) }
+    ensures { Puts (spec.separated_spelling mark.Comma spec.parameter_spelling (map parameter_of parameters.now))
+        result out.old out.new }
 {
     let mut first = true;
     for parameter in parameters {
@@ -123,12 +127,12 @@ fn put_all_parameters<'a>(
     Ok(())
 }
 
-/// Puts an entry's parameters in round brackets, and nothing where it has none.
+/// Puts an entry's parameters in round brackets, and nothing if it has none.
 fn put_parameters<'a>(
     out: &mut Pieces<'a>,
     parameters: &'a [Parameter<(), ()>],
 ) -> Result<(), AllocError>
-    ensures { OnOk result (out.new ≡ out.old ++ spec.bracketed_spelling spec.parameter_spelling (map parameter_of parameters.now)) }
+    ensures { Puts (spec.parameters_spelling (map parameter_of parameters.now)) result out.old out.new }
 {
     match parameters {
         [] => Ok(()),
@@ -142,7 +146,7 @@ fn put_parameters<'a>(
 
 /// Puts an entry of a signature.
 fn put_entry<'a>(out: &mut Pieces<'a>, entry: &'a Entry<(), ()>) -> Result<(), AllocError>
-    ensures { OnOk result (out.new ≡ out.old ++ spec.entry_spelling (entry_of entry.now)) }
+    ensures { Puts (spec.entry_spelling (entry_of entry.now)) result out.old out.new }
 {
     out.put_mark(kind_mark(entry.kind))?;
     out.put_word(&entry.name)?;
@@ -152,7 +156,7 @@ fn put_entry<'a>(out: &mut Pieces<'a>, entry: &'a Entry<(), ()>) -> Result<(), A
 
 /// Puts the entries of a signature.
 fn put_entries<'a>(out: &mut Pieces<'a>, entries: &'a [Entry<(), ()>]) -> Result<(), AllocError>
-    ensures { OnOk result (out.new ≡ out.old ++ spec.joined_spelling spec.entry_spelling (map entry_of entries.now)) }
+    ensures { Puts (spec.joined_spelling spec.entry_spelling (map entry_of entries.now)) result out.old out.new }
 {
     for entry in entries {
         put_entry(out, entry)?;
@@ -160,9 +164,9 @@ fn put_entries<'a>(out: &mut Pieces<'a>, entries: &'a [Entry<(), ()>]) -> Result
     Ok(())
 }
 
-/// Puts a signature, where it has an entry.
+/// Puts a signature, if it has an entry.
 fn put_signature<'a>(out: &mut Pieces<'a>, entries: &'a [Entry<(), ()>]) -> Result<(), AllocError>
-    ensures { OnOk result (out.new ≡ out.old ++ spec.section_spelling mark.Signature (spec.joined_spelling spec.entry_spelling) (map entry_of entries.now)) }
+    ensures { Puts (spec.signature_spelling (map entry_of entries.now)) result out.old out.new }
 {
     match entries {
         [] => Ok(()),
@@ -175,7 +179,7 @@ fn put_signature<'a>(out: &mut Pieces<'a>, entries: &'a [Entry<(), ()>]) -> Resu
 
 /// Puts a state variable.
 fn put_variable<'a>(out: &mut Pieces<'a>, variable: &'a Variable<(), ()>) -> Result<(), AllocError>
-    ensures { OnOk result (out.new ≡ out.old ++ spec.variable_spelling (variable_of variable.now)) }
+    ensures { Puts (spec.variable_spelling (variable_of variable.now)) result out.old out.new }
 {
     put_declared(out, &variable.declared)?;
     put_optional(out, Mark::Assign, &variable.initial)
@@ -186,7 +190,8 @@ fn put_variables<'a>(
     out: &mut Pieces<'a>,
     variables: &'a [Variable<(), ()>],
 ) -> Result<(), AllocError>
-    ensures { OnOk result (out.new ≡ out.old ++ spec.separated_spelling mark.Comma spec.variable_spelling (map variable_of variables.now)) }
+    ensures { Puts (spec.separated_spelling mark.Comma spec.variable_spelling (map variable_of variables.now))
+        result out.old out.new }
 {
     let mut first = true;
     for variable in variables {
@@ -197,9 +202,9 @@ fn put_variables<'a>(
     Ok(())
 }
 
-/// Puts the state variables of an automaton, where it has one.
+/// Puts the state variables of an automaton, if it has one.
 fn put_states<'a>(out: &mut Pieces<'a>, variables: &'a [Variable<(), ()>]) -> Result<(), AllocError>
-    ensures { OnOk result (out.new ≡ out.old ++ spec.section_spelling mark.States (spec.separated_spelling mark.Comma spec.variable_spelling) (map variable_of variables.now)) }
+    ensures { Puts (spec.states_spelling (map variable_of variables.now)) result out.old out.new }
 {
     match variables {
         [] => Ok(()),
@@ -210,12 +215,12 @@ fn put_states<'a>(out: &mut Pieces<'a>, variables: &'a [Variable<(), ()>]) -> Re
     }
 }
 
-/// Puts an effect, where it has a statement.
+/// Puts an effect, if it has a statement.
 fn put_effect<'a>(
     out: &mut Pieces<'a>,
     effect: &'a Vec<Statement<(), ()>>,
 ) -> Result<(), AllocError>
-    ensures { OnOk result (out.new ≡ out.old ++ spec.section_spelling mark.Eff spec.effect_spelling (map statement_of effect.now.items)) }
+    ensures { Puts (spec.effect_part_spelling (map statement_of effect.now.items)) result out.old out.new }
 {
     match effect.as_slice() {
         [] => Ok(()),
@@ -231,7 +236,7 @@ fn put_transition<'a>(
     out: &mut Pieces<'a>,
     transition: &'a Transition<(), ()>,
 ) -> Result<(), AllocError>
-    ensures { OnOk result (out.new ≡ out.old ++ spec.transition_spelling (transition_of transition.now)) }
+    ensures { Puts (spec.transition_spelling (transition_of transition.now)) result out.old out.new }
 {
     out.put_mark(kind_mark(transition.kind))?;
     put_call(out, &transition.name, &transition.arguments)?;
@@ -244,7 +249,8 @@ fn put_all_transitions<'a>(
     out: &mut Pieces<'a>,
     transitions: &'a [Transition<(), ()>],
 ) -> Result<(), AllocError>
-    ensures { OnOk result (out.new ≡ out.old ++ spec.joined_spelling spec.transition_spelling (map transition_of transitions.now)) }
+    ensures { Puts (spec.joined_spelling spec.transition_spelling (map transition_of transitions.now))
+        result out.old out.new }
 {
     for transition in transitions {
         put_transition(out, transition)?;
@@ -252,12 +258,12 @@ fn put_all_transitions<'a>(
     Ok(())
 }
 
-/// Puts the transitions of an automaton, where it has one.
+/// Puts the transitions of an automaton, if it has one.
 fn put_transitions<'a>(
     out: &mut Pieces<'a>,
     transitions: &'a [Transition<(), ()>],
 ) -> Result<(), AllocError>
-    ensures { OnOk result (out.new ≡ out.old ++ spec.section_spelling mark.Transitions (spec.joined_spelling spec.transition_spelling) (map transition_of transitions.now)) }
+    ensures { Puts (spec.transitions_spelling (map transition_of transitions.now)) result out.old out.new }
 {
     match transitions {
         [] => Ok(()),
@@ -268,12 +274,12 @@ fn put_transitions<'a>(
     }
 }
 
-/// Puts a schedule block, where it has a statement.
+/// Puts a schedule block, if it has a statement.
 fn put_schedule<'a>(
     out: &mut Pieces<'a>,
     schedule: &'a Vec<Statement<(), ()>>,
 ) -> Result<(), AllocError>
-    ensures { OnOk result (out.new ≡ out.old ++ spec.section_spelling mark.Schedule spec.block_spelling (map statement_of schedule.now.items)) }
+    ensures { Puts (spec.schedule_spelling (map statement_of schedule.now.items)) result out.old out.new }
 {
     match schedule.as_slice() {
         [] => Ok(()),
@@ -291,7 +297,7 @@ fn put_automaton<'a>(
     out: &mut Pieces<'a>,
     automaton: &'a Automaton<(), ()>,
 ) -> Result<(), AllocError>
-    ensures { OnOk result (out.new ≡ out.old ++ spec.declaration_spelling (plain.automaton (automaton_of automaton.now))) }
+    ensures { Puts (spec.declaration_spelling (plain.automaton (automaton_of automaton.now))) result out.old out.new }
 {
     out.put_mark(Mark::Automaton)?;
     out.put_word(&automaton.name)?;
@@ -304,7 +310,7 @@ fn put_automaton<'a>(
 
 /// Puts names with commas between.
 fn put_words<'a>(out: &mut Pieces<'a>, words: &'a [Word]) -> Result<(), AllocError>
-    ensures { OnOk result (out.new ≡ out.old ++ spec.separated_spelling mark.Comma spec.word_spelling words.now) }
+    ensures { Puts (spec.separated_spelling mark.Comma spec.word_spelling words.now) result out.old out.new }
 {
     let mut first = true;
     for word in words {
@@ -315,9 +321,9 @@ fn put_words<'a>(out: &mut Pieces<'a>, words: &'a [Word]) -> Result<(), AllocErr
     Ok(())
 }
 
-/// Puts what a type's values are.
+/// Puts the constants or the fields of a type.
 fn put_form<'a>(out: &mut Pieces<'a>, form: &'a TypeForm<()>) -> Result<(), AllocError>
-    ensures { OnOk result (out.new ≡ out.old ++ spec.form_spelling (form_of form.now)) }
+    ensures { Puts (spec.form_spelling (form_of form.now)) result out.old out.new }
 {
     match form {
         TypeForm::Enumeration(words) => {
@@ -338,7 +344,7 @@ fn put_type<'a>(
     out: &mut Pieces<'a>,
     declaration: &'a TypeDeclaration<()>,
 ) -> Result<(), AllocError>
-    ensures { OnOk result (out.new ≡ out.old ++ spec.declaration_spelling (plain.type_named (type_of declaration.now))) }
+    ensures { Puts (spec.declaration_spelling (plain.type_named (type_of declaration.now))) result out.old out.new }
 {
     out.put_mark(Mark::Type)?;
     out.put_word(&declaration.name)?;
@@ -351,7 +357,7 @@ fn put_declaration<'a>(
     out: &mut Pieces<'a>,
     declaration: &'a Declaration<(), ()>,
 ) -> Result<(), AllocError>
-    ensures { OnOk result (out.new ≡ out.old ++ spec.declaration_spelling (declaration_of declaration.now)) }
+    ensures { Puts (spec.declaration_spelling (declaration_of declaration.now)) result out.old out.new }
 {
     match declaration {
         Declaration::Type(declaration) => put_type(out, declaration),
@@ -364,7 +370,8 @@ pub(crate) fn put_declarations<'a>(
     out: &mut Pieces<'a>,
     declarations: &'a [Declaration<(), ()>],
 ) -> Result<(), AllocError>
-    ensures { OnOk result (out.new ≡ out.old ++ spec.joined_spelling spec.declaration_spelling (map declaration_of declarations.now)) }
+    ensures { Puts (spec.joined_spelling spec.declaration_spelling (map declaration_of declarations.now))
+        result out.old out.new }
 {
     for declaration in declarations {
         put_declaration(out, declaration)?;

@@ -1,4 +1,4 @@
-//! Which gap stands before each piece of a text.
+//! The gap before each piece of a text.
 
 ghost use Rattle.std.specs.Prelude.{◌≡◌, true};
 ghost use Rattle.std.specs.Option.{option_map};
@@ -10,7 +10,7 @@ ghost use Rattle.ioa_front.specs.Touching as spec;
 use crate::piece::Piece;
 use ioa_tokens::{Gap, Mark};
 
-/// How far the parts of a declaration and what the system places are indented.
+/// How far the parts of a declaration and the nodes and channels of the system are indented.
 const PART: usize = 2;
 
 /// How far entries, variables, transitions and a block are indented.
@@ -25,7 +25,7 @@ const DEEPEST: usize = 8;
 /// How much further the statements of an arm are indented.
 const STEP: usize = 2;
 
-/// Where in a text the next piece stands.
+/// What decides the gap before the next piece of a text.
 #[derive(Drop)]
 pub(crate) struct Layout {
     /// Whether state variables are declared.
@@ -49,8 +49,8 @@ impl Layout {
         }
     }
 
-    /// What stands before a piece, behind the one before it, if there is one. Nothing stands between two
-    /// pieces only where they stay apart so.
+    /// The gap between a piece and the one before it, if there is one. Two pieces are joined only if they
+    /// are still two tokens then.
     pub(crate) fn gap(&self, before: Option<Piece<'_>>, after: Piece<'_>) -> Gap
         ensures { may_begin (option_map piece_token before.entry) (result, piece_token after.entry) ≡ true }
     {
@@ -60,7 +60,7 @@ impl Layout {
         }
     }
 
-    /// What stands between two pieces.
+    /// The gap between two pieces.
     fn gap_between(&self, before: Piece<'_>, after: Piece<'_>) -> Gap
         ensures { may_follow (piece_token before.entry) (result, piece_token after.entry) ≡ true }
     {
@@ -70,7 +70,7 @@ impl Layout {
         }
     }
 
-    /// What stands between two pieces of a line.
+    /// The gap between two pieces of a line.
     fn gap_within(&self, before: Piece<'_>, after: Piece<'_>) -> Gap
         ensures { may_follow (piece_token before.entry) (result, piece_token after.entry) ≡ true }
     {
@@ -81,7 +81,7 @@ impl Layout {
         }
     }
 
-    /// Goes past a piece, behind the one before it.
+    /// Goes past a piece, which comes after `before`.
     pub(crate) fn pass(&mut self, before: Option<Piece<'_>>, piece: Piece<'_>) {
         self.behind_prefix = is_prefix(piece) && !is_behind_term(before);
         if let Piece::Mark(mark) = piece {
@@ -110,7 +110,7 @@ impl Layout {
         }
     }
 
-    /// How far a piece is indented that begins a line.
+    /// How far the second of two pieces is indented, if it begins a line.
     fn line(&self, before: Piece<'_>, after: Piece<'_>) -> Option<usize> {
         match self.line_behind(before) {
             Some(indent) => Some(indent),
@@ -118,7 +118,7 @@ impl Layout {
         }
     }
 
-    /// How far what follows a piece is indented, where a line ends behind the piece.
+    /// How far the next piece is indented, if a line ends after this one.
     fn line_behind(&self, piece: Piece<'_>) -> Option<usize> {
         match piece {
             Piece::Mark(Mark::States) => Some(ITEM),
@@ -130,7 +130,7 @@ impl Layout {
         }
     }
 
-    /// How far a piece is indented, where it always begins a line.
+    /// How far the second of two pieces is indented, if it always begins a line.
     fn line_before(&self, before: Piece<'_>, after: Piece<'_>) -> Option<usize> {
         match after {
             Piece::Mark(Mark::Type | Mark::Automaton | Mark::System) => Some(0),
@@ -150,7 +150,7 @@ impl Layout {
         }
     }
 
-    /// Whether two pieces of a line stand close together.
+    /// Whether there is no space between two pieces of a line.
     fn is_close(&self, before: Piece<'_>, after: Piece<'_>) -> bool {
         self.behind_prefix
             || precedes_any(before)
@@ -159,7 +159,7 @@ impl Layout {
     }
 }
 
-/// Nothing between two pieces, or a space where they would not stay apart.
+/// No gap between two pieces, or a space if they would run together.
 #[tactic(auto, using(crate::proofs::Touching::touches_may))]
 fn closest_gap(before: Piece<'_>, after: Piece<'_>) -> Gap
     ensures { may_follow (piece_token before.entry) (result, piece_token after.entry) ≡ true }
@@ -171,14 +171,14 @@ fn closest_gap(before: Piece<'_>, after: Piece<'_>) -> Gap
     }
 }
 
-/// Whether the second of two pieces may stand right behind the first.
+/// Whether the second of two pieces may follow the first without a gap.
 fn touches(before: Piece<'_>, after: Piece<'_>) -> bool
     ensures { result ≡ spec.touches (piece_token before.entry) (piece_token after.entry) }
 {
     follows_any(after) || precedes_any(before) || (is_prefix(before) && is_plain(after))
 }
 
-/// Whether a piece may stand right behind any other.
+/// Whether a piece may follow any other without a gap.
 fn follows_any(piece: Piece<'_>) -> bool
     ensures { result ≡ spec.follows_any (piece_token piece.entry) }
 {
@@ -195,7 +195,7 @@ fn is_opening(piece: Piece<'_>) -> bool
     }
 }
 
-/// Whether a piece stands close behind any other: a bracket that closes, or a sign that ends a part.
+/// Whether there is no space before a piece: a bracket that closes, or a sign that ends a part.
 fn is_part_end(piece: Piece<'_>) -> bool
     ensures { result ≡ spec.is_part_end (piece_token piece.entry) }
 {
@@ -206,7 +206,7 @@ fn is_part_end(piece: Piece<'_>) -> bool
     }
 }
 
-/// Whether any other piece stands close behind a piece.
+/// Whether there is no space after a piece.
 fn precedes_any(piece: Piece<'_>) -> bool
     ensures { result ≡ spec.precedes_any (piece_token piece.entry) }
 {

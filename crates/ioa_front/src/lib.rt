@@ -1,4 +1,4 @@
-//! The front of the language: texts read and printed.
+//! Texts of the language, read and printed.
 #![tactic(auto)]
 
 mod declarations;

@@ -1,8 +1,8 @@
 //! The pieces that a text is printed from.
 
-ghost use Rattle.std.specs.Prelude.{◌≡◌, ◌++◌, ◌∷◌, [], OnOk, map};
+ghost use Rattle.std.specs.Prelude.{◌≡◌, ◌∷◌, [], map};
 ghost use Rattle.ioa_tokens.specs.declared.token.Token.TheVariants as token;
-ghost use Rattle.ioa_front.specs.Pieces.{piece_token};
+ghost use Rattle.ioa_front.specs.Pieces.{piece_token, Puts};
 ghost use Rattle.ioa_front.specs.Listing.{before};
 
 use ioa_tokens::Mark;
@@ -56,7 +56,7 @@ impl<'a> Pieces<'a> {
 
     /// Adds a name.
     pub(crate) fn put_word(&mut self, word: &'a Word) -> Result<(), AllocError>
-        ensures { OnOk result (self.new ≡ self.old ++ token.Word word.now ∷ []) }
+        ensures { Puts (token.Word word.now ∷ []) result self.old self.new }
     {
         self.list.push(Piece::Word(word))?;
         Ok(())
@@ -64,7 +64,7 @@ impl<'a> Pieces<'a> {
 
     /// Adds a number.
     pub(crate) fn put_number(&mut self, number: i64) -> Result<(), AllocError>
-        ensures { OnOk result (self.new ≡ self.old ++ token.Number number ∷ []) }
+        ensures { Puts (token.Number number ∷ []) result self.old self.new }
     {
         self.list.push(Piece::Number(number))?;
         Ok(())
@@ -72,15 +72,15 @@ impl<'a> Pieces<'a> {
 
     /// Adds a sign or a reserved word.
     pub(crate) fn put_mark(&mut self, mark: Mark) -> Result<(), AllocError>
-        ensures { OnOk result (self.new ≡ self.old ++ token.Mark mark ∷ []) }
+        ensures { Puts (token.Mark mark ∷ []) result self.old self.new }
     {
         self.list.push(Piece::Mark(mark))?;
         Ok(())
     }
 
-    /// Adds what stands before an item of a list: a mark, but nothing before the first item.
+    /// Adds a mark before an item of a list, but nothing before the first item.
     pub(crate) fn put_between(&mut self, mark: Mark, first: bool) -> Result<(), AllocError>
-        ensures { OnOk result (self.new ≡ self.old ++ before mark first) }
+        ensures { Puts (before mark first) result self.old self.new }
     {
         if first { Ok(()) } else { self.put_mark(mark) }
     }

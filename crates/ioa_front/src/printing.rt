@@ -20,10 +20,10 @@ pub(crate) fn print_text(alloc: Global, text: &Text<(), ()>) -> Result<String, A
     text_of_pieces(alloc, pieces.as_slice())
 }
 
-/// A source as text: what it declares in lines, each part indented by two spaces more than what holds
-/// it, round brackets about each operator term that is a part of another, and a line feed at the end.
-/// `parse` reads the source again of it, where it is not longer than a text may be. A refused
-/// allocation is answered; the source stays as it is. Source: profile.
+/// A source as text. Each declaration is laid out in lines, each part by two spaces further than what it
+/// is part of. Each operator term that is part of another term is in round brackets. A line feed ends the
+/// text. `parse` reads the same source from it, unless it is longer than a text may be. If memory runs
+/// out, `AllocError` comes; the source stays as it is. Source: profile.
 pub fn print(alloc: Global, source: &Source) -> Result<String, AllocError>
     ensures written { IfOk result (λ s. IsPrinted (text_spelling (text_of source.now.text)) (string_bytes s)) }
     ensures spelled { IfOk result (λ s. TextSpells (text_of source.now.text) (string_bytes s)) }

@@ -1,10 +1,9 @@
 //! The pieces of statements.
 
-ghost use Rattle.std.specs.Prelude.{◌≡◌, ◌++◌, OnOk, map};
-ghost use Rattle.ioa_tokens.specs.declared.token.Token.TheVariants as token;
-ghost use Rattle.ioa_tokens.specs.declared.mark.Mark.TheVariants as mark;
+ghost use Rattle.std.specs.Prelude.{◌≡◌, map};
 ghost use Rattle.ioa_terms.specs.PlainTerm.{statements_of, arms_of, assign, fire};
 ghost use Rattle.ioa_terms.specs.View.{term_of, target_of, statement_of, arm_of};
+ghost use Rattle.ioa_front.specs.Pieces.{Puts};
 ghost use Rattle.ioa_front.specs.Spelling as spec;
 
 use crate::piece::Pieces;
@@ -25,9 +24,9 @@ pub(crate) fn kind_mark(kind: Kind) -> Mark
     }
 }
 
-/// Puts a kind, where it is written.
+/// Puts a kind, if one is written.
 fn put_kind<'a>(out: &mut Pieces<'a>, kind: Option<Kind>) -> Result<(), AllocError>
-    ensures { OnOk result (out.new ≡ out.old ++ spec.kind_spelling kind) }
+    ensures { Puts (spec.kind_spelling kind) result out.old out.new }
 {
     match kind {
         None => Ok(()),
@@ -41,15 +40,15 @@ pub(crate) fn put_call<'a>(
     name: &'a Word,
     arguments: &'a [Term],
 ) -> Result<(), AllocError>
-    ensures { OnOk result (out.new ≡ out.old ++ spec.call_spelling name.now (map term_of arguments.now)) }
+    ensures { Puts (spec.call_spelling name.now (map term_of arguments.now)) result out.old out.new }
 {
     out.put_word(name)?;
     put_bracketed(out, arguments)
 }
 
-/// Puts what an assignment writes to.
+/// Puts the target of an assignment.
 fn put_target<'a>(out: &mut Pieces<'a>, target: &'a Target<(), ()>) -> Result<(), AllocError>
-    ensures { OnOk result (out.new ≡ out.old ++ spec.target_spelling (target_of target.now)) }
+    ensures { Puts (spec.target_spelling (target_of target.now)) result out.old out.new }
 {
     match target {
         Target::Variable(name, _, _) => out.put_word(name),
@@ -73,7 +72,7 @@ fn put_assignment<'a>(
     target: &'a Target<(), ()>,
     term: &'a Term,
 ) -> Result<(), AllocError>
-    ensures { OnOk result (out.new ≡ out.old ++ spec.statement_spelling (assign (target_of target.now) (term_of term.now))) }
+    ensures { Puts (spec.statement_spelling (assign (target_of target.now) (term_of term.now))) result out.old out.new }
 {
     put_target(out, target)?;
     out.put_mark(Mark::Assign)?;
@@ -87,7 +86,7 @@ fn put_firing<'a>(
     name: &'a Word,
     arguments: &'a [Term],
 ) -> Result<(), AllocError>
-    ensures { OnOk result (out.new ≡ out.old ++ spec.statement_spelling (fire kind name.now (map term_of arguments.now))) }
+    ensures { Puts (spec.statement_spelling (fire kind name.now (map term_of arguments.now))) result out.old out.new }
 {
     out.put_mark(Mark::Fire)?;
     put_kind(out, kind)?;
@@ -100,7 +99,7 @@ fn put_statement<'a>(
     out: &mut Pieces<'a>,
     statement: &'a Statement<(), ()>,
 ) -> Result<(), AllocError>
-    ensures { OnOk result (out.new ≡ out.old ++ spec.statement_spelling (statement_of statement.now)) }
+    ensures { Puts (spec.statement_spelling (statement_of statement.now)) result out.old out.new }
 {
     match statement {
         Statement::Assign(target, term) => put_assignment(out, target, term),
@@ -117,7 +116,7 @@ fn put_statement<'a>(
 /// Puts the arms of an `if`, up to its `else`.
 #[cycle(statements)]
 fn put_arms<'a>(out: &mut Pieces<'a>, arms: &'a Vec<Arm<(), ()>>) -> Result<(), AllocError>
-    ensures { OnOk result (out.new ≡ out.old ++ spec.arms_spelling (arms_of (map arm_of arms.now.items))) }
+    ensures { Puts (spec.arms_spelling (arms_of (map arm_of arms.now.items))) result out.old out.new }
 {
     let mut first = true;
     for arm in arms {
@@ -130,10 +129,10 @@ fn put_arms<'a>(out: &mut Pieces<'a>, arms: &'a Vec<Arm<(), ()>>) -> Result<(), 
     Ok(())
 }
 
-/// Puts the last part of an `if`, where it has one.
+/// Puts the last part of an `if`, if it has one.
 #[cycle(statements)]
 fn put_else<'a>(out: &mut Pieces<'a>, rest: &'a Vec<Statement<(), ()>>) -> Result<(), AllocError>
-    ensures { OnOk result (out.new ≡ out.old ++ spec.else_spelling (statements_of (map statement_of rest.now.items)) (spec.statements_spelling (statements_of (map statement_of rest.now.items)))) }
+    ensures { Puts (spec.rest_spelling (map statement_of rest.now.items)) result out.old out.new }
 {
     match rest.as_slice() {
         [] => Ok(()),
@@ -150,7 +149,8 @@ pub(crate) fn put_statements<'a>(
     out: &mut Pieces<'a>,
     statements: &'a Vec<Statement<(), ()>>,
 ) -> Result<(), AllocError>
-    ensures { OnOk result (out.new ≡ out.old ++ spec.statements_spelling (statements_of (map statement_of statements.now.items))) }
+    ensures { Puts (spec.statements_spelling (statements_of (map statement_of statements.now.items)))
+        result out.old out.new }
 {
     let mut first = true;
     for statement in statements {

@@ -1,7 +1,8 @@
 //! The pieces of a whole text.
 
-ghost use Rattle.std.specs.Prelude.{◌≡◌, ◌++◌, IfOk, OnOk, map};
+ghost use Rattle.std.specs.Prelude.{◌≡◌, IfOk, map};
 ghost use Rattle.ioa_source.specs.TextView.{placement_of, text_of};
+ghost use Rattle.ioa_front.specs.Pieces.{Puts};
 ghost use Rattle.ioa_front.specs.Spelling as spec;
 
 use crate::declarations::put_declarations;
@@ -16,7 +17,7 @@ fn put_placement<'a>(
     out: &mut Pieces<'a>,
     placement: &'a Placement<(), ()>,
 ) -> Result<(), AllocError>
-    ensures { OnOk result (out.new ≡ out.old ++ spec.placement_spelling (placement_of placement.now)) }
+    ensures { Puts (spec.placement_spelling (placement_of placement.now)) result out.old out.new }
 {
     match placement {
         Placement::Node(node) => {
@@ -39,7 +40,8 @@ fn put_placements<'a>(
     out: &mut Pieces<'a>,
     placements: &'a [Placement<(), ()>],
 ) -> Result<(), AllocError>
-    ensures { OnOk result (out.new ≡ out.old ++ spec.joined_spelling spec.placement_spelling (map placement_of placements.now)) }
+    ensures { Puts (spec.joined_spelling spec.placement_spelling (map placement_of placements.now))
+        result out.old out.new }
 {
     for placement in placements {
         put_placement(out, placement)?;

@@ -10,9 +10,10 @@ use crate::piece::Piece;
 use ioa_tokens::{Gap, push_mark, push_number, push_word};
 use std::alloc::{AllocError, Global};
 
-/// Writes a piece behind a gap.
+/// Writes a gap and then a piece.
 fn push_piece(text: &mut String, gap: Gap, piece: Piece<'_>) -> Result<(), AllocError>
-    ensures { OnOk result (string_bytes text.new ≡ string_bytes text.old ++ (gap_text gap ++ token_text (piece_token piece.entry))) }
+    ensures { OnOk result (string_bytes text.new ≡
+        string_bytes text.old ++ (gap_text gap ++ token_text (piece_token piece.entry))) }
 {
     match piece {
         Piece::Word(word) => push_word(text, gap, word.as_str()),

@@ -96,7 +96,8 @@ system
 ",
     ),
     (
-        "automaton A transitions output a eff if x then if y then z := 1; w := 2 else z := 3 fi fi; w := 4 output b system",
+        "automaton A transitions output a \
+        eff if x then if y then z := 1; w := 2 else z := 3 fi fi; w := 4 output b system",
         "automaton A
   transitions
     output a

@@ -1,4 +1,4 @@
-//! What texts are read as.
+//! The trees of texts.
 
 use crate::short_form::short_form;
 use ioa_front::parse;
@@ -45,7 +45,8 @@ static READ: [(&str, &str); 26] = [
     ),
     (
         "automaton A signature output a, b where x > 1, c(v, w: Int, const 0, u: Bool) where u input d system",
-        "automaton A()\nOutput a()\nOutput b() where (x Greater 1)\nOutput c(v: Int, w: Int, const 0, u: Bool) where u\nInput d()\ndo \n",
+        "automaton A()\nOutput a()\nOutput b() where (x Greater 1)\n\
+        Output c(v: Int, w: Int, const 0, u: Bool) where u\nInput d()\ndo \n",
     ),
     (
         "automaton A signature output a, input b, output c system",
@@ -61,7 +62,8 @@ static READ: [(&str, &str); 26] = [
     ),
     (
         "automaton A transitions output a pre x = 1 output b pre y; output c pre z; eff z := false system",
-        "automaton A()\non Output a() pre (x Equal 1) eff \non Output b() pre y eff \non Output c() pre z eff z := false\ndo \n",
+        "automaton A()\non Output a() pre (x Equal 1) eff \non Output b() pre y eff \n\
+        on Output c() pre z eff z := false\ndo \n",
     ),
     (
         "automaton A transitions output a eff x := 1; m[k + 1] := y; r.f := {x}; system",
@@ -80,8 +82,10 @@ static READ: [(&str, &str); 26] = [
         "automaton A()\non Output a() eff if x then y := 1 else y := 2; z := 3 fi\ndo \n",
     ),
     (
-        "automaton A transitions output a eff if x then y := 1 elseif z then y := 2; elseif w then y := 3 else y := 4 fi system",
-        "automaton A()\non Output a() eff if x then y := 1 elseif z then y := 2 elseif w then y := 3 else y := 4 fi\ndo \n",
+        "automaton A transitions output a \
+        eff if x then y := 1 elseif z then y := 2; elseif w then y := 3 else y := 4 fi system",
+        "automaton A()\non Output a() \
+        eff if x then y := 1 elseif z then y := 2 elseif w then y := 3 else y := 4 fi\ndo \n",
     ),
     (
         "automaton A transitions output a eff if x then if y then z := 1 fi else if w then z := 2 fi fi system",

@@ -27,7 +27,7 @@ static LEFT_OUT: [&str; 19] = [
     "choose",
 ];
 
-/// Where a word that the profile leaves out is refused 16.
+/// Texts in which a word that the profile leaves out is refused as `LeftOut` (16) if it comes next.
 static BEFORE_LEFT_OUT: [&str; 36] = [
     "",
     "automaton ",
@@ -67,7 +67,7 @@ static BEFORE_LEFT_OUT: [&str; 36] = [
     "type T = tuple of x: ",
 ];
 
-/// Other refusals, with their numbers and places.
+/// Texts with other refusals, and the numbers and offsets of these.
 static OTHERS: [(&str, u32, usize); 13] = [
     ("", 10, 0),
     (" \t\r\n", 10, 0),
@@ -90,7 +90,7 @@ pub(crate) fn short(alloc: Global, fault: &FrontFault) -> Result<String, AllocEr
     format!(in alloc; "{number}@{offset}")
 }
 
-/// The number and the place of a refusal.
+/// The number and the offset of a refusal.
 fn number_and_offset(fault: &FrontFault) -> (u32, usize) {
     match fault {
         FrontFault::Memory => (3, 0),
@@ -104,7 +104,7 @@ fn number_and_offset(fault: &FrontFault) -> (u32, usize) {
     }
 }
 
-/// The number and the place of a text's refusal, or twice 0.
+/// The number and the offset of a text's refusal, or twice 0 if it is not refused.
 pub(crate) fn answer(alloc: Global, text: &str) -> (u32, usize) {
     match parse(alloc, text) {
         Ok(_) => (0, 0),
@@ -112,7 +112,7 @@ pub(crate) fn answer(alloc: Global, text: &str) -> (u32, usize) {
     }
 }
 
-/// What a text in two parts answers.
+/// The same for a text in two parts.
 pub(crate) fn two_part_answer(
     alloc: Global,
     before: &str,
@@ -123,7 +123,7 @@ pub(crate) fn two_part_answer(
     Ok(answer(alloc, text.as_str()))
 }
 
-/// What a text answers that stands between others: `open` so many times, `inner`, and `close` as often.
+/// The same for a text between two others: `open` so many times, `inner`, and `close` as many times.
 pub(crate) fn nested_answer(
     alloc: Global,
     before: &str,

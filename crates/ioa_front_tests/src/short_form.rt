@@ -7,7 +7,7 @@ use ioa_source::{
 use ioa_terms::{Arm, Kind, Statement, Target, Term, Tree, Word};
 use std::alloc::{AllocError, Global};
 
-/// Writes a piece of a list behind the pieces before it.
+/// Writes a piece of a list after the pieces before it.
 fn push_listed(
     list: &mut String,
     position: usize,
@@ -62,7 +62,7 @@ fn terms(alloc: Global, trees: &Vec<Term>) -> Result<String, AllocError> {
     Ok(list)
 }
 
-/// A term behind a word, or nothing.
+/// A term after a word, or nothing.
 fn optional(alloc: Global, word: &str, tree: &Option<Term>) -> Result<String, AllocError> {
     match tree {
         None => Ok(String::new(alloc)),
@@ -163,7 +163,7 @@ fn variables(alloc: Global, variables: &Vec<Variable<(), ()>>) -> Result<String,
     Ok(list)
 }
 
-/// A place that is assigned.
+/// The target of an assignment.
 fn target(alloc: Global, target: &Target<(), ()>) -> Result<String, AllocError> {
     match target {
         Target::Variable(name, _, _) => format!(in alloc; "{name}"),
@@ -175,7 +175,7 @@ fn target(alloc: Global, target: &Target<(), ()>) -> Result<String, AllocError> 
     }
 }
 
-/// The kind of a fired action, where it is written.
+/// The kind of a fired action, if one is written.
 fn fired_kind(alloc: Global, kind: &Option<Kind>) -> Result<String, AllocError> {
     match kind {
         None => Ok(String::new(alloc)),

@@ -1,9 +1,9 @@
-//! Which texts are refused 12, and where.
+//! Texts that are refused as `Unexpected` (12), and at which offset.
 
 use crate::refusals::two_part_answer;
 use std::test::Fail;
 
-/// A text in two parts: it is refused 12, at the first byte of the second part.
+/// Texts in two parts: each is refused as `Unexpected` (12) at the first byte of the second part.
 static REFUSED: [(&str, &str); 103] = [
     ("", "A"),
     ("", "node 0: A"),
@@ -264,7 +264,7 @@ static REFUSED_BODIES: [(&str, &str); 66] = [
     ),
 ];
 
-/// A sender with parameters and a loop: what stands before its schedule.
+/// A sender with parameters and a loop: the text before its schedule.
 const RELAY_BEFORE: &str = "automaton Src(i, j: Nat)
   signature
     output send(m: Int, const i, const j)
@@ -277,7 +277,7 @@ const RELAY_BEFORE: &str = "automaton Src(i, j: Nat)
   schedule
     ";
 
-/// What stands behind.
+/// The text after it.
 const RELAY_AFTER: &str = "states c: Int := 0
     do
       while c < 2 do
@@ -289,7 +289,7 @@ system
   node 0: Src(0, 1)
 ";
 
-/// An automaton with an internal action: what stands before its schedule.
+/// An automaton with an internal action: the text before its schedule.
 const TICK_BEFORE: &str = "automaton Tick(c: Nat)
   signature internal tick
   states n: Int := 0
@@ -297,7 +297,7 @@ const TICK_BEFORE: &str = "automaton Tick(c: Nat)
   schedule
     ";
 
-/// What stands behind.
+/// The text after it.
 const TICK_AFTER: &str = "states k: Nat := 0
     do while k < c do fire internal tick; k := k + 1 od od
 system
@@ -305,7 +305,7 @@ system
   node 1: Tick(5)
 ";
 
-/// A node with two fires: what stands before its script.
+/// A node with two fires: the text before its script.
 const SCRIPT_BEFORE: &str = "automaton A
   signature input go(v: Int)
   states s: Int := 0
@@ -315,7 +315,7 @@ system
   node 0: A
   ";
 
-/// What stands behind.
+/// The text after it.
 const SCRIPT_AFTER: &str = "script 0: go(4), go(5), go(6)
 ";
 
