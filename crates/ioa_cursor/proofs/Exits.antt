@@ -1,4 +1,4 @@
--- What a reader answers where a part of what it reads is not there.
+-- What a reader returns if a part of what it reads is not there.
 use Rattle.std.proofs.Common.{◌≡◌, ◌⊎◌, inl, inr, Option, None}
 
 -- where the part is not there, nor is the whole

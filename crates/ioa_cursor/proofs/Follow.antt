@@ -5,7 +5,8 @@ use Rattle.ioa_tokens.specs.declared.token.Token.{Token}
 use Rattle.ioa_tokens.specs.declared.token.Token.TheVariants as token
 use Rattle.ioa_tokens.specs.declared.mark.Mark.{Mark}
 use Rattle.ioa_cursor.specs.Lists.{Several, none, some, SeparatedBy, single, followed, SeparatedOrEndedBy, last, closed, continued, Section, absent, present, Optional, left_out, written, ListsSeparatedBy, single_group, followed_group, SeveralLists, no_group, some_groups}
-use Rattle.ioa_cursor.specs.Reading.{same_mark, skip, at, mark_first}
+use Rattle.ioa_cursor.specs.Reading.{skip, at, peek_mark}
+use Rattle.ioa_tokens.specs.Tables.{same_mark}
 use Rattle.ioa_cursor.proofs.Steps.{stays, same_mark_true, same_mark_self}
 
 -- a mark is skipped where it comes first
@@ -27,8 +28,8 @@ unlike true k m same other = absurd (other (ap Some (same refl)))
 unlike false k m same other = refl
 
 -- where another mark comes first, or none, this one does not
-pub at_unlike : (m : Mark) (xs : List Token) → mark_first xs ≢ Some m → at m xs ≡ false
-unfolding at mark_first
+pub at_unlike : (m : Mark) (xs : List Token) → peek_mark xs ≢ Some m → at m xs ≡ false
+unfolding at peek_mark
 at_unlike m (token.Mark k ∷ xs) other = unlike (same_mark k m) k m (same_mark_true k m) other
 at_unlike m (token.Word w ∷ xs) other = refl
 at_unlike m (token.Number n ∷ xs) other = refl
@@ -36,7 +37,7 @@ at_unlike m (token.LeftOut w ∷ xs) other = refl
 at_unlike m [] other = refl
 
 -- the same, of a mark that is to be taken
-pub skip_unlike : (m : Mark) (xs : List Token) → mark_first xs ≢ Some m → skip m xs ≡ stays false xs
+pub skip_unlike : (m : Mark) (xs : List Token) → peek_mark xs ≢ Some m → skip m xs ≡ stays false xs
 skip_unlike m xs other = skip_other m xs (at_unlike m xs other)
 
 module _ (Starts : List Token → Type 0) where

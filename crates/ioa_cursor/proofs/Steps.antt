@@ -6,13 +6,14 @@ use Rattle.ioa_tokens.specs.contracts.mark.Mark.{the_type}
 use Rattle.ioa_tokens.specs.declared.token.Token.{Token}
 use Rattle.ioa_tokens.specs.declared.token.Token.TheVariants as token
 use Rattle.ioa_tokens.specs.declared.mark.Mark.{Mark}
-use Rattle.ioa_cursor.specs.Reading.{bind, choose, same_mark, skip, expect, word, numeral, mark_first, behind}
+use Rattle.ioa_cursor.specs.Reading.{bind, choose, skip, expect, word, number, peek_mark, advance}
+use Rattle.ioa_tokens.specs.Tables.{same_mark}
 
 -- whether a list goes on, and what is left
 abbrev pub stays : Bool → List Token → Bool × List Token
 stays b ys = (b, ys)
 
--- what a reading answers
+-- what a reading returns
 abbrev pub read_next : {A : Type 0} → A → List Token → Option (A × List Token)
 read_next x ys = Some (x, ys)
 
@@ -84,19 +85,19 @@ word_taken (token.LeftOut w ∷ xs) r e = absurd cc
 word_taken [] r e = absurd cc
 
 -- a number that is taken came first
-pub numeral_taken : (xs : List Token) (r : ℤ × List Token) → numeral xs ≡ Some r → xs ≡ token.Number r.0 ∷ r.1
-unfolding numeral
-numeral_taken (token.Number n ∷ xs) r e = let p = some_pair_parts _ _ _ _ e in ap (λ v. token.Number v ∷ xs) p.0 ∙ ap (λ zs. token.Number r.0 ∷ zs) p.1
-numeral_taken (token.Mark k ∷ xs) r e = absurd cc
-numeral_taken (token.Word w ∷ xs) r e = absurd cc
-numeral_taken (token.LeftOut w ∷ xs) r e = absurd cc
-numeral_taken [] r e = absurd cc
+pub number_taken : (xs : List Token) (r : ℤ × List Token) → number xs ≡ Some r → xs ≡ token.Number r.0 ∷ r.1
+unfolding number
+number_taken (token.Number n ∷ xs) r e = let p = some_pair_parts _ _ _ _ e in ap (λ v. token.Number v ∷ xs) p.0 ∙ ap (λ zs. token.Number r.0 ∷ zs) p.1
+number_taken (token.Mark k ∷ xs) r e = absurd cc
+number_taken (token.Word w ∷ xs) r e = absurd cc
+number_taken (token.LeftOut w ∷ xs) r e = absurd cc
+number_taken [] r e = absurd cc
 
 -- the mark that comes first
-pub mark_first_taken : (xs : List Token) (m : Mark) → mark_first xs ≡ Some m → xs ≡ token.Mark m ∷ behind xs
-unfolding mark_first behind
-mark_first_taken (token.Mark k ∷ xs) m e = ap (λ n. token.Mark n ∷ xs) cc
-mark_first_taken (token.Word w ∷ xs) m e = absurd cc
-mark_first_taken (token.Number n ∷ xs) m e = absurd cc
-mark_first_taken (token.LeftOut w ∷ xs) m e = absurd cc
-mark_first_taken [] m e = absurd cc
+pub peek_mark_taken : (xs : List Token) (m : Mark) → peek_mark xs ≡ Some m → xs ≡ token.Mark m ∷ advance xs
+unfolding peek_mark advance
+peek_mark_taken (token.Mark k ∷ xs) m e = ap (λ n. token.Mark n ∷ xs) cc
+peek_mark_taken (token.Word w ∷ xs) m e = absurd cc
+peek_mark_taken (token.Number n ∷ xs) m e = absurd cc
+peek_mark_taken (token.LeftOut w ∷ xs) m e = absurd cc
+peek_mark_taken [] m e = absurd cc

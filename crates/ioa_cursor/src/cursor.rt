@@ -1,4 +1,4 @@
-//! A place among the tokens of a text, and why they are not read further.
+//! The tokens of a text that are still to be read, and why they are not read further.
 
 ghost use Rattle.std.specs.Prelude.{◌≡◌, ◌⊎◌, IfErr, length, map};
 ghost use Rattle.ioa_cursor.specs.Outcome as outcome;
@@ -11,17 +11,17 @@ use ioa_values::Word;
 use std::alloc::{AllocError, AllocFailed, Global};
 use std::marker::Model;
 
-/// Why the tokens are not read further. Where is told by how many tokens were left there, and `offset_of`
-/// gives the place in the text. Source: profile.
+/// Why the tokens are not read further. A number counts the tokens that were left, from the one that is
+/// refused on; `offset_of` gives its offset in the text. Source: profile.
 #[derive(Debug, Drop)]
 pub enum Unread {
-    /// 12: no text has the token there, or the text ends too early, and then none was left.
+    /// 12: no text can go on with this token, or the text ends too early, and then no token was left.
     Unexpected(usize),
     /// 14: a tree is too high, or too many brackets are open.
     TooDeep(usize),
-    /// 16: this word, which the profile leaves out, stands there.
+    /// 16: this word comes next, which the profile leaves out.
     LeftOut(LeftOut, usize),
-    /// No memory was left.
+    /// 3: memory ran out.
     Memory,
 }
 
@@ -47,8 +47,8 @@ impl<T: Drop> From<AllocFailed<T>> for Unread {
     }
 }
 
-/// Where the token stands at which so many were left, itself among them: the place of that token among
-/// all tokens of a text, or the text's length in bytes where none was left.
+/// The offset of the token at which `left` tokens were left, itself among them, of all tokens of a text;
+/// `end`, the text's length in bytes, if none was left.
 pub fn offset_of(located: &[LocatedToken<'_>], left: usize, end: usize) -> usize
     ensures { result ≡ outcome.offset_of located.now left end }
 {
@@ -88,8 +88,8 @@ impl<'a> Tokens<'a> {
         self.rest.len()
     }
 
-    /// The refusal of what comes next, where no text has it there: 16 of a word that the profile
-    /// leaves out, else 12. Source: profile.
+    /// The refusal of the next token, with which no text can go on: `LeftOut` (16) if it is a word that
+    /// the profile leaves out, otherwise `Unexpected` (12). Source: profile.
     pub fn refusal(&self) -> Unread
         ensures { result ≡ outcome.refusal self.now }
     {
@@ -104,17 +104,29 @@ impl<'a> Tokens<'a> {
         }
     }
 
-    /// The refusal of a part that goes too deep, 14, at what comes next. Source: profile.
+    /// The refusal of a part that is too deep, at the next token: `TooDeep` (14). Source: profile.
     pub fn too_deep(&self) -> Unread
         ensures { result ≡ TooDeep (length self.now) }
     {
         Unread::TooDeep(self.rest.len())
     }
 
+    /// The refusal at the greatest depth. If a part begins here, it would be too deep: `TooDeep` (14).
+    /// Otherwise it is the refusal of the next token. Source: profile.
+    pub fn refusal_at_depth(&self, begins: bool) -> Unread
+        ensures { result ≡ outcome.refusal_at_depth begins self.now }
+    {
+        if begins {
+            self.too_deep()
+        } else {
+            self.refusal()
+        }
+    }
+
     /// The mark that comes next, if one does.
-    #[tactic(auto, unfolding(crate::specs::Reading::mark_first))]
+    #[tactic(auto, unfolding(crate::specs::Reading::peek_mark))]
     pub fn peek_mark(&self) -> Option<Mark>
-        ensures { result ≡ spec.mark_first self.now }
+        ensures { result ≡ spec.peek_mark self.now }
     {
         match self.rest {
             [first, ..] => match &first.token {
@@ -125,17 +137,17 @@ impl<'a> Tokens<'a> {
         }
     }
 
-    /// Takes the token that comes next, whatever it is.
-    #[tactic(auto, unfolding(crate::specs::Reading::behind))]
+    /// Goes past the next token, whatever it is.
+    #[tactic(auto, unfolding(crate::specs::Reading::advance))]
     pub fn advance(&mut self)
-        ensures { self.new ≡ spec.behind self.old }
+        ensures { self.new ≡ spec.advance self.old }
     {
         if let [_, rest @ ..] = self.rest {
             self.rest = rest;
         }
     }
 
-    /// Takes a mark, where it comes next.
+    /// Goes past a mark if it comes next, and returns whether it does.
     #[tactic(auto, unfolding(crate::specs::Reading::skip))]
     pub fn skip(&mut self, mark: Mark) -> bool
         ensures { (result, self.new) ≡ spec.skip mark self.old }
@@ -156,7 +168,7 @@ impl<'a> Tokens<'a> {
         }
     }
 
-    /// Takes a mark that has to come next. What else comes there is refused, as `refusal` says.
+    /// Goes past a mark that has to come next. Anything else is refused, as `refusal` says.
     #[tactic(auto, unfolding(crate::specs::Reading::expect), using(crate::proofs::Steps::skip_left))]
     pub fn expect(&mut self, mark: Mark) -> Result<(), Unread>
         ensures reads { Reads (λ u. u) (spec.expect mark self.old) result self.new }
@@ -171,8 +183,8 @@ impl<'a> Tokens<'a> {
         }
     }
 
-    /// Takes a word that has to come next. What else comes there is refused, as `refusal` says;
-    /// `Unread::Memory` where there is not memory enough for the word.
+    /// Reads a word that has to come next. Anything else is refused, as `refusal` says; `Memory` (3) if
+    /// memory runs out.
     #[tactic(auto, unfolding(crate::specs::Reading::word))]
     pub fn word(&mut self, alloc: Global) -> Result<Word, Unread>
         ensures reads { Reads (λ w. w) (spec.word self.old) result self.new }
@@ -192,10 +204,10 @@ impl<'a> Tokens<'a> {
         }
     }
 
-    /// Takes a number that has to come next. What else comes there is refused, as `refusal` says.
-    #[tactic(auto, unfolding(crate::specs::Reading::numeral))]
+    /// Reads a number that has to come next. Anything else is refused, as `refusal` says.
+    #[tactic(auto, unfolding(crate::specs::Reading::number))]
     pub fn number(&mut self) -> Result<i64, Unread>
-        ensures reads { Reads (λ n. n) (spec.numeral self.old) result self.new }
+        ensures reads { Reads (λ n. n) (spec.number self.old) result self.new }
         ensures refusal { IfErr result (λ e. e ≡ outcome.refusal self.old) }
         ensures kept { IfErr result (λ _. self.new ≡ self.old) }
     {
@@ -254,7 +266,8 @@ impl<'a> Tokens<'a> {
         }
     }
 
-    /// Whether a list of items that begin with a word goes on behind a mark; takes the mark.
+    /// Goes past a mark if it comes next, and returns whether a word comes behind it: the next item of a
+    /// list.
     #[tactic(auto, unfolding(crate::specs::Reading::resumes_with))]
     pub fn resumes_with_word(&mut self, mark: Mark) -> bool
         ensures { (result, self.new) ≡ spec.resumes_with mark spec.at_word self.old }
@@ -266,7 +279,8 @@ impl<'a> Tokens<'a> {
         }
     }
 
-    /// Whether a list of items that begin with `first` goes on behind a mark; takes the mark.
+    /// Goes past a mark if it comes next, and returns whether `first` comes behind it: the next item of a
+    /// list.
     #[tactic(auto, unfolding(crate::specs::Reading::resumes_with))]
     pub fn resumes_with(&mut self, mark: Mark, first: Mark) -> bool
         ensures { (result, self.new) ≡ spec.resumes_with mark (spec.at first) self.old }
@@ -278,7 +292,7 @@ impl<'a> Tokens<'a> {
         }
     }
 
-    /// Takes the end of the text. A token that is left is refused, as `refusal` says.
+    /// Reads the end of the text. A token that is left is refused, as `refusal` says.
     #[tactic(auto, unfolding(crate::specs::Reading::end))]
     pub fn end(&mut self) -> Result<(), Unread>
         ensures reads { Reads (λ u. u) (spec.end self.old) result self.new }
