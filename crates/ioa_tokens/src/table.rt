@@ -179,13 +179,9 @@ fn text_of<T: Copy + PartialEq>(table: &[(&'static str, T)], wanted: T) -> Optio
 pub(crate) fn mark_text(mark: Mark) -> &'static str
     ensures { result.now ≡ spec.mark_text mark }
 {
-    if let Some(text) = text_of(&SIGNS, mark) {
-        return text;
-    }
-    match text_of(&RESERVED, mark) {
-        Some(text) => text,
-        None => "",
-    }
+    text_of(&SIGNS, mark)
+        .or(text_of(&RESERVED, mark))
+        .unwrap_or("")
 }
 
 /// How a left-out word is written. Each has a row, so the empty text is never returned.
@@ -193,8 +189,5 @@ pub(crate) fn mark_text(mark: Mark) -> &'static str
 pub(crate) fn left_out_text(word: LeftOut) -> &'static str
     ensures { result.now ≡ spec.left_out_text word }
 {
-    match text_of(&LEFT_OUT, word) {
-        Some(text) => text,
-        None => "",
-    }
+    text_of(&LEFT_OUT, word).unwrap_or("")
 }
