@@ -6,7 +6,7 @@ use Rattle.ioa_tokens.specs.declared.mark.Mark.{Mark}
 use Rattle.ioa_tokens.specs.declared.mark.Mark.TheVariants as mark
 use Rattle.ioa_operators.specs.declared.operator.UnaryOperator.{UnaryOperator}
 use Rattle.ioa_source.specs.Sides.{SourceTerm, SourceTerms}
-use Rattle.ioa_cursor.specs.Reading.{skip, mark_first}
+use Rattle.ioa_cursor.specs.Reading.{skip, peek_mark}
 use Rattle.ioa_cursor.proofs.Steps.{stays}
 use Rattle.ioa_cursor.proofs.Follow.{skip_unlike}
 use Rattle.ioa_term_reader.specs.Grammar.{SpellsAt, numeral, yes, no, word, call, brackets, empty, braces, fields, field, key, before, between, tighter, SpellsTerms, single, followed, SpellsTerm}
@@ -61,8 +61,8 @@ pub term_begins : {room : ℕ} {t : SourceTerm} {xs ys : List Token} → SpellsT
 term_begins d = at_begins d.spelled
 
 -- where a term comes first, no other mark does
-pub not_mark_first : (m : Mark) → begins_term m ≡ false → (xs : List Token) → at_term xs ≡ true → mark_first xs ≢ Some m
-unfolding mark_first
+pub not_mark_first : (m : Mark) → begins_term m ≡ false → (xs : List Token) → at_term xs ≡ true → peek_mark xs ≢ Some m
+unfolding peek_mark
 not_mark_first m other (token.Mark k ∷ xs) e same = let like : k ≡ m = cc in true≢false (sym e ∙ (ap begins_term like ∙ other))
 not_mark_first m other (token.Word w ∷ xs) e same = absurd cc
 not_mark_first m other (token.Number n ∷ xs) e same = absurd cc

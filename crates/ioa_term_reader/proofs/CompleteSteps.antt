@@ -15,7 +15,7 @@ use Rattle.ioa_operators.specs.declared.shape.DisplayForm.TheVariants.{Braces, B
 use Rattle.ioa_terms.specs.PlainTerm as plain
 use Rattle.ioa_terms.specs.PlainTerm.{no_terms, terms_of}
 use Rattle.ioa_source.specs.Sides.{SourceTerm}
-use Rattle.ioa_cursor.specs.Reading.{bind, choose, skip, expect, word, numeral, at_number, at_word, mark_first, behind}
+use Rattle.ioa_cursor.specs.Reading.{bind, choose, skip, expect, word, number, at_number, at_word, peek_mark, advance}
 use Rattle.ioa_cursor.proofs.Steps.{stays, read_next}
 use Rattle.ioa_cursor.proofs.Follow.{skip_same}
 use Rattle.ioa_term_reader.specs.Heights.{height, height_limit}
@@ -52,7 +52,7 @@ after_infix mark.OpenSquare op e = absurd cc
 after_infix m op e = ap (option_map Infix) e
 
 pub accepted_next : (least most : ℕ) (m : Mark) (a : After) (xs : List Token) → after_of m ≡ Some a → least ≤ level_of a → left_of a ≤ most → accepted_after least most (token.Mark m ∷ xs) ≡ Some a
-unfolding accepted_after bind mark_first choose
+unfolding accepted_after bind peek_mark choose
 accepted_next least most m a xs e h k = rw e (rw (test_yes least (level_of a) h) (rw (test_yes (left_of a) most k) refl))
 
 accepted_looser : (least most : ℕ) (a : After) → level_of a < least → choose (nat_le least (level_of a) && nat_le (left_of a) most) (Some a) None ≡ None
@@ -66,7 +66,7 @@ stopped_after least most end None h ends = refl
 stopped_after least most end (Some a) h ends = accepted_looser least most a (ends a h)
 
 accepted_stops : (least most end : ℕ) (xs : List Token) → binds xs ≤ end → ((a : After) → left_of a ≤ end → level_of a < least) → accepted_after least most xs ≡ None
-unfolding accepted_after bind mark_first
+unfolding accepted_after bind peek_mark
 accepted_stops least most end (token.Mark m ∷ xs) h ends = let b = after_binds m in stopped_after least most end (after_of m) (omega arith) ends
 accepted_stops least most end (token.Word w ∷ xs) h ends = refl
 accepted_stops least most end (token.Number n ∷ xs) h ends = refl
@@ -80,7 +80,7 @@ same_after least most other None h k = refl
 same_after least most other (Some a) h k = rw (test_yes (left_of a) most h, test_yes (left_of a) other k) refl
 
 accepted_same : (least most other : ℕ) (xs : List Token) → binds xs ≤ most → binds xs ≤ other → accepted_after least most xs ≡ accepted_after least other xs
-unfolding accepted_after bind mark_first
+unfolding accepted_after bind peek_mark
 accepted_same least most other (token.Mark m ∷ xs) h k = let b = after_binds m in same_after least most other (after_of m) (omega arith) (omega arith)
 accepted_same least most other (token.Word w ∷ xs) h k = refl
 accepted_same least most other (token.Number n ∷ xs) h k = refl
@@ -111,7 +111,7 @@ module _ (next : ℕ → ℕ → List Token → Option (SourceTerm × List Token
 
   pub climb_more : (turns room least most : ℕ) (m : Mark) (a : After) (t u : SourceTerm) (xs ys : List Token) → accepted_after least most (token.Mark m ∷ xs) ≡ Some a →
       extended_term next room t a xs ≡ read_next u ys → climb next (suc turns) room least most t (token.Mark m ∷ xs) ≡ climb next turns room least (level_of a) u ys
-  unfolding climb bind behind
+  unfolding climb bind advance
   climb_more turns room least most m a t u xs ys e g = rw (e, climb) (rw g refl)
 
   pub grown_infix : (room : ℕ) (op : BinaryOperator) (t u : SourceTerm) (xs ys : List Token) → next room (right_level op) xs ≡ read_next u ys →
@@ -130,11 +130,11 @@ module _ (next : ℕ → ℕ → List Token → Option (SourceTerm × List Token
   grown_key room t u xs ys e h = rw (opens room, opened room) (rw e (rw (limited_low (plain.two At t u) h) refl))
 
   pub operand_number : (room least : ℕ) (n : ℤ) (xs : List Token) → operand next room least (token.Number n ∷ xs) ≡ term_at_level atom_level (plain.number n) xs
-  unfolding operand at_number numeral choose bind
+  unfolding operand at_number number choose bind
   operand_number room least n xs = refl
 
   operand_mark : (room least : ℕ) (m : Mark) (xs : List Token) → operand next room least (token.Mark m ∷ xs) ≡ marked_term next room least m xs
-  unfolding operand at_number at_word mark_first behind choose bind
+  unfolding operand at_number at_word peek_mark advance choose bind
   operand_mark room least m xs = refl
 
   pub operand_truth : (room least : ℕ) (xs : List Token) → operand next room least (token.Mark mark.True ∷ xs) ≡ term_at_level atom_level (plain.truth true) xs

@@ -11,7 +11,8 @@ use Rattle.ioa_operators.specs.declared.shape.DisplayForm.TheVariants.{Braces, B
 use Rattle.ioa_terms.specs.PlainTerm as plain
 use Rattle.ioa_terms.specs.PlainTerm.{no_terms, terms_of}
 use Rattle.ioa_source.specs.Sides.{SourceTerm, SourceTerms}
-use Rattle.ioa_cursor.specs.Reading.{bind, choose, same_mark, skip, collect}
+use Rattle.ioa_cursor.specs.Reading.{bind, choose, skip, collect}
+use Rattle.ioa_tokens.specs.Tables.{same_mark}
 use Rattle.ioa_cursor.proofs.Steps.{stays, read_next}
 use Rattle.ioa_cursor.proofs.Follow.{skip_same}
 use Rattle.ioa_term_reader.specs.Heights.{height, heights, height_limit}

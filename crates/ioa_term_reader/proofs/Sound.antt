@@ -17,8 +17,8 @@ use Rattle.ioa_terms.specs.PlainTerm.{terms_of}
 use Rattle.ioa_source.specs.Sides.{SourceTerm, SourceTerms}
 use Rattle.ioa_cursor.specs.Lists.{SeparatedBy}
 use Rattle.ioa_cursor.specs.Lists as lists
-use Rattle.ioa_cursor.specs.Reading.{choose, skip, behind}
-use Rattle.ioa_cursor.proofs.Steps.{read_next, choose_cases, bind_cases, skip_taken, skip_left, expected_taken, word_taken, numeral_taken, mark_first_taken}
+use Rattle.ioa_cursor.specs.Reading.{choose, skip, advance}
+use Rattle.ioa_cursor.proofs.Steps.{read_next, choose_cases, bind_cases, skip_taken, skip_left, expected_taken, word_taken, number_taken, peek_mark_taken}
 use Rattle.ioa_cursor.proofs.SoundLists.{separated_sound}
 use Rattle.ioa_term_reader.specs.Grammar as grammar
 use Rattle.ioa_term_reader.specs.Grammar.{SpellsAt, SpellsTerms, SpellsTerm}
@@ -166,16 +166,16 @@ module _ (next : ℕ → ℕ → List Token → Option (SourceTerm × List Token
         choose_cases P e
         (λ _ number_is.
         bind_cases P number_is (λ n n_is done.
-        rw (numeral_taken xs n n_is) (settled (Operand room least (token.Number n.0 ∷ n.1)) done ((grammar.numeral, omega arith), within))))
+        rw (number_taken xs n n_is) (settled (Operand room least (token.Number n.0 ∷ n.1)) done ((grammar.numeral, omega arith), within))))
         (λ _ other.
         choose_cases P other
         (λ _ word_is. bind_cases P word_is (λ w w_is rest. rw (word_taken xs w w_is) (worded_sound room w.0 w.1 o rest)))
-        (λ _ mark_is. bind_cases P mark_is (λ m m_is rest. rw (mark_first_taken xs m m_is) (marked_sound room m (behind xs) o rest))))
+        (λ _ mark_is. bind_cases P mark_is (λ m m_is rest. rw (peek_mark_taken xs m m_is) (marked_sound room m (advance xs) o rest))))
 
 -- how a term goes on, behind which mark and between which levels
 record Accepted (least most : ℕ) (xs : List Token) (a : After) : Type 0 where
   m : Mark
-  first : xs ≡ token.Mark m ∷ behind xs
+  first : xs ≡ token.Mark m ∷ advance xs
   goes_on : after_of m ≡ Some a
   above_least : least ≤ level_of a
   below_most : left_of a ≤ most
@@ -189,7 +189,7 @@ accepted_is least most xs a e =
     (λ fits done.
     let levels = and_parts (nat_le least (level_of b)) (nat_le (left_of b) most) fits in
     settled (Accepted least most xs) done
-    (record { m = m; first = mark_first_taken xs m m_is; goes_on = b_is; above_least = grind (arith, nat_tests); below_most = grind (arith, nat_tests) }))
+    (record { m = m; first = peek_mark_taken xs m m_is; goes_on = b_is; above_least = grind (arith, nat_tests); below_most = grind (arith, nat_tests) }))
     (λ _ none. absurd cc)))
 
 infix_mapped : (o : Option BinaryOperator) (op : BinaryOperator) → option_map Infix o ≡ Some (Infix op) → o ≡ Some op
@@ -263,7 +263,7 @@ module _ (next : ℕ → ℕ → List Token → Option (SourceTerm × List Token
       (λ a a_is more.
       let k = accepted_is least most xs a a_is in
       bind_cases (Good room least t start ys) more (λ s s_is rest.
-      let longer = grown_sound room left a k.m k.goes_on start (behind xs) s (rw k.first at (looser k.below_most d.0)) s_is in
+      let longer = grown_sound room left a k.m k.goes_on start (advance xs) s (rw k.first at (looser k.below_most d.0)) s_is in
       climb_sound turns room least (level_of a) s.0 start s.1 ys t longer k.above_least rest))
 
 -- what is read of a term at a level is spelled at it, and not too high

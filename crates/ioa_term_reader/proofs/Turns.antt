@@ -2,7 +2,7 @@
 use Rattle.std.proofs.Common.{◌≡◌, ℕ, suc, ◌+◌, ◌-◌, ◌<◌, ◌≤◌, List, Option, Some, None, refl, ap, ◌∙◌, arith}
 use Rattle.ioa_tokens.specs.declared.token.Token.{Token}
 use Rattle.ioa_source.specs.Sides.{SourceTerm}
-use Rattle.ioa_cursor.specs.Reading.{bind, behind}
+use Rattle.ioa_cursor.specs.Reading.{bind, advance}
 use Rattle.ioa_cursor.proofs.Lists.{left_less, none_left}
 use Rattle.ioa_cursor.proofs.Steps.{read_next}
 use Rattle.ioa_term_reader.specs.Reading.{accepted_after, extended_term, climb, level_of, operand, read}
@@ -27,24 +27,24 @@ module _ (next : ℕ → ℕ → List Token → Option (SourceTerm × List Token
       ]
 
   turn_is : (turns room least most : ℕ) (left : SourceTerm) (xs : List Token) →
-      climb next (suc turns) room least most left xs ≡ turned turns room least left xs (behind xs) (accepted_after least most xs)
+      climb next (suc turns) room least most left xs ≡ turned turns room least left xs (advance xs) (accepted_after least most xs)
   unfolding climb
   turn_is turns room least most left xs = refl
 
   at_turn : (turns turn room least most : ℕ) (left : SourceTerm) (xs ys : List Token) (o : Option After) → turn < turns →
-      o ≡ accepted_after least most xs → ys ≡ behind xs →
+      o ≡ accepted_after least most xs → ys ≡ advance xs →
       climb next (turns - turn) room least most left xs ≡ turned (turns - (turn + 1)) room least left xs ys o
   at_turn turns turn room least most left xs ys o h e b = rw (left_less turns turn h) (rw (e, b) (turn_is _ _ _ _ _ _))
 
   pub climb_more : (turns turn room least most : ℕ) (left t : SourceTerm) (xs ys zs : List Token) (a : After) → turn < turns →
-      Some a ≡ accepted_after least most xs → ys ≡ behind xs → extended_term next room left a ys ≡ read_next t zs →
+      Some a ≡ accepted_after least most xs → ys ≡ advance xs → extended_term next room left a ys ≡ read_next t zs →
       climb next (turns - turn) room least most left xs ≡ climb next (turns - (turn + 1)) room least (level_of a) t zs
   climb_more turns turn room least most left t xs ys zs a h e b g =
       at_turn turns turn room least most left xs ys (Some a) h e b
       ∙ bound_is g (λ s. climb next (turns - (turn + 1)) room least (level_of a) s.0 s.1)
 
   pub climb_none : (turns turn room least most : ℕ) (left : SourceTerm) (xs ys : List Token) (a : After) → turn < turns →
-      Some a ≡ accepted_after least most xs → ys ≡ behind xs → extended_term next room left a ys ≡ None →
+      Some a ≡ accepted_after least most xs → ys ≡ advance xs → extended_term next room left a ys ≡ None →
       climb next (turns - turn) room least most left xs ≡ None
   climb_none turns turn room least most left xs ys a h e b g =
       at_turn turns turn room least most left xs ys (Some a) h e b
@@ -52,7 +52,7 @@ module _ (next : ℕ → ℕ → List Token → Option (SourceTerm × List Token
 
   pub climb_done : (turns turn room least most : ℕ) (left : SourceTerm) (xs : List Token) → turn < turns →
       None ≡ accepted_after least most xs → climb next (turns - turn) room least most left xs ≡ read_next left xs
-  climb_done turns turn room least most left xs h e = at_turn turns turn room least most left xs (behind xs) None h e refl
+  climb_done turns turn room least most left xs h e = at_turn turns turn room least most left xs (advance xs) None h e refl
 
   pub climb_all : (turns turn room least most : ℕ) (left : SourceTerm) (xs : List Token) → turns ≤ turn →
       climb next (turns - turn) room least most left xs ≡ read_next left xs

@@ -12,7 +12,7 @@ use Rattle.ioa_operators.specs.declared.shape.DisplayForm.TheVariants.{Braces, B
 use Rattle.ioa_terms.specs.PlainTerm as plain
 use Rattle.ioa_terms.specs.PlainTerm.{no_terms, terms_of}
 use Rattle.ioa_source.specs.Sides.{SourceTerm}
-use Rattle.ioa_cursor.specs.Reading.{◌>>=◌, choose, skip, expect, word, numeral, at_number, at_word, mark_first, behind, several_more}
+use Rattle.ioa_cursor.specs.Reading.{◌>>=◌, choose, skip, expect, word, number, at_number, at_word, peek_mark, advance, several_more}
 use Rattle.ioa_term_reader.specs.Heights.{height, height_limit}
 use Rattle.ioa_term_reader.specs.Levels.{prefix_level, infix_of, level, left_level, right_level, postfix_level, atom_level}
 use Rattle.ioa_term_reader.specs.declared.after.After.{After}
@@ -50,7 +50,7 @@ left_of Key = postfix_level
 -- how a term of level `most` goes on, where no operator looser than `least` may stand
 unfoldable pub accepted_after : ℕ → ℕ → List Token → Option After
 accepted_after least most xs =
-    mark_first xs >>= λ m. after_of m >>= λ a. choose (nat_le least (level_of a) && nat_le (left_of a) most) (Some a) None
+    peek_mark xs >>= λ m. after_of m >>= λ a. choose (nat_le least (level_of a) && nat_le (left_of a) most) (Some a) None
 
 -- a term is read by what reads a part of it at a level, where so many brackets more may be opened
 module _ (next : ℕ → ℕ → List Token → Option (SourceTerm × List Token)) where
@@ -113,10 +113,10 @@ module _ (next : ℕ → ℕ → List Token → Option (SourceTerm × List Token
   unfoldable pub operand : ℕ → ℕ → List Token → Option TermAtLevel
   operand room least xs =
       choose (at_number xs)
-      (numeral xs >>= λ n. term_at_level atom_level (plain.number n.0) n.1)
+      (number xs >>= λ n. term_at_level atom_level (plain.number n.0) n.1)
       (choose (at_word xs)
       (word xs >>= λ w. word_term room w.0 w.1)
-      (mark_first xs >>= λ m. marked_term room least m (behind xs)))
+      (peek_mark xs >>= λ m. marked_term room least m (advance xs)))
 
   -- a term that goes on, behind the mark
   unfoldable pub extended_term : ℕ → SourceTerm → After → List Token → Option (SourceTerm × List Token)
@@ -132,7 +132,7 @@ module _ (next : ℕ → ℕ → List Token → Option (SourceTerm × List Token
   climb (suc turns) room least most left xs =
       elim (accepted_after least most xs) [
         | None ↦ Some (left, xs)
-        | Some a ↦ extended_term room left a (behind xs) >>= λ s. climb turns room least (level_of a) s.0 s.1
+        | Some a ↦ extended_term room left a (advance xs) >>= λ s. climb turns room least (level_of a) s.0 s.1
       ]
 
 -- a term of level `least` at the loosest; each part of it is read one deeper

@@ -5,7 +5,8 @@ use Rattle.ioa_tokens.specs.declared.token.Token.{Token}
 use Rattle.ioa_tokens.specs.declared.token.Token.TheVariants as token
 use Rattle.ioa_tokens.specs.declared.mark.Mark.{Mark}
 use Rattle.ioa_tokens.specs.declared.mark.Mark.TheVariants as mark
-use Rattle.ioa_cursor.specs.Reading.{bind, same_mark, skip, at, at_word, mark_first}
+use Rattle.ioa_cursor.specs.Reading.{bind, skip, at, at_word, peek_mark}
+use Rattle.ioa_tokens.specs.Tables.{same_mark}
 use Rattle.ioa_cursor.proofs.Steps.{stays, same_mark_true}
 use Rattle.ioa_cursor.proofs.Follow.{skip_other}
 use Rattle.ioa_term_reader.proofs.Closing.{mark_binds, Closes}
@@ -87,14 +88,14 @@ unfolding begins_statement
 begins_statement_below xs h = rw (at_word_below xs h, at_below mark.If xs h) refl
 
 mark_no_kind : (m : Mark) (xs : List Token) → mark_level m < 8 → at_kind (token.Mark m ∷ xs) ≡ false
-unfolding at_kind kind_first mark_first bind
+unfolding at_kind kind_first peek_mark bind
 mark_no_kind mark.Input xs h = absurd (omega arith)
 mark_no_kind mark.Output xs h = absurd (omega arith)
 mark_no_kind mark.Internal xs h = absurd (omega arith)
 mark_no_kind _ xs h = refl
 
 pub at_kind_below : (xs : List Token) → level xs < 8 → at_kind xs ≡ false
-unfolding at_kind kind_first mark_first bind
+unfolding at_kind kind_first peek_mark bind
 at_kind_below (token.Mark m ∷ xs) h = mark_no_kind m xs h
 at_kind_below (token.Word w ∷ xs) h = refl
 at_kind_below (token.Number n ∷ xs) h = refl

@@ -6,7 +6,7 @@ use Rattle.ioa_tokens.specs.declared.mark.Mark.TheVariants as mark
 use Rattle.ioa_terms.specs.declared.tree.Kind.{Kind}
 use Rattle.ioa_source.specs.Sides.{SourceTerm as Term, SourceParameter as Parameter, SourceEntry as Entry}
 use Rattle.ioa_cursor.specs.Lists.{SeparatedBy, SeparatedOrEndedBy, Optional, ListsSeparatedBy, SeveralLists, Section}
-use Rattle.ioa_cursor.specs.Reading.{bind, choose, skip, expect, word, at, at_word, mark_first, behind}
+use Rattle.ioa_cursor.specs.Reading.{bind, choose, skip, expect, word, at, at_word, peek_mark, advance}
 use Rattle.ioa_cursor.proofs.Steps.{read_next, stays}
 use Rattle.ioa_cursor.proofs.Follow.{at_unlike, skip_same, skip_other, separated_starts, optional_starts}
 use Rattle.ioa_cursor.proofs.CompleteLists.{separated_complete, ended_complete, gathered_several_complete, section_complete, optional_complete}
@@ -91,13 +91,13 @@ call_complete _ _ ys (grammar.called {w = w} {ts = ts} {xs = xs} d) h = call_rea
 -- kinds
 
 pub kind_complete : (k : Kind) (xs ys : List Token) → SpellsKind k xs ys → reading.kind xs ≡ read_next k ys
-unfolding reading.kind kind_first mark_first behind bind
+unfolding reading.kind kind_first peek_mark advance bind
 kind_complete _ _ _ grammar.input = refl
 kind_complete _ _ _ grammar.output = refl
 kind_complete _ _ _ grammar.internal = refl
 
 pub kind_begins : (k : Kind) (xs ys : List Token) → SpellsKind k xs ys → at_kind xs ≡ true
-unfolding at_kind kind_first mark_first bind
+unfolding at_kind kind_first peek_mark bind
 kind_begins _ _ _ grammar.input = refl
 kind_begins _ _ _ grammar.output = refl
 kind_begins _ _ _ grammar.internal = refl

@@ -7,7 +7,7 @@ use Rattle.ioa_source.specs.PlainSort.{PlainSort, booleans, integers, naturals, 
 use Rattle.ioa_source.specs.PlainText.{const, named}
 use Rattle.ioa_source.specs.Sides.{SourceTerm as Term, SourceDeclared as Declared, SourceParameter as Parameter}
 use Rattle.ioa_cursor.specs.Lists.{SeparatedBy, ListsSeparatedBy}
-use Rattle.ioa_cursor.specs.Reading.{bind, choose, skip, expect, word, at, at_word, mark_first, behind}
+use Rattle.ioa_cursor.specs.Reading.{bind, choose, skip, expect, word, at, at_word, peek_mark, advance}
 use Rattle.ioa_cursor.proofs.Steps.{read_next, stays}
 use Rattle.ioa_cursor.proofs.Follow.{skip_other, separated_starts, gathered_starts}
 use Rattle.ioa_cursor.proofs.CompleteLists.{separated_complete, gathered_complete}
@@ -29,16 +29,16 @@ module _ (next : List Token → Option (PlainSort × List Token)) where
   item_read s xs ys e = rw e refl
 
   seq_read : (s : PlainSort) (xs ys : List Token) → reading.item_sort next xs ≡ read_next s ys → reading.sort_by next (token.Mark mark.Seq ∷ xs) ≡ read_next (sequences s) ys
-  unfolding reading.marked_sort at_word mark_first behind bind choose
+  unfolding reading.marked_sort at_word peek_mark advance bind choose
   seq_read s xs ys e = rw e refl
 
   set_read : (s : PlainSort) (xs ys : List Token) → reading.item_sort next xs ≡ read_next s ys → reading.sort_by next (token.Mark mark.Set ∷ xs) ≡ read_next (sets s) ys
-  unfolding reading.marked_sort at_word mark_first behind bind choose
+  unfolding reading.marked_sort at_word peek_mark advance bind choose
   set_read s xs ys e = rw e refl
 
   map_read : (k v : PlainSort) (xs ys zs : List Token) → next xs ≡ read_next k (token.Mark mark.Comma ∷ ys) → next ys ≡ read_next v (token.Mark mark.CloseSquare ∷ zs) →
       reading.sort_by next (token.Mark mark.Map ∷ token.Mark mark.OpenSquare ∷ xs) ≡ read_next (maps k v) zs
-  unfolding reading.marked_sort reading.map_sort at_word mark_first behind expect skip bind choose
+  unfolding reading.marked_sort reading.map_sort at_word peek_mark advance expect skip bind choose
   map_read k v xs ys zs e f = rw e (rw f refl)
 
 sort_is : (room : ℕ) (xs : List Token) → reading.sort room xs ≡ reading.sort_by (reading.sort_in room) xs
@@ -46,15 +46,15 @@ unfolding reading.sort_in
 sort_is room xs = refl
 
 bool_read : (room : ℕ) (xs : List Token) → reading.sort room (token.Mark mark.Bool ∷ xs) ≡ read_next booleans xs
-unfolding reading.sort_in reading.marked_sort at_word mark_first behind bind choose
+unfolding reading.sort_in reading.marked_sort at_word peek_mark advance bind choose
 bool_read room xs = refl
 
 int_read : (room : ℕ) (xs : List Token) → reading.sort room (token.Mark mark.Int ∷ xs) ≡ read_next integers xs
-unfolding reading.sort_in reading.marked_sort at_word mark_first behind bind choose
+unfolding reading.sort_in reading.marked_sort at_word peek_mark advance bind choose
 int_read room xs = refl
 
 nat_read : (room : ℕ) (xs : List Token) → reading.sort room (token.Mark mark.Nat ∷ xs) ≡ read_next naturals xs
-unfolding reading.sort_in reading.marked_sort at_word mark_first behind bind choose
+unfolding reading.sort_in reading.marked_sort at_word peek_mark advance bind choose
 nat_read room xs = refl
 
 named_read : (room : ℕ) (w : List ℕ) (xs : List Token) → reading.sort room (token.Word w ∷ xs) ≡ read_next (named_type w) xs

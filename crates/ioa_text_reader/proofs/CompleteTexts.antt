@@ -9,7 +9,7 @@ use Rattle.ioa_source.specs.PlainSort.{PlainSort}
 use Rattle.ioa_source.specs.PlainText as declarations
 use Rattle.ioa_source.specs.Sides.{SourceTerm as Term, SourceStatement as Statement, SourceDeclared as Declared, SourceEntry as Entry, SourceVariable as Variable, SourceTransition as Transition, SourceForm as Form, SourceType as TypeOf, SourceAutomaton as Automaton, SourceDeclaration as Declaration, SourceNode as Node, SourcePlacement as Placement, SourceText}
 use Rattle.ioa_cursor.specs.Lists.{Several, SeparatedBy, SeparatedOrEndedBy, Section, Optional, SeveralLists}
-use Rattle.ioa_cursor.specs.Reading.{bind, choose, skip, expect, word, numeral, at, mark_first, end}
+use Rattle.ioa_cursor.specs.Reading.{bind, choose, skip, expect, word, number, at, peek_mark, end}
 use Rattle.ioa_cursor.proofs.Steps.{read_next, stays}
 use Rattle.ioa_cursor.proofs.Follow.{skip_same, skip_other, ended_starts, optional_starts, section_starts}
 use Rattle.ioa_cursor.proofs.CompleteLists.{several_complete, separated_complete, ended_complete, section_complete, optional_complete}
@@ -125,7 +125,7 @@ unfolding reading.firing expect skip bind choose
 kind_firing_read k c xs ys zs e f g = rw e (rw f (rw g refl))
 
 call_no_kind : (c : Call) (xs ys : List Token) → SpellsCall c xs ys → at_kind xs ≡ false
-unfolding at_kind kind_first mark_first bind
+unfolding at_kind kind_first peek_mark bind
 call_no_kind _ _ _ (grammar.called d) = refl
 
 firing_complete : (x : Statement) (xs ys : List Token) → SpellsFire x xs ys → level ys < 14 → reading.firing xs ≡ read_next x ys
@@ -244,12 +244,12 @@ declared_complete ds xs ys d h =
 
 node_read : (n : ℤ) (c : Call) (xs ys : List Token) → reading.call xs ≡ read_next c ys →
     reading.placement (token.Mark mark.Node ∷ token.Number n ∷ token.Mark mark.Colon ∷ xs) ≡ read_next (declarations.node (node_with n c)) ys
-unfolding reading.placement reading.node numeral expect skip bind choose
+unfolding reading.placement reading.node number expect skip bind choose
 node_read n c xs ys e = rw e refl
 
 channel_read : (i j : ℤ) (xs : List Token) → reading.placement (token.Mark mark.Channel ∷ token.Number i ∷ token.Mark mark.Arrow ∷ token.Number j ∷ xs)
     ≡ read_next (declarations.channel (record { from = i; to = j })) xs
-unfolding reading.placement numeral expect skip bind choose
+unfolding reading.placement number expect skip bind choose
 channel_read i j xs = refl
 
 placement_complete : (x : Placement) (xs ys : List Token) → SpellsPlacement x xs ys → level ys < 14 → reading.placement xs ≡ read_next x ys

@@ -9,8 +9,8 @@ use Rattle.ioa_terms.specs.declared.tree.Kind.{Kind}
 use Rattle.ioa_terms.specs.declared.tree.Kind.TheVariants as kinds
 use Rattle.ioa_source.specs.Sides.{SourceTerm as Term, SourceEntry as Entry, SourceVariable as Variable}
 use Rattle.ioa_cursor.specs.Lists.{SeparatedBy, Section, Optional, SeveralLists}
-use Rattle.ioa_cursor.specs.Reading.{behind, at_word}
-use Rattle.ioa_cursor.proofs.Steps.{read_next, bind_cases, expected_taken, word_taken, mark_first_taken}
+use Rattle.ioa_cursor.specs.Reading.{advance, at_word}
+use Rattle.ioa_cursor.proofs.Steps.{read_next, bind_cases, expected_taken, word_taken, peek_mark_taken}
 use Rattle.ioa_cursor.proofs.SoundLists.{separated_sound, ended_sound, section_sound, optional_sound, gathered_several_sound}
 use Rattle.ioa_term_reader.specs.Grammar.{SpellsTerm, bracket_limit}
 use Rattle.ioa_term_reader.specs.Reading.{term}
@@ -33,7 +33,7 @@ kind_sound xs ys k e =
     let P : Type 0 = SpellsKind k xs ys in
     bind_cases P e (λ j j_is done. bind_cases P j_is (λ m m_is kind_is.
     let p = some_pair_parts _ _ _ _ done in
-    rw (mark_first_taken xs m m_is, ← p.0, ← p.1) (kind_of_mark m j (behind xs) kind_is)))
+    rw (peek_mark_taken xs m m_is, ← p.0, ← p.1) (kind_of_mark m j (advance xs) kind_is)))
 
 condition_sound : (xs ys : List Token) (c : Option Term) → reading.condition xs ≡ read_next c ys → Optional mark.Where (SpellsTerm bracket_limit) c xs ys
 unfolding reading.condition

@@ -6,8 +6,8 @@ use Rattle.ioa_tokens.specs.declared.token.Token.TheVariants as token
 use Rattle.ioa_tokens.specs.declared.mark.Mark.{Mark}
 use Rattle.ioa_tokens.specs.declared.mark.Mark.TheVariants as mark
 use Rattle.ioa_source.specs.PlainSort.{PlainSort, sequences, sets, maps}
-use Rattle.ioa_cursor.specs.Reading.{behind}
-use Rattle.ioa_cursor.proofs.Steps.{read_next, choose_cases, bind_cases, expected_taken, word_taken, mark_first_taken}
+use Rattle.ioa_cursor.specs.Reading.{advance}
+use Rattle.ioa_cursor.proofs.Steps.{read_next, choose_cases, bind_cases, expected_taken, word_taken, peek_mark_taken}
 use Rattle.ioa_text_reader.specs.Grammar as grammar
 use Rattle.ioa_text_reader.specs.Grammar.{SpellsSort}
 use Rattle.ioa_text_reader.specs.Reading as reading
@@ -86,7 +86,7 @@ module _ (room : ℕ) (next : List Token → Option (PlainSort × List Token))
       let p = some_pair_parts _ _ _ _ done in
       rw (word_taken xs w w_is, ← p.0, ← p.1) grammar.named_by))
       (λ _ marked.
-      bind_cases P marked (λ m m_is more. rw (mark_first_taken xs m m_is) (marked_sound m (behind xs) ys s more)))
+      bind_cases P marked (λ m m_is more. rw (peek_mark_taken xs m m_is) (marked_sound m (advance xs) ys s more)))
 
 sort_in_sound : (depth : ℕ) (xs ys : List Token) (s : PlainSort) → reading.sort_in depth xs ≡ read_next s ys → Within depth s xs ys
 unfolding reading.sort_in

@@ -8,7 +8,7 @@ use Rattle.ioa_source.specs.PlainText.{type_named, automaton, node}
 use Rattle.ioa_source.specs.Sides.{SourceTerm as Term, SourceStatement as Statement, SourceDeclared as Declared, SourceTransition as Transition, SourceForm as Form, SourceType as TypeOf, SourceAutomaton as Automaton, SourceDeclaration as Declaration, SourceNode as Node, SourcePlacement as Placement, SourceText}
 use Rattle.ioa_cursor.specs.Lists.{Several, SeparatedOrEndedBy, Section, Optional}
 use Rattle.ioa_cursor.specs.Reading.{skip, at, end}
-use Rattle.ioa_cursor.proofs.Steps.{read_next, choose_cases, bind_cases, skip_taken, skip_left, expected_taken, word_taken, numeral_taken}
+use Rattle.ioa_cursor.proofs.Steps.{read_next, choose_cases, bind_cases, skip_taken, skip_left, expected_taken, word_taken, number_taken}
 use Rattle.ioa_cursor.proofs.SoundLists.{several_sound, ended_sound, section_sound, optional_sound}
 use Rattle.ioa_term_reader.specs.Grammar.{SpellsTerm, bracket_limit}
 use Rattle.ioa_text_reader.specs.Grammar as grammar
@@ -175,7 +175,7 @@ node_sound xs ys x e =
     let P : Type 0 = SpellsPlacement (node x) (token.Mark mark.Node ∷ xs) ys in
     bind_cases P e (λ n n_is e1. bind_cases P e1 (λ c c_is e2. bind_cases P e2 (λ a a_is done.
     let p = some_pair_parts _ _ _ _ done in
-    rw (numeral_taken xs n n_is, expected_taken mark.Colon n.1 c c_is, ← p.0, ← p.1) (grammar.node (call_sound c.1 a.1 a.0 a_is)))))
+    rw (number_taken xs n n_is, expected_taken mark.Colon n.1 c c_is, ← p.0, ← p.1) (grammar.node (call_sound c.1 a.1 a.0 a_is)))))
 
 placement_sound : (xs ys : List Token) (x : Placement) → reading.placement xs ≡ read_next x ys → SpellsPlacement x xs ys
 unfolding reading.placement
@@ -189,7 +189,7 @@ placement_sound xs ys x e =
     (λ no_node more.
     bind_cases P more (λ c c_is e1. bind_cases P e1 (λ i i_is e2. bind_cases P e2 (λ a a_is e3. bind_cases P e3 (λ j j_is done.
     let p = some_pair_parts _ _ _ _ done in
-    rw (← skip_left mark.Node xs no_node, expected_taken mark.Channel _ c c_is, numeral_taken c.1 i i_is, expected_taken mark.Arrow i.1 a a_is, numeral_taken a.1 j j_is, ← p.0, ← p.1)
+    rw (← skip_left mark.Node xs no_node, expected_taken mark.Channel _ c c_is, number_taken c.1 i i_is, expected_taken mark.Arrow i.1 a a_is, number_taken a.1 j j_is, ← p.0, ← p.1)
     grammar.channel)))))
 
 placed_sound : (xs ys : List Token) (all : List Placement) → reading.all_placements xs ≡ read_next all ys → Several SpellsPlacement all xs ys

@@ -17,8 +17,8 @@ use Rattle.ioa_source.specs.Sides.{SourceParameter as Parameter, SourceEntry as 
 use Rattle.ioa_source.specs.Sides.{SourceTransition as Transition, SourceForm as Form, SourceType as TypeOf}
 use Rattle.ioa_source.specs.Sides.{SourceAutomaton as Automaton, SourceDeclaration as Declaration}
 use Rattle.ioa_source.specs.Sides.{SourceNode as Node, SourcePlacement as Placement, SourceText}
-use Rattle.ioa_cursor.specs.Reading.{◌>>=◌, choose, skip, expect, word, numeral, end}
-use Rattle.ioa_cursor.specs.Reading.{at, at_word, mark_first, behind, begins_with, resumes_with}
+use Rattle.ioa_cursor.specs.Reading.{◌>>=◌, choose, skip, expect, word, number, end}
+use Rattle.ioa_cursor.specs.Reading.{at, at_word, peek_mark, advance, begins_with, resumes_with}
 use Rattle.ioa_cursor.specs.Reading.{several, several_more, section, optional, several_lists, several_more_lists}
 use Rattle.ioa_term_reader.specs.Heights.{height_limit}
 use Rattle.ioa_term_reader.specs.Grammar.{bracket_limit}
@@ -53,7 +53,7 @@ module _ (next : List Token → Option (PlainSort × List Token)) where
   sort_by xs =
       choose (at_word xs)
       (word xs >>= λ w. Some (named_type w.0, w.1))
-      (mark_first xs >>= λ m. marked_sort m (behind xs))
+      (peek_mark xs >>= λ m. marked_sort m (advance xs))
 
 -- Sort, whose brackets are fewer than `depth` deep
 unfoldable pub sort_in : ℕ → List Token → Option (PlainSort × List Token)
@@ -120,7 +120,7 @@ kind_of _ = None
 
 -- the kind that comes first, if one does
 unfoldable pub kind_first : List Token → Option Kind
-kind_first xs = mark_first xs >>= λ m. kind_of m
+kind_first xs = peek_mark xs >>= λ m. kind_of m
 
 -- whether a kind comes first
 unfoldable pub at_kind : List Token → Bool
@@ -128,7 +128,7 @@ at_kind xs = elim (kind_first xs) [ None ↦ false | Some k ↦ true ]
 
 -- input, output or internal
 unfoldable pub kind : List Token → Option (Kind × List Token)
-kind xs = kind_first xs >>= λ k. Some (k, behind xs)
+kind xs = kind_first xs >>= λ k. Some (k, advance xs)
 
 -- [ ( [Param {, Param}] ) ]
 unfoldable pub entry_parameters : List Token → Option (List Parameter × List Token)
@@ -356,7 +356,7 @@ at_placement xs = if at mark.Node xs then true else at mark.Channel xs
 -- Number : Call, after the first word
 unfoldable pub node : List Token → Option (Node × List Token)
 node xs =
-    numeral xs >>= λ n. expect mark.Colon n.1 >>= λ c. call c.1 >>= λ a.
+    number xs >>= λ n. expect mark.Colon n.1 >>= λ c. call c.1 >>= λ a.
     Some (record { number = n.0; automaton = a.0.name; arguments = a.0.arguments }, a.1)
 
 -- node Number : Call, or channel Number -> Number
@@ -364,8 +364,8 @@ unfoldable pub placement : List Token → Option (Placement × List Token)
 placement xs =
     choose (skip mark.Node xs).0
     (node (skip mark.Node xs).1 >>= λ n. Some (declarations.node n.0, n.1))
-    (expect mark.Channel (skip mark.Node xs).1 >>= λ c. numeral c.1 >>= λ i.
-    expect mark.Arrow i.1 >>= λ a. numeral a.1 >>= λ j.
+    (expect mark.Channel (skip mark.Node xs).1 >>= λ c. number c.1 >>= λ i.
+    expect mark.Arrow i.1 >>= λ a. number a.1 >>= λ j.
     Some (declarations.channel (record { from = i.0; to = j.0 }), j.1))
 
 -- {Placement}
