@@ -1,4 +1,4 @@
--- A list is read as it is spelled, where its items are. `Follows ys` is what the reading of an item needs of
+-- A list is read as it is spelled, if its items are. `Follows ys` is what the reading of an item needs of
 -- the tokens `ys` that come after it.
 use Rattle.std.proofs.Common.{◌≡◌, inl, inr, ℕ, zero, suc, ◌<◌, ◌≤◌, Bool, true, false, List, [], ◌∷◌, ◌++◌, length, Option, refl, sym, ap, ◌∙◌, arith}
 use Rattle.std.proofs.lemmas.List.{append_assoc, append-nil}
@@ -17,7 +17,7 @@ pub record Taken {A : Type 0} (next : List Token → Bool × List Token) (read :
   pub goes : next xs ≡ stays true rest
   pub is : read rest ≡ read_next a ys
 
--- nothing is taken of no tokens
+-- nothing is read of no tokens
 stopped : (next : List Token → Bool × List Token) → (next []).1 ≡ [] → (ys : List Token) → next [] ≡ stays false ys → [] ≡ ys
 stopped next at_end ys e = sym at_end ∙ ap (λ p. p.1) e
 

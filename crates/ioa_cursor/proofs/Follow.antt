@@ -1,5 +1,5 @@
 -- What may follow a part of a text: a list begins as its first item begins, and a mark that does not come
--- first is not taken.
+-- first is not read.
 use Rattle.std.proofs.Common.{◌≡◌, ◌≢◌, Bool, true, false, List, [], ◌∷◌, Option, Some, refl, ap}
 use Rattle.ioa_tokens.specs.declared.token.Token.{Token}
 use Rattle.ioa_tokens.specs.declared.token.Token.TheVariants as token
@@ -9,12 +9,12 @@ use Rattle.ioa_cursor.specs.Reading.{skip, at, peek_mark}
 use Rattle.ioa_tokens.specs.Tables.{same_mark}
 use Rattle.ioa_cursor.proofs.Steps.{stays, same_mark_true, same_mark_self}
 
--- a mark is skipped where it comes first
+-- a mark is skipped if it comes first
 pub skip_same : (m : Mark) (xs : List Token) → skip m (token.Mark m ∷ xs) ≡ stays true xs
 unfolding skip
 skip_same m xs = rw (same_mark_self m) refl
 
--- a mark that does not come first is not taken
+-- a mark that does not come first is not skipped
 pub skip_other : (m : Mark) (xs : List Token) → at m xs ≡ false → skip m xs ≡ stays false xs
 unfolding skip at
 skip_other m (token.Mark k ∷ xs) e = rw e refl
@@ -27,7 +27,7 @@ unlike : (b : Bool) (k m : Mark) → (b ≡ true → k ≡ m) → Some k ≢ Som
 unlike true k m same other = absurd (other (ap Some (same refl)))
 unlike false k m same other = refl
 
--- where another mark comes first, or none, this one does not
+-- if another mark comes first, or none, this one does not
 pub at_unlike : (m : Mark) (xs : List Token) → peek_mark xs ≢ Some m → at m xs ≡ false
 unfolding at peek_mark
 at_unlike m (token.Mark k ∷ xs) other = unlike (same_mark k m) k m (same_mark_true k m) other
@@ -36,7 +36,7 @@ at_unlike m (token.Number n ∷ xs) other = refl
 at_unlike m (token.LeftOut w ∷ xs) other = refl
 at_unlike m [] other = refl
 
--- the same, of a mark that is to be taken
+-- the same, of a mark that is to be skipped
 pub skip_unlike : (m : Mark) (xs : List Token) → peek_mark xs ≢ Some m → skip m xs ≡ stays false xs
 skip_unlike m xs other = skip_other m xs (at_unlike m xs other)
 

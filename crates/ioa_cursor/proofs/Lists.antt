@@ -1,4 +1,4 @@
--- A list that is read item by item: one turn more, the end, and no item where one has to come.
+-- A list that is read item by item: one turn more, the end, and no item if one has to come.
 use Rattle.std.proofs.Common.{◌≡◌, ℕ, zero, suc, ◌+◌, ◌-◌, ◌<◌, ◌≤◌, Bool, true, false, List, [], ◌∷◌, ◌++◌, Option, None, refl, sym, ap, arith}
 use Rattle.ioa_tokens.specs.declared.token.Token.{Token}
 use Rattle.ioa_cursor.specs.Reading.{collect, collect_lists, begins_with, bind, choose}
@@ -32,7 +32,7 @@ module _ {A : Type 0} (next : List Token → Bool × List Token) (read : List To
   unfolding collect bind choose
   collected_all turns turn done xs h = rw (none_left turns turn h) refl
 
--- the same where each item gives a list
+-- the same if each item is a list
 module _ {A : Type 0} (next : List Token → Bool × List Token) (read : List Token → Option (List A × List Token)) where
   pub gathered_turn : (turns turn : ℕ) (done items : List A) (xs ys zs : List Token) → turn < turns →
       next xs ≡ stays true ys → read ys ≡ read_next items zs →
@@ -55,6 +55,6 @@ module _ {A : Type 0} (next : List Token → Bool × List Token) (read : List To
   unfolding collect_lists bind choose
   gathered_all turns turn done xs h = rw (none_left turns turn h) refl
 
--- a list goes on where its items begin so
+-- a list goes on if its items begin so
 pub begun_is : (begins : List Token → Bool) (xs : List Token) (b : Bool) → b ≡ begins xs → begins_with begins xs ≡ stays b xs
 begun_is begins xs b e = ap (λ a. stays a xs) (sym e)

@@ -1,4 +1,4 @@
--- What is read of a list is spelled, where what is read of its items is.
+-- What is read of a list is spelled, if what is read of its items is.
 use Rattle.std.proofs.Common.{◌≡◌, ◌⊎◌, inl, inr, ℕ, zero, suc, Bool, true, false, List, [], ◌∷◌, ◌++◌, length, Option, if◌then◌else◌, refl, sym, ◌∙◌}
 use Rattle.std.proofs.lemmas.Option.{some_pair_parts}
 use Rattle.std.proofs.lemmas.List.{append_assoc, append-nil}
@@ -75,7 +75,7 @@ module _ {A : Type 0} (Y : List A → List Token → List Token → Type 0) (E :
       let p = some_pair_parts _ _ _ _ done_is in
       rw (← p.0, ← p.1) (record { more = []; same = sym (append-nil done); stop = xs; spelled = no_group; ended = stops xs no }))
 
--- a list that ends where its last item does
+-- a list that ends as its last item does
 abbrev pub Plain : List Token → List Token → Type 0
 Plain xs ys = xs ≡ ys
 

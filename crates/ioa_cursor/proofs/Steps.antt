@@ -56,7 +56,7 @@ skip_taken m (token.Number n ∷ xs) e = absurd cc
 skip_taken m (token.LeftOut w ∷ xs) e = absurd cc
 skip_taken m [] e = absurd cc
 
--- where no mark is skipped, nothing is
+-- if no mark is skipped, nothing is
 pub skip_left : (m : Mark) (xs : List Token) → (skip m xs).0 ≡ false → (skip m xs).1 ≡ xs
 unfolding skip
 skip_left m (token.Mark k ∷ xs) e = left (same_mark k m) k xs e
@@ -70,12 +70,12 @@ expected_if : (b : Bool) (m : Mark) (xs ys : List Token) (r : Unit {0} × List T
 expected_if true m xs ys r f e = f refl ∙ ap (λ zs. token.Mark m ∷ zs) (some_pair_parts _ _ _ _ e).1
 expected_if false m xs ys r f e = absurd cc
 
--- a mark that is taken came first
+-- a mark that is read came first
 pub expected_taken : (m : Mark) (xs : List Token) (r : Unit {0} × List Token) → expect m xs ≡ Some r → xs ≡ token.Mark m ∷ r.1
 unfolding expect
 expected_taken m xs r e = expected_if (skip m xs).0 m xs (skip m xs).1 r (skip_taken m xs) e
 
--- a word that is taken came first
+-- a word that is read came first
 pub word_taken : (xs : List Token) (r : List ℕ × List Token) → word xs ≡ Some r → xs ≡ token.Word r.0 ∷ r.1
 unfolding word
 word_taken (token.Word w ∷ xs) r e = let p = some_pair_parts _ _ _ _ e in ap (λ v. token.Word v ∷ xs) p.0 ∙ ap (λ zs. token.Word r.0 ∷ zs) p.1
@@ -84,7 +84,7 @@ word_taken (token.Number n ∷ xs) r e = absurd cc
 word_taken (token.LeftOut w ∷ xs) r e = absurd cc
 word_taken [] r e = absurd cc
 
--- a number that is taken came first
+-- a number that is read came first
 pub number_taken : (xs : List Token) (r : ℤ × List Token) → number xs ≡ Some r → xs ≡ token.Number r.0 ∷ r.1
 unfolding number
 number_taken (token.Number n ∷ xs) r e = let p = some_pair_parts _ _ _ _ e in ap (λ v. token.Number v ∷ xs) p.0 ∙ ap (λ zs. token.Number r.0 ∷ zs) p.1

@@ -1,11 +1,11 @@
-//! Where a refusal stands, and what is read of a line.
+//! The offsets of refusals, and what is read of a line.
 
 use ioa_cursor::{Tokens, Unread, offset_of};
 use ioa_tokens::{LocatedToken, Mark, tokens};
 use std::alloc::{AllocError, Global};
 use std::test::Fail;
 
-/// A text, and the refusals of each of its tokens and of its end: the number and the place.
+/// A text, and the refusals of each of its tokens and of its end: the number and the offset.
 static ROWS: [(&str, &str); 6] = [
     ("", "12@0 14@0 "),
     ("% nothing", "12@9 14@9 "),
@@ -18,7 +18,7 @@ static ROWS: [(&str, &str); 6] = [
     ("so\tfi", "16@0 14@0 12@3 14@3 12@5 14@5 "),
 ];
 
-/// A refusal in short, with its place in a text of these tokens that ends there.
+/// Writes a refusal in short: its number, and its offset in a text of these tokens with this end.
 fn put(
     refusal: &Unread,
     found: &[LocatedToken<'_>],
@@ -63,7 +63,7 @@ fn refusals_name_the_next_token(rt: HostRuntime) -> Result<(), Fail> {
     Ok(())
 }
 
-/// What is left of a line is read to its end: `node` Number `:` Word {`,` Word} [`,`] `fire`
+/// Reads what is left of a line to its end: `node` Number `:` Word {`,` Word} [`,`] `fire`
 fn line(alloc: Global, left: &mut Tokens<'_>) -> Result<String, Unread> {
     let mut short = String::new(alloc);
     left.expect(Mark::Node)?;
@@ -126,23 +126,25 @@ fn lines_are_read(rt: HostRuntime) -> Result<(), Fail> {
     Ok(())
 }
 
-/// What the looks ahead tell of one text, which each of them is to be true of.
+/// Whether each look ahead tells the truth about one text.
 fn looks(alloc: Global) -> Result<bool, AllocError> {
     let Ok(found) = tokens(alloc, "; fire 1 a") else {
         return Err(AllocError);
     };
     let mut left = Tokens::new(found.as_slice());
+    let deep = matches!(left.refusal_at_depth(true), Unread::TooDeep(4))
+        && matches!(left.refusal_at_depth(false), Unread::Unexpected(4));
     let first = left.peek_mark() == Some(Mark::Semicolon)
         && left.at(Mark::Semicolon)
         && !left.at(Mark::Fire);
     let goes_on = left.resumes_with(Mark::Semicolon, Mark::Fire);
-    let taken = left.skip(Mark::Fire) && !left.skip(Mark::Fire);
+    let skipped = left.skip(Mark::Fire) && !left.skip(Mark::Fire);
     let number = left.at_number() && !left.at_word() && left.peek_mark().is_none();
     left.advance();
     let word = left.at_word() && !left.at_number();
     left.advance();
     left.advance();
-    Ok(first && goes_on && taken && number && word && left.len() == 0)
+    Ok(deep && first && goes_on && skipped && number && word && left.len() == 0)
 }
 
 #[test]

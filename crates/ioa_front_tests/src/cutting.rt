@@ -1,4 +1,4 @@
-//! What each sign and word is read as, where a text is refused, and what tokens are written as.
+//! The token of each sign and word, the offset at which a text is refused, and how tokens are written.
 
 use ioa_tokens::{
     CutFault, Gap, LocatedToken, Mark, Token, push_mark, push_number, push_word, tokens,
@@ -7,7 +7,7 @@ use std::alloc::{AllocError, Global};
 use std::test::Fail;
 
 /// A text, and its tokens in short: a name in quotes, a number in digits, a mark by its name, a
-/// left-out word after `!`, each with its place; or the number of the refusal with its place.
+/// left-out word after `!`, each with its offset. If the text is refused, the refusal's number and offset.
 static ROWS: [(&str, &str); 123] = [
     ("<=>", "Equivalent@0 "),
     ("/\\", "And@0 "),
@@ -180,7 +180,7 @@ fn texts_are_cut(rt: HostRuntime) -> Result<(), Fail> {
     Ok(())
 }
 
-/// The marks of a text, one behind the other.
+/// The marks of a text, written one after the other.
 fn write_marks(alloc: Global, text: &str) -> Result<String, AllocError> {
     let mut written = String::new(alloc);
     if let Ok(found) = tokens(alloc, text) {
@@ -202,7 +202,7 @@ fn marks_are_written_as_they_are_cut(rt: HostRuntime) -> Result<(), Fail> {
     Ok(())
 }
 
-/// A statement whose tokens stand as close together as they may.
+/// A statement whose tokens are written as close together as they may be.
 fn statement(alloc: Global) -> Result<String, AllocError> {
     let mut text = String::new(alloc);
     push_word(&mut text, Gap::Joined, "q")?;

@@ -24,7 +24,7 @@ written_appended (x ∷ xs) ys =
     ap (λ l. before ++ (text ++ l)) (written_appended xs ys)
     ∙ sym (append_assoc before (text ++ written_text xs) (written_text ys) ∙ ap (λ l. before ++ l) (append_assoc text (written_text xs) (written_text ys)))
 
--- characters that stand in no sign but at its head
+-- characters that no sign has but at its head
 abbrev loose_characters : List ℕ
 loose_characters = codes "()[]{}.,;:@"
 
@@ -32,7 +32,7 @@ loose_characters = codes "()[]{}.,;:@"
 abbrev is_loose_character : ℕ → Bool
 is_loose_character c = list_any (λ x. c == x) loose_characters
 
--- the marks that may stand right behind any token: brackets, `.`, `,`, `;`, `:`, `:=` and `@`
+-- the marks that may follow any token with nothing between: brackets, `.`, `,`, `;`, `:`, `:=` and `@`
 abbrev pub is_loose : Mark → Bool
 is_loose m = is_loose_character (slice_index (mark_text m) 0)
 
@@ -73,14 +73,14 @@ loose_ends (token.LeftOut w) c loose = loose_ends_spelling (left_out_text w) c (
 loose_is_sign : (c : ℕ) → is_loose_character c ≡ true → is_ascii_alphabetic c ≡ false
 loose_is_sign c loose = grind (arith, nat_tests)
 
--- such a mark may stand right behind any token
+-- such a mark may follow any token with nothing between
 pub loose_touches : (t : Token) (m : Mark) → is_loose m ≡ true → may_touch t (token.Mark m) ≡ true
 loose_touches t m loose =
     let first = slice_index (mark_text m) 0 in
     let head : text_head (mark_text m) ≡ sign first = rw (loose_is_sign first loose) refl in
     ap (token_ends t) head ∙ loose_ends t first loose
 
--- the marks behind which any token may stand
+-- the marks that any token may follow with nothing between
 abbrev pub is_closed : Mark → Bool
 is_closed mark.OpenRound = true
 is_closed mark.CloseRound = true

@@ -1,4 +1,4 @@
--- Where the token at the head of a text ends.
+-- How far the token at the head of a text goes.
 use Rattle.std.proofs.Common.{◌≡◌, ℕ, Bool, true, false, nat_eq, List, [], ◌∷◌, ◌++◌, refl, ap, arith, append-nil, one-add, ⊎_elim}
 use Rattle.std.specs.List.{list_all, list_any, starts_with, take_while}
 use Rattle.std.specs.Map.{lookup_entry}
@@ -42,14 +42,14 @@ more_of_prefix (d ∷ sign) (x ∷ text) rest c other =
     same_behind d x (starts_with nat_eq (text ++ c ∷ rest) sign) (starts_with nat_eq text sign) (starts_with nat_eq sign (text ++ c ∷ [])) other
     (more_of_prefix sign text rest c)
 
--- what is found first in a table stays so where no row begins with the text and the next character
+-- what is found first in a table stays so if no row begins with the text and the next character
 found_stays : {A : Type 0} (rows : List (List ℕ × A)) (text rest : List ℕ) (c : ℕ) → list_any (λ row. starts_with nat_eq row.0 (text ++ c ∷ [])) rows ≡ false → lookup_entry (starts_with nat_eq (text ++ c ∷ rest)) rows ≡ lookup_entry (starts_with nat_eq text) rows
 found_stays [] text rest c none = refl
 found_stays (row ∷ rows) text rest c none =
     let parts = or_parts (starts_with nat_eq row.0 (text ++ c ∷ [])) (list_any (λ r. starts_with nat_eq r.0 (text ++ c ∷ [])) rows) none in
     rw (more_of_prefix row.0 text rest c parts.0, found_stays rows text rest c parts.1) refl
 
--- a sign stays the longest one where no longer sign goes on
+-- a sign stays the longest one if no longer sign goes on
 pub sign_stays : (text rest : List ℕ) → Stops (begins_longer text) rest → sign_at_head (text ++ rest) ≡ sign_at_head text
 sign_stays text [] ends = ap sign_at_head (append-nil text)
 sign_stays text (c ∷ rest) ends = found_stays signs text rest c ends

@@ -1,4 +1,4 @@
--- The piece at the head of a text that begins with a token, where the token ends.
+-- The piece at the head of a text that begins with a token, if what comes next lets the token end.
 use Rattle.std.proofs.Common.{◌≡◌, ℕ, ◌<◌, ◌≤◌, true, false, nat_le, List, [], ◌∷◌, ◌++◌, codes, length, Some, refl, sym, ap, arith, ◌∙◌, true≢false, pos, negsuc, decimal, le-leb, one-add}
 use Rattle.std.specs.List.{list_all}
 use Rattle.std.specs.Prelude.{◌==◌, slice_index}
