@@ -1,7 +1,8 @@
 -- What may come behind a term. A token that goes on with a term does so behind a term of some level at the loosest,
--- and a term ends where what comes next goes on only with tighter ones.
-use Rattle.std.proofs.Common.{◌≡◌, ◌≢◌, ℕ, ◌<◌, ◌≤◌, ◌⊎◌, inl, inr, List, [], ◌∷◌, Option, Some, None, ap, arith}
+-- and a term ends if what comes next goes on only with tighter ones.
+use Rattle.std.proofs.Common.{◌≡◌, ◌≢◌, ℕ, ◌<◌, ◌≤◌, ◌⊎◌, inl, inr, List, [], ◌∷◌, Option, Some, None, refl, ap, arith}
 use Rattle.std.specs.Option.{option_map}
+use Rattle.std.specs.Prelude.{◌==◌, ◌||◌, if◌then◌else◌}
 use Rattle.ioa_tokens.specs.declared.token.Token.{Token}
 use Rattle.ioa_tokens.specs.declared.token.Token.TheVariants as token
 use Rattle.ioa_tokens.specs.declared.mark.Mark.{Mark}
@@ -10,7 +11,9 @@ use Rattle.ioa_operators.specs.declared.operator.UnaryOperator.{UnaryOperator}
 use Rattle.ioa_operators.specs.declared.operator.UnaryOperator.TheVariants.{Not, Negative}
 use Rattle.ioa_operators.specs.declared.operator.BinaryOperator.{BinaryOperator}
 use Rattle.ioa_operators.specs.declared.operator.BinaryOperator.TheVariants as operator
-use Rattle.ioa_term_reader.specs.Levels.{Grouping, from_left, from_right, no_grouping, infix_of, grouping, left_side, right_side, level, left_level, right_level, prefix_level}
+use Rattle.ioa_term_reader.specs.Levels.{infix_row, infix_of, left_side, right_side, level, left_level, right_level, prefix_level}
+use Rattle.ioa_term_reader.specs.declared.levels.Groups.{Groups}
+use Rattle.ioa_term_reader.specs.declared.levels.Groups.TheVariants.{FromLeft, FromRight, NoGrouping}
 use Rattle.ioa_term_reader.specs.Reading.{after_of, level_of, left_of}
 use Rattle.ioa_term_reader.specs.declared.after.After.{After}
 use Rattle.ioa_term_reader.specs.declared.after.After.TheVariants.{Infix, Field, Key}
@@ -48,20 +51,28 @@ binds_infix mark.Dot op e = absurd cc
 binds_infix mark.OpenSquare op e = absurd cc
 binds_infix m op e = ap (λ o. binds_after (option_map Infix o)) e
 
-left_side_above : (g : Grouping) (l : ℕ) → l ≤ left_side g l
-left_side_above from_left l = omega arith
-left_side_above from_right l = omega arith
-left_side_above no_grouping l = omega arith
+left_side_above : (g : Groups) (l : ℕ) → l ≤ left_side g l
+left_side_above FromLeft l = omega arith
+left_side_above FromRight l = omega arith
+left_side_above NoGrouping l = omega arith
 
-right_side_above : (g : Grouping) (l : ℕ) → l ≤ right_side g l
-right_side_above from_left l = omega arith
-right_side_above from_right l = omega arith
-right_side_above no_grouping l = omega arith
+right_side_above : (g : Groups) (l : ℕ) → l ≤ right_side g l
+right_side_above FromLeft l = omega arith
+right_side_above FromRight l = omega arith
+right_side_above NoGrouping l = omega arith
 
-one_side_above : (g : Grouping) (l : ℕ) → left_side g l ≤ l → l < right_side g l
-one_side_above from_left l h = omega arith
-one_side_above from_right l h = absurd (omega arith)
-one_side_above no_grouping l h = absurd (omega arith)
+one_side_above : (g : Groups) (l : ℕ) → left_side g l ≤ l → l < right_side g l
+one_side_above FromLeft l h = omega arith
+one_side_above FromRight l h = absurd (omega arith)
+one_side_above NoGrouping l h = absurd (omega arith)
+
+-- the operators of a level group alike: `=>` and `-|` from the right, comparisons not at all, the others from the left
+abbrev grouping : ℕ → Groups
+grouping l = if (l == 2) || (l == 7) then FromRight else (if l == 6 then NoGrouping else FromLeft)
+
+grouping_is : (op : BinaryOperator) → (infix_row op).groups ≡ grouping (level op)
+grouping_is operator.At = refl
+grouping_is _ = refl
 
 same_or_less : (k l : ℕ) → k ≤ l → (k < l) ⊎ (k ≡ l)
 same_or_less k l h = grind arith
@@ -75,10 +86,10 @@ sides : (k l : ℕ) → left_side (grouping k) k ≤ l → k < right_side (group
 sides k l h = let a = left_side_above (grouping k) k in by_order k l (same_or_less k l (omega arith)) h
 
 pub left_level_above : (op : BinaryOperator) → level op ≤ left_level op
-left_level_above op = left_side_above (grouping (level op)) (level op)
+left_level_above op = left_side_above (infix_row op).groups (level op)
 
 pub right_level_above : (op : BinaryOperator) → level op ≤ right_level op
-right_level_above op = right_side_above (grouping (level op)) (level op)
+right_level_above op = right_side_above (infix_row op).groups (level op)
 
 -- what goes on with a term stands at the level of that term, or at a looser one
 pub level_below : (a : After) → level_of a ≤ left_of a
@@ -88,9 +99,9 @@ level_below Key = omega arith
 
 -- the right side of an operator ends where the whole does
 pub ends_right : (op : BinaryOperator) (a : After) → left_of a ≤ level op → level_of a < right_level op
-ends_right op (Infix other) h = sides (level other) (level op) h
-ends_right op Field h = sides 12 (level op) h
-ends_right op Key h = sides 12 (level op) h
+ends_right op (Infix other) h = rw (grouping_is op) (sides (level other) (level op) (rw (grouping_is other) at h))
+ends_right op Field h = rw (grouping_is op) (sides 12 (level op) h)
+ends_right op Key h = rw (grouping_is op) (sides 12 (level op) h)
 
 -- no operator between two terms stands at the level of one before a term
 apart : (p : UnaryOperator) (op : BinaryOperator) → level op ≢ prefix_level p

@@ -20,7 +20,7 @@ use Rattle.ioa_cursor.proofs.Steps.{stays, read_next}
 use Rattle.ioa_cursor.proofs.Follow.{skip_same}
 use Rattle.ioa_term_reader.specs.Heights.{height, height_limit}
 use Rattle.ioa_term_reader.specs.Levels.{prefix_level, prefix_of, infix_of, right_level, atom_level}
-use Rattle.ioa_term_reader.specs.Reading.{limited_term, term_at_level, after_of, level_of, left_of, accepted_after, terms_in, bracketed_term, display_term, braced_term, call_term, word_term, prefixed_term, marked_term, operand, extended_term, climb, read}
+use Rattle.ioa_term_reader.specs.Reading.{limited_term, term_at_level, after_of, level_of, left_of, accepted_after, terms_in, bracketed_term, display_term, braced_term, call_term, word_term, prefixed_term, operator_term, marked_term, operand, extended_term, climb, read}
 use Rattle.ioa_term_reader.specs.declared.after.After.{After}
 use Rattle.ioa_term_reader.specs.declared.after.After.TheVariants.{Infix, Field, Key}
 use Rattle.ioa_term_reader.proofs.Closing.{binds, binds_after, after_binds}
@@ -91,7 +91,7 @@ accepted_same least most other [] h k = refl
 
 marked_prefix : (next : ℕ → ℕ → List Token → Option (SourceTerm × List Token)) (room least : ℕ) (m : Mark) (op : UnaryOperator) (xs : List Token) →
     prefix_of m ≡ Some op → marked_term next room least m xs ≡ prefixed_term next room least op xs
-unfolding marked_term
+unfolding marked_term operator_term bind
 marked_prefix next room least mark.Not op xs e = let same : Not ≡ op = cc in rw same refl
 marked_prefix next room least mark.Minus op xs e = let same : Negative ≡ op = cc in rw same refl
 marked_prefix next room least _ op xs e = absurd cc

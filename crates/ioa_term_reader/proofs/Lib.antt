@@ -9,3 +9,4 @@ pub mod Printed
 pub mod PrintedGood
 pub mod Pushed
 pub mod Turns
+pub mod OtherMarks

@@ -14,8 +14,8 @@ use Rattle.ioa_source.specs.Sides.{SourceTerm, SourceTerms}
 use Rattle.ioa_term_reader.specs.Grammar as grammar
 use Rattle.ioa_term_reader.specs.Grammar.{SpellsAt, SpellsTerms, SpellsTerm}
 use Rattle.ioa_term_reader.specs.Heights.{height, heights, height_limit}
-use Rattle.ioa_term_reader.specs.Levels.{prefix_level, prefix_of, infix_of, level, left_level, right_level, postfix_level}
-use Rattle.ioa_term_reader.specs.Spelling.{prefix_mark, infix_mark, infix_end, is_operation, in_brackets_if, spelling, parts_spelling, more_parts_spelling}
+use Rattle.ioa_term_reader.specs.Levels.{prefix_mark, prefix_level, prefix_of, infix_mark, infix_of, level, left_level, right_level, postfix_level}
+use Rattle.ioa_term_reader.specs.Spelling.{infix_end, is_operation, in_brackets_if, spelling, part_spelling, parts_spelling, more_parts_spelling}
 use Rattle.ioa_term_reader.proofs.Sound.{looser}
 
 -- the marks of operators, and the levels of their terms
@@ -78,14 +78,10 @@ infix_alone : (op : BinaryOperator) → 1 ≤ level op
 infix_alone operator.At = omega arith
 infix_alone _ = omega arith
 
--- a part of a term
-abbrev pub part : SourceTerm → List Token
-part t = in_brackets_if (is_operation t) (spelling t)
-
 -- a term is spelled as it is written, alone and as a part of another
 pub record Printed (t : SourceTerm) : Type 0 where
   pub alone : (e : ℕ) (zs : List Token) → height t ≤ e → SpellsAt e 1 t (spelling t ++ zs) zs
-  pub inside : (e : ℕ) (zs : List Token) → height t ≤ e → SpellsAt e postfix_level t (part t ++ zs) zs
+  pub inside : (e : ℕ) (zs : List Token) → height t ≤ e → SpellsAt e postfix_level t (part_spelling t ++ zs) zs
 
 -- terms are spelled as they are written, and behind others
 pub record PrintedTerms (ts : SourceTerms) : Type 0 where
@@ -134,15 +130,15 @@ mutual
   at_printed {t = t} (grammar.field {t = a} {w = w} d) =
       let p = at_printed d in
       plain_printed t refl (λ e zs h.
-      rw (append_assoc (part a) (token.Mark mark.Dot ∷ token.Word w ∷ []) zs) (grammar.field (p.inside e (token.Mark mark.Dot ∷ token.Word w ∷ zs) (omega arith))))
+      rw (append_assoc (part_spelling a) (token.Mark mark.Dot ∷ token.Word w ∷ []) zs) (grammar.field (p.inside e (token.Mark mark.Dot ∷ token.Word w ∷ zs) (omega arith))))
   at_printed {t = t} (grammar.key {t = a} {u = k} d index) =
       let p = at_printed d in
       let q = at_printed index in
       plain_printed t refl (λ e zs h.
       let deeper : e ≡ suc (e - 1) = omega arith in
-      rw (append_assoc (part a) (token.Mark mark.OpenSquare ∷ (part k ++ token.Mark mark.CloseSquare ∷ [])) zs, append_assoc (part k) (token.Mark mark.CloseSquare ∷ []) zs, deeper)
+      rw (append_assoc (part_spelling a) (token.Mark mark.OpenSquare ∷ (part_spelling k ++ token.Mark mark.CloseSquare ∷ [])) zs, append_assoc (part_spelling k) (token.Mark mark.CloseSquare ∷ []) zs, deeper)
       (grammar.key
-      (p.inside (suc (e - 1)) (token.Mark mark.OpenSquare ∷ (part k ++ token.Mark mark.CloseSquare ∷ zs)) (omega arith))
+      (p.inside (suc (e - 1)) (token.Mark mark.OpenSquare ∷ (part_spelling k ++ token.Mark mark.CloseSquare ∷ zs)) (omega arith))
       (looser (omega arith) (q.inside (e - 1) (token.Mark mark.CloseSquare ∷ zs) (omega arith)))))
   at_printed {t = t} (grammar.before {t = a} m op is d) =
       let p = at_printed d in
@@ -153,23 +149,23 @@ mutual
       let q = at_printed k in
       let binary = mark_between m op is in
       operation_printed t (operation_is op binary a b) (omega arith) (λ e zs h.
-      rw (end_is op binary, append-nil (part b), append_assoc (part a) (token.Mark (infix_mark op) ∷ part b) zs)
+      rw (end_is op binary, append-nil (part_spelling b), append_assoc (part_spelling a) (token.Mark (infix_mark op) ∷ part_spelling b) zs)
       (looser (infix_alone op)
       (grammar.between (infix_mark op) op (infix_is op binary)
-      (looser (left_inside op) (p.inside e (token.Mark (infix_mark op) ∷ (part b ++ zs)) (omega arith)))
+      (looser (left_inside op) (p.inside e (token.Mark (infix_mark op) ∷ (part_spelling b ++ zs)) (omega arith)))
       (looser (right_inside op binary) (q.inside e zs (omega arith))))))
   at_printed (grammar.tighter d) = at_printed d
 
   pub terms_printed : {room : ℕ} {ts : SourceTerms} {xs ys : List Token} → SpellsTerms room ts xs ys → PrintedTerms ts
   terms_printed (grammar.single {t = t} d) =
       let p = at_printed d in
-      record { listed = λ e zs h. rw (append-nil (part t)) (grammar.single (looser (omega arith) (p.inside e zs (omega arith)))); goes_on = refl }
+      record { listed = λ e zs h. rw (append-nil (part_spelling t)) (grammar.single (looser (omega arith) (p.inside e zs (omega arith)))); goes_on = refl }
   terms_printed (grammar.followed {t = t} {ts = ts} d rest) =
       let p = at_printed d in
       let q = terms_printed rest in
       record {
         listed = λ e zs h.
-            rw (q.goes_on, append_assoc (part t) (token.Mark mark.Comma ∷ parts_spelling ts) zs)
+            rw (q.goes_on, append_assoc (part_spelling t) (token.Mark mark.Comma ∷ parts_spelling ts) zs)
             (grammar.followed (looser (omega arith) (p.inside e (token.Mark mark.Comma ∷ (parts_spelling ts ++ zs)) (omega arith))) (q.listed e zs (omega arith)));
         goes_on = refl;
       }

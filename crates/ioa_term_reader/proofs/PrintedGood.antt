@@ -9,8 +9,8 @@ use Rattle.ioa_operators.specs.declared.operator.BinaryOperator.TheVariants as o
 use Rattle.ioa_source.specs.Sides.{SourceTerm, SourceTerms}
 use Rattle.ioa_term_reader.specs.Grammar as grammar
 use Rattle.ioa_term_reader.specs.Grammar.{SpellsAt, SpellsTerms, SpellsTerm}
-use Rattle.ioa_term_reader.specs.Spelling.{infix_end, is_operation, in_brackets_if, spelling, parts_spelling}
-use Rattle.ioa_term_reader.proofs.Printed.{part, terms_printed}
+use Rattle.ioa_term_reader.specs.Spelling.{infix_end, is_operation, in_brackets_if, spelling, part_spelling, parts_spelling}
+use Rattle.ioa_term_reader.proofs.Printed.{terms_printed}
 use Rattle.ioa_values.proofs.AllOf.{all_appended}
 
 pub tokens_joined : (xs ys : List Token) → AreTokens xs → AreTokens ys → AreTokens (xs ++ ys)
@@ -24,7 +24,7 @@ wrapped_good : (b : Bool) (xs : List Token) → AreTokens xs → AreTokens (in_b
 wrapped_good true xs h = (tt, tokens_joined xs (token.Mark mark.CloseRound ∷ []) h (tt, tt))
 wrapped_good false xs h = h
 
-part_good : (t : SourceTerm) → AreTokens (spelling t) → AreTokens (part t)
+part_good : (t : SourceTerm) → AreTokens (spelling t) → AreTokens (part_spelling t)
 part_good t h = wrapped_good (is_operation t) (spelling t) h
 
 end_good : (op : BinaryOperator) → AreTokens (infix_end op)
@@ -50,27 +50,27 @@ mutual
       ((tt, tokens_joined (parts_spelling ts) (token.Mark mark.CloseSquare ∷ []) g.0 (tt, tt)), g.1.1)
   at_good (grammar.field {t = a} {w = w} d) h =
       let g = at_good d h in
-      (tokens_joined (part a) (token.Mark mark.Dot ∷ token.Word w ∷ []) (part_good a g.0) (tt, (g.1.1.0, tt)), g.1.1.1)
+      (tokens_joined (part_spelling a) (token.Mark mark.Dot ∷ token.Word w ∷ []) (part_good a g.0) (tt, (g.1.1.0, tt)), g.1.1.1)
   at_good (grammar.key {t = a} {u = k} d index) h =
       let g = at_good d h in
       let i = at_good index g.1.1 in (
-        tokens_joined (part a) (token.Mark mark.OpenSquare ∷ (part k ++ token.Mark mark.CloseSquare ∷ [])) (part_good a g.0)
-            (tt, tokens_joined (part k) (token.Mark mark.CloseSquare ∷ []) (part_good k i.0) (tt, tt)),
+        tokens_joined (part_spelling a) (token.Mark mark.OpenSquare ∷ (part_spelling k ++ token.Mark mark.CloseSquare ∷ [])) (part_good a g.0)
+            (tt, tokens_joined (part_spelling k) (token.Mark mark.CloseSquare ∷ []) (part_good k i.0) (tt, tt)),
         i.1.1,
       )
   at_good (grammar.before {t = a} m op is d) h = let g = at_good d h.1 in ((tt, part_good a g.0), g.1)
   at_good (grammar.between {t = a} {u = b} m op is d k) h =
       let g = at_good d h in
       let i = at_good k g.1.1 in
-      (tokens_joined (part a) _ (part_good a g.0) (tt, tokens_joined (part b) (infix_end op) (part_good b i.0) (end_good op)), i.1)
+      (tokens_joined (part_spelling a) _ (part_good a g.0) (tt, tokens_joined (part_spelling b) (infix_end op) (part_good b i.0) (end_good op)), i.1)
   at_good (grammar.tighter d) h = at_good d h
 
   pub terms_good : {room : ℕ} {ts : SourceTerms} {xs ys : List Token} → SpellsTerms room ts xs ys → AreTokens xs → AreGood (parts_spelling ts) ys
-  terms_good (grammar.single {t = t} d) h = let g = at_good d h in (tokens_joined (part t) [] (part_good t g.0) tt, g.1)
+  terms_good (grammar.single {t = t} d) h = let g = at_good d h in (tokens_joined (part_spelling t) [] (part_good t g.0) tt, g.1)
   terms_good (grammar.followed {t = t} {ts = ts} d rest) h =
       let g = at_good d h in
       let i = terms_good rest g.1.1 in
-      (rw ((terms_printed rest).goes_on) (tokens_joined (part t) (token.Mark mark.Comma ∷ parts_spelling ts) (part_good t g.0) (tt, i.0)), i.1)
+      (rw ((terms_printed rest).goes_on) (tokens_joined (part_spelling t) (token.Mark mark.Comma ∷ parts_spelling ts) (part_good t g.0) (tt, i.0)), i.1)
 
 -- a term as it is written, and what is behind it
 pub term_good : {room : ℕ} {t : SourceTerm} {xs ys : List Token} → SpellsTerm room t xs ys → AreTokens xs → AreGood (spelling t) ys

@@ -24,7 +24,7 @@ use Rattle.ioa_term_reader.specs.Grammar as grammar
 use Rattle.ioa_term_reader.specs.Grammar.{SpellsAt, SpellsTerms, SpellsTerm}
 use Rattle.ioa_term_reader.specs.Heights.{height, height_limit}
 use Rattle.ioa_term_reader.specs.Levels.{prefix_level, prefix_of, infix_of, level, right_level, postfix_level, atom_level}
-use Rattle.ioa_term_reader.specs.Reading.{limited_term, TermAtLevel, after_of, level_of, left_of, accepted_after, terms_in, bracketed_term, display_term, braced_term, call_term, word_term, prefixed_term, marked_term, operand, extended_term, climb, read, depth_limit, term}
+use Rattle.ioa_term_reader.specs.Reading.{limited_term, TermAtLevel, after_of, level_of, left_of, accepted_after, terms_in, bracketed_term, display_term, braced_term, call_term, word_term, prefixed_term, operator_term, marked_term, operand, extended_term, climb, read, depth_limit, term}
 use Rattle.ioa_term_reader.specs.declared.after.After.{After}
 use Rattle.ioa_term_reader.specs.declared.after.After.TheVariants.{Infix, Field, Key}
 use Rattle.std.proofs.lemmas.Bool.{and_parts}
@@ -149,15 +149,14 @@ module _ (next : ℕ → ℕ → List Token → Option (SourceTerm × List Token
         (λ _ none. absurd cc)
 
     marked_sound : (room : ℕ) (m : Mark) (xs : List Token) (o : TermAtLevel) → marked_term next room least m xs ≡ Some o → Operand room least (token.Mark m ∷ xs) o
-    unfolding marked_term
+    unfolding marked_term operator_term
     marked_sound room mark.True xs o e = settled (Operand room least (token.Mark mark.True ∷ xs)) e ((grammar.yes, omega arith), within)
     marked_sound room mark.False xs o e = settled (Operand room least (token.Mark mark.False ∷ xs)) e ((grammar.no, omega arith), within)
     marked_sound room mark.OpenRound xs o e = bracketed_sound room xs o e
     marked_sound room mark.OpenBrace xs o e = braced_sound room xs o e
     marked_sound room mark.OpenSquare xs o e = displayed_sound Brackets mark.CloseSquare mark.OpenSquare (λ r ts us vs d. grammar.fields d) room xs o e
-    marked_sound room mark.Not xs o e = prefixed_sound mark.Not Not refl room xs o e
-    marked_sound room mark.Minus xs o e = prefixed_sound mark.Minus Negative refl room xs o e
-    marked_sound room _ xs o e = absurd cc
+    marked_sound room m xs o e =
+        bind_cases (Operand room least (token.Mark m ∷ xs) o) e (λ op op_is more. prefixed_sound m op op_is room xs o more)
 
     operand_sound : (room : ℕ) (xs : List Token) (o : TermAtLevel) → operand next room least xs ≡ Some o → Operand room least xs o
     unfolding operand

@@ -1,5 +1,5 @@
--- The grammar of terms (profile). `SpellsAt room l t xs ys` says that the tokens `xs` are a spelling of `t` and after it
--- `ys`, where `room` is how many brackets more may be opened, and outside brackets stand no operators looser than level `l`.
+-- The grammar of terms (profile). `SpellsAt room l t xs ys` says that the tokens `xs` are a spelling of `t` and after
+-- it `ys`: `room` is how many brackets more may be opened, and outside brackets no operator is looser than level `l`.
 use Rattle.std.specs.Prelude.{◌≡◌, ◌≤◌, ℕ, suc, ℤ, true, false, List, ◌∷◌, Some}
 use Rattle.ioa_tokens.specs.declared.token.Token.{Token}
 use Rattle.ioa_tokens.specs.declared.token.Token.TheVariants as token
@@ -13,11 +13,13 @@ use Rattle.ioa_terms.specs.PlainTerm as plain
 use Rattle.ioa_terms.specs.PlainTerm.{no_terms, term}
 use Rattle.ioa_source.specs.Sides.{SourceTerm, SourceTerms}
 use Rattle.ioa_term_reader.specs.Heights.{height, height_limit}
-use Rattle.ioa_term_reader.specs.Levels.{prefix_level, prefix_of, infix_of, level, left_level, right_level, postfix_level, atom_level}
+use Rattle.ioa_term_reader.specs.Levels.{prefix_level, prefix_of, infix_of, level, left_level, right_level}
+use Rattle.ioa_term_reader.specs.Levels.{postfix_level, atom_level}
+use Rattle.ioa_term_reader.specs.declared.reading.TheConstants.{BRACKET_LIMIT}
 
 -- how many brackets may be open at once
 abbrev pub bracket_limit : ℕ
-bracket_limit = 128
+bracket_limit = BRACKET_LIMIT
 
 mutual
   pub data SpellsAt : ℕ → ℕ → SourceTerm → List Token → List Token → Type 0 where
@@ -26,43 +28,56 @@ mutual
     no : {room : ℕ} {ys : List Token} → SpellsAt room atom_level (plain.truth false) (token.Mark mark.False ∷ ys) ys
     word : {room : ℕ} {w : List ℕ} {ys : List Token} → SpellsAt room atom_level (plain.name w tt) (token.Word w ∷ ys) ys
     -- Word ( Term {, Term} )
-    call : {room : ℕ} {w : List ℕ} {ts : SourceTerms} {xs ys : List Token} → SpellsTerms room ts xs (token.Mark mark.CloseRound ∷ ys) →
+    call : {room : ℕ} {w : List ℕ} {ts : SourceTerms} {xs ys : List Token} →
+        SpellsTerms room ts xs (token.Mark mark.CloseRound ∷ ys) →
         SpellsAt (suc room) atom_level (plain.call w ts) (token.Word w ∷ token.Mark mark.OpenRound ∷ xs) ys
     -- ( Term ), which leaves no node in the tree
-    brackets : {room : ℕ} {t : SourceTerm} {xs ys : List Token} → SpellsAt room 1 t xs (token.Mark mark.CloseRound ∷ ys) →
+    brackets : {room : ℕ} {t : SourceTerm} {xs ys : List Token} →
+        SpellsAt room 1 t xs (token.Mark mark.CloseRound ∷ ys) →
         SpellsAt (suc room) atom_level t (token.Mark mark.OpenRound ∷ xs) ys
     -- {}
     empty : {room : ℕ} {ys : List Token} →
-        SpellsAt (suc room) atom_level (plain.display Braces tt no_terms) (token.Mark mark.OpenBrace ∷ token.Mark mark.CloseBrace ∷ ys) ys
+        SpellsAt (suc room) atom_level (plain.display Braces tt no_terms)
+        (token.Mark mark.OpenBrace ∷ token.Mark mark.CloseBrace ∷ ys) ys
     -- { Term {, Term} }
-    braces : {room : ℕ} {ts : SourceTerms} {xs ys : List Token} → SpellsTerms room ts xs (token.Mark mark.CloseBrace ∷ ys) →
+    braces : {room : ℕ} {ts : SourceTerms} {xs ys : List Token} →
+        SpellsTerms room ts xs (token.Mark mark.CloseBrace ∷ ys) →
         SpellsAt (suc room) atom_level (plain.display Braces tt ts) (token.Mark mark.OpenBrace ∷ xs) ys
     -- [ Term {, Term} ]
-    fields : {room : ℕ} {ts : SourceTerms} {xs ys : List Token} → SpellsTerms room ts xs (token.Mark mark.CloseSquare ∷ ys) →
+    fields : {room : ℕ} {ts : SourceTerms} {xs ys : List Token} →
+        SpellsTerms room ts xs (token.Mark mark.CloseSquare ∷ ys) →
         SpellsAt (suc room) atom_level (plain.display Brackets tt ts) (token.Mark mark.OpenSquare ∷ xs) ys
     -- Term . Word
-    field : {room : ℕ} {t : SourceTerm} {w : List ℕ} {xs ys : List Token} → SpellsAt room postfix_level t xs (token.Mark mark.Dot ∷ token.Word w ∷ ys) →
+    field : {room : ℕ} {t : SourceTerm} {w : List ℕ} {xs ys : List Token} →
+        SpellsAt room postfix_level t xs (token.Mark mark.Dot ∷ token.Word w ∷ ys) →
         SpellsAt room postfix_level (plain.field t w tt) xs ys
     -- Term [ Term ]
-    key : {room : ℕ} {t u : SourceTerm} {xs ys zs : List Token} → SpellsAt (suc room) postfix_level t xs (token.Mark mark.OpenSquare ∷ ys) →
-        SpellsAt room 1 u ys (token.Mark mark.CloseSquare ∷ zs) → SpellsAt (suc room) postfix_level (plain.two At t u) xs zs
+    key : {room : ℕ} {t u : SourceTerm} {xs ys zs : List Token} →
+        SpellsAt (suc room) postfix_level t xs (token.Mark mark.OpenSquare ∷ ys) →
+        SpellsAt room 1 u ys (token.Mark mark.CloseSquare ∷ zs) →
+        SpellsAt (suc room) postfix_level (plain.two At t u) xs zs
     -- an operator before a term of its own level
     before : {room : ℕ} {t : SourceTerm} {xs ys : List Token} (m : Mark) (op : UnaryOperator) → prefix_of m ≡ Some op →
-        SpellsAt room (prefix_level op) t xs ys → SpellsAt room (prefix_level op) (plain.one op t) (token.Mark m ∷ xs) ys
+        SpellsAt room (prefix_level op) t xs ys →
+        SpellsAt room (prefix_level op) (plain.one op t) (token.Mark m ∷ xs) ys
     -- an operator between two terms, by its level's grouping
-    between : {room : ℕ} {t u : SourceTerm} {xs ys zs : List Token} (m : Mark) (op : BinaryOperator) → infix_of m ≡ Some op →
+    between : {room : ℕ} {t u : SourceTerm} {xs ys zs : List Token} (m : Mark) (op : BinaryOperator) →
+        infix_of m ≡ Some op →
         SpellsAt room (left_level op) t xs (token.Mark m ∷ ys) → SpellsAt room (right_level op) u ys zs →
         SpellsAt room (level op) (plain.two op t u) xs zs
     -- what a tighter level spells, a looser one spells too
-    tighter : {room l : ℕ} {t : SourceTerm} {xs ys : List Token} → SpellsAt room (suc l) t xs ys → SpellsAt room l t xs ys
+    tighter : {room l : ℕ} {t : SourceTerm} {xs ys : List Token} →
+        SpellsAt room (suc l) t xs ys → SpellsAt room l t xs ys
 
   -- Term {, Term}
   pub data SpellsTerms : ℕ → SourceTerms → List Token → List Token → Type 0 where
-    single : {room : ℕ} {t : SourceTerm} {xs ys : List Token} → SpellsAt room 1 t xs ys → SpellsTerms room (term t no_terms) xs ys
-    followed : {room : ℕ} {t : SourceTerm} {ts : SourceTerms} {xs ys zs : List Token} → SpellsAt room 1 t xs (token.Mark mark.Comma ∷ ys) →
+    single : {room : ℕ} {t : SourceTerm} {xs ys : List Token} →
+        SpellsAt room 1 t xs ys → SpellsTerms room (term t no_terms) xs ys
+    followed : {room : ℕ} {t : SourceTerm} {ts : SourceTerms} {xs ys zs : List Token} →
+        SpellsAt room 1 t xs (token.Mark mark.Comma ∷ ys) →
         SpellsTerms room ts ys zs → SpellsTerms room (term t ts) xs zs
 
--- a term within the limits: where so many brackets more may be opened, and not too high
+-- a term within the limits: it opens at most `room` brackets at once, and is not too high
 pub record SpellsTerm (room : ℕ) (t : SourceTerm) (xs ys : List Token) : Type 0 where
   pub spelled : SpellsAt room 1 t xs ys
   pub low : height t ≤ height_limit

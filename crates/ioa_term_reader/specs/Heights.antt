@@ -2,10 +2,11 @@
 use Rattle.std.specs.Prelude.{ℕ, suc, max}
 use Rattle.ioa_terms.specs.PlainTerm.{number, truth, name, one, two, call, display, field, no_terms, term}
 use Rattle.ioa_source.specs.Sides.{SourceTerm, SourceTerms}
+use Rattle.ioa_term_reader.specs.declared.built.TheConstants.{HEIGHT_LIMIT}
 
 -- how high a tree may be
 abbrev pub height_limit : ℕ
-height_limit = 64
+height_limit = HEIGHT_LIMIT
 
 abbrev mutual
   -- a leaf is 1 high, all else one higher than its highest part; round brackets leave no node in the tree

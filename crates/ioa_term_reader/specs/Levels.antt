@@ -1,97 +1,101 @@
--- How tightly the operators of terms bind, from 1, the loosest, to 13, the tightest, and how those of one level group (profile).
-use Rattle.std.specs.Prelude.{ℕ, suc, ◌==◌, ◌||◌, Option, Some, None, if◌then◌else◌}
+-- The operators of terms (profile): by which mark each is written, how tightly it binds, and how the operators of one
+-- level group. Level 1 is the loosest, 13 the tightest.
+use Rattle.std.specs.Prelude.{ℕ, suc, List, [], ◌∷◌, Option}
+use Rattle.std.specs.List.{find}
 use Rattle.ioa_tokens.specs.declared.mark.Mark.{Mark}
 use Rattle.ioa_tokens.specs.declared.mark.Mark.TheVariants as mark
 use Rattle.ioa_operators.specs.declared.operator.UnaryOperator.{UnaryOperator}
 use Rattle.ioa_operators.specs.declared.operator.UnaryOperator.TheVariants.{Not, Negative}
 use Rattle.ioa_operators.specs.declared.operator.BinaryOperator.{BinaryOperator}
 use Rattle.ioa_operators.specs.declared.operator.BinaryOperator.TheVariants as operator
+use Rattle.ioa_cursor.specs.Reading.{same_mark}
+use Rattle.ioa_term_reader.specs.declared.levels.Groups.{Groups}
+use Rattle.ioa_term_reader.specs.declared.levels.Groups.TheVariants.{FromLeft, FromRight, NoGrouping}
+use Rattle.ioa_term_reader.specs.declared.levels.InfixRow.{InfixRow}
+use Rattle.ioa_term_reader.specs.declared.levels.PrefixRow.{PrefixRow}
 
--- how the operators of a level group where several stand one after another: from the left, from the right, or not at all
-pub data Grouping : Type 0 where
-  from_left : Grouping
-  from_right : Grouping
-  no_grouping : Grouping
+abbrev row : Mark → ℕ → Groups → InfixRow
+row m l g = record { mark = m; level = l; groups = g }
 
--- the level of an operator between two terms; `m[k]` is written behind a term
+-- the operators between two terms; `m[k]` is written with two brackets, of which its mark is the first, and binds as
+-- `.f` does
+abbrev pub infix_row : BinaryOperator → InfixRow
+infix_row operator.Equivalent = row mark.Equivalent 1 FromLeft
+infix_row operator.Implies = row mark.Implies 2 FromRight
+infix_row operator.Or = row mark.Or 3 FromLeft
+infix_row operator.And = row mark.And 4 FromLeft
+infix_row operator.Equal = row mark.Equal 6 NoGrouping
+infix_row operator.NotEqual = row mark.NotEqual 6 NoGrouping
+infix_row operator.Less = row mark.Less 6 NoGrouping
+infix_row operator.AtMost = row mark.AtMost 6 NoGrouping
+infix_row operator.Greater = row mark.Greater 6 NoGrouping
+infix_row operator.AtLeast = row mark.AtLeast 6 NoGrouping
+infix_row operator.Member = row mark.Member 6 NoGrouping
+infix_row operator.Prepend = row mark.Prepend 7 FromRight
+infix_row operator.Append = row mark.Append 8 FromLeft
+infix_row operator.Concatenate = row mark.Concatenate 8 FromLeft
+infix_row operator.Plus = row mark.Plus 9 FromLeft
+infix_row operator.Minus = row mark.Minus 9 FromLeft
+infix_row operator.Times = row mark.Times 10 FromLeft
+infix_row operator.At = row mark.OpenSquare 12 FromLeft
+
+-- the operators that are written between their two terms: all but `m[k]`
+abbrev pub infix_operators : List BinaryOperator
+infix_operators =
+    operator.Equivalent ∷ operator.Implies ∷ operator.Or ∷ operator.And ∷ operator.Equal ∷ operator.NotEqual
+    ∷ operator.Less ∷ operator.AtMost ∷ operator.Greater ∷ operator.AtLeast ∷ operator.Member ∷ operator.Prepend
+    ∷ operator.Append ∷ operator.Concatenate ∷ operator.Plus ∷ operator.Minus ∷ operator.Times ∷ []
+
+-- the operators before a term
+abbrev pub prefix_row : UnaryOperator → PrefixRow
+prefix_row Not = record { mark = mark.Not; level = 5 }
+prefix_row Negative = record { mark = mark.Minus; level = 11 }
+
+abbrev pub prefix_operators : List UnaryOperator
+prefix_operators = Not ∷ Negative ∷ []
+
+-- the mark of an operator, and the operator of a mark
+abbrev pub infix_mark : BinaryOperator → Mark
+infix_mark op = (infix_row op).mark
+
+abbrev pub infix_of : Mark → Option BinaryOperator
+infix_of m = find (λ op. same_mark (infix_mark op) m) infix_operators
+
+abbrev pub prefix_mark : UnaryOperator → Mark
+prefix_mark op = (prefix_row op).mark
+
+abbrev pub prefix_of : Mark → Option UnaryOperator
+prefix_of m = find (λ op. same_mark (prefix_mark op) m) prefix_operators
+
+-- the level of an operator
 abbrev pub level : BinaryOperator → ℕ
-level operator.Equivalent = 1
-level operator.Implies = 2
-level operator.Or = 3
-level operator.And = 4
-level operator.Equal = 6
-level operator.NotEqual = 6
-level operator.Less = 6
-level operator.AtMost = 6
-level operator.Greater = 6
-level operator.AtLeast = 6
-level operator.Member = 6
-level operator.Prepend = 7
-level operator.Append = 8
-level operator.Concatenate = 8
-level operator.Plus = 9
-level operator.Minus = 9
-level operator.Times = 10
-level operator.At = 12
+level op = (infix_row op).level
 
--- the level of an operator before a term
 abbrev pub prefix_level : UnaryOperator → ℕ
-prefix_level Not = 5
-prefix_level Negative = 11
+prefix_level op = (prefix_row op).level
 
 -- the level of `.f` and `[k]` behind a term
 abbrev pub postfix_level : ℕ
 postfix_level = 12
 
--- the level of numbers, words, calls, displays and of what stands in brackets
+-- the level of numbers, words, calls, displays and of terms in brackets
 abbrev pub atom_level : ℕ
 atom_level = 13
 
--- how a level groups: `=>` and `-|` from the right, comparisons not at all, the others from the left
-abbrev pub grouping : ℕ → Grouping
-grouping l = if (l == 2) || (l == 7) then from_right else (if l == 6 then no_grouping else from_left)
-
 -- the loosest level of the left side of an operator of a level
-abbrev pub left_side : Grouping → ℕ → ℕ
-left_side from_left l = l
-left_side from_right l = suc l
-left_side no_grouping l = suc l
+abbrev pub left_side : Groups → ℕ → ℕ
+left_side FromLeft l = l
+left_side FromRight l = suc l
+left_side NoGrouping l = suc l
 
 -- the loosest level of its right side
-abbrev pub right_side : Grouping → ℕ → ℕ
-right_side from_left l = suc l
-right_side from_right l = l
-right_side no_grouping l = suc l
+abbrev pub right_side : Groups → ℕ → ℕ
+right_side FromLeft l = suc l
+right_side FromRight l = l
+right_side NoGrouping l = suc l
 
 abbrev pub left_level : BinaryOperator → ℕ
-left_level op = left_side (grouping (level op)) (level op)
+left_level op = left_side (infix_row op).groups (level op)
 
 abbrev pub right_level : BinaryOperator → ℕ
-right_level op = right_side (grouping (level op)) (level op)
-
--- the operator that a mark is before a term
-abbrev pub prefix_of : Mark → Option UnaryOperator
-prefix_of mark.Not = Some Not
-prefix_of mark.Minus = Some Negative
-prefix_of _ = None
-
--- the operator that a mark is between two terms
-abbrev pub infix_of : Mark → Option BinaryOperator
-infix_of mark.Equivalent = Some operator.Equivalent
-infix_of mark.Implies = Some operator.Implies
-infix_of mark.Or = Some operator.Or
-infix_of mark.And = Some operator.And
-infix_of mark.Equal = Some operator.Equal
-infix_of mark.NotEqual = Some operator.NotEqual
-infix_of mark.Less = Some operator.Less
-infix_of mark.AtMost = Some operator.AtMost
-infix_of mark.Greater = Some operator.Greater
-infix_of mark.AtLeast = Some operator.AtLeast
-infix_of mark.Member = Some operator.Member
-infix_of mark.Prepend = Some operator.Prepend
-infix_of mark.Append = Some operator.Append
-infix_of mark.Concatenate = Some operator.Concatenate
-infix_of mark.Plus = Some operator.Plus
-infix_of mark.Minus = Some operator.Minus
-infix_of mark.Times = Some operator.Times
-infix_of _ = None
+right_level op = right_side (infix_row op).groups (level op)

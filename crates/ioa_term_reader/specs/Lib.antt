@@ -4,4 +4,6 @@ pub mod Heights
 pub mod Levels
 pub mod Reading
 pub mod Spelling
-pub mod Groupings
+pub mod Views
+-- the steps of reading, which the attributes `unfolding(..)` name
+pub use Rattle.ioa_cursor.specs.Reading.{bind, choose}

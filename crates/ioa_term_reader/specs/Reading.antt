@@ -1,28 +1,31 @@
 -- How the reader goes through the tokens of a term (profile): by precedence climbing.
-use Rattle.std.specs.Prelude.{ℕ, zero, suc, ◌-◌, true, false, ◌&&◌, nat_le, nat_eq, List, [], Option, Some, None, if◌then◌else◌}
+use Rattle.std.specs.Prelude.{ℕ, zero, suc, ◌-◌, ◌+◌, true, false, ◌&&◌, nat_le, nat_eq, if◌then◌else◌}
+use Rattle.std.specs.Prelude.{List, [], Option, Some, None}
 use Rattle.std.specs.Option.{option_map}
 use Rattle.ioa_tokens.specs.declared.token.Token.{Token}
 use Rattle.ioa_tokens.specs.declared.mark.Mark.{Mark}
 use Rattle.ioa_tokens.specs.declared.mark.Mark.TheVariants as mark
 use Rattle.ioa_operators.specs.declared.operator.UnaryOperator.{UnaryOperator}
-use Rattle.ioa_operators.specs.declared.operator.UnaryOperator.TheVariants.{Not, Negative}
 use Rattle.ioa_operators.specs.declared.operator.BinaryOperator.TheVariants.{At}
 use Rattle.ioa_operators.specs.declared.shape.DisplayForm.{DisplayForm}
 use Rattle.ioa_operators.specs.declared.shape.DisplayForm.TheVariants.{Braces, Brackets}
 use Rattle.ioa_terms.specs.PlainTerm as plain
 use Rattle.ioa_terms.specs.PlainTerm.{no_terms, terms_of}
 use Rattle.ioa_source.specs.Sides.{SourceTerm}
-use Rattle.ioa_cursor.specs.Reading.{◌>>=◌, choose, skip, expect, word, number, at_number, at_word, peek_mark, advance, several_more}
+use Rattle.ioa_cursor.specs.Reading.{◌>>=◌, choose, skip, expect, word, number}
+use Rattle.ioa_cursor.specs.Reading.{at_number, at_word, peek_mark, advance, several_more}
 use Rattle.ioa_term_reader.specs.Heights.{height, height_limit}
-use Rattle.ioa_term_reader.specs.Levels.{prefix_level, infix_of, level, left_level, right_level, postfix_level, atom_level}
+use Rattle.ioa_term_reader.specs.Grammar.{bracket_limit}
+use Rattle.ioa_term_reader.specs.Levels.{prefix_of, prefix_level, infix_of, level, left_level, right_level}
+use Rattle.ioa_term_reader.specs.Levels.{postfix_level, atom_level}
 use Rattle.ioa_term_reader.specs.declared.after.After.{After}
 use Rattle.ioa_term_reader.specs.declared.after.After.TheVariants.{Infix, Field, Key}
 
--- a tree, where it is not too high
+-- a tree, if it is not too high
 unfoldable pub limited_term : SourceTerm → Option SourceTerm
 limited_term t = if nat_le (height t) height_limit then Some t else None
 
--- a term that was read, the tightest level that it stands at, and what comes after it
+-- a term that was read with the tightest level that it has, and what comes after it
 abbrev pub TermAtLevel : Type 0
 TermAtLevel = (ℕ × SourceTerm) × List Token
 
@@ -35,7 +38,7 @@ after_of mark.Dot = Some Field
 after_of mark.OpenSquare = Some Key
 after_of m = option_map Infix (infix_of m)
 
--- the level of a term that went on so
+-- the level of a term that has gone on so
 abbrev pub level_of : After → ℕ
 level_of (Infix op) = level op
 level_of Field = postfix_level
@@ -47,12 +50,13 @@ left_of (Infix op) = left_level op
 left_of Field = postfix_level
 left_of Key = postfix_level
 
--- how a term of level `most` goes on, where no operator looser than `least` may stand
+-- how a term of level `most` goes on if no operator looser than `least` is allowed
 unfoldable pub accepted_after : ℕ → ℕ → List Token → Option After
 accepted_after least most xs =
-    peek_mark xs >>= λ m. after_of m >>= λ a. choose (nat_le least (level_of a) && nat_le (left_of a) most) (Some a) None
+    peek_mark xs >>= λ m. after_of m >>= λ a.
+    choose (nat_le least (level_of a) && nat_le (left_of a) most) (Some a) None
 
--- a term is read by what reads a part of it at a level, where so many brackets more may be opened
+-- a term is read by what reads a part of it; that takes how many brackets more may be opened, and the loosest level
 module _ (next : ℕ → ℕ → List Token → Option (SourceTerm × List Token)) where
   -- Term {, Term}
   unfoldable pub terms_in : ℕ → List Token → Option (List SourceTerm × List Token)
@@ -68,7 +72,8 @@ module _ (next : ℕ → ℕ → List Token → Option (SourceTerm × List Token
   unfoldable pub display_term : DisplayForm → Mark → ℕ → List Token → Option TermAtLevel
   display_term form close room xs =
       choose (nat_eq room 0) None
-      (terms_in (room - 1) xs >>= λ ts. expect close ts.1 >>= λ c. limited_term (plain.display form tt (terms_of ts.0)) >>= λ t. term_at_level atom_level t c.1)
+      (terms_in (room - 1) xs >>= λ ts. expect close ts.1 >>= λ c.
+      limited_term (plain.display form tt (terms_of ts.0)) >>= λ t. term_at_level atom_level t c.1)
 
   -- [Term {, Term}] }, behind the first bracket
   unfoldable pub braced_term : ℕ → List Token → Option TermAtLevel
@@ -82,7 +87,8 @@ module _ (next : ℕ → ℕ → List Token → Option (SourceTerm × List Token
   unfoldable pub call_term : ℕ → List ℕ → List Token → Option TermAtLevel
   call_term room w xs =
       choose (nat_eq room 0) None
-      (terms_in (room - 1) xs >>= λ ts. expect mark.CloseRound ts.1 >>= λ c. limited_term (plain.call w (terms_of ts.0)) >>= λ t. term_at_level atom_level t c.1)
+      (terms_in (room - 1) xs >>= λ ts. expect mark.CloseRound ts.1 >>= λ c.
+      limited_term (plain.call w (terms_of ts.0)) >>= λ t. term_at_level atom_level t c.1)
 
   -- [ ( Term {, Term} ) ], behind a word
   unfoldable pub word_term : ℕ → List ℕ → List Token → Option TermAtLevel
@@ -95,8 +101,13 @@ module _ (next : ℕ → ℕ → List Token → Option (SourceTerm × List Token
   unfoldable pub prefixed_term : ℕ → ℕ → UnaryOperator → List Token → Option TermAtLevel
   prefixed_term room least op xs =
       choose (nat_le least (prefix_level op))
-      (next room (prefix_level op) xs >>= λ t. limited_term (plain.one op t.0) >>= λ u. term_at_level (prefix_level op) u t.1)
+      (next room (prefix_level op) xs >>= λ t.
+      limited_term (plain.one op t.0) >>= λ u. term_at_level (prefix_level op) u t.1)
       None
+
+  -- a term that an operator begins, behind the operator's mark
+  unfoldable pub operator_term : ℕ → ℕ → Mark → List Token → Option TermAtLevel
+  operator_term room least m xs = prefix_of m >>= λ op. prefixed_term room least op xs
 
   -- what a mark begins, behind it
   unfoldable pub marked_term : ℕ → ℕ → Mark → List Token → Option TermAtLevel
@@ -105,11 +116,9 @@ module _ (next : ℕ → ℕ → List Token → Option (SourceTerm × List Token
   marked_term room least mark.OpenRound xs = bracketed_term room xs
   marked_term room least mark.OpenBrace xs = braced_term room xs
   marked_term room least mark.OpenSquare xs = display_term Brackets mark.CloseSquare room xs
-  marked_term room least mark.Not xs = prefixed_term room least Not xs
-  marked_term room least mark.Minus xs = prefixed_term room least Negative xs
-  marked_term room least _ xs = None
+  marked_term room least m xs = operator_term room least m xs
 
-  -- a term up to its first operator between two terms, or what stands behind it
+  -- a term up to its first operator between two terms, and without `.f` or `[k]` behind it
   unfoldable pub operand : ℕ → ℕ → List Token → Option TermAtLevel
   operand room least xs =
       choose (at_number xs)
@@ -120,11 +129,13 @@ module _ (next : ℕ → ℕ → List Token → Option (SourceTerm × List Token
 
   -- a term that goes on, behind the mark
   unfoldable pub extended_term : ℕ → SourceTerm → After → List Token → Option (SourceTerm × List Token)
-  extended_term room left (Infix op) xs = next room (right_level op) xs >>= λ t. limited_term (plain.two op left t.0) >>= λ u. Some (u, t.1)
+  extended_term room left (Infix op) xs =
+      next room (right_level op) xs >>= λ t. limited_term (plain.two op left t.0) >>= λ u. Some (u, t.1)
   extended_term room left Field xs = word xs >>= λ w. limited_term (plain.field left w.0 tt) >>= λ u. Some (u, w.1)
   extended_term room left Key xs =
       choose (nat_eq room 0) None
-      (next (room - 1) 1 xs >>= λ t. expect mark.CloseSquare t.1 >>= λ c. limited_term (plain.two At left t.0) >>= λ u. Some (u, c.1))
+      (next (room - 1) 1 xs >>= λ t. expect mark.CloseSquare t.1 >>= λ c.
+      limited_term (plain.two At left t.0) >>= λ u. Some (u, c.1))
 
   -- a term of level `most` with all that it goes on with, in a number of turns: each turn makes it higher
   unfoldable pub climb : ℕ → ℕ → ℕ → ℕ → SourceTerm → List Token → Option (SourceTerm × List Token)
@@ -138,12 +149,13 @@ module _ (next : ℕ → ℕ → List Token → Option (SourceTerm × List Token
 -- a term of level `least` at the loosest; each part of it is read one deeper
 unfoldable pub read : ℕ → ℕ → ℕ → List Token → Option (SourceTerm × List Token)
 read zero room least xs = None
-read (suc depth) room least xs = operand (read depth) room least xs >>= λ o. climb (read depth) height_limit room least o.0.0 o.0.1 o.1
+read (suc depth) room least xs =
+    operand (read depth) room least xs >>= λ o. climb (read depth) height_limit room least o.0.0 o.0.1 o.1
 
 -- how deep a term within the limits goes: each part is less high, or in one bracket more
 abbrev pub depth_limit : ℕ
-depth_limit = 192
+depth_limit = height_limit + bracket_limit
 
--- a term, where so many brackets more may be opened
+-- a term; `room` is how many brackets more may be opened
 unfoldable pub term : ℕ → List Token → Option (SourceTerm × List Token)
 term room xs = read depth_limit room 1 xs

@@ -1,46 +1,19 @@
--- How a term is printed, as tokens: round brackets stand about every operator term that is a part of another, and nowhere
--- else (profile).
+-- How a term is printed, as tokens (profile): an operator term that is a part of another is in round brackets, and
+-- nothing else is.
 use Rattle.std.specs.Prelude.{Bool, true, false, List, [], ◌∷◌, ◌++◌, if◌then◌else◌}
 use Rattle.ioa_tokens.specs.declared.token.Token.{Token}
 use Rattle.ioa_tokens.specs.declared.token.Token.TheVariants as token
 use Rattle.ioa_tokens.specs.declared.mark.Mark.{Mark}
 use Rattle.ioa_tokens.specs.declared.mark.Mark.TheVariants as mark
-use Rattle.ioa_operators.specs.declared.operator.UnaryOperator.{UnaryOperator}
-use Rattle.ioa_operators.specs.declared.operator.UnaryOperator.TheVariants.{Not, Negative}
 use Rattle.ioa_operators.specs.declared.operator.BinaryOperator.{BinaryOperator}
 use Rattle.ioa_operators.specs.declared.operator.BinaryOperator.TheVariants as operator
 use Rattle.ioa_operators.specs.declared.shape.DisplayForm.{DisplayForm}
 use Rattle.ioa_operators.specs.declared.shape.DisplayForm.TheVariants.{Braces, Brackets}
 use Rattle.ioa_terms.specs.PlainTerm.{number, truth, name, one, two, call, display, field, no_terms, term}
 use Rattle.ioa_source.specs.Sides.{SourceTerm, SourceTerms}
+use Rattle.ioa_term_reader.specs.Levels.{prefix_mark, infix_mark}
 
--- the mark of an operator before a term
-abbrev pub prefix_mark : UnaryOperator → Mark
-prefix_mark Not = mark.Not
-prefix_mark Negative = mark.Minus
-
--- the mark of an operator between two terms; `m[k]` is written with two brackets, of which this is the first
-abbrev pub infix_mark : BinaryOperator → Mark
-infix_mark operator.Equivalent = mark.Equivalent
-infix_mark operator.Implies = mark.Implies
-infix_mark operator.Or = mark.Or
-infix_mark operator.And = mark.And
-infix_mark operator.Equal = mark.Equal
-infix_mark operator.NotEqual = mark.NotEqual
-infix_mark operator.Less = mark.Less
-infix_mark operator.AtMost = mark.AtMost
-infix_mark operator.Greater = mark.Greater
-infix_mark operator.AtLeast = mark.AtLeast
-infix_mark operator.Member = mark.Member
-infix_mark operator.Prepend = mark.Prepend
-infix_mark operator.Append = mark.Append
-infix_mark operator.Concatenate = mark.Concatenate
-infix_mark operator.Plus = mark.Plus
-infix_mark operator.Minus = mark.Minus
-infix_mark operator.Times = mark.Times
-infix_mark operator.At = mark.OpenSquare
-
--- what stands behind the second term: the last bracket of `m[k]`
+-- what is printed behind the second term: the last bracket of `m[k]`
 abbrev pub infix_end : BinaryOperator → List Token
 infix_end operator.At = token.Mark mark.CloseSquare ∷ []
 infix_end _ = []
@@ -59,14 +32,15 @@ abbrev pub closing : DisplayForm → Mark
 closing Braces = mark.CloseBrace
 closing Brackets = mark.CloseSquare
 
--- whether a term is an operator with its operands; `m[k]` and `x.f` bind as tightly as they can, as calls and displays do
+-- whether a term is an operator with its operands; `m[k]` and `x.f` bind as tightly as they can, as calls and displays
+-- do
 abbrev pub is_operation : SourceTerm → Bool
 is_operation (one op a) = true
 is_operation (two operator.At a b) = false
 is_operation (two _ a b) = true
 is_operation _ = false
 
--- a part of a term: in round brackets where it is an operation
+-- a part of a term: in round brackets if it is an operation
 abbrev pub in_brackets_if : Bool → List Token → List Token
 in_brackets_if b xs = if b then token.Mark mark.OpenRound ∷ (xs ++ token.Mark mark.CloseRound ∷ []) else xs
 
@@ -76,8 +50,11 @@ abbrev mutual
   spelling (truth b) = token.Mark (truth_mark b) ∷ []
   spelling (name w at) = token.Word w ∷ []
   spelling (one op a) = token.Mark (prefix_mark op) ∷ in_brackets_if (is_operation a) (spelling a)
-  spelling (two op a b) = in_brackets_if (is_operation a) (spelling a) ++ (token.Mark (infix_mark op) ∷ (in_brackets_if (is_operation b) (spelling b) ++ infix_end op))
-  spelling (call w ts) = token.Word w ∷ token.Mark mark.OpenRound ∷ (parts_spelling ts ++ token.Mark mark.CloseRound ∷ [])
+  spelling (two op a b) =
+      in_brackets_if (is_operation a) (spelling a)
+      ++ (token.Mark (infix_mark op) ∷ (in_brackets_if (is_operation b) (spelling b) ++ infix_end op))
+  spelling (call w ts) =
+      token.Word w ∷ token.Mark mark.OpenRound ∷ (parts_spelling ts ++ token.Mark mark.CloseRound ∷ [])
   spelling (display form shape ts) = token.Mark (opening form) ∷ (parts_spelling ts ++ token.Mark (closing form) ∷ [])
   spelling (field a w shape) = in_brackets_if (is_operation a) (spelling a) ++ (token.Mark mark.Dot ∷ token.Word w ∷ [])
 
@@ -89,4 +66,9 @@ abbrev mutual
   -- a comma before each of the parts
   pub more_parts_spelling : SourceTerms → List Token
   more_parts_spelling no_terms = []
-  more_parts_spelling (term t more) = token.Mark mark.Comma ∷ (in_brackets_if (is_operation t) (spelling t) ++ more_parts_spelling more)
+  more_parts_spelling (term t more) =
+      token.Mark mark.Comma ∷ (in_brackets_if (is_operation t) (spelling t) ++ more_parts_spelling more)
+
+-- a term that is a part of another
+abbrev pub part_spelling : SourceTerm → List Token
+part_spelling t = in_brackets_if (is_operation t) (spelling t)

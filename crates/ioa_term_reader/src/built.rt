@@ -5,7 +5,7 @@ ghost use Rattle.ioa_cursor.specs.declared.cursor.Unread.TheVariants.{Memory};
 ghost use Rattle.ioa_terms.specs.PlainTerm as plain;
 ghost use Rattle.ioa_terms.specs.PlainTerm.{terms_of};
 ghost use Rattle.ioa_terms.specs.View.{term_of};
-ghost use Rattle.ioa_term_reader.specs.Heights.{height, heights};
+ghost use Rattle.ioa_term_reader.specs.Heights.{height, height_limit, heights};
 ghost use Rattle.ioa_term_reader.specs.Reading as spec;
 ghost use Rattle.ioa_values.specs.Outcome.{Matches};
 
@@ -14,8 +14,8 @@ use ioa_terms::{BinaryOperator, DisplayForm, Term, Tree, UnaryOperator};
 use ioa_values::Word;
 use std::alloc::Global;
 
-/// How high the tree of a term may be.
-pub(crate) const HEIGHT_LIMIT: usize = 64;
+/// How high the tree of a term may be. Source: profile.
+pub const HEIGHT_LIMIT: usize = 64;
 
 /// The tree of a term, at most 64 high. A leaf is 1 high, all else one higher than its highest part.
 /// Source: profile.
@@ -23,7 +23,7 @@ pub(crate) const HEIGHT_LIMIT: usize = 64;
 pub struct Built {
     tree: Term,
     high: usize,
-    ghost low: { (high ≡ height (term_of tree)) × (high ≤ 64) },
+    ghost low: { (high ≡ height (term_of tree)) × (high ≤ height_limit) },
 }
 
 /// The trees of terms one after another, none of them more than 64 high.
@@ -31,14 +31,14 @@ pub struct Built {
 pub(crate) struct BuiltList {
     trees: Vec<Term>,
     high: usize,
-    ghost low: { (high ≡ heights (terms_of (map term_of trees.items))) × (high ≤ 64) },
+    ghost low: { (high ≡ heights (terms_of (map term_of trees.items))) × (high ≤ height_limit) },
 }
 
 impl Built {
     /// The tree.
     pub fn tree(&self) -> &Term
         ensures same { result.now ≡ self.now.tree }
-        ensures low { height (term_of result.now) ≤ 64 }
+        ensures low { height (term_of result.now) ≤ height_limit }
     {
         &self.tree
     }
@@ -46,7 +46,7 @@ impl Built {
     /// The tree itself.
     pub fn into_tree(self) -> Term
         ensures same { result ≡ self.tree }
-        ensures low { height (term_of result) ≤ 64 }
+        ensures low { height (term_of result) ≤ height_limit }
     {
         self.tree
     }
@@ -54,16 +54,17 @@ impl Built {
     /// How high the tree is.
     pub fn height(&self) -> usize
         ensures exact { result ≡ height (term_of self.now.tree) }
-        ensures low { result ≤ 64 }
+        ensures low { result ≤ height_limit }
     {
         self.high
     }
 
-    /// A tree, where it is not too high: else the refusal `deep`.
+    /// A tree, if it is not too high: else the refusal `deep`.
     #[tactic(auto, unfolding(crate::specs::Reading::limited_term))]
     fn limited_term(tree: Term, high: usize, deep: Unread) -> Result<Built, Unread>
         requires { high ≡ height (term_of tree) }
-        ensures meant { Matches Memory (λ b. term_of b.tree) result (spec.limited_term (term_of tree)) }
+        ensures meant { Matches Memory (λ b. term_of b.tree) result
+            (spec.limited_term (term_of tree)) }
         ensures told { IfErr result (λ e. e ≡ deep) }
     {
         if high <= HEIGHT_LIMIT {
@@ -110,7 +111,8 @@ impl Built {
         part: Built,
         deep: Unread,
     ) -> Result<Built, Unread>
-        ensures meant { Matches Memory (λ b. term_of b.tree) result (spec.limited_term (plain.one operator (term_of part.tree))) }
+        ensures meant { Matches Memory (λ b. term_of b.tree) result
+            (spec.limited_term (plain.one operator (term_of part.tree))) }
         ensures told { IfErr result (λ e. (e ≡ Memory) ⊎ (e ≡ deep)) }
     {
         let high = part.high + 1;
@@ -126,7 +128,8 @@ impl Built {
         right: Built,
         deep: Unread,
     ) -> Result<Built, Unread>
-        ensures meant { Matches Memory (λ b. term_of b.tree) result (spec.limited_term (plain.two operator (term_of left.tree) (term_of right.tree))) }
+        ensures meant { Matches Memory (λ b. term_of b.tree) result
+            (spec.limited_term (plain.two operator (term_of left.tree) (term_of right.tree))) }
         ensures told { IfErr result (λ e. (e ≡ Memory) ⊎ (e ≡ deep)) }
     {
         let high = left.high.max(right.high) + 1;
@@ -137,7 +140,8 @@ impl Built {
 
     /// A function of terms.
     pub(crate) fn call(name: Word, parts: BuiltList, deep: Unread) -> Result<Built, Unread>
-        ensures meant { Matches Memory (λ b. term_of b.tree) result (spec.limited_term (plain.call name (terms_of (map term_of parts.trees.items)))) }
+        ensures meant { Matches Memory (λ b. term_of b.tree) result
+            (spec.limited_term (plain.call name (terms_of (map term_of parts.trees.items)))) }
         ensures told { IfErr result (λ e. (e ≡ Memory) ⊎ (e ≡ deep)) }
     {
         let high = parts.high + 1;
@@ -150,7 +154,8 @@ impl Built {
         parts: BuiltList,
         deep: Unread,
     ) -> Result<Built, Unread>
-        ensures meant { Matches Memory (λ b. term_of b.tree) result (spec.limited_term (plain.display form tt (terms_of (map term_of parts.trees.items)))) }
+        ensures meant { Matches Memory (λ b. term_of b.tree) result
+            (spec.limited_term (plain.display form tt (terms_of (map term_of parts.trees.items)))) }
         ensures told { IfErr result (λ e. (e ≡ Memory) ⊎ (e ≡ deep)) }
     {
         let high = parts.high + 1;
@@ -174,7 +179,8 @@ impl Built {
         name: Word,
         deep: Unread,
     ) -> Result<Built, Unread>
-        ensures meant { Matches Memory (λ b. term_of b.tree) result (spec.limited_term (plain.field (term_of part.tree) name tt)) }
+        ensures meant { Matches Memory (λ b. term_of b.tree) result
+            (spec.limited_term (plain.field (term_of part.tree) name tt)) }
         ensures told { IfErr result (λ e. (e ≡ Memory) ⊎ (e ≡ deep)) }
     {
         let high = part.high + 1;
@@ -197,7 +203,8 @@ impl BuiltList {
     /// The terms with one more behind them.
     #[tactic(auto, using(crate::proofs::Pushed::heights_push, std::proofs::lemmas::List::map_push))]
     pub(crate) fn with_term(self, term: Built) -> Result<Self, Unread>
-        ensures { Matches Memory (λ l. map term_of l.trees.items) result (Some (map term_of self.trees.items ++ term_of term.tree ∷ [])) }
+        ensures { Matches Memory (λ l. map term_of l.trees.items) result
+            (Some (map term_of self.trees.items ++ term_of term.tree ∷ [])) }
     {
         let mut trees = self.trees;
         trees.push(term.tree)?;

@@ -1,16 +1,17 @@
 //! The reader of terms, by precedence climbing: an operand, and then what it goes on with, as far as
 //! the levels of the operators allow it.
 
-ghost use Rattle.std.specs.Prelude.{◌≡◌, map};
+ghost use Rattle.std.specs.Prelude.{◌≡◌};
 ghost use Rattle.ioa_cursor.specs.Outcome.{Reads};
-ghost use Rattle.ioa_terms.specs.View.{term_of};
+ghost use Rattle.ioa_term_reader.specs.Heights.{height_limit};
 ghost use Rattle.ioa_term_reader.specs.Levels as levels;
 ghost use Rattle.ioa_term_reader.specs.Reading as spec;
+ghost use Rattle.ioa_term_reader.specs.Views.{built_term, built_terms, leveled_term};
 
 use crate::after::After;
 use crate::built::{Built, BuiltList, HEIGHT_LIMIT};
 use crate::levels::{
-    ATOM_LEVEL, LOOSEST_LEVEL, accepted_after, level_of, prefix_level, right_level,
+    ATOM_LEVEL, LOOSEST_LEVEL, accepted_after, level_of, prefix_level, prefix_of, right_level,
 };
 use ioa_cursor::{Tokens, Unread};
 use ioa_terms::{BinaryOperator, DisplayForm, UnaryOperator};
@@ -24,7 +25,23 @@ pub const BRACKET_LIMIT: usize = 128;
 /// How deep a term within the limits goes: each part of it is less high, or in one bracket more.
 const DEPTH_LIMIT: usize = HEIGHT_LIMIT + BRACKET_LIMIT;
 
-/// A term that was read, and the tightest level that it stands at.
+/// How far a term may go: `depth` is how deep its parts may be read, `room` how many brackets more may
+/// be opened, and `least` the loosest level of an operator outside brackets.
+#[derive(Clone, Copy)]
+struct Bounds {
+    depth: usize,
+    room: usize,
+    least: usize,
+}
+
+/// The refusals of a term at its first token: as a token that no term has there, and as too deep.
+#[derive(Drop)]
+struct Refusals {
+    unexpected: Unread,
+    deep: Unread,
+}
+
+/// A term that was read, and the tightest level that it has.
 #[derive(Drop)]
 struct TermAtLevel {
     level: usize,
@@ -32,10 +49,10 @@ struct TermAtLevel {
 }
 
 impl TermAtLevel {
-    /// A term that stands wherever a number does.
+    /// A term that is as tight as a number.
     fn atom(built: Built) -> Self
         ensures level { result.level ≡ levels.atom_level }
-        ensures term { term_of result.built.tree ≡ term_of built.tree }
+        ensures term { built_term result.built ≡ built_term built }
     {
         TermAtLevel {
             level: ATOM_LEVEL,
@@ -44,14 +61,20 @@ impl TermAtLevel {
     }
 }
 
-/// A term. `room` is how many brackets more may be opened. Refused 12 at the first token that no term
-/// has there, 16 where that is a word that the profile leaves out, and 14 where the tree would be more
-/// than 64 high or more brackets are opened; or as Memory, where none is left. Source: profile.
+/// A term. `room` is how many brackets more may be opened. Refused as `Unexpected` (12) at the first
+/// token that no term has there, as `LeftOut` (16) if that is a word that the profile leaves out, and as
+/// `TooDeep` (14) if the tree would be more than 64 high or if too many brackets are opened. It is
+/// refused as `Memory` if no memory is left. Source: profile.
 #[tactic(auto, unfolding(crate::specs::Reading::term))]
 pub fn term(alloc: Global, tokens: &mut Tokens<'_>, room: usize) -> Result<Built, Unread>
-    ensures { Reads (λ b. term_of b.tree) (spec.term room tokens.old) result tokens.new }
+    ensures { Reads built_term (spec.term room tokens.old) result tokens.new }
 {
-    read(alloc, tokens, DEPTH_LIMIT, room, LOOSEST_LEVEL)
+    let bounds = Bounds {
+        depth: DEPTH_LIMIT,
+        room,
+        least: LOOSEST_LEVEL,
+    };
+    read(alloc, tokens, bounds)
 }
 
 /// Whether a term of level `least` at the loosest begins.
@@ -59,15 +82,16 @@ fn begins_term(tokens: &Tokens<'_>, least: usize) -> bool {
     match tokens.peek_mark() {
         Some(Mark::True | Mark::False) => true,
         Some(Mark::OpenRound | Mark::OpenBrace | Mark::OpenSquare) => true,
-        Some(Mark::Not) => least <= prefix_level(UnaryOperator::Not),
-        Some(Mark::Minus) => least <= prefix_level(UnaryOperator::Negative),
-        Some(_) => false,
+        Some(mark) => match prefix_of(mark) {
+            Some(operator) => least <= prefix_level(operator),
+            None => false,
+        },
         None => tokens.at_word() || tokens.at_number(),
     }
 }
 
-/// The refusal where a term can go no deeper: 14 where a part begins, which would be too high, else
-/// that of what comes next. Source: profile.
+/// The refusal of a term that can go no deeper: `TooDeep` (14) if a part begins, which would be too
+/// high, else the refusal of what comes next. Source: profile.
 fn refusal_at_depth(tokens: &Tokens<'_>, least: usize) -> Unread {
     if begins_term(tokens, least) {
         tokens.too_deep()
@@ -78,21 +102,19 @@ fn refusal_at_depth(tokens: &Tokens<'_>, least: usize) -> Unread {
 
 /// A term of level `least` at the loosest; each part of it is read one deeper.
 #[cycle(terms)]
-#[tactic(auto, unfolding(crate::specs::Reading::read, ioa_cursor::specs::Reading::bind))]
-fn read(
-    alloc: Global,
-    tokens: &mut Tokens<'_>,
-    depth: usize,
-    room: usize,
-    least: usize,
-) -> Result<Built, Unread>
-    ensures { Reads (λ b. term_of b.tree) (spec.read depth room least tokens.old) result tokens.new }
+#[tactic(auto, unfolding(crate::specs::Reading::read, crate::specs::bind))]
+fn read(alloc: Global, tokens: &mut Tokens<'_>, bounds: Bounds) -> Result<Built, Unread>
+    ensures { Reads built_term (spec.read bounds.depth bounds.room bounds.least tokens.old) result tokens.new }
 {
-    if depth == 0 {
-        return Err(refusal_at_depth(tokens, least));
+    if bounds.depth == 0 {
+        return Err(refusal_at_depth(tokens, bounds.least));
     }
-    let first = operand(alloc, tokens, depth - 1, room, least)?;
-    climb(alloc, tokens, depth - 1, room, least, first)
+    let deeper = Bounds {
+        depth: bounds.depth - 1,
+        ..bounds
+    };
+    let first = operand(alloc, tokens, deeper)?;
+    climb(alloc, tokens, deeper, first)
 }
 
 /// A term with all that it goes on with: each turn makes it higher.
@@ -100,22 +122,22 @@ fn read(
 fn climb(
     alloc: Global,
     tokens: &mut Tokens<'_>,
-    depth: usize,
-    room: usize,
-    least: usize,
+    bounds: Bounds,
     first: TermAtLevel,
 ) -> Result<Built, Unread>
-    ensures { Reads (λ b. term_of b.tree) (spec.climb (spec.read depth) 64 room least first.level (term_of first.built.tree) tokens.old) result tokens.new }
+    ensures { Reads built_term
+        (spec.climb (spec.read bounds.depth) height_limit bounds.room bounds.least first.level
+        (built_term first.built) tokens.old) result tokens.new }
 {
     let mut most = first.level;
     let mut left = first.built;
     for _turn in 0..HEIGHT_LIMIT {
-        match accepted_after(tokens, least, most) {
+        match accepted_after(tokens, bounds.least, most) {
             None => return Ok(left),
             Some(after) => {
                 let deep = tokens.too_deep();
                 tokens.advance();
-                left = extended_term(alloc, tokens, depth, room, left, after, deep)?;
+                left = extended_term(alloc, tokens, bounds, left, after, deep)?;
                 most = level_of(after);
             }
         }
@@ -125,21 +147,22 @@ fn climb(
 
 /// A term that goes on, behind the mark. `deep` is the refusal of a tree that is too high.
 #[cycle(terms)]
-#[tactic(auto, unfolding(crate::specs::Reading::extended_term, ioa_cursor::specs::Reading::bind, ioa_cursor::specs::Reading::choose))]
+#[tactic(auto, unfolding(crate::specs::Reading::extended_term, crate::specs::bind, crate::specs::choose))]
 fn extended_term(
     alloc: Global,
     tokens: &mut Tokens<'_>,
-    depth: usize,
-    room: usize,
+    bounds: Bounds,
     left: Built,
     after: After,
     deep: Unread,
 ) -> Result<Built, Unread>
-    ensures { Reads (λ b. term_of b.tree) (spec.extended_term (spec.read depth) room (term_of left.tree) after tokens.old) result tokens.new }
+    ensures { Reads built_term
+        (spec.extended_term (spec.read bounds.depth) bounds.room (built_term left) after tokens.old) result tokens.new }
 {
     match after {
         After::Infix(operator) => {
-            let right = read(alloc, tokens, depth, room, right_level(operator))?;
+            let least = right_level(operator);
+            let right = read(alloc, tokens, Bounds { least, ..bounds })?;
             Built::two(alloc, operator, left, right, deep)
         }
         After::Field => {
@@ -147,27 +170,27 @@ fn extended_term(
             Built::field(alloc, left, name, deep)
         }
         After::Key => {
-            if room == 0 {
+            if bounds.room == 0 {
                 return Err(deep);
             }
-            let key = read(alloc, tokens, depth, room - 1, LOOSEST_LEVEL)?;
+            let inside = Bounds {
+                room: bounds.room - 1,
+                least: LOOSEST_LEVEL,
+                ..bounds
+            };
+            let key = read(alloc, tokens, inside)?;
             tokens.expect(Mark::CloseSquare)?;
             Built::two(alloc, BinaryOperator::At, left, key, deep)
         }
     }
 }
 
-/// A term up to its first operator between two terms, or what stands behind it.
+/// A term up to its first operator between two terms, and without `.f` or `[k]` behind it.
 #[cycle(terms)]
-#[tactic(auto, unfolding(crate::specs::Reading::operand, crate::specs::Reading::word_term, ioa_cursor::specs::Reading::bind, ioa_cursor::specs::Reading::choose))]
-fn operand(
-    alloc: Global,
-    tokens: &mut Tokens<'_>,
-    depth: usize,
-    room: usize,
-    least: usize,
-) -> Result<TermAtLevel, Unread>
-    ensures { Reads (λ o. (o.level, term_of o.built.tree)) (spec.operand (spec.read depth) room least tokens.old) result tokens.new }
+#[tactic(auto, unfolding(crate::specs::Reading::operand, crate::specs::bind, crate::specs::choose))]
+fn operand(alloc: Global, tokens: &mut Tokens<'_>, bounds: Bounds) -> Result<TermAtLevel, Unread>
+    ensures { Reads leveled_term
+        (spec.operand (spec.read bounds.depth) bounds.room bounds.least tokens.old) result tokens.new }
 {
     let deep = tokens.too_deep();
     if tokens.at_number() {
@@ -176,141 +199,177 @@ fn operand(
     }
     if tokens.at_word() {
         let name = tokens.word(alloc)?;
-        if !tokens.skip(Mark::OpenRound) {
-            return Ok(TermAtLevel::atom(Built::name(name)));
-        }
-        return call_term(alloc, tokens, depth, room, name, deep);
+        return word_term(alloc, tokens, bounds, name, deep);
     }
-    let refusal = tokens.refusal();
+    let unexpected = tokens.refusal();
     match tokens.peek_mark() {
-        None => Err(refusal),
+        None => Err(unexpected),
         Some(mark) => {
             tokens.advance();
-            marked_term(alloc, tokens, depth, room, least, mark, refusal, deep)
+            marked_term(alloc, tokens, bounds, mark, Refusals { unexpected, deep })
         }
     }
 }
 
-/// What a mark begins, behind it. `refusal` is the refusal of the mark.
+/// [`(` Term {`,` Term} `)`], behind the word of a name or a call.
+#[cycle(terms)]
+#[tactic(auto, unfolding(crate::specs::Reading::word_term, crate::specs::choose))]
+fn word_term(
+    alloc: Global,
+    tokens: &mut Tokens<'_>,
+    bounds: Bounds,
+    name: Word,
+    deep: Unread,
+) -> Result<TermAtLevel, Unread>
+    ensures { Reads leveled_term
+        (spec.word_term (spec.read bounds.depth) bounds.room name tokens.old) result tokens.new }
+{
+    if tokens.skip(Mark::OpenRound) {
+        call_term(alloc, tokens, bounds, name, deep)
+    } else {
+        Ok(TermAtLevel::atom(Built::name(name)))
+    }
+}
+
+/// What a mark begins, behind it. `refusals` are those at the mark.
 #[cycle(terms)]
 #[tactic(auto, unfolding(crate::specs::Reading::marked_term))]
 fn marked_term(
     alloc: Global,
     tokens: &mut Tokens<'_>,
-    depth: usize,
-    room: usize,
-    least: usize,
+    bounds: Bounds,
     mark: Mark,
-    refusal: Unread,
-    deep: Unread,
+    refusals: Refusals,
 ) -> Result<TermAtLevel, Unread>
-    ensures { Reads (λ o. (o.level, term_of o.built.tree)) (spec.marked_term (spec.read depth) room least mark tokens.old) result tokens.new }
+    ensures { Reads leveled_term
+        (spec.marked_term (spec.read bounds.depth) bounds.room bounds.least mark tokens.old) result tokens.new }
 {
     match mark {
         Mark::True => Ok(TermAtLevel::atom(Built::truth(true))),
         Mark::False => Ok(TermAtLevel::atom(Built::truth(false))),
-        Mark::OpenRound => bracketed_term(alloc, tokens, depth, room, deep),
-        Mark::OpenBrace => braced_term(alloc, tokens, depth, room, deep),
+        Mark::OpenRound => bracketed_term(alloc, tokens, bounds, refusals.deep),
+        Mark::OpenBrace => braced_term(alloc, tokens, bounds, refusals.deep),
         Mark::OpenSquare => {
             let (form, close) = (DisplayForm::Brackets, Mark::CloseSquare);
-            display_term(alloc, tokens, depth, room, form, close, deep)
+            display_term(alloc, tokens, bounds, form, close, refusals.deep)
         }
-        Mark::Not => {
-            let operator = UnaryOperator::Not;
-            prefixed_term(alloc, tokens, depth, room, least, operator, refusal, deep)
-        }
-        Mark::Minus => {
-            let operator = UnaryOperator::Negative;
-            prefixed_term(alloc, tokens, depth, room, least, operator, refusal, deep)
-        }
-        _ => Err(refusal),
+        _ => operator_term(alloc, tokens, bounds, mark, refusals),
+    }
+}
+
+/// A term that an operator begins, behind the operator's mark.
+#[cycle(terms)]
+#[tactic(auto, unfolding(crate::specs::Reading::operator_term, crate::specs::bind))]
+fn operator_term(
+    alloc: Global,
+    tokens: &mut Tokens<'_>,
+    bounds: Bounds,
+    mark: Mark,
+    refusals: Refusals,
+) -> Result<TermAtLevel, Unread>
+    ensures { Reads leveled_term
+        (spec.operator_term (spec.read bounds.depth) bounds.room bounds.least mark tokens.old) result tokens.new }
+{
+    match prefix_of(mark) {
+        Some(operator) => prefixed_term(alloc, tokens, bounds, operator, refusals),
+        None => Err(refusals.unexpected),
     }
 }
 
 /// A term of an operator's level, behind the operator.
 #[cycle(terms)]
-#[tactic(auto, unfolding(crate::specs::Reading::prefixed_term, ioa_cursor::specs::Reading::bind, ioa_cursor::specs::Reading::choose))]
+#[tactic(auto, unfolding(crate::specs::Reading::prefixed_term, crate::specs::bind, crate::specs::choose))]
 fn prefixed_term(
     alloc: Global,
     tokens: &mut Tokens<'_>,
-    depth: usize,
-    room: usize,
-    least: usize,
+    bounds: Bounds,
     operator: UnaryOperator,
-    refusal: Unread,
-    deep: Unread,
+    refusals: Refusals,
 ) -> Result<TermAtLevel, Unread>
-    ensures { Reads (λ o. (o.level, term_of o.built.tree)) (spec.prefixed_term (spec.read depth) room least operator tokens.old) result tokens.new }
+    ensures { Reads leveled_term
+        (spec.prefixed_term (spec.read bounds.depth) bounds.room bounds.least operator tokens.old) result tokens.new }
 {
     let level = prefix_level(operator);
-    if level < least {
-        return Err(refusal);
+    if level < bounds.least {
+        return Err(refusals.unexpected);
     }
-    let part = read(alloc, tokens, depth, room, level)?;
-    let built = Built::one(alloc, operator, part, deep)?;
+    let inner = Bounds {
+        least: level,
+        ..bounds
+    };
+    let part = read(alloc, tokens, inner)?;
+    let built = Built::one(alloc, operator, part, refusals.deep)?;
     Ok(TermAtLevel { level, built })
 }
 
 /// Term `)`, behind the first bracket.
 #[cycle(terms)]
-#[tactic(auto, unfolding(crate::specs::Reading::bracketed_term, ioa_cursor::specs::Reading::bind, ioa_cursor::specs::Reading::choose))]
+#[tactic(auto, unfolding(crate::specs::Reading::bracketed_term, crate::specs::bind, crate::specs::choose))]
 fn bracketed_term(
     alloc: Global,
     tokens: &mut Tokens<'_>,
-    depth: usize,
-    room: usize,
+    bounds: Bounds,
     deep: Unread,
 ) -> Result<TermAtLevel, Unread>
-    ensures { Reads (λ o. (o.level, term_of o.built.tree)) (spec.bracketed_term (spec.read depth) room tokens.old) result tokens.new }
+    ensures { Reads leveled_term
+        (spec.bracketed_term (spec.read bounds.depth) bounds.room tokens.old) result tokens.new }
 {
-    if room == 0 {
+    if bounds.room == 0 {
         return Err(deep);
     }
-    let inner = read(alloc, tokens, depth, room - 1, LOOSEST_LEVEL)?;
+    let inside = Bounds {
+        room: bounds.room - 1,
+        least: LOOSEST_LEVEL,
+        ..bounds
+    };
+    let inner = read(alloc, tokens, inside)?;
     tokens.expect(Mark::CloseRound)?;
     Ok(TermAtLevel::atom(inner))
 }
 
 /// [Term {`,` Term}] `}`, behind the first bracket.
 #[cycle(terms)]
-#[tactic(auto, unfolding(crate::specs::Reading::braced_term, ioa_cursor::specs::Reading::choose))]
+#[tactic(auto, unfolding(crate::specs::Reading::braced_term, crate::specs::choose))]
 fn braced_term(
     alloc: Global,
     tokens: &mut Tokens<'_>,
-    depth: usize,
-    room: usize,
+    bounds: Bounds,
     deep: Unread,
 ) -> Result<TermAtLevel, Unread>
-    ensures { Reads (λ o. (o.level, term_of o.built.tree)) (spec.braced_term (spec.read depth) room tokens.old) result tokens.new }
+    ensures { Reads leveled_term (spec.braced_term (spec.read bounds.depth) bounds.room tokens.old) result tokens.new }
 {
-    if room == 0 {
+    if bounds.room == 0 {
         return Err(deep);
     }
     if tokens.skip(Mark::CloseBrace) {
         return Ok(TermAtLevel::atom(Built::empty(alloc)));
     }
     let (form, close) = (DisplayForm::Braces, Mark::CloseBrace);
-    display_term(alloc, tokens, depth, room, form, close, deep)
+    display_term(alloc, tokens, bounds, form, close, deep)
 }
 
 /// Term {`,` Term} and a bracket, behind the first bracket of a display.
 #[cycle(terms)]
-#[tactic(auto, unfolding(crate::specs::Reading::display_term, ioa_cursor::specs::Reading::bind, ioa_cursor::specs::Reading::choose))]
+#[tactic(auto, unfolding(crate::specs::Reading::display_term, crate::specs::bind, crate::specs::choose))]
 fn display_term(
     alloc: Global,
     tokens: &mut Tokens<'_>,
-    depth: usize,
-    room: usize,
+    bounds: Bounds,
     form: DisplayForm,
     close: Mark,
     deep: Unread,
 ) -> Result<TermAtLevel, Unread>
-    ensures { Reads (λ o. (o.level, term_of o.built.tree)) (spec.display_term (spec.read depth) form close room tokens.old) result tokens.new }
+    ensures { Reads leveled_term
+        (spec.display_term (spec.read bounds.depth) form close bounds.room tokens.old) result tokens.new }
 {
-    if room == 0 {
+    if bounds.room == 0 {
         return Err(deep);
     }
-    let parts = terms_in(alloc, tokens, depth, room - 1)?;
+    let inside = Bounds {
+        room: bounds.room - 1,
+        ..bounds
+    };
+    let parts = terms_in(alloc, tokens, inside)?;
     tokens.expect(close)?;
     let built = Built::display(form, parts, deep)?;
     Ok(TermAtLevel::atom(built))
@@ -318,21 +377,25 @@ fn display_term(
 
 /// Term {`,` Term} `)`, behind the word and the first bracket of a call.
 #[cycle(terms)]
-#[tactic(auto, unfolding(crate::specs::Reading::call_term, ioa_cursor::specs::Reading::bind, ioa_cursor::specs::Reading::choose))]
+#[tactic(auto, unfolding(crate::specs::Reading::call_term, crate::specs::bind, crate::specs::choose))]
 fn call_term(
     alloc: Global,
     tokens: &mut Tokens<'_>,
-    depth: usize,
-    room: usize,
+    bounds: Bounds,
     name: Word,
     deep: Unread,
 ) -> Result<TermAtLevel, Unread>
-    ensures { Reads (λ o. (o.level, term_of o.built.tree)) (spec.call_term (spec.read depth) room name tokens.old) result tokens.new }
+    ensures { Reads leveled_term
+        (spec.call_term (spec.read bounds.depth) bounds.room name tokens.old) result tokens.new }
 {
-    if room == 0 {
+    if bounds.room == 0 {
         return Err(deep);
     }
-    let parts = terms_in(alloc, tokens, depth, room - 1)?;
+    let inside = Bounds {
+        room: bounds.room - 1,
+        ..bounds
+    };
+    let parts = terms_in(alloc, tokens, inside)?;
     tokens.expect(Mark::CloseRound)?;
     let built = Built::call(name, parts, deep)?;
     Ok(TermAtLevel::atom(built))
@@ -340,22 +403,21 @@ fn call_term(
 
 /// Term {`,` Term}
 #[cycle(terms)]
-#[tactic(auto, unfolding(crate::specs::Reading::terms_in, ioa_cursor::specs::Reading::bind))]
-fn terms_in(
-    alloc: Global,
-    tokens: &mut Tokens<'_>,
-    depth: usize,
-    room: usize,
-) -> Result<BuiltList, Unread>
-    ensures { Reads (λ l. map term_of l.trees.items) (spec.terms_in (spec.read depth) room tokens.old) result tokens.new }
+#[tactic(auto, unfolding(crate::specs::Reading::terms_in, crate::specs::bind))]
+fn terms_in(alloc: Global, tokens: &mut Tokens<'_>, bounds: Bounds) -> Result<BuiltList, Unread>
+    ensures { Reads built_terms (spec.terms_in (spec.read bounds.depth) bounds.room tokens.old) result tokens.new }
 {
-    let first = read(alloc, tokens, depth, room, LOOSEST_LEVEL)?;
+    let each = Bounds {
+        least: LOOSEST_LEVEL,
+        ..bounds
+    };
+    let first = read(alloc, tokens, each)?;
     let mut terms = BuiltList::new(alloc).with_term(first)?;
     for _turn in 0..tokens.len() {
         if !tokens.skip(Mark::Comma) {
             return Ok(terms);
         }
-        let next = read(alloc, tokens, depth, room, LOOSEST_LEVEL)?;
+        let next = read(alloc, tokens, each)?;
         terms = terms.with_term(next)?;
     }
     Ok(terms)
