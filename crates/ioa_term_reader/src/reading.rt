@@ -90,16 +90,6 @@ fn begins_term(tokens: &Tokens<'_>, least: usize) -> bool {
     }
 }
 
-/// The refusal of a term that can go no deeper: `TooDeep` (14) if a part begins, which would be too
-/// high, else the refusal of what comes next. Source: profile.
-fn refusal_at_depth(tokens: &Tokens<'_>, least: usize) -> Unread {
-    if begins_term(tokens, least) {
-        tokens.too_deep()
-    } else {
-        tokens.refusal()
-    }
-}
-
 /// A term of level `least` at the loosest; each part of it is read one deeper.
 #[cycle(terms)]
 #[tactic(auto, unfolding(crate::specs::Reading::read, crate::specs::bind))]
@@ -107,7 +97,8 @@ fn read(alloc: Global, tokens: &mut Tokens<'_>, bounds: Bounds) -> Result<Built,
     ensures { Reads built_term (spec.read bounds.depth bounds.room bounds.least tokens.old) result tokens.new }
 {
     if bounds.depth == 0 {
-        return Err(refusal_at_depth(tokens, bounds.least));
+        let begins = begins_term(tokens, bounds.least);
+        return Err(tokens.refusal_at_depth(begins));
     }
     let deeper = Bounds {
         depth: bounds.depth - 1,

@@ -62,16 +62,6 @@ fn begins_statement(tokens: &Tokens<'_>) -> bool
     tokens.at_word() || tokens.at(Mark::If)
 }
 
-/// The refusal at the depth below which no statement is read: `TooDeep` (14) if a statement begins,
-/// which would be too high, else the refusal of what comes next. Source: profile.
-fn refusal_at_depth(tokens: &Tokens<'_>) -> Unread {
-    if begins_statement(tokens) {
-        tokens.too_deep()
-    } else {
-        tokens.refusal()
-    }
-}
-
 /// Whether statements go on after a semicolon. Goes past the semicolon.
 #[tactic(auto, unfolding(ioa_cursor::specs::Reading::resumes_with))]
 fn resumes_with_statement(tokens: &mut Tokens<'_>) -> bool
@@ -95,7 +85,8 @@ fn statements_in(
     ensures { Reads (λ l. map statement_of l.statements.items) (spec.statements_in depth tokens.old) result tokens.new }
 {
     if depth == 0 {
-        return Err(refusal_at_depth(tokens));
+        let begins = begins_statement(tokens);
+        return Err(tokens.refusal_at_depth(begins));
     }
     let first = one_statement(alloc, tokens, depth - 1)?;
     let mut statements = BuiltStatements::new(alloc).with_statement(first)?;
