@@ -110,7 +110,7 @@ with_field (tuples type names ss) w v d = with_part names w v d
 with_field _ _ _ _ = None
 
 -- a display `{..}` or `[..]` that has a shape, of the values of its parts: those of a tuple have the shapes of its
--- fields, those of a sequence or a set are not asked, and that of a map has none
+-- fields, the shapes of those of a sequence or a set are not checked, and that of a map has none
 abbrev pub display_value : DisplayForm → PlainShape → List Data → Option Data
 display_value Braces (sequences s) ds = Some (sequence_of ds)
 display_value Braces (sets s) ds = Some (finite_set_of (set_of ds))

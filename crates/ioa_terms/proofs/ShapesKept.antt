@@ -1,13 +1,13 @@
 -- Values that operators, functions, displays and fields make of values with their shapes have theirs.
-use Rattle.std.proofs.Common.{◌≡◌, ℕ, zero, suc, Bool, true, false, List, [], ◌∷◌, ◌++◌, Option, Some, None, refl, subst, if◌then◌else◌}
+use Rattle.std.proofs.Common.{◌≡◌, ℕ, zero, suc, true, false, List, [], ◌∷◌, ◌++◌, Option, Some, None, refl, subst}
 use Rattle.std.specs.Prelude.{slice_get, int_le, int_lt, ◌+ℤ◌, ◌-ℤ◌, ◌*ℤ◌, neg_ℤ, not, ◌&&◌, ◌||◌}
 use Rattle.std.specs.Int.{int_div_euclid, int_rem_euclid}
 use Rattle.std.specs.List.{AllByRecursion}
-use Rattle.std.specs.Option.{IfSome, option_and_then, option_map, option_or}
+use Rattle.std.specs.Option.{IfSome, option_and_then, option_map}
 use Rattle.ioa_values.proofs.AllOf.{all_appended}
 use Rattle.ioa_values.proofs.AllKept.{all_of_list, all_of_either, all_with_entry, all_without_key, value_at_holds}
 use Rattle.ioa_values.proofs.Ascending.{all_with, all_without}
-use Rattle.ioa_operators.proofs.Holding.{map_holds, and_then_holds, map_holds_any, and_then_holds_any, test_holds, numbers_hold, truths_hold, division_holds, member_holds, size_holds, first_holds, rest_holds}
+use Rattle.ioa_operators.proofs.Holding.{map_holds, and_then_holds, map_holds_any, test_holds, numbers_hold, truths_hold, division_holds, member_holds, size_holds, first_holds, rest_holds}
 use Rattle.ioa_values.specs.Data.{Data, Items, Entries, number, truth, tuple, sequence, finite_set, finite_map, no_items, item, no_entries, entry, list_of, pairs_of, items_of, entries_of, as_number, as_truth}
 use Rattle.ioa_values.specs.Collections.{with_member, without_member, set_of, union, value_at, with_entry, without_key}
 use Rattle.ioa_operators.specs.Operators.{sequence_of, finite_set_of, finite_map_of, as_sequence, as_set, as_map, unary_value, binary_value, left_decision, first, rest, count, is_there, call_value, same_truth}
