@@ -2,8 +2,8 @@
 use Rattle.std.specs.Prelude.{ℕ, ℤ, pos, negsuc, ◌^◌, nat_lt, Bool, true, List, [], ◌∷◌, Option, Some, None}
 
 -- a value (profile): a whole number without bound, a truth value, a constant as its index among the text's constants,
--- a tuple, a sequence, a finite set as its members in ascending order, or a finite map as its entries in ascending order
--- of keys
+-- a tuple, a sequence, a finite set as its members in ascending order, or a finite map as its entries in ascending
+-- order of keys
 mutual
   pub data Data : Type 0 where
     number : ℤ → Data
