@@ -1,7 +1,7 @@
 -- When a resolved part of a checked system is that of a part of a text (profile): without its annotations it is the
 -- part as the text has it, each name has its slot, and each sort its shape. Each record also says which tests the part
 -- has passed; the definition `FailsOf..` after it says by which row a part that fails one of them is refused.
-use Rattle.std.specs.Prelude.{◌≡◌, ℕ, true, not, List, [], Option, map, take, All}
+use Rattle.std.specs.Prelude.{◌≡◌, ℕ, true, List, [], Option, map, take, All}
 use Rattle.std.specs.List.{AllByRecursion, list_all}
 use Rattle.std.specs.Option.{is_some, option_map}
 use Rattle.ioa_terms.specs.Resolved.{IsResolved, IsResolvedStatement, AreResolved}

@@ -1,6 +1,6 @@
 -- Which rows of refusal apply to a text of the language (profile): what each number says.
 use Rattle.std.specs.Prelude.{◌≡◌, ◌≤◌, ◌<◌, ◌⊎◌, ℕ, pos, Bool, true, false, ◌&&◌, not, List, [], ◌++◌}
-use Rattle.std.specs.Prelude.{Option, Some, None, Result, Err, IfErr, map, length, Contains}
+use Rattle.std.specs.Prelude.{Option, Some, None, Result, Err, IfErr, length, Contains}
 use Rattle.std.specs.List.{IsDistinct, list_all}
 use Rattle.std.specs.Option.{is_some}
 use lib.Pointwise.{pointwise}

@@ -84,12 +84,7 @@ fn declarations_are_first(declarations: &[Declaration<(), ()>]) -> Result<(), Ch
 fn placements_are_first(placements: &[Placement<(), ()>]) -> bool
     ensures { result ≡ list_all is_first_placement (map placement_of placements.now) }
 {
-    for placement in placements {
-        if !is_first_placement(placement) {
-            return false;
-        }
-    }
-    true
+    placements.iter().all(is_first_placement)
 }
 
 /// Passes if no row applies to a declaration before the system section.
@@ -465,12 +460,10 @@ fn node_program(
 fn is_at_home(automaton: &Automaton<(), ()>, number: i64) -> bool
     ensures { result ≡ list_all (spec.is_at_home number) (automaton_of automaton.now).signature }
 {
-    for entry in &automaton.signature {
-        if !entry_is_at_home(entry, number) {
-            return false;
-        }
-    }
-    true
+    automaton
+        .signature
+        .iter()
+        .all(|entry| entry_is_at_home(entry, number))
 }
 
 /// Whether an entry is neither a `send` nor a `receive`, or one of this node.

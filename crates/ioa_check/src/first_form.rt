@@ -59,12 +59,7 @@ fn is_first_automaton(automaton: &Automaton<(), ()>) -> bool
 fn are_first_entries(entries: &[Entry<(), ()>]) -> bool
     ensures { result ≡ list_all spec.is_first_entry (map entry_of entries.now) }
 {
-    for entry in entries {
-        if !is_first_entry(entry) {
-            return false;
-        }
-    }
-    true
+    entries.iter().all(is_first_entry)
 }
 
 /// Whether an entry is of the first form.
@@ -151,12 +146,7 @@ fn is_first_sort(sort: &Sort) -> bool
 fn are_first_variables(variables: &[Variable<(), ()>]) -> bool
     ensures { result ≡ list_all spec.is_first_variable (map variable_of variables.now) }
 {
-    for variable in variables {
-        if !is_first_variable(variable) {
-            return false;
-        }
-    }
-    true
+    variables.iter().all(is_first_variable)
 }
 
 /// Whether a state variable is of sort Int and begins with a number, or with nothing.
@@ -190,12 +180,7 @@ fn is_numeral(term: &Term) -> bool
 fn are_first_transitions(transitions: &[Transition<(), ()>]) -> bool
     ensures { result ≡ list_all spec.is_first_transition (map transition_of transitions.now) }
 {
-    for transition in transitions {
-        if !is_first_transition(transition) {
-            return false;
-        }
-    }
-    true
+    transitions.iter().all(is_first_transition)
 }
 
 /// Whether a transition is of the first form.
@@ -222,12 +207,7 @@ fn is_first_kind(kind: Kind) -> bool
 fn are_first_terms(terms: &[Term]) -> bool
     ensures { result ≡ list_all spec.is_first_term (map term_of terms.now) }
 {
-    for term in terms {
-        if !is_first_term(term) {
-            return false;
-        }
-    }
-    true
+    terms.iter().all(is_first_term)
 }
 
 /// Whether a term, if there is one, is of the first form.
@@ -251,12 +231,7 @@ fn is_first_term(term: &Term) -> bool
 fn are_first_assignments(statements: &[Statement<(), ()>]) -> bool
     ensures { result ≡ list_all spec.is_first_assignment (map statement_of statements.now) }
 {
-    for statement in statements {
-        if !is_first_assignment(statement) {
-            return false;
-        }
-    }
-    true
+    statements.iter().all(is_first_assignment)
 }
 
 /// Whether a statement is an assignment to a variable.
@@ -283,12 +258,7 @@ fn is_first_target(target: &Target<(), ()>) -> bool
 fn are_first_firings(statements: &[Statement<(), ()>]) -> bool
     ensures { result ≡ list_all spec.is_first_firing (map statement_of statements.now) }
 {
-    for statement in statements {
-        if !is_first_firing(statement) {
-            return false;
-        }
-    }
-    true
+    statements.iter().all(is_first_firing)
 }
 
 /// Whether a statement is a firing without a kind.

@@ -363,12 +363,7 @@ pub(crate) fn resolve_variables(
 fn are_numbers(terms: &[Term]) -> bool
     ensures { result ≡ list_all is_number (map term_of terms.now) }
 {
-    for term in terms {
-        if !is_number(term) {
-            return false;
-        }
-    }
-    true
+    terms.iter().all(is_number)
 }
 
 /// Whether a term has sort Int.
