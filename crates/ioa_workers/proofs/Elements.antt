@@ -1,4 +1,4 @@
--- What holds of each element of a list holds of the one at a place.
+-- What holds of each element of a list holds of the one at a position.
 use Rattle.std.proofs.Common.{◌≡◌, ℕ, zero, suc, ◌<◌, List, [], ◌∷◌, length, map, get_or, arith}
 use Rattle.std.specs.List.{AllByRecursion}
 

@@ -51,7 +51,7 @@ rounds_none limit turn end s ps past =
     let none : end - turn ≡ zero = omega arith in
     rw none (no_round limit s ps)
 
--- what a call promises where it passes, and where it fails
+-- what a call promises if it passes, and if it fails
 pub on_ok : {T E P : Type 0} (r : Result T E) → is_err r ≡ false → OnOk r P → P
 on_ok (Ok x) passed p = p
 on_ok (Err e) passed p = absurd (cc)
@@ -60,7 +60,7 @@ pub on_err : {T E P : Type 0} (r : Result T E) → is_err r ≡ true → OnErr r
 on_err (Ok x) failed p = absurd (cc)
 on_err (Err e) failed p = p
 
--- where a node was still under way, an ending tells of want of memory
+-- if a node was still under way, an ending says that memory ran out
 pub told_short : (ps : List Progress) → list_any is_under_way ps ≡ true → list_any is_cut_short (map ending_of (map short_of_memory ps)) ≡ true
 told_short [] any = any
 told_short (p ∷ more) any = at_head (is_some p.ending) refl (λ h. told_short more h)

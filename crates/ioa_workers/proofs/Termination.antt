@@ -97,7 +97,7 @@ solo_run s o t ps r endings (inr e) schedule states each =
     inr (subst (λ (left : PlainCourse × List Progress). IsLeftBy left r endings) e
     (record { schedule = schedule; states = states; each = rw each (told_endings ps all) }))
 
--- the same of rounds from where a run begins
+-- the same of rounds from the beginning of a run
 pub solo_from : (s : SystemParts) (o : PlainOptions) (actions : List Action) (states : List Conf) (from : List Progress) (t : PlainCourse) (ps : List Progress) (r : Record) (endings : List Ending) →
     (list_any is_cut_short (map ending_of ps) ≡ true) ⊎ ((t, ps) ≡ rounds o.steps (o.attempts + 1) (record { schedule = actions; states = states }) from) →
     actions ≡ [] → states ≡ start s → from ≡ map (progress_at o.attempts) s.programs →

@@ -1,5 +1,6 @@
 -- Attempts of a node in a run by one worker (profile).
-use Rattle.std.specs.Prelude.{◌≡◌, ℕ, ℤ, ◌+◌, ◌<◌, ◌^◌, nat_lt, if◌then◌else◌, List, Option, Some, None, Result, Ok, Err, length}
+use Rattle.std.specs.Prelude.{◌≡◌, ℕ, ℤ, ◌+◌, ◌<◌, ◌^◌, nat_lt, if◌then◌else◌, List, length}
+use Rattle.std.specs.Prelude.{Option, Some, None, Result, Ok, Err}
 use Rattle.std.specs.Ordering.{int_eq}
 use Rattle.ioa_terms.specs.declared.action.Action.{Action}
 use Rattle.ioa_terms.specs.declared.component.Component.TheVariants as component
@@ -20,7 +21,7 @@ use Rattle.ioa_workers.specs.declared.running.AttemptOutcome.TheVariants as outc
 use Rattle.ioa_record.specs.NodeFaults.{fault_of_term}
 use Rattle.ioa_workers.specs.Turns.{node_turn, firing_node}
 
--- what an attempt of a node comes to, where it meets no fault: nothing is left of its block, the action is missed, or
+-- what an attempt of a node comes to, if it meets no fault: nothing is left of its block, the action is missed, or
 -- the action is taken and leads to these configurations
 pub data PlainAttemptOutcome : Type 0 where
   finished : PlainAttemptOutcome
@@ -41,8 +42,8 @@ turn_on (Some (Queue q)) passed = Ok turn.Done
 abbrev pub turn_at : List Conf → ℤ → ℕ → Result Turn TermFault
 turn_at states k passed = turn_on (find_conf (component.Node k) states) passed
 
--- what is made of the composition's answer to an action: an action that is not enabled is missed, another fault stands,
--- and a step is taken where the schedule is shorter than the limit
+-- what an attempt comes to by the result of a joint step: an action that is not enabled is missed, any other fault is
+-- the attempt's, and a step is taken if the schedule is shorter than the limit
 abbrev pub step_outcome : ℕ → List Action → Action → Result (List Conf) StepFault → Result PlainAttemptOutcome NodeFault
 step_outcome limit schedule a (Ok next) = if nat_lt (length schedule) limit then Ok (taken a next) else Err Full
 step_outcome limit schedule a (Err step.NotEnabled) = Ok missed
@@ -57,7 +58,7 @@ abbrev pub fire_answer : ℕ → List Action → List Conf → ℤ → Action �
 fire_answer limit schedule states k a =
     if int_eq (firing_node a) k then step_outcome limit schedule a (joint_answer a states) else Err NotMine
 
--- what is made of a turn of node k
+-- what an attempt of node k comes to by the result of its turn
 abbrev pub turn_outcome : ℕ → List Action → List Conf → ℤ → Result Turn TermFault → Result PlainAttemptOutcome NodeFault
 turn_outcome limit schedule states k (Ok turn.Done) = Ok finished
 turn_outcome limit schedule states k (Ok (turn.Fire a)) = fire_answer limit schedule states k a
@@ -67,7 +68,7 @@ turn_outcome limit schedule states k (Err f) = Err (fault_of_term f)
 abbrev pub attempt_answer : ℕ → List Action → List Conf → Progress → Result PlainAttemptOutcome NodeFault
 attempt_answer limit schedule states p = turn_outcome limit schedule states p.node (turn_at states p.node p.passed)
 
--- the place behind a statement that is passed is a number of the machine
+-- the number of statements passed is a number of the machine also after one more
 abbrev pub FitsAfterAttempt : ℕ → AttemptOutcome → Type 0
 FitsAfterAttempt passed outcome.Finished = Unit {0}
 FitsAfterAttempt passed outcome.Missed = passed + 1 < 2 ^ 64

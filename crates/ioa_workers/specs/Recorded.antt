@@ -14,14 +14,14 @@ pub record IsExecution (limit : ℕ) (from : List Conf) (schedule : List Action)
   pub leads : replay schedule from ≡ Some states
   pub within : length schedule ≤ limit
 
--- whatever start the one leads from, the other leads from it too
+-- if the first course is an execution from some configurations, the second is one from them too
 abbrev pub Continues : ℕ → Course → Course → Type 0
 Continues limit old new =
     (from : List Conf) → IsExecution limit from old.schedule.items old.states.items
     → IsExecution limit from new.schedule.items new.states.items
 
 -- a record and endings of a run of a system: the schedule is an execution from the system's start (Lynch 8.1), the
--- one worker's count is the number of its actions, and there is one ending a node (profile)
+-- one worker's count is the number of the actions, and there is one ending a node (profile)
 pub record IsRunOf (s : SystemParts) (limit : ℕ) (r : Record) (endings : List Ending) : Type 0 where
   pub execution : IsExecution limit (start s) r.schedule.items r.states.items
   pub counted : r.commits.items ≡ length r.schedule.items ∷ []

@@ -1,5 +1,5 @@
 -- The report of a run (profile): its parts in order, each line ended by a line feed.
-use Rattle.std.specs.Prelude.{ℕ, ℤ, ◌+◌, List, [], ◌∷◌, ◌++◌, map, length, sum, codes}
+use Rattle.std.specs.Prelude.{◌≡◌, ℕ, ℤ, ◌+◌, List, [], ◌∷◌, ◌++◌, map, length, sum, codes, String, string_bytes}
 use Rattle.std.specs.Fmt.{decimal, signed_decimal}
 use Rattle.std.specs.List.{flat_map}
 use Rattle.ioa_operators.specs.declared.shape.Shape.{Shape}
@@ -18,6 +18,10 @@ use Rattle.ioa_record.specs.declared.ending.Ending.{Ending}
 use Rattle.ioa_record.specs.declared.record.Record.{Record}
 use Rattle.ioa_record.specs.Endings.{ending_text}
 
+-- a text has grown by these bytes
+abbrev pub HasGrown : {Z : Type 0} → String Z → String Z → List ℕ → Type 0
+HasGrown old new more = string_bytes new ≡ string_bytes old ++ more
+
 -- `k action`, one line an action, counted from k
 abbrev pub action_lines : List (List ℕ) → ℕ → List Action → List ℕ
 action_lines names k [] = []
@@ -34,7 +38,7 @@ abbrev pub variable_line : List (List ℕ) → ℤ → List ℕ → Data → Lis
 variable_line names i x v =
     codes "node " ++ (signed_decimal i ++ (codes " " ++ (x ++ (codes " = " ++ (text names v ++ codes "\n")))))
 
--- one line a variable, as declared
+-- one line a variable, in the order of their declaration
 abbrev pub variable_lines : List (List ℕ) → ℤ → List Data → List (Variable ℕ Shape) → List ℕ
 variable_lines names i [] xs = []
 variable_lines names i (v ∷ vs) [] = []
@@ -45,11 +49,12 @@ abbrev pub item_text : List (List ℕ) → Item → List ℕ
 item_text names (Message m) = text names m
 item_text names (Stimulus a) = node_action_text names a
 
--- `channel i -> j v`, where v is the sequence of the queue's items; nothing for the queue of a script
+-- `channel i -> j {v, w}` for a queue with the items v and w; nothing for the queue of a script
 abbrev pub queue_line : List (List ℕ) → Component → List Item → List ℕ
 queue_line names (component.Node i) items = []
 queue_line names (component.Channel i j) items =
-    codes "channel " ++ (signed_decimal i ++ (codes " -> " ++ (signed_decimal j ++ (codes " {" ++ (with_commas (map (item_text names) items) ++ codes "}\n")))))
+    codes "channel " ++ (signed_decimal i ++ (codes " -> " ++ (signed_decimal j
+    ++ (codes " {" ++ (with_commas (map (item_text names) items) ++ codes "}\n")))))
 queue_line names (component.Script i) items = []
 
 -- the lines of a component
@@ -57,23 +62,23 @@ abbrev pub component_lines : List (List ℕ) → Conf → List ℕ
 component_lines names (Node c) = variable_lines names c.program.node c.variables c.program.variables
 component_lines names (Queue q) = queue_line names q.component q.items
 
--- nodes by number and then channels as declared, as the configurations stand
+-- the lines of the components, in the order of their configurations
 abbrev pub states_text : List (List ℕ) → List Conf → List ℕ
 states_text names states = flat_map (component_lines names) states
 
--- `ending i e`, nodes counted from i
+-- `ending i e`, one line a node, counted from i
 abbrev pub ending_lines : ℕ → List Ending → List ℕ
 ending_lines i [] = []
 ending_lines i (e ∷ more) =
     (codes "ending " ++ (decimal i ++ (codes " " ++ (ending_text e ++ codes "\n")))) ++ ending_lines (i + 1) more
 
--- `worker w commits c`, one line a worker, workers counted from w
+-- `worker w commits c`, one line a worker, counted from w
 abbrev pub commit_lines : ℕ → List ℕ → List ℕ
 commit_lines w [] = []
 commit_lines w (c ∷ more) =
     (codes "worker " ++ (decimal w ++ (codes " commits " ++ (decimal c ++ codes "\n")))) ++ commit_lines (w + 1) more
 
--- the lines of the workers, and then `total n`, where n is the sum of their counts
+-- the lines of the workers, and then `total n` for the sum n of their counts
 abbrev pub commits_text : List ℕ → List ℕ
 commits_text commits = commit_lines 0 commits ++ (codes "total " ++ (decimal (sum commits) ++ codes "\n"))
 

@@ -1,5 +1,6 @@
 -- Turns of a schedule block of firings (profile).
-use Rattle.std.specs.Prelude.{ℕ, ℤ, ◌+◌, ◌^◌, ◌<◌, if◌then◌else◌, List, [], ◌∷◌, Option, Some, None, Result, Ok, Err, map, drop, codes}
+use Rattle.std.specs.Prelude.{ℕ, ℤ, ◌+◌, ◌^◌, ◌<◌, if◌then◌else◌, List, [], ◌∷◌, map, drop, codes}
+use Rattle.std.specs.Prelude.{Option, Some, None, Result, Ok, Err}
 use Rattle.std.specs.List.{zip}
 use Rattle.std.specs.Option.{option_and_then, option_map}
 use Rattle.ioa_values.specs.Data.{Data, as_number}
@@ -28,12 +29,12 @@ abbrev pub answers : List CheckedTerm → Bindings → Result (List Data) TermFa
 answers [] e = Ok []
 answers (t ∷ more) e = and_then (answer t e) (λ v. and_then (answers more e) (λ vs. Ok (v ∷ vs)))
 
--- a message and the two ends of its channel, where arguments are these
+-- a message and the two ends of its channel, if the arguments are these
 abbrev pub message_and_ends : List Data → Option (Data × ℤ × ℤ)
 message_and_ends (m ∷ x ∷ y ∷ []) = option_and_then (λ i. option_map (λ j. (m, i, j)) (as_number y)) (as_number x)
 message_and_ends _ = None
 
--- the action of node k of a name and arguments, where they are a message and its ends, or not
+-- the action of node k with this name and these arguments, which are a message and its ends, or are not
 abbrev pub action_by : ℤ → List ℕ → List Data → Option (Data × ℤ × ℤ) → Action
 action_by k name vs None = Local (record { node = k; name = name; arguments = vs })
 action_by k name vs (Some (m, i, j)) =
@@ -45,19 +46,19 @@ action_by k name vs (Some (m, i, j)) =
 abbrev pub action_at : ℤ → List ℕ → List Data → Action
 action_at k name vs = action_by k name vs (message_and_ends vs)
 
--- what a turn of node k answers where this statement stands next: a firing is the action whose arguments are the
--- values of its terms; other statements do not come in this form
+-- the result of a turn of node k if this is the next statement: a firing gives the action whose arguments are the
+-- values of its terms; a schedule block holds no other statements in what runs today
 abbrev pub statement_answer : ℤ → Bindings → CheckedStatement → Result Turn TermFault
 statement_answer k e (assign p t) = Err Undefined
 statement_answer k e (choose arms rest) = Err Undefined
 statement_answer k e (fire kind name ts) = and_then (answers ts e) (λ vs. Ok (Fire (action_at k name vs)))
 
--- what a turn of node k answers, by the statements that are left of its block: Done where there are none
+-- the result of a turn of node k by the statements that are left of its block: Done if there are none
 abbrev pub turn_answer : ℤ → Bindings → List CheckedStatement → Result Turn TermFault
 turn_answer k e [] = Ok Done
 turn_answer k e (s ∷ more) = statement_answer k e s
 
--- what a turn of a node answers where it has passed the first n statements of its block
+-- the result of a turn of a node that has passed the first n statements of its block
 abbrev pub node_turn : NodeState → ℕ → Result Turn TermFault
 node_turn c n = turn_answer c.program.node (block_bindings c) (map statement_of (drop n c.program.schedule))
 
@@ -68,7 +69,7 @@ firing_node (Receive m i j) = j
 firing_node (Local a) = a.node
 firing_node (Stimulus a) = a.node
 
--- the place behind a firing is a number of the machine
+-- the number of statements passed is a number of the machine also after one more firing
 abbrev pub FitsAfterTurn : ℕ → Turn → Type 0
 FitsAfterTurn passed Done = Unit {0}
 FitsAfterTurn passed (Fire a) = passed + 1 < 2 ^ 64

@@ -1,5 +1,6 @@
 -- What a whole run writes (profile).
-use Rattle.std.specs.Prelude.{◌≡◌, ◌⊎◌, ◌≤◌, ℕ, Bool, true, false, List, Option, Result, Ok, Err, MatchResult, ⊤, length, codes}
+use Rattle.std.specs.Prelude.{◌≡◌, ◌⊎◌, ◌≤◌, ⊤, ℕ, Bool, true, false, List, length, codes}
+use Rattle.std.specs.Prelude.{Option, Result, Ok, Err, MatchResult}
 use Rattle.std.specs.Io.KnownBytes.{Keeps, Appends}
 use Rattle.ioa_text_reader.specs.declared.fault.FrontFault.{FrontFault}
 use Rattle.ioa_text_reader.specs.declared.fault.FrontFault.TheVariants as front
@@ -23,8 +24,8 @@ use Rattle.ioa_workers.specs.Recorded.{IsRunOf}
 use Rattle.ioa_workers.specs.Solo.{IsSoloRun}
 use Rattle.ioa_source.specs.Sides.{SourceText}
 
--- a system that a text describes: the tokens of the text spell a source in which no row of refusal stands, and the
--- system is that source's
+-- a system that a text describes: the tokens of the text spell a source that meets no row of refusal, and the system is
+-- that source's
 pub record IsDescribed (text : List ℕ) (s : SystemParts) : Type 0 where
   pub source : SourceText
   pub spelled : TextSpells source text
@@ -41,7 +42,7 @@ pub record IsReport (text : List ℕ) (options : PlainOptions) (report : List �
   pub solo : IsSoloRun parts options left endings
   pub written : report ≡ report_text parts.names left endings
 
--- a fault of reading as a run bears it: want of memory is one fault wherever it comes
+-- a fault of reading as a run's: want of memory is one fault wherever it comes
 abbrev pub run_fault_of_front : FrontFault → RunFault
 run_fault_of_front front.Empty = Front front.Empty
 run_fault_of_front (front.BadCharacter offset) = Front (front.BadCharacter offset)
@@ -52,42 +53,43 @@ run_fault_of_front front.TooLong = Front front.TooLong
 run_fault_of_front (front.LeftOut w offset) = Front (front.LeftOut w offset)
 run_fault_of_front front.Memory = Memory
 
--- a fault of the check as a run bears it
+-- a fault of the check as a run's
 abbrev pub run_fault_of_check : CheckFault → RunFault
 run_fault_of_check (check.Refused row index) = Check (check.Refused row index)
 run_fault_of_check check.Memory = Memory
 
--- what a fault says of the text: a fault of reading stands in it, and one of the check stands in a source that it
--- spells; want of memory and a failed write say nothing of it
+-- what a fault says of the text: a fault of reading is one of the text, and a fault of the check is one of a source
+-- that the text spells; want of memory and a failed write say nothing
 abbrev pub IsRefusalOf : RunFault → List ℕ → Type 0
 IsRefusalOf (Front f) text = (f ≡ front.Memory → ⊥) × StandsInText f text
 IsRefusalOf (Check f) text = (f ≡ check.Memory → ⊥) × (p : SourceText) × TextSpells p text × standing.StandsInSource f p
 IsRefusalOf Memory text = ⊤
 IsRefusalOf Write text = ⊤
 
--- where a fault of reading that comes wherever it stands does stand in the text, the outcome is that fault, or want of
--- memory for a text within the length limit; so none stands in a text that was run
+-- if the text has a fault of reading that is always found, the outcome is that fault, or want of memory for a text
+-- within the length limit; so a text that was run has no such fault
 abbrev pub IsExactFor : {T : Type 0} → Result T RunFault → List ℕ → Type 0
 IsExactFor result text = (e : FrontFault) → is_exact e ≡ true → StandsInText e text →
     MatchResult result (λ _. ⊥) (λ f. (f ≡ Front e) ⊎ ((f ≡ Memory) × (length text ≤ length_limit)))
 
--- a fault as text: its number, its name, and its place where it has one
+-- a fault as text: its number and its name, then its offset or its index if it has one
 abbrev pub run_fault_text : RunFault → List ℕ
 run_fault_text (Front f) = front_fault_text f
 run_fault_text (Check f) = check_fault_text f
 run_fault_text Memory = codes "3 Memory"
 run_fault_text Write = codes "71 Write"
 
--- whether nothing was written yet where this fault comes
+-- nothing was written before this fault
 abbrev pub IsEarly : RunFault → Type 0
 IsEarly (Front f) = ⊤
 IsEarly (Check f) = ⊤
 IsEarly Memory = ⊤
 IsEarly Write = ⊥
 
--- known bytes grow by a report, which goes out whole where the call passes; a beginning of one went out where writing
--- failed, and then the output tells so; after every other fault nothing was written
-abbrev pub WritesReport : List ℕ → PlainOptions → Option (List ℕ) → Option (List ℕ) → Bool → Result (Unit {0}) RunFault → Type 0
+-- if the bytes of the output are known, they grow by a report, which goes out whole if the call passes; if writing
+-- failed, a beginning of one went out, and the output says that it failed; after every other fault nothing was written
+abbrev pub WritesReport : List ℕ → PlainOptions → Option (List ℕ) → Option (List ℕ) → Bool
+    → Result (Unit {0}) RunFault → Type 0
 WritesReport text options old new failed (Ok x) =
     (failed ≡ false) × ((report : List ℕ) × IsReport text options report × Appends old new report)
 WritesReport text options old new failed (Err Write) =

@@ -12,14 +12,14 @@ pub const GREATEST_STEPS: u64 = 1_000_000;
 /// The greatest number of attempts of a node.
 pub const GREATEST_ATTEMPTS: u64 = 1_000_000;
 
-/// The steps of a run where none are given.
+/// The number of steps of a run if none is given.
 pub const DEFAULT_STEPS: u64 = 10_000;
 
-/// The attempts of a node where none are given.
+/// The number of attempts of a node if none is given.
 pub const DEFAULT_ATTEMPTS: u64 = 1_000;
 
-/// What a run is told beside its text: how many steps its schedule may have, from 0 to 1,000,000, and how many
-/// attempts each node has, from 1 to 1,000,000. A contract sees the two numbers.
+/// What a run is told beside its text: how many steps its schedule may have, from 0 to [`GREATEST_STEPS`], and how many
+/// attempts each node has, from 1 to [`GREATEST_ATTEMPTS`]. A contract sees the two numbers.
 #[derive(Clone, Copy, Debug, PartialEq, Eq)]
 pub struct Options {
     steps: u64,
@@ -47,7 +47,7 @@ impl Options {
         Options { steps, attempts }
     }
 
-    /// The options with these numbers, where both are in their range.
+    /// The options with these numbers, if both are in their range.
     pub fn within(steps: u64, attempts: u64) -> Option<Self>
         ensures { SomeIff result (AreInRange steps attempts)
             (record { steps = steps; attempts = attempts }) }
@@ -78,8 +78,9 @@ impl Options {
 
 impl Default for Options {
     ghost use Rattle.std.specs.Prelude.{◌≡◌};
+    ghost use Rattle.ioa_workers.specs.Options.{default_options};
 
-    ghost is_default = { λ o. o ≡ record { steps = 10000; attempts = 1000 } };
+    ghost is_default = { λ o. o ≡ default_options };
 
     fn default() -> Self {
         Options::new(DEFAULT_STEPS, DEFAULT_ATTEMPTS)

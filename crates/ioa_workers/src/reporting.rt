@@ -1,8 +1,10 @@
 //! The report of a run.
 
-ghost use Rattle.std.specs.Prelude.{◌≡◌, ◌++◌, IfOk, OnOk, map, string_bytes};
+ghost use Rattle.std.specs.Prelude.{◌≡◌, IfOk, OnOk, map, string_bytes};
 ghost use Rattle.ioa_values.specs.Text.{with_commas};
-ghost use Rattle.ioa_workers.specs.Reports.{action_lines, schedule_text, variable_line, variable_lines, item_text, queue_line, component_lines, states_text, ending_lines, commit_lines, commits_text, report_text};
+ghost use Rattle.ioa_workers.specs.Reports.{HasGrown, report_text, schedule_text, action_lines, states_text};
+ghost use Rattle.ioa_workers.specs.Reports.{component_lines, variable_lines, variable_line, queue_line, item_text};
+ghost use Rattle.ioa_workers.specs.Reports.{ending_lines, commits_text, commit_lines};
 
 use ioa_compose::{Conf, Item, NodeConf, Queue};
 use ioa_record::{Ending, Record};
@@ -13,8 +15,8 @@ use ioa_terms::{
 };
 use std::alloc::{AllocError, Global};
 
-/// The report of a run that left a record, with an ending for each node, node 0 first (profile): the
-/// schedule, the nodes' variables, the channels' queues, the endings and the commits.
+/// The report of a run that left this record, with an ending for each node, node 0 first (profile): the schedule, the
+/// nodes' variables, the channels' queues, the endings and the commits.
 pub fn report(
     alloc: Global,
     system: &System,
@@ -32,28 +34,28 @@ pub fn report(
     Ok(report)
 }
 
-/// Writes the schedule: its length, and then its actions.
+/// Writes the length of the schedule, and then its actions.
 fn push_schedule(
     alloc: Global,
     names: &Names,
     schedule: &[Action],
     report: &mut String,
 ) -> Result<(), AllocError>
-    ensures { OnOk result (string_bytes report.new ≡ string_bytes report.old ++ schedule_text names.now schedule.now) }
+    ensures { OnOk result (HasGrown report.old report.new (schedule_text names.now schedule.now)) }
 {
     let count = schedule.len();
     write!(report, "schedule {count}\n")?;
     push_actions(alloc, names, schedule, report)
 }
 
-/// Writes the actions, each with its place.
+/// Writes the actions, each with its position.
 fn push_actions(
     alloc: Global,
     names: &Names,
     schedule: &[Action],
     report: &mut String,
 ) -> Result<(), AllocError>
-    ensures { OnOk result (string_bytes report.new ≡ string_bytes report.old ++ action_lines names.now 0 schedule.now) }
+    ensures { OnOk result (HasGrown report.old report.new (action_lines names.now 0 schedule.now)) }
 {
     for (position, action) in schedule.iter().enumerate() {
         let action = show_action(alloc, names, action)?;
@@ -62,14 +64,14 @@ fn push_actions(
     Ok(())
 }
 
-/// Writes the components, as they stand.
+/// Writes the components, in the order of their configurations.
 fn push_states(
     alloc: Global,
     names: &Names,
     states: &[Conf],
     report: &mut String,
 ) -> Result<(), AllocError>
-    ensures { OnOk result (string_bytes report.new ≡ string_bytes report.old ++ states_text names.now states.now) }
+    ensures { OnOk result (HasGrown report.old report.new (states_text names.now states.now)) }
 {
     for state in states {
         push_component(alloc, names, state, report)?;
@@ -84,7 +86,7 @@ fn push_component(
     state: &Conf,
     report: &mut String,
 ) -> Result<(), AllocError>
-    ensures { OnOk result (string_bytes report.new ≡ string_bytes report.old ++ component_lines names.now state.now) }
+    ensures { OnOk result (HasGrown report.old report.new (component_lines names.now state.now)) }
 {
     match state {
         Conf::Node(node) => {
@@ -96,7 +98,7 @@ fn push_component(
     }
 }
 
-/// Writes a node's variables with their values, as declared.
+/// Writes a node's variables with their values, in the order of their declaration.
 fn push_variables(
     alloc: Global,
     names: &Names,
@@ -105,7 +107,7 @@ fn push_variables(
     variables: &[Variable<usize, Shape>],
     report: &mut String,
 ) -> Result<(), AllocError>
-    ensures { OnOk result (string_bytes report.new ≡ string_bytes report.old ++ variable_lines names.now node values.now variables.now) }
+    ensures { OnOk result (HasGrown report.old report.new (variable_lines names.now node values.now variables.now)) }
 {
     for (position, value) in values.iter().enumerate() {
         let Some(variable) = variables.get(position) else {
@@ -132,7 +134,7 @@ fn push_variable(
     value: &Value,
     report: &mut String,
 ) -> Result<(), AllocError>
-    ensures { OnOk result (string_bytes report.new ≡ string_bytes report.old ++ variable_line names.now node name.now value.now) }
+    ensures { OnOk result (HasGrown report.old report.new (variable_line names.now node name.now value.now)) }
 {
     let value = show(alloc, names, value)?;
     write!(report, "node {node} {name} = {value}\n")
@@ -145,7 +147,7 @@ fn push_queue(
     queue: &Queue,
     report: &mut String,
 ) -> Result<(), AllocError>
-    ensures { OnOk result (string_bytes report.new ≡ string_bytes report.old ++ queue_line names.now queue.now.component queue.now.items) }
+    ensures { OnOk result (HasGrown report.old report.new (queue_line names.now queue.now.component queue.now.items)) }
 {
     match queue.component() {
         Component::Node(_) => Ok(()),
@@ -157,7 +159,7 @@ fn push_queue(
     }
 }
 
-/// The texts of a queue's items, with a comma and a space between.
+/// The texts of a queue's items, with a comma and a space between them.
 fn show_items(alloc: Global, names: &Names, items: &[Item]) -> Result<String, AllocError>
     ensures { IfOk result (λ s. string_bytes s ≡ with_commas (map (item_text names.now) items.now)) }
 {
@@ -181,7 +183,7 @@ fn show_item(alloc: Global, names: &Names, item: &Item) -> Result<String, AllocE
 
 /// Writes the endings, node 0 first.
 fn push_endings(endings: &[Ending], report: &mut String) -> Result<(), AllocError>
-    ensures { OnOk result (string_bytes report.new ≡ string_bytes report.old ++ ending_lines 0 endings.now) }
+    ensures { OnOk result (HasGrown report.old report.new (ending_lines 0 endings.now)) }
 {
     for (node, ending) in endings.iter().enumerate() {
         write!(report, "ending {node} {ending}\n")?;
@@ -191,8 +193,7 @@ fn push_endings(endings: &[Ending], report: &mut String) -> Result<(), AllocErro
 
 /// Writes how many actions each worker recorded, worker 0 first, and their total.
 fn push_commits(run_record: &Record, report: &mut String) -> Result<(), AllocError>
-    ensures { OnOk result
-        (string_bytes report.new ≡ string_bytes report.old ++ commits_text run_record.now.commits.items) }
+    ensures { OnOk result (HasGrown report.old report.new (commits_text run_record.now.commits.items)) }
 {
     push_commit_lines(&run_record.commits, report)?;
     let total = run_record.schedule.len();
@@ -201,7 +202,7 @@ fn push_commits(run_record: &Record, report: &mut String) -> Result<(), AllocErr
 
 /// Writes a line for each worker, worker 0 first.
 fn push_commit_lines(commits: &[u64], report: &mut String) -> Result<(), AllocError>
-    ensures { OnOk result (string_bytes report.new ≡ string_bytes report.old ++ commit_lines 0 commits.now) }
+    ensures { OnOk result (HasGrown report.old report.new (commit_lines 0 commits.now)) }
 {
     for (worker, count) in commits.iter().enumerate() {
         write!(report, "worker {worker} commits {count}\n")?;

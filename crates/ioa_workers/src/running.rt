@@ -7,9 +7,11 @@ ghost use Rattle.ioa_values.specs.Outcome.{Answers};
 ghost use Rattle.ioa_compose.specs.Composition.{joint_answer};
 ghost use Rattle.std.specs.Ordering.{int_eq};
 ghost use Rattle.ioa_workers.specs.Turns.{FitsAfterTurn, firing_node};
-ghost use Rattle.ioa_workers.specs.Attempts.{attempt_outcome_of, turn_at, step_outcome, fire_answer, attempt_answer, FitsAfterAttempt, IsStepOf};
+ghost use Rattle.ioa_workers.specs.Attempts.{attempt_outcome_of, turn_at, step_outcome, fire_answer, attempt_answer};
+ghost use Rattle.ioa_workers.specs.Attempts.{FitsAfterAttempt, IsStepOf};
 ghost use Rattle.ioa_workers.specs.Recorded.{Continues, IsRunOf};
-ghost use Rattle.ioa_workers.specs.Solo.{IsSoloRun, ending_of, has_ended, is_cut_short, is_under_way, progress_at, round, rounds, short_of_memory, course_of, visit};
+ghost use Rattle.ioa_workers.specs.Solo.{IsSoloRun, IsEndedBy, ending_of, has_ended, is_cut_short, is_under_way};
+ghost use Rattle.ioa_workers.specs.Solo.{progress_at, course_of, visit, round, rounds, short_of_memory};
 
 use crate::options::Options;
 use crate::turn::{Turn, firing_node, next};
@@ -27,8 +29,8 @@ struct Course {
     states: Vec<Conf>,
 }
 
-/// How far a node has come: how many statements of its block it has passed, how many attempts it has
-/// left, and how it ended, if it did.
+/// How far a node has come: how many statements of its block it has passed, how many attempts it has left, and how it
+/// ended, if it did.
 #[derive(Clone, Copy, Debug, PartialEq, Eq)]
 struct Progress {
     node: i64,
@@ -37,7 +39,7 @@ struct Progress {
     ending: Option<Ending>,
 }
 
-/// What an attempt of a node comes to, where it meets no fault.
+/// What an attempt of a node comes to, if it meets no fault.
 #[derive(Drop)]
 enum AttemptOutcome {
     /// Nothing is left of the block.
@@ -48,11 +50,11 @@ enum AttemptOutcome {
     Taken(Action, Vec<Conf>),
 }
 
-/// Runs a system by one worker (profile): it goes round the nodes in order until each has an ending. A
-/// visit with no attempt left ends the node; else one attempt is used, and one turn is made on the
-/// present configurations. Gives the record, and an ending for each node, node 0 first. Where memory
-/// runs out on the way, each node without an ending gets that fault; `AllocError` comes only where a
-/// run cannot begin, or its endings not be listed.
+/// Runs a system by one worker (profile). The worker goes round the nodes in order until each has an ending. A visit of
+/// a node that has no attempt left ends it; else one attempt is used, and one turn is made on the present
+/// configurations. Returns the record, and an ending for each node, node 0 first. If memory runs out on the way, each
+/// node without an ending gets that fault. `AllocError` is returned only if a run cannot begin, or its endings cannot
+/// be listed.
 pub fn run(
     alloc: Global,
     system: &System,
@@ -78,12 +80,13 @@ pub fn run(
     Ok((record, endings))
 }
 
-/// Goes round the nodes until each has an ending, at most once more than they have attempts. Where
-/// memory runs out, each node without an ending gets that fault.
+/// Goes round the nodes until each has an ending, at most once more than they have attempts. If memory runs out, each
+/// node without an ending gets that fault.
 fn go_on(alloc: Global, options: &Options, course: &mut Course, nodes: &mut [Progress])
     ensures execution { Continues options.now.steps course.old course.new }
     ensures solo { (list_any is_cut_short (map ending_of nodes.new) ≡ true)
-        ⊎ ((course_of course.new, nodes.new) ≡ rounds options.now.steps (options.now.attempts + 1) (course_of course.old) nodes.old) }
+        ⊎ ((course_of course.new, nodes.new)
+        ≡ rounds options.now.steps (options.now.attempts + 1) (course_of course.old) nodes.old) }
 {
     for _round in 0..options.attempts() + 1 {
         if go_round(alloc, options.steps(), course, nodes).is_err() {
@@ -100,15 +103,10 @@ fn go_on(alloc: Global, options: &Options, course: &mut Course, nodes: &mut [Pro
 fn have_all_ended(nodes: &[Progress]) -> bool
     ensures { result ≡ list_all has_ended nodes.now }
 {
-    for node in nodes {
-        if node.ending.is_none() {
-            return false;
-        }
-    }
-    true
+    nodes.iter().all(|node| node.ending.is_some())
 }
 
-/// Where the nodes stand before a run: before their blocks, with all their attempts.
+/// The nodes before a run: none has passed a statement, and each has all its attempts.
 fn progress_of(
     alloc: Global,
     programs: &[Arc<Program>],
@@ -136,7 +134,8 @@ fn go_round(
     nodes: &mut [Progress],
 ) -> Result<(), AllocError>
     ensures execution { Continues limit course.old course.new }
-    ensures round { OnOk result ((course_of course.new, nodes.new) ≡ round limit (course_of course.old) nodes.old) }
+    ensures round { OnOk result
+        ((course_of course.new, nodes.new) ≡ round limit (course_of course.old) nodes.old) }
     ensures stopped { OnErr result (list_any is_under_way nodes.new ≡ true) }
 {
     for position in 0..nodes.len() {
@@ -148,7 +147,7 @@ fn go_round(
     Ok(())
 }
 
-/// Ends each node that has no ending, for want of memory.
+/// Ends each node that has no ending with the fault `Memory` (3).
 fn end_all(nodes: &mut [Progress])
     ensures { nodes.new ≡ map short_of_memory nodes.old }
 {
@@ -157,7 +156,7 @@ fn end_all(nodes: &mut [Progress])
     }
 }
 
-/// A node that ends for want of memory, where it has no ending yet.
+/// A node that ends with the fault `Memory` (3), if it has no ending yet.
 fn short_of_memory(node: Progress) -> Progress
     ensures { result ≡ short_of_memory node }
 {
@@ -170,8 +169,8 @@ fn short_of_memory(node: Progress) -> Progress
     }
 }
 
-/// One visit of a node: an attempt, where one is left. Gives how far the node has come then. Where
-/// memory runs out, the visit does not count.
+/// One visit of a node: an attempt, if one is left. Returns how far the node has come then. If memory runs out, the
+/// visit does not count.
 fn visit(
     alloc: Global,
     limit: u64,
@@ -212,9 +211,9 @@ fn visit(
     }
 }
 
-/// A node that a fault ends. Want of memory ends no single node.
+/// A node that a fault ends. `Memory` (3) ends no single node.
 fn end_by_fault(node: Progress, fault: NodeFault) -> Result<Progress, AllocError>
-    ensures { MatchResult result (λ p. (fault ≡ NodeFault.Memory → ⊥) × (p ≡ record node { ending = Some (Ending.Fault fault) })) (λ _. fault ≡ NodeFault.Memory) }
+    ensures { MatchResult result (IsEndedBy fault node) (λ _. fault ≡ NodeFault.Memory) }
 {
     match fault {
         NodeFault::Memory => Err(AllocError),
@@ -225,8 +224,8 @@ fn end_by_fault(node: Progress, fault: NodeFault) -> Result<Progress, AllocError
     }
 }
 
-/// Puts an action behind the schedule, and the configurations that it leads to in place of those held.
-/// Where there is no memory for that, both stay.
+/// Adds an action to the schedule, and replaces the configurations by those that it leads to. If there is no memory for
+/// that, both stay as they were.
 fn commit(course: &mut Course, action: Action, states: Vec<Conf>) -> Result<(), AllocError>
     ensures schedule { OnOk result (course.new.schedule.items ≡ course.old.schedule.items ++ action ∷ []) }
     ensures states { OnOk result (course.new.states.items ≡ states.items) }
@@ -256,9 +255,10 @@ fn attempt(
     }
 }
 
-/// The turn of a node, whose configuration is among these. A node that has none has no block.
+/// The turn of a node whose configuration is among these. A node that has none has no block.
 fn turn_of(alloc: Global, states: &[Conf], node: &Progress) -> Result<Turn, TermFault>
-    ensures answer { Answers TermFault.Memory (λ t. t) result (turn_at states.now node.now.node node.now.passed) }
+    ensures answer { Answers TermFault.Memory (λ t. t) result
+        (turn_at states.now node.now.node node.now.passed) }
     ensures counts { IfOk result (FitsAfterTurn node.now.passed) }
 {
     match find_conf(states, Component::Node(node.node)) {
@@ -268,8 +268,7 @@ fn turn_of(alloc: Global, states: &[Conf], node: &Progress) -> Result<Turn, Term
     }
 }
 
-/// The step of an action that a node fires: `NotMine` where the action is another node's, else what the
-/// composition answers.
+/// The step of an action that a node fires: `NotMine` (41) if the action is another node's, else the joint step.
 fn fire(
     alloc: Global,
     limit: u64,
@@ -288,15 +287,15 @@ fn fire(
     }
 }
 
-/// Whether an action is fired by this node's program.
+/// Whether an action is fired by the program of this node.
 fn is_fired_by(action: &Action, node: i64) -> bool
     ensures { result ≡ int_eq (firing_node action.now) node }
 {
     firing_node(action) == node
 }
 
-/// The step of an action by the composition's answer. An action that is not enabled is missed; a step is
-/// `Full` where the schedule is as long as the limit allows.
+/// The joint step of an action. An action that is not enabled is missed; a step is `Full` (52) if the schedule is as
+/// long as the limit allows.
 fn take(
     alloc: Global,
     limit: u64,

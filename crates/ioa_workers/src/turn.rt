@@ -7,7 +7,8 @@ ghost use Rattle.ioa_terms.specs.Bindings.{names_of};
 ghost use Rattle.ioa_terms.specs.View.{term_of, statement_of};
 ghost use Rattle.ioa_source.specs.TextView.{variable_of};
 ghost use Rattle.ioa_system.specs.ResolvedPrograms.{AreResolvedTerms, IsResolvedFiring, variable_names};
-ghost use Rattle.ioa_workers.specs.Turns.{block_bindings, answers, message_and_ends, action_at, statement_answer, node_turn, firing_node, FitsAfterTurn};
+ghost use Rattle.ioa_workers.specs.Turns.{block_bindings, answers, message_and_ends, action_at, firing_node};
+ghost use Rattle.ioa_workers.specs.Turns.{statement_answer, node_turn, FitsAfterTurn};
 
 use ioa_compose::NodeConf;
 use ioa_source::Variable;
@@ -25,9 +26,9 @@ pub enum Turn {
     Done,
 }
 
-/// The turn of a node that has passed the first `passed` statements of its block (profile): `Done` where
-/// nothing is left, else the action that is fired next. Its arguments are evaluated over the node's
-/// variables, from left to right, and the first fault met is answered.
+/// The turn of a node that has passed the first `passed` statements of its block (profile): `Done` if nothing is left,
+/// else the action that is fired next. Its arguments are evaluated over the node's variables, from left to right, and
+/// the first fault that is met is returned.
 pub fn next(alloc: Global, node: &NodeConf, passed: usize) -> Result<Turn, TermFault>
     ensures answer { Answers TermFault.Memory (λ t. t) result (node_turn node.now passed) }
     ensures counts { IfOk result (FitsAfterTurn passed) }
@@ -38,7 +39,7 @@ pub fn next(alloc: Global, node: &NodeConf, passed: usize) -> Result<Turn, TermF
     }
 }
 
-/// The turn where this statement stands next.
+/// The turn if this is the next statement.
 fn fire(
     alloc: Global,
     node: &NodeConf,
@@ -96,7 +97,7 @@ fn values_of(alloc: Global, terms: &[Checked], env: &Env) -> Result<Vec<Value>, 
     Ok(values)
 }
 
-/// A message and the two ends of its channel, where arguments are these.
+/// A message and the two ends of its channel, if the arguments are these.
 fn message_and_ends(arguments: &[Value]) -> Option<(&Value, i64, i64)>
     ensures { option_map (λ p. (p.0.now, p.1, p.2)) result ≡ message_and_ends arguments.now }
 {

@@ -17,13 +17,13 @@ use thiserror::Error;
 /// Why a whole run wrote no report.
 #[derive(Debug, Drop, Error)]
 pub enum RunFault {
-    /// 10 to 16: the text has no source.
+    /// Numbers 10 to 16: the text spells no source.
     Front(FrontFault),
-    /// 20 to 34: the source describes no system.
+    /// Numbers 20 to 34: the source describes no system.
     Check(CheckFault),
-    /// 3: no memory was left.
+    /// `Memory` (3): memory ran out.
     Memory,
-    /// 71: the output failed, or took nothing more. A beginning of the report went out.
+    /// `Write` (71): the output failed, or took nothing more. A beginning of the report went out.
     Write,
 }
 
@@ -90,8 +90,8 @@ pub fn run_system<O: Out>(
     out: &mut O,
 ) -> Result<(), RunFault>
     requires { O.failed out.old ≡ false }
-    ensures written { WritesReport text.now options.now (O.bytes out.old) (O.bytes out.new) (O.failed out.new)
-        result }
+    ensures written { WritesReport text.now options.now
+        (O.bytes out.old) (O.bytes out.new) (O.failed out.new) result }
     ensures refused { IfErr result (λ f. IsRefusalOf f text.now) }
     ensures exact { IsExactFor result text.now }
 {

@@ -3,7 +3,7 @@ use Rattle.ioa_workers.specs.Recorded.{Continues}
 use Rattle.ioa_workers.specs.Solo.{rounds, course_of}
 use Rattle.ioa_workers.proofs.running.go_on.Given as goal
 
--- the schedule goes on from where the run began, and the rounds that are left are the rest of the run
+-- the schedule goes on from that of the beginning of the run, and the rounds that are left are the rest of the run
 abbrev pub invariant-loop-round : goal.invariant-loop-round
 invariant-loop-round l = record {
   execution : Continues l.options.steps l.initial.course l.course;

@@ -4,7 +4,7 @@ use Rattle.ioa_workers.specs.Solo.{round, course_of}
 use Rattle.ioa_workers.proofs.Rounds.{prepend_nodes}
 use Rattle.ioa_workers.proofs.running.go_round.Given as goal
 
--- the schedule goes on from where the round began, and the nodes gone by stand before the rest of the round
+-- the schedule goes on from that of the beginning of the round, and the nodes gone by come before the rest of the round
 abbrev pub invariant-loop-position : goal.invariant-loop-position
 invariant-loop-position l = record {
   execution : Continues l.limit l.initial.course l.course;
