@@ -5,25 +5,23 @@ ghost use Rattle.ioa_cursor.specs.declared.cursor.Unread.TheVariants.{Memory};
 ghost use Rattle.ioa_terms.specs.PlainTerm as plain;
 ghost use Rattle.ioa_terms.specs.PlainTerm.{statements_of, arms_of};
 ghost use Rattle.ioa_terms.specs.View.{term_of, target_of, statement_of, arm_of};
-ghost use Rattle.ioa_term_reader.specs.Heights.{height};
+ghost use Rattle.ioa_term_reader.specs.Heights.{height, height_limit};
 ghost use Rattle.ioa_text_reader.specs.Reading as spec;
-ghost use Rattle.ioa_text_reader.specs.StatementHeights.{target_height, statement_height, statements_height, arms_height};
+ghost use Rattle.ioa_text_reader.specs.StatementHeights.{target_height, statement_height};
+ghost use Rattle.ioa_text_reader.specs.StatementHeights.{statements_height, arms_height};
 ghost use Rattle.ioa_values.specs.Outcome.{Matches};
 
 use ioa_cursor::Unread;
-use ioa_term_reader::Built;
+use ioa_term_reader::{Built, HEIGHT_LIMIT};
 use ioa_terms::{Arm, Statement, Target, Word};
 use std::alloc::Global;
 
-/// How high the tree of a statement may be.
-pub(crate) const HEIGHT_LIMIT: usize = 64;
-
-/// A place that an assignment writes. `high` is the height of the term in it, 0 where there is none.
+/// The target of an assignment. `high` is the height of the term in it, 0 if there is none.
 #[derive(Drop)]
 pub(crate) struct BuiltTarget {
     target: Target<(), ()>,
     high: usize,
-    ghost low: { (high ≡ target_height (target_of target)) × (high ≤ 64) },
+    ghost low: { (high ≡ target_height (target_of target)) × (high ≤ height_limit) },
 }
 
 /// A statement, at most 64 high. Source: profile.
@@ -31,7 +29,7 @@ pub(crate) struct BuiltTarget {
 pub(crate) struct BuiltStatement {
     statement: Statement<(), ()>,
     high: usize,
-    ghost low: { (high ≡ statement_height (statement_of statement)) × (high ≤ 64) },
+    ghost low: { (high ≡ statement_height (statement_of statement)) × (high ≤ height_limit) },
 }
 
 /// Statements one after another, none of them more than 64 high.
@@ -39,7 +37,8 @@ pub(crate) struct BuiltStatement {
 pub(crate) struct BuiltStatements {
     statements: Vec<Statement<(), ()>>,
     high: usize,
-    ghost low: { (high ≡ statements_height (statements_of (map statement_of statements.items))) × (high ≤ 64) },
+    ghost low: { (high ≡ statements_height (statements_of (map statement_of statements.items)))
+        × (high ≤ height_limit) },
 }
 
 /// An arm of an `if`. `high` is the height of its highest part.
@@ -47,7 +46,7 @@ pub(crate) struct BuiltStatements {
 pub(crate) struct BuiltArm {
     arm: Arm<(), ()>,
     high: usize,
-    ghost low: { (high ≡ max (height (arm_of arm).0) (statements_height (arm_of arm).1)) × (high ≤ 64) },
+    ghost low: { (high ≡ max (height (arm_of arm).0) (statements_height (arm_of arm).1)) × (high ≤ height_limit) },
 }
 
 /// Arms one after another. `high` is the height of their highest part.
@@ -55,7 +54,7 @@ pub(crate) struct BuiltArm {
 pub(crate) struct BuiltArms {
     arms: Vec<Arm<(), ()>>,
     high: usize,
-    ghost low: { (high ≡ arms_height (arms_of (map arm_of arms.items))) × (high ≤ 64) },
+    ghost low: { (high ≡ arms_height (arms_of (map arm_of arms.items))) × (high ≤ height_limit) },
 }
 
 impl BuiltTarget {
@@ -103,14 +102,16 @@ impl BuiltStatement {
         }
     }
 
-    /// An `if`, where it is not too high: else the refusal `deep`.
+    /// An `if`, if it is not too high: else the refusal `deep`.
     #[tactic(auto, unfolding(crate::specs::Reading::limited_statement))]
     pub(crate) fn choice(
         arms: BuiltArms,
         rest: BuiltStatements,
         deep: Unread,
     ) -> Result<Self, Unread>
-        ensures meant { Matches Memory (λ b. statement_of b.statement) result (spec.limited_statement (plain.choose (arms_of (map arm_of arms.arms.items)) (statements_of (map statement_of rest.statements.items)))) }
+        ensures meant { Matches Memory (λ b. statement_of b.statement) result
+            (spec.limited_statement (plain.choose (arms_of (map arm_of arms.arms.items))
+            (statements_of (map statement_of rest.statements.items)))) }
         ensures told { IfErr result (λ e. e ≡ deep) }
     {
         let high = arms.high.max(rest.high) + 1;
@@ -138,7 +139,8 @@ impl BuiltStatements {
     /// The statements with one more behind them.
     #[tactic(auto, using(crate::proofs::Pushed::statements_push, std::proofs::lemmas::List::map_push))]
     pub(crate) fn with_statement(self, statement: BuiltStatement) -> Result<Self, Unread>
-        ensures { Matches Memory (λ l. map statement_of l.statements.items) result (Some (map statement_of self.statements.items ++ statement_of statement.statement ∷ [])) }
+        ensures { Matches Memory (λ l. map statement_of l.statements.items) result
+            (Some (map statement_of self.statements.items ++ statement_of statement.statement ∷ [])) }
     {
         let mut statements = self.statements;
         statements.push(statement.statement)?;
@@ -186,7 +188,8 @@ impl BuiltArms {
     /// The arms with one more behind them.
     #[tactic(auto, using(crate::proofs::Pushed::arms_push, std::proofs::lemmas::List::map_push))]
     pub(crate) fn with_arm(self, arm: BuiltArm) -> Result<Self, Unread>
-        ensures { Matches Memory (λ l. map arm_of l.arms.items) result (Some (map arm_of self.arms.items ++ arm_of arm.arm ∷ [])) }
+        ensures { Matches Memory (λ l. map arm_of l.arms.items) result
+            (Some (map arm_of self.arms.items ++ arm_of arm.arm ∷ [])) }
     {
         let mut arms = self.arms;
         arms.push(arm.arm)?;

@@ -7,12 +7,10 @@ ghost use Rattle.ioa_terms.specs.View.{target_of, statement_of, arm_of};
 ghost use Rattle.ioa_tokens.specs.declared.mark.Mark.TheVariants as mark;
 ghost use Rattle.ioa_text_reader.specs.Reading as spec;
 
-use crate::built::{
-    BuiltArm, BuiltArms, BuiltStatement, BuiltStatements, BuiltTarget, HEIGHT_LIMIT,
-};
+use crate::built::{BuiltArm, BuiltArms, BuiltStatement, BuiltStatements, BuiltTarget};
 use crate::call::INNER_LIMIT;
 use ioa_cursor::{Tokens, Unread};
-use ioa_term_reader::{BRACKET_LIMIT, term};
+use ioa_term_reader::{BRACKET_LIMIT, HEIGHT_LIMIT, term};
 use ioa_terms::{Statement, Word};
 use ioa_tokens::Mark;
 use std::alloc::Global;
