@@ -8,7 +8,7 @@ use Rattle.ioa_operators.specs.declared.operator.UnaryOperator.{UnaryOperator}
 use Rattle.ioa_operators.specs.declared.operator.UnaryOperator.TheVariants.{Not, Negative}
 use Rattle.ioa_operators.specs.declared.operator.BinaryOperator.{BinaryOperator}
 use Rattle.ioa_operators.specs.declared.operator.BinaryOperator.TheVariants as operator
-use Rattle.ioa_cursor.specs.Reading.{same_mark}
+use Rattle.ioa_tokens.specs.Tables.{same_mark}
 use Rattle.ioa_term_reader.specs.declared.levels.Groups.{Groups}
 use Rattle.ioa_term_reader.specs.declared.levels.Groups.TheVariants.{FromLeft, FromRight, NoGrouping}
 use Rattle.ioa_term_reader.specs.declared.levels.InfixRow.{InfixRow}

@@ -3,7 +3,7 @@
 ghost use Rattle.std.specs.List.{find};
 ghost use Rattle.std.specs.Option.{option_map};
 ghost use Rattle.std.specs.Prelude.{◌≡◌, ◌≤◌};
-ghost use Rattle.ioa_cursor.specs.Reading.{same_mark};
+ghost use Rattle.ioa_tokens.specs.Tables.{same_mark};
 ghost use Rattle.ioa_term_reader.specs.Levels as spec;
 ghost use Rattle.ioa_term_reader.specs.declared.after.After.TheVariants.{Infix};
 ghost use Rattle.ioa_term_reader.specs.Reading as reading;

@@ -1,6 +1,6 @@
 use Rattle.std.proofs.Common.{◌≡◌, drop}
 use Rattle.std.specs.List.{find}
-use Rattle.ioa_cursor.specs.Reading.{same_mark}
+use Rattle.ioa_tokens.specs.Tables.{same_mark}
 use Rattle.ioa_term_reader.specs.Levels.{infix_mark}
 use Rattle.ioa_term_reader.proofs.levels.infix_with_mark.Given as goal
 
