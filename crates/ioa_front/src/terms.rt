@@ -1,6 +1,6 @@
 //! The pieces of a term: round brackets stand about every operator term that is a part of another.
 
-ghost use Rattle.std.specs.Prelude.{◌≡◌, ◌++◌, OnOk, map};
+ghost use Rattle.std.specs.Prelude.{◌≡◌, map};
 ghost use Rattle.std.specs.Option.{option_map};
 ghost use Rattle.ioa_tokens.specs.declared.mark.Mark.TheVariants as mark;
 ghost use Rattle.ioa_terms.specs.PlainTerm.{terms_of};
@@ -8,6 +8,7 @@ ghost use Rattle.ioa_terms.specs.View.{term_of};
 ghost use Rattle.ioa_term_reader.specs.Spelling as spec;
 ghost use Rattle.ioa_front.specs.Spelling.{separated_spelling, bracketed_spelling, optional_spelling};
 ghost use Rattle.ioa_front.specs.Listing as listing;
+ghost use Rattle.ioa_front.specs.Pieces.{Puts};
 
 use crate::piece::Pieces;
 use ioa_terms::{BinaryOperator, DisplayForm, Term, UnaryOperator};
@@ -52,7 +53,7 @@ fn infix_mark(operator: BinaryOperator) -> Mark
 
 /// Puts what stands behind the second term of an operator: the last bracket of `m[k]`.
 fn put_infix_end<'a>(out: &mut Pieces<'a>, operator: BinaryOperator) -> Result<(), AllocError>
-    ensures { OnOk result (out.new ≡ out.old ++ spec.infix_end operator) }
+    ensures { Puts (spec.infix_end operator) result out.old out.new }
 {
     match operator {
         BinaryOperator::At => out.put_mark(Mark::CloseSquare),
@@ -111,7 +112,7 @@ fn is_key(operator: BinaryOperator) -> bool
 /// Puts the pieces of a term.
 #[cycle(terms)]
 pub(crate) fn put_term<'a>(out: &mut Pieces<'a>, term: &'a Term) -> Result<(), AllocError>
-    ensures { OnOk result (out.new ≡ out.old ++ spec.spelling (term_of term.now)) }
+    ensures { Puts (spec.spelling (term_of term.now)) result out.old out.new }
 {
     match term {
         Term::Number(number) => out.put_number(*number),
@@ -149,7 +150,8 @@ pub(crate) fn put_term<'a>(out: &mut Pieces<'a>, term: &'a Term) -> Result<(), A
 /// Puts a part of a term, in round brackets where it is an operation.
 #[cycle(terms)]
 fn put_part<'a>(out: &mut Pieces<'a>, part: &'a Term) -> Result<(), AllocError>
-    ensures { OnOk result (out.new ≡ out.old ++ spec.in_brackets_if (spec.is_operation (term_of part.now)) (spec.spelling (term_of part.now))) }
+    ensures { Puts (spec.in_brackets_if (spec.is_operation (term_of part.now)) (spec.spelling (term_of part.now)))
+        result out.old out.new }
 {
     if is_operation(part) {
         out.put_mark(Mark::OpenRound)?;
@@ -163,7 +165,7 @@ fn put_part<'a>(out: &mut Pieces<'a>, part: &'a Term) -> Result<(), AllocError>
 /// Puts parts of a term with commas between.
 #[cycle(terms)]
 fn put_parts<'a>(out: &mut Pieces<'a>, parts: &'a Vec<Term>) -> Result<(), AllocError>
-    ensures { OnOk result (out.new ≡ out.old ++ spec.parts_spelling (terms_of (map term_of parts.now.items))) }
+    ensures { Puts (spec.parts_spelling (terms_of (map term_of parts.now.items))) result out.old out.new }
 {
     let mut first = true;
     for part in parts {
@@ -176,7 +178,7 @@ fn put_parts<'a>(out: &mut Pieces<'a>, parts: &'a Vec<Term>) -> Result<(), Alloc
 
 /// Puts terms with commas between.
 fn put_terms<'a>(out: &mut Pieces<'a>, terms: &'a [Term]) -> Result<(), AllocError>
-    ensures { OnOk result (out.new ≡ out.old ++ separated_spelling mark.Comma spec.spelling (map term_of terms.now)) }
+    ensures { Puts (separated_spelling mark.Comma spec.spelling (map term_of terms.now)) result out.old out.new }
 {
     let mut first = true;
     for term in terms {
@@ -189,7 +191,7 @@ fn put_terms<'a>(out: &mut Pieces<'a>, terms: &'a [Term]) -> Result<(), AllocErr
 
 /// Puts terms in round brackets, and nothing where there is no term.
 pub(crate) fn put_bracketed<'a>(out: &mut Pieces<'a>, terms: &'a [Term]) -> Result<(), AllocError>
-    ensures { OnOk result (out.new ≡ out.old ++ bracketed_spelling spec.spelling (map term_of terms.now)) }
+    ensures { Puts (bracketed_spelling spec.spelling (map term_of terms.now)) result out.old out.new }
 {
     match terms {
         [] => Ok(()),
@@ -207,7 +209,7 @@ pub(crate) fn put_optional<'a>(
     mark: Mark,
     term: &'a Option<Term>,
 ) -> Result<(), AllocError>
-    ensures { OnOk result (out.new ≡ out.old ++ optional_spelling mark spec.spelling (option_map term_of term.now)) }
+    ensures { Puts (optional_spelling mark spec.spelling (option_map term_of term.now)) result out.old out.new }
 {
     match term {
         None => Ok(()),
