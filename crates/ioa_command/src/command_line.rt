@@ -4,7 +4,8 @@ ghost use Rattle.std.specs.Prelude.{◌≡◌, ◌⊎◌, false, length, Ok, Err
 ghost use Rattle.std.specs.Fmt.{DisplaysOnOk};
 ghost use Rattle.std.specs.Io.KnownBytes.{Keeps};
 ghost use Rattle.ioa_command.specs.declared.command_line.CommandFault.{CommandFault};
-ghost use Rattle.ioa_command.specs.Command.{Executes, RunsText, Tells, fault_status, input_line, input_status, run_line, run_status};
+ghost use Rattle.ioa_command.specs.Command.{Executes, RunsText, Tells};
+ghost use Rattle.ioa_command.specs.Command.{fault_status, input_line, input_status, run_line, run_status};
 
 use ioa_streams::{InputFault, Out, put_all, read_input};
 use ioa_workers::{Options, RunFault, run_system};
@@ -15,13 +16,13 @@ use std::io::Read;
 /// The status of a program that did what it was asked.
 const DONE: u8 = 0;
 
-/// The status where the text was refused.
+/// The status if the text was refused.
 const REFUSED: u8 = 1;
 
-/// The status where the command line was.
+/// The status if the command line was refused.
 pub const BAD_WORDS: u8 = 2;
 
-/// The status where memory, reading or writing failed.
+/// The status if memory, reading or writing failed.
 pub const FAILED: u8 = 3;
 
 /// Why the program did not do what it was asked. Its text is the line that is shown.
@@ -48,7 +49,7 @@ impl CommandFault {
     }
 }
 
-/// The status where the input gives no text.
+/// The status if the input gives no text.
 fn input_status(fault: &InputFault) -> u8
     ensures { result ≡ input_status fault.now }
 {
@@ -58,7 +59,7 @@ fn input_status(fault: &InputFault) -> u8
     }
 }
 
-/// The status where the text gave no report.
+/// The status if the text gave no report.
 fn run_status(fault: &RunFault) -> u8
     ensures { result ≡ run_status fault.now }
 {
@@ -83,7 +84,7 @@ impl fmt::Display for CommandFault {
     }
 }
 
-/// The line of an input that gives no text.
+/// Writes the line of an input that gives no text.
 fn show_input_fault<W: fmt::Write>(fault: &InputFault, f: &mut fmt::Formatter<W>) -> fmt::Result
     ensures { DisplaysOnOk W.write_str_gives f.old result (Some (input_line fault.now)) f.new }
 {
@@ -95,7 +96,7 @@ fn show_input_fault<W: fmt::Write>(fault: &InputFault, f: &mut fmt::Formatter<W>
     }
 }
 
-/// The line of a text that gave no report.
+/// Writes the line of a text that gave no report.
 fn show_run_fault<W: fmt::Write>(fault: &RunFault, f: &mut fmt::Formatter<W>) -> fmt::Result
     ensures { DisplaysOnOk W.write_str_gives f.old result (Some (run_line fault.now)) f.new }
 {
@@ -105,11 +106,10 @@ fn show_run_fault<W: fmt::Write>(fault: &RunFault, f: &mut fmt::Formatter<W>) ->
     }
 }
 
-/// The program (profile): reads a text, runs its system with the default options, and writes the report.
-/// It takes no words beyond its own name. Gives the status: 0 where the report was written, 1 where the
-/// text was refused, 2 where the words were, and 3 where memory, reading or writing failed. Where it is
-/// not 0 one line on `err` says why; a fault of `err` is ignored. The last clause tells of which fault the
-/// status and the line are: where there is no memory for its line, the status is 3 and another line says so.
+/// The program (profile): reads a text, runs its system with the default options, and writes the report. It takes no
+/// words beyond its own name. Returns the status: 0 if the report was written, 1 if the text was refused, 2 if the
+/// words were refused, and 3 if memory, reading or writing failed. If it is not 0, one line on `err` says why; a fault
+/// of `err` is ignored. If there is no memory for that line, the status is 3 and another line says so.
 pub fn command<R: Read, O: Out, E: Out>(
     alloc: Global,
     words: &[&str],
@@ -117,12 +117,17 @@ pub fn command<R: Read, O: Out, E: Out>(
     out: &mut O,
     err: &mut E,
 ) -> u8
+    // neither output has failed yet
     requires out { O.failed out.old ≡ false }
     requires err { E.failed err.old ≡ false }
-    ensures report { result ≡ 0 → RunsText (R.remaining reader.old) (O.bytes out.old) (O.bytes out.new) (O.failed out.new) (Ok tt) }
+    // what the status says of the report
+    ensures report { result ≡ 0 → RunsText (R.remaining reader.old)
+        (O.bytes out.old) (O.bytes out.new) (O.failed out.new) (Ok tt) }
     ensures refused { (result ≡ 1) ⊎ (result ≡ 2) → Keeps (O.bytes out.old) (O.bytes out.new) }
+    // of which fault the status and the line are
     ensures outcome { (outcome : Result (Unit {0}) CommandFault)
-        × Executes (length words.now) (R.remaining reader.old) (O.bytes out.old) (O.bytes out.new) (O.failed out.new) outcome
+        × Executes (length words.now) (R.remaining reader.old)
+        (O.bytes out.old) (O.bytes out.new) (O.failed out.new) outcome
         × Tells outcome result (E.bytes err.old) (E.bytes err.new) (E.failed err.new) }
 {
     match execute(alloc, words, reader, out) {
@@ -131,7 +136,7 @@ pub fn command<R: Read, O: Out, E: Out>(
     }
 }
 
-/// Does what the program is asked.
+/// Reads the text, runs its system and writes the report.
 fn execute<R: Read, O: Out>(
     alloc: Global,
     words: &[&str],
@@ -139,7 +144,8 @@ fn execute<R: Read, O: Out>(
     out: &mut O,
 ) -> Result<(), CommandFault>
     requires { O.failed out.old ≡ false }
-    ensures { Executes (length words.now) (R.remaining reader.old) (O.bytes out.old) (O.bytes out.new) (O.failed out.new) result }
+    ensures { Executes (length words.now) (R.remaining reader.old)
+        (O.bytes out.old) (O.bytes out.new) (O.failed out.new) result }
 {
     if words.len() > 1 {
         return Err(CommandFault::Words);
@@ -149,7 +155,8 @@ fn execute<R: Read, O: Out>(
     run_system(alloc, text.as_str(), &options, out).map_err(CommandFault::Run)
 }
 
-/// Shows the line of a fault, and gives its status. Where there is no memory for the line, that is said.
+/// Shows the line of a fault, and returns its status. If there is no memory for the line, another line says so, and the
+/// status is that of `Memory` (3).
 fn tell<E: Out>(alloc: Global, fault: &CommandFault, err: &mut E) -> u8
     requires { E.failed err.old ≡ false }
     ensures { Tells (Err fault.now) result (E.bytes err.old) (E.bytes err.new) (E.failed err.new) }
