@@ -13,7 +13,7 @@ fn main(rt: HostRuntime) -> ExitCode {
     }
 }
 
-/// The status where the command line could not be read.
+/// The status if the command line could not be read.
 fn status_of(fault: &io::Error) -> u8 {
     match fault.kind() {
         io::ErrorKind::OutOfMemory => FAILED,

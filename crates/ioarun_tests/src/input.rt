@@ -1,4 +1,4 @@
-//! Texts and readers that are read, or refused with their place.
+//! Texts and readers that are read, or refused with an offset.
 
 use ioa_streams::{INPUT_LIMIT, InputFault, read_input};
 use std::io;
@@ -54,7 +54,7 @@ fn texts_are_read_whole(rt: HostRuntime) -> Result<(), Fail> {
 }
 
 #[test]
-fn ill_formed_texts_are_refused_with_their_place(rt: HostRuntime) {
+fn ill_formed_texts_are_refused_with_their_offset(rt: HostRuntime) {
     let rows: [(&[u8], usize); 4] = [
         (b"\xff", 0),
         (b"ab\x80", 2),

@@ -1,5 +1,5 @@
-//! Texts that are refused, one at least for each refusal of the check that this form can meet and for
-//! each form of the later language.
+//! Texts that are refused: one at least for each refusal that the check can give today, and for each form of the
+//! language that is left out today.
 
 use ioa_check::check;
 use ioa_command::command;
@@ -9,7 +9,7 @@ use ioa_terms::{Action, Component, Value};
 use ioa_text_reader::parse;
 use std::test::Fail;
 
-/// The line that the program shows for a text, and its status; no line where it writes a report.
+/// The line that the program shows for a text, and its status; no line if it writes a report.
 fn line_of(rt: &HostRuntime, text: &str) -> Result<(u8, String), Fail> {
     let mut out = Over::new(Vec::new(rt.alloc()));
     let mut err = Over::new(Vec::new(rt.alloc()));
@@ -29,7 +29,7 @@ const SENDS: &str = "signature output send(m: Int, const 0, const 1) ";
 const RECEIVES: &str = "signature input receive(m: Int, const 0, const 1) ";
 
 #[test]
-fn each_row_of_the_check_is_told_with_its_place(rt: HostRuntime) -> Result<(), Fail> {
+fn each_row_of_the_check_is_told_with_its_index(rt: HostRuntime) -> Result<(), Fail> {
     let rows = [
         ("automaton A system node 0: B", "", "", "20 Unknown in 1"),
         (
