@@ -1,4 +1,4 @@
-//! The pieces of a term: round brackets stand about every operator term that is a part of another.
+//! The pieces of a term: an operator term that is a part of another is put in round brackets.
 
 ghost use Rattle.std.specs.Prelude.{◌≡◌, map};
 ghost use Rattle.std.specs.Option.{option_map};
@@ -11,47 +11,12 @@ ghost use Rattle.ioa_front.specs.Listing as listing;
 ghost use Rattle.ioa_front.specs.Pieces.{Puts};
 
 use crate::piece::Pieces;
-use ioa_terms::{BinaryOperator, DisplayForm, Term, UnaryOperator};
+use ioa_term_reader::{infix_mark, prefix_mark};
+use ioa_terms::{BinaryOperator, DisplayForm, Term};
 use ioa_tokens::Mark;
 use std::alloc::AllocError;
 
-/// The mark of an operator before a term.
-fn prefix_mark(operator: UnaryOperator) -> Mark
-    ensures { result ≡ spec.prefix_mark operator }
-{
-    match operator {
-        UnaryOperator::Not => Mark::Not,
-        UnaryOperator::Negative => Mark::Minus,
-    }
-}
-
-/// The mark of an operator between two terms; for `m[k]` the first bracket.
-fn infix_mark(operator: BinaryOperator) -> Mark
-    ensures { result ≡ spec.infix_mark operator }
-{
-    match operator {
-        BinaryOperator::Equivalent => Mark::Equivalent,
-        BinaryOperator::Implies => Mark::Implies,
-        BinaryOperator::Or => Mark::Or,
-        BinaryOperator::And => Mark::And,
-        BinaryOperator::Equal => Mark::Equal,
-        BinaryOperator::NotEqual => Mark::NotEqual,
-        BinaryOperator::Less => Mark::Less,
-        BinaryOperator::AtMost => Mark::AtMost,
-        BinaryOperator::Greater => Mark::Greater,
-        BinaryOperator::AtLeast => Mark::AtLeast,
-        BinaryOperator::Member => Mark::Member,
-        BinaryOperator::Prepend => Mark::Prepend,
-        BinaryOperator::Append => Mark::Append,
-        BinaryOperator::Concatenate => Mark::Concatenate,
-        BinaryOperator::Plus => Mark::Plus,
-        BinaryOperator::Minus => Mark::Minus,
-        BinaryOperator::Times => Mark::Times,
-        BinaryOperator::At => Mark::OpenSquare,
-    }
-}
-
-/// Puts what stands behind the second term of an operator: the last bracket of `m[k]`.
+/// Puts what is printed behind the second term of an operator: the last bracket of `m[k]`.
 fn put_infix_end<'a>(out: &mut Pieces<'a>, operator: BinaryOperator) -> Result<(), AllocError>
     ensures { Puts (spec.infix_end operator) result out.old out.new }
 {
@@ -147,7 +112,7 @@ pub(crate) fn put_term<'a>(out: &mut Pieces<'a>, term: &'a Term) -> Result<(), A
     }
 }
 
-/// Puts a part of a term, in round brackets where it is an operation.
+/// Puts a part of a term, in round brackets if it is an operation.
 #[cycle(terms)]
 fn put_part<'a>(out: &mut Pieces<'a>, part: &'a Term) -> Result<(), AllocError>
     ensures { Puts (spec.in_brackets_if (spec.is_operation (term_of part.now)) (spec.spelling (term_of part.now)))
@@ -189,7 +154,7 @@ fn put_terms<'a>(out: &mut Pieces<'a>, terms: &'a [Term]) -> Result<(), AllocErr
     Ok(())
 }
 
-/// Puts terms in round brackets, and nothing where there is no term.
+/// Puts terms in round brackets, and nothing if there is no term.
 pub(crate) fn put_bracketed<'a>(out: &mut Pieces<'a>, terms: &'a [Term]) -> Result<(), AllocError>
     ensures { Puts (bracketed_spelling spec.spelling (map term_of terms.now)) result out.old out.new }
 {
@@ -203,7 +168,7 @@ pub(crate) fn put_bracketed<'a>(out: &mut Pieces<'a>, terms: &'a [Term]) -> Resu
     }
 }
 
-/// Puts a term behind its word, and nothing where there is none.
+/// Puts a term behind its word, and nothing if there is none.
 pub(crate) fn put_optional<'a>(
     out: &mut Pieces<'a>,
     mark: Mark,

@@ -1,4 +1,4 @@
-//! How terms group, which are refused, and where.
+//! How terms group, which are refused, and at which offset.
 
 use ioa_cursor::{Tokens, Unread, offset_of};
 use ioa_term_reader::{BRACKET_LIMIT, term};
@@ -7,8 +7,8 @@ use ioa_tokens::{LocatedToken, tokens};
 use std::alloc::{AllocError, Global};
 use std::test::Fail;
 
-/// A text, and the term that it spells, with brackets about each operator and what it stands between;
-/// or the number of the refusal with its place.
+/// A text, and the term that it spells, with brackets about each operator and its operands; or the
+/// number of the refusal with its offset.
 static ROWS: [(&str, &str); 74] = [
     ("7", "7"),
     ("x", "x"),
@@ -151,7 +151,7 @@ fn sign(operator: BinaryOperator) -> &'static str {
     }
 }
 
-/// A term with brackets about each operator and what it stands between.
+/// A term with brackets about each operator and its operands.
 #[cycle(showing)]
 fn short_form(alloc: Global, term: &Term) -> Result<String, AllocError> {
     match term {
@@ -208,7 +208,7 @@ fn all_short_forms(alloc: Global, terms: &Vec<Term>) -> Result<String, AllocErro
     Ok(list)
 }
 
-/// A refusal in short, with its place in a text of these tokens that ends there.
+/// The number of a refusal and its offset in a text, by the tokens of the text and its length `end`.
 fn refusal(
     alloc: Global,
     unread: Unread,
@@ -225,8 +225,8 @@ fn refusal(
     format!(in alloc; "{number}@{offset}")
 }
 
-/// What a text is read as.
-fn answer(alloc: Global, text: &str) -> Result<String, AllocError> {
+/// The term that a text is read as, in short, or its refusal.
+fn reading(alloc: Global, text: &str) -> Result<String, AllocError> {
     let located = match tokens(alloc, text) {
         Ok(located) => located,
         Err(_) => return String::from_str(alloc, "not cut"),
@@ -243,7 +243,7 @@ fn answer(alloc: Global, text: &str) -> Result<String, AllocError> {
     }
 }
 
-/// How high the term is that a text spells; 0 where it is refused.
+/// How high the term is that a text spells; 0 if it is refused.
 fn height(alloc: Global, text: &str) -> usize {
     let located = match tokens(alloc, text) {
         Ok(located) => located,
@@ -282,7 +282,7 @@ fn around(
 fn terms_are_read(rt: HostRuntime) -> Result<(), Fail> {
     let alloc = rt.alloc();
     for (text, wanted) in &ROWS {
-        let found = answer(alloc, text)?;
+        let found = reading(alloc, text)?;
         assert_eq!(rt; found.as_str(), *wanted, "{text}");
     }
     Ok(())
@@ -314,7 +314,7 @@ fn each_pair_groups(rt: HostRuntime) -> Result<(), Fail> {
             let (left, _, _) = *first;
             let (right, _, _) = *second;
             let text = format!(in alloc; "a {left} b {right} c")?;
-            let found = answer(alloc, text.as_str())?;
+            let found = reading(alloc, text.as_str())?;
             let wanted = wanted_pair(alloc, first, second)?;
             assert_eq!(rt; found.as_str(), wanted.as_str(), "{text}");
         }
@@ -328,21 +328,21 @@ fn heights(rt: HostRuntime) -> Result<(), Fail> {
     let ones = around(alloc, "", "1", "+1", 63)?;
     assert_eq!(rt; height(alloc, ones.as_str()), 64);
     let ones = around(alloc, "", "1", "+1", 64)?;
-    assert_eq!(rt; answer(alloc, ones.as_str())?.as_str(), "14@127");
+    assert_eq!(rt; reading(alloc, ones.as_str())?.as_str(), "14@127");
     let fields = around(alloc, "", "r", ".x", 63)?;
     assert_eq!(rt; height(alloc, fields.as_str()), 64);
     let fields = around(alloc, "", "r", ".x", 64)?;
-    assert_eq!(rt; answer(alloc, fields.as_str())?.as_str(), "14@127");
+    assert_eq!(rt; reading(alloc, fields.as_str())?.as_str(), "14@127");
     let calls = around(alloc, "f(", "1", ")", 63)?;
     assert_eq!(rt; height(alloc, calls.as_str()), 64);
     let calls = around(alloc, "f(", "1", ")", 64)?;
-    assert_eq!(rt; answer(alloc, calls.as_str())?.as_str(), "14@0");
+    assert_eq!(rt; reading(alloc, calls.as_str())?.as_str(), "14@0");
     let signs = around(alloc, "-", "1", "", 63)?;
     assert_eq!(rt; height(alloc, signs.as_str()), 64);
     let signs = around(alloc, "-", "1", "", 64)?;
-    assert_eq!(rt; answer(alloc, signs.as_str())?.as_str(), "14@0");
+    assert_eq!(rt; reading(alloc, signs.as_str())?.as_str(), "14@0");
     let signs = around(alloc, "-", "1", "", 300)?;
-    assert_eq!(rt; answer(alloc, signs.as_str())?.as_str(), "14@192");
+    assert_eq!(rt; reading(alloc, signs.as_str())?.as_str(), "14@192");
     Ok(())
 }
 
@@ -350,20 +350,20 @@ fn heights(rt: HostRuntime) -> Result<(), Fail> {
 fn brackets(rt: HostRuntime) -> Result<(), Fail> {
     let alloc = rt.alloc();
     let round = around(alloc, "(", "1", ")", 128)?;
-    assert_eq!(rt; answer(alloc, round.as_str())?.as_str(), "1");
+    assert_eq!(rt; reading(alloc, round.as_str())?.as_str(), "1");
     let round = around(alloc, "(", "1", ")", 129)?;
-    assert_eq!(rt; answer(alloc, round.as_str())?.as_str(), "14@128");
+    assert_eq!(rt; reading(alloc, round.as_str())?.as_str(), "14@128");
     let call = around(alloc, "(", "f(1)", ")", 127)?;
-    assert_eq!(rt; answer(alloc, call.as_str())?.as_str(), "f(1)");
+    assert_eq!(rt; reading(alloc, call.as_str())?.as_str(), "f(1)");
     let call = around(alloc, "(", "f(1)", ")", 128)?;
-    assert_eq!(rt; answer(alloc, call.as_str())?.as_str(), "14@128");
+    assert_eq!(rt; reading(alloc, call.as_str())?.as_str(), "14@128");
     let tuple = around(alloc, "(", "[1]", ")", 127)?;
-    assert_eq!(rt; answer(alloc, tuple.as_str())?.as_str(), "[1]");
+    assert_eq!(rt; reading(alloc, tuple.as_str())?.as_str(), "[1]");
     let tuple = around(alloc, "(", "[1]", ")", 128)?;
-    assert_eq!(rt; answer(alloc, tuple.as_str())?.as_str(), "14@128");
+    assert_eq!(rt; reading(alloc, tuple.as_str())?.as_str(), "14@128");
     let empty = around(alloc, "(", "{}", ")", 128)?;
-    assert_eq!(rt; answer(alloc, empty.as_str())?.as_str(), "14@128");
+    assert_eq!(rt; reading(alloc, empty.as_str())?.as_str(), "14@128");
     let key = around(alloc, "(", "m[1]", ")", 128)?;
-    assert_eq!(rt; answer(alloc, key.as_str())?.as_str(), "14@129");
+    assert_eq!(rt; reading(alloc, key.as_str())?.as_str(), "14@129");
     Ok(())
 }
