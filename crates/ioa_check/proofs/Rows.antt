@@ -14,17 +14,14 @@ use Rattle.ioa_system.specs.ResolvedPrograms.{own_names, variable_names, scope_o
 use Rattle.ioa_check.specs.Rows.{HasNoEntryRow}
 use Rattle.ioa_check.proofs.Loops.{each_append}
 use Rattle.std.proofs.lemmas.Bool.{or_parts}
+use Rattle.std.proofs.Math.Bool.{and-false}
 
 -- lists of two lengths agree nowhere
 pub pointwise_short : {A B : Type 0} (E : A → B → Bool) (xs : List A) (ys : List B) → length xs ≢ length ys → pointwise E xs ys ≡ false
 pointwise_short E [] [] h = absurd (h refl)
 pointwise_short E [] (y ∷ ys) h = refl
 pointwise_short E (x ∷ xs) [] h = refl
-pointwise_short E (x ∷ xs) (y ∷ ys) h = rw (pointwise_short E xs ys (λ q. h (omega arith))) (and_false (E x y))
-  where
-    and_false : (b : Bool) → b && false ≡ false
-    and_false true = refl
-    and_false false = refl
+pointwise_short E (x ∷ xs) (y ∷ ys) h = rw (pointwise_short E xs ys (λ q. h (omega arith))) (and-false (E x y))
 
 -- parameters have the same names without their annotations
 own_names-erase : (ps : List CheckedParameter) → own_names (map erase_parameter ps) ≡ own_names ps

@@ -5,16 +5,13 @@ use Rattle.std.specs.List.{zip}
 use Rattle.std.proofs.lemmas.Slice.Zip.{seconds-zip}
 use Rattle.ioa_values.specs.Data.{Data}
 use Rattle.std.proofs.lemmas.List.{length-map}
+use Rattle.std.proofs.Math.Bool.{and-false}
 use Rattle.ioa_terms.specs.Bindings.{same_name}
 use Rattle.ioa_terms.specs.declared.action.Action.{Action}
 use Rattle.ioa_source.specs.PlainText.{const, named}
 use Rattle.ioa_source.specs.Sides.{CheckedEntry, CheckedParameter, CheckedVariable}
 use Rattle.ioa_system.specs.ResolvedPrograms.{own_names, variable_names, scope_of}
 use Rattle.ioa_compose.specs.NodeStep.{effect_answer, arguments_agree, parameter_agrees, are_natural, own_values, entry_agrees, kind_agrees, action_name, action_arguments}
-
-and_false : (b : Bool) → b && false ≡ false
-and_false true = refl
-and_false false = refl
 
 second_true : (a b : Bool) → a && b ≡ true → b ≡ true
 second_true true b h = h
@@ -27,7 +24,7 @@ arguments_agree_short [] (v ∷ vs) h = refl
 arguments_agree_short (p ∷ ps) [] h = refl
 arguments_agree_short (p ∷ ps) (v ∷ vs) h =
     let e : arguments_agree ps vs ≡ false = arguments_agree_short ps vs (λ q. h (omega arith)) in
-    rw e (and_false (parameter_agrees p v))
+    rw e (and-false (parameter_agrees p v))
 
 -- if the parameters or the arguments end, no value of their own is left
 pub own_values_end : {A : Type 0} (f : A → CheckedParameter) (ps : List A) (vs : List Data) (i : ℕ) → i ≡ min (length ps) (length vs) → own_values (map f (drop i ps)) (drop i vs) ≡ []

@@ -5,6 +5,7 @@ use Rattle.std.specs.Prelude.{◌==◌, slice_index, if◌then◌else◌}
 use Rattle.std.specs.Char.{is_ascii_alphabetic}
 use Rattle.std.proofs.lemmas.Bool.{and_parts, cond_both}
 use Rattle.std.proofs.lemmas.Bool.Decides.{nat_tests}
+use Rattle.std.proofs.Math.Bool.{and-false}
 use Rattle.ioa_tokens.specs.declared.mark.Mark.{Mark}
 use Rattle.ioa_tokens.specs.declared.mark.Mark.TheVariants as mark
 use Rattle.ioa_tokens.specs.declared.token.Token.{Token}
@@ -13,7 +14,7 @@ use Rattle.ioa_tokens.specs.declared.written.Gap.{Gap}
 use Rattle.ioa_tokens.specs.declared.written.Gap.TheVariants as gap
 use Rattle.ioa_tokens.specs.Tables.{mark_text, left_out_text, signs, reserved}
 use Rattle.ioa_tokens.specs.Written.{Head, letter, digit, sign, text_head, gap_text, token_head, token_ends, token_text, written_text, spelling_ends, sign_ends, begins_longer, may_touch, IsApartFrom}
-use Rattle.ioa_tokens.proofs.Touching.{and_false, no_prefix, is_headed, mark_headed, left_out_headed}
+use Rattle.ioa_tokens.proofs.Touching.{no_prefix, is_headed, mark_headed, left_out_headed}
 
 -- one text behind another
 pub written_appended : (xs ys : List (Gap × Token)) → written_text (xs ++ ys) ≡ written_text xs ++ written_text ys
@@ -39,7 +40,7 @@ is_loose m = is_loose_character (slice_index (mark_text m) 0)
 -- a text that has no such character behind its head begins with no text that ends with one
 no_tail : (p : ℕ → Bool) (row text : List ℕ) (x c : ℕ) → list_all (λ y. not (p y)) (drop 1 row) ≡ true → p c ≡ true → starts_with nat_eq row (x ∷ (text ++ c ∷ [])) ≡ false
 no_tail p [] text x c all passes = refl
-no_tail p (d ∷ row) text x c all passes = rw (no_prefix p row text c all passes) (and_false (nat_eq x d))
+no_tail p (d ∷ row) text x c all passes = rw (no_prefix p row text c all passes) (and-false (nat_eq x d))
 
 -- the same of each row of a table
 no_tail_row : {A : Type 0} (p : ℕ → Bool) (rows : List (List ℕ × A)) (text : List ℕ) (x c : ℕ) → list_all (λ row. list_all (λ y. not (p y)) (drop 1 row.0)) rows ≡ true → p c ≡ true → list_any (λ row. starts_with nat_eq row.0 (x ∷ (text ++ c ∷ []))) rows ≡ false

@@ -6,6 +6,7 @@ use Rattle.std.specs.Char.{is_ascii_alphabetic, is_ascii_digit}
 use Rattle.std.proofs.lemmas.Bool.{and_parts, cond_both, cases_Bool}
 use Rattle.std.proofs.lemmas.Bool.Decides.{nat_tests}
 use Rattle.std.proofs.lemmas.Fmt.{decimal_is_IsNumeral}
+use Rattle.std.proofs.Math.Bool.{and-false}
 use Rattle.ioa_tokens.specs.declared.mark.Mark.{Mark}
 use Rattle.ioa_tokens.specs.declared.mark.LeftOut.{LeftOut}
 use Rattle.ioa_tokens.specs.declared.mark.Mark.TheVariants as mark
@@ -30,11 +31,6 @@ abbrev pub HasHead : Head → List ℕ → Type 0
 HasHead head [] = ⊥
 HasHead head (c ∷ more) = IsHead head c
 
--- nothing behind a test
-pub and_false : (b : Bool) → (b && false) ≡ false
-and_false true = refl
-and_false false = refl
-
 -- a character that passes is another than one that does not
 other_character : (p : ℕ → Bool) (c d : ℕ) → p c ≡ true → p d ≡ false → nat_eq c d ≡ false
 other_character p c d passes fails =
@@ -57,7 +53,7 @@ no_prefix p (d ∷ row) [] c all passes =
     rw other refl
 no_prefix p (d ∷ row) (x ∷ text) c all passes =
     let parts = and_parts (not (p d)) (list_all (λ x. not (p x)) row) all in
-    rw (no_prefix p row text c parts.1 passes) (and_false (nat_eq x d))
+    rw (no_prefix p row text c parts.1 passes) (and-false (nat_eq x d))
 
 -- the same of each row of a table
 no_row : {A : Type 0} (p : ℕ → Bool) (rows : List (List ℕ × A)) (text : List ℕ) (c : ℕ) → list_all (λ row. list_all (λ x. not (p x)) row.0) rows ≡ true → p c ≡ true → list_any (λ row. starts_with nat_eq row.0 (text ++ c ∷ [])) rows ≡ false

@@ -1,5 +1,5 @@
 -- The report of a run (profile): its parts in order, each line ended by a line feed.
-use Rattle.std.specs.Prelude.{◌≡◌, ℕ, ℤ, ◌+◌, List, [], ◌∷◌, ◌++◌, map, length, sum, codes, String, string_bytes}
+use Rattle.std.specs.Prelude.{ℕ, ℤ, ◌+◌, List, [], ◌∷◌, ◌++◌, map, length, sum, codes}
 use Rattle.std.specs.Fmt.{decimal, signed_decimal}
 use Rattle.std.specs.List.{flat_map}
 use Rattle.ioa_operators.specs.declared.shape.Shape.{Shape}
@@ -17,10 +17,6 @@ use Rattle.ioa_compose.specs.declared.queue.Item.TheVariants.{Message, Stimulus}
 use Rattle.ioa_record.specs.declared.ending.Ending.{Ending}
 use Rattle.ioa_record.specs.declared.record.Record.{Record}
 use Rattle.ioa_record.specs.Endings.{ending_text}
-
--- a text has grown by these bytes
-abbrev pub HasGrown : {Z : Type 0} → String Z → String Z → List ℕ → Type 0
-HasGrown old new more = string_bytes new ≡ string_bytes old ++ more
 
 -- `k action`, one line an action, counted from k
 abbrev pub action_lines : List (List ℕ) → ℕ → List Action → List ℕ

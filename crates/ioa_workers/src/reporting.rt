@@ -2,7 +2,8 @@
 
 ghost use Rattle.std.specs.Prelude.{◌≡◌, IfOk, OnOk, map, string_bytes};
 ghost use Rattle.ioa_values.specs.Text.{with_commas};
-ghost use Rattle.ioa_workers.specs.Reports.{HasGrown, report_text, schedule_text, action_lines, states_text};
+ghost use Rattle.ioa_values.specs.Outcome.{Writes};
+ghost use Rattle.ioa_workers.specs.Reports.{report_text, schedule_text, action_lines, states_text};
 ghost use Rattle.ioa_workers.specs.Reports.{component_lines, variable_lines, variable_line, queue_line, item_text};
 ghost use Rattle.ioa_workers.specs.Reports.{ending_lines, commits_text, commit_lines};
 
@@ -41,7 +42,7 @@ fn push_schedule(
     schedule: &[Action],
     report: &mut String,
 ) -> Result<(), AllocError>
-    ensures { OnOk result (HasGrown report.old report.new (schedule_text names.now schedule.now)) }
+    ensures { OnOk result (Writes report.old report.new (schedule_text names.now schedule.now)) }
 {
     let count = schedule.len();
     write!(report, "schedule {count}\n")?;
@@ -55,7 +56,7 @@ fn push_actions(
     schedule: &[Action],
     report: &mut String,
 ) -> Result<(), AllocError>
-    ensures { OnOk result (HasGrown report.old report.new (action_lines names.now 0 schedule.now)) }
+    ensures { OnOk result (Writes report.old report.new (action_lines names.now 0 schedule.now)) }
 {
     for (position, action) in schedule.iter().enumerate() {
         let action = show_action(alloc, names, action)?;
@@ -71,7 +72,7 @@ fn push_states(
     states: &[Conf],
     report: &mut String,
 ) -> Result<(), AllocError>
-    ensures { OnOk result (HasGrown report.old report.new (states_text names.now states.now)) }
+    ensures { OnOk result (Writes report.old report.new (states_text names.now states.now)) }
 {
     for state in states {
         push_component(alloc, names, state, report)?;
@@ -86,7 +87,7 @@ fn push_component(
     state: &Conf,
     report: &mut String,
 ) -> Result<(), AllocError>
-    ensures { OnOk result (HasGrown report.old report.new (component_lines names.now state.now)) }
+    ensures { OnOk result (Writes report.old report.new (component_lines names.now state.now)) }
 {
     match state {
         Conf::Node(node) => {
@@ -107,7 +108,7 @@ fn push_variables(
     variables: &[Variable<usize, Shape>],
     report: &mut String,
 ) -> Result<(), AllocError>
-    ensures { OnOk result (HasGrown report.old report.new (variable_lines names.now node values.now variables.now)) }
+    ensures { OnOk result (Writes report.old report.new (variable_lines names.now node values.now variables.now)) }
 {
     for (position, value) in values.iter().enumerate() {
         let Some(variable) = variables.get(position) else {
@@ -134,7 +135,7 @@ fn push_variable(
     value: &Value,
     report: &mut String,
 ) -> Result<(), AllocError>
-    ensures { OnOk result (HasGrown report.old report.new (variable_line names.now node name.now value.now)) }
+    ensures { OnOk result (Writes report.old report.new (variable_line names.now node name.now value.now)) }
 {
     let value = show(alloc, names, value)?;
     write!(report, "node {node} {name} = {value}\n")
@@ -147,7 +148,7 @@ fn push_queue(
     queue: &Queue,
     report: &mut String,
 ) -> Result<(), AllocError>
-    ensures { OnOk result (HasGrown report.old report.new (queue_line names.now queue.now.component queue.now.items)) }
+    ensures { OnOk result (Writes report.old report.new (queue_line names.now queue.now.component queue.now.items)) }
 {
     match queue.component() {
         Component::Node(_) => Ok(()),
@@ -183,7 +184,7 @@ fn show_item(alloc: Global, names: &Names, item: &Item) -> Result<String, AllocE
 
 /// Writes the endings, node 0 first.
 fn push_endings(endings: &[Ending], report: &mut String) -> Result<(), AllocError>
-    ensures { OnOk result (HasGrown report.old report.new (ending_lines 0 endings.now)) }
+    ensures { OnOk result (Writes report.old report.new (ending_lines 0 endings.now)) }
 {
     for (node, ending) in endings.iter().enumerate() {
         write!(report, "ending {node} {ending}\n")?;
@@ -193,7 +194,7 @@ fn push_endings(endings: &[Ending], report: &mut String) -> Result<(), AllocErro
 
 /// Writes how many actions each worker recorded, worker 0 first, and their total.
 fn push_commits(run_record: &Record, report: &mut String) -> Result<(), AllocError>
-    ensures { OnOk result (HasGrown report.old report.new (commits_text run_record.now.commits.items)) }
+    ensures { OnOk result (Writes report.old report.new (commits_text run_record.now.commits.items)) }
 {
     push_commit_lines(&run_record.commits, report)?;
     let total = run_record.schedule.len();
@@ -202,7 +203,7 @@ fn push_commits(run_record: &Record, report: &mut String) -> Result<(), AllocErr
 
 /// Writes a line for each worker, worker 0 first.
 fn push_commit_lines(commits: &[u64], report: &mut String) -> Result<(), AllocError>
-    ensures { OnOk result (HasGrown report.old report.new (commit_lines 0 commits.now)) }
+    ensures { OnOk result (Writes report.old report.new (commit_lines 0 commits.now)) }
 {
     for (worker, count) in commits.iter().enumerate() {
         write!(report, "worker {worker} commits {count}\n")?;
