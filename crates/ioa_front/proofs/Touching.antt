@@ -6,12 +6,14 @@ use Rattle.ioa_tokens.specs.declared.token.Token.{Token}
 use Rattle.ioa_tokens.specs.declared.token.Token.TheVariants as token
 use Rattle.ioa_tokens.specs.declared.mark.Mark.TheVariants as mark
 use Rattle.ioa_tokens.specs.declared.written.Gap.TheVariants as gap
+use Rattle.ioa_tokens.specs.Tables.{mark_text, signs, reserved}
 use Rattle.ioa_tokens.specs.Written.{may_touch}
 use Rattle.ioa_tokens.proofs.Apart.{loose_touches, apart_from_closed}
 use Rattle.ioa_front.specs.Touching.{is_opening, is_part_end, follows_any, precedes_any, is_prefix, is_plain, touches}
 
 -- a bracket that opens may stand right behind any token
 opens : (t u : Token) → is_opening u ≡ true → may_touch t u ≡ true
+unfolding mark_text signs reserved
 opens t (token.Mark mark.OpenRound) e = loose_touches t mark.OpenRound refl
 opens t (token.Mark mark.OpenSquare) e = loose_touches t mark.OpenSquare refl
 opens t (token.Mark mark.OpenBrace) e = loose_touches t mark.OpenBrace refl
@@ -19,6 +21,7 @@ opens t _ e = absurd (true≢false (sym e))
 
 -- so may one that closes, and a sign that ends a part
 ends : (t u : Token) → is_part_end u ≡ true → may_touch t u ≡ true
+unfolding mark_text signs reserved
 ends t (token.Mark mark.CloseRound) e = loose_touches t mark.CloseRound refl
 ends t (token.Mark mark.CloseSquare) e = loose_touches t mark.CloseSquare refl
 ends t (token.Mark mark.CloseBrace) e = loose_touches t mark.CloseBrace refl
@@ -38,6 +41,7 @@ precedes _ u e = absurd (true≢false (sym e))
 
 -- a name, a number or a truth value may stand right behind an operator before a term
 operand : (t u : Token) → is_prefix t ≡ true → is_plain u ≡ true → may_touch t u ≡ true
+unfolding mark_text signs reserved
 operand (token.Mark mark.Minus) (token.Word word) e f = refl
 operand (token.Mark mark.Minus) (token.Number number) e f = refl
 operand (token.Mark mark.Minus) (token.Mark mark.True) e f = refl
