@@ -12,7 +12,7 @@ use Rattle.ioa_source.specs.PlainText as plain
 use Rattle.ioa_source.specs.Sides.{SourceTerm as Term, SourceDeclared as Declared, SourceParameter as Parameter, SourceEntry as Entry}
 use Rattle.ioa_cursor.specs.Lists.{SeparatedBy, ListsSeparatedBy, SeveralLists}
 use Rattle.ioa_cursor.specs.Lists as lists
-use Rattle.ioa_term_reader.specs.Heights.{height_limit}
+use Rattle.ioa_source.specs.Heights.{height_limit}
 use Rattle.ioa_term_reader.specs.Grammar.{bracket_limit, SpellsTerm}
 use Rattle.ioa_term_reader.specs.Spelling.{spelling}
 use Rattle.ioa_term_reader.proofs.Printed.{term_printed}

@@ -1,3 +1,4 @@
 -- the lemmas of this crate, which the crates above cite
 pub mod Erased
+pub mod Heights
 pub mod Sets

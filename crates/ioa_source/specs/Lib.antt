@@ -5,3 +5,4 @@ pub mod PlainText
 pub mod Sides
 pub mod TextView
 pub mod Erasure
+pub mod Heights

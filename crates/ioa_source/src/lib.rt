@@ -2,6 +2,7 @@
 #![tactic(auto)]
 
 mod declaration;
+mod height;
 mod laws;
 mod sort;
 
@@ -9,5 +10,6 @@ pub use declaration::{
     Automaton, Channel, Declaration, Declared, Entry, Node, Parameter, Placement, Text, Transition,
     TypeDeclaration, TypeForm, Variable,
 };
+pub use height::{HEIGHT_LIMIT, HasHeight};
 pub use laws::erasure_law;
 pub use sort::Sort;

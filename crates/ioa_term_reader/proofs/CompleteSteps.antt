@@ -18,7 +18,7 @@ use Rattle.ioa_source.specs.Sides.{SourceTerm}
 use Rattle.ioa_cursor.specs.Reading.{bind, choose, skip, expect, word, number, at_number, at_word, peek_mark, advance}
 use Rattle.ioa_cursor.proofs.Steps.{stays, read_next}
 use Rattle.ioa_cursor.proofs.Follow.{skip_same}
-use Rattle.ioa_term_reader.specs.Heights.{height, height_limit}
+use Rattle.ioa_source.specs.Heights.{height, height_limit}
 use Rattle.ioa_term_reader.specs.Levels.{prefix_level, prefix_of, infix_of, right_level, atom_level}
 use Rattle.ioa_term_reader.specs.Reading.{limited_term, term_at_level, after_of, level_of, left_of, accepted_after, terms_in, bracketed_term, display_term, braced_term, call_term, word_term, prefixed_term, operator_term, marked_term, operand, extended_term, climb, read}
 use Rattle.ioa_term_reader.specs.declared.after.After.{After}

@@ -15,7 +15,7 @@ use Rattle.ioa_cursor.specs.Reading.{bind, choose, skip, collect}
 use Rattle.ioa_tokens.specs.Tables.{same_mark}
 use Rattle.ioa_cursor.proofs.Steps.{stays, read_next}
 use Rattle.ioa_cursor.proofs.Follow.{skip_same}
-use Rattle.ioa_term_reader.specs.Heights.{height, heights, height_limit}
+use Rattle.ioa_source.specs.Heights.{height, heights, height_limit}
 use Rattle.ioa_term_reader.specs.Levels.{prefix_level, level, left_level, right_level, postfix_level, atom_level}
 use Rattle.ioa_term_reader.specs.Grammar as grammar
 use Rattle.ioa_term_reader.specs.Grammar.{SpellsAt, SpellsTerms, SpellsTerm, bracket_limit}

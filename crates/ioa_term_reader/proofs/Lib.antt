@@ -7,6 +7,5 @@ pub mod CompleteSteps
 pub mod CompleteTerms
 pub mod Printed
 pub mod PrintedGood
-pub mod Pushed
 pub mod Turns
 pub mod OtherMarks

@@ -13,7 +13,7 @@ use Rattle.ioa_terms.specs.PlainTerm.{two}
 use Rattle.ioa_source.specs.Sides.{SourceTerm, SourceTerms}
 use Rattle.ioa_term_reader.specs.Grammar as grammar
 use Rattle.ioa_term_reader.specs.Grammar.{SpellsAt, SpellsTerms, SpellsTerm}
-use Rattle.ioa_term_reader.specs.Heights.{height, heights, height_limit}
+use Rattle.ioa_source.specs.Heights.{height, heights, height_limit}
 use Rattle.ioa_term_reader.specs.Levels.{prefix_mark, prefix_level, prefix_of, infix_mark, infix_of, level, left_level, right_level, postfix_level}
 use Rattle.ioa_term_reader.specs.Spelling.{infix_end, is_operation, spelling, part_spelling, parts_spelling, more_parts_spelling}
 use Rattle.ioa_term_reader.proofs.Sound.{looser}

@@ -22,7 +22,7 @@ use Rattle.ioa_cursor.proofs.Steps.{read_next, choose_cases, bind_cases, skip_ta
 use Rattle.ioa_cursor.proofs.SoundLists.{separated_sound}
 use Rattle.ioa_term_reader.specs.Grammar as grammar
 use Rattle.ioa_term_reader.specs.Grammar.{SpellsAt, SpellsTerms, SpellsTerm}
-use Rattle.ioa_term_reader.specs.Heights.{height, height_limit}
+use Rattle.ioa_source.specs.Heights.{height, height_limit}
 use Rattle.ioa_term_reader.specs.Levels.{prefix_level, prefix_of, infix_of, level, right_level, postfix_level, atom_level}
 use Rattle.ioa_term_reader.specs.Reading.{limited_term, TermAtLevel, after_of, level_of, left_of, accepted_after, terms_in, bracketed_term, display_term, braced_term, call_term, word_term, prefixed_term, operator_term, marked_term, operand, extended_term, climb, read, depth_limit, term}
 use Rattle.ioa_term_reader.specs.declared.after.After.{After}

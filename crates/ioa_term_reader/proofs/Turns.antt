@@ -6,7 +6,7 @@ use Rattle.ioa_cursor.specs.Reading.{bind, advance}
 use Rattle.ioa_cursor.proofs.Lists.{left_less, none_left}
 use Rattle.ioa_cursor.proofs.Steps.{read_next}
 use Rattle.ioa_term_reader.specs.Reading.{accepted_after, extended_term, climb, level_of, operand, read}
-use Rattle.ioa_term_reader.specs.Heights.{height_limit}
+use Rattle.ioa_source.specs.Heights.{height_limit}
 use Rattle.ioa_term_reader.specs.declared.after.After.{After}
 
 bound_is : {A B : Type 0} {o : Option A} {x : A} → o ≡ Some x → (f : A → Option B) → bind o f ≡ f x

@@ -12,7 +12,7 @@ use Rattle.ioa_operators.specs.declared.shape.DisplayForm.TheVariants.{Braces, B
 use Rattle.ioa_terms.specs.PlainTerm as plain
 use Rattle.ioa_terms.specs.PlainTerm.{no_terms, term}
 use Rattle.ioa_source.specs.Sides.{SourceTerm, SourceTerms}
-use Rattle.ioa_term_reader.specs.Heights.{height, height_limit}
+use Rattle.ioa_source.specs.Heights.{height, height_limit}
 use Rattle.ioa_term_reader.specs.Levels.{prefix_level, prefix_of, infix_of, level, left_level, right_level}
 use Rattle.ioa_term_reader.specs.Levels.{postfix_level, atom_level}
 use Rattle.ioa_term_reader.specs.declared.reading.TheConstants.{BRACKET_LIMIT}

@@ -1,5 +1,5 @@
 -- The operators of terms (profile): by which mark each is written, how tightly it binds, and how the operators of one
--- level group. Level 1 is the loosest, 13 the tightest.
+-- level group. Level 1 is the loosest, `atom_level` the tightest.
 use Rattle.std.specs.Prelude.{ℕ, suc, List, [], ◌∷◌, Option}
 use Rattle.std.specs.List.{find}
 use Rattle.ioa_tokens.specs.declared.mark.Mark.{Mark}
@@ -16,6 +16,14 @@ use Rattle.ioa_term_reader.specs.declared.levels.PrefixRow.{PrefixRow}
 
 abbrev row : Mark → ℕ → Groups → InfixRow
 row m l g = record { mark = m; level = l; groups = g }
+
+-- the level of `.f` and `[k]` behind a term
+abbrev pub postfix_level : ℕ
+postfix_level = 12
+
+-- the level of numbers, words, calls, displays and of terms in brackets
+abbrev pub atom_level : ℕ
+atom_level = 13
 
 -- the operators between two terms; `m[k]` is written with two brackets, of which its mark is the first, and binds as
 -- `.f` does
@@ -37,7 +45,7 @@ infix_row operator.Concatenate = row mark.Concatenate 8 FromLeft
 infix_row operator.Plus = row mark.Plus 9 FromLeft
 infix_row operator.Minus = row mark.Minus 9 FromLeft
 infix_row operator.Times = row mark.Times 10 FromLeft
-infix_row operator.At = row mark.OpenSquare 12 FromLeft
+infix_row operator.At = row mark.OpenSquare postfix_level FromLeft
 
 -- the operators that are written between their two terms: all but `m[k]`
 abbrev pub infix_operators : List BinaryOperator
@@ -73,14 +81,6 @@ level op = (infix_row op).level
 
 abbrev pub prefix_level : UnaryOperator → ℕ
 prefix_level op = (prefix_row op).level
-
--- the level of `.f` and `[k]` behind a term
-abbrev pub postfix_level : ℕ
-postfix_level = 12
-
--- the level of numbers, words, calls, displays and of terms in brackets
-abbrev pub atom_level : ℕ
-atom_level = 13
 
 -- the loosest level of the left side of an operator of a level
 abbrev pub left_side : Groups → ℕ → ℕ

@@ -1,9 +1,7 @@
 -- what the contracts of this crate and of those above it cite
 pub mod Grammar
-pub mod Heights
 pub mod Levels
 pub mod Reading
 pub mod Spelling
-pub mod Views
 -- the steps of reading, which the attributes `unfolding(..)` name
 pub use Rattle.ioa_cursor.specs.Reading.{bind, choose}

@@ -14,7 +14,7 @@ use Rattle.ioa_terms.specs.PlainTerm.{no_terms, terms_of}
 use Rattle.ioa_source.specs.Sides.{SourceTerm}
 use Rattle.ioa_cursor.specs.Reading.{◌>>=◌, choose, skip, expect, word, number}
 use Rattle.ioa_cursor.specs.Reading.{at_number, at_word, peek_mark, advance, several_more}
-use Rattle.ioa_term_reader.specs.Heights.{height, height_limit}
+use Rattle.ioa_source.specs.Heights.{height, height_limit}
 use Rattle.ioa_term_reader.specs.Grammar.{bracket_limit}
 use Rattle.ioa_term_reader.specs.Levels.{prefix_of, prefix_level, infix_of, level, left_level, right_level}
 use Rattle.ioa_term_reader.specs.Levels.{postfix_level, atom_level}

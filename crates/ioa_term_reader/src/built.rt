@@ -1,106 +1,146 @@
 //! Trees within the limit of height, each with its height.
 
-ghost use Rattle.std.specs.Prelude.{◌≡◌, ◌≤◌, ◌⊎◌, [], ◌∷◌, ◌++◌, Some, IfErr, map};
+ghost use Rattle.std.specs.Prelude.{◌≡◌, ◌≤◌, ◌<◌, ◌⊎◌, [], ◌∷◌, ◌++◌, Some, IfOk, IfErr, map};
 ghost use Rattle.ioa_cursor.specs.declared.cursor.Unread.TheVariants.{Memory};
+ghost use Rattle.ioa_source.specs.Heights as heights;
+ghost use Rattle.ioa_source.specs.Heights.{height_limit};
 ghost use Rattle.ioa_terms.specs.PlainTerm as plain;
 ghost use Rattle.ioa_terms.specs.PlainTerm.{terms_of};
 ghost use Rattle.ioa_terms.specs.View.{term_of};
-ghost use Rattle.ioa_term_reader.specs.Heights.{height, height_limit, heights};
 ghost use Rattle.ioa_term_reader.specs.Reading as spec;
 ghost use Rattle.ioa_values.specs.Outcome.{Matches};
 
 use ioa_cursor::Unread;
+use ioa_source::{HEIGHT_LIMIT, HasHeight};
 use ioa_terms::{BinaryOperator, DisplayForm, Term, Tree, UnaryOperator};
 use ioa_values::Word;
 use std::alloc::Global;
 
-/// How high the tree of a term may be. Source: profile.
-pub const HEIGHT_LIMIT: usize = 64;
-
-/// The tree of a term, at most 64 high. A leaf is 1 high, all else one higher than its highest part.
-/// Source: profile.
+/// A tree, or several, at most 64 high, with the height: a leaf is 1 high, all else one higher than its
+/// highest part, and no tree is 0 high. Source: profile.
 #[derive(Drop)]
-pub struct Built {
-    tree: Term,
-    high: usize,
-    ghost low: { (high ≡ height (term_of tree)) × (high ≤ height_limit) },
+pub struct Built<T: HasHeight> {
+    tree: T,
+    height: usize,
+    ghost low: { (height ≡ T.height tree) × (height ≤ height_limit) },
 }
 
-/// The trees of terms one after another, none of them more than 64 high.
-#[derive(Drop)]
-pub(crate) struct BuiltList {
-    trees: Vec<Term>,
-    high: usize,
-    ghost low: { (high ≡ heights (terms_of (map term_of trees.items))) × (high ≤ height_limit) },
-}
+impl<T: HasHeight> Built<T> {
+    /// A tree whose height is within the limit.
+    pub fn new(tree: T, height: usize) -> Self
+        requires same { height ≡ T.height tree }
+        requires low { height ≤ height_limit }
+        ensures { result.tree ≡ tree }
+    {
+        Built { tree, height }
+    }
 
-impl Built {
+    /// A tree, if its height is within the limit: else the refusal `deep`.
+    pub fn within_limit(tree: T, height: usize, deep: Unread) -> Result<Self, Unread>
+    where
+        T: Drop,
+        requires { height ≡ T.height tree }
+        ensures made { IfOk result (λ b. (b.tree ≡ tree) × (T.height tree ≤ height_limit)) }
+        ensures told { IfErr result (λ e. (e ≡ deep) × (height_limit < T.height tree)) }
+    {
+        if height <= HEIGHT_LIMIT {
+            Ok(Built { tree, height })
+        } else {
+            Err(deep)
+        }
+    }
+
     /// The tree.
-    pub fn tree(&self) -> &Term
+    pub fn tree(&self) -> &T
         ensures same { result.now ≡ self.now.tree }
-        ensures low { height (term_of result.now) ≤ height_limit }
+        ensures low { T.height result.now ≤ height_limit }
     {
         &self.tree
     }
 
     /// The tree itself.
-    pub fn into_tree(self) -> Term
+    pub fn into_tree(self) -> T
         ensures same { result ≡ self.tree }
-        ensures low { height (term_of result) ≤ height_limit }
+        ensures low { T.height result ≤ height_limit }
     {
         self.tree
     }
 
     /// How high the tree is.
     pub fn height(&self) -> usize
-        ensures exact { result ≡ height (term_of self.now.tree) }
+        ensures exact { result ≡ T.height self.now.tree }
         ensures low { result ≤ height_limit }
     {
-        self.high
+        self.height
     }
+}
 
-    /// A tree, if it is not too high: else the refusal `deep`.
-    #[tactic(auto, unfolding(crate::specs::Reading::limited_term))]
-    fn limited_term(tree: Term, high: usize, deep: Unread) -> Result<Built, Unread>
-        requires { high ≡ height (term_of tree) }
-        ensures meant { Matches Memory (λ b. term_of b.tree) result
-            (spec.limited_term (term_of tree)) }
-        ensures told { IfErr result (λ e. e ≡ deep) }
+impl<T: HasHeight> Built<Vec<T>> {
+    /// No tree.
+    pub fn none(alloc: Global) -> Self
+        ensures { result.tree.items ≡ [] }
     {
-        if high <= HEIGHT_LIMIT {
-            Ok(Built { tree, high })
-        } else {
-            Err(deep)
+        Built {
+            tree: Vec::new(alloc),
+            height: 0,
         }
     }
 
+    /// The trees with one more behind them.
+    #[tactic(auto, using(ioa_source::proofs::Heights::highest_push))]
+    pub fn with_next(self, next: Built<T>) -> Result<Self, Unread>
+    where
+        T: Drop,
+        ensures { Matches Memory (λ b. b.tree.items) result (Some (self.tree.items ++ next.tree ∷ [])) }
+    {
+        let mut tree = self.tree;
+        tree.push(next.tree)?;
+        Ok(Built {
+            tree,
+            height: self.height.max(next.height),
+        })
+    }
+}
+
+impl Built<Term> {
+    /// A term, if it is not too high: else the refusal `deep`.
+    #[tactic(auto, unfolding(crate::specs::Reading::limited_term))]
+    fn limited_term(tree: Term, height: usize, deep: Unread) -> Result<Self, Unread>
+        requires { height ≡ heights.height (term_of tree) }
+        ensures meant { Matches Memory (λ b. term_of b.tree) result (spec.limited_term (term_of tree)) }
+        ensures told { IfErr result (λ e. e ≡ deep) }
+    {
+        let built = Built::within_limit(tree, height, deep)?;
+        Ok(built)
+    }
+
     /// A number.
-    pub(crate) fn number(number: i64) -> Built
+    pub(crate) fn number(number: i64) -> Self
         ensures { term_of result.tree ≡ plain.number number }
     {
         Built {
             tree: Tree::Number(number),
-            high: 1,
+            height: 1,
         }
     }
 
     /// `true` or `false`.
-    pub(crate) fn truth(truth: bool) -> Built
+    pub(crate) fn truth(truth: bool) -> Self
         ensures { term_of result.tree ≡ plain.truth truth }
     {
         Built {
             tree: Tree::Truth(truth),
-            high: 1,
+            height: 1,
         }
     }
 
     /// A name.
-    pub(crate) fn name(name: Word) -> Built
+    pub(crate) fn name(name: Word) -> Self
         ensures { term_of result.tree ≡ plain.name name tt }
     {
         Built {
             tree: Tree::Name(name, ()),
-            high: 1,
+            height: 1,
         }
     }
 
@@ -108,109 +148,91 @@ impl Built {
     pub(crate) fn one(
         alloc: Global,
         operator: UnaryOperator,
-        part: Built,
+        part: Built<Term>,
         deep: Unread,
-    ) -> Result<Built, Unread>
+    ) -> Result<Self, Unread>
         ensures meant { Matches Memory (λ b. term_of b.tree) result
             (spec.limited_term (plain.one operator (term_of part.tree))) }
         ensures told { IfErr result (λ e. (e ≡ Memory) ⊎ (e ≡ deep)) }
     {
-        let high = part.high + 1;
+        let height = part.height + 1;
         let part = Box::new(alloc, part.tree)?;
-        Built::limited_term(Tree::One(operator, part), high, deep)
+        Built::limited_term(Tree::One(operator, part), height, deep)
     }
 
     /// An operator between two terms, the left one first.
     pub(crate) fn two(
         alloc: Global,
         operator: BinaryOperator,
-        left: Built,
-        right: Built,
+        left: Built<Term>,
+        right: Built<Term>,
         deep: Unread,
-    ) -> Result<Built, Unread>
+    ) -> Result<Self, Unread>
         ensures meant { Matches Memory (λ b. term_of b.tree) result
             (spec.limited_term (plain.two operator (term_of left.tree) (term_of right.tree))) }
         ensures told { IfErr result (λ e. (e ≡ Memory) ⊎ (e ≡ deep)) }
     {
-        let high = left.high.max(right.high) + 1;
+        let height = left.height.max(right.height) + 1;
         let left = Box::new(alloc, left.tree)?;
         let right = Box::new(alloc, right.tree)?;
-        Built::limited_term(Tree::Two(operator, left, right), high, deep)
+        Built::limited_term(Tree::Two(operator, left, right), height, deep)
     }
 
     /// A function of terms.
-    pub(crate) fn call(name: Word, parts: BuiltList, deep: Unread) -> Result<Built, Unread>
+    pub(crate) fn call(name: Word, parts: Built<Vec<Term>>, deep: Unread) -> Result<Self, Unread>
         ensures meant { Matches Memory (λ b. term_of b.tree) result
-            (spec.limited_term (plain.call name (terms_of (map term_of parts.trees.items)))) }
+            (spec.limited_term (plain.call name (terms_of (map term_of parts.tree.items)))) }
         ensures told { IfErr result (λ e. (e ≡ Memory) ⊎ (e ≡ deep)) }
     {
-        let high = parts.high + 1;
-        Built::limited_term(Tree::Call(name, parts.trees), high, deep)
+        let height = highest(&parts) + 1;
+        Built::limited_term(Tree::Call(name, parts.tree), height, deep)
     }
 
     /// A display of terms.
     pub(crate) fn display(
         form: DisplayForm,
-        parts: BuiltList,
+        parts: Built<Vec<Term>>,
         deep: Unread,
-    ) -> Result<Built, Unread>
+    ) -> Result<Self, Unread>
         ensures meant { Matches Memory (λ b. term_of b.tree) result
-            (spec.limited_term (plain.display form tt (terms_of (map term_of parts.trees.items)))) }
+            (spec.limited_term (plain.display form tt (terms_of (map term_of parts.tree.items)))) }
         ensures told { IfErr result (λ e. (e ≡ Memory) ⊎ (e ≡ deep)) }
     {
-        let high = parts.high + 1;
-        Built::limited_term(Tree::Display(form, (), parts.trees), high, deep)
+        let height = highest(&parts) + 1;
+        Built::limited_term(Tree::Display(form, (), parts.tree), height, deep)
     }
 
     /// `{}`.
-    pub(crate) fn empty(alloc: Global) -> Built
+    pub(crate) fn empty(alloc: Global) -> Self
         ensures { term_of result.tree ≡ plain.display DisplayForm.Braces tt plain.no_terms }
     {
         Built {
             tree: Tree::Display(DisplayForm::Braces, (), Vec::new(alloc)),
-            high: 1,
+            height: 1,
         }
     }
 
     /// A field of a term.
     pub(crate) fn field(
         alloc: Global,
-        part: Built,
+        part: Built<Term>,
         name: Word,
         deep: Unread,
-    ) -> Result<Built, Unread>
+    ) -> Result<Self, Unread>
         ensures meant { Matches Memory (λ b. term_of b.tree) result
             (spec.limited_term (plain.field (term_of part.tree) name tt)) }
         ensures told { IfErr result (λ e. (e ≡ Memory) ⊎ (e ≡ deep)) }
     {
-        let high = part.high + 1;
+        let height = part.height + 1;
         let part = Box::new(alloc, part.tree)?;
-        Built::limited_term(Tree::Field(part, name, ()), high, deep)
+        Built::limited_term(Tree::Field(part, name, ()), height, deep)
     }
 }
 
-impl BuiltList {
-    /// No term.
-    pub(crate) fn new(alloc: Global) -> Self
-        ensures { map term_of result.trees.items ≡ [] }
-    {
-        BuiltList {
-            trees: Vec::new(alloc),
-            high: 0,
-        }
-    }
-
-    /// The terms with one more behind them.
-    #[tactic(auto, using(crate::proofs::Pushed::heights_push, std::proofs::lemmas::List::map_push))]
-    pub(crate) fn with_term(self, term: Built) -> Result<Self, Unread>
-        ensures { Matches Memory (λ l. map term_of l.trees.items) result
-            (Some (map term_of self.trees.items ++ term_of term.tree ∷ [])) }
-    {
-        let mut trees = self.trees;
-        trees.push(term.tree)?;
-        Ok(BuiltList {
-            trees,
-            high: self.high.max(term.high),
-        })
-    }
+/// The height of the highest of several terms, 0 if there is none.
+fn highest(terms: &Built<Vec<Term>>) -> usize
+    ensures exact { result ≡ heights.heights (terms_of (map term_of terms.now.tree.items)) }
+    ensures low { result ≤ height_limit }
+{
+    terms.height
 }

@@ -188,7 +188,7 @@ pub(crate) fn prefix_level(operator: UnaryOperator) -> usize
 
 /// The loosest level of the left side of an operator of a level.
 fn left_side(groups: Groups, level: usize) -> usize
-    requires { level ≤ 13 }
+    requires { level ≤ spec.atom_level }
     ensures { result ≡ spec.left_side groups level }
 {
     match groups {
@@ -200,7 +200,7 @@ fn left_side(groups: Groups, level: usize) -> usize
 
 /// The loosest level of the right side of an operator of a level.
 fn right_side(groups: Groups, level: usize) -> usize
-    requires { level ≤ 13 }
+    requires { level ≤ spec.atom_level }
     ensures { result ≡ spec.right_side groups level }
 {
     match groups {

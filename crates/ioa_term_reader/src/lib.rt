@@ -6,6 +6,6 @@ mod built;
 mod levels;
 mod reading;
 
-pub use built::{Built, HEIGHT_LIMIT};
+pub use built::Built;
 pub use levels::{infix_mark, prefix_mark};
 pub use reading::{BRACKET_LIMIT, term};

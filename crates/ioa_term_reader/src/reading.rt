@@ -1,20 +1,21 @@
 //! The reader of terms, by precedence climbing: an operand, and then what it goes on with, as far as
 //! the levels of the operators allow it.
 
-ghost use Rattle.std.specs.Prelude.{◌≡◌};
+ghost use Rattle.std.specs.Prelude.{◌≡◌, map};
 ghost use Rattle.ioa_cursor.specs.Outcome.{Reads};
-ghost use Rattle.ioa_term_reader.specs.Heights.{height_limit};
+ghost use Rattle.ioa_source.specs.Heights.{height_limit};
 ghost use Rattle.ioa_term_reader.specs.Levels as levels;
 ghost use Rattle.ioa_term_reader.specs.Reading as spec;
-ghost use Rattle.ioa_term_reader.specs.Views.{built_term, built_terms, leveled_term};
+ghost use Rattle.ioa_terms.specs.View.{term_of};
 
 use crate::after::After;
-use crate::built::{Built, BuiltList, HEIGHT_LIMIT};
+use crate::built::Built;
 use crate::levels::{
     ATOM_LEVEL, LOOSEST_LEVEL, accepted_after, level_of, prefix_level, prefix_of, right_level,
 };
 use ioa_cursor::{Tokens, Unread};
-use ioa_terms::{BinaryOperator, DisplayForm, UnaryOperator};
+use ioa_source::HEIGHT_LIMIT;
+use ioa_terms::{BinaryOperator, DisplayForm, Term, UnaryOperator};
 use ioa_tokens::Mark;
 use ioa_values::Word;
 use std::alloc::Global;
@@ -45,14 +46,14 @@ struct Refusals {
 #[derive(Drop)]
 struct TermAtLevel {
     level: usize,
-    built: Built,
+    built: Built<Term>,
 }
 
 impl TermAtLevel {
     /// A term that is as tight as a number.
-    fn atom(built: Built) -> Self
+    fn atom(built: Built<Term>) -> Self
         ensures level { result.level ≡ levels.atom_level }
-        ensures term { built_term result.built ≡ built_term built }
+        ensures term { result.built ≡ built }
     {
         TermAtLevel {
             level: ATOM_LEVEL,
@@ -66,8 +67,8 @@ impl TermAtLevel {
 /// `TooDeep` (14) if the tree would be more than 64 high or if too many brackets are opened. It is
 /// refused as `Memory` if no memory is left. Source: profile.
 #[tactic(auto, unfolding(crate::specs::Reading::term))]
-pub fn term(alloc: Global, tokens: &mut Tokens<'_>, room: usize) -> Result<Built, Unread>
-    ensures { Reads built_term (spec.term room tokens.old) result tokens.new }
+pub fn term(alloc: Global, tokens: &mut Tokens<'_>, room: usize) -> Result<Built<Term>, Unread>
+    ensures { Reads (λ b. term_of b.tree) (spec.term room tokens.old) result tokens.new }
 {
     let bounds = Bounds {
         depth: DEPTH_LIMIT,
@@ -93,8 +94,8 @@ fn begins_term(tokens: &Tokens<'_>, least: usize) -> bool {
 /// A term of level `least` at the loosest; each part of it is read one deeper.
 #[cycle(terms)]
 #[tactic(auto, unfolding(crate::specs::Reading::read, crate::specs::bind))]
-fn read(alloc: Global, tokens: &mut Tokens<'_>, bounds: Bounds) -> Result<Built, Unread>
-    ensures { Reads built_term (spec.read bounds.depth bounds.room bounds.least tokens.old) result tokens.new }
+fn read(alloc: Global, tokens: &mut Tokens<'_>, bounds: Bounds) -> Result<Built<Term>, Unread>
+    ensures { Reads (λ b. term_of b.tree) (spec.read bounds.depth bounds.room bounds.least tokens.old) result tokens.new }
 {
     if bounds.depth == 0 {
         let begins = begins_term(tokens, bounds.least);
@@ -115,10 +116,10 @@ fn climb(
     tokens: &mut Tokens<'_>,
     bounds: Bounds,
     first: TermAtLevel,
-) -> Result<Built, Unread>
-    ensures { Reads built_term
+) -> Result<Built<Term>, Unread>
+    ensures { Reads (λ b. term_of b.tree)
         (spec.climb (spec.read bounds.depth) height_limit bounds.room bounds.least first.level
-        (built_term first.built) tokens.old) result tokens.new }
+        (term_of first.built.tree) tokens.old) result tokens.new }
 {
     let mut most = first.level;
     let mut left = first.built;
@@ -143,12 +144,12 @@ fn extended_term(
     alloc: Global,
     tokens: &mut Tokens<'_>,
     bounds: Bounds,
-    left: Built,
+    left: Built<Term>,
     after: After,
     deep: Unread,
-) -> Result<Built, Unread>
-    ensures { Reads built_term
-        (spec.extended_term (spec.read bounds.depth) bounds.room (built_term left) after tokens.old) result tokens.new }
+) -> Result<Built<Term>, Unread>
+    ensures { Reads (λ b. term_of b.tree)
+        (spec.extended_term (spec.read bounds.depth) bounds.room (term_of left.tree) after tokens.old) result tokens.new }
 {
     match after {
         After::Infix(operator) => {
@@ -180,7 +181,7 @@ fn extended_term(
 #[cycle(terms)]
 #[tactic(auto, unfolding(crate::specs::Reading::operand, crate::specs::bind, crate::specs::choose))]
 fn operand(alloc: Global, tokens: &mut Tokens<'_>, bounds: Bounds) -> Result<TermAtLevel, Unread>
-    ensures { Reads leveled_term
+    ensures { Reads (λ t. (t.level, term_of t.built.tree))
         (spec.operand (spec.read bounds.depth) bounds.room bounds.least tokens.old) result tokens.new }
 {
     let deep = tokens.too_deep();
@@ -212,7 +213,7 @@ fn word_term(
     name: Word,
     deep: Unread,
 ) -> Result<TermAtLevel, Unread>
-    ensures { Reads leveled_term
+    ensures { Reads (λ t. (t.level, term_of t.built.tree))
         (spec.word_term (spec.read bounds.depth) bounds.room name tokens.old) result tokens.new }
 {
     if tokens.skip(Mark::OpenRound) {
@@ -232,7 +233,7 @@ fn marked_term(
     mark: Mark,
     refusals: Refusals,
 ) -> Result<TermAtLevel, Unread>
-    ensures { Reads leveled_term
+    ensures { Reads (λ t. (t.level, term_of t.built.tree))
         (spec.marked_term (spec.read bounds.depth) bounds.room bounds.least mark tokens.old) result tokens.new }
 {
     match mark {
@@ -258,7 +259,7 @@ fn operator_term(
     mark: Mark,
     refusals: Refusals,
 ) -> Result<TermAtLevel, Unread>
-    ensures { Reads leveled_term
+    ensures { Reads (λ t. (t.level, term_of t.built.tree))
         (spec.operator_term (spec.read bounds.depth) bounds.room bounds.least mark tokens.old) result tokens.new }
 {
     match prefix_of(mark) {
@@ -277,7 +278,7 @@ fn prefixed_term(
     operator: UnaryOperator,
     refusals: Refusals,
 ) -> Result<TermAtLevel, Unread>
-    ensures { Reads leveled_term
+    ensures { Reads (λ t. (t.level, term_of t.built.tree))
         (spec.prefixed_term (spec.read bounds.depth) bounds.room bounds.least operator tokens.old) result tokens.new }
 {
     let level = prefix_level(operator);
@@ -302,7 +303,7 @@ fn bracketed_term(
     bounds: Bounds,
     deep: Unread,
 ) -> Result<TermAtLevel, Unread>
-    ensures { Reads leveled_term
+    ensures { Reads (λ t. (t.level, term_of t.built.tree))
         (spec.bracketed_term (spec.read bounds.depth) bounds.room tokens.old) result tokens.new }
 {
     if bounds.room == 0 {
@@ -327,7 +328,7 @@ fn braced_term(
     bounds: Bounds,
     deep: Unread,
 ) -> Result<TermAtLevel, Unread>
-    ensures { Reads leveled_term (spec.braced_term (spec.read bounds.depth) bounds.room tokens.old) result tokens.new }
+    ensures { Reads (λ t. (t.level, term_of t.built.tree)) (spec.braced_term (spec.read bounds.depth) bounds.room tokens.old) result tokens.new }
 {
     if bounds.room == 0 {
         return Err(deep);
@@ -350,7 +351,7 @@ fn display_term(
     close: Mark,
     deep: Unread,
 ) -> Result<TermAtLevel, Unread>
-    ensures { Reads leveled_term
+    ensures { Reads (λ t. (t.level, term_of t.built.tree))
         (spec.display_term (spec.read bounds.depth) form close bounds.room tokens.old) result tokens.new }
 {
     if bounds.room == 0 {
@@ -376,7 +377,7 @@ fn call_term(
     name: Word,
     deep: Unread,
 ) -> Result<TermAtLevel, Unread>
-    ensures { Reads leveled_term
+    ensures { Reads (λ t. (t.level, term_of t.built.tree))
         (spec.call_term (spec.read bounds.depth) bounds.room name tokens.old) result tokens.new }
 {
     if bounds.room == 0 {
@@ -395,21 +396,25 @@ fn call_term(
 /// Term {`,` Term}
 #[cycle(terms)]
 #[tactic(auto, unfolding(crate::specs::Reading::terms_in, crate::specs::bind))]
-fn terms_in(alloc: Global, tokens: &mut Tokens<'_>, bounds: Bounds) -> Result<BuiltList, Unread>
-    ensures { Reads built_terms (spec.terms_in (spec.read bounds.depth) bounds.room tokens.old) result tokens.new }
+fn terms_in(
+    alloc: Global,
+    tokens: &mut Tokens<'_>,
+    bounds: Bounds,
+) -> Result<Built<Vec<Term>>, Unread>
+    ensures { Reads (λ b. map term_of b.tree.items) (spec.terms_in (spec.read bounds.depth) bounds.room tokens.old) result tokens.new }
 {
     let each = Bounds {
         least: LOOSEST_LEVEL,
         ..bounds
     };
     let first = read(alloc, tokens, each)?;
-    let mut terms = BuiltList::new(alloc).with_term(first)?;
+    let mut terms = Built::none(alloc).with_next(first)?;
     for _turn in 0..tokens.len() {
         if !tokens.skip(Mark::Comma) {
             return Ok(terms);
         }
         let next = read(alloc, tokens, each)?;
-        terms = terms.with_term(next)?;
+        terms = terms.with_next(next)?;
     }
     Ok(terms)
 }

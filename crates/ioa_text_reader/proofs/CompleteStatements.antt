@@ -12,12 +12,11 @@ use Rattle.ioa_cursor.specs.Reading.{bind, choose, skip, expect, word, at, at_wo
 use Rattle.ioa_cursor.proofs.Steps.{read_next, stays}
 use Rattle.ioa_cursor.proofs.Follow.{skip_other}
 use Rattle.ioa_cursor.proofs.CompleteLists.{separated_complete, ended_complete, section_complete}
-use Rattle.ioa_term_reader.specs.Heights.{height_limit}
+use Rattle.ioa_source.specs.Heights.{height_limit, statement_height, statements_height, arms_height}
 use Rattle.ioa_term_reader.specs.Grammar.{bracket_limit, SpellsTerm}
 use Rattle.ioa_term_reader.specs.Reading.{term}
 use Rattle.ioa_term_reader.proofs.Shorter.{term_shorter}
 use Rattle.ioa_term_reader.proofs.CompleteTerms.{height_positive}
-use Rattle.ioa_text_reader.specs.StatementHeights.{statement_height, statements_height, arms_height}
 use Rattle.ioa_text_reader.specs.Grammar as grammar
 use Rattle.ioa_text_reader.specs.Grammar.{inner_limit, SpellsTarget, SpellsStatement, SpellsArms, SpellsRest, SpellsStatements, SpellsEffect}
 use Rattle.ioa_text_reader.specs.Reading as reading

@@ -1,5 +1,4 @@
 -- the lemmas of this crate
-pub mod Pushed
 pub mod Depths
 pub mod Shorter
 pub mod Closing

@@ -11,9 +11,8 @@ use Rattle.ioa_source.specs.Sides.{SourceTerm as Term, SourceTarget as Target, S
 use Rattle.ioa_cursor.specs.Lists.{SeparatedBy, single, followed, SeparatedOrEndedBy, last, closed, continued}
 use Rattle.ioa_cursor.proofs.Steps.{read_next, choose_cases, bind_cases, skip_taken, skip_left, expected_taken, word_taken}
 use Rattle.ioa_cursor.proofs.SoundLists.{separated_sound, ended_sound}
-use Rattle.ioa_term_reader.specs.Heights.{height_limit}
+use Rattle.ioa_source.specs.Heights.{height_limit, target_height, statement_height}
 use Rattle.ioa_term_reader.specs.Grammar.{SpellsTerm, bracket_limit}
-use Rattle.ioa_text_reader.specs.StatementHeights.{target_height, statement_height}
 use Rattle.ioa_text_reader.specs.Grammar as grammar
 use Rattle.ioa_text_reader.specs.Grammar.{SpellsTarget, SpellsStatement, SpellsStatements, SpellsArms, SpellsRest, SpellsEffect}
 use Rattle.ioa_text_reader.specs.Reading as reading

@@ -19,9 +19,8 @@ use Rattle.ioa_source.specs.Sides.{SourceTransition as Transition, SourceForm as
 use Rattle.ioa_source.specs.Sides.{SourcePlacement as Placement, SourceText}
 use Rattle.ioa_cursor.specs.Lists.{Several, SeparatedBy, SeparatedOrEndedBy, Section, Optional}
 use Rattle.ioa_cursor.specs.Lists.{ListsSeparatedBy, SeveralLists}
-use Rattle.ioa_term_reader.specs.Heights.{height_limit}
+use Rattle.ioa_source.specs.Heights.{height_limit, statements_height}
 use Rattle.ioa_term_reader.specs.Grammar.{bracket_limit, SpellsTerm}
-use Rattle.ioa_text_reader.specs.StatementHeights.{statements_height}
 use Rattle.ioa_text_reader.specs.declared.call.TheConstants.{INNER_LIMIT}
 
 -- how many brackets may be opened within the brackets of a call, an entry, an automaton or a target

@@ -5,7 +5,6 @@ pub mod Grammar
 pub mod Groups
 pub mod Parsing
 pub mod Reading
-pub mod StatementHeights
 pub mod Texts
 -- the steps of reading, which the attributes `unfolding(..)` name
 pub use Rattle.ioa_cursor.specs.Reading.{bind, choose}

@@ -20,11 +20,10 @@ use Rattle.ioa_source.specs.Sides.{SourceNode as Node, SourcePlacement as Placem
 use Rattle.ioa_cursor.specs.Reading.{◌>>=◌, choose, skip, expect, word, number, end}
 use Rattle.ioa_cursor.specs.Reading.{at, at_word, peek_mark, advance, begins_with, resumes_with}
 use Rattle.ioa_cursor.specs.Reading.{several, several_more, section, optional, several_lists, several_more_lists}
-use Rattle.ioa_term_reader.specs.Heights.{height_limit}
+use Rattle.ioa_source.specs.Heights.{height_limit, statement_height}
 use Rattle.ioa_term_reader.specs.Grammar.{bracket_limit}
 use Rattle.ioa_term_reader.specs.Reading.{term}
 use Rattle.ioa_text_reader.specs.Grammar.{Call, declare, inner_limit}
-use Rattle.ioa_text_reader.specs.StatementHeights.{statement_height}
 
 -- `next` reads the sorts in the brackets of a sort
 module _ (next : List Token → Option (PlainSort × List Token)) where

@@ -7,10 +7,11 @@ ghost use Rattle.ioa_terms.specs.View.{target_of, statement_of, arm_of};
 ghost use Rattle.ioa_tokens.specs.declared.mark.Mark.TheVariants as mark;
 ghost use Rattle.ioa_text_reader.specs.Reading as spec;
 
-use crate::built::{BuiltArm, BuiltArms, BuiltStatement, BuiltStatements, BuiltTarget};
+use crate::built::{self, BuiltArm, BuiltArms, BuiltStatement, BuiltStatements, BuiltTarget};
 use crate::call::INNER_LIMIT;
 use ioa_cursor::{Tokens, Unread};
-use ioa_term_reader::{BRACKET_LIMIT, HEIGHT_LIMIT, term};
+use ioa_source::HEIGHT_LIMIT;
+use ioa_term_reader::{BRACKET_LIMIT, term};
 use ioa_terms::{Statement, Word};
 use ioa_tokens::Mark;
 use std::alloc::Global;
@@ -18,38 +19,38 @@ use std::alloc::Global;
 /// Term `]`, after the word `name` and the bracket that opens
 #[tactic(auto, unfolding(crate::specs::Reading::key_target, crate::specs::bind))]
 fn key_target(alloc: Global, tokens: &mut Tokens<'_>, name: Word) -> Result<BuiltTarget, Unread>
-    ensures { Reads (λ b. target_of b.target) (spec.key_target name tokens.old) result tokens.new }
+    ensures { Reads (λ b. target_of b.tree) (spec.key_target name tokens.old) result tokens.new }
 {
     let key = term(alloc, tokens, INNER_LIMIT)?;
     tokens.expect(Mark::CloseSquare)?;
-    Ok(BuiltTarget::at_key(name, key))
+    Ok(built::at_key(name, key))
 }
 
 /// Word, Word `[` Term `]`, or Word `.` Word
 #[tactic(auto, unfolding(crate::specs::Reading::target, crate::specs::bind, crate::specs::choose))]
 fn target(alloc: Global, tokens: &mut Tokens<'_>) -> Result<BuiltTarget, Unread>
-    ensures { Reads (λ b. target_of b.target) (spec.target tokens.old) result tokens.new }
+    ensures { Reads (λ b. target_of b.tree) (spec.target tokens.old) result tokens.new }
 {
     let name = tokens.word(alloc)?;
     if tokens.skip(Mark::OpenSquare) {
         return key_target(alloc, tokens, name);
     }
     if !tokens.skip(Mark::Dot) {
-        return Ok(BuiltTarget::variable(name));
+        return Ok(built::variable(name));
     }
     let field = tokens.word(alloc)?;
-    Ok(BuiltTarget::field(name, field))
+    Ok(built::field(name, field))
 }
 
 /// Target `:=` Term
 #[tactic(auto, unfolding(crate::specs::Reading::assignment, crate::specs::bind))]
 fn assignment(alloc: Global, tokens: &mut Tokens<'_>) -> Result<BuiltStatement, Unread>
-    ensures { Reads (λ b. statement_of b.statement) (spec.assignment tokens.old) result tokens.new }
+    ensures { Reads (λ b. statement_of b.tree) (spec.assignment tokens.old) result tokens.new }
 {
     let target = target(alloc, tokens)?;
     tokens.expect(Mark::Assign)?;
     let value = term(alloc, tokens, BRACKET_LIMIT)?;
-    Ok(BuiltStatement::assignment(target, value))
+    Ok(built::assignment(target, value))
 }
 
 /// Whether a statement begins.
@@ -80,20 +81,20 @@ fn statements_in(
     tokens: &mut Tokens<'_>,
     depth: usize,
 ) -> Result<BuiltStatements, Unread>
-    ensures { Reads (λ l. map statement_of l.statements.items) (spec.statements_in depth tokens.old) result tokens.new }
+    ensures { Reads (λ b. map statement_of b.tree.items) (spec.statements_in depth tokens.old) result tokens.new }
 {
     if depth == 0 {
         let begins = begins_statement(tokens);
         return Err(tokens.refusal_at_depth(begins));
     }
     let first = one_statement(alloc, tokens, depth - 1)?;
-    let mut statements = BuiltStatements::new(alloc).with_statement(first)?;
+    let mut statements = BuiltStatements::none(alloc).with_next(first)?;
     for _turn in 0..tokens.len() {
         if !resumes_with_statement(tokens) {
             return Ok(statements);
         }
         let next = one_statement(alloc, tokens, depth - 1)?;
-        statements = statements.with_statement(next)?;
+        statements = statements.with_next(next)?;
     }
     Ok(statements)
 }
@@ -106,7 +107,7 @@ fn one_statement(
     tokens: &mut Tokens<'_>,
     depth: usize,
 ) -> Result<BuiltStatement, Unread>
-    ensures { Reads (λ b. statement_of b.statement)
+    ensures { Reads (λ b. statement_of b.tree)
         (spec.one_statement (spec.statements_in depth) tokens.old) result tokens.new }
 {
     let deep = tokens.too_deep();
@@ -127,29 +128,29 @@ fn choice(
     depth: usize,
     deep: Unread,
 ) -> Result<BuiltStatement, Unread>
-    ensures { Reads (λ b. statement_of b.statement)
+    ensures { Reads (λ b. statement_of b.tree)
         (spec.choice (spec.statements_in depth) tokens.old) result tokens.new }
 {
     let arms = all_arms(alloc, tokens, depth)?;
     let rest = rest_of(alloc, tokens, depth)?;
-    BuiltStatement::choice(arms, rest, deep)
+    built::choice(arms, rest, deep)
 }
 
 /// Term `then` Statements {`elseif` Term `then` Statements}
 #[cycle(statements)]
 #[tactic(auto, unfolding(crate::specs::Reading::all_arms, crate::specs::bind))]
 fn all_arms(alloc: Global, tokens: &mut Tokens<'_>, depth: usize) -> Result<BuiltArms, Unread>
-    ensures { Reads (λ l. map arm_of l.arms.items)
+    ensures { Reads (λ b. map arm_of b.tree.items)
         (spec.all_arms (spec.statements_in depth) tokens.old) result tokens.new }
 {
     let first = one_arm(alloc, tokens, depth)?;
-    let mut arms = BuiltArms::new(alloc).with_arm(first)?;
+    let mut arms = BuiltArms::none(alloc).with_next(first)?;
     for _turn in 0..tokens.len() {
         if !tokens.skip(Mark::ElseIf) {
             return Ok(arms);
         }
         let next = one_arm(alloc, tokens, depth)?;
-        arms = arms.with_arm(next)?;
+        arms = arms.with_next(next)?;
     }
     Ok(arms)
 }
@@ -158,24 +159,24 @@ fn all_arms(alloc: Global, tokens: &mut Tokens<'_>, depth: usize) -> Result<Buil
 #[cycle(statements)]
 #[tactic(auto, unfolding(crate::specs::Reading::one_arm, crate::specs::bind))]
 fn one_arm(alloc: Global, tokens: &mut Tokens<'_>, depth: usize) -> Result<BuiltArm, Unread>
-    ensures { Reads (λ b. arm_of b.arm) (spec.one_arm (spec.statements_in depth) tokens.old) result tokens.new }
+    ensures { Reads (λ b. arm_of b.tree) (spec.one_arm (spec.statements_in depth) tokens.old) result tokens.new }
 {
     let test = term(alloc, tokens, BRACKET_LIMIT)?;
     tokens.expect(Mark::Then)?;
     let body = statements_in(alloc, tokens, depth)?;
-    Ok(BuiltArm::new(test, body))
+    Ok(built::arm(test, body))
 }
 
 /// [`else` Statements] `fi`
 #[cycle(statements)]
 #[tactic(auto, unfolding(crate::specs::Reading::rest_of, crate::specs::bind, crate::specs::choose))]
 fn rest_of(alloc: Global, tokens: &mut Tokens<'_>, depth: usize) -> Result<BuiltStatements, Unread>
-    ensures { Reads (λ l. map statement_of l.statements.items) (spec.rest_of (spec.statements_in depth) tokens.old)
+    ensures { Reads (λ b. map statement_of b.tree.items) (spec.rest_of (spec.statements_in depth) tokens.old)
         result tokens.new }
 {
     if !tokens.skip(Mark::Else) {
         tokens.expect(Mark::Fi)?;
-        return Ok(BuiltStatements::new(alloc));
+        return Ok(BuiltStatements::none(alloc));
     }
     let rest = statements_in(alloc, tokens, depth)?;
     tokens.expect(Mark::Fi)?;
@@ -188,7 +189,7 @@ fn statements(alloc: Global, tokens: &mut Tokens<'_>) -> Result<Vec<Statement<()
     ensures { Reads (λ v. map statement_of v.items) (spec.statements tokens.old) result tokens.new }
 {
     let statements = statements_in(alloc, tokens, HEIGHT_LIMIT)?;
-    Ok(statements.into_statements())
+    Ok(statements.into_tree())
 }
 
 /// [`eff` Statements]

@@ -1,10 +1,11 @@
 use Rattle.std.proofs.Common.{rules, sym, ◌∙◌}
+use Rattle.std.proofs.lemmas.List.{map_push}
 use Rattle.std.proofs.lemmas.Result.{err_from_is_err_and}
 use Rattle.ioa_tokens.specs.declared.mark.Mark.TheVariants as mark
 use Rattle.ioa_cursor.specs.Reading.{bind, skip}
 use Rattle.ioa_cursor.proofs.Exits.{none_of_part}
 use Rattle.ioa_cursor.proofs.Lists.{collected_more, collected_done, collected_none, collected_all}
-use Rattle.ioa_term_reader.specs.Heights.{height_limit}
+use Rattle.ioa_source.specs.Heights.{height_limit}
 use Rattle.ioa_term_reader.specs.Reading.{read}
 use Rattle.ioa_term_reader.proofs.Turns.{climb_more, climb_none, climb_done, climb_all, read_deeper, some_same}
 use Rattle.ioa_term_reader.proofs.OtherMarks.{marked_other}
@@ -54,7 +55,7 @@ terms_in-returns-in_err-next t c =
 
 pub terms_in-loop-turn-preserved : goal.terms_in-loop-turn-preserved
 terms_in-loop-turn-preserved t c =
-    rw (sym (some_same c.in_ok-terms-2.ensures))
+    rw (sym (some_same c.in_ok-terms-2.ensures), map_push)
     (sym (collected_more (skip mark.Comma) (read c.args.bounds.depth c.args.bounds.room 1) _ _ _ _ _ _ _ c.loop-turn-test.true (sym c.if-not-skip.ensures) c.in_ok-next.ensures)
     ∙ c.loop-turn.invariant)
 

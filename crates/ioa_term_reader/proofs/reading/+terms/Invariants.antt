@@ -2,7 +2,7 @@ use Rattle.std.proofs.Common.{◌≡◌, ◌+◌, ◌-◌, ◌*◌, map}
 use Rattle.ioa_tokens.specs.declared.mark.Mark.TheVariants as mark
 use Rattle.ioa_cursor.specs.Reading.{collect, skip}
 use Rattle.ioa_terms.specs.View.{term_of}
-use Rattle.ioa_term_reader.specs.Heights.{height_limit}
+use Rattle.ioa_source.specs.Heights.{height_limit}
 use Rattle.ioa_term_reader.specs.Reading as spec
 use Rattle.ioa_term_reader.proofs.reading.+terms.Given as goal
 
@@ -52,5 +52,5 @@ invariant-climb-loop-turn l =
 
 abbrev pub invariant-terms_in-loop-turn : goal.invariant-terms_in-loop-turn
 invariant-terms_in-loop-turn l =
-    collect (skip mark.Comma) (spec.read l.fn.bounds.depth l.fn.bounds.room 1) (l._turn-end - l._turn) (map term_of l.terms.trees.items) l.tokens
+    collect (skip mark.Comma) (spec.read l.fn.bounds.depth l.fn.bounds.room 1) (l._turn-end - l._turn) (map term_of l.terms.tree.items) l.tokens
     ≡ spec.terms_in (spec.read l.fn.bounds.depth) l.fn.bounds.room l.fn.tokens

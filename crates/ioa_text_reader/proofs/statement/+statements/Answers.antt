@@ -1,4 +1,5 @@
 use Rattle.std.proofs.Common.{sym, ◌∙◌, ◌-◌}
+use Rattle.std.proofs.lemmas.List.{map_push}
 use Rattle.std.proofs.lemmas.Result.{err_from_is_err_and}
 use Rattle.ioa_tokens.specs.declared.mark.Mark.TheVariants as mark
 use Rattle.ioa_cursor.specs.Reading.{resumes_with, skip}
@@ -22,7 +23,7 @@ all_arms-returns-in_err-next t c =
 
 pub all_arms-loop-turn-preserved : goal.all_arms-loop-turn-preserved
 all_arms-loop-turn-preserved t c =
-    rw (sym (some_same c.in_ok-arms-2.ensures))
+    rw (sym (some_same c.in_ok-arms-2.ensures), map_push)
     (sym (collected_more (skip mark.ElseIf) (one_arm (statements_in c.args.depth)) _ _ _ _ _ _ _ c.loop-turn-test.true (sym c.if-not-skip.ensures) c.in_ok-next.ensures)
     ∙ c.loop-turn.invariant)
 
@@ -45,7 +46,7 @@ statements_in-returns-in_err-next t c =
 
 pub statements_in-loop-turn-preserved : goal.statements_in-loop-turn-preserved
 statements_in-loop-turn-preserved t c =
-    rw (sym (some_same c.in_ok-statements-2.ensures))
+    rw (sym (some_same c.in_ok-statements-2.ensures), map_push)
     (sym (collected_more (resumes_with mark.Semicolon begins_statement) (one_statement (statements_in (c.args.depth - 1))) _ _ _ _ _ _ _ c.loop-turn-test.true (sym c.if-not-resumes_with_statement.ensures) c.in_ok-next.ensures)
     ∙ c.loop-turn.invariant)
 

@@ -25,11 +25,11 @@ decreases-one_statement l = 5 * l.depth + 4
 
 abbrev pub invariant-all_arms-loop-turn : goal.invariant-all_arms-loop-turn
 invariant-all_arms-loop-turn l =
-    collect (skip mark.ElseIf) (spec.one_arm (spec.statements_in l.depth)) (l._turn-end - l._turn) (map arm_of l.arms.arms.items) l.tokens
+    collect (skip mark.ElseIf) (spec.one_arm (spec.statements_in l.depth)) (l._turn-end - l._turn) (map arm_of l.arms.tree.items) l.tokens
     ≡ spec.all_arms (spec.statements_in l.fn.depth) l.fn.tokens
 
 abbrev pub invariant-statements_in-loop-turn : goal.invariant-statements_in-loop-turn
 invariant-statements_in-loop-turn l =
     collect (resumes_with mark.Semicolon spec.begins_statement) (spec.one_statement (spec.statements_in (l.depth - 1))) (l._turn-end - l._turn)
-    (map statement_of l.statements.statements.items) l.tokens
+    (map statement_of l.statements.tree.items) l.tokens
     ≡ spec.statements_in l.fn.depth l.fn.tokens
