@@ -3,6 +3,7 @@ pub mod Holding
 pub mod ItemLists
 pub mod ShapeLists
 pub mod Canonicals
+pub mod Falls
 pub mod Ascents
 pub mod WideShapes
 pub mod Memory

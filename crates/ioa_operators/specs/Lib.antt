@@ -5,4 +5,7 @@ pub mod RangeCheck
 pub mod Operators
 pub mod CallParts
 pub mod Shapes
+pub mod ShapeCode
+pub mod ShapeHeight
 pub mod ShapeView
+pub mod PartHeights

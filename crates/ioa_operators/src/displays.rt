@@ -5,12 +5,11 @@ ghost use Rattle.ioa_operators.specs.Canonical.{AllCanonical, IsCanonical};
 ghost use Rattle.ioa_values.specs.Outcome.{Answers};
 ghost use Rattle.ioa_operators.specs.RangeCheck.{AnswersOrLacks, LacksMemoryOnlyIf, checked_result};
 ghost use Rattle.ioa_operators.specs.Shapes.{display_value, display_takes_memory};
-ghost use Rattle.ioa_operators.specs.ShapeView.{shape_of};
 
 use crate::fault::TermFault;
 use crate::maps::map;
 use crate::sets::set_of_values;
-use crate::shape::{DisplayForm, Shape, each_admits};
+use crate::shape::{DisplayForm, Shape, ShapeForm, each_admits};
 use ioa_values::Value;
 use std::alloc::Global;
 
@@ -26,9 +25,9 @@ pub fn display(
     parts: Vec<Value>,
 ) -> Result<Value, TermFault>
     ensures value { Answers TermFault.Memory (λ v. v) result
-        (checked_result (display_value form (shape_of shape.now) parts.items)) }
-    ensures memory { LacksMemoryOnlyIf (display_takes_memory form (shape_of shape.now)) result
-        (display_value form (shape_of shape.now) parts.items) }
+        (checked_result (display_value form shape.now parts.items)) }
+    ensures memory { LacksMemoryOnlyIf (display_takes_memory form shape.now) result
+        (display_value form shape.now parts.items) }
     ensures canonical { AllCanonical parts.items → IfOk result IsCanonical }
 {
     make_display(alloc, form, shape, parts)
@@ -41,8 +40,8 @@ fn make_display(
     shape: &Shape,
     parts: Vec<Value>,
 ) -> Result<Value, TermFault>
-    ensures { AnswersOrLacks (display_takes_memory form (shape_of shape.now)) result
-        (display_value form (shape_of shape.now) parts.items) }
+    ensures { AnswersOrLacks (display_takes_memory form shape.now) result
+        (display_value form shape.now parts.items) }
 {
     match form {
         DisplayForm::Braces => braces(alloc, shape, parts),
@@ -52,13 +51,13 @@ fn make_display(
 
 /// The value of `{..}`.
 fn braces(alloc: Global, shape: &Shape, parts: Vec<Value>) -> Result<Value, TermFault>
-    ensures { AnswersOrLacks (display_takes_memory DisplayForm.Braces (shape_of shape.now)) result
-        (display_value DisplayForm.Braces (shape_of shape.now) parts.items) }
+    ensures { AnswersOrLacks (display_takes_memory DisplayForm.Braces shape.now) result
+        (display_value DisplayForm.Braces shape.now parts.items) }
 {
-    match shape {
-        Shape::Sequences(_) => Ok(Value::sequence(parts)),
-        Shape::Sets(_) => set_of_values(alloc, parts),
-        Shape::Maps(_, _) => match parts.as_slice() {
+    match &shape.form {
+        ShapeForm::Sequences(_) => Ok(Value::sequence(parts)),
+        ShapeForm::Sets(_) => set_of_values(alloc, parts),
+        ShapeForm::Maps(_, _) => match parts.as_slice() {
             [] => Ok(map(Vec::new(alloc))),
             [_, ..] => Err(TermFault::Undefined),
         },
@@ -68,11 +67,11 @@ fn braces(alloc: Global, shape: &Shape, parts: Vec<Value>) -> Result<Value, Term
 
 /// The value of `[..]`: a tuple whose parts have the shapes of its fields.
 fn brackets(shape: &Shape, parts: Vec<Value>) -> Result<Value, TermFault>
-    ensures { AnswersOrLacks (display_takes_memory DisplayForm.Brackets (shape_of shape.now)) result
-        (display_value DisplayForm.Brackets (shape_of shape.now) parts.items) }
+    ensures { AnswersOrLacks (display_takes_memory DisplayForm.Brackets shape.now) result
+        (display_value DisplayForm.Brackets shape.now parts.items) }
 {
-    match shape {
-        Shape::Tuples(_, _, shapes) => {
+    match &shape.form {
+        ShapeForm::Tuples(_, _, shapes) => {
             if each_admits(shapes, &parts) {
                 Ok(Value::tuple(parts))
             } else {

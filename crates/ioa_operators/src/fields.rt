@@ -5,11 +5,10 @@ ghost use Rattle.ioa_operators.specs.Canonical.{IsCanonical};
 ghost use Rattle.ioa_values.specs.Outcome.{Answers};
 ghost use Rattle.ioa_operators.specs.RangeCheck.{AnswersOrLacks, LacksMemoryOnlyIf, checked_result};
 ghost use Rattle.ioa_operators.specs.Shapes.{field_position, field_value, part_named, with_field, with_part};
-ghost use Rattle.ioa_operators.specs.ShapeView.{shape_of};
 
 use crate::fault::TermFault;
 use crate::parts::{part, parts_of_tuple};
-use crate::shape::Shape;
+use crate::shape::{Shape, ShapeForm};
 use ioa_values::{Value, Word};
 use std::mem;
 
@@ -19,8 +18,8 @@ use std::mem;
 /// fields and the value.
 pub fn field(shape: &Shape, name: &Word, value: Value) -> Result<Value, TermFault>
     ensures value { Answers TermFault.Memory (λ v. v) result
-        (checked_result (field_value (shape_of shape.now) name.now value)) }
-    ensures memory { LacksMemoryOnlyIf false result (field_value (shape_of shape.now) name.now value) }
+        (checked_result (field_value shape.now name.now value)) }
+    ensures memory { LacksMemoryOnlyIf false result (field_value shape.now name.now value) }
     ensures canonical { IsCanonical value → IfOk result IsCanonical }
 {
     field_of(shape, name, value)
@@ -28,10 +27,10 @@ pub fn field(shape: &Shape, name: &Word, value: Value) -> Result<Value, TermFaul
 
 /// The field of a name, in one exact clause.
 fn field_of(shape: &Shape, name: &Word, value: Value) -> Result<Value, TermFault>
-    ensures { AnswersOrLacks false result (field_value (shape_of shape.now) name.now value) }
+    ensures { AnswersOrLacks false result (field_value shape.now name.now value) }
 {
-    match shape {
-        Shape::Tuples(_, names, _) => field_among(names, name, value),
+    match &shape.form {
+        ShapeForm::Tuples(_, names, _) => field_among(names, name, value),
         _ => Err(TermFault::Undefined),
     }
 }
@@ -47,8 +46,8 @@ pub fn replace_field(
     value: Value,
 ) -> Result<Value, TermFault>
     ensures value { Answers TermFault.Memory (λ v. v) result
-        (checked_result (with_field (shape_of shape.now) name.now new value)) }
-    ensures memory { LacksMemoryOnlyIf false result (with_field (shape_of shape.now) name.now new value) }
+        (checked_result (with_field shape.now name.now new value)) }
+    ensures memory { LacksMemoryOnlyIf false result (with_field shape.now name.now new value) }
     ensures canonical { IsCanonical new → IsCanonical value → IfOk result IsCanonical }
 {
     put_field(shape, name, new, value)
@@ -56,10 +55,10 @@ pub fn replace_field(
 
 /// The tuple in which the field of a name has another value, in one exact clause.
 fn put_field(shape: &Shape, name: &Word, new: Value, value: Value) -> Result<Value, TermFault>
-    ensures { AnswersOrLacks false result (with_field (shape_of shape.now) name.now new value) }
+    ensures { AnswersOrLacks false result (with_field shape.now name.now new value) }
 {
-    match shape {
-        Shape::Tuples(_, names, _) => replace_among(names, name, new, value),
+    match &shape.form {
+        ShapeForm::Tuples(_, names, _) => replace_among(names, name, new, value),
         _ => Err(TermFault::Undefined),
     }
 }

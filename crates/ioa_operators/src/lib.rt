@@ -23,5 +23,5 @@ pub use fields::{field, replace_field};
 pub use functions::call;
 pub use laws::decision_law;
 pub use operator::{BinaryOperator, Function, UnaryOperator};
-pub use shape::{DisplayForm, Shape};
+pub use shape::{DisplayForm, Shape, ShapeForm};
 pub use truths::left_decision;

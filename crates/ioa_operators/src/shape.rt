@@ -1,6 +1,6 @@
 //! Shapes of values.
 
-ghost use Rattle.std.specs.Prelude.{◌≡◌, ◌+◌, [], ◌&&◌, IfOk, map, nat_le, nat_lt};
+ghost use Rattle.std.specs.Prelude.{◌≡◌, ◌+◌, [], ◌&&◌, IfOk, nat_le, nat_lt};
 ghost use Rattle.ioa_values.specs.Data.{items_of};
 ghost use Rattle.ioa_operators.specs.Shapes.{naturals, constants, shapes_of, has_shape, have_shapes, all_have};
 ghost use Rattle.ioa_operators.specs.Shapes.{wide_shape, wide_shape_if, wide_shapes_if};
@@ -8,12 +8,23 @@ ghost use Rattle.ioa_operators.specs.ShapeView.{shape_of};
 
 use ioa_values::{Value, ValueForm, Word};
 use std::alloc::{AllocError, Global};
+use std::marker::Model;
 use std::sync::Arc;
 
 /// What a sort means, with the enumerations and tuple types that it names written out (profile).
-/// Parts are shared, so a shape takes no more memory than the text that it was made of.
+/// Parts are shared, so a shape takes no more memory than the text that it was made of. A contract sees
+/// plain data.
+#[cycle(shape)]
 #[derive(Drop)]
-pub enum Shape {
+pub struct Shape {
+    /// What the shape is.
+    pub form: ShapeForm,
+}
+
+/// What a shape is.
+#[cycle(shape)]
+#[derive(Drop)]
+pub enum ShapeForm {
     /// `Bool`.
     Truths,
     /// `Int`.
@@ -41,39 +52,66 @@ pub enum DisplayForm {
     Brackets,
 }
 
+impl Model for Shape {
+    ghost use Rattle.ioa_operators.specs.Shapes.{PlainShape};
+    ghost use Rattle.ioa_operators.specs.ShapeCode.{shape_code};
+
+    ghost Value = { PlainShape };
+
+    ghost coded = { shape_code };
+
+    ghost use Rattle.ioa_operators.specs.ShapeHeight.{height};
+    ghost use Rattle.ioa_operators.specs.ShapeView.{shape_of};
+
+    ghost view = { λ s. shape_of s.form };
+
+    ghost size = { height };
+
+    ghost use Rattle.ioa_operators.specs.PartHeights.{deep-le-height};
+
+    ghost size_decreases = { λ s h. deep-le-height s.form };
+}
+
 impl Shape {
+    /// The shape of a form.
+    pub fn of(form: ShapeForm) -> Self
+        ensures { result ≡ shape_of form }
+    {
+        Shape { form }
+    }
+
     /// The same shape once more. Its parts are shared, so that it takes memory for a name alone.
     pub fn try_copy(&self, alloc: Global) -> Result<Self, AllocError>
-        ensures { IfOk result (λ s. shape_of s ≡ shape_of self.now) }
+        ensures { IfOk result (λ s. s ≡ self.now) }
     {
-        match self {
-            Shape::Truths => Ok(Shape::Truths),
-            Shape::Integers => Ok(Shape::Integers),
-            Shape::Naturals => Ok(Shape::Naturals),
-            Shape::Constants(name, from, many) => {
-                let name = name.try_copy(alloc)?;
-                Ok(Shape::Constants(name, *from, *many))
+        let form = match &self.form {
+            ShapeForm::Truths => ShapeForm::Truths,
+            ShapeForm::Integers => ShapeForm::Integers,
+            ShapeForm::Naturals => ShapeForm::Naturals,
+            ShapeForm::Constants(name, from, many) => {
+                ShapeForm::Constants(name.try_copy(alloc)?, *from, *many)
             }
-            Shape::Tuples(name, names, shapes) => {
+            ShapeForm::Tuples(name, names, shapes) => {
                 let name = name.try_copy(alloc)?;
                 let names = Arc::try_clone(names)?;
                 let shapes = Arc::try_clone(shapes)?;
-                Ok(Shape::Tuples(name, names, shapes))
+                ShapeForm::Tuples(name, names, shapes)
             }
-            Shape::Sequences(items) => Ok(Shape::Sequences(Arc::try_clone(items)?)),
-            Shape::Sets(members) => Ok(Shape::Sets(Arc::try_clone(members)?)),
-            Shape::Maps(keys, values) => {
+            ShapeForm::Sequences(items) => ShapeForm::Sequences(Arc::try_clone(items)?),
+            ShapeForm::Sets(members) => ShapeForm::Sets(Arc::try_clone(members)?),
+            ShapeForm::Maps(keys, values) => {
                 let keys = Arc::try_clone(keys)?;
                 let values = Arc::try_clone(values)?;
-                Ok(Shape::Maps(keys, values))
+                ShapeForm::Maps(keys, values)
             }
-        }
+        };
+        Ok(Shape { form })
     }
 
     /// Whether a value has the shape. Costs time in proportion to the value.
     #[tactic(auto, using(crate::proofs::WideShapes::narrow))]
     pub fn admits(&self, value: &Value) -> bool
-        ensures { result ≡ has_shape (shape_of self.now) value.now }
+        ensures { result ≡ has_shape self.now value.now }
     {
         self.fits(value, false)
     }
@@ -81,34 +119,35 @@ impl Shape {
     /// Whether a value has the shape if signs do not matter: a negative number passes for a natural too,
     /// at any depth. Costs time in proportion to the value.
     pub fn admits_negative(&self, value: &Value) -> bool
-        ensures { result ≡ has_shape (wide_shape (shape_of self.now)) value.now }
+        ensures { result ≡ has_shape (wide_shape self.now) value.now }
     {
         self.fits(value, true)
     }
 
     /// Whether a value has the shape; if `negative` is true, a negative number passes for a natural too.
     #[cycle(admitting)]
+    #[tactic(auto, using(crate::proofs::Falls::most_shapes))]
     fn fits(&self, value: &Value, negative: bool) -> bool
-        ensures { result ≡ has_shape (wide_shape_if negative (shape_of self.now)) value.now }
+        ensures { result ≡ has_shape (wide_shape_if negative self.now) value.now }
     {
-        match self {
-            Shape::Truths => matches!(&value.form, ValueForm::Truth(_)),
-            Shape::Integers => matches!(&value.form, ValueForm::Number(_)),
-            Shape::Naturals => is_natural(value, negative),
-            Shape::Constants(_, from, many) => is_constant(value, *from, *many),
-            Shape::Tuples(_, _, shapes) => match &value.form {
+        match &self.form {
+            ShapeForm::Truths => matches!(&value.form, ValueForm::Truth(_)),
+            ShapeForm::Integers => matches!(&value.form, ValueForm::Number(_)),
+            ShapeForm::Naturals => is_natural(value, negative),
+            ShapeForm::Constants(_, from, many) => is_constant(value, *from, *many),
+            ShapeForm::Tuples(_, _, shapes) => match &value.form {
                 ValueForm::Tuple(parts) => each_fits(shapes, parts, negative),
                 _ => false,
             },
-            Shape::Sequences(items) => match &value.form {
+            ShapeForm::Sequences(items) => match &value.form {
                 ValueForm::Sequence(values) => all_fit(items, values, negative),
                 _ => false,
             },
-            Shape::Sets(members) => match &value.form {
+            ShapeForm::Sets(members) => match &value.form {
                 ValueForm::Set(values) => all_fit(members, values, negative),
                 _ => false,
             },
-            Shape::Maps(keys, values) => match &value.form {
+            ShapeForm::Maps(keys, values) => match &value.form {
                 ValueForm::Map(entries) => {
                     for (key, value) in entries {
                         if !keys.fits(key, negative) || !values.fits(value, negative) {
@@ -153,7 +192,7 @@ fn lies_among(index: usize, from: usize, many: usize) -> bool
 /// Whether values have shapes, one by one.
 #[tactic(auto, using(crate::proofs::WideShapes::all_narrow))]
 pub(crate) fn each_admits(shapes: &Vec<Shape>, values: &Vec<Value>) -> bool
-    ensures { result ≡ have_shapes (shapes_of (map shape_of shapes.now.items)) (items_of values.now.items) }
+    ensures { result ≡ have_shapes (shapes_of shapes.now.items) (items_of values.now.items) }
 {
     each_fits(shapes, values, false)
 }
@@ -161,7 +200,7 @@ pub(crate) fn each_admits(shapes: &Vec<Shape>, values: &Vec<Value>) -> bool
 /// Whether values have shapes, one by one; if `negative` is true, negative numbers pass for naturals too.
 #[cycle(admitting)]
 fn each_fits(shapes: &Vec<Shape>, values: &Vec<Value>, negative: bool) -> bool
-    ensures { result ≡ have_shapes (wide_shapes_if negative (shapes_of (map shape_of shapes.now.items)))
+    ensures { result ≡ have_shapes (wide_shapes_if negative (shapes_of shapes.now.items))
         (items_of values.now.items) }
 {
     for position in 0..shapes.len().min(values.len()) {
@@ -175,7 +214,7 @@ fn each_fits(shapes: &Vec<Shape>, values: &Vec<Value>, negative: bool) -> bool
 /// Whether values all have a shape; if `negative` is true, negative numbers pass for naturals too.
 #[cycle(admitting)]
 fn all_fit(shape: &Shape, values: &Vec<Value>, negative: bool) -> bool
-    ensures { result ≡ all_have (wide_shape_if negative (shape_of shape.now)) (items_of values.now.items) }
+    ensures { result ≡ all_have (wide_shape_if negative shape.now) (items_of values.now.items) }
 {
     for value in values {
         if !shape.fits(value, negative) {
