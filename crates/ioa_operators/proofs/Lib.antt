@@ -1,6 +1,7 @@
 -- the lemmas of this crate
 pub mod Holding
 pub mod ItemLists
+pub mod SameLists
 pub mod ShapeLists
 pub mod Canonicals
 pub mod Falls

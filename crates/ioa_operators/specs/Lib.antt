@@ -9,3 +9,5 @@ pub mod ShapeCode
 pub mod ShapeHeight
 pub mod ShapeView
 pub mod PartHeights
+pub mod SameShapes
+pub mod ShapeEquality

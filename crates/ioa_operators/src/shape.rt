@@ -1,6 +1,8 @@
 //! Shapes of values.
 
-ghost use Rattle.std.specs.Prelude.{◌≡◌, ◌+◌, [], ◌&&◌, IfOk, nat_le, nat_lt};
+ghost use Rattle.std.specs.Prelude.{◌≡◌, ◌↔◌, ◌+◌, [], ◌&&◌, IfOk, IsTrue, nat_eq, nat_le, nat_lt};
+ghost use Rattle.ioa_operators.specs.SameShapes.{same_shape, same_shapes};
+ghost use lib.Pointwise.{pointwise};
 ghost use Rattle.ioa_values.specs.Data.{items_of};
 ghost use Rattle.ioa_operators.specs.Shapes.{naturals, constants, shapes_of, has_shape, have_shapes, all_have};
 ghost use Rattle.ioa_operators.specs.Shapes.{wide_shape, wide_shape_if, wide_shapes_if};
@@ -160,6 +162,72 @@ impl Shape {
             },
         }
     }
+
+    /// Whether two shapes are the same. Costs time in proportion to the shorter one.
+    #[tactic(auto, using(crate::specs::ShapeEquality::same_shape_is))]
+    pub fn equals(&self, other: &Self) -> bool
+        ensures equality { IsTrue result ↔ (self.now ≡ other.now) }
+    {
+        self.is_same(other)
+    }
+
+    /// Whether two shapes are the same, part by part.
+    #[cycle(comparing)]
+    #[tactic(auto, using(crate::proofs::Falls::most_shapes))]
+    fn is_same(&self, other: &Self) -> bool
+        ensures { result ≡ same_shape self.now other.now }
+    {
+        match (&self.form, &other.form) {
+            (ShapeForm::Truths, ShapeForm::Truths) => true,
+            (ShapeForm::Integers, ShapeForm::Integers) => true,
+            (ShapeForm::Naturals, ShapeForm::Naturals) => true,
+            (ShapeForm::Constants(w, k, m), ShapeForm::Constants(v, l, n)) => {
+                w == v && (k == l && m == n)
+            }
+            (ShapeForm::Tuples(w, names, shapes), ShapeForm::Tuples(v, words, others)) => {
+                w == v && (are_same_words(names, words) && are_same(shapes, others))
+            }
+            (ShapeForm::Sequences(items), ShapeForm::Sequences(others)) => items.is_same(others),
+            (ShapeForm::Sets(members), ShapeForm::Sets(others)) => members.is_same(others),
+            (ShapeForm::Maps(keys, values), ShapeForm::Maps(k, v)) => {
+                keys.is_same(k) && values.is_same(v)
+            }
+            _ => false,
+        }
+    }
+}
+
+impl PartialEq for Shape {
+    ghost use Rattle.ioa_operators.specs.SameShapes.{same_shape};
+    ghost use Rattle.ioa_operators.specs.ShapeEquality.{same_shape_partial};
+
+    ghost eq = { same_shape };
+
+    ghost laws = { same_shape_partial };
+
+    fn eq(&self, other: &Self) -> bool {
+        self.is_same(other)
+    }
+}
+
+/// Whether shapes are the same, one by one, and as many.
+#[cycle(comparing)]
+fn are_same(shapes: &Vec<Shape>, others: &Vec<Shape>) -> bool
+    ensures { result ≡ same_shapes (shapes_of shapes.now.items) (shapes_of others.now.items) }
+{
+    for position in 0..shapes.len().min(others.len()) {
+        if !shapes[position].is_same(&others[position]) {
+            return false;
+        }
+    }
+    shapes.len() == others.len()
+}
+
+/// Whether words are the same, one by one, and as many.
+fn are_same_words(words: &Vec<Word>, others: &Vec<Word>) -> bool
+    ensures { result ≡ pointwise (pointwise nat_eq) words.now.items others.now.items }
+{
+    words == others
 }
 
 /// Whether a value is a natural number; if `negative` is true, a negative number passes too.
