@@ -4,7 +4,6 @@ use Rattle.std.specs.Option.{IfSome, option_and_then, option_map, option_or}
 use Rattle.ioa_values.specs.Data.{Data, truth}
 use Rattle.ioa_operators.specs.Operators.{unary_value, binary_value, left_decision, function_named, call_value}
 use Rattle.ioa_operators.specs.Shapes.{PlainShape, has_shape, display_value, field_value, with_field}
-use Rattle.ioa_operators.specs.ShapeView.{shape_of}
 use Rattle.ioa_operators.specs.Canonical.{IsCanonical, AllCanonical}
 use Rattle.ioa_terms.specs.Bindings.{Bindings, same_name, lookup, put}
 use Rattle.ioa_terms.specs.PlainTerm as plain
@@ -69,9 +68,9 @@ mutual
       (and_then_holds IsCanonical IsCanonical (binary_value op v) (value b e) (term_canonical e g b) (λ w k. binary_canonical op v w h k)))
   term_canonical e g (call w ts) = and_then_holds AllCanonical IsCanonical (named_call_value w) (values ts e) (terms_canonical e g ts) (function_canonical (function_named w))
   term_canonical e g (display form d ts) =
-      and_then_holds AllCanonical IsCanonical (display_value form (shape_of d)) (values ts e) (terms_canonical e g ts) (display_canonical form (shape_of d))
+      and_then_holds AllCanonical IsCanonical (display_value form d) (values ts e) (terms_canonical e g ts) (display_canonical form d)
   term_canonical e g (field a w d) =
-      and_then_holds IsCanonical IsCanonical (field_value (shape_of d) w) (value a e) (term_canonical e g a) (field_canonical (shape_of d) w)
+      and_then_holds IsCanonical IsCanonical (field_value d w) (value a e) (term_canonical e g a) (field_canonical d w)
 
   terms_canonical : {N : Type 0} (e : Bindings) → IsAscendingEnvironment e → (ts : PlainTerms N Shape) → IfSome (values ts e) AllCanonical
   terms_canonical e g no_terms = tt
@@ -88,8 +87,8 @@ assigned_canonical (at_key x at d k) t e g =
     (λ v l. and_then_holds IsCanonical IsCanonical (updated_map i v) (lookup x e) (lookup_canonical x e g)
     (λ m r. call_canonical function.Update (m ∷ i ∷ v ∷ []) (r, (h, (l, tt))))))
 assigned_canonical (at_field x at d f) t e g =
-    and_then_holds IsCanonical IsCanonical (λ v. option_and_then (with_field (shape_of d) f v) (lookup x e)) (value t e) (term_canonical e g t)
-    (λ v h. and_then_holds IsCanonical IsCanonical (with_field (shape_of d) f v) (lookup x e) (lookup_canonical x e g) (λ old k. with_field_canonical (shape_of d) f v old h k))
+    and_then_holds IsCanonical IsCanonical (λ v. option_and_then (with_field d f v) (lookup x e)) (value t e) (term_canonical e g t)
+    (λ v h. and_then_holds IsCanonical IsCanonical (with_field d f v) (lookup x e) (lookup_canonical x e g) (λ old k. with_field_canonical d f v old h k))
 
 fitted_canonical : (s : PlainShape) (v : Data) → IsCanonical v → IfSome (fitting_value s v) IsCanonical
 fitted_canonical s v h = by_condition (λ (o : Option Data). IfSome o IsCanonical) (has_shape s v) (Some v) None h tt

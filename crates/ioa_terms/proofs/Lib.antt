@@ -5,6 +5,7 @@ pub mod Slots
 pub mod ShapesKept
 pub mod Sound
 pub mod SameActions
+pub mod SameTerms
 pub mod CanonicalKept
 pub mod Assigned
 pub mod Negatives

@@ -6,7 +6,6 @@ use Rattle.std.specs.Option.{option_and_then, option_map}
 use Rattle.ioa_values.specs.Data.{Data, is_within, as_truth, number, truth, constant, tuple, sequence, finite_set, finite_map, list_of, items_of}
 use Rattle.ioa_values.specs.Outcome.{and_then}
 use Rattle.ioa_operators.specs.Shapes.{PlainShape, truths, integers, naturals, constants, tuples, sequences, sets, maps, with_field, field_position}
-use Rattle.ioa_operators.specs.ShapeView.{shape_of}
 use Rattle.ioa_operators.specs.RangeCheck.{range_check, checked_result}
 use Rattle.ioa_terms.specs.Bindings.{Bindings, lookup, put}
 use Rattle.ioa_terms.specs.PlainTerm.{PlainTerm, PlainTarget, variable, at_key, at_field, PlainStatement, PlainStatements, PlainArms, assign, choose, fire, no_statements, statement, no_arms, arm, statements_of}
@@ -77,8 +76,8 @@ stepwise_assignment_is (at_key x at d k) t e =
     ∙ key_first (numbers_met k e) (numbers_met t e) (value k e) (value t e) (λ i v. option_and_then (updated_map i v) (lookup x e)))
 stepwise_assignment_is (at_field x at d f) t e =
     rw (stepwise_is t e)
-    (ap (λ (g : Data → Result Data TermFault). and_then (range_check (numbers_met t e) (value t e)) g) (λ j v. field_within (shape_of d) f v (lookup x e) j)
-    ∙ and_step (numbers_met t e) (value t e) (λ v. option_and_then (with_field (shape_of d) f v) (lookup x e)))
+    (ap (λ (g : Data → Result Data TermFault). and_then (range_check (numbers_met t e) (value t e)) g) (λ j v. field_within d f v (lookup x e) j)
+    ∙ and_step (numbers_met t e) (value t e) (λ v. option_and_then (with_field d f v) (lookup x e)))
 
 put_one : (x : List ℕ) (s : PlainShape) (e : Bindings) (v : Data) → put_fitting_value x s e v ≡ range_check [] (option_map (λ w. put x w e) (fitting_value s v))
 put_one x s e v = made_of [] (fitting_value s v) (λ w. put x w e)

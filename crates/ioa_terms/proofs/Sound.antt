@@ -4,7 +4,6 @@ use Rattle.std.specs.Option.{IfSome, option_and_then, option_map, option_or}
 use Rattle.ioa_values.specs.Data.{Data}
 use Rattle.ioa_operators.specs.Operators.{unary_value, binary_value, left_decision}
 use Rattle.ioa_operators.specs.Shapes.{PlainShape, has_shape, display_value, field_value}
-use Rattle.ioa_operators.specs.ShapeView.{shape_of}
 use Rattle.ioa_terms.specs.Bindings.{Bindings, lookup}
 use Rattle.ioa_terms.specs.PlainTerm as plain
 use Rattle.ioa_terms.specs.PlainTerm.{PlainTerm, PlainTerms, name, one, two, call, display, field, no_terms, term}
@@ -38,9 +37,9 @@ mutual
   sound names e g (call w ts) s h =
       and_then_holds (HaveEach h.1) (Has s) (named_call_value w) (values ts e) (all_sound names e g ts h.1 h.3) (λ vs k. rw (h.2) (function_has h.4 vs k))
   sound names e g (display form d ts) s h =
-      rw (h.1) (and_then_holds (HaveEach h.0) (Has (shape_of d)) (display_value form (shape_of d)) (values ts e) (all_sound names e g ts h.0 h.2) (λ vs k. display_has form (shape_of d) h.0 vs h.3 k))
+      rw (h.1) (and_then_holds (HaveEach h.0) (Has d) (display_value form d) (values ts e) (all_sound names e g ts h.0 h.2) (λ vs k. display_has form d h.0 vs h.3 k))
   sound names e g (field a w d) s h =
-      and_then_holds (Has (shape_of d)) (Has s) (field_value (shape_of d) w) (value a e) (sound names e g a (shape_of d) h.0) (λ v k. field_has (shape_of d) w s v h.1 k)
+      and_then_holds (Has d) (Has s) (field_value d w) (value a e) (sound names e g a d h.0) (λ v k. field_has d w s v h.1 k)
 
   all_sound : {N : Type 0} (names : NameShapes) (e : Bindings) → IsShaped names e → (ts : PlainTerms N Shape) (xs : List PlainShape) → HaveShapes names ts xs → IfSome (values ts e) (HaveEach xs)
   all_sound names e g no_terms [] h = tt

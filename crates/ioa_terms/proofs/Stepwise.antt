@@ -8,7 +8,6 @@ use Rattle.ioa_values.specs.Data.{Data, is_within}
 use Rattle.ioa_values.specs.Outcome.{and_then}
 use Rattle.ioa_operators.specs.Operators.{unary_value, binary_value, left_decision}
 use Rattle.ioa_operators.specs.Shapes.{display_value, field_value}
-use Rattle.ioa_operators.specs.ShapeView.{shape_of}
 use Rattle.ioa_operators.specs.RangeCheck.{range_check, result_of, checked_result}
 use Rattle.ioa_terms.specs.Bindings.{Bindings}
 use Rattle.ioa_terms.specs.PlainTerm as plain
@@ -83,8 +82,8 @@ mutual
   stepwise_is (one op a) e = rw (stepwise_is a e) (one_part (unary_value op) (numbers_met a e) (value a e))
   stepwise_is (two op a b) e = rw (stepwise_is a e, stepwise_is b e) (two_parts op (numbers_met a e) (numbers_met b e) (value a e) (value b e))
   stepwise_is (call w ts) e = rw (all_stepwise_is ts e) (one_part (named_call_value w) (all_numbers_met ts e) (values ts e))
-  stepwise_is (display form d ts) e = rw (all_stepwise_is ts e) (one_part (display_value form (shape_of d)) (all_numbers_met ts e) (values ts e))
-  stepwise_is (field a w d) e = rw (stepwise_is a e) (one_part (field_value (shape_of d) w) (numbers_met a e) (value a e))
+  stepwise_is (display form d ts) e = rw (all_stepwise_is ts e) (one_part (display_value form d) (all_numbers_met ts e) (values ts e))
+  stepwise_is (field a w d) e = rw (stepwise_is a e) (one_part (field_value d w) (numbers_met a e) (value a e))
 
   -- terms, evaluated one after another, are checked as a whole
   pub all_stepwise_is : {N : Type 0} (ts : PlainTerms N Shape) (e : Bindings) → stepwise_answers ts e ≡ range_check (all_numbers_met ts e) (values ts e)

@@ -11,6 +11,8 @@ pub use Rattle.ioa_operators.specs.Shapes
 pub use Rattle.ioa_operators.specs.ShapeView
 -- what the contracts of this crate and of those above it cite
 pub mod PlainTerm
+pub mod TermCode
+pub mod SameTerms
 pub mod View
 pub mod Bindings
 pub mod Slots

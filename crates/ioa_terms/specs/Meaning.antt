@@ -4,7 +4,6 @@ use Rattle.std.specs.Option.{option_and_then, option_map, option_or}
 use Rattle.ioa_values.specs.Data.{Data, number, truth}
 use Rattle.ioa_operators.specs.Operators.{unary_value, binary_value, left_decision, function_named, call_value}
 use Rattle.ioa_operators.specs.Shapes.{display_value, field_value}
-use Rattle.ioa_operators.specs.ShapeView.{shape_of}
 use Rattle.ioa_operators.specs.RangeCheck.{range_check, result_of}
 use Rattle.ioa_terms.specs.Bindings.{Bindings, lookup}
 use Rattle.ioa_terms.specs.PlainTerm as plain
@@ -30,8 +29,8 @@ abbrev mutual
       (λ x. option_or (left_decision op x) (option_and_then (binary_value op x) (value b e)))
       (value a e)
   value (call w ts) e = option_and_then (named_call_value w) (values ts e)
-  value (display form d ts) e = option_and_then (display_value form (shape_of d)) (values ts e)
-  value (field a w d) e = option_and_then (field_value (shape_of d) w) (value a e)
+  value (display form d ts) e = option_and_then (display_value form d) (values ts e)
+  value (field a w d) e = option_and_then (field_value d w) (value a e)
 
   -- the values of terms, if each has one
   pub values : {N : Type 0} → PlainTerms N Shape → Bindings → Option (List Data)

@@ -4,7 +4,6 @@ use Rattle.std.specs.Option.{option_and_then, option_map}
 use Rattle.ioa_values.specs.Data.{Data, as_truth}
 use Rattle.ioa_operators.specs.Operators.{call_value}
 use Rattle.ioa_operators.specs.Shapes.{PlainShape, has_shape, with_field}
-use Rattle.ioa_operators.specs.ShapeView.{shape_of}
 use Rattle.ioa_operators.specs.RangeCheck.{range_check}
 use Rattle.ioa_terms.specs.Bindings.{Bindings, lookup, put}
 use Rattle.ioa_terms.specs.PlainTerm.{PlainTerm, PlainTarget, variable, at_key, at_field}
@@ -22,9 +21,9 @@ target_name (at_key x at d k) = x
 target_name (at_field x at d f) = x
 
 abbrev pub target_shape : {N : Type 0} → PlainTarget N Shape → PlainShape
-target_shape (variable x at d) = shape_of d
-target_shape (at_key x at d k) = shape_of d
-target_shape (at_field x at d f) = shape_of d
+target_shape (variable x at d) = d
+target_shape (at_key x at d k) = d
+target_shape (at_field x at d f) = d
 
 -- a map in which a key has a value
 abbrev pub updated_map : Data → Data → Data → Option Data
@@ -39,7 +38,7 @@ assignment_value (at_key x at d k) t e =
     (λ i. option_and_then (λ v. option_and_then (updated_map i v) (lookup x e)) (value t e))
     (value k e)
 assignment_value (at_field x at d f) t e =
-    option_and_then (λ v. option_and_then (with_field (shape_of d) f v) (lookup x e)) (value t e)
+    option_and_then (λ v. option_and_then (with_field d f v) (lookup x e)) (value t e)
 
 -- the value, if it has the shape: a negative number is no natural
 abbrev pub fitting_value : PlainShape → Data → Option Data

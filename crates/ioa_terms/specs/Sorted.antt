@@ -7,7 +7,6 @@ use Rattle.ioa_values.specs.Data.{Data}
 use Rattle.ioa_operators.specs.Operators.{function_named}
 use Rattle.ioa_operators.specs.Shapes.{PlainShape, truths, integers, naturals, constants, tuples, sequences, sets, maps}
 use Rattle.ioa_operators.specs.Shapes.{PlainShapes, no_shapes, shape, has_shape, field_position}
-use Rattle.ioa_operators.specs.ShapeView.{shape_of}
 use Rattle.ioa_terms.specs.Bindings.{Bindings, same_name, lookup}
 use Rattle.ioa_terms.specs.PlainTerm as plain
 use Rattle.ioa_terms.specs.PlainTerm.{PlainTerm, PlainTerms, name, one, two, call, display, field, no_terms, term}
@@ -122,9 +121,9 @@ abbrev mutual
   HasShape names (call w ts) s =
       (f : Function) × (xs : List PlainShape) × (function_named w ≡ Some f) × HaveShapes names ts xs × FunctionIs f xs s
   HasShape names (display form d ts) s =
-      (xs : List PlainShape) × (s ≡ shape_of d) × HaveShapes names ts xs × DisplayIs form xs (shape_of d)
+      (xs : List PlainShape) × (s ≡ d) × HaveShapes names ts xs × DisplayIs form xs d
   HasShape names (field a w d) s =
-      HasShape names a (shape_of d) × (option_map shape_in_terms (field_shape w (shape_of d)) ≡ Some s)
+      HasShape names a d × (option_map shape_in_terms (field_shape w d) ≡ Some s)
 
   -- terms have shapes, one by one
   pub HaveShapes : {N : Type 0} → NameShapes → PlainTerms N Shape → List PlainShape → Type 0

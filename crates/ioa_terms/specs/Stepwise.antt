@@ -5,7 +5,6 @@ use Rattle.ioa_values.specs.Outcome.{and_then}
 use Rattle.ioa_values.specs.Data.{Data, number, truth, as_truth}
 use Rattle.ioa_operators.specs.Operators.{unary_value, binary_value, left_decision}
 use Rattle.ioa_operators.specs.Shapes.{PlainShape, display_value, field_value, with_field}
-use Rattle.ioa_operators.specs.ShapeView.{shape_of}
 use Rattle.ioa_operators.specs.RangeCheck.{range_check, checked_result}
 use Rattle.ioa_terms.specs.Bindings.{Bindings, lookup, put}
 use Rattle.ioa_terms.specs.Meaning.{named_call_value}
@@ -36,8 +35,8 @@ abbrev mutual
       and_then (stepwise_answer a e) (λ x. with_right op x (left_decision op x) (stepwise_answer b e))
   stepwise_answer (call w ts) e = and_then (stepwise_answers ts e) (λ vs. checked_result (named_call_value w vs))
   stepwise_answer (display form d ts) e =
-      and_then (stepwise_answers ts e) (λ vs. checked_result (display_value form (shape_of d) vs))
-  stepwise_answer (field a w d) e = and_then (stepwise_answer a e) (λ x. checked_result (field_value (shape_of d) w x))
+      and_then (stepwise_answers ts e) (λ vs. checked_result (display_value form d vs))
+  stepwise_answer (field a w d) e = and_then (stepwise_answer a e) (λ x. checked_result (field_value d w x))
 
   -- the values of terms, one after another
   pub stepwise_answers : {N : Type 0} → PlainTerms N Shape → Bindings → Result (List Data) TermFault
@@ -58,7 +57,7 @@ stepwise_assignment (at_key x at d k) t e =
     (λ i. and_then (stepwise_answer t e) (λ v. checked_result (option_and_then (updated_map i v) (lookup x e))))
 stepwise_assignment (at_field x at d f) t e =
     and_then (stepwise_answer t e)
-    (λ v. checked_result (option_and_then (with_field (shape_of d) f v) (lookup x e)))
+    (λ v. checked_result (option_and_then (with_field d f v) (lookup x e)))
 
 -- the environment in which a variable has a new value; `Undefined (1)` if the value lacks the variable's shape
 abbrev pub put_fitting_value : List ℕ → PlainShape → Bindings → Data → Result Bindings TermFault

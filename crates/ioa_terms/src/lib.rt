@@ -7,6 +7,7 @@ mod environment;
 mod evaluation;
 mod laws;
 mod performance;
+mod same;
 mod text;
 mod tree;
 
@@ -14,9 +15,12 @@ pub use action::{Action, NodeAction, Values, copies};
 pub use component::Component;
 pub use environment::{Env, Slot};
 pub use evaluation::eval;
-pub use ioa_operators::{BinaryOperator, DisplayForm, Function, Shape, TermFault, UnaryOperator};
+pub use ioa_operators::{
+    BinaryOperator, DisplayForm, Function, Shape, ShapeForm, TermFault, UnaryOperator,
+};
 pub use ioa_values::{Names, Value, Word, show};
 pub use laws::{ascending_law, defined_law, put_law, shapes_law};
 pub use performance::perform;
+pub use same::{are_same_statements, are_same_terms, is_same_statement, is_same_term};
 pub use text::{push_listed, show_action, show_node_action};
 pub use tree::{Arm, Checked, Kind, Statement, Target, Term, Tree};

@@ -5,7 +5,6 @@ ghost use Rattle.std.specs.Option.{option_and_then};
 ghost use Rattle.ioa_values.specs.Outcome.{Answers, and_then};
 ghost use Rattle.ioa_operators.specs.RangeCheck.{checked_result};
 ghost use Rattle.ioa_operators.specs.Shapes.{with_field};
-ghost use Rattle.ioa_operators.specs.ShapeView.{shape_of};
 ghost use Rattle.ioa_terms.specs.Bindings.{environment, slot_in, names_of, lookup};
 ghost use Rattle.ioa_terms.specs.Performance.{answer_by, updated_map};
 ghost use Rattle.ioa_terms.specs.Resolved.{AreResolved, AreAllResolved, IsResolved};
@@ -227,7 +226,7 @@ fn replace(
 ) -> Result<Value, TermFault>
     requires { slot_in name.now (names_of env.now) ≡ Some at }
     ensures { Answers TermFault.Memory (λ v. v) result
-        (checked_result (option_and_then (with_field (shape_of shape.now) field.now value) (lookup name.now env.now))) }
+        (checked_result (option_and_then (with_field shape.now field.now value) (lookup name.now env.now))) }
 {
     let whole = read(alloc, env, name, at)?;
     replace_field(shape, field, value, whole)
@@ -247,7 +246,7 @@ fn put(
     requires resolved { slot_in name.now names.now ≡ Some at }
     requires named { length names.now ≡ length values.items }
     ensures after { Answers TermFault.Memory (λ vs. environment names.now vs.items constants.now) result
-        (put_fitting_value name.now (shape_of shape.now) (environment names.now values.items constants.now) value) }
+        (put_fitting_value name.now shape.now (environment names.now values.items constants.now) value) }
     ensures named { IfOk result (λ vs. length names.now ≡ length vs.items) }
 {
     if shape.admits(&value) {

@@ -1,0 +1,145 @@
+//! Whether two terms, targets or statements are the same, whatever memory they are kept in.
+
+ghost use Rattle.std.specs.Prelude.{◌≡◌, ◌↔◌, ◌&&◌, IsTrue, map};
+ghost use Rattle.ioa_terms.specs.PlainTerm.{terms_of, statements_of, arms_of};
+ghost use Rattle.ioa_terms.specs.SameTerms.{same_term, same_terms, same_target};
+ghost use Rattle.ioa_terms.specs.SameTerms.{same_statement, same_statements, same_arms};
+ghost use Rattle.ioa_terms.specs.View.{term_of, target_of, statement_of, arm_of};
+
+use crate::tree::{Arm, Statement, Target, Tree};
+use ioa_operators::Shape;
+
+impl Tree<usize, Shape> {
+    /// Whether two terms are the same. Costs time in proportion to the shorter one.
+    pub fn equals(&self, other: &Self) -> bool
+        ensures equality { IsTrue result ↔ (term_of self.now ≡ term_of other.now) }
+    {
+        is_same_term(self, other)
+    }
+}
+
+impl Statement<usize, Shape> {
+    /// Whether two statements are the same. Costs time in proportion to the shorter one.
+    pub fn equals(&self, other: &Self) -> bool
+        ensures equality { IsTrue result ↔ (statement_of self.now ≡ statement_of other.now) }
+    {
+        is_same_statement(self, other)
+    }
+}
+
+/// Whether two terms are the same, by the tests of their annotations.
+#[cycle(comparing_terms)]
+pub fn is_same_term<N: PartialEq, D: PartialEq>(term: &Tree<N, D>, other: &Tree<N, D>) -> bool
+    ensures { result ≡ same_term N.eq D.eq (term_of term.now) (term_of other.now) }
+{
+    match (term, other) {
+        (Tree::Number(m), Tree::Number(n)) => m == n,
+        (Tree::Truth(a), Tree::Truth(b)) => a == b,
+        (Tree::Name(w, x), Tree::Name(v, y)) => w == v && x == y,
+        (Tree::One(op, a), Tree::One(oq, b)) => op == oq && is_same_term(a, b),
+        (Tree::Two(op, a, b), Tree::Two(oq, f, g)) => {
+            op == oq && (is_same_term(a, f) && is_same_term(b, g))
+        }
+        (Tree::Call(w, ts), Tree::Call(v, us)) => w == v && are_same_terms(ts, us),
+        (Tree::Display(f, s, ts), Tree::Display(g, t, us)) => {
+            f == g && (s == t && are_same_terms(ts, us))
+        }
+        (Tree::Field(a, w, s), Tree::Field(b, v, t)) => is_same_term(a, b) && (w == v && s == t),
+        _ => false,
+    }
+}
+
+/// Whether terms are the same, one by one, and as many.
+#[cycle(comparing_terms)]
+pub fn are_same_terms<N: PartialEq, D: PartialEq>(
+    terms: &Vec<Tree<N, D>>,
+    others: &Vec<Tree<N, D>>,
+) -> bool
+    ensures { result ≡ same_terms N.eq D.eq (terms_of (map term_of terms.now.items))
+        (terms_of (map term_of others.now.items)) }
+{
+    for position in 0..terms.len().min(others.len()) {
+        if !is_same_term(&terms[position], &others[position]) {
+            return false;
+        }
+    }
+    terms.len() == others.len()
+}
+
+/// Whether two targets are the same.
+fn is_same_target<N: PartialEq, D: PartialEq>(target: &Target<N, D>, other: &Target<N, D>) -> bool
+    ensures { result ≡ same_target N.eq D.eq (target_of target.now) (target_of other.now) }
+{
+    match (target, other) {
+        (Target::Variable(w, x, s), Target::Variable(v, y, t)) => w == v && (x == y && s == t),
+        (Target::At(w, x, s, a), Target::At(v, y, t, b)) => {
+            w == v && (x == y && (s == t && is_same_term(a, b)))
+        }
+        (Target::Field(w, x, s, f), Target::Field(v, y, t, g)) => {
+            w == v && (x == y && (s == t && f == g))
+        }
+        _ => false,
+    }
+}
+
+/// Whether two statements are the same, by the tests of their annotations.
+#[cycle(comparing_statements)]
+pub fn is_same_statement<N: PartialEq, D: PartialEq>(
+    statement: &Statement<N, D>,
+    other: &Statement<N, D>,
+) -> bool
+    ensures { result ≡ same_statement N.eq D.eq (statement_of statement.now) (statement_of other.now) }
+{
+    match (statement, other) {
+        (Statement::Assign(p, t), Statement::Assign(q, u)) => {
+            is_same_target(p, q) && is_same_term(t, u)
+        }
+        (Statement::If(xs, ss), Statement::If(ys, ts)) => {
+            are_same_arms(xs, ys) && are_same_statements(ss, ts)
+        }
+        (Statement::Fire(k, w, ts), Statement::Fire(l, v, us)) => {
+            k == l && (w == v && are_same_terms(ts, us))
+        }
+        _ => false,
+    }
+}
+
+/// Whether statements are the same, one by one, and as many.
+#[cycle(comparing_statements)]
+pub fn are_same_statements<N: PartialEq, D: PartialEq>(
+    statements: &Vec<Statement<N, D>>,
+    others: &Vec<Statement<N, D>>,
+) -> bool
+    ensures { result ≡ same_statements N.eq D.eq (statements_of (map statement_of statements.now.items))
+        (statements_of (map statement_of others.now.items)) }
+{
+    for position in 0..statements.len().min(others.len()) {
+        if !is_same_statement(&statements[position], &others[position]) {
+            return false;
+        }
+    }
+    statements.len() == others.len()
+}
+
+/// Whether arms are the same, one by one, and as many.
+#[cycle(comparing_statements)]
+fn are_same_arms<N: PartialEq, D: PartialEq>(arms: &Vec<Arm<N, D>>, others: &Vec<Arm<N, D>>) -> bool
+    ensures { result ≡ same_arms N.eq D.eq (arms_of (map arm_of arms.now.items))
+        (arms_of (map arm_of others.now.items)) }
+{
+    for position in 0..arms.len().min(others.len()) {
+        if !is_same_arm(&arms[position], &others[position]) {
+            return false;
+        }
+    }
+    arms.len() == others.len()
+}
+
+/// Whether two arms are the same.
+#[cycle(comparing_statements)]
+fn is_same_arm<N: PartialEq, D: PartialEq>(arm: &Arm<N, D>, other: &Arm<N, D>) -> bool
+    ensures { result ≡ (same_term N.eq D.eq (term_of arm.now.test) (term_of other.now.test)
+        && same_statements N.eq D.eq (arm_of arm.now).1 (arm_of other.now).1) }
+{
+    is_same_term(&arm.test, &other.test) && are_same_statements(&arm.body, &other.body)
+}
