@@ -2,3 +2,4 @@
 pub mod Erased
 pub mod Heights
 pub mod Sets
+pub mod SameTexts

@@ -2,6 +2,8 @@
 pub mod PlainSort
 pub mod SortView
 pub mod PlainText
+pub mod TextCode
+pub mod SameTexts
 pub mod Sides
 pub mod TextView
 pub mod Erasure
