@@ -2,3 +2,4 @@
 pub mod Parts
 pub mod ResolvedPrograms
 pub mod Systems
+pub mod SameParts

@@ -3,12 +3,9 @@ use Rattle.std.specs.Prelude.{◌≡◌, ℕ, List, [], ◌∷◌, ◌++◌, Opt
 use Rattle.std.specs.List.{AllByRecursion}
 use Rattle.ioa_terms.specs.Resolved.{IsResolved, AreResolved}
 use Rattle.ioa_terms.specs.PlainTerm.{assign, choose, fire}
-use Rattle.ioa_terms.specs.View.{statement_of}
 use Rattle.ioa_source.specs.PlainText.{PlainParameter, const, named, PlainEntry, PlainVariable}
-use Rattle.ioa_source.specs.TextView.{entry_of, variable_of, transition_of}
 use Rattle.ioa_source.specs.Sides.{CheckedParameter, CheckedStatement, CheckedTerm, CheckedVariable}
-use Rattle.ioa_system.specs.Parts.{Parts}
-use Rattle.ioa_system.specs.declared.program.Rule.{Rule}
+use Rattle.ioa_system.specs.Parts.{Parts, PlainRule}
 
 -- the name of a parameter that has one
 abbrev pub own_name : {N D : Type 0} → PlainParameter N D → List (List ℕ)
@@ -44,12 +41,12 @@ IsResolvedGuard (Some t) names = IsResolved t names
 
 -- a rule in which the names that its step reads or assigns are resolved: those of constant parameters, of the entry's
 -- condition, of guard and of effect. The effect assigns state variables alone. No step reads the arguments of the head.
-pub record IsResolvedRule (vs : List CheckedVariable) (r : Rule) : Type 0 where
-  pub scope : r.scope ≡ scope_of (entry_of r.entry) vs
-  pub parameters : AreResolvedParameters (entry_of r.entry).parameters
-  pub condition : IsResolvedGuard (entry_of r.entry).condition r.scope
-  pub guard : IsResolvedGuard (transition_of r.transition).pre r.scope
-  pub effect : AreResolved (transition_of r.transition).effect (variable_names vs) r.scope
+pub record IsResolvedRule (vs : List CheckedVariable) (r : PlainRule) : Type 0 where
+  pub scope : r.scope ≡ scope_of r.entry vs
+  pub parameters : AreResolvedParameters r.entry.parameters
+  pub condition : IsResolvedGuard r.entry.condition r.scope
+  pub guard : IsResolvedGuard r.transition.pre r.scope
+  pub effect : AreResolved r.transition.effect (variable_names vs) r.scope
 
 -- the names of each term are resolved among these names
 abbrev pub AreResolvedTerms : List CheckedTerm → List (List ℕ) → Type 0
@@ -68,9 +65,9 @@ AreResolvedFirings ss names = AllByRecursion (λ s. IsResolvedFiring s names) ss
 -- a program in which each name that a step or a firing of the schedule reads is resolved, and which has an initial
 -- value for each state variable
 pub record IsResolvedProgram (p : Parts) : Type 0 where
-  pub rules : All (IsResolvedRule (map variable_of p.variables)) p.rules
+  pub rules : All (IsResolvedRule p.variables) p.rules
   pub valued : length p.initial ≡ length p.variables
-  pub schedule : AreResolvedFirings (map statement_of p.schedule) (variable_names (map variable_of p.variables))
+  pub schedule : AreResolvedFirings p.schedule (variable_names p.variables)
 
 -- initial terms read no name
 abbrev pub AreResolvedVariables : List CheckedVariable → Type 0

@@ -1,0 +1,83 @@
+-- Whether two rules or two programs are the same (profile).
+use Rattle.std.specs.Prelude.{◌≡◌, Bool, ◌&&◌, List, nat_eq, refl}
+use Rattle.std.specs.Ordering.{int_eq}
+use Rattle.std.specs.Bool.{Decides}
+use Rattle.std.specs.Cmp.{IsPartialEquivalence, decided, partial_equiv_from_equiv}
+use lib.Pointwise.{pointwise}
+use Rattle.std.proofs.Common.{ap}
+use Rattle.std.proofs.lemmas.Bool.Decides.{Decides-and, Decides-eqb, Decides-int_eq, Decides-like}
+use Rattle.std.proofs.lemmas.Slice.Eq.{slice_eq-Decides, bytes_eq-Decides}
+use Rattle.ioa_values.specs.DataOrder.{same}
+use Rattle.ioa_values.proofs.Equality.{same_is}
+use Rattle.ioa_operators.specs.SameShapes.{same_shape}
+use Rattle.ioa_operators.specs.ShapeEquality.{same_shape_is}
+use Rattle.ioa_terms.specs.PlainTerm.{statements_of}
+use Rattle.ioa_terms.specs.SameTerms.{same_statements}
+use Rattle.ioa_terms.proofs.SameTerms.{same_statements_is}
+use Rattle.ioa_source.specs.Sides.{CheckedVariable}
+use Rattle.ioa_source.specs.SameTexts.{same_entry, same_variable, same_transition}
+use Rattle.ioa_source.proofs.SameTexts.{same_entry_is, same_variable_is, same_transition_is}
+use Rattle.ioa_system.specs.Parts.{Parts, PlainRule}
+
+-- two rules are the same if their entries, their transitions and the names in view are
+abbrev pub same_rule : PlainRule → PlainRule → Bool
+same_rule a b =
+    same_entry nat_eq same_shape a.entry b.entry
+    && (same_transition nat_eq same_shape a.transition b.transition
+    && pointwise (pointwise nat_eq) a.scope b.scope)
+
+-- whether two lists have the same state variables
+abbrev pub same_variables : List CheckedVariable → List CheckedVariable → Bool
+same_variables vs ws = pointwise (same_variable nat_eq same_shape) vs ws
+
+-- two programs are the same if their parts are
+abbrev pub same_program : Parts → Parts → Bool
+same_program a b =
+    int_eq a.node b.node
+    && (pointwise same_rule a.rules b.rules
+    && (same_variables a.variables b.variables
+    && (pointwise same a.initial b.initial
+    && same_statements nat_eq same_shape (statements_of a.schedule) (statements_of b.schedule))))
+
+-- the test finds two rules the same if and only if they are equal
+pub same_rule_is : (a b : PlainRule) → Decides (same_rule a b) (a ≡ b)
+same_rule_is a b =
+    Decides-like _ (λ p i. record { entry = p.0 i; transition = p.1.0 i; scope = p.1.1 i })
+    (λ e. (
+      ap (λ (r : PlainRule). r.entry) e,
+      (ap (λ (r : PlainRule). r.transition) e, ap (λ (r : PlainRule). r.scope) e),
+    ))
+    (Decides-and _ _ (same_entry_is Decides-eqb same_shape_is a.entry b.entry)
+    (Decides-and _ _ (same_transition_is Decides-eqb same_shape_is a.transition b.transition)
+    (slice_eq-Decides bytes_eq-Decides a.scope b.scope _ refl)))
+
+pub same_rule_partial : IsPartialEquivalence same_rule
+same_rule_partial = partial_equiv_from_equiv (decided same_rule same_rule_is)
+
+-- and two programs
+pub same_program_is : (a b : Parts) → Decides (same_program a b) (a ≡ b)
+same_program_is a b =
+    Decides-like _
+    (λ p i. record {
+      node = p.0 i;
+      rules = p.1.0 i;
+      variables = p.1.1.0 i;
+      initial = p.1.1.1.0 i;
+      schedule = p.1.1.1.1 i;
+    })
+    (λ e. (
+      ap (λ (p : Parts). p.node) e,
+      (
+        ap (λ (p : Parts). p.rules) e,
+        (
+          ap (λ (p : Parts). p.variables) e,
+          (ap (λ (p : Parts). p.initial) e, ap (λ (p : Parts). p.schedule) e),
+        ),
+      ),
+    ))
+    (Decides-and _ _ (Decides-int_eq a.node b.node)
+    (Decides-and _ _ (slice_eq-Decides same_rule_is a.rules b.rules _ refl)
+    (Decides-and _ _
+    (slice_eq-Decides (same_variable_is Decides-eqb same_shape_is) a.variables b.variables _ refl)
+    (Decides-and _ _ (slice_eq-Decides same_is a.initial b.initial _ refl)
+    (same_statements_is Decides-eqb same_shape_is a.schedule b.schedule)))))
