@@ -13,9 +13,8 @@ use Rattle.ioa_terms.specs.Performance.{after, numbers_met_by, answer_by}
 use Rattle.ioa_terms.specs.declared.action.Action.{Action}
 use Rattle.ioa_operators.specs.declared.fault.TermFault.{TermFault}
 use Rattle.ioa_operators.specs.declared.fault.TermFault.TheVariants as term
-use Rattle.ioa_source.specs.TextView.{entry_of, transition_of}
 use Rattle.ioa_source.specs.Sides.{CheckedEntry, CheckedTerm, CheckedTransition}
-use Rattle.ioa_system.specs.declared.program.Rule.{Rule}
+use Rattle.ioa_system.specs.Parts.{PlainRule}
 use Rattle.ioa_compose.specs.declared.fault.StepFault.{StepFault}
 use Rattle.ioa_compose.specs.declared.fault.StepFault.TheVariants.{Undefined}
 use Rattle.ioa_compose.specs.NodeState.{NodeState, node_state}
@@ -146,20 +145,20 @@ is_node_step c a d = by_rule (rule_for a c.program.rules) refl
     with_values : List Data → Result NodeState StepFault
     with_values vs = Ok (node_state c.program vs)
 
-    fits : (r s : Rule) → rule_for a c.program.rules ≡ Some r → rule_for a c.program.rules ≡ Some s → AreWithin (numbers_met_by_rule r (rule_bindings r a c)) → AreWithin (numbers_met_by_rule s (rule_bindings s a c))
+    fits : (r s : PlainRule) → rule_for a c.program.rules ≡ Some r → rule_for a c.program.rules ≡ Some s → AreWithin (numbers_met_by_rule r (rule_bindings r a c)) → AreWithin (numbers_met_by_rule s (rule_bindings s a c))
     fits r s q k h =
         let same_rule : r ≡ s = cc in
         ap (λ t. list_all is_within (numbers_met_by_rule t (rule_bindings t a c))) (sym same_rule) ∙ h
 
-    by_values : (r : Rule) → rule_for a c.program.rules ≡ Some r → (s : Result (List Data) StepFault) → rule_answer c.program c.variables a (Some r) ≡ s → and_then s with_values ≡ Ok d → IsNodeStep a c d × FitsNodeStep a c
+    by_values : (r : PlainRule) → rule_for a c.program.rules ≡ Some r → (s : Result (List Data) StepFault) → rule_answer c.program c.variables a (Some r) ≡ s → and_then s with_values ≡ Ok d → IsNodeStep a c d × FitsNodeStep a c
     by_values r q (Ok vs) e h =
         let same_state : node_state c.program vs ≡ d = cc in
-        let p : StepParts (length c.variables) (entry_of r.entry) (transition_of r.transition) (action_arguments a) (rule_bindings r a c) vs = step_parts (length c.variables) (entry_of r.entry) (transition_of r.transition) (action_arguments a) (rule_bindings r a c) vs e in
+        let p : StepParts (length c.variables) r.entry r.transition (action_arguments a) (rule_bindings r a c) vs = step_parts (length c.variables) r.entry r.transition (action_arguments a) (rule_bindings r a c) vs e in
         let t = p.transition in
         (record { rule = r; mine = q; natural = p.natural; condition = p.condition; guard = t.guard; left = t.left; effect = t.effect; reached = sym same_state ∙ ap (node_state c.program) t.variables }, λ s k. fits r s q k p.within)
     by_values r q (Err f) e h = absurd (cc)
 
-    by_rule : (o : Option Rule) → rule_for a c.program.rules ≡ o → and_then (rule_answer c.program c.variables a o) with_values ≡ Ok d → IsNodeStep a c d × FitsNodeStep a c
+    by_rule : (o : Option PlainRule) → rule_for a c.program.rules ≡ o → and_then (rule_answer c.program c.variables a o) with_values ≡ Ok d → IsNodeStep a c d × FitsNodeStep a c
     by_rule (Some r) q h = by_values r q (rule_answer c.program c.variables a (Some r)) refl h
     by_rule None q h = absurd (cc)
 
@@ -168,7 +167,7 @@ pub node_answer_is : (c : NodeState) (a : Action) (d : NodeState) → IsNodeStep
 unfolding node_answer
 node_answer_is c a d p fits =
     ap (λ o. and_then (rule_answer c.program c.variables a o) with_values) p.mine
-    ∙ ap (λ s. and_then s with_values) (step_left (length c.variables) (entry_of p.rule.entry) (transition_of p.rule.transition) (action_arguments a) (rule_bindings p.rule a c) p.left (fits p.rule p.mine) p.natural p.condition p.guard p.effect)
+    ∙ ap (λ s. and_then s with_values) (step_left (length c.variables) p.rule.entry p.rule.transition (action_arguments a) (rule_bindings p.rule a c) p.left (fits p.rule p.mine) p.natural p.condition p.guard p.effect)
     ∙ ap Ok (sym p.reached)
   where
     with_values : List Data → Result NodeState StepFault

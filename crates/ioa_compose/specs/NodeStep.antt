@@ -13,16 +13,13 @@ use Rattle.ioa_terms.specs.declared.tree.Kind.TheVariants.{Input, Output, Intern
 use Rattle.ioa_terms.specs.declared.action.Action.{Action}
 use Rattle.ioa_terms.specs.declared.action.Action.TheVariants.{Send, Receive, Local, Stimulus}
 use Rattle.ioa_operators.specs.Shapes.{has_shape, wide_shape}
-use Rattle.ioa_operators.specs.ShapeView.{shape_of}
 use Rattle.ioa_operators.specs.declared.fault.TermFault.{TermFault}
 use Rattle.ioa_source.specs.PlainText.{const, named}
-use Rattle.ioa_source.specs.TextView.{entry_of, transition_of, variable_of}
 use Rattle.ioa_source.specs.Sides.{CheckedEntry, CheckedParameter, CheckedTerm, CheckedTransition, CheckedVariable}
-use Rattle.ioa_system.specs.Parts.{Parts}
+use Rattle.ioa_system.specs.Parts.{Parts, PlainRule}
 use Rattle.ioa_system.specs.ResolvedPrograms.{scope_of}
 use Rattle.ioa_compose.specs.NodeState.{NodeState, node_state}
 use Rattle.ioa_compose.specs.StepFaults.{step_fault}
-use Rattle.ioa_system.specs.declared.program.Rule.{Rule}
 use Rattle.ioa_compose.specs.declared.fault.StepFault.{StepFault}
 use Rattle.ioa_compose.specs.declared.fault.StepFault.TheVariants.{NotEnabled, NotMine, Undefined}
 
@@ -65,7 +62,7 @@ constant_agrees (Err f) v = false
 -- a Nat here
 abbrev pub parameter_agrees : CheckedParameter → Data → Bool
 parameter_agrees (const t) v = constant_agrees (answer t []) v
-parameter_agrees (named d) v = has_shape (wide_shape (shape_of d.shape)) v
+parameter_agrees (named d) v = has_shape (wide_shape d.shape) v
 
 -- whether arguments are those of an entry's parameters: there are as many, and each parameter takes its own
 abbrev pub arguments_agree : List CheckedParameter → List Data → Bool
@@ -77,7 +74,7 @@ arguments_agree (p ∷ more) (v ∷ vs) = parameter_agrees p v && arguments_agre
 -- whether an argument holds no negative number where its sort says Nat
 abbrev pub is_natural : CheckedParameter → Data → Bool
 is_natural (const t) v = true
-is_natural (named d) v = has_shape (shape_of d.shape) v
+is_natural (named d) v = has_shape d.shape v
 
 -- whether no argument holds one, each beside its parameter
 abbrev pub are_natural : List CheckedParameter → List Data → Bool
@@ -142,15 +139,15 @@ step_answer n e t args b =
     (λ _. and_then (guard_answer e.condition b) (λ _. transition_answer n t b))
 
 -- the rule of an action: the first whose entry it is one of
-abbrev pub rule_for : Action → List Rule → Option Rule
-rule_for a rules = find (λ r. entry_agrees a (entry_of r.entry)) rules
+abbrev pub rule_for : Action → List PlainRule → Option PlainRule
+rule_for a rules = find (λ r. entry_agrees a r.entry) rules
 
 -- the values of a program's variables after an action, by the rule of that action
-abbrev pub rule_answer : Parts → List Data → Action → Option Rule → Result (List Data) StepFault
+abbrev pub rule_answer : Parts → List Data → Action → Option PlainRule → Result (List Data) StepFault
 rule_answer p vs a None = Err NotMine
 rule_answer p vs a (Some r) =
-    step_answer (length vs) (entry_of r.entry) (transition_of r.transition) (action_arguments a)
-    (entry_bindings (entry_of r.entry) (map variable_of p.variables) a vs)
+    step_answer (length vs) r.entry r.transition (action_arguments a)
+    (entry_bindings r.entry p.variables a vs)
 
 -- the values of a program's variables after an action, or why the action is no step
 abbrev pub program_answer : Parts → List Data → Action → Result (List Data) StepFault
@@ -161,8 +158,8 @@ unfoldable pub node_answer : NodeState → Action → Result NodeState StepFault
 node_answer c a = and_then (program_answer c.program c.variables a) (λ vs. Ok (node_state c.program vs))
 
 -- what the condition, the guard and the effect of a rule read by an action
-abbrev pub rule_bindings : Rule → Action → NodeState → Bindings
-rule_bindings r a c = entry_bindings (entry_of r.entry) (map variable_of c.program.variables) a c.variables
+abbrev pub rule_bindings : PlainRule → Action → NodeState → Bindings
+rule_bindings r a c = entry_bindings r.entry c.program.variables a c.variables
 
 -- a guard or a condition holds: there is none, or its value is true
 abbrev pub GuardHolds : Option CheckedTerm → Bindings → Type 0
@@ -173,13 +170,13 @@ GuardHolds (Some t) e = value t e ≡ Some (truth true)
 -- has the action, no argument holds a negative number where its sort says Nat, the entry's condition and the guard
 -- hold, and each state variable has its value after the effect; the program stays
 pub record IsNodeStep (a : Action) (c d : NodeState) : Type 0 where
-  pub rule : Rule
+  pub rule : PlainRule
   pub mine : rule_for a c.program.rules ≡ Some rule
-  pub natural : are_natural (entry_of rule.entry).parameters (action_arguments a) ≡ true
-  pub condition : GuardHolds (entry_of rule.entry).condition (rule_bindings rule a c)
-  pub guard : GuardHolds (transition_of rule.transition).pre (rule_bindings rule a c)
+  pub natural : are_natural rule.entry.parameters (action_arguments a) ≡ true
+  pub condition : GuardHolds rule.entry.condition (rule_bindings rule a c)
+  pub guard : GuardHolds rule.transition.pre (rule_bindings rule a c)
   pub left : Bindings
-  pub effect : after (transition_of rule.transition).effect (rule_bindings rule a c) ≡ Some left
+  pub effect : after rule.transition.effect (rule_bindings rule a c) ≡ Some left
   pub reached : d ≡ node_state c.program (take (length c.variables) (map (λ b. b.1) left))
 
 -- the results that a guard or a condition meets
@@ -188,14 +185,14 @@ numbers_met_by_guard None e = []
 numbers_met_by_guard (Some t) e = numbers_met t e
 
 -- the results that a rule meets: its entry's condition, its guard and its effect, one after another
-abbrev pub numbers_met_by_rule : Rule → Bindings → List Data
+abbrev pub numbers_met_by_rule : PlainRule → Bindings → List Data
 numbers_met_by_rule r e =
-    numbers_met_by_guard (entry_of r.entry).condition e
-    ++ (numbers_met_by_guard (transition_of r.transition).pre e
-    ++ numbers_met_by (transition_of r.transition).effect e)
+    numbers_met_by_guard r.entry.condition e
+    ++ (numbers_met_by_guard r.transition.pre e
+    ++ numbers_met_by r.transition.effect e)
 
 -- every number that the rule of an action meets lies within 64 bits (profile)
 abbrev pub FitsNodeStep : Action → NodeState → Type 0
 FitsNodeStep a c =
-    (r : Rule) → rule_for a c.program.rules ≡ Some r
+    (r : PlainRule) → rule_for a c.program.rules ≡ Some r
     → list_all is_within (numbers_met_by_rule r (rule_bindings r a c)) ≡ true

@@ -3,7 +3,7 @@
 ghost use Rattle.std.specs.Prelude.{◌≡◌, ◌++◌, ◌≤◌, [], ◌∷◌, IfOk, OnOk, IfSome, true, map, length};
 ghost use Rattle.std.specs.Option.{option_copied, option_map};
 ghost use Rattle.std.specs.List.{zip};
-ghost use Rattle.ioa_source.specs.TextView.{entry_of, transition_of, variable_of, parameter_of};
+ghost use Rattle.ioa_source.specs.TextView.{entry_of, parameter_of};
 ghost use Rattle.ioa_terms.specs.View.{term_of, statement_of};
 ghost use Rattle.ioa_values.specs.Data.{number};
 ghost use Rattle.ioa_values.specs.Outcome.{Answers};
@@ -186,8 +186,8 @@ pub fn rule_for<'a>(
 ) -> Result<Option<&'a Rule>, AllocError>
     requires { arguments.now ≡ spec.action_arguments action.now }
     ensures found { IfOk result (λ r. option_copied r ≡ spec.rule_for action.now program.now.rules) }
-    ensures resolved { IfOk result (λ r. IfSome r (λ x. IsResolvedRule (map variable_of program.now.variables) x.now)) }
-    ensures agrees { IfOk result (λ r. IfSome r (λ x. spec.entry_agrees action.now (entry_of x.now.entry) ≡ true)) }
+    ensures resolved { IfOk result (λ r. IfSome r (λ x. IsResolvedRule program.now.variables x.now)) }
+    ensures agrees { IfOk result (λ r. IfSome r (λ x. spec.entry_agrees action.now x.now.entry ≡ true)) }
 {
     for rule in program.rules() {
         if entry_agrees(alloc, &rule.entry, action, arguments)? {
@@ -225,17 +225,17 @@ fn take_transition(
     variables: &[Value],
 ) -> Result<Vec<Value>, StepFault>
     // the names in the rule are resolved, and each has a value
-    requires condition { IsResolvedGuard (entry_of rule.now.entry).condition rule.now.scope }
-    requires guard { IsResolvedGuard (transition_of rule.now.transition).pre rule.now.scope }
-    requires effect { AreResolved (transition_of rule.now.transition).effect rule.now.scope rule.now.scope }
+    requires condition { IsResolvedGuard rule.now.entry.condition rule.now.scope }
+    requires guard { IsResolvedGuard rule.now.transition.pre rule.now.scope }
+    requires effect { AreResolved rule.now.transition.effect rule.now.scope rule.now.scope }
     requires named { length rule.now.scope
-        ≡ length (variables.now ++ spec.own_values (entry_of rule.now.entry).parameters arguments.now) }
+        ≡ length (variables.now ++ spec.own_values rule.now.entry.parameters arguments.now) }
     // the new values, one for each variable
     ensures after { Answers StepFault.Memory (λ v. v.items) result
-        (spec.step_answer (length variables.now) (entry_of rule.now.entry) (transition_of rule.now.transition)
+        (spec.step_answer (length variables.now) rule.now.entry rule.now.transition
         arguments.now
         (zip rule.now.scope
-        (variables.now ++ spec.own_values (entry_of rule.now.entry).parameters arguments.now))) }
+        (variables.now ++ spec.own_values rule.now.entry.parameters arguments.now))) }
     ensures valued { IfOk result (λ v. length v.items ≡ length variables.now) }
 {
     pass_naturals(&rule.entry.parameters, arguments)?;

@@ -1,7 +1,4 @@
-use Rattle.std.proofs.Common.{ℕ, List, sym, subst, map, arith}
-use Rattle.ioa_operators.specs.declared.shape.Shape.{Shape}
-use Rattle.std.proofs.lemmas.List.{length-map}
-use Rattle.ioa_source.specs.TextView.{variable_of, entry_of, transition_of}
+use Rattle.std.proofs.Common.{ℕ, List, sym, subst, arith}
 use Rattle.ioa_terms.specs.Resolved.{AreResolved}
 use Rattle.ioa_terms.proofs.Slots.{resolved_widely}
 use Rattle.ioa_system.specs.ResolvedPrograms.{own_names, variable_names}
@@ -12,16 +9,15 @@ pub take_transition-requires-clause-named : goal.take_transition-requires-clause
 take_transition-requires-clause-named c =
     let resolved = rw c.in-Some.is at c.in_ok-rule_for.ensures.resolved in
     let agrees = rw c.in-Some.is at c.in_ok-rule_for.ensures.agrees in
-    let many = length-map c.args.program.now.variables (variable_of {N = ℕ} {D = Shape}) in
     rw (resolved.scope, c.deref-in-Some.ensures.value, c.in_ok-arguments.ensures)
-    (named_scope (entry_of c.in-Some.rule.now.entry) (map variable_of c.args.program.now.variables) c.args.variables.now c.args.action.now agrees (omega arith))
+    (named_scope c.in-Some.rule.now.entry c.args.program.now.variables c.args.variables.now c.args.action.now agrees (omega arith))
 
 -- the variables are the first of the names in view
 pub take_transition-requires-clause-effect : goal.take_transition-requires-clause-effect
 take_transition-requires-clause-effect c =
     let resolved = rw c.in-Some.is at c.in_ok-rule_for.ensures.resolved in
     let rule = c.in-Some.rule.now in
-    let effect = (transition_of rule.transition).effect in
-    let own = own_names (entry_of rule.entry).parameters in
+    let effect = rule.transition.effect in
+    let own = own_names rule.entry.parameters in
     subst (λ (ns : List (List ℕ)). AreResolved effect ns rule.scope) (sym resolved.scope)
-    (resolved_widely effect (variable_names (map variable_of c.args.program.now.variables)) own rule.scope resolved.effect)
+    (resolved_widely effect (variable_names c.args.program.now.variables) own rule.scope resolved.effect)
