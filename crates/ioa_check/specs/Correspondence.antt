@@ -2,33 +2,28 @@
 use Rattle.std.specs.Borrow.{Bor}
 use Rattle.std.specs.Prelude.{◌≡◌, ℕ, pos, Bool, true, false, ◌&&◌, List, [], ◌∷◌, ◌++◌, ◌+◌}
 use Rattle.std.specs.Prelude.{Option, Some, None, Result, Ok, Err, map, length, find, Contains}
-use Rattle.ioa_operators.specs.declared.shape.Shape.{Shape}
 use Rattle.std.specs.List.{AllByRecursion}
 use Rattle.ioa_values.specs.Data.{Data}
 use Rattle.ioa_terms.specs.Bindings.{same_name}
 use Rattle.ioa_terms.specs.Meaning.{answer}
 use Rattle.ioa_terms.specs.Performance.{target_shape}
 use Rattle.ioa_operators.specs.Shapes.{PlainShape, integers}
-use Rattle.ioa_operators.specs.ShapeView.{shape_of}
 use Rattle.ioa_source.specs.PlainSort.{PlainSort}
 use Rattle.ioa_source.specs.PlainSort as sort
 use Rattle.ioa_terms.specs.PlainTerm.{assign, choose, fire}
 use Rattle.ioa_operators.specs.declared.fault.TermFault.{TermFault}
 use Rattle.ioa_operators.specs.declared.fault.TermFault.TheVariants.{Undefined}
-use Rattle.ioa_source.specs.declared.declaration.Variable.{Variable}
 use Rattle.ioa_terms.specs.declared.tree.Kind.{Kind}
 use Rattle.ioa_terms.specs.declared.tree.Kind.TheVariants.{Input, Output, Internal}
-use Rattle.ioa_terms.specs.View.{statement_of}
-use Rattle.ioa_source.specs.TextView.{entry_of, variable_of, transition_of, node_of}
+use Rattle.ioa_source.specs.TextView.{node_of}
 use Rattle.ioa_source.specs.Erasure.{erase_entry, erase_variable, erase_transition, erase_statement}
 use Rattle.ioa_source.specs.PlainText.{PlainEntry, PlainTransition, const, named}
 use Rattle.ioa_source.specs.PlainText as plain
 use Rattle.ioa_source.specs.declared.declaration.Node.{Node}
 use Rattle.ioa_source.specs.declared.declaration.Channel.{Channel}
-use Rattle.ioa_source.specs.Sides.{CheckedDeclared, CheckedParameter, CheckedStatement, CheckedTerm}
+use Rattle.ioa_source.specs.Sides.{CheckedDeclared, CheckedParameter, CheckedStatement, CheckedTerm, CheckedVariable}
 use Rattle.ioa_source.specs.Sides.{SourceAutomaton, SourceDeclaration, SourceNode, SourcePlacement, SourceText}
-use Rattle.ioa_system.specs.declared.program.Rule.{Rule}
-use Rattle.ioa_system.specs.Parts.{Parts}
+use Rattle.ioa_system.specs.Parts.{Parts, PlainRule}
 use Rattle.ioa_system.specs.Systems.{SystemParts}
 
 -- whether two kinds are the same
@@ -60,7 +55,7 @@ IsShapeOf _ s = ⊥
 
 -- a declared name has the shape of its sort
 abbrev pub HasItsShape : CheckedDeclared → Type 0
-HasItsShape d = IsShapeOf d.sort (shape_of d.shape)
+HasItsShape d = IsShapeOf d.sort d.shape
 
 -- the same, of a parameter that has a name
 abbrev pub HasParameterShape : CheckedParameter → Type 0
@@ -73,29 +68,28 @@ term_answer None = Err Undefined
 term_answer (Some t) = answer t []
 
 -- a rule of an automaton: its transition is the one of its entry
-abbrev pub IsRuleOf : SourceAutomaton → Rule → Type 0
-IsRuleOf a r =
-    transition_for (erase_entry (entry_of r.entry)) a.transitions ≡ Some (erase_transition (transition_of r.transition))
+abbrev pub IsRuleOf : SourceAutomaton → PlainRule → Type 0
+IsRuleOf a r = transition_for (erase_entry r.entry) a.transitions ≡ Some (erase_transition r.transition)
 
 -- a rule in which each named parameter and each assigned variable has the shape of its sort
-pub record HasIntegers (r : Rule) : Type 0 where
-  pub parameters : AllByRecursion HasParameterShape (entry_of r.entry).parameters
-  pub effect : AllByRecursion AssignsInteger (transition_of r.transition).effect
+pub record HasIntegers (r : PlainRule) : Type 0 where
+  pub parameters : AllByRecursion HasParameterShape r.entry.parameters
+  pub effect : AllByRecursion AssignsInteger r.transition.effect
 
 -- the value or the fault of a state variable's initial term, which reads no name
-abbrev pub initial_answer : Variable ℕ Shape → Result Data TermFault
-initial_answer v = term_answer (variable_of v).initial
+abbrev pub initial_answer : CheckedVariable → Result Data TermFault
+initial_answer v = term_answer v.initial
 
 -- a program of an automaton: without its annotations it is the automaton as the text has it, and each declared name has
 -- the shape of its sort
 pub record IsProgramOf (a : SourceAutomaton) (p : Parts) : Type 0 where
-  pub signature : map (λ r. erase_entry (entry_of r.entry)) p.rules ≡ a.signature
+  pub signature : map (λ r. erase_entry r.entry) p.rules ≡ a.signature
   pub transitions : AllByRecursion (IsRuleOf a) p.rules
   pub shapes : AllByRecursion HasIntegers p.rules
-  pub states : map erase_variable (map variable_of p.variables) ≡ a.states
-  pub sorts : AllByRecursion (λ v. HasItsShape v.declared) (map variable_of p.variables)
+  pub states : map erase_variable p.variables ≡ a.states
+  pub sorts : AllByRecursion (λ v. HasItsShape v.declared) p.variables
   pub initial : map initial_answer p.variables ≡ map Ok p.initial
-  pub schedule : map erase_statement (map statement_of p.schedule) ≡ a.schedule
+  pub schedule : map erase_statement p.schedule ≡ a.schedule
 
 -- the automaton that a declaration declares, if it declares one
 abbrev pub automaton_in : SourceDeclaration → List SourceAutomaton

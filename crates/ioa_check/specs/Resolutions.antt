@@ -5,14 +5,13 @@ use Rattle.std.specs.Prelude.{◌≡◌, ℕ, true, List, [], Option, map, take,
 use Rattle.std.specs.List.{AllByRecursion, list_all}
 use Rattle.std.specs.Option.{is_some, option_map}
 use Rattle.ioa_terms.specs.Resolved.{IsResolved, IsResolvedStatement, AreResolved}
-use Rattle.ioa_source.specs.TextView.{entry_of}
 use Rattle.ioa_source.specs.Erasure.{erase_term, erase_statement, erase_parameter}
 use Rattle.ioa_source.specs.Erasure.{erase_entry, erase_variable, erase_transition}
 use Rattle.ioa_source.specs.Sides.{SourceTerm, SourceTarget, SourceStatement, SourceParameter}
 use Rattle.ioa_source.specs.Sides.{SourceEntry, SourceVariable, SourceTransition, SourceAutomaton}
 use Rattle.ioa_source.specs.Sides.{CheckedTerm, CheckedStatement, CheckedParameter}
 use Rattle.ioa_source.specs.Sides.{CheckedEntry, CheckedVariable, CheckedTransition}
-use Rattle.ioa_system.specs.declared.program.Rule.{Rule}
+use Rattle.ioa_system.specs.Parts.{PlainRule}
 use Rattle.ioa_system.specs.ResolvedPrograms.{IsResolvedGuard, AreResolvedTerms, IsResolvedRule}
 use Rattle.ioa_system.specs.ResolvedPrograms.{IsResolvedParameter, AreResolvedParameters, AreResolvedVariables}
 use Rattle.ioa_system.specs.ResolvedPrograms.{IsResolvedFiring, AreResolvedFirings}
@@ -188,15 +187,15 @@ FailsOfTransition count names t = Fails (is_known_transition (take count names) 
 
 -- the rule of an entry of an automaton with these state variables
 pub record IsRuleFor
-    (variables : List CheckedVariable) (a : SourceAutomaton) (e : SourceEntry) (r : Rule) : Type 0 where
+    (variables : List CheckedVariable) (a : SourceAutomaton) (e : SourceEntry) (r : PlainRule) : Type 0 where
   pub resolved : IsResolvedRule variables r
-  pub entry : erase_entry (entry_of r.entry) ≡ e
+  pub entry : erase_entry r.entry ≡ e
   pub transition : IsRuleOf a r
   pub shapes : HasIntegers r
 
 -- the rules of an automaton with these state variables, one for each entry
-pub record AreRulesFor (variables : List CheckedVariable) (a : SourceAutomaton) (rs : List Rule) : Type 0 where
+pub record AreRulesFor (variables : List CheckedVariable) (a : SourceAutomaton) (rs : List PlainRule) : Type 0 where
   pub resolved : All (IsResolvedRule variables) rs
-  pub signature : map (λ r. erase_entry (entry_of r.entry)) rs ≡ a.signature
+  pub signature : map (λ r. erase_entry r.entry) rs ≡ a.signature
   pub transitions : AllByRecursion (IsRuleOf a) rs
   pub shapes : AllByRecursion HasIntegers rs

@@ -121,7 +121,7 @@ fn initial_values(
 ) -> Result<Vec<Value>, Refusal>
     requires { AreResolvedVariables (map variable_of variables.now) }
     ensures many { IfOk result (λ vs. length vs.items ≡ length variables.now) }
-    ensures values { IfOk result (λ vs. map initial_answer variables.now ≡ map Ok vs.items) }
+    ensures values { IfOk result (λ vs. map initial_answer (map variable_of variables.now) ≡ map Ok vs.items) }
     ensures refused { IfRefused result (StandsInInitials variables.now) }
 {
     let mut values = Vec::new(alloc);

@@ -11,7 +11,6 @@ ghost use Rattle.ioa_source.specs.Erasure.{erase_declared, erase_target, erase_t
 ghost use Rattle.ioa_terms.specs.Performance.{target_shape};
 ghost use Rattle.ioa_terms.specs.Resolved.{IsResolved, IsResolvedTarget};
 ghost use Rattle.ioa_operators.specs.Shapes.{integers};
-ghost use Rattle.ioa_operators.specs.ShapeView.{shape_of};
 ghost use Rattle.ioa_system.specs.ResolvedPrograms.{IsResolvedGuard};
 ghost use Rattle.ioa_check.specs.Correspondence.{HasItsShape, IsShapeOf};
 ghost use Rattle.ioa_check.specs.FirstForm.{is_first_sort};
@@ -29,7 +28,7 @@ use crate::first_form::is_first_operator;
 use crate::refusal::{Refusal, Row};
 use ioa_source::{Declared, Entry, Parameter, Sort, Variable};
 use ioa_system::Scope;
-use ioa_terms::{BinaryOperator, Checked, Shape, Statement, Target, Term, Word};
+use ioa_terms::{BinaryOperator, Checked, Shape, ShapeForm, Statement, Target, Term, Word};
 use std::alloc::Global;
 
 /// Resolves a term of the form that runs today: each name gets its slot among those in view.
@@ -106,7 +105,7 @@ fn resolve_target(
         return Err(Refusal::Row(Row::Unknown));
     };
     if slot < count {
-        Ok(Target::Variable(name.try_copy(alloc)?, slot, Shape::Integers))
+        Ok(Target::Variable(name.try_copy(alloc)?, slot, Shape::of(ShapeForm::Integers)))
     } else {
         Err(Refusal::Row(Row::Unknown))
     }
@@ -231,11 +230,11 @@ pub(crate) fn resolve_schedule(
 
 /// The shape of a sort of the form that runs today.
 fn shape_of_sort(sort: &Sort) -> Result<Shape, Refusal>
-    ensures shape { IfOk result (λ s. IsShapeOf (sort_of sort.now) (shape_of s)) }
+    ensures shape { IfOk result (λ s. IsShapeOf (sort_of sort.now) s) }
     ensures refused { IfRefused result (Fails (is_first_sort (sort_of sort.now)) true) }
 {
     match sort {
-        Sort::Int => Ok(Shape::Integers),
+        Sort::Int => Ok(Shape::of(ShapeForm::Integers)),
         _ => Err(Refusal::Row(Row::Unknown)),
     }
 }

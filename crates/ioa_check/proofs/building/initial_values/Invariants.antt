@@ -8,6 +8,6 @@ use Rattle.ioa_check.proofs.building.initial_values.Given as goal
 abbrev pub invariant-loop-variable : goal.invariant-loop-variable
 invariant-loop-variable l = record {
   many : length l.values.items ≡ l.variable-index;
-  values : map initial_answer (take l.variable-index l.variables) ≡ map Ok l.values.items;
+  values : map initial_answer (map variable_of (take l.variable-index l.variables)) ≡ map Ok l.values.items;
   resolved : AreResolvedVariables (map variable_of (drop l.variable-index l.variables));
 }

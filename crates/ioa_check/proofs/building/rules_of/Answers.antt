@@ -2,7 +2,7 @@ use Rattle.std.proofs.Common.{◌<◌, map, length}
 use Rattle.std.proofs.lemmas.List.Elements.{All-push}
 use Rattle.ioa_source.specs.Erasure.{erase_entry}
 use Rattle.ioa_source.specs.TextView.{automaton_of, entry_of, variable_of}
-use Rattle.ioa_system.specs.declared.program.Rule.{Rule}
+use Rattle.ioa_system.specs.Parts.{PlainRule}
 use Rattle.ioa_system.specs.ResolvedPrograms.{IsResolvedRule, variable_names}
 use Rattle.ioa_check.specs.Rows.{HasNoEntryRow}
 use Rattle.ioa_check.specs.Correspondence.{HasIntegers, IsRuleOf}
@@ -19,7 +19,7 @@ loop-entry-preserved c =
     let within : i < length c.args.automaton.now.signature.items = rw c.deref-entry-items.ensures.value at c.loop-entry-test.true in
     record {
       resolved = rw c.in_ok-push.ensures.items (All-push (IsResolvedRule (map variable_of c.args.variables.now)) rules c.in_ok-rule.rule c.loop-entry.invariant.resolved c.in_ok-rule.ensures.made.resolved);
-      signature = rw c.in_ok-push.ensures.items (next_push (λ (r : Rule). erase_entry (entry_of r.entry)) entry_of rules c.in_ok-rule.rule c.args.automaton.now.signature.items i c.entry-item.result c.loop-entry.invariant.signature c.in_ok-rule.ensures.made.entry within (rw c.deref-entry-items.ensures.value at c.entry-item.is));
+      signature = rw c.in_ok-push.ensures.items (next_push (λ (r : PlainRule). erase_entry r.entry) entry_of rules c.in_ok-rule.rule c.args.automaton.now.signature.items i c.entry-item.result c.loop-entry.invariant.signature c.in_ok-rule.ensures.made.entry within (rw c.deref-entry-items.ensures.value at c.entry-item.is));
       transitions = rw c.in_ok-push.ensures.items (each_append (IsRuleOf (automaton_of c.args.automaton.now)) rules c.in_ok-rule.rule c.loop-entry.invariant.transitions c.in_ok-rule.ensures.made.transition);
       shapes = rw c.in_ok-push.ensures.items (each_append HasIntegers rules c.in_ok-rule.rule c.loop-entry.invariant.shapes c.in_ok-rule.ensures.made.shapes);
       rows = each_take (HasNoEntryRow (variable_names (map variable_of c.args.variables.now)) (automaton_of c.args.automaton.now).transitions) entry_of c.args.automaton.now.signature.items i c.entry-item.result c.loop-entry.invariant.rows c.in_ok-rule.ensures.rows within (rw c.deref-entry-items.ensures.value at c.entry-item.is);

@@ -11,7 +11,7 @@ use Rattle.ioa_check.proofs.building.rules_of.Given as goal
 abbrev pub invariant-loop-entry : goal.invariant-loop-entry
 invariant-loop-entry l = record {
   resolved : All (IsResolvedRule (map variable_of l.variables)) l.rules.items;
-  signature : map (λ r. erase_entry (entry_of r.entry)) l.rules.items ≡ map entry_of (take l.entry-index l.automaton.signature.items);
+  signature : map (λ r. erase_entry r.entry) l.rules.items ≡ map entry_of (take l.entry-index l.automaton.signature.items);
   transitions : AllByRecursion (IsRuleOf (automaton_of l.automaton)) l.rules.items;
   shapes : AllByRecursion HasIntegers l.rules.items;
   rows : AllByRecursion (HasNoEntryRow (variable_names (map variable_of l.variables)) (automaton_of l.automaton).transitions) (map entry_of (take l.entry-index l.automaton.signature.items));
