@@ -1,7 +1,7 @@
 //! What operators, functions, displays and fields make, as text.
 
 use ioa_operators::{
-    BinaryOperator, DisplayForm, Function, Shape, TermFault, UnaryOperator, binary, call, display,
+    BinaryOperator, DisplayForm, Function, Shape, ShapeForm, TermFault, UnaryOperator, binary, call, display,
     field, left_decision, replace_field, unary,
 };
 use ioa_values::{Names, Value, Word, show};
@@ -68,7 +68,7 @@ fn sequence(alloc: Global, numbers: &[i64]) -> Result<Value, AllocError> {
 
 /// The set of numbers, as its display gives it.
 fn set(alloc: Global, numbers: &[i64]) -> Result<Value, TermFault> {
-    let members = Shape::Sets(Arc::new(alloc, Shape::Integers)?);
+    let members = Shape::of(ShapeForm::Sets(Arc::new(alloc, Shape::of(ShapeForm::Integers))?));
     display(
         alloc,
         DisplayForm::Braces,
@@ -79,9 +79,9 @@ fn set(alloc: Global, numbers: &[i64]) -> Result<Value, TermFault> {
 
 /// The map of two keys, made of the empty one.
 fn map(alloc: Global) -> Result<Value, TermFault> {
-    let keys = Arc::new(alloc, Shape::Integers)?;
-    let values = Arc::new(alloc, Shape::Integers)?;
-    let shape = Shape::Maps(keys, values);
+    let keys = Arc::new(alloc, Shape::of(ShapeForm::Integers))?;
+    let values = Arc::new(alloc, Shape::of(ShapeForm::Integers))?;
+    let shape = Shape::of(ShapeForm::Maps(keys, values));
     let empty = display(alloc, DisplayForm::Braces, &shape, Vec::new(alloc))?;
     let one = update(alloc, empty, 5, 50)?;
     update(alloc, one, 3, 30)
@@ -113,8 +113,8 @@ fn pair(alloc: Global) -> Result<Shape, AllocError> {
     let first = Word::from_ascii(alloc, b"a")?;
     let second = Word::from_ascii(alloc, b"b")?;
     let names = Arc::new(alloc, vec![in alloc; first, second]?)?;
-    let shapes = Arc::new(alloc, vec![in alloc; Shape::Naturals, Shape::Truths]?)?;
-    Ok(Shape::Tuples(name, names, shapes))
+    let shapes = Arc::new(alloc, vec![in alloc; Shape::of(ShapeForm::Naturals), Shape::of(ShapeForm::Truths)]?)?;
+    Ok(Shape::of(ShapeForm::Tuples(name, names, shapes)))
 }
 
 #[test]
@@ -267,27 +267,27 @@ fn copied_shapes(rt: HostRuntime) -> Result<(), Fail> {
     let number = Value::number(-7);
     let truth = Value::truth(true);
     let natural = Value::number(7);
-    assert!(rt; copy_tells(alloc, &Shape::Truths, &truth, &number)?);
-    assert!(rt; copy_tells(alloc, &Shape::Integers, &number, &truth)?);
-    assert!(rt; copy_tells(alloc, &Shape::Naturals, &natural, &number)?);
+    assert!(rt; copy_tells(alloc, &Shape::of(ShapeForm::Truths), &truth, &number)?);
+    assert!(rt; copy_tells(alloc, &Shape::of(ShapeForm::Integers), &number, &truth)?);
+    assert!(rt; copy_tells(alloc, &Shape::of(ShapeForm::Naturals), &natural, &number)?);
     let name = Word::from_ascii(alloc, b"Color")?;
-    let colors = Shape::Constants(name, 2, 3);
+    let colors = Shape::of(ShapeForm::Constants(name, 2, 3));
     let last = Value::constant(4);
     let next = Value::constant(5);
     assert!(rt; copy_tells(alloc, &colors, &last, &next)?);
-    let naturals = Arc::new(alloc, Shape::Naturals)?;
+    let naturals = Arc::new(alloc, Shape::of(ShapeForm::Naturals))?;
     let some = sequence(alloc, &[1, 2])?;
     let bad = sequence(alloc, &[1, -2])?;
-    assert!(rt; copy_tells(alloc, &Shape::Sequences(naturals), &some, &bad)?);
-    let naturals = Arc::new(alloc, Shape::Naturals)?;
+    assert!(rt; copy_tells(alloc, &Shape::of(ShapeForm::Sequences(naturals)), &some, &bad)?);
+    let naturals = Arc::new(alloc, Shape::of(ShapeForm::Naturals))?;
     let some = set(alloc, &[1, 2])?;
     let bad = set(alloc, &[1, -2])?;
-    assert!(rt; copy_tells(alloc, &Shape::Sets(naturals), &some, &bad)?);
-    let keys = Arc::new(alloc, Shape::Naturals)?;
-    let values = Arc::new(alloc, Shape::Integers)?;
+    assert!(rt; copy_tells(alloc, &Shape::of(ShapeForm::Sets(naturals)), &some, &bad)?);
+    let keys = Arc::new(alloc, Shape::of(ShapeForm::Naturals))?;
+    let values = Arc::new(alloc, Shape::of(ShapeForm::Integers))?;
     let some = update(alloc, map(alloc)?, 4, -40)?;
     let bad = update(alloc, map(alloc)?, -4, 40)?;
-    assert!(rt; copy_tells(alloc, &Shape::Maps(keys, values), &some, &bad)?);
+    assert!(rt; copy_tells(alloc, &Shape::of(ShapeForm::Maps(keys, values)), &some, &bad)?);
     Ok(())
 }
 

@@ -9,7 +9,7 @@ ghost use Rattle.ioa_terms.specs.PlainTerm.{terms_of, statements_of, arms_of};
 ghost use Rattle.ioa_terms.specs.View.{term_of, target_of, statement_of, arm_of};
 
 use ioa_terms::{
-    Action, Arm, BinaryOperator, Checked, DisplayForm, Env, Names, NodeAction, Shape, Statement,
+    Action, Arm, BinaryOperator, Checked, DisplayForm, Env, Names, NodeAction, Shape, ShapeForm, Statement,
     Target, TermFault, UnaryOperator, Value, Values, Word, eval, perform, push_listed, show,
     show_action, show_node_action,
 };
@@ -226,24 +226,24 @@ fn pairs(alloc: Global) -> Result<Shape, Fail> {
     names.push(word(alloc, "a")?)?;
     names.push(word(alloc, "b")?)?;
     let mut shapes = Vec::new(alloc);
-    shapes.push(Shape::Integers)?;
-    shapes.push(Shape::Naturals)?;
-    Ok(Shape::Tuples(
+    shapes.push(Shape::of(ShapeForm::Integers))?;
+    shapes.push(Shape::of(ShapeForm::Naturals))?;
+    Ok(Shape::of(ShapeForm::Tuples(
         word(alloc, "Pair")?,
         Arc::new(alloc, names)?,
         Arc::new(alloc, shapes)?,
-    ))
+    )))
 }
 
 /// A display of a kind, or else a function.
 fn display_or_call(alloc: Global, kind: &str, parts: Vec<Checked>) -> Result<Checked, Fail> {
-    let integers = Arc::new(alloc, Shape::Integers)?;
+    let integers = Arc::new(alloc, Shape::of(ShapeForm::Integers))?;
     match kind {
-        "seq" => Ok(Checked::Display(DisplayForm::Braces, Shape::Sequences(integers), parts)),
-        "set" => Ok(Checked::Display(DisplayForm::Braces, Shape::Sets(integers), parts)),
+        "seq" => Ok(Checked::Display(DisplayForm::Braces, Shape::of(ShapeForm::Sequences(integers)), parts)),
+        "set" => Ok(Checked::Display(DisplayForm::Braces, Shape::of(ShapeForm::Sets(integers)), parts)),
         "map" => {
-            let values = Arc::new(alloc, Shape::Integers)?;
-            Ok(Checked::Display(DisplayForm::Braces, Shape::Maps(integers, values), parts))
+            let values = Arc::new(alloc, Shape::of(ShapeForm::Integers))?;
+            Ok(Checked::Display(DisplayForm::Braces, Shape::of(ShapeForm::Maps(integers, values)), parts))
         }
         "pair" => Ok(Checked::Display(DisplayForm::Brackets, pairs(alloc)?, parts)),
         _ => Ok(Checked::Call(word(alloc, kind)?, parts)),
@@ -469,13 +469,13 @@ fn terms(rt: HostRuntime) -> Result<(), Fail> {
 /// The shape of a variable of the tests of effects.
 fn shape_of_variable(alloc: Global, name: &str) -> Result<Shape, Fail> {
     match name {
-        "n" => Ok(Shape::Naturals),
-        "m" => Ok(Shape::Maps(
-            Arc::new(alloc, Shape::Integers)?,
-            Arc::new(alloc, Shape::Integers)?,
-        )),
+        "n" => Ok(Shape::of(ShapeForm::Naturals)),
+        "m" => Ok(Shape::of(ShapeForm::Maps(
+            Arc::new(alloc, Shape::of(ShapeForm::Integers))?,
+            Arc::new(alloc, Shape::of(ShapeForm::Integers))?,
+        ))),
         "p" => pairs(alloc),
-        _ => Ok(Shape::Integers),
+        _ => Ok(Shape::of(ShapeForm::Integers)),
     }
 }
 

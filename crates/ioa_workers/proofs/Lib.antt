@@ -1,5 +1,6 @@
 -- lemmas of workers
 mod Elements
+mod Nexts
 mod Termination
 mod Rounds
 mod Runs

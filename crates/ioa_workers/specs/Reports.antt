@@ -2,14 +2,13 @@
 use Rattle.std.specs.Prelude.{ℕ, ℤ, ◌+◌, List, [], ◌∷◌, ◌++◌, map, length, sum, codes}
 use Rattle.std.specs.Fmt.{decimal, signed_decimal}
 use Rattle.std.specs.List.{flat_map}
-use Rattle.ioa_operators.specs.declared.shape.Shape.{Shape}
 use Rattle.ioa_values.specs.Data.{Data}
 use Rattle.ioa_values.specs.Text.{text, with_commas}
 use Rattle.ioa_terms.specs.ActionText.{action_text, node_action_text}
 use Rattle.ioa_terms.specs.declared.action.Action.{Action}
 use Rattle.ioa_terms.specs.declared.component.Component.{Component}
 use Rattle.ioa_terms.specs.declared.component.Component.TheVariants as component
-use Rattle.ioa_source.specs.declared.declaration.Variable.{Variable}
+use Rattle.ioa_source.specs.Sides.{CheckedVariable}
 use Rattle.ioa_compose.specs.declared.configuration.Conf.{Conf}
 use Rattle.ioa_compose.specs.declared.configuration.Conf.TheVariants.{Node, Queue}
 use Rattle.ioa_compose.specs.declared.queue.Item.{Item}
@@ -35,7 +34,7 @@ variable_line names i x v =
     codes "node " ++ (signed_decimal i ++ (codes " " ++ (x ++ (codes " = " ++ (text names v ++ codes "\n")))))
 
 -- one line a variable, in the order of their declaration
-abbrev pub variable_lines : List (List ℕ) → ℤ → List Data → List (Variable ℕ Shape) → List ℕ
+abbrev pub variable_lines : List (List ℕ) → ℤ → List Data → List CheckedVariable → List ℕ
 variable_lines names i [] xs = []
 variable_lines names i (v ∷ vs) [] = []
 variable_lines names i (v ∷ vs) (x ∷ xs) = variable_line names i x.declared.name v ++ variable_lines names i vs xs

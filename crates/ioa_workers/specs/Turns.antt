@@ -12,8 +12,6 @@ use Rattle.ioa_terms.specs.declared.action.Action.{Action}
 use Rattle.ioa_terms.specs.declared.action.Action.TheVariants.{Send, Receive, Local, Stimulus}
 use Rattle.ioa_operators.specs.declared.fault.TermFault.{TermFault}
 use Rattle.ioa_operators.specs.declared.fault.TermFault.TheVariants.{Undefined}
-use Rattle.ioa_terms.specs.View.{statement_of}
-use Rattle.ioa_source.specs.TextView.{variable_of}
 use Rattle.ioa_source.specs.Sides.{CheckedStatement, CheckedTerm}
 use Rattle.ioa_system.specs.ResolvedPrograms.{variable_names}
 use Rattle.ioa_compose.specs.NodeState.{NodeState}
@@ -22,7 +20,7 @@ use Rattle.ioa_workers.specs.declared.turn.Turn.TheVariants.{Fire, Done}
 
 -- what a block reads: the node's variables with their values
 abbrev pub block_bindings : NodeState → Bindings
-block_bindings c = zip (variable_names (map variable_of c.program.variables)) c.variables
+block_bindings c = zip (variable_names c.program.variables) c.variables
 
 -- the values of terms in order, or the first fault among them
 abbrev pub answers : List CheckedTerm → Bindings → Result (List Data) TermFault
@@ -60,7 +58,7 @@ turn_answer k e (s ∷ more) = statement_answer k e s
 
 -- the result of a turn of a node that has passed the first n statements of its block
 abbrev pub node_turn : NodeState → ℕ → Result Turn TermFault
-node_turn c n = turn_answer c.program.node (block_bindings c) (map statement_of (drop n c.program.schedule))
+node_turn c n = turn_answer c.program.node (block_bindings c) (drop n c.program.schedule)
 
 -- the node of an action
 abbrev pub firing_node : Action → ℤ

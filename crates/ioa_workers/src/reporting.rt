@@ -1,6 +1,7 @@
 //! The report of a run.
 
 ghost use Rattle.std.specs.Prelude.{◌≡◌, IfOk, OnOk, map, string_bytes};
+ghost use Rattle.ioa_source.specs.TextView.{variable_of};
 ghost use Rattle.ioa_values.specs.Text.{with_commas};
 ghost use Rattle.ioa_values.specs.Outcome.{Writes};
 ghost use Rattle.ioa_workers.specs.Reports.{report_text, schedule_text, action_lines, states_text};
@@ -108,7 +109,8 @@ fn push_variables(
     variables: &[Variable<usize, Shape>],
     report: &mut String,
 ) -> Result<(), AllocError>
-    ensures { OnOk result (Writes report.old report.new (variable_lines names.now node values.now variables.now)) }
+    ensures { OnOk result (Writes report.old report.new
+        (variable_lines names.now node values.now (map variable_of variables.now))) }
 {
     for (position, value) in values.iter().enumerate() {
         let Some(variable) = variables.get(position) else {

@@ -46,7 +46,7 @@ fn fire(
     statement: &Statement<usize, Shape>,
 ) -> Result<Turn, TermFault>
     requires { IsResolvedFiring (statement_of statement.now)
-        (variable_names (map variable_of node.now.program.variables)) }
+        (variable_names node.now.program.variables) }
     ensures { Answers TermFault.Memory (λ t. t) result
         (statement_answer node.now.program.node (block_bindings node.now) (statement_of statement.now)) }
 {
@@ -62,7 +62,7 @@ fn fire(
 /// The values of terms over a node's variables, in order.
 fn arguments_of(alloc: Global, node: &NodeConf, terms: &[Checked]) -> Result<Vec<Value>, TermFault>
     requires { AreResolvedTerms (map term_of terms.now)
-        (variable_names (map variable_of node.now.program.variables)) }
+        (variable_names node.now.program.variables) }
     ensures { Answers TermFault.Memory (λ v. v.items) result
         (answers (map term_of terms.now) (block_bindings node.now)) }
 {
