@@ -7,7 +7,7 @@ use Rattle.ioa_values.specs.Data.{Data}
 use Rattle.std.proofs.lemmas.List.{length-map}
 use Rattle.std.proofs.Math.Bool.{and-false}
 use Rattle.ioa_terms.specs.Bindings.{same_name}
-use Rattle.ioa_terms.specs.declared.action.Action.{Action}
+use Rattle.ioa_actions.specs.declared.action.Action.{Action}
 use Rattle.ioa_source.specs.PlainText.{const, named}
 use Rattle.ioa_source.specs.Sides.{CheckedEntry, CheckedParameter, CheckedVariable}
 use Rattle.ioa_system.specs.ResolvedPrograms.{own_names, variable_names, scope_of}

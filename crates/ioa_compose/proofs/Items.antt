@@ -1,7 +1,7 @@
 -- Items that are told to be the same are equal.
 use Rattle.std.proofs.Common.{◌≡◌, Bool, true, false, List, [], ◌∷◌, Ok, Err, if◌then◌else◌, refl, ap}
 use Rattle.std.specs.Prelude.{◌↔◌, IsTrue}
-use Rattle.ioa_terms.proofs.SameActions.{same_node_action_is}
+use Rattle.ioa_actions.proofs.SameActions.{same_node_action_is}
 use Rattle.ioa_values.proofs.Equality.{same_equal, same_itself}
 use Rattle.ioa_compose.specs.declared.queue.Item.{Item}
 use Rattle.ioa_compose.specs.declared.queue.Item.TheVariants.{Message, Stimulus}

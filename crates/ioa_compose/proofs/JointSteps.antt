@@ -3,8 +3,8 @@ use Rattle.std.proofs.Common.{◌≡◌, Bool, true, false, ◌||◌, List, [], 
 use Rattle.std.specs.List.{list_any}
 use Rattle.std.specs.Option.{is_none}
 use Rattle.ioa_values.specs.Outcome.{and_then}
-use Rattle.ioa_terms.specs.declared.component.Component.{Component}
-use Rattle.ioa_terms.specs.declared.action.Action.{Action}
+use Rattle.ioa_actions.specs.declared.component.Component.{Component}
+use Rattle.ioa_actions.specs.declared.action.Action.{Action}
 use Rattle.ioa_compose.specs.declared.configuration.Conf.{Conf}
 use Rattle.ioa_compose.specs.declared.fault.StepFault.{StepFault}
 use Rattle.ioa_compose.specs.declared.fault.StepFault.TheVariants.{NoChannel}

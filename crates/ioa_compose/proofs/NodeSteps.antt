@@ -10,7 +10,7 @@ use Rattle.ioa_terms.specs.Bindings.{Bindings}
 use Rattle.ioa_operators.specs.RangeCheck.{range_check}
 use Rattle.ioa_terms.specs.Meaning.{value, numbers_met, answer}
 use Rattle.ioa_terms.specs.Performance.{after, numbers_met_by, answer_by}
-use Rattle.ioa_terms.specs.declared.action.Action.{Action}
+use Rattle.ioa_actions.specs.declared.action.Action.{Action}
 use Rattle.ioa_operators.specs.declared.fault.TermFault.{TermFault}
 use Rattle.ioa_operators.specs.declared.fault.TermFault.TheVariants as term
 use Rattle.ioa_source.specs.Sides.{CheckedEntry, CheckedTerm, CheckedTransition}

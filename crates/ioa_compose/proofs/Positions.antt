@@ -1,7 +1,7 @@
 -- The position of a component among configurations.
 use Rattle.std.proofs.Common.{◌≡◌, ℕ, suc, ◌+◌, ◌-◌, ◌<◌, ◌≤◌, Bool, true, false, List, [], ◌∷◌, ◌++◌, Some, None, refl, ap, length, set, arith, if◌then◌else◌}
 use Rattle.std.specs.List.{position_from}
-use Rattle.ioa_terms.specs.declared.component.Component.{Component}
+use Rattle.ioa_actions.specs.declared.component.Component.{Component}
 use Rattle.ioa_compose.specs.declared.configuration.Conf.{Conf}
 use Rattle.ioa_compose.specs.Participants.{same_component}
 use Rattle.ioa_compose.specs.Composition.{component_of, put_conf, put_confs}

@@ -1,6 +1,6 @@
 -- Executions projected on their components.
 use Rattle.std.proofs.Common.{◌≡◌, Bool, true, false, List, [], ◌∷◌, Some, Result, Ok, Err, refl, ◌∙◌}
-use Rattle.ioa_terms.specs.declared.action.Action.{Action}
+use Rattle.ioa_actions.specs.declared.action.Action.{Action}
 use Rattle.ioa_compose.specs.declared.configuration.Conf.{Conf}
 use Rattle.ioa_compose.specs.declared.fault.StepFault.{StepFault}
 use Rattle.ioa_compose.specs.Participants.{takes_part}

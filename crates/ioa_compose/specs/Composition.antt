@@ -4,9 +4,9 @@ use Rattle.std.specs.Prelude.{◌≡◌, true, false, if◌then◌else◌, List,
 use Rattle.std.specs.Prelude.{Option, Some, None, Result, Ok, Err, is_none}
 use Rattle.std.specs.List.{list_any}
 use Rattle.ioa_values.specs.Outcome.{and_then}
-use Rattle.ioa_terms.specs.declared.component.Component.{Component}
-use Rattle.ioa_terms.specs.declared.component.Component.TheVariants as component
-use Rattle.ioa_terms.specs.declared.action.Action.{Action}
+use Rattle.ioa_actions.specs.declared.component.Component.{Component}
+use Rattle.ioa_actions.specs.declared.component.Component.TheVariants as component
+use Rattle.ioa_actions.specs.declared.action.Action.{Action}
 use Rattle.ioa_compose.specs.declared.configuration.Conf.{Conf}
 use Rattle.ioa_compose.specs.declared.configuration.Conf.TheVariants.{Node, Queue}
 use Rattle.ioa_compose.specs.declared.fault.StepFault.{StepFault}

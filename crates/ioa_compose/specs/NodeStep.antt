@@ -10,8 +10,8 @@ use Rattle.ioa_terms.specs.Meaning.{value, numbers_met, answer}
 use Rattle.ioa_terms.specs.Performance.{after, numbers_met_by, answer_by}
 use Rattle.ioa_terms.specs.declared.tree.Kind.{Kind}
 use Rattle.ioa_terms.specs.declared.tree.Kind.TheVariants.{Input, Output, Internal}
-use Rattle.ioa_terms.specs.declared.action.Action.{Action}
-use Rattle.ioa_terms.specs.declared.action.Action.TheVariants.{Send, Receive, Local, Stimulus}
+use Rattle.ioa_actions.specs.declared.action.Action.{Action}
+use Rattle.ioa_actions.specs.declared.action.Action.TheVariants.{Send, Receive, Local, Stimulus}
 use Rattle.ioa_operators.specs.Shapes.{has_shape, wide_shape}
 use Rattle.ioa_operators.specs.declared.fault.TermFault.{TermFault}
 use Rattle.ioa_source.specs.PlainText.{const, named}

@@ -2,10 +2,10 @@
 use Rattle.std.specs.Prelude.{Bool, false, ◌&&◌, List, [], ◌∷◌}
 use Rattle.std.specs.List.{list_any}
 use Rattle.std.specs.Ordering.{int_eq}
-use Rattle.ioa_terms.specs.declared.component.Component.{Component}
-use Rattle.ioa_terms.specs.declared.component.Component.TheVariants.{Node, Channel, Script}
-use Rattle.ioa_terms.specs.declared.action.Action.{Action}
-use Rattle.ioa_terms.specs.declared.action.Action.TheVariants.{Send, Receive, Local, Stimulus}
+use Rattle.ioa_actions.specs.declared.component.Component.{Component}
+use Rattle.ioa_actions.specs.declared.component.Component.TheVariants.{Node, Channel, Script}
+use Rattle.ioa_actions.specs.declared.action.Action.{Action}
+use Rattle.ioa_actions.specs.declared.action.Action.TheVariants.{Send, Receive, Local, Stimulus}
 use Rattle.ioa_compose.specs.declared.parties.Parties.{Parties}
 use Rattle.ioa_compose.specs.declared.parties.Parties.TheVariants.{One, Two}
 

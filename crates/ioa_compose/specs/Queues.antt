@@ -3,11 +3,11 @@ use Rattle.std.specs.Prelude.{Bool, false, if◌then◌else◌, List, [], ◌∷
 use Rattle.std.specs.Coded.{Coded, code_by, coded×, coded_list}
 use Rattle.ioa_values.specs.Outcome.{and_then}
 use Rattle.ioa_values.specs.DataOrder.{same}
-use Rattle.ioa_terms.specs.Actions.{same_node_action}
-use Rattle.ioa_terms.specs.contracts.component.Component as component
-use Rattle.ioa_terms.specs.declared.component.Component.{Component}
-use Rattle.ioa_terms.specs.declared.action.Action.{Action}
-use Rattle.ioa_terms.specs.declared.action.Action.TheVariants as action
+use Rattle.ioa_actions.specs.Actions.{same_node_action}
+use Rattle.ioa_actions.specs.contracts.component.Component as component
+use Rattle.ioa_actions.specs.declared.component.Component.{Component}
+use Rattle.ioa_actions.specs.declared.action.Action.{Action}
+use Rattle.ioa_actions.specs.declared.action.Action.TheVariants as action
 use Rattle.ioa_compose.specs.contracts.queue.Item as item
 use Rattle.ioa_compose.specs.declared.queue.Item.{Item}
 use Rattle.ioa_compose.specs.declared.queue.Item.TheVariants.{Message, Stimulus}

@@ -1,6 +1,6 @@
 -- The start of a system (Lynch 8.1, 8.2 and 14.1).
 use Rattle.std.specs.Prelude.{List, [], ◌++◌, map}
-use Rattle.ioa_terms.specs.declared.component.Component.TheVariants as component
+use Rattle.ioa_actions.specs.declared.component.Component.TheVariants as component
 use Rattle.ioa_source.specs.declared.declaration.Channel.{Channel}
 use Rattle.ioa_compose.specs.declared.configuration.Conf.{Conf}
 use Rattle.ioa_compose.specs.declared.configuration.Conf.TheVariants.{Node, Queue}

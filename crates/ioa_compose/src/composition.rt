@@ -11,7 +11,7 @@ ghost use Rattle.ioa_compose.specs.Composition.{find_confs, changes_of, joint_an
 use crate::configuration::Conf;
 use crate::fault::StepFault;
 use crate::parties::{Parties, participants};
-use ioa_terms::{Action, Component};
+use ioa_actions::{Action, Component};
 use std::alloc::{AllocError, Global};
 
 /// The configuration of a component; the first one if several bear its name.

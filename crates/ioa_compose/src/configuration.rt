@@ -7,7 +7,7 @@ ghost use Rattle.ioa_compose.specs.Composition.{component_of, conf_answer};
 use crate::fault::StepFault;
 use crate::node::NodeConf;
 use crate::queue::Queue;
-use ioa_terms::{Action, Component};
+use ioa_actions::{Action, Component};
 use std::alloc::{AllocError, Global};
 
 /// The configuration of a component, which bears the component's name.

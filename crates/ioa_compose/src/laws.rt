@@ -1,7 +1,7 @@
 //! Laws of executions. Each law is the contract of a function that does nothing.
 
 ghost use Rattle.std.specs.Prelude.{◌≡◌, ◌↔◌, ◌∷◌, List, Some, Ok};
-ghost use Rattle.ioa_terms.specs.declared.action.Action.{Action};
+ghost use Rattle.ioa_actions.specs.declared.action.Action.{Action};
 ghost use Rattle.ioa_compose.specs.declared.configuration.Conf.{Conf};
 ghost use Rattle.ioa_compose.specs.declared.queue.Item.{Item};
 ghost use Rattle.ioa_compose.specs.NodeState.{NodeState};

@@ -8,8 +8,9 @@ ghost use Rattle.ioa_compose.specs.NodeState.{node_state};
 
 use crate::fault::StepFault;
 use crate::rule::values_after;
+use ioa_actions::{Action, Values};
 use ioa_system::Program;
-use ioa_terms::{Action, Values, copies};
+use ioa_values::copies;
 use std::alloc::{AllocError, Global};
 use std::marker::Model;
 use std::sync::Arc;

@@ -3,7 +3,7 @@
 ghost use Rattle.std.specs.Prelude.{◌≡◌};
 ghost use Rattle.ioa_compose.specs.Participants.{participants_of, participant_list, takes_part};
 
-use ioa_terms::{Action, Component};
+use ioa_actions::{Action, Component};
 
 /// The one or two components that take part in an action.
 #[derive(Clone, Copy, Debug)]

@@ -4,7 +4,7 @@ ghost use Rattle.std.specs.Prelude.{◌≡◌, IfOk};
 ghost use Rattle.ioa_compose.specs.Executions.{projection_of};
 
 use crate::parties::takes_part_in;
-use ioa_terms::{Action, Component};
+use ioa_actions::{Action, Component};
 use std::alloc::{AllocError, Global};
 
 /// The actions in which a component takes part, in order (Lynch 8.2).

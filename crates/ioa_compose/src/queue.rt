@@ -6,7 +6,8 @@ ghost use Rattle.ioa_values.specs.Outcome.{Answers};
 ghost use Rattle.ioa_compose.specs.Queues.{queue_state, same_item, with_last, without_first, queue_answer};
 
 use crate::fault::StepFault;
-use ioa_terms::{Action, Component, NodeAction, Value};
+use ioa_actions::{Action, Component, NodeAction};
+use ioa_values::Value;
 use std::alloc::{AllocError, Global};
 use std::marker::Model;
 

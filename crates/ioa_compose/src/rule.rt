@@ -16,11 +16,11 @@ ghost use Rattle.ioa_terms.specs.Resolved.{AreResolved, IsResolved};
 ghost use Rattle.ioa_terms.specs.Bindings.{names_of};
 
 use crate::fault::StepFault;
+use ioa_actions::Action;
 use ioa_source::{Entry, Parameter};
 use ioa_system::{Program, Rule};
-use ioa_terms::{
-    Action, Checked, Env, Kind, Shape, Statement, TermFault, Value, Word, copies, eval, perform,
-};
+use ioa_terms::{Checked, Env, Kind, Shape, Statement, TermFault, Value, Word, eval, perform};
+use ioa_values::copies;
 use std::alloc::{AllocError, Global};
 
 /// The name of an action.

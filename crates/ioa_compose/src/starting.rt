@@ -7,9 +7,9 @@ ghost use Rattle.ioa_compose.specs.Start.{start, node_start, channel_start, scri
 use crate::configuration::Conf;
 use crate::node::NodeConf;
 use crate::queue::Queue;
+use ioa_actions::Component;
 use ioa_source::Channel;
 use ioa_system::{Program, System};
-use ioa_terms::Component;
 use std::alloc::{AllocError, Global};
 use std::sync::Arc;
 

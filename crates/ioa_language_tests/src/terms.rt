@@ -8,10 +8,10 @@ ghost use Rattle.ioa_terms.specs.Resolved.{IsResolvedStatement, AreArmsResolved,
 ghost use Rattle.ioa_terms.specs.PlainTerm.{terms_of, statements_of, arms_of};
 ghost use Rattle.ioa_terms.specs.View.{term_of, target_of, statement_of, arm_of};
 
+use ioa_actions::{Action, NodeAction, Values, push_listed, show_action, show_node_action};
 use ioa_terms::{
-    Action, Arm, BinaryOperator, Checked, DisplayForm, Env, Names, NodeAction, Shape, ShapeForm, Statement,
-    Target, TermFault, UnaryOperator, Value, Values, Word, eval, perform, push_listed, show,
-    show_action, show_node_action,
+    Arm, BinaryOperator, Checked, DisplayForm, Env, Names, Shape, ShapeForm, Statement, Target,
+    TermFault, UnaryOperator, Value, Word, eval, perform, show,
 };
 use ioa_values::ValueForm;
 use std::alloc::{AllocError, Global};

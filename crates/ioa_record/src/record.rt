@@ -2,8 +2,8 @@
 
 ghost use Rattle.std.specs.Prelude.{◌≡◌, length, sum};
 
+use ioa_actions::Action;
 use ioa_compose::Conf;
-use ioa_terms::Action;
 
 /// What a run leaves behind. The type keeps that the counts of its workers add up to the length of its schedule.
 #[derive(Drop)]

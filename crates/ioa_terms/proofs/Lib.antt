@@ -4,7 +4,6 @@ pub mod Performed
 pub mod Slots
 pub mod ShapesKept
 pub mod Sound
-pub mod SameActions
 pub mod SameTerms
 pub mod CanonicalKept
 pub mod Assigned

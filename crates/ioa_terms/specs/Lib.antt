@@ -23,8 +23,3 @@ pub mod Stepwise
 pub mod Sorted
 pub mod Undefined
 pub mod Ascending
-pub mod Actions
-pub mod ActionText
-pub mod ComponentText
-pub mod ComponentOrder
-pub mod ValuesOrder

@@ -1,18 +1,13 @@
-//! Terms and statements with their meaning, the components of a system and its actions.
+//! Terms and statements with their meaning.
 #![tactic(auto)]
 
-mod action;
-mod component;
 mod environment;
 mod evaluation;
 mod laws;
 mod performance;
 mod same;
-mod text;
 mod tree;
 
-pub use action::{Action, NodeAction, Values, copies};
-pub use component::Component;
 pub use environment::{Env, Slot};
 pub use evaluation::eval;
 pub use ioa_operators::{
@@ -22,5 +17,4 @@ pub use ioa_values::{Names, Value, Word, show};
 pub use laws::{ascending_law, defined_law, put_law, shapes_law};
 pub use performance::perform;
 pub use same::{are_same_statements, are_same_terms, is_same_statement, is_same_term};
-pub use text::{push_listed, show_action, show_node_action};
 pub use tree::{Arm, Checked, Kind, Statement, Target, Term, Tree};

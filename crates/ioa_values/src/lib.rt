@@ -10,5 +10,5 @@ mod word;
 
 pub use laws::{maps_law, sets_law};
 pub use names::{Names, push_separator, push_shown, show};
-pub use value::{Value, ValueForm};
+pub use value::{Value, ValueForm, copies};
 pub use word::Word;

@@ -190,6 +190,17 @@ impl Value {
     }
 }
 
+/// Equal values with their own memory, in order.
+pub fn copies(alloc: Global, values: &[Value]) -> Result<Vec<Value>, AllocError>
+    ensures { IfOk result (λ v. v.items ≡ values.now) }
+{
+    let mut items = Vec::new(alloc);
+    for value in values {
+        items.push(value.try_copy(alloc)?)?;
+    }
+    Ok(items)
+}
+
 /// Copies of values, in order.
 #[cycle(copying)]
 fn copy_values(alloc: Global, values: &Vec<Value>) -> Result<Vec<Value>, AllocError>

@@ -1,6 +1,6 @@
 -- Executions that go on by one more action.
 use Rattle.std.proofs.Common.{◌≡◌, ℕ, ◌<◌, List, [], ◌∷◌, ◌++◌, Ok, length, length-append, arith}
-use Rattle.ioa_terms.specs.declared.action.Action.{Action}
+use Rattle.ioa_actions.specs.declared.action.Action.{Action}
 use Rattle.ioa_compose.specs.declared.configuration.Conf.{Conf}
 use Rattle.ioa_compose.specs.Composition.{joint_answer}
 use Rattle.ioa_compose.proofs.Replays.{replay-push}

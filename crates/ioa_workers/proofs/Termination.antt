@@ -4,7 +4,7 @@ use Rattle.std.specs.Prelude.{is_some, nat_eq, Option, Result, Ok, Err}
 use Rattle.std.specs.List.{list_all, list_any, AllByRecursion}
 use Rattle.std.proofs.lemmas.List.{append-nil, drop_all, take_all}
 use Rattle.std.specs.Cmp.Derive.{both_true}
-use Rattle.ioa_terms.specs.declared.action.Action.{Action}
+use Rattle.ioa_actions.specs.declared.action.Action.{Action}
 use Rattle.ioa_compose.specs.declared.configuration.Conf.{Conf}
 use Rattle.ioa_compose.specs.Start.{start}
 use Rattle.ioa_system.specs.Parts.{Parts}

@@ -2,8 +2,8 @@
 use Rattle.std.specs.Prelude.{◌≡◌, ℕ, ℤ, ◌+◌, ◌<◌, ◌^◌, nat_lt, if◌then◌else◌, List, length}
 use Rattle.std.specs.Prelude.{Option, Some, None, Result, Ok, Err}
 use Rattle.std.specs.Ordering.{int_eq}
-use Rattle.ioa_terms.specs.declared.action.Action.{Action}
-use Rattle.ioa_terms.specs.declared.component.Component.TheVariants as component
+use Rattle.ioa_actions.specs.declared.action.Action.{Action}
+use Rattle.ioa_actions.specs.declared.component.Component.TheVariants as component
 use Rattle.ioa_operators.specs.declared.fault.TermFault.{TermFault}
 use Rattle.ioa_compose.specs.declared.configuration.Conf.{Conf}
 use Rattle.ioa_compose.specs.declared.configuration.Conf.TheVariants.{Node, Queue}

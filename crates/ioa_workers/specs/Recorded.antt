@@ -1,6 +1,6 @@
 -- What a run leaves: an execution of the system (Lynch 8.1), and an ending a node (profile).
 use Rattle.std.specs.Prelude.{◌≡◌, ℕ, ◌≤◌, List, [], ◌∷◌, Some, length}
-use Rattle.ioa_terms.specs.declared.action.Action.{Action}
+use Rattle.ioa_actions.specs.declared.action.Action.{Action}
 use Rattle.ioa_compose.specs.declared.configuration.Conf.{Conf}
 use Rattle.ioa_compose.specs.Executions.{replay}
 use Rattle.ioa_compose.specs.Start.{start}

@@ -8,13 +8,12 @@ ghost use Rattle.ioa_workers.specs.Reports.{report_text, schedule_text, action_l
 ghost use Rattle.ioa_workers.specs.Reports.{component_lines, variable_lines, variable_line, queue_line, item_text};
 ghost use Rattle.ioa_workers.specs.Reports.{ending_lines, commits_text, commit_lines};
 
+use ioa_actions::{Action, Component, push_listed, show_action, show_node_action};
 use ioa_compose::{Conf, Item, NodeConf, Queue};
 use ioa_record::{Ending, Record};
 use ioa_source::Variable;
 use ioa_system::System;
-use ioa_terms::{
-    Action, Component, Names, Shape, Value, push_listed, show, show_action, show_node_action,
-};
+use ioa_terms::{Names, Shape, Value, show};
 use std::alloc::{AllocError, Global};
 
 /// The report of a run that left this record, with an ending for each node, node 0 first (profile): the schedule, the

@@ -15,10 +15,11 @@ ghost use Rattle.ioa_workers.specs.Solo.{progress_at, course_of, visit, round, r
 
 use crate::options::Options;
 use crate::turn::{Turn, firing_node, next};
+use ioa_actions::{Action, Component};
 use ioa_compose::{Conf, StepFault, find_conf, joint_step, start};
 use ioa_record::{Ending, NodeFault, Record};
 use ioa_system::{Program, System};
-use ioa_terms::{Action, Component, TermFault};
+use ioa_terms::TermFault;
 use std::alloc::{AllocError, Global};
 use std::sync::Arc;
 

@@ -10,11 +10,10 @@ ghost use Rattle.ioa_system.specs.ResolvedPrograms.{AreResolvedTerms, IsResolved
 ghost use Rattle.ioa_workers.specs.Turns.{block_bindings, answers, message_and_ends, action_at, firing_node};
 ghost use Rattle.ioa_workers.specs.Turns.{statement_answer, node_turn, FitsAfterTurn};
 
+use ioa_actions::{Action, NodeAction, Values};
 use ioa_compose::NodeConf;
 use ioa_source::Variable;
-use ioa_terms::{
-    Action, Checked, Env, NodeAction, Shape, Statement, TermFault, Value, Values, Word, eval,
-};
+use ioa_terms::{Checked, Env, Shape, Statement, TermFault, Value, Word, eval};
 use std::alloc::{AllocError, Global};
 
 /// What a turn comes to (profile).

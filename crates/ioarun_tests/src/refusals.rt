@@ -1,12 +1,13 @@
 //! Texts that are refused: one at least for each refusal that the check can give today, and for each form of the
 //! language that is left out today.
 
+use ioa_actions::{Action, Component};
 use ioa_check::check;
 use ioa_command::command;
 use ioa_compose::{Conf, Item, Queue, project, replay};
 use ioa_streams::Over;
-use ioa_terms::{Action, Component, Value};
 use ioa_text_reader::parse;
+use ioa_values::Value;
 use std::test::Fail;
 
 /// The line that the program shows for a text, and its status; no line if it writes a report.

@@ -1,7 +1,7 @@
 //! The components of a system.
 
 ghost use Rattle.std.specs.Prelude.{◌≡◌};
-ghost use Rattle.ioa_terms.specs.ComponentOrder.{component_cmp};
+ghost use Rattle.ioa_actions.specs.ComponentOrder.{component_cmp};
 
 use std::cmp::Ordering;
 use std::fmt;
@@ -30,7 +30,7 @@ impl Component {
 
 impl fmt::Display for Component {
     ghost use Rattle.std.specs.Prelude.{Some};
-    ghost use Rattle.ioa_terms.specs.ComponentText.{component_text};
+    ghost use Rattle.ioa_actions.specs.ComponentText.{component_text};
 
     ghost output = { λ c. Some (component_text c) };
 

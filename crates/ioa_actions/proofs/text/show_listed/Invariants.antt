@@ -1,6 +1,6 @@
 use Rattle.std.proofs.Common.{◌≡◌, map, take, string_bytes}
 use Rattle.ioa_values.specs.Text.{text, with_commas}
-use Rattle.ioa_terms.proofs.text.show_listed.Given as goal
+use Rattle.ioa_actions.proofs.text.show_listed.Given as goal
 
 -- what is written so far are the values gone by
 abbrev pub invariant-loop-position : goal.invariant-loop-position

@@ -8,11 +8,11 @@ use Rattle.std.proofs.lemmas.Slice.Eq.{slice_eq-Decides, bytes_eq-Decides}
 use Rattle.ioa_values.proofs.Equality.{same_equal, same_itself}
 use Rattle.ioa_values.specs.Data.{Data}
 use Rattle.ioa_values.specs.DataOrder.{same}
-use Rattle.ioa_terms.specs.ValuesOrder.{all_same}
-use Rattle.ioa_terms.specs.Actions.{same_node_action, same_action}
-use Rattle.ioa_terms.specs.declared.action.NodeAction.{NodeAction}
-use Rattle.ioa_terms.specs.declared.action.Action.{Action}
-use Rattle.ioa_terms.specs.declared.action.Action.TheVariants.{Send, Receive, Local, Stimulus}
+use Rattle.ioa_actions.specs.ValuesOrder.{all_same}
+use Rattle.ioa_actions.specs.Actions.{same_node_action, same_action}
+use Rattle.ioa_actions.specs.declared.action.NodeAction.{NodeAction}
+use Rattle.ioa_actions.specs.declared.action.Action.{Action}
+use Rattle.ioa_actions.specs.declared.action.Action.TheVariants.{Send, Receive, Local, Stimulus}
 
 Decides-same : (a b : Data) → Decides (same a b) (a ≡ b)
 Decides-same a b = (same_equal a b, λ e. rw (← e) (same_itself a))

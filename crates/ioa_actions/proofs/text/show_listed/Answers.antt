@@ -1,6 +1,6 @@
 use Rattle.ioa_values.specs.Text.{text}
 use Rattle.ioa_values.proofs.Commas.{with_commas-more}
-use Rattle.ioa_terms.proofs.text.show_listed.Goals as goal
+use Rattle.ioa_actions.proofs.text.show_listed.Goals as goal
 
 pub loop-position-preserved : goal.loop-position-preserved
 loop-position-preserved c =

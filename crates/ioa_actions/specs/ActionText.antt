@@ -3,9 +3,9 @@ use Rattle.std.specs.Prelude.{ℕ, ℤ, List, [], ◌∷◌, ◌++◌, map, code
 use Rattle.std.specs.Fmt.{signed_decimal}
 use Rattle.ioa_values.specs.Data.{Data}
 use Rattle.ioa_values.specs.Text.{text, with_commas}
-use Rattle.ioa_terms.specs.declared.action.NodeAction.{NodeAction}
-use Rattle.ioa_terms.specs.declared.action.Action.{Action}
-use Rattle.ioa_terms.specs.declared.action.Action.TheVariants.{Send, Receive, Local, Stimulus}
+use Rattle.ioa_actions.specs.declared.action.NodeAction.{NodeAction}
+use Rattle.ioa_actions.specs.declared.action.Action.{Action}
+use Rattle.ioa_actions.specs.declared.action.Action.TheVariants.{Send, Receive, Local, Stimulus}
 
 -- arguments in round brackets with commas between, or nothing if there are none
 abbrev pub arguments_text : List (List ℕ) → List Data → List ℕ

@@ -1,5 +1,5 @@
 use Rattle.std.proofs.Common.{◌≡◌, take}
-use Rattle.ioa_terms.proofs.action.copies.Given as goal
+use Rattle.ioa_values.proofs.value.copies.Given as goal
 
 -- the copies so far are the values gone by
 abbrev pub invariant-loop-value : goal.invariant-loop-value

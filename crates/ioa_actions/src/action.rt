@@ -1,9 +1,9 @@
 //! The actions of a system.
 
 ghost use Rattle.std.specs.Prelude.{◌≡◌, ◌↔◌, IfOk, IsTrue};
-ghost use Rattle.ioa_terms.specs.Actions.{same_node_action, same_action, node_action_cmp, action_cmp};
+ghost use Rattle.ioa_actions.specs.Actions.{same_node_action, same_action, node_action_cmp, action_cmp};
 
-use ioa_values::{Value, Word};
+use ioa_values::{Value, Word, copies};
 use std::alloc::{AllocError, Global};
 use std::cmp::Ordering;
 use std::marker::Model;
@@ -52,7 +52,7 @@ impl Values {
 }
 
 impl PartialEq for Values {
-    ghost use Rattle.ioa_terms.specs.ValuesOrder.{all_same, all_same_partial};
+    ghost use Rattle.ioa_actions.specs.ValuesOrder.{all_same, all_same_partial};
 
     ghost eq = { all_same };
 
@@ -64,13 +64,13 @@ impl PartialEq for Values {
 }
 
 impl Eq for Values {
-    ghost use Rattle.ioa_terms.specs.ValuesOrder.{all_same_equivalence};
+    ghost use Rattle.ioa_actions.specs.ValuesOrder.{all_same_equivalence};
 
     ghost laws = { all_same_equivalence };
 }
 
 impl PartialOrd for Values {
-    ghost use Rattle.ioa_terms.specs.ValuesOrder.{list_partial_cmp, list_cmp_partial};
+    ghost use Rattle.ioa_actions.specs.ValuesOrder.{list_partial_cmp, list_cmp_partial};
 
     ghost partial_cmp = { list_partial_cmp };
 
@@ -82,7 +82,7 @@ impl PartialOrd for Values {
 }
 
 impl Ord for Values {
-    ghost use Rattle.ioa_terms.specs.ValuesOrder.{list_cmp, list_cmp_total, list_cmp_agrees, list_cmp_ties};
+    ghost use Rattle.ioa_actions.specs.ValuesOrder.{list_cmp, list_cmp_total, list_cmp_agrees, list_cmp_ties};
 
     ghost cmp = { list_cmp };
 
@@ -95,17 +95,6 @@ impl Ord for Values {
     fn cmp(&self, other: &Self) -> Ordering {
         self.items.cmp(&other.items)
     }
-}
-
-/// Copies of values, in order.
-pub fn copies(alloc: Global, values: &[Value]) -> Result<Vec<Value>, AllocError>
-    ensures { IfOk result (λ v. v.items ≡ values.now) }
-{
-    let mut items = Vec::new(alloc);
-    for value in values {
-        items.push(value.try_copy(alloc)?)?;
-    }
-    Ok(items)
 }
 
 /// An action of one node, by its name. Actions are ordered by node, name and arguments.

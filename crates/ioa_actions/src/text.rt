@@ -4,7 +4,7 @@ ghost use Rattle.std.specs.Prelude.{◌≡◌, ◌++◌, IfOk, OnOk, map, string
 ghost use Rattle.std.specs.Fmt.{signed_decimal};
 ghost use Rattle.ioa_values.specs.Outcome.{Writes};
 ghost use Rattle.ioa_values.specs.Text.{text, with_commas, separator};
-ghost use Rattle.ioa_terms.specs.ActionText.{arguments_text, node_action_text, message_text, action_text};
+ghost use Rattle.ioa_actions.specs.ActionText.{arguments_text, node_action_text, message_text, action_text};
 
 use crate::action::{Action, NodeAction};
 use ioa_values::{Names, Value, push_separator, show};

@@ -5,10 +5,10 @@ use Rattle.std.specs.Ordering.{nat_cmp, int_cmp, int_eq, ordering_then}
 use Rattle.std.specs.Cmp.Lexicographic.{slice_cmp}
 use lib.Pointwise.{pointwise}
 use Rattle.ioa_values.specs.DataOrder.{same, data_cmp}
-use Rattle.ioa_terms.specs.ValuesOrder.{all_same, list_cmp}
-use Rattle.ioa_terms.specs.declared.action.NodeAction.{NodeAction}
-use Rattle.ioa_terms.specs.declared.action.Action.{Action}
-use Rattle.ioa_terms.specs.declared.action.Action.TheVariants.{Send, Receive, Local, Stimulus}
+use Rattle.ioa_actions.specs.ValuesOrder.{all_same, list_cmp}
+use Rattle.ioa_actions.specs.declared.action.NodeAction.{NodeAction}
+use Rattle.ioa_actions.specs.declared.action.Action.{Action}
+use Rattle.ioa_actions.specs.declared.action.Action.TheVariants.{Send, Receive, Local, Stimulus}
 
 -- two actions of nodes are the same if their nodes, names and arguments are
 abbrev pub same_node_action : NodeAction → NodeAction → Bool

@@ -1,8 +1,8 @@
 -- Components as text (profile): `node i`, `channel i -> j` and `script i`.
 use Rattle.std.specs.Prelude.{ℕ, List, ◌++◌, codes}
 use Rattle.std.specs.Fmt.{signed_decimal}
-use Rattle.ioa_terms.specs.declared.component.Component.{Component}
-use Rattle.ioa_terms.specs.declared.component.Component.TheVariants.{Node, Channel, Script}
+use Rattle.ioa_actions.specs.declared.component.Component.{Component}
+use Rattle.ioa_actions.specs.declared.component.Component.TheVariants.{Node, Channel, Script}
 
 -- a component: its kind, and its node or the nodes of its two ends
 abbrev pub component_text : Component → List ℕ

@@ -1,0 +1,6 @@
+-- what the contracts of this crate and of those above it cite
+pub mod Actions
+pub mod ActionText
+pub mod ComponentOrder
+pub mod ComponentText
+pub mod ValuesOrder

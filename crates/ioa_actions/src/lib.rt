@@ -1,0 +1,10 @@
+//! The actions of a system and its components: their order and their text.
+#![tactic(auto)]
+
+mod action;
+mod component;
+mod text;
+
+pub use action::{Action, NodeAction, Values};
+pub use component::Component;
+pub use text::{push_listed, show_action, show_node_action};
