@@ -113,9 +113,23 @@ pub struct NodeAction {
 #[derive(Debug, Drop, PartialEq, Eq, PartialOrd, Ord)]
 pub enum Action {
     /// `send(m, i, j)`: node i puts message m into channel i -> j.
-    Send(Value, i64, i64),
+    Send {
+        /// The message.
+        message: Value,
+        /// The node that sends it.
+        from: i64,
+        /// The node that it is meant for.
+        to: i64,
+    },
     /// `receive(m, i, j)`: channel i -> j hands message m to node j.
-    Receive(Value, i64, i64),
+    Receive {
+        /// The message.
+        message: Value,
+        /// The node that sent it.
+        from: i64,
+        /// The node that takes it.
+        to: i64,
+    },
     /// An output or internal action of a node.
     Local(NodeAction),
     /// An input of a node that its script puts in.
@@ -182,13 +196,21 @@ impl Action {
         ensures { IfOk result (λ a. a ≡ self.now) }
     {
         match self {
-            Action::Send(message, from, to) => {
+            Action::Send { message, from, to } => {
                 let message = message.try_copy(alloc)?;
-                Ok(Action::Send(message, *from, *to))
+                Ok(Action::Send {
+                    message,
+                    from: *from,
+                    to: *to,
+                })
             }
-            Action::Receive(message, from, to) => {
+            Action::Receive { message, from, to } => {
                 let message = message.try_copy(alloc)?;
-                Ok(Action::Receive(message, *from, *to))
+                Ok(Action::Receive {
+                    message,
+                    from: *from,
+                    to: *to,
+                })
             }
             Action::Local(action) => Ok(Action::Local(action.try_copy(alloc)?)),
             Action::Stimulus(action) => Ok(Action::Stimulus(action.try_copy(alloc)?)),

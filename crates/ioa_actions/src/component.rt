@@ -14,7 +14,12 @@ pub enum Component {
     /// The node of a number.
     Node(i64),
     /// The channel from one node to another.
-    Channel(i64, i64),
+    Channel {
+        /// The node that sends.
+        from: i64,
+        /// The node that receives.
+        to: i64,
+    },
     /// The script of a node.
     Script(i64),
 }
@@ -37,7 +42,7 @@ impl fmt::Display for Component {
     fn fmt<W: fmt::Write>(&self, f: &mut fmt::Formatter<W>) -> fmt::Result {
         match self {
             Component::Node(node) => write!(f, "node {node}"),
-            Component::Channel(from, to) => write!(f, "channel {from} -> {to}"),
+            Component::Channel { from, to } => write!(f, "channel {from} -> {to}"),
             Component::Script(node) => write!(f, "script {node}"),
         }
     }

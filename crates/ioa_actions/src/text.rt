@@ -82,11 +82,11 @@ pub fn show_action(alloc: Global, names: &Names, action: &Action) -> Result<Stri
     ensures { IfOk result (λ s. string_bytes s ≡ action_text names.now action.now) }
 {
     match action {
-        Action::Send(message, from, to) => {
+        Action::Send { message, from, to } => {
             let message = show(alloc, names, message)?;
             show_message(alloc, "send", message.as_str(), *from, *to)
         }
-        Action::Receive(message, from, to) => {
+        Action::Receive { message, from, to } => {
             let message = show(alloc, names, message)?;
             show_message(alloc, "receive", message.as_str(), *from, *to)
         }

@@ -19,12 +19,18 @@ pub fn participants(action: &Action) -> Parties
     ensures { participant_list result ≡ participants_of action.now }
 {
     match action {
-        Action::Send(_, from, to) => Parties::Two(
-            Component::Channel(*from, *to),
+        Action::Send { from, to, .. } => Parties::Two(
+            Component::Channel {
+                from: *from,
+                to: *to,
+            },
             Component::Node(*from),
         ),
-        Action::Receive(_, from, to) => Parties::Two(
-            Component::Channel(*from, *to),
+        Action::Receive { from, to, .. } => Parties::Two(
+            Component::Channel {
+                from: *from,
+                to: *to,
+            },
             Component::Node(*to),
         ),
         Action::Local(local) => Parties::One(Component::Node(local.node)),

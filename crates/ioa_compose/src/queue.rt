@@ -163,11 +163,11 @@ impl Queue {
         ensures { Answers StepFault.Memory (λ q. q) result (queue_answer self.now action.now) }
     {
         match action {
-            Action::Send(message, _, _) => {
+            Action::Send { message, .. } => {
                 let message = message.try_copy(alloc)?;
                 self.after_send(alloc, Item::Message(message))
             }
-            Action::Receive(message, _, _) => {
+            Action::Receive { message, .. } => {
                 let message = message.try_copy(alloc)?;
                 self.after_receive(alloc, &Item::Message(message))
             }

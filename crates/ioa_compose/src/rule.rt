@@ -28,8 +28,8 @@ fn action_name(action: &Action) -> &str
     ensures { result.now ≡ spec.action_name action.now }
 {
     match action {
-        Action::Send(_, _, _) => "send",
-        Action::Receive(_, _, _) => "receive",
+        Action::Send { .. } => "send",
+        Action::Receive { .. } => "receive",
         Action::Local(local) => local.name.as_str(),
         Action::Stimulus(stimulus) => stimulus.name.as_str(),
     }
@@ -40,7 +40,7 @@ pub fn action_arguments(alloc: Global, action: &Action) -> Result<Vec<Value>, Al
     ensures { IfOk result (λ v. v.items ≡ spec.action_arguments action.now) }
 {
     match action {
-        Action::Send(message, from, to) | Action::Receive(message, from, to) => {
+        Action::Send { message, from, to } | Action::Receive { message, from, to } => {
             message_arguments(alloc, message, *from, *to)
         }
         Action::Local(local) => copies(alloc, local.arguments.as_slice()),
@@ -69,8 +69,8 @@ fn kind_agrees(action: &Action, kind: Kind) -> bool
     ensures { result ≡ spec.kind_agrees action.now kind }
 {
     match action {
-        Action::Send(_, _, _) => kind == Kind::Output,
-        Action::Receive(_, _, _) => kind == Kind::Input,
+        Action::Send { .. } => kind == Kind::Output,
+        Action::Receive { .. } => kind == Kind::Input,
         Action::Local(local) => match kind {
             Kind::Input => false,
             Kind::Output => local.name.as_str() != "send",

@@ -48,7 +48,10 @@ fn start_channels(
     ensures { OnOk result (confs.new.items ≡ confs.old.items ++ map channel_start channels.now) }
 {
     for channel in channels {
-        let component = Component::Channel(channel.from, channel.to);
+        let component = Component::Channel {
+            from: channel.from,
+            to: channel.to,
+        };
         confs.push(Conf::Queue(Queue::empty(alloc, component)))?;
     }
     Ok(())

@@ -153,7 +153,7 @@ fn push_queue(
 {
     match queue.component() {
         Component::Node(_) => Ok(()),
-        Component::Channel(from, to) => {
+        Component::Channel { from, to } => {
             let items = show_items(alloc, names, queue.items())?;
             write!(report, "channel {from} -> {to} {{{items}}}\n")
         }

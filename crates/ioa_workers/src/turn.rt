@@ -117,10 +117,12 @@ fn action_at(
 {
     if let Some((message, from, to)) = message_and_ends(&arguments) {
         if name.as_str() == "send" {
-            return Ok(Action::Send(message.try_copy(alloc)?, from, to));
+            let message = message.try_copy(alloc)?;
+            return Ok(Action::Send { message, from, to });
         }
         if name.as_str() == "receive" {
-            return Ok(Action::Receive(message.try_copy(alloc)?, from, to));
+            let message = message.try_copy(alloc)?;
+            return Ok(Action::Receive { message, from, to });
         }
     }
     Ok(Action::Local(NodeAction {
@@ -135,8 +137,8 @@ pub fn firing_node(action: &Action) -> i64
     ensures { result ≡ firing_node action.now }
 {
     match action {
-        Action::Send(_, from, _) => *from,
-        Action::Receive(_, _, to) => *to,
+        Action::Send { from, .. } => *from,
+        Action::Receive { to, .. } => *to,
         Action::Local(action) => action.node,
         Action::Stimulus(action) => action.node,
     }

@@ -362,6 +362,24 @@ fn later_forms_are_refused(rt: HostRuntime) -> Result<(), Fail> {
     Ok(())
 }
 
+/// `send(n, 0, 1)`.
+fn sent(n: i64) -> Action {
+    Action::Send {
+        message: Value::number(n),
+        from: 0,
+        to: 1,
+    }
+}
+
+/// `receive(n, 0, 1)`.
+fn received(n: i64) -> Action {
+    Action::Receive {
+        message: Value::number(n),
+        from: 0,
+        to: 1,
+    }
+}
+
 #[test]
 fn schedules_are_replayed_and_projected(rt: HostRuntime) -> Result<(), Fail> {
     let alloc = rt.alloc();
@@ -377,9 +395,9 @@ fn schedules_are_replayed_and_projected(rt: HostRuntime) -> Result<(), Fail> {
     let source = parse(alloc, text).ok().ok_or("refused")?;
     let system = check(alloc, source.text()).ok().ok_or("refused")?;
     let mut schedule = Vec::new(alloc);
-    schedule.push(Action::Send(Value::number(7), 0, 1))?;
-    schedule.push(Action::Send(Value::number(8), 0, 1))?;
-    schedule.push(Action::Receive(Value::number(7), 0, 1))?;
+    schedule.push(sent(7))?;
+    schedule.push(sent(8))?;
+    schedule.push(received(7))?;
     let states = replay(alloc, &system, &schedule)
         .ok()
         .ok_or("no execution")?;
@@ -392,11 +410,11 @@ fn schedules_are_replayed_and_projected(rt: HostRuntime) -> Result<(), Fail> {
     }
     assert_eq!(rt; project(alloc, &schedule, Component::Node(0))?.len(), 2);
     assert_eq!(rt;
-        project(alloc, &schedule, Component::Channel(0, 1))?.len(),
+        project(alloc, &schedule, Component::Channel { from: 0, to: 1 })?.len(),
         3
     );
     assert_eq!(rt; project(alloc, &schedule, Component::Script(0))?.len(), 0);
-    schedule.push(Action::Receive(Value::number(9), 0, 1))?;
+    schedule.push(received(9))?;
     match replay(alloc, &system, &schedule) {
         Ok(_) => assert!(rt; false, "the last message was handed out first"),
         Err(fault) => assert_eq!(rt; fault.position, 3),
@@ -407,7 +425,7 @@ fn schedules_are_replayed_and_projected(rt: HostRuntime) -> Result<(), Fail> {
 #[test]
 fn queues_hand_out_their_first(rt: HostRuntime) -> Result<(), Fail> {
     let alloc = rt.alloc();
-    let queue = Queue::empty(alloc, Component::Channel(0, 1));
+    let queue = Queue::empty(alloc, Component::Channel { from: 0, to: 1 });
     let queue = queue.after_send(alloc, Item::Message(Value::number(7)))?;
     let queue = queue.after_send(alloc, Item::Message(Value::number(8)))?;
     assert_eq!(rt; queue.items().len(), 2);
