@@ -3,6 +3,7 @@ use Rattle.std.specs.Prelude.{ℕ, ℤ, List, [], ◌∷◌, ◌++◌, map, code
 use Rattle.std.specs.Fmt.{signed_decimal}
 use Rattle.ioa_values.specs.Data.{Data}
 use Rattle.ioa_values.specs.Text.{text, with_commas}
+use Rattle.ioa_actions.specs.ActionParts.{send_name, receive_name}
 use Rattle.ioa_actions.specs.declared.action.NodeAction.{NodeAction}
 use Rattle.ioa_actions.specs.declared.action.Action.{Action}
 use Rattle.ioa_actions.specs.declared.action.Action.TheVariants.{Send, Receive, Local, Stimulus}
@@ -24,7 +25,7 @@ message_text name message i j =
 
 -- an action
 abbrev pub action_text : List (List ℕ) → Action → List ℕ
-action_text names (Send m i j) = message_text (codes "send") (text names m) i j
-action_text names (Receive m i j) = message_text (codes "receive") (text names m) i j
+action_text names (Send m i j) = message_text send_name (text names m) i j
+action_text names (Receive m i j) = message_text receive_name (text names m) i j
 action_text names (Local a) = node_action_text names a
 action_text names (Stimulus a) = node_action_text names a

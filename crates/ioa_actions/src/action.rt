@@ -1,12 +1,21 @@
 //! The actions of a system.
 
-ghost use Rattle.std.specs.Prelude.{◌≡◌, ◌↔◌, IfOk, IsTrue};
+ghost use Rattle.std.specs.Prelude.{◌≡◌, ◌↔◌, [], ◌∷◌, IfOk, IsTrue};
+ghost use Rattle.std.specs.Option.{option_copied, option_map};
+ghost use Rattle.ioa_values.specs.Data.{number};
+ghost use Rattle.ioa_actions.specs.ActionParts as parts;
 ghost use Rattle.ioa_actions.specs.Actions.{same_node_action, same_action, node_action_cmp, action_cmp};
 
 use ioa_values::{Value, Word, copies};
 use std::alloc::{AllocError, Global};
 use std::cmp::Ordering;
 use std::marker::Model;
+
+/// The name of all sends (Lynch 14.1).
+pub const SEND: &str = "send";
+
+/// The name of all receives (Lynch 14.1).
+pub const RECEIVE: &str = "receive";
 
 /// The values of an action's arguments, in order. A contract sees them as a list.
 #[derive(Debug, Drop)]
@@ -168,6 +177,83 @@ impl NodeAction {
 }
 
 impl Action {
+    /// The action that a name and arguments give at a node (profile): a send or a receive if they are its name, a
+    /// message and two numbers, and else another action of that node.
+    pub fn at_node(
+        alloc: Global,
+        node: i64,
+        name: &Word,
+        arguments: Vec<Value>,
+    ) -> Result<Self, AllocError>
+        ensures { IfOk result (λ a. a ≡ parts.action_at node name.now arguments.items) }
+    {
+        if let Some((message, from, to)) = message_and_ends(&arguments) {
+            if name.as_str() == SEND {
+                let message = message.try_copy(alloc)?;
+                return Ok(Action::Send { message, from, to });
+            }
+            if name.as_str() == RECEIVE {
+                let message = message.try_copy(alloc)?;
+                return Ok(Action::Receive { message, from, to });
+            }
+        }
+        Ok(Action::Local(NodeAction {
+            node,
+            name: name.try_copy(alloc)?,
+            arguments: Values::from_vec(arguments),
+        }))
+    }
+
+    /// The node of the action: the sender of a send, and the receiver of a receive.
+    pub fn node(&self) -> i64
+        ensures { result ≡ parts.node_of self.now }
+    {
+        match self {
+            Action::Send { from, .. } => *from,
+            Action::Receive { to, .. } => *to,
+            Action::Local(action) => action.node,
+            Action::Stimulus(action) => action.node,
+        }
+    }
+
+    /// The name of the action.
+    pub fn name(&self) -> &str
+        ensures { result.now ≡ parts.action_name self.now }
+    {
+        match self {
+            Action::Send { .. } => SEND,
+            Action::Receive { .. } => RECEIVE,
+            Action::Local(action) => action.name.as_str(),
+            Action::Stimulus(action) => action.name.as_str(),
+        }
+    }
+
+    /// Copies of the action's arguments, in order: those of a send or a receive are its message, the sender and the
+    /// receiver.
+    pub fn arguments(&self, alloc: Global) -> Result<Vec<Value>, AllocError>
+        ensures { IfOk result (λ v. v.items ≡ parts.action_arguments self.now) }
+    {
+        match self {
+            Action::Send { message, from, to } | Action::Receive { message, from, to } => {
+                message_arguments(alloc, message, *from, *to)
+            }
+            Action::Local(action) => copies(alloc, action.arguments.as_slice()),
+            Action::Stimulus(action) => copies(alloc, action.arguments.as_slice()),
+        }
+    }
+
+    /// The message, if the action is a send or a receive.
+    pub fn message(&self) -> Option<&Value>
+        ensures { option_copied result ≡ parts.message_of self.now }
+    {
+        match self {
+            Action::Send { message, .. } => Some(message),
+            Action::Receive { message, .. } => Some(message),
+            Action::Local(_) => None,
+            Action::Stimulus(_) => None,
+        }
+    }
+
     /// Whether two actions are the same.
     #[tactic(auto, using(crate::proofs::SameActions::same_action_is))]
     pub fn equals(&self, other: &Self) -> bool
@@ -216,4 +302,30 @@ impl Action {
             Action::Stimulus(action) => Ok(Action::Stimulus(action.try_copy(alloc)?)),
         }
     }
+}
+
+/// A message and the two ends of its channel, if the arguments are these.
+fn message_and_ends(arguments: &[Value]) -> Option<(&Value, i64, i64)>
+    ensures { option_map (λ p. (p.0.now, p.1, p.2)) result ≡ parts.message_and_ends arguments.now }
+{
+    match arguments {
+        [message, from, to] => Some((message, from.as_number()?, to.as_number()?)),
+        _ => None,
+    }
+}
+
+/// The arguments of a send or a receive.
+fn message_arguments(
+    alloc: Global,
+    message: &Value,
+    from: i64,
+    to: i64,
+) -> Result<Vec<Value>, AllocError>
+    ensures { IfOk result (λ v. v.items ≡ message.now ∷ number from ∷ number to ∷ []) }
+{
+    let mut arguments = Vec::new(alloc);
+    arguments.push(message.try_copy(alloc)?)?;
+    arguments.push(Value::number(from))?;
+    arguments.push(Value::number(to))?;
+    Ok(arguments)
 }

@@ -5,6 +5,6 @@ mod action;
 mod component;
 mod text;
 
-pub use action::{Action, NodeAction, Values};
+pub use action::{Action, NodeAction, RECEIVE, SEND, Values};
 pub use component::Component;
 pub use text::{push_listed, show_action, show_node_action};

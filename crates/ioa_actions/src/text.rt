@@ -6,7 +6,7 @@ ghost use Rattle.ioa_values.specs.Outcome.{Writes};
 ghost use Rattle.ioa_values.specs.Text.{text, with_commas, separator};
 ghost use Rattle.ioa_actions.specs.ActionText.{arguments_text, node_action_text, message_text, action_text};
 
-use crate::action::{Action, NodeAction};
+use crate::action::{Action, NodeAction, RECEIVE, SEND};
 use ioa_values::{Names, Value, push_separator, show};
 use std::alloc::{AllocError, Global};
 
@@ -84,11 +84,11 @@ pub fn show_action(alloc: Global, names: &Names, action: &Action) -> Result<Stri
     match action {
         Action::Send { message, from, to } => {
             let message = show(alloc, names, message)?;
-            show_message(alloc, "send", message.as_str(), *from, *to)
+            show_message(alloc, SEND, message.as_str(), *from, *to)
         }
         Action::Receive { message, from, to } => {
             let message = show(alloc, names, message)?;
-            show_message(alloc, "receive", message.as_str(), *from, *to)
+            show_message(alloc, RECEIVE, message.as_str(), *from, *to)
         }
         Action::Local(action) => show_node_action(alloc, names, action),
         Action::Stimulus(action) => show_node_action(alloc, names, action),

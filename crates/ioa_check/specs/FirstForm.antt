@@ -1,9 +1,10 @@
 -- The first form of the language (profile): the texts that run today. A text that is not of this form is refused by
 -- `Unknown` (20).
-use Rattle.std.specs.Prelude.{ℕ, Bool, true, false, ◌&&◌, ◌||◌, not, nat_eq, codes, slice_get}
+use Rattle.std.specs.Prelude.{ℕ, Bool, true, false, ◌&&◌, ◌||◌, not, nat_eq, slice_get}
 use Rattle.std.specs.Prelude.{List, Option, Some, None, length}
 use Rattle.std.specs.List.{list_all}
 use Rattle.std.specs.Option.{is_some}
+use Rattle.ioa_actions.specs.ActionParts.{send_name, receive_name}
 use Rattle.ioa_terms.specs.Bindings.{same_name}
 use Rattle.ioa_terms.specs.declared.tree.Kind.{Kind}
 use Rattle.ioa_terms.specs.declared.tree.Kind.TheVariants.{Input, Output, Internal}
@@ -57,8 +58,8 @@ are_first_parameters ps =
 
 -- an input is named `receive` and an output `send`; there are no others
 abbrev pub is_first_name : Kind → List ℕ → Bool
-is_first_name Input w = same_name w (codes "receive")
-is_first_name Output w = same_name w (codes "send")
+is_first_name Input w = same_name w receive_name
+is_first_name Output w = same_name w send_name
 is_first_name Internal w = false
 
 -- an entry without a condition

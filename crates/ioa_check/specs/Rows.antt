@@ -1,10 +1,11 @@
 -- When no row of refusal applies to a text of the first form (profile). A number before a definition is that of the row
 -- that a text is refused by if it fails the test.
-use Rattle.std.specs.Prelude.{◌≡◌, ◌≤◌, ◌<◌, ℕ, ℤ, pos, Bool, true, false, ◌&&◌, ◌||◌, not, codes, slice_get}
+use Rattle.std.specs.Prelude.{◌≡◌, ◌≤◌, ◌<◌, ℕ, ℤ, pos, Bool, true, false, ◌&&◌, ◌||◌, not, slice_get}
 use Rattle.std.specs.Prelude.{List, [], ◌++◌, Option, Some, None, map, length, nat_eq, Contains}
 use Rattle.std.specs.List.{AllByRecursion, IsDistinct, list_all, list_any}
 use Rattle.std.specs.Option.{is_some}
 use Rattle.std.specs.Ordering.{int_eq}
+use Rattle.ioa_actions.specs.ActionParts.{send_name, receive_name}
 use Rattle.ioa_terms.specs.Bindings.{same_name}
 use lib.Pointwise.{pointwise}
 use denote.Enum.Bare.{sameb}
@@ -199,8 +200,8 @@ is_declared ds n = is_some (automaton_named n.automaton ds)
 -- 34: an entry that is a `send` has its node's number second, and one that is a `receive` has it third
 abbrev pub is_at_home : ℤ → SourceEntry → Bool
 is_at_home k e =
-    (not (same_name e.name (codes "send")) || is_constant (slice_get e.parameters 1) k)
-    && (not (same_name e.name (codes "receive")) || is_constant (slice_get e.parameters 2) k)
+    (not (same_name e.name send_name) || is_constant (slice_get e.parameters 1) k)
+    && (not (same_name e.name receive_name) || is_constant (slice_get e.parameters 2) k)
 
 -- 34: the sends of a node's automaton, if it is declared, are from that node, and its receives to it
 abbrev pub has_its_own : List SourceDeclaration → SourceNode → Bool
@@ -209,7 +210,7 @@ has_its_own ds n = passes_or_none (λ a. list_all (is_at_home n.number) a.signat
 -- 28: an automaton has a `receive` from a node
 abbrev pub takes_from : ℤ → SourceAutomaton → Bool
 takes_from k a =
-    list_any (λ e. same_name e.name (codes "receive") && is_constant (slice_get e.parameters 1) k) a.signature
+    list_any (λ e. same_name e.name receive_name && is_constant (slice_get e.parameters 1) k) a.signature
 
 -- 28: a node that is the receiver of a channel takes messages of its sender, if its automaton is declared
 abbrev pub receives_if_receiver : List SourceDeclaration → Channel → SourceNode → Bool

@@ -23,6 +23,7 @@ ghost use Rattle.ioa_check.specs.Standing.{StandsInChannel, StandsInChannels};
 use crate::building::{declare, program_of};
 use crate::first_form::{is_first_declaration, is_first_placement};
 use crate::refusal::{CheckFault, Refusal, Row};
+use ioa_actions::{RECEIVE, SEND};
 use ioa_source::{Automaton, Channel, Declaration, Entry, Node, Parameter, Placement, Text};
 use ioa_system::{Program, Scope, System};
 use ioa_terms::{Names, Tree, Word};
@@ -470,10 +471,10 @@ fn is_at_home(automaton: &Automaton<(), ()>, number: i64) -> bool
 fn entry_is_at_home(entry: &Entry<(), ()>, number: i64) -> bool
     ensures { result ≡ spec.is_at_home number (entry_of entry.now) }
 {
-    if entry.name.as_str() == "send" && !has_constant(&entry.parameters, 1, number) {
+    if entry.name.as_str() == SEND && !has_constant(&entry.parameters, 1, number) {
         return false;
     }
-    if entry.name.as_str() == "receive" && !has_constant(&entry.parameters, 2, number) {
+    if entry.name.as_str() == RECEIVE && !has_constant(&entry.parameters, 2, number) {
         return false;
     }
     true
@@ -507,7 +508,7 @@ fn takes_from(automaton: &Automaton<(), ()>, sender: i64) -> bool
     ensures { result ≡ spec.takes_from sender (automaton_of automaton.now) }
 {
     for entry in &automaton.signature {
-        if entry.name.as_str() == "receive" && has_constant(&entry.parameters, 1, sender) {
+        if entry.name.as_str() == RECEIVE && has_constant(&entry.parameters, 1, sender) {
             return true;
         }
     }

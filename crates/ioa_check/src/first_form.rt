@@ -11,6 +11,7 @@ ghost use Rattle.ioa_check.specs.FirstForm as spec;
 ghost use Rattle.ioa_check.specs.FirstSorts as sorts;
 
 use crate::resolving::{is_guard, is_number};
+use ioa_actions::{RECEIVE, SEND};
 use ioa_source::{Automaton, Declaration, Entry, Parameter, Placement, Sort, Transition, Variable};
 use ioa_terms::{BinaryOperator, Kind, Statement, Target, Term, Word};
 
@@ -76,8 +77,8 @@ fn is_first_name(kind: Kind, name: &Word) -> bool
     ensures { result ≡ spec.is_first_name kind name.now }
 {
     match kind {
-        Kind::Input => name.as_str() == "receive",
-        Kind::Output => name.as_str() == "send",
+        Kind::Input => name.as_str() == RECEIVE,
+        Kind::Output => name.as_str() == SEND,
         Kind::Internal => false,
     }
 }

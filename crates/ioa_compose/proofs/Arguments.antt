@@ -11,7 +11,8 @@ use Rattle.ioa_actions.specs.declared.action.Action.{Action}
 use Rattle.ioa_source.specs.PlainText.{const, named}
 use Rattle.ioa_source.specs.Sides.{CheckedEntry, CheckedParameter, CheckedVariable}
 use Rattle.ioa_system.specs.ResolvedPrograms.{own_names, variable_names, scope_of}
-use Rattle.ioa_compose.specs.NodeStep.{effect_answer, arguments_agree, parameter_agrees, are_natural, own_values, entry_agrees, kind_agrees, action_name, action_arguments}
+use Rattle.ioa_compose.specs.NodeStep.{effect_answer, arguments_agree, parameter_agrees, are_natural, own_values, entry_agrees, kind_agrees}
+use Rattle.ioa_actions.specs.ActionParts.{action_name, action_arguments}
 
 second_true : (a b : Bool) → a && b ≡ true → b ≡ true
 second_true true b h = h

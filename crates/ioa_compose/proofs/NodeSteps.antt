@@ -11,6 +11,7 @@ use Rattle.ioa_operators.specs.RangeCheck.{range_check}
 use Rattle.ioa_terms.specs.Meaning.{value, numbers_met, answer}
 use Rattle.ioa_terms.specs.Performance.{after, numbers_met_by, answer_by}
 use Rattle.ioa_actions.specs.declared.action.Action.{Action}
+use Rattle.ioa_actions.specs.ActionParts.{action_arguments}
 use Rattle.ioa_operators.specs.declared.fault.TermFault.{TermFault}
 use Rattle.ioa_operators.specs.declared.fault.TermFault.TheVariants as term
 use Rattle.ioa_source.specs.Sides.{CheckedEntry, CheckedTerm, CheckedTransition}
@@ -18,7 +19,7 @@ use Rattle.ioa_system.specs.Parts.{PlainRule}
 use Rattle.ioa_compose.specs.declared.fault.StepFault.{StepFault}
 use Rattle.ioa_compose.specs.declared.fault.StepFault.TheVariants.{Undefined}
 use Rattle.ioa_compose.specs.NodeState.{NodeState, node_state}
-use Rattle.ioa_compose.specs.NodeStep.{truth_answer, value_answer, guard_answer, effect_answer, transition_answer, step_answer, are_natural, action_arguments, rule_for, rule_answer, node_answer, rule_bindings, GuardHolds, IsNodeStep, numbers_met_by_guard, numbers_met_by_rule, FitsNodeStep}
+use Rattle.ioa_compose.specs.NodeStep.{truth_answer, value_answer, guard_answer, effect_answer, transition_answer, step_answer, are_natural, rule_for, rule_answer, node_answer, rule_bindings, GuardHolds, IsNodeStep, numbers_met_by_guard, numbers_met_by_rule, FitsNodeStep}
 
 -- every number among results lies within 64 bits
 abbrev AreWithin : List Data → Type 0

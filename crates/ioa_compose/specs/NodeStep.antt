@@ -1,8 +1,8 @@
 -- Steps of a node's automaton (Lynch 8.1).
 use Rattle.std.specs.Prelude.{◌≡◌, ℕ, Bool, true, false, not, ◌&&◌, if◌then◌else◌, Option, Some, None, Result, Ok, Err}
-use Rattle.std.specs.Prelude.{List, [], ◌∷◌, ◌++◌, map, length, take, find, codes}
+use Rattle.std.specs.Prelude.{List, [], ◌∷◌, ◌++◌, map, length, take, find}
 use Rattle.std.specs.List.{zip, list_all}
-use Rattle.ioa_values.specs.Data.{Data, number, truth, as_truth, is_within}
+use Rattle.ioa_values.specs.Data.{Data, truth, as_truth, is_within}
 use Rattle.ioa_values.specs.Outcome.{and_then}
 use Rattle.ioa_values.specs.DataOrder.{same}
 use Rattle.ioa_terms.specs.Bindings.{Bindings, same_name}
@@ -10,6 +10,7 @@ use Rattle.ioa_terms.specs.Meaning.{value, numbers_met, answer}
 use Rattle.ioa_terms.specs.Performance.{after, numbers_met_by, answer_by}
 use Rattle.ioa_terms.specs.declared.tree.Kind.{Kind}
 use Rattle.ioa_terms.specs.declared.tree.Kind.TheVariants.{Input, Output, Internal}
+use Rattle.ioa_actions.specs.ActionParts.{send_name, receive_name, action_name, action_arguments}
 use Rattle.ioa_actions.specs.declared.action.Action.{Action}
 use Rattle.ioa_actions.specs.declared.action.Action.TheVariants.{Send, Receive, Local, Stimulus}
 use Rattle.ioa_operators.specs.Shapes.{has_shape, wide_shape}
@@ -23,20 +24,6 @@ use Rattle.ioa_compose.specs.StepFaults.{step_fault}
 use Rattle.ioa_compose.specs.declared.fault.StepFault.{StepFault}
 use Rattle.ioa_compose.specs.declared.fault.StepFault.TheVariants.{NotEnabled, NotMine, Undefined}
 
--- the name of an action
-abbrev pub action_name : Action → List ℕ
-action_name (Send m i j) = codes "send"
-action_name (Receive m i j) = codes "receive"
-action_name (Local a) = a.name
-action_name (Stimulus a) = a.name
-
--- the values of an action's arguments
-abbrev pub action_arguments : Action → List Data
-action_arguments (Send m i j) = m ∷ number i ∷ number j ∷ []
-action_arguments (Receive m i j) = m ∷ number i ∷ number j ∷ []
-action_arguments (Local a) = a.arguments
-action_arguments (Stimulus a) = a.arguments
-
 -- whether an action's kind is that of an entry: a send is the output `send`, a receive the input `receive`, a local
 -- action another output or an internal action, a stimulus another input (profile)
 abbrev pub kind_agrees : Action → Kind → Bool
@@ -47,9 +34,9 @@ kind_agrees (Receive m i j) Input = true
 kind_agrees (Receive m i j) Output = false
 kind_agrees (Receive m i j) Internal = false
 kind_agrees (Local a) Input = false
-kind_agrees (Local a) Output = not (same_name a.name (codes "send"))
+kind_agrees (Local a) Output = not (same_name a.name send_name)
 kind_agrees (Local a) Internal = true
-kind_agrees (Stimulus a) Input = not (same_name a.name (codes "receive"))
+kind_agrees (Stimulus a) Input = not (same_name a.name receive_name)
 kind_agrees (Stimulus a) Output = false
 kind_agrees (Stimulus a) Internal = false
 

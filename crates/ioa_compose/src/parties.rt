@@ -18,26 +18,17 @@ pub enum Parties {
 pub fn participants(action: &Action) -> Parties
     ensures { participant_list result ≡ participants_of action.now }
 {
+    let node = Component::Node(action.node());
     match action {
-        Action::Send { from, to, .. } => Parties::Two(
-            Component::Channel {
+        Action::Send { from, to, .. } | Action::Receive { from, to, .. } => {
+            let channel = Component::Channel {
                 from: *from,
                 to: *to,
-            },
-            Component::Node(*from),
-        ),
-        Action::Receive { from, to, .. } => Parties::Two(
-            Component::Channel {
-                from: *from,
-                to: *to,
-            },
-            Component::Node(*to),
-        ),
-        Action::Local(local) => Parties::One(Component::Node(local.node)),
-        Action::Stimulus(stimulus) => Parties::Two(
-            Component::Script(stimulus.node),
-            Component::Node(stimulus.node),
-        ),
+            };
+            Parties::Two(channel, node)
+        }
+        Action::Local(_) => Parties::One(node),
+        Action::Stimulus(stimulus) => Parties::Two(Component::Script(stimulus.node), node),
     }
 }
 

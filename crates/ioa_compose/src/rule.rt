@@ -1,12 +1,12 @@
 //! The rule of a program that an action takes, and the values that the rule leaves.
 
-ghost use Rattle.std.specs.Prelude.{◌≡◌, ◌++◌, ◌≤◌, [], ◌∷◌, IfOk, OnOk, IfSome, true, map, length};
+ghost use Rattle.std.specs.Prelude.{◌≡◌, ◌++◌, ◌≤◌, [], IfOk, OnOk, IfSome, true, map, length};
 ghost use Rattle.std.specs.Option.{option_copied, option_map};
 ghost use Rattle.std.specs.List.{zip};
 ghost use Rattle.ioa_source.specs.TextView.{entry_of, parameter_of};
 ghost use Rattle.ioa_terms.specs.View.{term_of, statement_of};
-ghost use Rattle.ioa_values.specs.Data.{number};
 ghost use Rattle.ioa_values.specs.Outcome.{Answers};
+ghost use Rattle.ioa_actions.specs.ActionParts.{action_arguments};
 ghost use Rattle.ioa_system.specs.ResolvedPrograms.{IsResolvedRule, IsResolvedGuard};
 ghost use Rattle.ioa_system.specs.ResolvedPrograms.{IsResolvedParameter, AreResolvedParameters};
 ghost use Rattle.ioa_compose.specs.NodeStep as spec;
@@ -16,53 +16,12 @@ ghost use Rattle.ioa_terms.specs.Resolved.{AreResolved, IsResolved};
 ghost use Rattle.ioa_terms.specs.Bindings.{names_of};
 
 use crate::fault::StepFault;
-use ioa_actions::Action;
+use ioa_actions::{Action, RECEIVE, SEND};
 use ioa_source::{Entry, Parameter};
 use ioa_system::{Program, Rule};
 use ioa_terms::{Checked, Env, Kind, Shape, Statement, TermFault, Value, Word, eval, perform};
 use ioa_values::copies;
 use std::alloc::{AllocError, Global};
-
-/// The name of an action.
-fn action_name(action: &Action) -> &str
-    ensures { result.now ≡ spec.action_name action.now }
-{
-    match action {
-        Action::Send { .. } => "send",
-        Action::Receive { .. } => "receive",
-        Action::Local(local) => local.name.as_str(),
-        Action::Stimulus(stimulus) => stimulus.name.as_str(),
-    }
-}
-
-/// The values of an action's arguments, all of them.
-pub fn action_arguments(alloc: Global, action: &Action) -> Result<Vec<Value>, AllocError>
-    ensures { IfOk result (λ v. v.items ≡ spec.action_arguments action.now) }
-{
-    match action {
-        Action::Send { message, from, to } | Action::Receive { message, from, to } => {
-            message_arguments(alloc, message, *from, *to)
-        }
-        Action::Local(local) => copies(alloc, local.arguments.as_slice()),
-        Action::Stimulus(stimulus) => copies(alloc, stimulus.arguments.as_slice()),
-    }
-}
-
-/// The arguments of a send or a receive.
-fn message_arguments(
-    alloc: Global,
-    message: &Value,
-    from: i64,
-    to: i64,
-) -> Result<Vec<Value>, AllocError>
-    ensures { IfOk result (λ v. v.items ≡ message.now ∷ number from ∷ number to ∷ []) }
-{
-    let mut arguments = Vec::new(alloc);
-    arguments.push(message.try_copy(alloc)?)?;
-    arguments.push(Value::number(from))?;
-    arguments.push(Value::number(to))?;
-    Ok(arguments)
-}
 
 /// Whether an action is of an entry's kind.
 fn kind_agrees(action: &Action, kind: Kind) -> bool
@@ -73,11 +32,11 @@ fn kind_agrees(action: &Action, kind: Kind) -> bool
         Action::Receive { .. } => kind == Kind::Input,
         Action::Local(local) => match kind {
             Kind::Input => false,
-            Kind::Output => local.name.as_str() != "send",
+            Kind::Output => local.name.as_str() != SEND,
             Kind::Internal => true,
         },
         Action::Stimulus(stimulus) => match kind {
-            Kind::Input => stimulus.name.as_str() != "receive",
+            Kind::Input => stimulus.name.as_str() != RECEIVE,
             Kind::Output => false,
             Kind::Internal => false,
         },
@@ -165,10 +124,10 @@ fn entry_agrees(
     arguments: &[Value],
 ) -> Result<bool, AllocError>
     requires resolved { AreResolvedParameters (entry_of entry.now).parameters }
-    requires own { arguments.now ≡ spec.action_arguments action.now }
+    requires own { arguments.now ≡ action_arguments action.now }
     ensures { IfOk result (λ b. b ≡ spec.entry_agrees action.now (entry_of entry.now)) }
 {
-    if entry.name.as_str() != action_name(action) {
+    if entry.name.as_str() != action.name() {
         return Ok(false);
     }
     if !kind_agrees(action, entry.kind) {
@@ -184,7 +143,7 @@ pub fn rule_for<'a>(
     action: &Action,
     arguments: &[Value],
 ) -> Result<Option<&'a Rule>, AllocError>
-    requires { arguments.now ≡ spec.action_arguments action.now }
+    requires { arguments.now ≡ action_arguments action.now }
     ensures found { IfOk result (λ r. option_copied r ≡ spec.rule_for action.now program.now.rules) }
     ensures resolved { IfOk result (λ r. IfSome r (λ x. IsResolvedRule program.now.variables x.now)) }
     ensures agrees { IfOk result (λ r. IfSome r (λ x. spec.entry_agrees action.now x.now.entry ≡ true)) }
@@ -209,7 +168,7 @@ pub fn values_after(
         (spec.program_answer program.now variables.now action.now) }
     ensures valued { IfOk result (λ v. length v.items ≡ length variables.now) }
 {
-    let arguments = action_arguments(alloc, action)?;
+    let arguments = action.arguments(alloc)?;
     match rule_for(alloc, program, action, &arguments)? {
         None => Err(StepFault::NotMine),
         Some(rule) => take_transition(alloc, rule, &arguments, variables),

@@ -2,6 +2,7 @@
 use Rattle.std.specs.Prelude.{◌≡◌, ℕ, ℤ, ◌+◌, ◌<◌, ◌^◌, nat_lt, if◌then◌else◌, List, length}
 use Rattle.std.specs.Prelude.{Option, Some, None, Result, Ok, Err}
 use Rattle.std.specs.Ordering.{int_eq}
+use Rattle.ioa_actions.specs.ActionParts.{node_of}
 use Rattle.ioa_actions.specs.declared.action.Action.{Action}
 use Rattle.ioa_actions.specs.declared.component.Component.TheVariants as component
 use Rattle.ioa_operators.specs.declared.fault.TermFault.{TermFault}
@@ -19,7 +20,7 @@ use Rattle.ioa_workers.specs.declared.running.Progress.{Progress}
 use Rattle.ioa_workers.specs.declared.running.AttemptOutcome.{AttemptOutcome}
 use Rattle.ioa_workers.specs.declared.running.AttemptOutcome.TheVariants as outcome
 use Rattle.ioa_record.specs.NodeFaults.{fault_of_term}
-use Rattle.ioa_workers.specs.Turns.{node_turn, firing_node}
+use Rattle.ioa_workers.specs.Turns.{node_turn}
 
 -- what an attempt of a node comes to, if it meets no fault: nothing is left of its block, the action is missed, or
 -- the action is taken and leads to these configurations
@@ -56,7 +57,7 @@ step_outcome limit schedule a (Err step.NoChannel) = Err NoChannel
 -- what firing an action at node k comes to: an action of another node is not the node's own
 abbrev pub fire_answer : ℕ → List Action → List Conf → ℤ → Action → Result PlainAttemptOutcome NodeFault
 fire_answer limit schedule states k a =
-    if int_eq (firing_node a) k then step_outcome limit schedule a (joint_answer a states) else Err NotMine
+    if int_eq (node_of a) k then step_outcome limit schedule a (joint_answer a states) else Err NotMine
 
 -- what an attempt of node k comes to by the result of its turn
 abbrev pub turn_outcome : ℕ → List Action → List Conf → ℤ → Result Turn TermFault → Result PlainAttemptOutcome NodeFault

@@ -5,8 +5,7 @@ ghost use Rattle.std.specs.List.{list_all, list_any};
 ghost use Rattle.std.specs.Arc.{arc_value};
 ghost use Rattle.ioa_values.specs.Outcome.{Answers};
 ghost use Rattle.ioa_compose.specs.Composition.{joint_answer};
-ghost use Rattle.std.specs.Ordering.{int_eq};
-ghost use Rattle.ioa_workers.specs.Turns.{FitsAfterTurn, firing_node};
+ghost use Rattle.ioa_workers.specs.Turns.{FitsAfterTurn};
 ghost use Rattle.ioa_workers.specs.Attempts.{attempt_outcome_of, turn_at, step_outcome, fire_answer, attempt_answer};
 ghost use Rattle.ioa_workers.specs.Attempts.{FitsAfterAttempt, IsStepOf};
 ghost use Rattle.ioa_workers.specs.Recorded.{Continues, IsRunOf};
@@ -14,7 +13,7 @@ ghost use Rattle.ioa_workers.specs.Solo.{IsSoloRun, IsEndedBy, ending_of, has_en
 ghost use Rattle.ioa_workers.specs.Solo.{progress_at, course_of, visit, round, rounds, short_of_memory};
 
 use crate::options::Options;
-use crate::turn::{Turn, firing_node, next};
+use crate::turn::{Turn, next};
 use ioa_actions::{Action, Component};
 use ioa_compose::{Conf, StepFault, find_conf, joint_step, start};
 use ioa_record::{Ending, NodeFault, Record};
@@ -281,18 +280,11 @@ fn fire(
         (fire_answer limit course.now.schedule.items course.now.states.items node action) }
     ensures step { IfOk result (IsStepOf limit course.now) }
 {
-    if is_fired_by(&action, node) {
+    if action.node() == node {
         take(alloc, limit, course, action)
     } else {
         Err(NodeFault::NotMine)
     }
-}
-
-/// Whether an action is fired by the program of this node.
-fn is_fired_by(action: &Action, node: i64) -> bool
-    ensures { result ≡ int_eq (firing_node action.now) node }
-{
-    firing_node(action) == node
 }
 
 /// The joint step of an action. An action that is not enabled is missed; a step is `Full` (52) if the schedule is as

@@ -1,16 +1,15 @@
 //! Turns of a schedule block.
 
 ghost use Rattle.std.specs.Prelude.{◌≡◌, IfOk, map};
-ghost use Rattle.std.specs.Option.{option_map};
 ghost use Rattle.ioa_values.specs.Outcome.{Answers};
 ghost use Rattle.ioa_terms.specs.Bindings.{names_of};
 ghost use Rattle.ioa_terms.specs.View.{term_of, statement_of};
 ghost use Rattle.ioa_source.specs.TextView.{variable_of};
 ghost use Rattle.ioa_system.specs.ResolvedPrograms.{AreResolvedTerms, IsResolvedFiring, variable_names};
-ghost use Rattle.ioa_workers.specs.Turns.{block_bindings, answers, message_and_ends, action_at, firing_node};
+ghost use Rattle.ioa_workers.specs.Turns.{block_bindings, answers};
 ghost use Rattle.ioa_workers.specs.Turns.{statement_answer, node_turn, FitsAfterTurn};
 
-use ioa_actions::{Action, NodeAction, Values};
+use ioa_actions::Action;
 use ioa_compose::NodeConf;
 use ioa_source::Variable;
 use ioa_terms::{Checked, Env, Shape, Statement, TermFault, Value, Word, eval};
@@ -52,7 +51,7 @@ fn fire(
     match statement {
         Statement::Fire(_, name, terms) => {
             let arguments = arguments_of(alloc, node, terms)?;
-            Ok(Turn::Fire(action_at(alloc, node.node(), name, arguments)?))
+            Ok(Turn::Fire(Action::at_node(alloc, node.node(), name, arguments)?))
         }
         _ => Err(TermFault::Undefined),
     }
@@ -94,52 +93,4 @@ fn values_of(alloc: Global, terms: &[Checked], env: &Env) -> Result<Vec<Value>, 
         values.push(eval(alloc, term, env)?)?;
     }
     Ok(values)
-}
-
-/// A message and the two ends of its channel, if the arguments are these.
-fn message_and_ends(arguments: &[Value]) -> Option<(&Value, i64, i64)>
-    ensures { option_map (λ p. (p.0.now, p.1, p.2)) result ≡ message_and_ends arguments.now }
-{
-    match arguments {
-        [message, from, to] => Some((message, from.as_number()?, to.as_number()?)),
-        _ => None,
-    }
-}
-
-/// The action that a firing at a node names: a send, a receive, or another action of the node.
-fn action_at(
-    alloc: Global,
-    node: i64,
-    name: &Word,
-    arguments: Vec<Value>,
-) -> Result<Action, AllocError>
-    ensures { IfOk result (λ a. a ≡ action_at node name.now arguments.items) }
-{
-    if let Some((message, from, to)) = message_and_ends(&arguments) {
-        if name.as_str() == "send" {
-            let message = message.try_copy(alloc)?;
-            return Ok(Action::Send { message, from, to });
-        }
-        if name.as_str() == "receive" {
-            let message = message.try_copy(alloc)?;
-            return Ok(Action::Receive { message, from, to });
-        }
-    }
-    Ok(Action::Local(NodeAction {
-        node,
-        name: name.try_copy(alloc)?,
-        arguments: Values::from_vec(arguments),
-    }))
-}
-
-/// The node whose program an action is fired by.
-pub fn firing_node(action: &Action) -> i64
-    ensures { result ≡ firing_node action.now }
-{
-    match action {
-        Action::Send { from, .. } => *from,
-        Action::Receive { to, .. } => *to,
-        Action::Local(action) => action.node,
-        Action::Stimulus(action) => action.node,
-    }
 }
