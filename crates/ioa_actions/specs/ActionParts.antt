@@ -45,7 +45,8 @@ message_of (Stimulus a) = None
 
 -- a message and the two ends of its channel, if the arguments are these
 abbrev pub message_and_ends : List Data → Option (Data × ℤ × ℤ)
-message_and_ends (m ∷ x ∷ y ∷ []) = option_and_then (λ i. option_map (λ j. (m, i, j)) (as_number y)) (as_number x)
+message_and_ends (m ∷ x ∷ y ∷ []) =
+    option_and_then (λ i. option_map (λ j. (m, i, j)) (as_number y)) (as_number x)
 message_and_ends _ = None
 
 -- the action of node k with this name and these arguments, which are a message and its ends, or are not

@@ -20,8 +20,8 @@ node_action_text names a = a.name ++ (arguments_text names a.arguments ++ (codes
 -- a send or a receive: its name, and in round brackets the message's text and the two nodes
 abbrev pub message_text : List ℕ → List ℕ → ℤ → ℤ → List ℕ
 message_text name message i j =
-    name
-    ++ (codes "(" ++ (message ++ (codes ", " ++ (signed_decimal i ++ (codes ", " ++ (signed_decimal j ++ codes ")"))))))
+    name ++ (codes "(" ++ (message ++ (codes ", " ++ (signed_decimal i
+    ++ (codes ", " ++ (signed_decimal j ++ codes ")"))))))
 
 -- an action
 abbrev pub action_text : List (List ℕ) → Action → List ℕ

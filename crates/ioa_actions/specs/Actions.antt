@@ -36,8 +36,8 @@ action_kind (Receive m i j) = 1
 action_kind (Local a) = 2
 action_kind (Stimulus a) = 3
 
--- how two actions compare: those of one kind by the first part that differs, message, sender and receiver; those of two
--- kinds by their kinds
+-- how two actions compare: those of one kind by the first part that differs, message, sender and receiver; those of
+-- two kinds by their kinds
 abbrev pub action_cmp : Action → Action → Ordering
 action_cmp (Send m i j) (Send n k l) = ordering_then (data_cmp m n) (ordering_then (int_cmp i k) (int_cmp j l))
 action_cmp (Receive m i j) (Receive n k l) = ordering_then (data_cmp m n) (ordering_then (int_cmp i k) (int_cmp j l))

@@ -3,8 +3,10 @@
 
 mod action;
 mod component;
+mod laws;
 mod text;
 
 pub use action::{Action, NodeAction, RECEIVE, SEND, Values};
 pub use component::Component;
+pub use laws::parts_law;
 pub use text::{push_listed, show_action, show_node_action};

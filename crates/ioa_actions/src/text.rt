@@ -46,7 +46,8 @@ fn show_arguments(alloc: Global, names: &Names, values: &[Value]) -> Result<Stri
 
 /// The text of an action of a node: name, arguments and node.
 fn show_at_node(alloc: Global, name: &str, arguments: &str, node: i64) -> Result<String, AllocError>
-    ensures { IfOk result (λ s. string_bytes s ≡ name.now ++ (arguments.now ++ (codes "@" ++ signed_decimal node))) }
+    ensures { IfOk result
+        (λ s. string_bytes s ≡ name.now ++ (arguments.now ++ (codes "@" ++ signed_decimal node))) }
 {
     format!(in alloc; "{name}{arguments}@{node}")
 }
