@@ -7,4 +7,5 @@ pub mod NoneStands
 pub mod Parts
 pub mod Refused
 pub mod Rows
+pub mod Searches
 pub mod Shaped

@@ -341,12 +341,8 @@ fn transitions_have_entries(automaton: &Automaton<(), ()>) -> Result<(), Refusal
 fn has_entry(automaton: &Automaton<(), ()>, transition: &Transition<(), ()>) -> bool
     ensures { result ≡ has_entry (automaton_of automaton.now).signature (transition_of transition.now) }
 {
-    for entry in &automaton.signature {
-        if entry.name == transition.name && entry.kind == transition.kind {
-            return true;
-        }
-    }
-    false
+    automaton.signature.iter().any(|entry| entry.name == transition.name
+        && entry.kind == transition.kind)
 }
 
 /// Passes if each firing has the name of an entry, and as many arguments as that has parameters.
@@ -382,12 +378,7 @@ fn fires_entry(automaton: &Automaton<(), ()>, statement: &Statement<(), ()>) -> 
 fn is_entry(automaton: &Automaton<(), ()>, name: &Word) -> bool
     ensures { result ≡ list_any (λ e. same_name e.name name.now) (automaton_of automaton.now).signature }
 {
-    for entry in &automaton.signature {
-        if entry.name == *name {
-            return true;
-        }
-    }
-    false
+    automaton.signature.iter().any(|entry| entry.name == *name)
 }
 
 /// Whether a statement, if it is a firing, has as many arguments as the entries of its name have
@@ -406,10 +397,6 @@ fn takes_as_many(automaton: &Automaton<(), ()>, name: &Word, arguments: &[Term])
     ensures { result ≡ list_all (takes_as_many name.now (length (map term_of arguments.now)))
         (automaton_of automaton.now).signature }
 {
-    for entry in &automaton.signature {
-        if entry.name == *name && entry.parameters.len() != arguments.len() {
-            return false;
-        }
-    }
-    true
+    automaton.signature.iter().all(|entry| entry.name != *name
+        || entry.parameters.len() == arguments.len())
 }

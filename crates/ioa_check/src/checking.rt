@@ -228,12 +228,7 @@ fn is_numbered_as(nodes: &[&Node<(), ()>], other: &Node<(), ()>) -> bool
 fn is_node(nodes: &[&Node<(), ()>], number: i64) -> bool
     ensures { result ≡ spec.is_node (map node_at nodes.now) number }
 {
-    for node in nodes {
-        if node.number == number {
-            return true;
-        }
-    }
-    false
+    nodes.iter().any(|node| node.number == number)
 }
 
 /// Passes if no two channels are between the same nodes in the same direction.
@@ -253,12 +248,7 @@ fn channels_differ(channels: &[Channel]) -> Result<(), Refusal>
 fn is_channel(channels: &[Channel], channel: &Channel) -> bool
     ensures { result ≡ list_any (λ c. spec.same_channel c channel.now) channels.now }
 {
-    for other in channels {
-        if other.from == channel.from && other.to == channel.to {
-            return true;
-        }
-    }
-    false
+    channels.iter().any(|other| other.from == channel.from && other.to == channel.to)
 }
 
 /// Passes if each node's automaton is declared, its sends are from that node and its receives to it.
@@ -336,12 +326,9 @@ fn check_channel(
 fn has_input(text: &Text<(), ()>, nodes: &[&Node<(), ()>], channel: &Channel) -> bool
     ensures { result ≡ spec.has_input (text_of text.now).declarations (map node_at nodes.now) channel.now }
 {
-    for node in nodes {
-        if !receives_if_receiver(text, node, channel) {
-            return false;
-        }
-    }
-    true
+    nodes
+        .iter()
+        .all(|node| receives_if_receiver(text, node, channel))
 }
 
 /// Whether a node takes messages of the sender of a channel, if it is the receiver.
@@ -507,10 +494,6 @@ fn is_constant(parameter: &Parameter<(), ()>, number: i64) -> bool
 fn takes_from(automaton: &Automaton<(), ()>, sender: i64) -> bool
     ensures { result ≡ spec.takes_from sender (automaton_of automaton.now) }
 {
-    for entry in &automaton.signature {
-        if entry.name.as_str() == RECEIVE && has_constant(&entry.parameters, 1, sender) {
-            return true;
-        }
-    }
-    false
+    automaton.signature.iter().any(|entry| entry.name.as_str() == RECEIVE
+        && has_constant(&entry.parameters, 1, sender))
 }
