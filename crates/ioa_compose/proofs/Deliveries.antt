@@ -17,7 +17,7 @@ use Rattle.ioa_compose.specs.Participants.{same_component}
 use Rattle.ioa_compose.specs.Composition.{conf_answer}
 use Rattle.ioa_compose.specs.Executions.{after_step, replay, replay_one, projection_of}
 use Rattle.ioa_compose.specs.Channels.{messages_sent, messages_received, HandsOutInOrder, HandsOutPrefix}
-use Rattle.ioa_compose.proofs.Items.{same_item_is}
+use Rattle.ioa_compose.specs.SameItems.{same_item_is}
 use Rattle.ioa_compose.proofs.Projections.{projects}
 
 -- a queue that takes messages in and hands messages out, in order

@@ -8,3 +8,4 @@ pub mod NodeSteps
 pub mod Positions
 pub mod Projections
 pub mod Replays
+pub mod SameConfs

@@ -6,5 +6,7 @@ pub mod NodeState
 pub mod NodeStep
 pub mod Participants
 pub mod Queues
+pub mod SameConfs
+pub mod SameItems
 pub mod Start
 pub mod StepFaults

@@ -1,8 +1,9 @@
 //! Configurations of components.
 
-ghost use Rattle.std.specs.Prelude.{◌≡◌, IfOk};
+ghost use Rattle.std.specs.Prelude.{◌≡◌, ◌↔◌, IfOk, IsTrue};
 ghost use Rattle.ioa_values.specs.Outcome.{Answers};
 ghost use Rattle.ioa_compose.specs.Composition.{component_of, conf_answer};
+ghost use Rattle.ioa_compose.specs.SameConfs.{same_conf};
 
 use crate::fault::StepFault;
 use crate::node::NodeConf;
@@ -27,6 +28,25 @@ impl Conf {
         match self {
             Conf::Node(node) => Component::Node(node.node()),
             Conf::Queue(queue) => queue.component(),
+        }
+    }
+
+    /// Whether two configurations are the same. Costs time in proportion to the shorter one.
+    #[tactic(auto, using(crate::proofs::SameConfs::same_conf_is))]
+    pub fn equals(&self, other: &Self) -> bool
+        ensures equality { IsTrue result ↔ (self.now ≡ other.now) }
+    {
+        self.is_same(other)
+    }
+
+    /// Whether two configurations are of one kind and have the same parts.
+    fn is_same(&self, other: &Self) -> bool
+        ensures { result ≡ same_conf self.now other.now }
+    {
+        match (self, other) {
+            (Conf::Node(node), Conf::Node(second)) => node.is_same(second),
+            (Conf::Queue(queue), Conf::Queue(second)) => queue.is_same(second),
+            _ => false,
         }
     }
 

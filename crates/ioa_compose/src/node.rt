@@ -1,8 +1,9 @@
 //! Node configurations and their steps.
 
-ghost use Rattle.std.specs.Prelude.{◌≡◌, IfOk, length};
+ghost use Rattle.std.specs.Prelude.{◌≡◌, ◌↔◌, IfOk, IsTrue, length};
 ghost use Rattle.ioa_values.specs.Outcome.{Answers};
 ghost use Rattle.ioa_compose.specs.NodeStep.{node_answer};
+ghost use Rattle.ioa_compose.specs.SameConfs.{same_node};
 ghost use Rattle.std.specs.Arc.{arc_value};
 ghost use Rattle.ioa_compose.specs.NodeState.{node_state};
 
@@ -67,6 +68,22 @@ impl NodeConf {
         ensures valued { length result.now ≡ length self.now.program.variables }
     {
         &self.variables
+    }
+
+    /// Whether two configurations are the same: their values, and their programs by value. Costs time in proportion to
+    /// the shorter one.
+    #[tactic(auto, using(crate::proofs::SameConfs::same_node_is))]
+    pub fn equals(&self, other: &Self) -> bool
+        ensures equality { IsTrue result ↔ (self.now ≡ other.now) }
+    {
+        self.is_same(other)
+    }
+
+    /// Whether two configurations have the same values and the same program.
+    pub(crate) fn is_same(&self, other: &Self) -> bool
+        ensures { result ≡ same_node self.now other.now }
+    {
+        self.variables == other.variables && self.program.equals(&other.program)
     }
 
     /// An equal configuration with its own values; the program is shared.

@@ -4,6 +4,7 @@ ghost use Rattle.std.specs.Prelude.{◌≡◌, ◌≢◌, ◌↔◌, [], ◌∷�
 ghost use Rattle.std.specs.Option.{option_copied};
 ghost use Rattle.ioa_values.specs.Outcome.{Answers};
 ghost use Rattle.ioa_compose.specs.Queues.{queue_state, same_item, with_last, without_first, queue_answer};
+ghost use Rattle.ioa_compose.specs.SameConfs.{same_queue};
 
 use crate::fault::StepFault;
 use ioa_actions::{Action, Component, NodeAction};
@@ -32,20 +33,55 @@ impl Item {
     }
 
     /// Whether two items are the same.
+    #[tactic(auto, using(crate::specs::SameItems::same_item_is))]
     pub fn equals(&self, other: &Self) -> bool
         ensures value { result ≡ same_item self.now other.now }
         ensures equality { IsTrue result ↔ (self.now ≡ other.now) }
     {
-        match self {
-            Item::Message(message) => match other {
-                Item::Message(second) => message.equals(second),
-                Item::Stimulus(_) => false,
-            },
-            Item::Stimulus(action) => match other {
-                Item::Message(_) => false,
-                Item::Stimulus(second) => action.equals(second),
-            },
+        self.is_same(other)
+    }
+
+    /// Whether two items are of one kind and have the same in them.
+    fn is_same(&self, other: &Self) -> bool
+        ensures { result ≡ same_item self.now other.now }
+    {
+        match other {
+            Item::Message(message) => self.is_message(message),
+            Item::Stimulus(action) => self.is_stimulus(action),
         }
+    }
+
+    /// Whether the item is this message.
+    fn is_message(&self, message: &Value) -> bool
+        ensures { result ≡ same_item self.now (Item.Message message.now) }
+    {
+        match self {
+            Item::Message(own) => own.equals(message),
+            Item::Stimulus(_) => false,
+        }
+    }
+
+    /// Whether the item is this stimulus.
+    fn is_stimulus(&self, action: &NodeAction) -> bool
+        ensures { result ≡ same_item self.now (Item.Stimulus action.now) }
+    {
+        match self {
+            Item::Message(_) => false,
+            Item::Stimulus(own) => own.equals(action),
+        }
+    }
+}
+
+impl PartialEq for Item {
+    ghost use Rattle.ioa_compose.specs.Queues.{same_item};
+    ghost use Rattle.ioa_compose.specs.SameItems.{same_item_partial};
+
+    ghost eq = { same_item };
+
+    ghost laws = { same_item_partial };
+
+    fn eq(&self, other: &Self) -> bool {
+        self.is_same(other)
     }
 }
 
@@ -110,6 +146,21 @@ impl Queue {
         self.items.first()
     }
 
+    /// Whether two queues are the same, whatever memory they are kept in. Costs time in proportion to the shorter one.
+    #[tactic(auto, using(crate::proofs::SameConfs::same_queue_is))]
+    pub fn equals(&self, other: &Self) -> bool
+        ensures equality { IsTrue result ↔ (self.now ≡ other.now) }
+    {
+        self.is_same(other)
+    }
+
+    /// Whether two queues are of one component and have the same items.
+    pub(crate) fn is_same(&self, other: &Self) -> bool
+        ensures { result ≡ same_queue self.now other.now }
+    {
+        self.component == other.component && self.items == other.items
+    }
+
     /// An equal queue with its own memory.
     pub fn try_copy(&self, alloc: Global) -> Result<Self, AllocError>
         ensures { IfOk result (λ q. q ≡ self.now) }
@@ -147,12 +198,39 @@ impl Queue {
                 if !first.equals(item) {
                     return Err(StepFault::NotEnabled);
                 }
-                let items = copy_items(alloc, rest)?;
-                Ok(Queue {
-                    component: self.component,
-                    items,
-                })
+                self.with_items(alloc, rest)
             }
+        }
+    }
+
+    /// The queue of the same component with these items.
+    fn with_items(&self, alloc: Global, items: &[Item]) -> Result<Self, StepFault>
+        ensures { Answers StepFault.Memory (λ q. q) result (Ok (queue_state self.now.component items.now)) }
+    {
+        let items = copy_items(alloc, items)?;
+        Ok(Queue {
+            component: self.component,
+            items,
+        })
+    }
+
+    /// The queue without its first item, which is to be this message.
+    fn after_message(&self, alloc: Global, message: &Value) -> Result<Self, StepFault>
+        ensures { Answers StepFault.Memory (λ q. q) result (without_first (Item.Message message.now) self.now) }
+    {
+        match self.items.as_slice() {
+            [first, rest @ ..] if first.is_message(message) => self.with_items(alloc, rest),
+            _ => Err(StepFault::NotEnabled),
+        }
+    }
+
+    /// The queue without its first item, which is to be this stimulus.
+    fn after_stimulus(&self, alloc: Global, action: &NodeAction) -> Result<Self, StepFault>
+        ensures { Answers StepFault.Memory (λ q. q) result (without_first (Item.Stimulus action.now) self.now) }
+    {
+        match self.items.as_slice() {
+            [first, rest @ ..] if first.is_stimulus(action) => self.with_items(alloc, rest),
+            _ => Err(StepFault::NotEnabled),
         }
     }
 
@@ -167,15 +245,9 @@ impl Queue {
                 let message = message.try_copy(alloc)?;
                 self.after_send(alloc, Item::Message(message))
             }
-            Action::Receive { message, .. } => {
-                let message = message.try_copy(alloc)?;
-                self.after_receive(alloc, &Item::Message(message))
-            }
+            Action::Receive { message, .. } => self.after_message(alloc, message),
             Action::Local(_) => Err(StepFault::NotMine),
-            Action::Stimulus(stimulus) => {
-                let stimulus = stimulus.try_copy(alloc)?;
-                self.after_receive(alloc, &Item::Stimulus(stimulus))
-            }
+            Action::Stimulus(stimulus) => self.after_stimulus(alloc, stimulus),
         }
     }
 }

@@ -164,10 +164,12 @@ impl Program {
     {
         self.schedule.as_slice()
     }
+
     /// Whether two programs are the same, whatever memory they are kept in. Costs time in proportion to the
     /// shorter one.
     #[tactic(auto, using(crate::specs::SameParts::same_program_is))]
     pub fn equals(&self, other: &Self) -> bool
+        ensures value { result ≡ same_program self.now other.now }
         ensures equality { IsTrue result ↔ (self.now ≡ other.now) }
     {
         self.is_same(other)
