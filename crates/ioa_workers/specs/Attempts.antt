@@ -10,7 +10,7 @@ use Rattle.ioa_compose.specs.declared.configuration.Conf.{Conf}
 use Rattle.ioa_compose.specs.declared.configuration.Conf.TheVariants.{Node, Queue}
 use Rattle.ioa_compose.specs.declared.fault.StepFault.{StepFault}
 use Rattle.ioa_compose.specs.declared.fault.StepFault.TheVariants as step
-use Rattle.ioa_compose.specs.Composition.{find_conf, joint_answer}
+use Rattle.ioa_compose.specs.Composition.{find_conf, joint_answer, put_confs}
 use Rattle.ioa_record.specs.declared.ending.NodeFault.{NodeFault}
 use Rattle.ioa_record.specs.declared.ending.NodeFault.TheVariants.{Undefined, Range, Memory, NotMine, NoChannel, Full}
 use Rattle.ioa_workers.specs.declared.turn.Turn.{Turn}
@@ -29,10 +29,11 @@ pub data PlainAttemptOutcome : Type 0 where
   missed : PlainAttemptOutcome
   taken : Action → List Conf → PlainAttemptOutcome
 
-abbrev pub attempt_outcome_of : AttemptOutcome → PlainAttemptOutcome
-attempt_outcome_of outcome.Finished = finished
-attempt_outcome_of outcome.Missed = missed
-attempt_outcome_of (outcome.Taken a next) = taken a next.items
+-- the outcome of an attempt on these configurations, of which the participants' have changed
+abbrev pub attempt_outcome_on : List Conf → AttemptOutcome → PlainAttemptOutcome
+attempt_outcome_on states outcome.Finished = finished
+attempt_outcome_on states outcome.Missed = missed
+attempt_outcome_on states (outcome.Taken a changed) = taken a (put_confs changed.items states)
 
 -- the turn of a node among configurations; a node that has none has no block
 abbrev pub turn_on : Option Conf → ℕ → Result Turn TermFault
@@ -73,11 +74,11 @@ attempt_answer limit schedule states p = turn_outcome limit schedule states p.no
 abbrev pub FitsAfterAttempt : ℕ → AttemptOutcome → Type 0
 FitsAfterAttempt passed outcome.Finished = Unit {0}
 FitsAfterAttempt passed outcome.Missed = passed + 1 < 2 ^ 64
-FitsAfterAttempt passed (outcome.Taken a next) = passed + 1 < 2 ^ 64
+FitsAfterAttempt passed (outcome.Taken a changed) = passed + 1 < 2 ^ 64
 
 -- an action that is taken is a step, for which the schedule has room
 abbrev pub IsStepOf : ℕ → Course → AttemptOutcome → Type 0
 IsStepOf limit c outcome.Finished = Unit {0}
 IsStepOf limit c outcome.Missed = Unit {0}
-IsStepOf limit c (outcome.Taken a next) =
-    (joint_answer a c.states.items ≡ Ok next.items) × (length c.schedule.items < limit)
+IsStepOf limit c (outcome.Taken a changed) =
+    (joint_answer a c.states.items ≡ Ok (put_confs changed.items c.states.items)) × (length c.schedule.items < limit)

@@ -3,10 +3,12 @@
 ghost use Rattle.std.specs.Prelude.{◌≡◌, ◌⊎◌, ◌+◌, ◌<◌, ◌++◌, [], ◌∷◌, Some, true, IfOk, OnOk, OnErr, MatchResult, map};
 ghost use Rattle.std.specs.List.{list_all, list_any};
 ghost use Rattle.std.specs.Arc.{arc_value};
+ghost use Rattle.std.specs.Ordering.{int_eq};
+ghost use Rattle.ioa_actions.specs.ActionParts.{node_of};
 ghost use Rattle.ioa_values.specs.Outcome.{Answers};
-ghost use Rattle.ioa_compose.specs.Composition.{joint_answer};
+ghost use Rattle.ioa_compose.specs.Composition.{joint_answer, put_confs};
 ghost use Rattle.ioa_workers.specs.Turns.{FitsAfterTurn};
-ghost use Rattle.ioa_workers.specs.Attempts.{attempt_outcome_of, turn_at, step_outcome, fire_answer, attempt_answer};
+ghost use Rattle.ioa_workers.specs.Attempts.{attempt_outcome_on, turn_at, step_outcome, fire_answer, attempt_answer};
 ghost use Rattle.ioa_workers.specs.Attempts.{FitsAfterAttempt, IsStepOf};
 ghost use Rattle.ioa_workers.specs.Recorded.{Continues, IsRunOf};
 ghost use Rattle.ioa_workers.specs.Solo.{IsSoloRun, IsEndedBy, ending_of, has_ended, is_cut_short, is_under_way};
@@ -15,7 +17,7 @@ ghost use Rattle.ioa_workers.specs.Solo.{progress_at, course_of, visit, round, r
 use crate::options::Options;
 use crate::turn::{Turn, next};
 use ioa_actions::{Action, Component};
-use ioa_compose::{Conf, StepFault, find_conf, joint_step, start};
+use ioa_compose::{Conf, StepFault, changes, find_conf, put_confs, start};
 use ioa_record::{Ending, NodeFault, Record};
 use ioa_system::{Program, System};
 use ioa_terms::TermFault;
@@ -46,7 +48,7 @@ enum AttemptOutcome {
     Finished,
     /// The action that was fired is not enabled.
     Missed,
-    /// The action is a step, and leads to these configurations.
+    /// The action is a step, and these are the new configurations of its participants.
     Taken(Action, Vec<Conf>),
 }
 
@@ -200,8 +202,8 @@ fn visit(
             passed: used.passed + 1,
             ..used
         }),
-        Ok(AttemptOutcome::Taken(action, states)) => {
-            commit(course, action, states)?;
+        Ok(AttemptOutcome::Taken(action, changed)) => {
+            commit(course, action, changed)?;
             Ok(Progress {
                 passed: used.passed + 1,
                 ..used
@@ -224,16 +226,16 @@ fn end_by_fault(node: Progress, fault: NodeFault) -> Result<Progress, AllocError
     }
 }
 
-/// Adds an action to the schedule, and replaces the configurations by those that it leads to. If there is no memory for
-/// that, both stay as they were.
-fn commit(course: &mut Course, action: Action, states: Vec<Conf>) -> Result<(), AllocError>
+/// Adds an action to the schedule, and replaces the configurations of its participants. If there is no memory for that,
+/// both stay as they were.
+fn commit(course: &mut Course, action: Action, changed: Vec<Conf>) -> Result<(), AllocError>
     ensures schedule { OnOk result (course.new.schedule.items ≡ course.old.schedule.items ++ action ∷ []) }
-    ensures states { OnOk result (course.new.states.items ≡ states.items) }
+    ensures states { OnOk result (course.new.states.items ≡ put_confs changed.items course.old.states.items) }
     ensures same_schedule { OnErr result (course.new.schedule.items ≡ course.old.schedule.items) }
     ensures same_states { OnErr result (course.new.states.items ≡ course.old.states.items) }
 {
     course.schedule.push(action)?;
-    course.states = states;
+    put_confs(&mut course.states, changed);
     Ok(())
 }
 
@@ -244,7 +246,7 @@ fn attempt(
     course: &Course,
     node: &Progress,
 ) -> Result<AttemptOutcome, NodeFault>
-    ensures answer { Answers NodeFault.Memory attempt_outcome_of result
+    ensures answer { Answers NodeFault.Memory (attempt_outcome_on course.now.states.items) result
         (attempt_answer limit course.now.schedule.items course.now.states.items node.now) }
     ensures step { IfOk result (IsStepOf limit course.now) }
     ensures counts { IfOk result (FitsAfterAttempt node.now.passed) }
@@ -276,15 +278,22 @@ fn fire(
     node: i64,
     action: Action,
 ) -> Result<AttemptOutcome, NodeFault>
-    ensures answer { Answers NodeFault.Memory attempt_outcome_of result
+    ensures answer { Answers NodeFault.Memory (attempt_outcome_on course.now.states.items) result
         (fire_answer limit course.now.schedule.items course.now.states.items node action) }
     ensures step { IfOk result (IsStepOf limit course.now) }
 {
-    if action.node() == node {
+    if is_fired_by(&action, node) {
         take(alloc, limit, course, action)
     } else {
         Err(NodeFault::NotMine)
     }
+}
+
+/// Whether an action is fired by the program of this node.
+fn is_fired_by(action: &Action, node: i64) -> bool
+    ensures { result ≡ int_eq (node_of action.now) node }
+{
+    action.node() == node
 }
 
 /// The joint step of an action. An action that is not enabled is missed; a step is `Full` (52) if the schedule is as
@@ -295,14 +304,14 @@ fn take(
     course: &Course,
     action: Action,
 ) -> Result<AttemptOutcome, NodeFault>
-    ensures answer { Answers NodeFault.Memory attempt_outcome_of result
+    ensures answer { Answers NodeFault.Memory (attempt_outcome_on course.now.states.items) result
         (step_outcome limit course.now.schedule.items action (joint_answer action course.now.states.items)) }
     ensures step { IfOk result (IsStepOf limit course.now) }
 {
-    match joint_step(alloc, &course.states, &action) {
-        Ok(states) => {
+    match changes(alloc, &course.states, &action) {
+        Ok(changed) => {
             if (course.schedule.len() as u64) < limit {
-                Ok(AttemptOutcome::Taken(action, states))
+                Ok(AttemptOutcome::Taken(action, changed))
             } else {
                 Err(NodeFault::Full)
             }

@@ -1,6 +1,9 @@
+use Rattle.std.proofs.Common.{◌≡◌, map}
 use Rattle.ioa_terms.specs.View.{statement_of}
 use Rattle.ioa_system.specs.ResolvedPrograms.{IsResolvedFiring, variable_names}
+use Rattle.ioa_workers.specs.Turns.{block_bindings}
 use Rattle.ioa_workers.proofs.Elements.{AllByRecursion-get_or}
+use Rattle.ioa_workers.proofs.Nexts.{next_turn}
 use Rattle.ioa_workers.proofs.turn.next.Goals as goal
 
 pub fire-requires : goal.fire-requires
@@ -9,3 +12,10 @@ fire-requires c =
     let resolved = rw c.program.ensures at c.schedule.ensures.resolved in
     let names = variable_names c.args.node.now.program.variables in
     AllByRecursion-get_or (λ s. IsResolvedFiring s names) statement_of c.schedule.result.now c.args.passed c.in-Some.statement.now resolved (found.3.0) (found.1)
+
+pub returns-in-Some-clause-answer : goal.returns-in-Some-clause-answer
+returns-in-Some-clause-answer c =
+    let found = c.in-Some.ensures.lookup in
+    let schedule : map statement_of c.schedule.result.now ≡ c.args.node.now.program.schedule = rw c.program.ensures at c.schedule.ensures.value in
+    let turn = next_turn statement_of c.args.node.now.program.node (block_bindings c.args.node.now) c.schedule.result.now c.args.passed c.in-Some.statement.now (found.3.0) (found.1) in
+    rw (← schedule, turn) c.fire.ensures
