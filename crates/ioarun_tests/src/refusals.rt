@@ -6,8 +6,10 @@ use ioa_check::check;
 use ioa_command::command;
 use ioa_compose::{Conf, Item, Queue, project, replay};
 use ioa_streams::Over;
+use ioa_system::System;
 use ioa_text_reader::parse;
 use ioa_values::Value;
+use std::alloc::Global;
 use std::test::Fail;
 
 /// The line that the program shows for a text, and its status; no line if it writes a report.
@@ -380,10 +382,8 @@ fn received(n: i64) -> Action {
     }
 }
 
-#[test]
-fn schedules_are_replayed_and_projected(rt: HostRuntime) -> Result<(), Fail> {
-    let alloc = rt.alloc();
-    let text = "automaton Src
+/// A text whose node 0 sends 7, 8 and so on, and whose node 1 has two variables.
+const PAIR: &str = "automaton Src
         signature output send(m: Int, const 0, const 1)
         states n: Int := 7
         transitions output send(m, 0, 1) pre m = n eff n := n + 1
@@ -392,33 +392,68 @@ fn schedules_are_replayed_and_projected(rt: HostRuntime) -> Result<(), Fail> {
         states x: Int := 1, y: Int := 2
         transitions input receive(m, 0, 1) eff x := y; y := x
       system node 1: Dst channel 0 -> 1 node 0: Src";
-    let source = parse(alloc, text).ok().ok_or("refused")?;
+
+/// The system of that text.
+fn pair(alloc: Global) -> Result<System, Fail> {
+    let source = parse(alloc, PAIR).ok().ok_or("refused")?;
     let system = check(alloc, source.text()).ok().ok_or("refused")?;
+    Ok(system)
+}
+
+/// Two sends, and the receive of the message.
+fn two_sends_and_receive(alloc: Global, message: i64) -> Result<Vec<Action>, Fail> {
     let mut schedule = Vec::new(alloc);
     schedule.push(sent(7))?;
     schedule.push(sent(8))?;
-    schedule.push(received(7))?;
+    schedule.push(received(message))?;
+    Ok(schedule)
+}
+
+/// The numbers in the two variables of a node, if the configuration is one of such a node.
+fn numbers_of(conf: &Conf) -> Option<(i64, i64)> {
+    match conf {
+        Conf::Node(node) => match node.variables().as_slice() {
+            [x, y] => Some((x.as_number()?, y.as_number()?)),
+            _ => None,
+        },
+        Conf::Queue(_) => None,
+    }
+}
+
+#[test]
+fn a_schedule_is_replayed(rt: HostRuntime) -> Result<(), Fail> {
+    let alloc = rt.alloc();
+    let system = pair(alloc)?;
+    let schedule = two_sends_and_receive(alloc, 7)?;
     let states = replay(alloc, &system, &schedule)
         .ok()
         .ok_or("no execution")?;
     assert_eq!(rt; states.len(), 5);
-    if let Conf::Node(node) = &states[1] {
-        let values = node.variables().as_slice();
-        assert_eq!(rt; values.len(), 2);
-        assert_eq!(rt; values[0].as_number(), Some(2));
-        assert_eq!(rt; values[1].as_number(), Some(2));
-    }
-    assert_eq!(rt; project(alloc, &schedule, Component::Node(0))?.len(), 2);
-    assert_eq!(rt;
-        project(alloc, &schedule, Component::Channel { from: 0, to: 1 })?.len(),
-        3
-    );
-    assert_eq!(rt; project(alloc, &schedule, Component::Script(0))?.len(), 0);
-    schedule.push(received(9))?;
-    match replay(alloc, &system, &schedule) {
-        Ok(_) => assert!(rt; false, "the last message was handed out first"),
-        Err(fault) => assert_eq!(rt; fault.position, 3),
-    }
+    assert_eq!(rt; numbers_of(&states[1]), Some((2, 2)));
+    Ok(())
+}
+
+#[test]
+fn a_replay_stops_at_its_first_fault(rt: HostRuntime) -> Result<(), Fail> {
+    let alloc = rt.alloc();
+    let system = pair(alloc)?;
+    let schedule = two_sends_and_receive(alloc, 8)?;
+    let position = match replay(alloc, &system, &schedule) {
+        Ok(_) => None,
+        Err(fault) => Some(fault.position),
+    };
+    assert_eq!(rt; position, Some(2));
+    Ok(())
+}
+
+#[test]
+fn a_schedule_is_projected(rt: HostRuntime) -> Result<(), Fail> {
+    let alloc = rt.alloc();
+    let schedule = two_sends_and_receive(alloc, 7)?;
+    let node = project(alloc, &schedule, Component::Node(0))?.len();
+    let channel = project(alloc, &schedule, Component::Channel { from: 0, to: 1 })?.len();
+    let script = project(alloc, &schedule, Component::Script(0))?.len();
+    assert_eq!(rt; (node, channel, script), (2, 3, 0));
     Ok(())
 }
 
