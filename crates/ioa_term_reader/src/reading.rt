@@ -95,7 +95,8 @@ fn begins_term(tokens: &Tokens<'_>, least: usize) -> bool {
 #[cycle(terms)]
 #[tactic(auto, unfolding(crate::specs::Reading::read, crate::specs::bind))]
 fn read(alloc: Global, tokens: &mut Tokens<'_>, bounds: Bounds) -> Result<Built<Term>, Unread>
-    ensures { Reads (λ b. term_of b.tree) (spec.read bounds.depth bounds.room bounds.least tokens.old) result tokens.new }
+    ensures { Reads (λ b. term_of b.tree)
+        (spec.read bounds.depth bounds.room bounds.least tokens.old) result tokens.new }
 {
     if bounds.depth == 0 {
         let begins = begins_term(tokens, bounds.least);
@@ -149,7 +150,8 @@ fn extended_term(
     deep: Unread,
 ) -> Result<Built<Term>, Unread>
     ensures { Reads (λ b. term_of b.tree)
-        (spec.extended_term (spec.read bounds.depth) bounds.room (term_of left.tree) after tokens.old) result tokens.new }
+        (spec.extended_term (spec.read bounds.depth) bounds.room (term_of left.tree) after tokens.old)
+        result tokens.new }
 {
     match after {
         After::Infix(operator) => {
@@ -260,7 +262,8 @@ fn operator_term(
     refusals: Refusals,
 ) -> Result<TermAtLevel, Unread>
     ensures { Reads (λ t. (t.level, term_of t.built.tree))
-        (spec.operator_term (spec.read bounds.depth) bounds.room bounds.least mark tokens.old) result tokens.new }
+        (spec.operator_term (spec.read bounds.depth) bounds.room bounds.least mark tokens.old)
+        result tokens.new }
 {
     match prefix_of(mark) {
         Some(operator) => prefixed_term(alloc, tokens, bounds, operator, refusals),
@@ -279,7 +282,8 @@ fn prefixed_term(
     refusals: Refusals,
 ) -> Result<TermAtLevel, Unread>
     ensures { Reads (λ t. (t.level, term_of t.built.tree))
-        (spec.prefixed_term (spec.read bounds.depth) bounds.room bounds.least operator tokens.old) result tokens.new }
+        (spec.prefixed_term (spec.read bounds.depth) bounds.room bounds.least operator tokens.old)
+        result tokens.new }
 {
     let level = prefix_level(operator);
     if level < bounds.least {
@@ -328,7 +332,8 @@ fn braced_term(
     bounds: Bounds,
     deep: Unread,
 ) -> Result<TermAtLevel, Unread>
-    ensures { Reads (λ t. (t.level, term_of t.built.tree)) (spec.braced_term (spec.read bounds.depth) bounds.room tokens.old) result tokens.new }
+    ensures { Reads (λ t. (t.level, term_of t.built.tree))
+        (spec.braced_term (spec.read bounds.depth) bounds.room tokens.old) result tokens.new }
 {
     if bounds.room == 0 {
         return Err(deep);
@@ -401,7 +406,8 @@ fn terms_in(
     tokens: &mut Tokens<'_>,
     bounds: Bounds,
 ) -> Result<Built<Vec<Term>>, Unread>
-    ensures { Reads (λ b. map term_of b.tree.items) (spec.terms_in (spec.read bounds.depth) bounds.room tokens.old) result tokens.new }
+    ensures { Reads (λ b. map term_of b.tree.items)
+        (spec.terms_in (spec.read bounds.depth) bounds.room tokens.old) result tokens.new }
 {
     let each = Bounds {
         least: LOOSEST_LEVEL,
