@@ -1,8 +1,8 @@
 //! What operators, functions, displays and fields make, as text.
 
 use ioa_operators::{
-    BinaryOperator, DisplayForm, Function, Shape, ShapeForm, TermFault, UnaryOperator, binary, call, display,
-    field, left_decision, replace_field, unary,
+    BinaryOperator, DisplayForm, Function, Shape, ShapeForm, TermFault, UnaryOperator, binary,
+    call, display, field, left_decision, replace_field, unary,
 };
 use ioa_values::{Names, Value, Word, show};
 use std::alloc::{AllocError, Global};
@@ -113,7 +113,13 @@ fn pair(alloc: Global) -> Result<Shape, AllocError> {
     let first = Word::from_ascii(alloc, b"a")?;
     let second = Word::from_ascii(alloc, b"b")?;
     let names = Arc::new(alloc, vec![in alloc; first, second]?)?;
-    let shapes = Arc::new(alloc, vec![in alloc; Shape::of(ShapeForm::Naturals), Shape::of(ShapeForm::Truths)]?)?;
+    let shapes = Arc::new(
+        alloc,
+        vec![in alloc;
+            Shape::of(ShapeForm::Naturals),
+            Shape::of(ShapeForm::Truths),
+        ]?,
+    )?;
     Ok(Shape::of(ShapeForm::Tuples(name, names, shapes)))
 }
 
@@ -278,7 +284,14 @@ fn copied_shapes(rt: HostRuntime) -> Result<(), Fail> {
     let naturals = Arc::new(alloc, Shape::of(ShapeForm::Naturals))?;
     let some = sequence(alloc, &[1, 2])?;
     let bad = sequence(alloc, &[1, -2])?;
-    assert!(rt; copy_tells(alloc, &Shape::of(ShapeForm::Sequences(naturals)), &some, &bad)?);
+    assert!(rt;
+        copy_tells(
+            alloc,
+            &Shape::of(ShapeForm::Sequences(naturals)),
+            &some,
+            &bad
+        )?
+    );
     let naturals = Arc::new(alloc, Shape::of(ShapeForm::Naturals))?;
     let some = set(alloc, &[1, 2])?;
     let bad = set(alloc, &[1, -2])?;
@@ -287,7 +300,14 @@ fn copied_shapes(rt: HostRuntime) -> Result<(), Fail> {
     let values = Arc::new(alloc, Shape::of(ShapeForm::Integers))?;
     let some = update(alloc, map(alloc)?, 4, -40)?;
     let bad = update(alloc, map(alloc)?, -4, 40)?;
-    assert!(rt; copy_tells(alloc, &Shape::of(ShapeForm::Maps(keys, values)), &some, &bad)?);
+    assert!(rt;
+        copy_tells(
+            alloc,
+            &Shape::of(ShapeForm::Maps(keys, values)),
+            &some,
+            &bad
+        )?
+    );
     Ok(())
 }
 

@@ -239,11 +239,23 @@ fn pairs(alloc: Global) -> Result<Shape, Fail> {
 fn display_or_call(alloc: Global, kind: &str, parts: Vec<Checked>) -> Result<Checked, Fail> {
     let integers = Arc::new(alloc, Shape::of(ShapeForm::Integers))?;
     match kind {
-        "seq" => Ok(Checked::Display(DisplayForm::Braces, Shape::of(ShapeForm::Sequences(integers)), parts)),
-        "set" => Ok(Checked::Display(DisplayForm::Braces, Shape::of(ShapeForm::Sets(integers)), parts)),
+        "seq" => Ok(Checked::Display(
+            DisplayForm::Braces,
+            Shape::of(ShapeForm::Sequences(integers)),
+            parts,
+        )),
+        "set" => Ok(Checked::Display(
+            DisplayForm::Braces,
+            Shape::of(ShapeForm::Sets(integers)),
+            parts,
+        )),
         "map" => {
             let values = Arc::new(alloc, Shape::of(ShapeForm::Integers))?;
-            Ok(Checked::Display(DisplayForm::Braces, Shape::of(ShapeForm::Maps(integers, values)), parts))
+            Ok(Checked::Display(
+                DisplayForm::Braces,
+                Shape::of(ShapeForm::Maps(integers, values)),
+                parts,
+            ))
         }
         "pair" => Ok(Checked::Display(DisplayForm::Brackets, pairs(alloc)?, parts)),
         _ => Ok(Checked::Call(word(alloc, kind)?, parts)),
