@@ -37,8 +37,9 @@ sort_itself (named_type w) = (bytes_eq-Decides w w).1 refl
 pub same_sort_is : (a b : PlainSort) → Decides (same_sort a b) (a ≡ b)
 same_sort_is a b = (sort_equal a b, λ e. rw (← e) (sort_itself a))
 
-declared_is : {D : Type 0} {d : D → D → Bool} → ((s t : D) → Decides (d s t) (s ≡ t)) → (a b : PlainDeclared D) → Decides (same_declared d a b) (a ≡ b)
-declared_is {D} d_is a b =
+-- and two declared names
+pub same_declared_is : {D : Type 0} {d : D → D → Bool} → ((s t : D) → Decides (d s t) (s ≡ t)) → (a b : PlainDeclared D) → Decides (same_declared d a b) (a ≡ b)
+same_declared_is {D} d_is a b =
     Decides-like _ (λ p i. record { name = p.0 i; sort = p.1.0 i; shape = p.1.1 i })
     (λ e. (ap (λ (x : PlainDeclared D). x.name) e, (ap (λ (x : PlainDeclared D). x.sort) e, ap (λ (x : PlainDeclared D). x.shape) e)))
     (Decides-and _ _ (bytes_eq-Decides a.name b.name)
@@ -51,7 +52,7 @@ module _ {N D : Type 0} {n : N → N → Bool} {d : D → D → Bool} (n_is : (x
   parameter_is (const t) (named b) = (λ h. absurd (cc), λ e. absurd (cc))
   parameter_is (named a) (const u) = (λ h. absurd (cc), λ e. absurd (cc))
   parameter_is (named a) (named b) =
-      (λ h i. named ((declared_is d_is a b).0 h i), λ e. let p : a ≡ b = cc in (declared_is d_is a b).1 p)
+      (λ h i. named ((same_declared_is d_is a b).0 h i), λ e. let p : a ≡ b = cc in (same_declared_is d_is a b).1 p)
 
   guard_is : (t u : Option (PlainTerm N D)) → Decides (option_eq (same_term n d) t u) (t ≡ u)
   guard_is = option_is (same_term_is n_is d_is)
@@ -68,7 +69,7 @@ module _ {N D : Type 0} {n : N → N → Bool} {d : D → D → Bool} (n_is : (x
   same_variable_is a b =
       Decides-like _ (λ p i. record { declared = p.0 i; initial = p.1 i })
       (λ e. (ap (λ (x : PlainVariable N D). x.declared) e, ap (λ (x : PlainVariable N D). x.initial) e))
-      (Decides-and _ _ (declared_is d_is a.declared b.declared) (guard_is a.initial b.initial))
+      (Decides-and _ _ (same_declared_is d_is a.declared b.declared) (guard_is a.initial b.initial))
 
   pub same_transition_is : (a b : PlainTransition N D) → Decides (same_transition n d a b) (a ≡ b)
   same_transition_is a b =

@@ -13,5 +13,5 @@ pub use declaration::{
 };
 pub use height::{HEIGHT_LIMIT, HasHeight};
 pub use laws::erasure_law;
-pub use same::{is_same_entry, is_same_transition, is_same_variable};
+pub use same::{is_same_declared, is_same_entry, is_same_transition, is_same_variable};
 pub use sort::Sort;

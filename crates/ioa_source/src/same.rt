@@ -72,8 +72,8 @@ fn is_same_sort(sort: &Sort, other: &Sort) -> bool
     }
 }
 
-/// Whether two declared names are the same.
-fn is_same_declared<D: PartialEq>(declared: &Declared<D>, other: &Declared<D>) -> bool
+/// Whether two declared names are the same, by the test of their annotations.
+pub fn is_same_declared<D: PartialEq>(declared: &Declared<D>, other: &Declared<D>) -> bool
     ensures { result ≡ same_declared D.eq (declared_of declared.now) (declared_of other.now) }
 {
     declared.name == other.name

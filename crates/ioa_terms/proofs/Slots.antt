@@ -17,6 +17,20 @@ environment_variable (n ∷ names) [] cs i d h g = absurd (omega arith)
 environment_variable (n ∷ names) (v ∷ vs) cs zero d h g = refl
 environment_variable (n ∷ names) (v ∷ vs) cs (suc i) d h g = environment_variable names vs cs i d (omega arith) (omega arith)
 
+-- what is at a slot among the first values
+pub environment_first : (names : List (List ℕ)) (vs gs : List Data) (cs : List (List ℕ)) (i : ℕ) (d : Data) → i < length names → i < length vs → option_map (λ (b : List ℕ × Data). b.1) (slice_get (environment names (vs ++ gs) cs) i) ≡ Some (get_or vs i d)
+environment_first [] vs gs cs i d h g = absurd (omega arith)
+environment_first (n ∷ names) [] gs cs i d h g = absurd (omega arith)
+environment_first (n ∷ names) (v ∷ vs) gs cs zero d h g = refl
+environment_first (n ∷ names) (v ∷ vs) gs cs (suc i) d h g = environment_first names vs gs cs i d (omega arith) (omega arith)
+
+-- what is at a slot among the values that are given besides
+pub environment_given : (names : List (List ℕ)) (vs gs : List Data) (cs : List (List ℕ)) (i j : ℕ) (d : Data) → i ≡ length vs + j → i < length names → j < length gs → option_map (λ (b : List ℕ × Data). b.1) (slice_get (environment names (vs ++ gs) cs) i) ≡ Some (get_or gs j d)
+environment_given [] vs gs cs i j d at h g = absurd (omega arith)
+environment_given (n ∷ names) [] gs cs i j d at h g = let same : i ≡ j = omega arith in rw same (environment_variable (n ∷ names) gs cs j d (omega arith) g)
+environment_given (n ∷ names) (v ∷ vs) gs cs zero j d at h g = absurd (omega arith)
+environment_given (n ∷ names) (v ∷ vs) gs cs (suc i) j d at h g = environment_given names vs gs cs i j d (omega arith) (omega arith) g
+
 -- behind the variables are the constants
 behind : (names : List (List ℕ)) (vs : List Data) (cs : List (List ℕ)) (i j : ℕ) → i ≡ min (length names) (length vs) + j → slice_get (environment names vs cs) i ≡ slice_get (constants_from 0 cs) j
 behind [] vs cs i j h = ap (slice_get (constants_from 0 cs)) (omega arith)
@@ -102,6 +116,13 @@ names_environment names vs cs h = rw (map-append (λ (b : List ℕ × Data). b.0
 -- without constants an environment has the variables alone
 pub no_constants : (names : List (List ℕ)) (vs : List Data) → environment names vs [] ≡ zip names vs
 no_constants names vs = append-nil (zip names vs)
+
+-- if no value is given besides, an environment has the first values alone
+pub none_given : (names : List (List ℕ)) (vs : List Data) (cs : List (List ℕ)) → environment names (vs ++ []) cs ≡ environment names vs cs
+none_given names vs cs = ap (λ (ds : List Data). environment names ds cs) (append-nil vs)
+
+pub values_alone : (names : List (List ℕ)) (vs : List Data) → environment names (vs ++ []) [] ≡ zip names vs
+values_alone names vs = none_given names vs [] ∙ no_constants names vs
 
 -- the slot of a name that is among the first names
 pub slot_among_first : (names : List (List ℕ)) (x : List ℕ) (p count : ℕ) → slot_in x names ≡ Some p → p < count → slot_in x (take count names) ≡ Some p

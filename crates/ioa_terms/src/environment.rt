@@ -9,17 +9,19 @@ ghost use Rattle.ioa_terms.specs.Slots.{slot_value};
 use ioa_values::{Value, Word};
 use std::marker::Model;
 
-/// The values that a term may read, each at its slot, with their names: those of variables first, and
-/// the constants behind them. A contract sees the pairs of names and values; the first pair of a name is
-/// the one that counts.
+/// The values that a term may read, each at its slot, with their names: those of variables first, then
+/// those that are given besides, and the constants behind them. A contract sees the pairs of names and
+/// values; the first pair of a name is the one that counts.
 #[derive(Drop)]
 pub struct Env<'a> {
     names: &'a [Word],
     values: &'a [Value],
+    given: &'a [Value],
     constants: &'a [Word],
 }
 
 impl<'a> Model for Env<'a> {
+    ghost use Rattle.std.specs.Prelude.{◌++◌};
     ghost use Rattle.ioa_terms.specs.Bindings.{Bindings, environment};
     ghost use Rattle.std.specs.Coded.{coded×, coded_ℕ, coded_list};
     ghost use Rattle.ioa_values.specs.DataCode.{data_code};
@@ -28,13 +30,13 @@ impl<'a> Model for Env<'a> {
 
     ghost coded = { coded_list (coded× (coded_list coded_ℕ) data_code) };
 
-    ghost view = { λ e. environment e.names.now e.values.now e.constants.now };
+    ghost view = { λ e. environment e.names.now (e.values.now ++ e.given.now) e.constants.now };
 }
 
 /// What is at a slot of an environment.
 #[derive(Clone, Copy)]
 pub enum Slot<'a> {
-    /// A variable's value.
+    /// The value of a variable, or one that is given besides.
     Variable(&'a Value),
     /// A constant, by its index among the text's constants.
     Constant(usize),
@@ -43,7 +45,7 @@ pub enum Slot<'a> {
 impl<'a> Env<'a> {
     /// The environment of these names and values, the first value under the first name. If there are more
     /// names than values, or more values than names, the last ones are ignored. It has no constants.
-    #[tactic(auto, using(crate::proofs::Slots::names_zip, crate::proofs::Slots::no_constants))]
+    #[tactic(auto, using(crate::proofs::Slots::names_zip, crate::proofs::Slots::values_alone))]
     pub fn new(names: &'a [Word], values: &'a [Value]) -> Self
         ensures value { result ≡ zip names.now values.now }
         ensures names { length names.now ≡ length values.now → names_of result ≡ names.now }
@@ -51,12 +53,13 @@ impl<'a> Env<'a> {
         Env {
             names,
             values,
+            given: &[],
             constants: &[],
         }
     }
 
     /// The environment of these names and values, and of the text's constants behind them.
-    #[tactic(auto, using(crate::proofs::Slots::names_environment))]
+    #[tactic(auto, using(crate::proofs::Slots::names_environment, crate::proofs::Slots::none_given))]
     pub fn with_constants(names: &'a [Word], values: &'a [Value], constants: &'a [Word]) -> Self
         ensures value { result ≡ environment names.now values.now constants.now }
         ensures names { length names.now ≡ length values.now → names_of result ≡ names.now ++ constants.now }
@@ -64,6 +67,28 @@ impl<'a> Env<'a> {
         Env {
             names,
             values,
+            given: &[],
+            constants,
+        }
+    }
+
+    /// The environment of these names, whose values are in two slices, and of the text's constants behind
+    /// them: so the values that two owners keep need not be copied.
+    #[tactic(auto, using(crate::proofs::Slots::names_environment))]
+    pub fn with_given(
+        names: &'a [Word],
+        values: &'a [Value],
+        given: &'a [Value],
+        constants: &'a [Word],
+    ) -> Self
+        ensures value { result ≡ environment names.now (values.now ++ given.now) constants.now }
+        ensures names { length names.now ≡ length (values.now ++ given.now)
+            → names_of result ≡ names.now ++ constants.now }
+    {
+        Env {
+            names,
+            values,
+            given,
             constants,
         }
     }
@@ -72,11 +97,17 @@ impl<'a> Env<'a> {
     pub fn get(&self, slot: usize) -> Option<Slot<'a>>
         ensures { option_map slot_value result ≡ option_map (λ b. b.1) (slice_get self.now slot) }
     {
-        let variables = self.names.len().min(self.values.len());
-        if slot < variables {
-            Some(Slot::Variable(&self.values[slot]))
-        } else if slot - variables < self.constants.len() {
-            Some(Slot::Constant(slot - variables))
+        let values = self.names.len().min(self.values.len());
+        if slot < values {
+            return Some(Slot::Variable(&self.values[slot]));
+        }
+        let given = (self.names.len() - values).min(self.given.len());
+        if slot - values < given {
+            return Some(Slot::Variable(&self.given[slot - values]));
+        }
+        let constant = slot - values - given;
+        if constant < self.constants.len() {
+            Some(Slot::Constant(constant))
         } else {
             None
         }
