@@ -3,22 +3,26 @@ use Rattle.std.proofs.Common.{◌≡◌, ◌<◌, ◌+◌, ℕ, suc, Bool, true,
 use Rattle.std.proofs.lemmas.List.{map-append, append_assoc, append-nil, length-map}
 use Rattle.std.proofs.lemmas.List.Elements.{Contains-append_left, Contains-append_right}
 use Rattle.std.proofs.Math.ListN.{get_or-map}
-use Rattle.std.specs.Prelude.{◌&&◌, find}
+use Rattle.std.specs.Prelude.{◌&&◌, find, nat_eq}
 use Rattle.std.specs.List.{IsDistinct, list_all}
 use Rattle.std.specs.Option.{is_some, option_map}
 use Rattle.ioa_operators.specs.declared.shape.Shape.{Shape}
-use Rattle.ioa_terms.specs.Bindings.{same_name}
+use Rattle.ioa_terms.specs.Bindings.{Bindings, same_name}
 use Rattle.ioa_source.specs.declared.declaration.Declaration.{Declaration}
 use Rattle.ioa_source.specs.declared.declaration.Parameter.{Parameter}
 use Rattle.ioa_source.specs.declared.declaration.Variable.{Variable}
-use Rattle.ioa_source.specs.Erasure.{erase_term, erase_variable}
-use Rattle.ioa_source.specs.Sides.{CheckedTerm, CheckedVariable, SourceAutomaton, SourceDeclaration, SourceVariable}
+use Rattle.ioa_source.specs.Erasure.{erase_declared, erase_term, erase_variable}
+use Rattle.ioa_source.specs.Sides.{CheckedDeclared, CheckedTerm, CheckedVariable, SourceAutomaton, SourceDeclaration, SourceDeclared, SourceNode, SourceText, SourceVariable}
 use Rattle.ioa_source.specs.TextView.{declaration_of, parameter_of, variable_of}
-use Rattle.ioa_system.specs.ResolvedPrograms.{own_name, own_names}
+use Rattle.ioa_system.specs.InView.{environment_at, firing, given_bindings, initial_value, names_at, own_name, own_names, parameter_names}
+use Rattle.ioa_system.specs.Parts.{AutomatonParts}
 use Rattle.ioa_check.specs.declared.refusal.Row.{Row}
 use Rattle.ioa_check.specs.declared.refusal.Row.TheVariants as row
-use Rattle.ioa_check.specs.Correspondence.{automata_in, automaton_in}
-use Rattle.ioa_check.specs.Standing.{StandsInAutomata, StandsInInitial, StandsInParts, StandsInVariables, begins_with_number, is_known_variable}
+use Rattle.ioa_check.specs.Correspondence.{AreAutomataOf, IsAutomatonOf, automata_in, automaton_in, automaton_named, compiled_named, nodes_in}
+use Rattle.ioa_check.specs.Rows.{automaton_scope, fires_only, firings_have_entries, is_declared, transitions_have_entries}
+use Rattle.ioa_check.proofs.Automata.{none_compiled}
+use Rattle.std.proofs.lemmas.Bool.{and_left, and_right}
+use Rattle.ioa_check.specs.Standing.{HasNoValue, LacksInitialValue, LacksValue, StandsIn, StandsInAutomata, StandsInCompiled, StandsInParts, StandsInVariables, begins_with_number, is_known_variable}
 use Rattle.ioa_check.proofs.Refused.{all_contained, all_fails, first_repeat, parts_at}
 
 -- if a list contains an item, its image contains the item's image
@@ -52,23 +56,64 @@ erased v h = by_term v.initial h
     by_term None h = refl
     by_term (Some t) h = absurd (cc)
 
--- the rows of an initial term are those of its automaton
-pub initial_stands : (a : SourceAutomaton) (vs : List (Variable ℕ Shape)) → map erase_variable (map variable_of vs) ≡ a.states → (v : Variable ℕ Shape) → Contains vs v → (r : Row) → StandsInInitial (variable_of v).initial r → StandsInParts a r
-initial_stands a vs same v c row.Unknown h = absurd h
-initial_stands a vs same v c row.Twice h = absurd h
-initial_stands a vs same v c row.Sorts h = absurd h
-initial_stands a vs same v c row.NoInitial h =
-    subst (λ (xs : List SourceVariable). list_all (λ x. is_some x.initial) xs ≡ false) same
-    (all_contained (λ (x : SourceVariable). is_some x.initial) (map erase_variable (map variable_of vs)) (erase_variable (variable_of v))
-    (contains_map erase_variable (map variable_of vs) (variable_of v) (contains_map variable_of vs v c)) (erased (variable_of v) h))
-initial_stands a vs same v c row.InputPre h = absurd h
-initial_stands a vs same v c row.NoTransition h = absurd h
-initial_stands a vs same v c row.InputMissing h = absurd h
-initial_stands a vs same v c row.SelfChannel h = absurd h
-initial_stands a vs same v c row.NodeGap h = absurd h
-initial_stands a vs same v c row.Limit h = absurd h
-initial_stands a vs same v c row.BadArgument h =
-    (variable_of v, subst (λ (xs : List SourceVariable). Contains xs (erase_variable (variable_of v))) same (contains_map erase_variable (map variable_of vs) (variable_of v) (contains_map variable_of vs v c)), h)
+-- declared names are the same without their annotations
+parameter_names-erase : (ds : List CheckedDeclared) → parameter_names (map erase_declared ds) ≡ parameter_names ds
+parameter_names-erase [] = refl
+parameter_names-erase (d ∷ ds) = ap (λ (ns : List (List ℕ)). d.name ∷ ns) (parameter_names-erase ds)
+
+-- what the initial values of an automaton read is what the text says that they read
+given_erased : (a : SourceAutomaton) (c : AutomatonParts) → IsAutomatonOf a c → given_bindings c [] ≡ environment_at initial_value (automaton_scope a) [] [] [] []
+given_erased a c is =
+    let names : parameter_names c.parameters ≡ parameter_names a.parameters =
+    sym (parameter_names-erase c.parameters) ∙ ap (λ (ds : List SourceDeclared). parameter_names ds) is.parameters in
+    rw (names, is.constants) refl
+
+-- a state variable that was made ready is one of the text's
+variable_erased : (a : SourceAutomaton) (c : AutomatonParts) → IsAutomatonOf a c → (v : CheckedVariable) → Contains c.variables v → Contains a.states (erase_variable v)
+variable_erased a c is v there =
+    subst (λ (xs : List SourceVariable). Contains xs (erase_variable v)) is.states (contains_map erase_variable c.variables v there)
+
+-- the rows of an automaton that was made ready, on a node, are those of the text
+pub compiled_stands : (t : SourceText) (n : SourceNode) → Contains (nodes_in t.system) n → (a : SourceAutomaton) → automaton_named n.automaton t.declarations ≡ Some a → (c : AutomatonParts) → IsAutomatonOf a c → (r : Row) → StandsInCompiled c r → StandsIn t r
+compiled_stands t n placed a named c is row.Unknown h =
+    let many : length a.parameters ≡ length c.parameters = ap length (sym is.parameters) ∙ length-map c.parameters erase_declared in
+    let some : nat_eq (length a.parameters) 0 ≡ false = ap (λ k. nat_eq k 0) many ∙ h in
+    inr (a, find_contains _ _ a named, inl (rw some refl))
+compiled_stands t n placed a named c is row.Twice h = absurd h.2
+compiled_stands t n placed a named c is row.Sorts h = absurd h.2
+compiled_stands t n placed a named c is row.NoInitial h =
+    let none : list_all (λ x. is_some x.initial) a.states ≡ false =
+    all_contained (λ (x : SourceVariable). is_some x.initial) a.states (erase_variable h.0) (variable_erased a c is h.0 h.1) (erased h.0 h.2) in
+    inr (a, find_contains _ _ a named, inl none)
+compiled_stands t n placed a named c is row.InputPre h = absurd h.2
+compiled_stands t n placed a named c is row.NoTransition h = absurd h.2
+compiled_stands t n placed a named c is row.InputMissing h = absurd h.2
+compiled_stands t n placed a named c is row.SelfChannel h = absurd h.2
+compiled_stands t n placed a named c is row.NodeGap h = absurd h.2
+compiled_stands t n placed a named c is row.Limit h = absurd h.2
+compiled_stands t n placed a named c is row.BadArgument h =
+    let lacks : LacksValue (environment_at initial_value (automaton_scope a) [] [] [] []) h.0.initial =
+    subst (λ (e : Bindings). LacksValue e h.0.initial) (given_erased a c is) h.2 in
+    let none : HasNoValue a = (h.0, variable_erased a c is h.0 h.1, lacks) in
+    let whole : LacksInitialValue t = (n, placed, (a, named, none)) in
+    inl (inr whole)
+
+-- a schedule that reads what is not in view is a row of its automaton
+pub schedule_stands : (a : SourceAutomaton) → list_all (fires_only (names_at firing (automaton_scope a) [])) a.schedule ≡ false → StandsInParts a row.Unknown
+schedule_stands a h =
+    let reads : Bool = list_all (fires_only (names_at firing (automaton_scope a) [])) a.schedule in
+    let known : Bool = list_all (is_known_variable (names_at initial_value (automaton_scope a) [])) a.states in
+    and_right (nat_eq (length a.parameters) 0) (transitions_have_entries a && (firings_have_entries a && (reads && known)))
+    (and_right (transitions_have_entries a) (firings_have_entries a && (reads && known))
+    (and_right (firings_have_entries a) (reads && known) (and_left reads known h)))
+
+-- if the automaton of a node is not among those that were made ready, the text declares it not
+pub undeclared_stands : (t : SourceText) (cs : List AutomatonParts) → AreAutomataOf (automata_in t.declarations) cs → (ns : List SourceNode) → ns ≡ nodes_in t.system → (n : SourceNode) → Contains ns n → compiled_named n.automaton cs ≡ None → StandsIn t row.Unknown
+undeclared_stands t cs made ns same n there none =
+    let missing : is_declared t.declarations n ≡ false = ap (λ (o : Option SourceAutomaton). is_some o) (none_compiled n.automaton (automata_in t.declarations) cs made none) in
+    let some : list_all (is_declared t.declarations) (nodes_in t.system) ≡ false =
+    subst (λ (xs : List SourceNode). list_all (is_declared t.declarations) xs ≡ false) same (all_contained (is_declared t.declarations) ns n there missing) in
+    inl (and_right _ _ (and_right _ _ (and_left _ _ some)))
 
 automata_concat : (xs ys : List SourceDeclaration) → automata_in (xs ++ ys) ≡ automata_in xs ++ automata_in ys
 automata_concat [] ys = refl
@@ -101,15 +146,15 @@ alone true h = h
 alone false h = refl
 
 -- the rows of a state variable are those of its list
-pub variables_each : (vs : List (Variable (Unit {0}) (Unit {0}))) (i : ℕ) (v : Variable (Unit {0}) (Unit {0})) → i < length vs → v ≡ get_or vs i v → (r : Row) → StandsInVariables (variable_of v ∷ []) r → StandsInVariables (map variable_of vs) r
-variables_each vs i v within at row.Unknown h = all_fails is_known_variable variable_of vs i v (alone (is_known_variable (variable_of v)) h) within at
-variables_each vs i v within at row.Twice h = absurd h
-variables_each vs i v within at row.Sorts h = all_fails begins_with_number variable_of vs i v (alone (begins_with_number (variable_of v)) h) within at
-variables_each vs i v within at row.NoInitial h = all_fails (λ (x : SourceVariable). is_some x.initial) variable_of vs i v (alone (is_some (variable_of v).initial) h) within at
-variables_each vs i v within at row.InputPre h = absurd h
-variables_each vs i v within at row.NoTransition h = absurd h
-variables_each vs i v within at row.InputMissing h = absurd h
-variables_each vs i v within at row.SelfChannel h = absurd h
-variables_each vs i v within at row.NodeGap h = absurd h
-variables_each vs i v within at row.Limit h = absurd h
-variables_each vs i v within at row.BadArgument h = absurd h
+pub variables_each : (names : List (List ℕ)) (vs : List (Variable (Unit {0}) (Unit {0}))) (i : ℕ) (v : Variable (Unit {0}) (Unit {0})) → i < length vs → v ≡ get_or vs i v → (r : Row) → StandsInVariables names (variable_of v ∷ []) r → StandsInVariables names (map variable_of vs) r
+variables_each names vs i v within at row.Unknown h = all_fails (is_known_variable names) variable_of vs i v (alone (is_known_variable names (variable_of v)) h) within at
+variables_each names vs i v within at row.Twice h = absurd h
+variables_each names vs i v within at row.Sorts h = all_fails begins_with_number variable_of vs i v (alone (begins_with_number (variable_of v)) h) within at
+variables_each names vs i v within at row.NoInitial h = all_fails (λ (x : SourceVariable). is_some x.initial) variable_of vs i v (alone (is_some (variable_of v).initial) h) within at
+variables_each names vs i v within at row.InputPre h = absurd h
+variables_each names vs i v within at row.NoTransition h = absurd h
+variables_each names vs i v within at row.InputMissing h = absurd h
+variables_each names vs i v within at row.SelfChannel h = absurd h
+variables_each names vs i v within at row.NodeGap h = absurd h
+variables_each names vs i v within at row.Limit h = absurd h
+variables_each names vs i v within at row.BadArgument h = absurd h

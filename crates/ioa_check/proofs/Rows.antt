@@ -1,16 +1,18 @@
 -- Facts of a text, from those of the program that is made of it.
-use Rattle.std.proofs.Common.{◌≡◌, ◌≢◌, ◌<◌, ◌≤◌, ◌+◌, ℕ, zero, suc, pos, Bool, false, List, [], ◌∷◌, ◌++◌, refl, sym, ap, subst, ◌∙◌, length, map, take, get_or, arith, Contains}
+use Rattle.std.proofs.Common.{◌≡◌, ◌≢◌, ◌<◌, ◌≤◌, ◌+◌, ℕ, zero, suc, pos, Bool, false, List, [], ◌∷◌, ◌++◌, refl, sym, ap, subst, ◌∙◌, length, map, take, get_or, arith, Contains, All, append-nil}
 use Rattle.std.proofs.lemmas.List.{take_more, map-append, length-map}
 use Rattle.std.proofs.Math.Seq.{take-append_seam}
 use Rattle.std.specs.List.{AllByRecursion, IsDistinct, list_any}
 use lib.Pointwise.{pointwise}
 use Rattle.ioa_source.specs.PlainText.{const, named}
-use Rattle.ioa_system.specs.Parts.{Parts}
+use Rattle.ioa_system.specs.Parts.{Parts, PlainRule, automaton_parts}
+use Rattle.ioa_system.specs.ResolvedPrograms.{AreResolvedFirings, AreResolvedVariables, IsCompiled, IsResolvedRule}
 use Rattle.ioa_check.specs.Correspondence.{AreNodesOf, nodes_in}
 use Rattle.ioa_source.specs.Erasure.{erase_parameter, erase_entry, erase_variable}
-use Rattle.ioa_source.specs.Sides.{CheckedEntry, CheckedParameter, CheckedVariable, SourceAutomaton, SourceEntry, SourceNode, SourceText, SourceVariable}
-use Rattle.ioa_system.specs.ResolvedPrograms.{own_names, variable_names, scope_of}
-use Rattle.ioa_check.specs.Rows.{HasNoEntryRow}
+use Rattle.ioa_source.specs.Sides.{CheckedDeclared, CheckedEntry, CheckedParameter, CheckedStatement, CheckedVariable, SourceAutomaton, SourceDeclared, SourceEntry, SourceNode, SourceText, SourceVariable}
+use Rattle.ioa_system.specs.InView.{DeclaredNames, own_names, parameter_names, variable_names}
+use Rattle.ioa_check.specs.Resolutions.{first_names, scope_for}
+use Rattle.ioa_check.specs.Rows.{automaton_scope}
 use Rattle.ioa_check.proofs.Loops.{each_append}
 use Rattle.std.proofs.lemmas.Bool.{or_parts}
 use Rattle.std.proofs.Math.Bool.{and-false}
@@ -34,8 +36,8 @@ variable_names-erase [] = refl
 variable_names-erase (v ∷ vs) = ap (λ (ns : List (List ℕ)). v.declared.name ∷ ns) (variable_names-erase vs)
 
 -- the names in view are those that the text spells
-pub scope_of-erase : (vs : List CheckedVariable) (resolved : CheckedEntry) (e : SourceEntry) (scope : List (List ℕ)) → scope ≡ scope_of resolved vs → erase_entry resolved ≡ e → scope ≡ variable_names vs ++ own_names e.parameters
-scope_of-erase vs resolved e scope s same =
+pub scope_for-erase : (vs : List CheckedVariable) (resolved : CheckedEntry) (e : SourceEntry) (scope : List (List ℕ)) → scope ≡ scope_for resolved vs → erase_entry resolved ≡ e → scope ≡ scope_for e vs
+scope_for-erase vs resolved e scope s same =
     let names : own_names e.parameters ≡ own_names resolved.parameters = ap (λ (x : SourceEntry). own_names x.parameters) (sym same) ∙ own_names-erase resolved.parameters in
     s ∙ ap (λ (ns : List (List ℕ)). variable_names vs ++ ns) (sym names)
 
@@ -43,11 +45,12 @@ scope_of-erase vs resolved e scope s same =
 pub variables_erased : (a : SourceAutomaton) (vs : List CheckedVariable) → map erase_variable vs ≡ a.states → variable_names vs ≡ variable_names a.states
 variables_erased a vs same = sym (variable_names-erase vs) ∙ ap (λ (xs : List SourceVariable). variable_names xs) same
 
--- the rows of entries, if the variables are those of the automaton
-pub entries_erased : (a : SourceAutomaton) (vs : List CheckedVariable) → map erase_variable vs ≡ a.states → AllByRecursion (HasNoEntryRow (variable_names vs) a.transitions) a.signature → AllByRecursion (HasNoEntryRow (variable_names a.states) a.transitions) a.signature
-entries_erased a vs same h =
-    let names : variable_names vs ≡ variable_names a.states = sym (variable_names-erase vs) ∙ ap (λ (xs : List SourceVariable). variable_names xs) same in
-    subst (λ (ns : List (List ℕ)). AllByRecursion (HasNoEntryRow ns a.transitions) a.signature) names h
+-- the names that an automaton without parameters declares are those that the text spells
+pub names_erased : (a : SourceAutomaton) (vs : List CheckedVariable) → a.parameters ≡ [] → map erase_variable vs ≡ a.states → first_names vs ≡ automaton_scope a
+names_erased a vs bare same =
+    let variables : variable_names vs ≡ variable_names a.states = variables_erased a vs same in
+    let parameters : [] ≡ parameter_names a.parameters = ap (λ (ds : List SourceDeclared). parameter_names ds) (sym bare) in
+    λ i. record { constants = []; parameters = parameters i; variables = variables i }
 
 -- one more item, which no other is equal to
 distinct_push : {A : Type 0} (e : A → A → Bool) (xs : List A) (y : A) → IsDistinct e xs → list_any (λ x. e x y) xs ≡ false → IsDistinct e (xs ++ y ∷ [])
@@ -88,3 +91,16 @@ few_map {A} {B} f xs ys most e h = subst (λ (zs : List B). length zs ≤ most) 
 -- the first names in view are those of the variables
 pub take_first : {A : Type 0} (n : ℕ) (xs ys : List A) → n ≡ length xs → take n (xs ++ ys) ≡ xs
 take_first n xs ys e = rw e (take-append_seam xs ys)
+
+-- an automaton without parameters, in a text without constants, whose names are resolved among those of its variables
+pub resolved_alone : (w : List ℕ) (cs : List (List ℕ)) (ds : List CheckedDeclared) (vs : List CheckedVariable) (scope : List (List ℕ)) (rs : List PlainRule) (ss : List CheckedStatement) → cs ≡ [] → ds ≡ [] → scope ≡ variable_names vs → All (IsResolvedRule (first_names vs)) rs → AreResolvedVariables [] vs → AreResolvedFirings ss scope → IsCompiled scope (automaton_parts w cs ds vs rs ss)
+resolved_alone w (c ∷ cs) ds vs scope rs ss h k names rules initials schedule = absurd (cc)
+resolved_alone w [] (d ∷ ds) vs scope rs ss h k names rules initials schedule = absurd (cc)
+resolved_alone w [] [] vs scope rs ss h k names rules initials schedule = record {
+  names = names;
+  resolved = record {
+    rules = rules;
+    initials = initials;
+    schedule = subst (AreResolvedFirings ss) (names ∙ sym (append-nil (variable_names vs))) schedule;
+  };
+}

@@ -4,7 +4,7 @@ use Rattle.std.specs.Prelude.{◌≡◌, ℕ, pos, Bool, true, false, ◌&&◌, 
 use Rattle.std.specs.Prelude.{Option, Some, None, Result, Ok, Err, map, length, find, Contains}
 use Rattle.std.specs.List.{AllByRecursion}
 use Rattle.ioa_values.specs.Data.{Data}
-use Rattle.ioa_terms.specs.Bindings.{same_name}
+use Rattle.ioa_terms.specs.Bindings.{Bindings, same_name}
 use Rattle.ioa_terms.specs.Meaning.{answer}
 use Rattle.ioa_terms.specs.Performance.{target_shape}
 use Rattle.ioa_operators.specs.Shapes.{PlainShape, integers}
@@ -16,14 +16,15 @@ use Rattle.ioa_operators.specs.declared.fault.TermFault.TheVariants.{Undefined}
 use Rattle.ioa_terms.specs.declared.tree.Kind.{Kind}
 use Rattle.ioa_terms.specs.declared.tree.Kind.TheVariants.{Input, Output, Internal}
 use Rattle.ioa_source.specs.TextView.{node_of}
-use Rattle.ioa_source.specs.Erasure.{erase_entry, erase_variable, erase_transition, erase_statement}
+use Rattle.ioa_source.specs.Erasure.{erase_declared, erase_entry, erase_variable, erase_transition, erase_statement}
 use Rattle.ioa_source.specs.PlainText.{PlainEntry, PlainTransition, const, named}
 use Rattle.ioa_source.specs.PlainText as plain
 use Rattle.ioa_source.specs.declared.declaration.Node.{Node}
 use Rattle.ioa_source.specs.declared.declaration.Channel.{Channel}
 use Rattle.ioa_source.specs.Sides.{CheckedDeclared, CheckedParameter, CheckedStatement, CheckedTerm, CheckedVariable}
 use Rattle.ioa_source.specs.Sides.{SourceAutomaton, SourceDeclaration, SourceNode, SourcePlacement, SourceText}
-use Rattle.ioa_system.specs.Parts.{Parts, PlainRule}
+use Rattle.ioa_system.specs.InView.{given_bindings}
+use Rattle.ioa_system.specs.Parts.{AutomatonParts, Parts, PlainRule}
 use Rattle.ioa_system.specs.Systems.{SystemParts}
 
 -- whether two kinds are the same
@@ -62,10 +63,10 @@ abbrev pub HasParameterShape : CheckedParameter → Type 0
 HasParameterShape (const t) = Unit {0}
 HasParameterShape (named d) = HasItsShape d
 
--- the value or the fault of a term that reads no name; without a term there is no value
-abbrev pub term_answer : Option CheckedTerm → Result Data TermFault
-term_answer None = Err Undefined
-term_answer (Some t) = answer t []
+-- the value or the fault of an initial term; without a term there is no value
+abbrev pub term_answer : Bindings → Option CheckedTerm → Result Data TermFault
+term_answer e None = Err Undefined
+term_answer e (Some t) = answer t e
 
 -- a rule of an automaton: its transition is the one of its entry
 abbrev pub IsRuleOf : SourceAutomaton → PlainRule → Type 0
@@ -76,20 +77,50 @@ pub record HasIntegers (r : PlainRule) : Type 0 where
   pub parameters : AllByRecursion HasParameterShape r.entry.parameters
   pub effect : AllByRecursion AssignsInteger r.transition.effect
 
--- the value or the fault of a state variable's initial term, which reads no name
-abbrev pub initial_answer : CheckedVariable → Result Data TermFault
-initial_answer v = term_answer v.initial
+-- the value or the fault of a state variable's initial term
+abbrev pub initial_answer : Bindings → CheckedVariable → Result Data TermFault
+initial_answer e v = term_answer e v.initial
 
--- a program of an automaton: without its annotations it is the automaton as the text has it, and each declared name has
--- the shape of its sort
+-- an automaton that was made ready to step: without its annotations it is the automaton as the text has it, and each
+-- declared name has the shape of its sort; a text has no constants in this form
+pub record IsAutomatonOf (a : SourceAutomaton) (c : AutomatonParts) : Type 0 where
+  pub name : c.name ≡ a.name
+  pub constants : c.constants ≡ []
+  pub parameters : map erase_declared c.parameters ≡ a.parameters
+  pub signature : map (λ r. erase_entry r.entry) c.rules ≡ a.signature
+  pub transitions : AllByRecursion (IsRuleOf a) c.rules
+  pub shapes : AllByRecursion HasIntegers c.rules
+  pub states : map erase_variable c.variables ≡ a.states
+  pub sorts : AllByRecursion (λ v. HasItsShape v.declared) c.variables
+  pub schedule : map erase_statement c.schedule ≡ a.schedule
+
+-- the same of each of several automata, in their order
+abbrev pub AreAutomataOf : List SourceAutomaton → List AutomatonParts → Type 0
+AreAutomataOf [] [] = Unit {0}
+AreAutomataOf [] (c ∷ cs) = ⊥
+AreAutomataOf (a ∷ more) [] = ⊥
+AreAutomataOf (a ∷ more) (c ∷ cs) = IsAutomatonOf a c × AreAutomataOf more cs
+
+-- a list of automata that were made ready, and the same with those of these automata behind them
+pub record AddsAutomata (old new : List AutomatonParts) (automata : List SourceAutomaton) : Type 0 where
+  pub added : List AutomatonParts
+  pub behind : new ≡ old ++ added
+  pub made : AreAutomataOf automata added
+
+-- the automaton of a name, the first if several have it, among those that were made ready
+abbrev pub compiled_named : List ℕ → List AutomatonParts → Option AutomatonParts
+compiled_named x cs = find (λ c. same_name c.name x) cs
+
+-- the initial values of a program are those of its state variables' initial terms, which read what the node gives
+abbrev pub HasInitialValues : Parts → Type 0
+HasInitialValues p =
+    map (initial_answer (given_bindings p.automaton p.arguments)) p.automaton.variables ≡ map Ok p.initial
+
+-- a program of an automaton, to whose parameters a node gives no values in this form
 pub record IsProgramOf (a : SourceAutomaton) (p : Parts) : Type 0 where
-  pub signature : map (λ r. erase_entry r.entry) p.rules ≡ a.signature
-  pub transitions : AllByRecursion (IsRuleOf a) p.rules
-  pub shapes : AllByRecursion HasIntegers p.rules
-  pub states : map erase_variable p.variables ≡ a.states
-  pub sorts : AllByRecursion (λ v. HasItsShape v.declared) p.variables
-  pub initial : map initial_answer p.variables ≡ map Ok p.initial
-  pub schedule : map erase_statement p.schedule ≡ a.schedule
+  pub automaton : IsAutomatonOf a p.automaton
+  pub arguments : p.arguments ≡ []
+  pub initial : HasInitialValues p
 
 -- the automaton that a declaration declares, if it declares one
 abbrev pub automaton_in : SourceDeclaration → List SourceAutomaton

@@ -14,10 +14,12 @@ use Rattle.ioa_source.specs.Sides.{CheckedEntry, CheckedVariable, CheckedTransit
 use Rattle.ioa_system.specs.Parts.{PlainRule}
 use Rattle.ioa_system.specs.ResolvedPrograms.{IsResolvedGuard, AreResolvedTerms, IsResolvedRule}
 use Rattle.ioa_system.specs.ResolvedPrograms.{IsResolvedParameter, AreResolvedParameters, AreResolvedVariables}
+use Rattle.ioa_system.specs.InView.{DeclaredNames, guard_or_effect, own_names, scope_at, variable_names}
+use Rattle.ioa_source.specs.PlainText.{PlainEntry}
 use Rattle.ioa_system.specs.ResolvedPrograms.{IsResolvedFiring, AreResolvedFirings}
 use Rattle.ioa_check.specs.declared.refusal.Row.{Row}
 use Rattle.ioa_check.specs.Correspondence.{AssignsInteger, HasItsShape, HasParameterShape, HasIntegers, IsRuleOf}
-use Rattle.ioa_check.specs.Rows.{reads_only, reads_no_name, guard_reads_only, writes_only, assigns_only, fires_only}
+use Rattle.ioa_check.specs.Rows.{reads_only, constant_reads_only, guard_reads_only, writes_only, assigns_only, fires_only}
 use Rattle.ioa_check.specs.Rows.{assigns_number, fires_numbers, is_number_constant, is_number_term, is_guard_or_none}
 use Rattle.ioa_check.specs.Standing.{Fails, is_known_parameter, is_known_entry}
 use Rattle.ioa_check.specs.Standing.{is_known_transition, is_sorted_transition}
@@ -111,67 +113,69 @@ pub record IsScheduleOf
 abbrev pub FailsOfSchedule : List (List ℕ) → List SourceStatement → Row → Type 0
 FailsOfSchedule variables ss = Fails (list_all (fires_only variables) ss) (list_all fires_numbers ss)
 
--- a parameter of an entry
-pub record IsParameterOf (p : SourceParameter) (c : CheckedParameter) : Type 0 where
+-- a parameter of an entry, whose constant may read these names
+pub record IsParameterOf (names : List (List ℕ)) (p : SourceParameter) (c : CheckedParameter) : Type 0 where
   pub same : erase_parameter c ≡ p
-  pub resolved : IsResolvedParameter c
+  pub resolved : IsResolvedParameter names c
   pub shape : HasParameterShape c
-  -- 20: a constant reads no name
-  pub known : reads_no_name p ≡ true
+  -- 20: a constant reads names in view
+  pub known : constant_reads_only names p ≡ true
   -- 22: a constant is a number
   pub sorted : is_number_constant p ≡ true
 
-abbrev pub FailsOfParameter : SourceParameter → Row → Type 0
-FailsOfParameter p = Fails (is_known_parameter p) (is_number_constant p)
+abbrev pub FailsOfParameter : List (List ℕ) → SourceParameter → Row → Type 0
+FailsOfParameter names p = Fails (is_known_parameter names p) (is_number_constant p)
 
 -- the parameters of an entry
-pub record AreParametersOf (ps : List SourceParameter) (cs : List CheckedParameter) : Type 0 where
+pub record AreParametersOf
+    (names : List (List ℕ)) (ps : List SourceParameter) (cs : List CheckedParameter) : Type 0 where
   pub same : map erase_parameter cs ≡ ps
-  pub resolved : AreResolvedParameters cs
+  pub resolved : AreResolvedParameters names cs
   pub shapes : AllByRecursion HasParameterShape cs
-  -- 20: constants read no name
-  pub known : list_all reads_no_name ps ≡ true
+  -- 20: constants read names in view
+  pub known : list_all (constant_reads_only names) ps ≡ true
   -- 22: constants are numbers
   pub sorted : list_all is_number_constant ps ≡ true
 
-abbrev pub FailsOfParameters : List SourceParameter → Row → Type 0
-FailsOfParameters ps = Fails (list_all is_known_parameter ps) (list_all is_number_constant ps)
+abbrev pub FailsOfParameters : List (List ℕ) → List SourceParameter → Row → Type 0
+FailsOfParameters names ps = Fails (list_all (is_known_parameter names) ps) (list_all is_number_constant ps)
 
--- an entry of a signature, which has no condition
-pub record IsEntryOf (e : SourceEntry) (c : CheckedEntry) : Type 0 where
+-- an entry of a signature, which has no condition, and whose constants may read these names
+pub record IsEntryOf (names : List (List ℕ)) (e : SourceEntry) (c : CheckedEntry) : Type 0 where
   pub same : erase_entry c ≡ e
-  pub resolved : AreResolvedParameters c.parameters
-  pub condition : (names : List (List ℕ)) → IsResolvedGuard c.condition names
+  pub resolved : AreResolvedParameters names c.parameters
+  pub condition : (more : List (List ℕ)) → IsResolvedGuard c.condition more
   pub shapes : AllByRecursion HasParameterShape c.parameters
-  -- 20: constants read no name
-  pub known : list_all reads_no_name e.parameters ≡ true
+  -- 20: constants read names in view
+  pub known : list_all (constant_reads_only names) e.parameters ≡ true
   -- 22: constants are numbers
   pub sorted : list_all is_number_constant e.parameters ≡ true
 
-abbrev pub FailsOfEntry : SourceEntry → Row → Type 0
-FailsOfEntry e = Fails (is_known_entry e) (list_all is_number_constant e.parameters)
+abbrev pub FailsOfEntry : List (List ℕ) → SourceEntry → Row → Type 0
+FailsOfEntry names e = Fails (is_known_entry names e) (list_all is_number_constant e.parameters)
 
--- a state variable
-pub record IsVariableOf (v : SourceVariable) (c : CheckedVariable) : Type 0 where
+-- a state variable, whose initial term may read these names
+pub record IsVariableOf (names : List (List ℕ)) (v : SourceVariable) (c : CheckedVariable) : Type 0 where
   pub same : erase_variable c ≡ v
-  pub resolved : IsResolvedGuard c.initial []
+  pub resolved : IsResolvedGuard c.initial names
   pub shape : HasItsShape c.declared
   -- 23: it has an initial term
   pub initial : is_some v.initial ≡ true
-  -- 20: which reads no name
-  pub known : guard_reads_only [] v.initial ≡ true
+  -- 20: which reads names in view
+  pub known : guard_reads_only names v.initial ≡ true
   -- 22: and is a number
   pub sorted : is_number_term v.initial ≡ true
 
 -- the state variables
-pub record AreVariablesOf (vs : List SourceVariable) (cs : List CheckedVariable) : Type 0 where
+pub record AreVariablesOf
+    (names : List (List ℕ)) (vs : List SourceVariable) (cs : List CheckedVariable) : Type 0 where
   pub same : map erase_variable cs ≡ vs
-  pub resolved : AreResolvedVariables cs
+  pub resolved : AreResolvedVariables names cs
   pub shapes : AllByRecursion (λ v. HasItsShape v.declared) cs
   -- 23: each has an initial term
   pub initials : list_all (λ v. is_some v.initial) vs ≡ true
-  -- 20: which reads no name
-  pub known : list_all (λ v. guard_reads_only [] v.initial) vs ≡ true
+  -- 20: which reads names in view
+  pub known : list_all (λ v. guard_reads_only names v.initial) vs ≡ true
   -- 22: and is a number
   pub sorted : list_all (λ v. is_number_term v.initial) vs ≡ true
 
@@ -185,17 +189,24 @@ pub record IsTransitionOf
 abbrev pub FailsOfTransition : ℕ → List (List ℕ) → SourceTransition → Row → Type 0
 FailsOfTransition count names t = Fails (is_known_transition (take count names) names t) (is_sorted_transition t)
 
--- the rule of an entry of an automaton with these state variables
-pub record IsRuleFor
-    (variables : List CheckedVariable) (a : SourceAutomaton) (e : SourceEntry) (r : PlainRule) : Type 0 where
-  pub resolved : IsResolvedRule variables r
+-- the names that an automaton without parameters declares, if these are its state variables, in a text of this form
+abbrev pub first_names : List CheckedVariable → DeclaredNames
+first_names vs = record { constants = []; parameters = []; variables = variable_names vs }
+
+-- the names in view in the transition of an entry of such an automaton
+abbrev pub scope_for : {N D : Type 0} → PlainEntry N D → List CheckedVariable → List (List ℕ)
+scope_for e vs = scope_at guard_or_effect (first_names vs) (own_names e.parameters)
+
+-- the rule of an entry of an automaton that declares these names
+pub record IsRuleFor (d : DeclaredNames) (a : SourceAutomaton) (e : SourceEntry) (r : PlainRule) : Type 0 where
+  pub resolved : IsResolvedRule d r
   pub entry : erase_entry r.entry ≡ e
   pub transition : IsRuleOf a r
   pub shapes : HasIntegers r
 
--- the rules of an automaton with these state variables, one for each entry
-pub record AreRulesFor (variables : List CheckedVariable) (a : SourceAutomaton) (rs : List PlainRule) : Type 0 where
-  pub resolved : All (IsResolvedRule variables) rs
+-- the rules of an automaton that declares these names, one for each entry
+pub record AreRulesFor (d : DeclaredNames) (a : SourceAutomaton) (rs : List PlainRule) : Type 0 where
+  pub resolved : All (IsResolvedRule d) rs
   pub signature : map (λ r. erase_entry r.entry) rs ≡ a.signature
   pub transitions : AllByRecursion (IsRuleOf a) rs
   pub shapes : AllByRecursion HasIntegers rs

@@ -15,7 +15,8 @@ use Rattle.ioa_terms.specs.declared.tree.Kind.TheVariants.{Input}
 use Rattle.ioa_terms.specs.PlainTerm.{number, name, two, variable, at_key, at_field, assign, choose, fire}
 use Rattle.ioa_source.specs.PlainText.{const, named}
 use Rattle.ioa_check.specs.FirstSorts.{is_first, is_number, is_guard}
-use Rattle.ioa_system.specs.ResolvedPrograms.{own_names, variable_names}
+use Rattle.ioa_system.specs.InView.{DeclaredNames, names_at, own_names, scope_at, source_names}
+use Rattle.ioa_system.specs.InView.{entry_constant, initial_value, guard_or_effect, firing}
 use Rattle.ioa_check.specs.FirstForm.{is_first_declaration, is_first_placement, passes_or_none}
 use Rattle.ioa_check.specs.Correspondence.{same_kind, transition_for, automata_in, automaton_named}
 use Rattle.ioa_check.specs.Correspondence.{nodes_in, channels_in}
@@ -120,10 +121,10 @@ abbrev pub guard_reads_only : List (List ℕ) → Option SourceTerm → Bool
 guard_reads_only names None = true
 guard_reads_only names (Some t) = reads_only names t
 
--- 20: a constant reads no name
-abbrev pub reads_no_name : SourceParameter → Bool
-reads_no_name (const t) = reads_only [] t
-reads_no_name (named d) = true
+-- 20: the names that a constant reads are in view
+abbrev pub constant_reads_only : List (List ℕ) → SourceParameter → Bool
+constant_reads_only names (const t) = reads_only names t
+constant_reads_only names (named d) = true
 
 -- 20: an assignment is to one of these variables
 abbrev pub writes_only : List (List ℕ) → SourceTarget → Bool
@@ -143,8 +144,16 @@ fires_only names (assign p t) = false
 fires_only names (choose arms rest) = false
 fires_only names (fire k x ts) = list_all (reads_only names) ts
 
--- no row applies to an entry and its transition, in an automaton whose state variables have these names
-pub record HasNoEntryRow (names : List (List ℕ)) (ts : List SourceTransition) (e : SourceEntry) : Type 0 where
+-- the names of an automaton of a text of this form, which has no constants
+abbrev pub automaton_scope : SourceAutomaton → DeclaredNames
+automaton_scope a = source_names [] a
+
+-- the names that guard and effect of an entry's transition may read
+abbrev pub names_in_transition : DeclaredNames → SourceEntry → List (List ℕ)
+names_in_transition d e = names_at guard_or_effect d (own_names e.parameters)
+
+-- no row applies to an entry and its transition, in an automaton that declares these names
+pub record HasNoEntryRow (d : DeclaredNames) (ts : List SourceTransition) (e : SourceEntry) : Type 0 where
   pub transition : SourceTransition
   -- 25: there is one
   pub found : transition_for e ts ≡ Some transition
@@ -152,22 +161,22 @@ pub record HasNoEntryRow (names : List (List ℕ)) (ts : List SourceTransition) 
   pub input_pre : is_some transition.pre && same_kind e.kind Input ≡ false
   -- 34: the head repeats the entry
   pub head : pointwise argument_repeats e.parameters transition.arguments ≡ true
-  -- 21: the state variables and the entry's own parameters differ
-  pub differ : IsDistinct same_name (names ++ own_names e.parameters)
+  -- 21: the automaton's parameters, its state variables and the entry's own parameters differ
+  pub differ : IsDistinct same_name (scope_at guard_or_effect d (own_names e.parameters))
   -- 22: constants and assigned terms are numbers, and a guard is a truth value
   pub constants : list_all is_number_constant e.parameters ≡ true
   pub guard : is_guard_or_none transition.pre ≡ true
   pub effect : list_all assigns_number transition.effect ≡ true
-  -- 20: constants read no name; guard and effect read names in view, and assignments are to state variables
-  pub constant_names : list_all reads_no_name e.parameters ≡ true
-  pub guard_names : guard_reads_only (names ++ own_names e.parameters) transition.pre ≡ true
-  pub effect_names : list_all (assigns_only names (names ++ own_names e.parameters)) transition.effect ≡ true
+  -- 20: constants, guard and effect read names in view, and assignments are to state variables
+  pub constant_names : list_all (constant_reads_only (names_at entry_constant d [])) e.parameters ≡ true
+  pub guard_names : guard_reads_only (names_in_transition d e) transition.pre ≡ true
+  pub effect_names : list_all (assigns_only d.variables (names_in_transition d e)) transition.effect ≡ true
 
 -- no row applies to an automaton
 pub record HasNoAutomatonRow (a : SourceAutomaton) : Type 0 where
-  -- 21: its entries' names differ, its state variables', and its transitions'
+  -- 21: its entries' names differ, those of its parameters and state variables, and its transitions'
   pub entries_differ : IsDistinct same_name (entry_names a.signature)
-  pub variables_differ : IsDistinct same_name (variable_names a.states)
+  pub variables_differ : IsDistinct same_name (scope_at firing (automaton_scope a) [])
   pub transitions_differ : IsDistinct same_name (transition_names a.transitions)
   -- 20: its transitions and firings are of entries
   pub transitions : transitions_have_entries a ≡ true
@@ -175,16 +184,17 @@ pub record HasNoAutomatonRow (a : SourceAutomaton) : Type 0 where
   -- 22: its firings have as many arguments as their entries, and they are numbers
   pub many : firings_have_as_many a ≡ true
   pub arguments : list_all fires_numbers a.schedule ≡ true
-  -- 20: which read state variables alone
-  pub read : list_all (fires_only (variable_names a.states)) a.schedule ≡ true
+  -- 20: which read names in view
+  pub read : list_all (fires_only (names_at firing (automaton_scope a) [])) a.schedule ≡ true
   -- 23: each state variable has an initial term
   pub initials : list_all (λ v. is_some v.initial) a.states ≡ true
   -- 22: which is a number
   pub initial_numbers : list_all (λ v. is_number_term v.initial) a.states ≡ true
-  -- 20: and which reads no name
-  pub initial_names : list_all (λ v. guard_reads_only [] v.initial) a.states ≡ true
+  -- 20: and which reads names in view
+  pub initial_names : list_all (λ v. guard_reads_only (names_at initial_value (automaton_scope a) []) v.initial)
+      a.states ≡ true
   -- each entry and its transition
-  pub entries : AllByRecursion (HasNoEntryRow (variable_names a.states) a.transitions) a.signature
+  pub entries : AllByRecursion (HasNoEntryRow (automaton_scope a) a.transitions) a.signature
 
 -- a parameter, if there is one, is the constant of a number
 abbrev pub is_constant : Option SourceParameter → ℤ → Bool

@@ -1,21 +1,25 @@
-//! A node's program, made of its automaton.
+//! Automata that are made ready to step, and the programs of the nodes on which they are placed.
 
-ghost use Rattle.std.specs.Prelude.{◌≡◌, ◌&&◌, true, ◌++◌, [], ◌∷◌, IfOk, OnOk, Ok, false, map, length};
+ghost use Rattle.std.specs.Prelude.{◌≡◌, ◌&&◌, true, ◌++◌, [], ◌∷◌, IfOk, OnOk, Ok, false, map, length, nat_eq};
 ghost use Rattle.std.specs.Option.{option_map, option_copied, is_some};
+ghost use Rattle.std.specs.Arc.{arc_value};
 ghost use lib.Pointwise.{pointwise};
 ghost use Rattle.std.specs.List.{AllByRecursion, IsDistinct, list_all, list_any};
 ghost use Rattle.ioa_terms.specs.Bindings.{same_name};
 ghost use Rattle.ioa_terms.specs.View.{term_of, statement_of};
 ghost use Rattle.ioa_source.specs.TextView.{automaton_of, parameter_of, entry_of, transition_of, variable_of};
+ghost use Rattle.ioa_terms.specs.Bindings.{names_of};
+ghost use Rattle.ioa_system.specs.InView.{given_bindings, own_name, variable_names};
 ghost use Rattle.ioa_system.specs.ResolvedPrograms.{AreResolvedVariables, IsResolvedGuard};
-ghost use Rattle.ioa_system.specs.ResolvedPrograms.{own_name, variable_names, scope_of};
-ghost use Rattle.ioa_check.specs.Correspondence.{IsProgramOf, initial_answer, term_answer, transition_for, same_kind};
+ghost use Rattle.ioa_check.specs.Correspondence.{IsAutomatonOf, HasInitialValues, initial_answer, term_answer};
+ghost use Rattle.ioa_check.specs.Correspondence.{transition_for, same_kind};
 ghost use Rattle.ioa_check.specs.Resolutions.{IsTransitionOf, IsRuleFor, AreRulesFor, FailsOfTransition};
+ghost use Rattle.ioa_check.specs.Resolutions.{first_names, scope_for};
 ghost use Rattle.ioa_check.specs.Rows as spec;
 ghost use Rattle.ioa_check.specs.Rows.{HasNoEntryRow, HasNoAutomatonRow, entry_names, transition_names, has_entry};
 ghost use Rattle.ioa_check.specs.Rows.{fires_entry, fires_as_many, takes_as_many, argument_repeats, same_term};
 ghost use Rattle.ioa_check.specs.Standing.{Fails, IfRefused, RefusesOnly, StandsInAutomaton, StandsInEntries};
-ghost use Rattle.ioa_check.specs.Standing.{StandsInEntry, StandsInInitial, StandsInInitials};
+ghost use Rattle.ioa_check.specs.Standing.{StandsInEntry, StandsInCompiled, StandsInInitial, StandsInInitials};
 
 use crate::refusal::{Refusal, Row};
 use crate::resolving::{
@@ -23,31 +27,74 @@ use crate::resolving::{
     resolve_variables,
 };
 use ioa_source::{Automaton, Entry, Parameter, Transition, Variable};
-use ioa_system::{Program, Rule, Scope};
-use ioa_terms::{Checked, Env, Kind, Shape, Statement, Term, TermFault, Tree, Value, Word, eval};
+use ioa_system::{CompiledAutomaton, Program, Rule, Scope};
+use ioa_terms::{
+    Checked, Env, Kind, Names, Shape, Statement, Term, TermFault, Tree, Value, Word, eval,
+};
 use std::alloc::Global;
+use std::sync::Arc;
 
-/// The program of a node on which an automaton is placed.
-pub(crate) fn program_of(
+/// Makes an automaton ready to step: its names are resolved, and each entry has its transition beside it.
+pub(crate) fn compile(
     alloc: Global,
-    node: i64,
     automaton: &Automaton<(), ()>,
-) -> Result<Program, Refusal>
-    ensures node { IfOk result (λ p. p.node ≡ node) }
-    ensures made { IfOk result (IsProgramOf (automaton_of automaton.now)) }
+) -> Result<CompiledAutomaton, Refusal>
+    ensures made { IfOk result (IsAutomatonOf (automaton_of automaton.now)) }
     ensures rows { OnOk result (HasNoAutomatonRow (automaton_of automaton.now)) }
     ensures refused { IfRefused result (StandsInAutomaton (automaton_of automaton.now)) }
 {
+    no_parameters(automaton)?;
     entries_differ(alloc, automaton)?;
     transitions_differ(alloc, automaton)?;
-    let variables = resolve_variables(alloc, &automaton.states)?;
-    let initial = initial_values(alloc, &variables)?;
-    let names = names_of(alloc, &variables)?;
+    let given = Scope::new(alloc);
+    let variables = resolve_variables(alloc, &given, &automaton.states)?;
+    let scope = names_of(alloc, &variables)?;
     transitions_have_entries(automaton)?;
     firings_have_entries(automaton)?;
     let rules = rules_of(alloc, automaton, &variables)?;
-    let schedule = resolve_schedule(alloc, &names, &automaton.schedule)?;
-    Ok(Program::new(node, rules, variables, initial, schedule))
+    let schedule = resolve_schedule(alloc, &scope, &automaton.schedule)?;
+    let name = automaton.name.try_copy(alloc)?;
+    let constants = Arc::new(alloc, Names::none(alloc))?;
+    let parameters = Vec::new(alloc);
+    Ok(CompiledAutomaton::new(
+        name, constants, parameters, variables, scope, rules, schedule,
+    ))
+}
+
+/// Passes if an automaton has no parameters: none has in what runs today.
+fn no_parameters(automaton: &Automaton<(), ()>) -> Result<(), Refusal>
+    ensures none { OnOk result ((automaton_of automaton.now).parameters ≡ []) }
+    ensures refused { RefusesOnly result Row.Unknown
+        (nat_eq (length (automaton_of automaton.now).parameters) 0 ≡ false) }
+{
+    if automaton.parameters.is_empty() {
+        Ok(())
+    } else {
+        Err(Refusal::Row(Row::Unknown))
+    }
+}
+
+/// The program of a node on which an automaton is placed. The automaton is shared.
+pub(crate) fn program_of(
+    alloc: Global,
+    number: i64,
+    automaton: &Arc<CompiledAutomaton>,
+) -> Result<Program, Refusal>
+    // The program is of this node and automaton, and its initial values are those of the automaton's terms.
+    ensures node { IfOk result (λ p. p.node ≡ number) }
+    ensures automaton { IfOk result (λ p. p.automaton ≡ arc_value automaton.now) }
+    ensures arguments { IfOk result (λ p. p.arguments ≡ []) }
+    ensures initial { IfOk result HasInitialValues }
+    // A row that is refused applies to the automaton on such a node.
+    ensures refused { IfRefused result (StandsInCompiled (arc_value automaton.now)) }
+{
+    if !automaton.parameters().is_empty() {
+        return Err(Refusal::Row(Row::Unknown));
+    }
+    let arguments = Vec::new(alloc);
+    let initial = initial_values(alloc, automaton, &arguments)?;
+    let shared = Arc::try_clone(automaton)?;
+    Ok(Program::new(number, shared, arguments, initial))
 }
 
 /// The names of the state variables. A name that is declared twice is refused by `Twice` (21).
@@ -85,10 +132,10 @@ fn scope_for(
     variables: &[Variable<usize, Shape>],
     entry: &Entry<usize, Shape>,
 ) -> Result<Scope, Refusal>
-    ensures names { IfOk result (λ s. s ≡ scope_of (entry_of entry.now) (map variable_of variables.now)) }
+    ensures names { IfOk result (λ s. s ≡ scope_for (entry_of entry.now) (map variable_of variables.now)) }
     ensures differ { IfOk result (IsDistinct same_name) }
     ensures refused { RefusesOnly result Row.Twice
-        (IsDistinct same_name (scope_of (entry_of entry.now) (map variable_of variables.now)) → ⊥) }
+        (IsDistinct same_name (scope_for (entry_of entry.now) (map variable_of variables.now)) → ⊥) }
 {
     let mut names = names_of(alloc, variables)?;
     for parameter in &entry.parameters {
@@ -114,34 +161,53 @@ fn declare_parameter(
     }
 }
 
-/// The values of the state variables in the start state.
+/// The values of an automaton's state variables in the start state, on a node that gives these arguments.
 fn initial_values(
     alloc: Global,
+    automaton: &CompiledAutomaton,
+    arguments: &[Value],
+) -> Result<Vec<Value>, Refusal>
+    requires { length arguments.now ≡ length automaton.now.parameters }
+    ensures many { IfOk result (λ vs. length vs.items ≡ length automaton.now.variables) }
+    ensures values { IfOk result (λ vs.
+        map (initial_answer (given_bindings automaton.now arguments.now)) automaton.now.variables ≡ map Ok vs.items) }
+    ensures refused { IfRefused result
+        (StandsInInitials (given_bindings automaton.now arguments.now) automaton.now.variables) }
+{
+    let env = automaton.given_env(arguments);
+    values_of(alloc, &env, automaton.variables())
+}
+
+/// The values of the initial terms of state variables.
+fn values_of(
+    alloc: Global,
+    env: &Env,
     variables: &[Variable<usize, Shape>],
 ) -> Result<Vec<Value>, Refusal>
-    requires { AreResolvedVariables (map variable_of variables.now) }
+    requires { AreResolvedVariables (names_of env.now) (map variable_of variables.now) }
     ensures many { IfOk result (λ vs. length vs.items ≡ length variables.now) }
-    ensures values { IfOk result (λ vs. map initial_answer (map variable_of variables.now) ≡ map Ok vs.items) }
-    ensures refused { IfRefused result (StandsInInitials variables.now) }
+    ensures values { IfOk result (λ vs.
+        map (initial_answer env.now) (map variable_of variables.now) ≡ map Ok vs.items) }
+    ensures refused { IfRefused result (StandsInInitials env.now (map variable_of variables.now)) }
 {
     let mut values = Vec::new(alloc);
     for variable in variables {
-        let value = initial_value(alloc, &variable.initial)?;
+        let value = initial_value(alloc, env, &variable.initial)?;
         values.push(value)?;
     }
     Ok(values)
 }
 
 /// The value of an initial term.
-fn initial_value(alloc: Global, initial: &Option<Checked>) -> Result<Value, Refusal>
-    requires { IsResolvedGuard (option_map term_of initial.now) [] }
-    ensures value { IfOk result (λ v. term_answer (option_map term_of initial.now) ≡ Ok v) }
-    ensures refused { IfRefused result (StandsInInitial (option_map term_of initial.now)) }
+fn initial_value(alloc: Global, env: &Env, initial: &Option<Checked>) -> Result<Value, Refusal>
+    requires { IsResolvedGuard (option_map term_of initial.now) (names_of env.now) }
+    ensures value { IfOk result (λ v. term_answer env.now (option_map term_of initial.now) ≡ Ok v) }
+    ensures refused { IfRefused result (StandsInInitial env.now (option_map term_of initial.now)) }
 {
     let Some(term) = initial else {
         return Err(Refusal::Row(Row::NoInitial));
     };
-    match eval(alloc, term, &Env::new(&[], &[])) {
+    match eval(alloc, term, env) {
         Ok(value) => Ok(value),
         Err(TermFault::Undefined) => Err(Refusal::Row(Row::BadArgument)),
         Err(TermFault::Range) => Err(Refusal::Row(Row::BadArgument)),
@@ -156,12 +222,12 @@ fn rules_of(
     variables: &[Variable<usize, Shape>],
 ) -> Result<Vec<Rule>, Refusal>
     ensures made { IfOk result (λ rs.
-        AreRulesFor (map variable_of variables.now) (automaton_of automaton.now) rs.items) }
+        AreRulesFor (first_names (map variable_of variables.now)) (automaton_of automaton.now) rs.items) }
     ensures rows { OnOk result (AllByRecursion
-        (HasNoEntryRow (variable_names (map variable_of variables.now)) (automaton_of automaton.now).transitions)
+        (HasNoEntryRow (first_names (map variable_of variables.now)) (automaton_of automaton.now).transitions)
         (automaton_of automaton.now).signature) }
     ensures refused { IfRefused result
-        (StandsInEntries (variable_names (map variable_of variables.now)) (automaton_of automaton.now).transitions
+        (StandsInEntries (first_names (map variable_of variables.now)) (automaton_of automaton.now).transitions
         (automaton_of automaton.now).signature) }
 {
     let mut rules = Vec::new(alloc);
@@ -180,12 +246,12 @@ fn rule_of(
     variables: &[Variable<usize, Shape>],
 ) -> Result<Rule, Refusal>
     ensures made { IfOk result
-        (IsRuleFor (map variable_of variables.now) (automaton_of automaton.now) (entry_of entry.now)) }
+        (IsRuleFor (first_names (map variable_of variables.now)) (automaton_of automaton.now) (entry_of entry.now)) }
     ensures rows { OnOk result
-        (HasNoEntryRow (variable_names (map variable_of variables.now)) (automaton_of automaton.now).transitions
+        (HasNoEntryRow (first_names (map variable_of variables.now)) (automaton_of automaton.now).transitions
         (entry_of entry.now)) }
     ensures refused { IfRefused result
-        (StandsInEntry (variable_names (map variable_of variables.now)) (automaton_of automaton.now).transitions
+        (StandsInEntry (first_names (map variable_of variables.now)) (automaton_of automaton.now).transitions
         (entry_of entry.now)) }
 {
     let Some(transition) = transition_for(automaton, entry) else {
@@ -197,7 +263,7 @@ fn rule_of(
     if has_input_pre(entry, transition) {
         return Err(Refusal::Row(Row::InputPre));
     }
-    let entry = resolve_entry(alloc, entry)?;
+    let entry = resolve_entry(alloc, &Scope::new(alloc), entry)?;
     let scope = scope_for(alloc, variables, &entry)?;
     let transition = resolve_transition(alloc, &scope, variables.len(), transition)?;
     Ok(Rule {

@@ -11,6 +11,7 @@ ghost use Rattle.ioa_source.specs.TextView.{automaton_of, entry_of, parameter_of
 ghost use Rattle.ioa_source.specs.Sides.{SourceNode};
 ghost use Rattle.ioa_check.specs.Correspondence.{IsSystemOf, IsNodeOf, AreNodesOf, nodes_in, channels_in, node_at};
 ghost use Rattle.ioa_check.specs.Correspondence.{automaton_named, automaton_in, automata_in};
+ghost use Rattle.ioa_check.specs.Correspondence.{AddsAutomata, AreAutomataOf, compiled_named};
 ghost use Rattle.ioa_check.specs.declared.checking.TheConstants.{MOST_CHANNELS, MOST_NODES};
 ghost use Rattle.ioa_check.specs.FirstForm.{is_first_declaration, is_first_placement, passes_or_none};
 ghost use Rattle.ioa_check.specs.Rows as spec;
@@ -20,12 +21,12 @@ ghost use Rattle.ioa_check.specs.Standing.{FaultSays, IfRefused, Only, RefusesOn
 ghost use Rattle.ioa_check.specs.Standing.{StandsInAutomata, StandsInAutomaton, StandsInNode, StandsInNodes};
 ghost use Rattle.ioa_check.specs.Standing.{StandsInChannel, StandsInChannels};
 
-use crate::building::{declare, program_of};
+use crate::building::{compile, declare, program_of};
 use crate::first_form::{is_first_declaration, is_first_placement};
 use crate::refusal::{CheckFault, Refusal, Row};
 use ioa_actions::{RECEIVE, SEND};
 use ioa_source::{Automaton, Channel, Declaration, Entry, Node, Parameter, Placement, Text};
-use ioa_system::{Program, Scope, System};
+use ioa_system::{CompiledAutomaton, Program, Scope, System};
 use ioa_terms::{Names, Tree, Word};
 use std::alloc::Global;
 use std::sync::Arc;
@@ -45,8 +46,8 @@ pub fn check(alloc: Global, text: &Text<(), ()>) -> Result<System, CheckFault>
     ensures refused { IfErr result (λ f. StandsInSource f (text_of text.now)) }
 {
     check_first_form(text)?;
-    check_declarations(alloc, &text.declarations)?;
-    match check_placements(alloc, text) {
+    let automata = compile_declarations(alloc, &text.declarations)?;
+    match check_placements(alloc, text, &automata) {
         Ok(system) => Ok(system),
         Err(refusal) => Err(refusal.at(text.declarations.len())),
     }
@@ -88,8 +89,13 @@ fn placements_are_first(placements: &[Placement<(), ()>]) -> bool
     placements.iter().all(is_first_placement)
 }
 
-/// Passes if no row applies to a declaration before the system section.
-fn check_declarations(alloc: Global, declarations: &[Declaration<(), ()>]) -> Result<(), CheckFault>
+/// Makes the automata of a text ready to step, in the order of their declaration.
+fn compile_declarations(
+    alloc: Global,
+    declarations: &[Declaration<(), ()>],
+) -> Result<Vec<Arc<CompiledAutomaton>>, CheckFault>
+    ensures made { IfOk result (λ cs.
+        AreAutomataOf (automata_in (map declaration_of declarations.now)) (map arc_value cs.items)) }
     ensures differ { OnOk result
         (IsDistinct same_name (automaton_names (automata_in (map declaration_of declarations.now)))) }
     ensures rows { OnOk result (AllByRecursion HasNoAutomatonRow (automata_in (map declaration_of declarations.now))) }
@@ -97,60 +103,70 @@ fn check_declarations(alloc: Global, declarations: &[Declaration<(), ()>]) -> Re
         (FaultSays (StandsInAutomata [] (automata_in (map declaration_of declarations.now)))) }
 {
     let mut names = Scope::new(alloc);
+    let mut automata: Vec<Arc<CompiledAutomaton>> = Vec::new(alloc);
     for index in 0..declarations.len() {
-        match check_declaration(alloc, &mut names, &declarations[index]) {
+        match compile_declaration(alloc, &mut names, &mut automata, &declarations[index]) {
             Ok(()) => {}
             Err(refusal) => return Err(refusal.at(index)),
         }
     }
-    Ok(())
+    Ok(automata)
 }
 
-/// Passes if no row applies to a declaration. The name of an automaton is added to the names.
-fn check_declaration(
+/// Makes the automaton of a declaration, if it declares one, ready to step, and adds it and its name to those
+/// that were before.
+fn compile_declaration(
     alloc: Global,
     names: &mut Scope,
+    automata: &mut Vec<Arc<CompiledAutomaton>>,
     declaration: &Declaration<(), ()>,
 ) -> Result<(), Refusal>
+    // The automaton and its name are added.
+    ensures made { OnOk result (AddsAutomata (map arc_value automata.old.items) (map arc_value automata.new.items)
+        (automaton_in (declaration_of declaration.now))) }
     ensures added { OnOk result
         (names.new ≡ names.old ++ automaton_names (automaton_in (declaration_of declaration.now))) }
     ensures differ { OnOk result (IsDistinct same_name names.old → IsDistinct same_name names.new) }
+    // No row applies, or the one that is refused.
     ensures rows { OnOk result (AllByRecursion HasNoAutomatonRow (automaton_in (declaration_of declaration.now))) }
     ensures refused { IfRefused result
         (StandsInAutomata names.old (automaton_in (declaration_of declaration.now))) }
 {
     match declaration {
         Declaration::Type(_) => Ok(()),
-        Declaration::Automaton(automaton) => check_named(alloc, names, automaton),
+        Declaration::Automaton(automaton) => compile_named(alloc, names, automata, automaton),
     }
 }
 
-/// Passes if an automaton's name is new and a program can be made of it.
-fn check_named(
+/// Makes an automaton whose name is new ready to step, and adds it and its name to those that were before.
+fn compile_named(
     alloc: Global,
     names: &mut Scope,
+    automata: &mut Vec<Arc<CompiledAutomaton>>,
     automaton: &Automaton<(), ()>,
 ) -> Result<(), Refusal>
+    // The automaton and its name are added.
+    ensures made { OnOk result (AddsAutomata (map arc_value automata.old.items) (map arc_value automata.new.items)
+        (automaton_of automaton.now ∷ [])) }
     ensures added { OnOk result (names.new ≡ names.old ++ (automaton_of automaton.now).name ∷ []) }
     ensures differ { OnOk result (IsDistinct same_name names.old → IsDistinct same_name names.new) }
+    // No row applies, or the one that is refused.
     ensures rows { OnOk result (HasNoAutomatonRow (automaton_of automaton.now)) }
     ensures refused { IfRefused result (StandsInAutomata names.old (automaton_of automaton.now ∷ [])) }
 {
     declare(alloc, names, &automaton.name)?;
-    check_automaton(alloc, automaton)
-}
-
-/// Passes if a program can be made of an automaton.
-fn check_automaton(alloc: Global, automaton: &Automaton<(), ()>) -> Result<(), Refusal>
-    ensures rows { OnOk result (HasNoAutomatonRow (automaton_of automaton.now)) }
-    ensures refused { IfRefused result (StandsInAutomaton (automaton_of automaton.now)) }
-{
-    let _program = program_of(alloc, 0, automaton)?;
+    let compiled = compile(alloc, automaton)?;
+    automata.push(Arc::new(alloc, compiled)?)?;
     Ok(())
 }
 
 /// The system of a text whose declarations passed.
-fn check_placements(alloc: Global, text: &Text<(), ()>) -> Result<System, Refusal>
+fn check_placements(
+    alloc: Global,
+    text: &Text<(), ()>,
+    automata: &[Arc<CompiledAutomaton>],
+) -> Result<System, Refusal>
+    requires { AreAutomataOf (automata_in (text_of text.now).declarations) (map arc_value automata.now) }
     ensures system { IfOk result (IsSystemOf (text_of text.now)) }
     ensures rows { OnOk result (HasNoSystemRow (text_of text.now)) }
     ensures refused { IfRefused result (StandsIn (text_of text.now)) }
@@ -160,9 +176,10 @@ fn check_placements(alloc: Global, text: &Text<(), ()>) -> Result<System, Refusa
     numbers_differ(&nodes)?;
     channels_differ(&channels)?;
     check_nodes(text, &nodes)?;
-    let programs = programs_of(alloc, text, &nodes)?;
+    let programs = programs_of(alloc, text, automata, &nodes)?;
     check_channels(text, &nodes, &channels)?;
-    Ok(System::new(Names::none(alloc), programs, channels))
+    let names = Arc::new(alloc, Names::none(alloc))?;
+    Ok(System::new(names, programs, channels))
 }
 
 /// The nodes of a text, in the order of declaration: at most `MOST_NODES`.
@@ -351,25 +368,40 @@ fn node_takes_from(text: &Text<(), ()>, node: &Node<(), ()>, sender: i64) -> boo
 
 /// The automaton of the node that has a number.
 fn automaton_on<'a>(
-    text: &'a Text<(), ()>,
-    nodes: &[&'a Node<(), ()>],
+    automata: &'a [Arc<CompiledAutomaton>],
+    nodes: &[&Node<(), ()>],
     number: i64,
-) -> Result<&'a Automaton<(), ()>, Refusal>
-    ensures placed { IfOk result (λ a. (n : SourceNode) × Contains (map node_at nodes.now) n × (n.number ≡ number)
-        × (automaton_named n.automaton (map declaration_of text.entry.now.declarations.items)
-        ≡ Some (automaton_of a.now))) }
+) -> Result<&'a Arc<CompiledAutomaton>, Refusal>
+    ensures placed { IfOk result (λ c. (n : SourceNode) × Contains (map node_at nodes.now) n × (n.number ≡ number)
+        × (compiled_named n.automaton (map arc_value automata.entry.now) ≡ Some (arc_value c.now))) }
     ensures refused { IfRefused result (λ r.
         Only Row.NodeGap (spec.is_node (map node_at nodes.now) number ≡ false) r
-        ⊎ Only Row.Unknown
-        (list_all (spec.is_declared (text_of text.now).declarations) (map node_at nodes.now) ≡ false) r) }
+        ⊎ Only Row.Unknown ((n : SourceNode) × Contains (map node_at nodes.now) n
+        × (compiled_named n.automaton (map arc_value automata.entry.now) ≡ None)) r) }
 {
     let Some(node) = node_of_number(nodes, number) else {
         return Err(Refusal::Row(Row::NodeGap));
     };
-    match automaton_of_name(&text.declarations, &node.automaton) {
+    match compiled_of_name(automata, &node.automaton) {
         Some(automaton) => Ok(automaton),
         None => Err(Refusal::Row(Row::Unknown)),
     }
+}
+
+/// The automaton that has a name, made ready to step.
+fn compiled_of_name<'a>(
+    automata: &'a [Arc<CompiledAutomaton>],
+    name: &Word,
+) -> Option<&'a Arc<CompiledAutomaton>>
+    ensures { option_map arc_value (option_copied result)
+        ≡ compiled_named name.now (map arc_value automata.entry.now) }
+{
+    for automaton in automata {
+        if automaton.name() == name {
+            return Some(automaton);
+        }
+    }
+    None
 }
 
 /// The node that has a number.
@@ -408,16 +440,18 @@ fn automaton_of_name<'a>(
 fn programs_of(
     alloc: Global,
     text: &Text<(), ()>,
+    automata: &[Arc<CompiledAutomaton>],
     nodes: &[&Node<(), ()>],
 ) -> Result<Vec<Arc<Program>>, Refusal>
-    requires { map node_at nodes.now ≡ nodes_in (text_of text.now).system }
+    requires automata { AreAutomataOf (automata_in (text_of text.now).declarations) (map arc_value automata.now) }
+    requires nodes { map node_at nodes.now ≡ nodes_in (text_of text.now).system }
     ensures nodes { IfOk result (λ ps. AreNodesOf (text_of text.now) 0 (map arc_value ps.items)) }
     ensures many { IfOk result (λ ps. length ps.items ≡ length nodes.now) }
     ensures refused { IfRefused result (StandsIn (text_of text.now)) }
 {
     let mut programs = Vec::new(alloc);
     for position in 0..nodes.len() {
-        let program = node_program(alloc, text, nodes, position)?;
+        let program = node_program(alloc, text, automata, nodes, position)?;
         programs.push(program)?;
     }
     Ok(programs)
@@ -427,9 +461,11 @@ fn programs_of(
 fn node_program(
     alloc: Global,
     text: &Text<(), ()>,
+    automata: &[Arc<CompiledAutomaton>],
     nodes: &[&Node<(), ()>],
     position: usize,
 ) -> Result<Arc<Program>, Refusal>
+    requires automata { AreAutomataOf (automata_in (text_of text.now).declarations) (map arc_value automata.now) }
     requires nodes { map node_at nodes.now ≡ nodes_in (text_of text.now).system }
     requires small { position < 2 ^ 63 }
     ensures node { IfOk result (λ p. IsNodeOf (text_of text.now) position (arc_value p)) }
@@ -438,7 +474,7 @@ fn node_program(
         ⊎ StandsIn (text_of text.now) r) }
 {
     let number = position as i64;
-    let automaton = automaton_on(text, nodes, number)?;
+    let automaton = automaton_on(automata, nodes, number)?;
     let program = program_of(alloc, number, automaton)?;
     Ok(Arc::new(alloc, program)?)
 }

@@ -251,17 +251,18 @@ fn resolve_declared(alloc: Global, declared: &Declared<()>) -> Result<Declared<S
     Ok(Declared { name, sort, shape })
 }
 
-/// Resolves a parameter; a constant one reads no name.
+/// Resolves a parameter; a constant one reads names that are given.
 fn resolve_parameter(
     alloc: Global,
+    given: &Scope,
     parameter: &Parameter<(), ()>,
 ) -> Result<Parameter<usize, Shape>, Refusal>
-    ensures made { IfOk result (λ p. IsParameterOf (parameter_of parameter.now) (parameter_of p)) }
-    ensures refused { IfRefused result (FailsOfParameter (parameter_of parameter.now)) }
+    ensures made { IfOk result (λ p. IsParameterOf given.now (parameter_of parameter.now) (parameter_of p)) }
+    ensures refused { IfRefused result (FailsOfParameter given.now (parameter_of parameter.now)) }
 {
     match parameter {
         Parameter::Const(term) => {
-            let resolved = resolve_term(alloc, &Scope::new(alloc), term)?;
+            let resolved = resolve_term(alloc, given, term)?;
             if !is_number(term) {
                 return Err(Refusal::Row(Row::Sorts));
             }
@@ -277,14 +278,16 @@ fn resolve_parameter(
 #[tactic(auto, using(crate::proofs::Loops::each_push, crate::proofs::Loops::same_push))]
 fn resolve_parameters(
     alloc: Global,
+    given: &Scope,
     parameters: &[Parameter<(), ()>],
 ) -> Result<Vec<Parameter<usize, Shape>>, Refusal>
-    ensures made { IfOk result (λ ps. AreParametersOf (map parameter_of parameters.now) (map parameter_of ps.items)) }
-    ensures refused { IfRefused result (FailsOfParameters (map parameter_of parameters.now)) }
+    ensures made { IfOk result (λ ps.
+        AreParametersOf given.now (map parameter_of parameters.now) (map parameter_of ps.items)) }
+    ensures refused { IfRefused result (FailsOfParameters given.now (map parameter_of parameters.now)) }
 {
     let mut resolved = Vec::new(alloc);
     for parameter in parameters {
-        resolved.push(resolve_parameter(alloc, parameter)?)?;
+        resolved.push(resolve_parameter(alloc, given, parameter)?)?;
     }
     Ok(resolved)
 }
@@ -301,16 +304,17 @@ fn resolve_condition(condition: &Option<Term>) -> Result<Option<Checked>, Refusa
     }
 }
 
-/// Resolves an entry of a signature.
+/// Resolves an entry of a signature, whose constants read names that are given.
 pub(crate) fn resolve_entry(
     alloc: Global,
+    given: &Scope,
     entry: &Entry<(), ()>,
 ) -> Result<Entry<usize, Shape>, Refusal>
-    ensures made { IfOk result (λ e. IsEntryOf (entry_of entry.now) (entry_of e)) }
-    ensures refused { IfRefused result (FailsOfEntry (entry_of entry.now)) }
+    ensures made { IfOk result (λ e. IsEntryOf given.now (entry_of entry.now) (entry_of e)) }
+    ensures refused { IfRefused result (FailsOfEntry given.now (entry_of entry.now)) }
 {
     let name = entry.name.try_copy(alloc)?;
-    let parameters = resolve_parameters(alloc, &entry.parameters)?;
+    let parameters = resolve_parameters(alloc, given, &entry.parameters)?;
     let condition = resolve_condition(&entry.condition)?;
     Ok(Entry {
         kind: entry.kind,
@@ -320,18 +324,19 @@ pub(crate) fn resolve_entry(
     })
 }
 
-/// Resolves a state variable; its initial term reads no name.
+/// Resolves a state variable; its initial term reads names that are given.
 fn resolve_variable(
     alloc: Global,
+    given: &Scope,
     variable: &Variable<(), ()>,
 ) -> Result<Variable<usize, Shape>, Refusal>
-    ensures made { IfOk result (λ v. IsVariableOf (variable_of variable.now) (variable_of v)) }
-    ensures refused { IfRefused result (StandsInVariables (variable_of variable.now ∷ [])) }
+    ensures made { IfOk result (λ v. IsVariableOf given.now (variable_of variable.now) (variable_of v)) }
+    ensures refused { IfRefused result (StandsInVariables given.now (variable_of variable.now ∷ [])) }
 {
     let Some(initial) = &variable.initial else {
         return Err(Refusal::Row(Row::NoInitial));
     };
-    let resolved = resolve_term(alloc, &Scope::new(alloc), initial)?;
+    let resolved = resolve_term(alloc, given, initial)?;
     if !is_number(initial) {
         return Err(Refusal::Row(Row::Sorts));
     }
@@ -342,18 +347,20 @@ fn resolve_variable(
     })
 }
 
-/// Resolves the state variables.
+/// Resolves the state variables, whose initial terms read names that are given.
 #[tactic(auto, using(crate::proofs::Loops::each_push, crate::proofs::Loops::same_push))]
 pub(crate) fn resolve_variables(
     alloc: Global,
+    given: &Scope,
     variables: &[Variable<(), ()>],
 ) -> Result<Vec<Variable<usize, Shape>>, Refusal>
-    ensures made { IfOk result (λ vs. AreVariablesOf (map variable_of variables.now) (map variable_of vs.items)) }
-    ensures refused { IfRefused result (StandsInVariables (map variable_of variables.now)) }
+    ensures made { IfOk result (λ vs.
+        AreVariablesOf given.now (map variable_of variables.now) (map variable_of vs.items)) }
+    ensures refused { IfRefused result (StandsInVariables given.now (map variable_of variables.now)) }
 {
     let mut resolved = Vec::new(alloc);
     for variable in variables {
-        resolved.push(resolve_variable(alloc, variable)?)?;
+        resolved.push(resolve_variable(alloc, given, variable)?)?;
     }
     Ok(resolved)
 }

@@ -1,31 +1,33 @@
--- Arguments beside parameters, one after another.
-use Rattle.std.proofs.Common.{◌≡◌, ◌≢◌, ℕ, zero, suc, Bool, true, false, List, [], ◌∷◌, ◌++◌, refl, sym, ap, length, drop, arith, min, map, take, Ok, length-append}
+-- Arguments beside parameters, one after another, and what the terms of a rule read.
+use Rattle.std.proofs.Common.{◌≡◌, ◌≢◌, ℕ, zero, suc, ◌+◌, ◌≤◌, Bool, true, false, List, [], ◌∷◌, ◌++◌, refl, sym, ap, ◌∙◌, length, drop, arith, min, map, take, Ok, length-append}
 use Rattle.std.specs.Prelude.{◌&&◌}
 use Rattle.std.specs.List.{zip}
+use Rattle.std.proofs.lemmas.List.{length-map, map-append, take-append-le}
 use Rattle.std.proofs.lemmas.Slice.Zip.{seconds-zip}
-use Rattle.ioa_values.specs.Data.{Data}
-use Rattle.std.proofs.lemmas.List.{length-map}
 use Rattle.std.proofs.Math.Bool.{and-false}
-use Rattle.ioa_terms.specs.Bindings.{same_name}
+use Rattle.ioa_values.specs.Data.{Data}
+use Rattle.ioa_terms.specs.Bindings.{Bindings, same_name, environment, constants_from}
 use Rattle.ioa_actions.specs.declared.action.Action.{Action}
-use Rattle.ioa_source.specs.PlainText.{const, named}
-use Rattle.ioa_source.specs.Sides.{CheckedEntry, CheckedParameter, CheckedVariable}
-use Rattle.ioa_system.specs.ResolvedPrograms.{own_names, variable_names, scope_of}
-use Rattle.ioa_compose.specs.NodeStep.{effect_answer, arguments_agree, parameter_agrees, are_natural, own_values, entry_agrees, kind_agrees}
 use Rattle.ioa_actions.specs.ActionParts.{action_name, action_arguments}
+use Rattle.ioa_source.specs.PlainText.{const, named}
+use Rattle.ioa_source.specs.Sides.{CheckedDeclared, CheckedEntry, CheckedParameter, CheckedVariable}
+use Rattle.ioa_system.specs.InView.{declared_names, own_names, parameter_names, variable_names, scope_at}
+use Rattle.ioa_system.specs.InView.{entry_condition, guard_or_effect}
+use Rattle.ioa_system.specs.Parts.{AutomatonParts}
+use Rattle.ioa_compose.specs.NodeStep.{effect_answer, arguments_agree, parameter_agrees, are_natural, own_values, entry_agrees, kind_agrees}
 
 second_true : (a b : Bool) → a && b ≡ true → b ≡ true
 second_true true b h = h
 second_true false b h = absurd (cc)
 
 -- arguments that are not as many as the parameters fit none
-pub arguments_agree_short : (ps : List CheckedParameter) (vs : List Data) → length ps ≢ length vs → arguments_agree ps vs ≡ false
-arguments_agree_short [] [] h = absurd (h refl)
-arguments_agree_short [] (v ∷ vs) h = refl
-arguments_agree_short (p ∷ ps) [] h = refl
-arguments_agree_short (p ∷ ps) (v ∷ vs) h =
-    let e : arguments_agree ps vs ≡ false = arguments_agree_short ps vs (λ q. h (omega arith)) in
-    rw e (and-false (parameter_agrees p v))
+pub arguments_agree_short : (b : Bindings) (ps : List CheckedParameter) (vs : List Data) → length ps ≢ length vs → arguments_agree b ps vs ≡ false
+arguments_agree_short b [] [] h = absurd (h refl)
+arguments_agree_short b [] (v ∷ vs) h = refl
+arguments_agree_short b (p ∷ ps) [] h = refl
+arguments_agree_short b (p ∷ ps) (v ∷ vs) h =
+    let e : arguments_agree b ps vs ≡ false = arguments_agree_short b ps vs (λ q. h (omega arith)) in
+    rw e (and-false (parameter_agrees b p v))
 
 -- if the parameters or the arguments end, no value of their own is left
 pub own_values_end : {A : Type 0} (f : A → CheckedParameter) (ps : List A) (vs : List Data) (i : ℕ) → i ≡ min (length ps) (length vs) → own_values (map f (drop i ps)) (drop i vs) ≡ []
@@ -46,24 +48,51 @@ are_natural_end f (p ∷ ps) (v ∷ vs) zero h = absurd (omega arith)
 are_natural_end f (p ∷ ps) (v ∷ vs) (suc i) h = are_natural_end f ps vs i (omega arith)
 
 -- the first n values that an effect leaves
-pub effect_answer_zip : (n : ℕ) (names : List (List ℕ)) (vs : List Data) → length names ≡ length vs → effect_answer n (Ok (zip names vs)) ≡ Ok (take n vs)
-effect_answer_zip n names vs h = ap (λ (ds : List Data). Ok (take n ds)) (seconds-zip names vs (sym h))
+pub effect_answer_environment : (n : ℕ) (names : List (List ℕ)) (vs : List Data) (cs : List (List ℕ)) → length names ≡ length vs → n ≤ length vs → effect_answer n (Ok (environment names vs cs)) ≡ Ok (take n vs)
+effect_answer_environment n names vs cs many within =
+    let behind : List Data = map (λ (b : List ℕ × Data). b.1) (constants_from 0 cs) in
+    let split : map (λ (b : List ℕ × Data). b.1) (environment names vs cs) ≡ vs ++ behind =
+    map-append (λ (b : List ℕ × Data). b.1) (zip names vs) (constants_from 0 cs)
+    ∙ ap (λ (ds : List Data). ds ++ behind) (seconds-zip names vs (sym many)) in
+    ap (λ (ds : List Data). Ok (take n ds)) split ∙ ap Ok (take-append-le n vs behind within)
 
 -- arguments that fit have as many values of their own as the parameters have names
-pub own_values_named : (ps : List CheckedParameter) (vs : List Data) → arguments_agree ps vs ≡ true → length (own_values ps vs) ≡ length (own_names ps)
-own_values_named [] [] h = refl
-own_values_named [] (v ∷ vs) h = absurd (cc)
-own_values_named (p ∷ ps) [] h = absurd (cc)
-own_values_named (const t ∷ ps) (v ∷ vs) h = own_values_named ps vs (second_true (parameter_agrees (const t) v) (arguments_agree ps vs) h)
-own_values_named (named d ∷ ps) (v ∷ vs) h =
-    let more = own_values_named ps vs (second_true (parameter_agrees (named d) v) (arguments_agree ps vs) h) in omega arith
+pub own_values_named : (b : Bindings) (ps : List CheckedParameter) (vs : List Data) → arguments_agree b ps vs ≡ true → length (own_values ps vs) ≡ length (own_names ps)
+own_values_named b [] [] h = refl
+own_values_named b [] (v ∷ vs) h = absurd (cc)
+own_values_named b (p ∷ ps) [] h = absurd (cc)
+own_values_named b (const t ∷ ps) (v ∷ vs) h = own_values_named b ps vs (second_true (parameter_agrees b (const t) v) (arguments_agree b ps vs) h)
+own_values_named b (named d ∷ ps) (v ∷ vs) h =
+    let more = own_values_named b ps vs (second_true (parameter_agrees b (named d) v) (arguments_agree b ps vs) h) in omega arith
 
--- an action that is one of an entry's gives a value to each name in view
-pub named_scope : (e : CheckedEntry) (variables : List CheckedVariable) (vs : List Data) (a : Action) → entry_agrees a e ≡ true → length vs ≡ length variables → length (scope_of e variables) ≡ length (vs ++ own_values e.parameters (action_arguments a))
-named_scope e variables vs a h n =
-    let agree = second_true (kind_agrees a e.kind) (arguments_agree e.parameters (action_arguments a)) (second_true (same_name e.name (action_name a)) (kind_agrees a e.kind && arguments_agree e.parameters (action_arguments a)) h) in
-    let own = own_values_named e.parameters (action_arguments a) agree in
-    let left = length-append (variable_names variables) (own_names e.parameters) in
-    let right = length-append vs (own_values e.parameters (action_arguments a)) in
-    let many = length-map variables (λ (v : CheckedVariable). v.declared.name) in
+-- the arguments of an action that is one of an entry's fit
+agreeing_arguments : (b : Bindings) (a : Action) (e : CheckedEntry) → entry_agrees b a e ≡ true → arguments_agree b e.parameters (action_arguments a) ≡ true
+agreeing_arguments b a e h =
+    second_true (kind_agrees a e.kind) (arguments_agree b e.parameters (action_arguments a))
+    (second_true (same_name e.name (action_name a)) (kind_agrees a e.kind && arguments_agree b e.parameters (action_arguments a)) h)
+
+-- so many names are in view in the guard and the effect of an entry whose action is taken: those of the variables, of
+-- the automaton's parameters, and of the arguments that have names of their own
+pub named_scope : (b : Bindings) (a : Action) (e : CheckedEntry) (p : AutomatonParts) → entry_agrees b a e ≡ true →
+    length (scope_at guard_or_effect (declared_names p) (own_names e.parameters)) ≡ length p.variables + (length p.parameters + length (own_values e.parameters (action_arguments a)))
+named_scope b a e p h =
+    let own = own_values_named b e.parameters (action_arguments a) (agreeing_arguments b a e h) in
+    let outer = length-append (variable_names p.variables) (parameter_names p.parameters ++ own_names e.parameters) in
+    let inner = length-append (parameter_names p.parameters) (own_names e.parameters) in
+    let variables = length-map p.variables (λ (v : CheckedVariable). v.declared.name) in
+    let parameters = length-map p.parameters (λ (d : CheckedDeclared). d.name) in
     omega arith
+
+-- behind the first items
+pub drop_first : {A : Type 0} (n : ℕ) (xs ys : List A) → n ≡ length xs → drop n (xs ++ ys) ≡ ys
+drop_first zero [] ys h = refl
+drop_first zero (x ∷ xs) ys h = absurd (omega arith)
+drop_first (suc n) [] ys h = absurd (omega arith)
+drop_first (suc n) (x ∷ xs) ys h = drop_first n xs ys (omega arith)
+
+-- behind the variables are the names that the entry's condition reads
+pub condition_scope : (n : ℕ) (p : AutomatonParts) (own : List (List ℕ)) → n ≡ length p.variables →
+    drop n (scope_at guard_or_effect (declared_names p) own) ≡ scope_at entry_condition (declared_names p) own
+condition_scope n p own h =
+    let many = length-map p.variables (λ (v : CheckedVariable). v.declared.name) in
+    drop_first n (variable_names p.variables) (parameter_names p.parameters ++ own) (omega arith)

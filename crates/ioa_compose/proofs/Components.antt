@@ -16,7 +16,7 @@ use Rattle.ioa_compose.specs.declared.queue.Item.{Item}
 use Rattle.ioa_compose.specs.declared.queue.Item.TheVariants as item
 use Rattle.ioa_system.specs.Parts.{Parts}
 use Rattle.ioa_compose.specs.NodeState.{NodeState, node_state}
-use Rattle.ioa_compose.specs.NodeStep.{node_answer, program_answer}
+use Rattle.ioa_compose.specs.NodeStep.{node_answer, values_answer}
 use Rattle.ioa_compose.specs.Queues.{QueueState, queue_state, queue_answer, items_behind, with_last, without_first}
 use Rattle.ioa_compose.specs.Participants.{same_component}
 use Rattle.ioa_compose.specs.Composition.{component_of, component_names, conf_answer, find_conf, put_conf, put_confs}
@@ -41,7 +41,7 @@ same_component-itself k = (Decides-same_component k k).1 refl
 -- a node's step keeps its program
 program-node_answer : (c : NodeState) (a : Action) (d : NodeState) → node_answer c a ≡ Ok d → d.program ≡ c.program
 unfolding node_answer
-program-node_answer c a d h = kept (program_answer c.program c.variables a) h
+program-node_answer c a d h = kept (values_answer c a) h
   where
     kept : (r : Result (List Data) StepFault) → and_then r (λ vs. Ok (node_state c.program vs)) ≡ Ok d → d.program ≡ c.program
     kept (Ok vs) e = let same_state : node_state c.program vs ≡ d = cc in ap (λ (s : NodeState). s.program) (sym same_state)

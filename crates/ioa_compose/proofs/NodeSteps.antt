@@ -14,7 +14,8 @@ use Rattle.ioa_actions.specs.declared.action.Action.{Action}
 use Rattle.ioa_actions.specs.ActionParts.{action_arguments}
 use Rattle.ioa_operators.specs.declared.fault.TermFault.{TermFault}
 use Rattle.ioa_operators.specs.declared.fault.TermFault.TheVariants as term
-use Rattle.ioa_source.specs.Sides.{CheckedEntry, CheckedTerm, CheckedTransition}
+use Rattle.ioa_source.specs.Sides.{CheckedTerm, CheckedTransition}
+use Rattle.ioa_system.specs.InView.{entry_condition, guard_or_effect}
 use Rattle.ioa_system.specs.Parts.{PlainRule}
 use Rattle.ioa_compose.specs.declared.fault.StepFault.{StepFault}
 use Rattle.ioa_compose.specs.declared.fault.StepFault.TheVariants.{Undefined}
@@ -102,73 +103,75 @@ transition_left n t b left within holds effect =
     ap (λ r. and_then r (λ _. effect_answer n (answer_by t.effect b))) (guard_passes t.pre b p.0 holds)
     ∙ ap (effect_answer n) (range_check_within (numbers_met_by t.effect b) (after t.effect b) left p.1 effect)
 
--- what an entry and its transition meet
-abbrev numbers_met_by_step : CheckedEntry → CheckedTransition → Bindings → List Data
-numbers_met_by_step e t b = numbers_met_by_guard e.condition b ++ (numbers_met_by_guard t.pre b ++ numbers_met_by t.effect b)
+-- what a rule meets whose entry's condition reads e, and whose guard and effect read b
+abbrev numbers_met_by_step : PlainRule → Bindings → Bindings → List Data
+numbers_met_by_step r e b =
+    numbers_met_by_guard r.entry.condition e ++ (numbers_met_by_guard r.transition.pre b ++ numbers_met_by r.transition.effect b)
 
--- what they leave
-record StepParts (n : ℕ) (e : CheckedEntry) (t : CheckedTransition) (args : List Data) (b : Bindings) (vs : List Data) : Type 0 where
-  natural : are_natural e.parameters args ≡ true
-  condition : GuardHolds e.condition b
-  transition : TransitionParts n t b vs
-  within : AreWithin (numbers_met_by_step e t b)
+-- what it leaves
+record StepParts (n : ℕ) (r : PlainRule) (args : List Data) (e b : Bindings) (vs : List Data) : Type 0 where
+  natural : are_natural r.entry.parameters args ≡ true
+  condition : GuardHolds r.entry.condition e
+  transition : TransitionParts n r.transition b vs
+  within : AreWithin (numbers_met_by_step r e b)
 
-abbrev after_naturals : ℕ → CheckedEntry → CheckedTransition → Bindings → Bool → Result (List Data) StepFault
-after_naturals n e t b natural =
-    and_then (if natural then Ok (tt {0}) else Err Undefined) (λ _. and_then (guard_answer e.condition b) (λ _. transition_answer n t b))
+abbrev after_naturals : ℕ → PlainRule → Bindings → Bindings → Bool → Result (List Data) StepFault
+after_naturals n r e b natural =
+    and_then (if natural then Ok (tt {0}) else Err Undefined) (λ _. and_then (guard_answer r.entry.condition e) (λ _. transition_answer n r.transition b))
 
-step_parts : (n : ℕ) (e : CheckedEntry) (t : CheckedTransition) (args : List Data) (b : Bindings) (vs : List Data) → step_answer n e t args b ≡ Ok vs → StepParts n e t args b vs
-step_parts n e t args b vs h = by_naturals (are_natural e.parameters args) refl h
+step_parts : (n : ℕ) (r : PlainRule) (args : List Data) (e b : Bindings) (vs : List Data) → step_answer n r args e b ≡ Ok vs → StepParts n r args e b vs
+step_parts n r args e b vs h = by_naturals (are_natural r.entry.parameters args) refl h
   where
-    by_condition : are_natural e.parameters args ≡ true → (r : Result (Unit {0}) StepFault) → guard_answer e.condition b ≡ r → and_then r (λ _. transition_answer n t b) ≡ Ok vs → StepParts n e t args b vs
+    by_condition : are_natural r.entry.parameters args ≡ true → (x : Result (Unit {0}) StepFault) → guard_answer r.entry.condition e ≡ x → and_then x (λ _. transition_answer n r.transition b) ≡ Ok vs → StepParts n r args e b vs
     by_condition k (Ok u) q h =
-        let g : AreWithin (numbers_met_by_guard e.condition b) × GuardHolds e.condition b = guard_parts e.condition b q in
-        let p : TransitionParts n t b vs = transition_parts n t b vs h in
-        record { natural = k; condition = g.1; transition = p; within = all_within (numbers_met_by_guard e.condition b) (numbers_met_by_guard t.pre b ++ numbers_met_by t.effect b) g.0 p.within }
+        let g : AreWithin (numbers_met_by_guard r.entry.condition e) × GuardHolds r.entry.condition e = guard_parts r.entry.condition e q in
+        let p : TransitionParts n r.transition b vs = transition_parts n r.transition b vs h in
+        record { natural = k; condition = g.1; transition = p; within = all_within (numbers_met_by_guard r.entry.condition e) (numbers_met_by_guard r.transition.pre b ++ numbers_met_by r.transition.effect b) g.0 p.within }
     by_condition k (Err f) q h = absurd (cc)
 
-    by_naturals : (x : Bool) → are_natural e.parameters args ≡ x → after_naturals n e t b x ≡ Ok vs → StepParts n e t args b vs
-    by_naturals true q h = by_condition q (guard_answer e.condition b) refl h
+    by_naturals : (x : Bool) → are_natural r.entry.parameters args ≡ x → after_naturals n r e b x ≡ Ok vs → StepParts n r args e b vs
+    by_naturals true q h = by_condition q (guard_answer r.entry.condition e) refl h
     by_naturals false q h = absurd (cc)
 
-step_left : (n : ℕ) (e : CheckedEntry) (t : CheckedTransition) (args : List Data) (b left : Bindings) → AreWithin (numbers_met_by_step e t b) → are_natural e.parameters args ≡ true → GuardHolds e.condition b → GuardHolds t.pre b → after t.effect b ≡ Some left → step_answer n e t args b ≡ Ok (take n (map (λ c. c.1) left))
-step_left n e t args b left within natural condition guard effect =
-    let p : AreWithin (numbers_met_by_guard e.condition b) × AreWithin (numbers_met_by_guard t.pre b ++ numbers_met_by t.effect b) = within_both (numbers_met_by_guard e.condition b) (numbers_met_by_guard t.pre b ++ numbers_met_by t.effect b) within in
-    ap (after_naturals n e t b) natural
-    ∙ ap (λ r. and_then r (λ _. transition_answer n t b)) (guard_passes e.condition b p.0 condition)
-    ∙ transition_left n t b left p.1 guard effect
+step_left : (n : ℕ) (r : PlainRule) (args : List Data) (e b left : Bindings) → AreWithin (numbers_met_by_step r e b) → are_natural r.entry.parameters args ≡ true → GuardHolds r.entry.condition e → GuardHolds r.transition.pre b → after r.transition.effect b ≡ Some left → step_answer n r args e b ≡ Ok (take n (map (λ c. c.1) left))
+step_left n r args e b left within natural condition guard effect =
+    let p : AreWithin (numbers_met_by_guard r.entry.condition e) × AreWithin (numbers_met_by_guard r.transition.pre b ++ numbers_met_by r.transition.effect b) = within_both (numbers_met_by_guard r.entry.condition e) (numbers_met_by_guard r.transition.pre b ++ numbers_met_by r.transition.effect b) within in
+    ap (after_naturals n r e b) natural
+    ∙ ap (λ x. and_then x (λ _. transition_answer n r.transition b)) (guard_passes r.entry.condition e p.0 condition)
+    ∙ transition_left n r.transition b left p.1 guard effect
 
 -- the result at a node is a configuration to which its step leads, and what the step meets lies within 64 bits
 pub is_node_step : (c : NodeState) (a : Action) (d : NodeState) → node_answer c a ≡ Ok d → IsNodeStep a c d × FitsNodeStep a c
 unfolding node_answer
-is_node_step c a d = by_rule (rule_for a c.program.rules) refl
+is_node_step c a d = by_rule (rule_for c.program a) refl
   where
     with_values : List Data → Result NodeState StepFault
     with_values vs = Ok (node_state c.program vs)
 
-    fits : (r s : PlainRule) → rule_for a c.program.rules ≡ Some r → rule_for a c.program.rules ≡ Some s → AreWithin (numbers_met_by_rule r (rule_bindings r a c)) → AreWithin (numbers_met_by_rule s (rule_bindings s a c))
+    fits : (r s : PlainRule) → rule_for c.program a ≡ Some r → rule_for c.program a ≡ Some s → AreWithin (numbers_met_by_rule r a c) → AreWithin (numbers_met_by_rule s a c)
     fits r s q k h =
         let same_rule : r ≡ s = cc in
-        ap (λ t. list_all is_within (numbers_met_by_rule t (rule_bindings t a c))) (sym same_rule) ∙ h
+        ap (λ t. list_all is_within (numbers_met_by_rule t a c)) (sym same_rule) ∙ h
 
-    by_values : (r : PlainRule) → rule_for a c.program.rules ≡ Some r → (s : Result (List Data) StepFault) → rule_answer c.program c.variables a (Some r) ≡ s → and_then s with_values ≡ Ok d → IsNodeStep a c d × FitsNodeStep a c
+    by_values : (r : PlainRule) → rule_for c.program a ≡ Some r → (s : Result (List Data) StepFault) → rule_answer c a (Some r) ≡ s → and_then s with_values ≡ Ok d → IsNodeStep a c d × FitsNodeStep a c
     by_values r q (Ok vs) e h =
         let same_state : node_state c.program vs ≡ d = cc in
-        let p : StepParts (length c.variables) r.entry r.transition (action_arguments a) (rule_bindings r a c) vs = step_parts (length c.variables) r.entry r.transition (action_arguments a) (rule_bindings r a c) vs e in
+        let p : StepParts (length c.variables) r (action_arguments a) (rule_bindings entry_condition r a c) (rule_bindings guard_or_effect r a c) vs =
+        step_parts (length c.variables) r (action_arguments a) (rule_bindings entry_condition r a c) (rule_bindings guard_or_effect r a c) vs e in
         let t = p.transition in
         (record { rule = r; mine = q; natural = p.natural; condition = p.condition; guard = t.guard; left = t.left; effect = t.effect; reached = sym same_state ∙ ap (node_state c.program) t.variables }, λ s k. fits r s q k p.within)
     by_values r q (Err f) e h = absurd (cc)
 
-    by_rule : (o : Option PlainRule) → rule_for a c.program.rules ≡ o → and_then (rule_answer c.program c.variables a o) with_values ≡ Ok d → IsNodeStep a c d × FitsNodeStep a c
-    by_rule (Some r) q h = by_values r q (rule_answer c.program c.variables a (Some r)) refl h
+    by_rule : (o : Option PlainRule) → rule_for c.program a ≡ o → and_then (rule_answer c a o) with_values ≡ Ok d → IsNodeStep a c d × FitsNodeStep a c
+    by_rule (Some r) q h = by_values r q (rule_answer c a (Some r)) refl h
     by_rule None q h = absurd (cc)
 
 -- and each such configuration is the result
 pub node_answer_is : (c : NodeState) (a : Action) (d : NodeState) → IsNodeStep a c d → FitsNodeStep a c → node_answer c a ≡ Ok d
 unfolding node_answer
 node_answer_is c a d p fits =
-    ap (λ o. and_then (rule_answer c.program c.variables a o) with_values) p.mine
-    ∙ ap (λ s. and_then s with_values) (step_left (length c.variables) p.rule.entry p.rule.transition (action_arguments a) (rule_bindings p.rule a c) p.left (fits p.rule p.mine) p.natural p.condition p.guard p.effect)
+    ap (λ o. and_then (rule_answer c a o) with_values) p.mine
+    ∙ ap (λ s. and_then s with_values) (step_left (length c.variables) p.rule (action_arguments a) (rule_bindings entry_condition p.rule a c) (rule_bindings guard_or_effect p.rule a c) p.left (fits p.rule p.mine) p.natural p.condition p.guard p.effect)
     ∙ ap Ok (sym p.reached)
   where
     with_values : List Data → Result NodeState StepFault

@@ -20,4 +20,4 @@ node_state_code =
 
 -- there is a value for each variable
 abbrev pub IsValued : NodeState → Type 0
-IsValued c = length c.variables ≡ length c.program.variables
+IsValued c = length c.variables ≡ length c.program.automaton.variables

@@ -1,7 +1,7 @@
 -- Steps of a node's automaton (Lynch 8.1).
 use Rattle.std.specs.Prelude.{◌≡◌, ℕ, Bool, true, false, not, ◌&&◌, if◌then◌else◌, Option, Some, None, Result, Ok, Err}
 use Rattle.std.specs.Prelude.{List, [], ◌∷◌, ◌++◌, map, length, take, find}
-use Rattle.std.specs.List.{zip, list_all}
+use Rattle.std.specs.List.{list_all}
 use Rattle.ioa_values.specs.Data.{Data, truth, as_truth, is_within}
 use Rattle.ioa_values.specs.Outcome.{and_then}
 use Rattle.ioa_values.specs.DataOrder.{same}
@@ -16,9 +16,9 @@ use Rattle.ioa_actions.specs.declared.action.Action.TheVariants.{Send, Receive, 
 use Rattle.ioa_operators.specs.Shapes.{has_shape, wide_shape}
 use Rattle.ioa_operators.specs.declared.fault.TermFault.{TermFault}
 use Rattle.ioa_source.specs.PlainText.{const, named}
-use Rattle.ioa_source.specs.Sides.{CheckedEntry, CheckedParameter, CheckedTerm, CheckedTransition, CheckedVariable}
+use Rattle.ioa_source.specs.Sides.{CheckedEntry, CheckedParameter, CheckedTerm, CheckedTransition}
+use Rattle.ioa_system.specs.InView.{Site, entry_condition, guard_or_effect, bindings_at, given_bindings}
 use Rattle.ioa_system.specs.Parts.{Parts, PlainRule}
-use Rattle.ioa_system.specs.ResolvedPrograms.{scope_of}
 use Rattle.ioa_compose.specs.NodeState.{NodeState, node_state}
 use Rattle.ioa_compose.specs.StepFaults.{step_fault}
 use Rattle.ioa_compose.specs.declared.fault.StepFault.{StepFault}
@@ -45,18 +45,18 @@ abbrev pub constant_agrees : Result Data TermFault → Data → Bool
 constant_agrees (Ok u) v = same u v
 constant_agrees (Err f) v = false
 
--- whether a value is one that a parameter takes: it is the constant, or it has the shape; a negative number passes for
--- a Nat here
-abbrev pub parameter_agrees : CheckedParameter → Data → Bool
-parameter_agrees (const t) v = constant_agrees (answer t []) v
-parameter_agrees (named d) v = has_shape (wide_shape d.shape) v
+-- whether a value is one that a parameter takes, if constants read these bindings: it is the constant, or it has the
+-- shape; a negative number passes for a Nat here
+abbrev pub parameter_agrees : Bindings → CheckedParameter → Data → Bool
+parameter_agrees b (const t) v = constant_agrees (answer t b) v
+parameter_agrees b (named d) v = has_shape (wide_shape d.shape) v
 
 -- whether arguments are those of an entry's parameters: there are as many, and each parameter takes its own
-abbrev pub arguments_agree : List CheckedParameter → List Data → Bool
-arguments_agree [] [] = true
-arguments_agree [] (v ∷ vs) = false
-arguments_agree (p ∷ more) [] = false
-arguments_agree (p ∷ more) (v ∷ vs) = parameter_agrees p v && arguments_agree more vs
+abbrev pub arguments_agree : Bindings → List CheckedParameter → List Data → Bool
+arguments_agree b [] [] = true
+arguments_agree b [] (v ∷ vs) = false
+arguments_agree b (p ∷ more) [] = false
+arguments_agree b (p ∷ more) (v ∷ vs) = parameter_agrees b p v && arguments_agree b more vs
 
 -- whether an argument holds no negative number where its sort says Nat
 abbrev pub is_natural : CheckedParameter → Data → Bool
@@ -73,10 +73,11 @@ are_natural (p ∷ more) (v ∷ vs) = is_natural p v && are_natural more vs
 abbrev pub naturals_answer : List CheckedParameter → List Data → Result (Unit {0}) StepFault
 naturals_answer ps vs = if are_natural ps vs then Ok tt else Err Undefined
 
--- whether an action is one of an entry's
-abbrev pub entry_agrees : Action → CheckedEntry → Bool
-entry_agrees a e =
-    same_name e.name (action_name a) && (kind_agrees a e.kind && arguments_agree e.parameters (action_arguments a))
+-- whether an action is one of an entry's, if constants read these bindings
+abbrev pub entry_agrees : Bindings → Action → CheckedEntry → Bool
+entry_agrees b a e =
+    same_name e.name (action_name a)
+    && (kind_agrees a e.kind && arguments_agree b e.parameters (action_arguments a))
 
 -- the argument of a parameter that has a name of its own
 abbrev pub own_value : CheckedParameter → Data → List Data
@@ -89,9 +90,12 @@ own_values [] vs = []
 own_values (p ∷ more) [] = []
 own_values (p ∷ more) (v ∷ vs) = own_value p v ++ own_values more vs
 
--- what the guard and the effect read: the state variables and the entry's own parameters
-abbrev pub entry_bindings : CheckedEntry → List CheckedVariable → Action → List Data → Bindings
-entry_bindings e variables a vs = zip (scope_of e variables) (vs ++ own_values e.parameters (action_arguments a))
+-- what a term of a rule reads at a site when a node takes an action: of the state variables, of the automaton's
+-- parameters and of the entry's own ones those that are in view there, and the text's constants
+abbrev pub rule_bindings : Site → PlainRule → Action → NodeState → Bindings
+rule_bindings site r a c =
+    bindings_at site c.program.automaton c.program.arguments c.variables r.entry.parameters
+    (own_values r.entry.parameters (action_arguments a))
 
 -- a guard passes if it is true
 abbrev pub truth_answer : Option Bool → Result (Unit {0}) StepFault
@@ -118,35 +122,31 @@ effect_answer n (Err f) = Err (step_fault f)
 abbrev pub transition_answer : ℕ → CheckedTransition → Bindings → Result (List Data) StepFault
 transition_answer n t b = and_then (guard_answer t.pre b) (λ _. effect_answer n (answer_by t.effect b))
 
--- the result of an entry and its transition for these arguments, over n state variables: the first fault of the
--- arguments, the entry's condition, the guard and the effect, or the new values
-abbrev pub step_answer : ℕ → CheckedEntry → CheckedTransition → List Data → Bindings → Result (List Data) StepFault
-step_answer n e t args b =
-    and_then (naturals_answer e.parameters args)
-    (λ _. and_then (guard_answer e.condition b) (λ _. transition_answer n t b))
+-- the result of a rule for these arguments, over n state variables: the first fault of the arguments, of the entry's
+-- condition, which reads the first bindings, and of the guard and the effect, which read the second; or the new values
+abbrev pub step_answer : ℕ → PlainRule → List Data → Bindings → Bindings → Result (List Data) StepFault
+step_answer n r args e b =
+    and_then (naturals_answer r.entry.parameters args)
+    (λ _. and_then (guard_answer r.entry.condition e) (λ _. transition_answer n r.transition b))
 
--- the rule of an action: the first whose entry it is one of
-abbrev pub rule_for : Action → List PlainRule → Option PlainRule
-rule_for a rules = find (λ r. entry_agrees a r.entry) rules
+-- the rule of an action at a node with this program: the first whose entry it is one of
+abbrev pub rule_for : Parts → Action → Option PlainRule
+rule_for p a = find (λ r. entry_agrees (given_bindings p.automaton p.arguments) a r.entry) p.automaton.rules
 
--- the values of a program's variables after an action, by the rule of that action
-abbrev pub rule_answer : Parts → List Data → Action → Option PlainRule → Result (List Data) StepFault
-rule_answer p vs a None = Err NotMine
-rule_answer p vs a (Some r) =
-    step_answer (length vs) r.entry r.transition (action_arguments a)
-    (entry_bindings r.entry p.variables a vs)
+-- the values of a node's variables after an action, by the rule of that action
+abbrev pub rule_answer : NodeState → Action → Option PlainRule → Result (List Data) StepFault
+rule_answer c a None = Err NotMine
+rule_answer c a (Some r) =
+    step_answer (length c.variables) r (action_arguments a)
+    (rule_bindings entry_condition r a c) (rule_bindings guard_or_effect r a c)
 
--- the values of a program's variables after an action, or why the action is no step
-abbrev pub program_answer : Parts → List Data → Action → Result (List Data) StepFault
-program_answer p vs a = rule_answer p vs a (rule_for a p.rules)
+-- the values of a node's variables after an action, or why the action is no step
+abbrev pub values_answer : NodeState → Action → Result (List Data) StepFault
+values_answer c a = rule_answer c a (rule_for c.program a)
 
 -- the result of an action at a node: its new configuration, or why there is none
 unfoldable pub node_answer : NodeState → Action → Result NodeState StepFault
-node_answer c a = and_then (program_answer c.program c.variables a) (λ vs. Ok (node_state c.program vs))
-
--- what the condition, the guard and the effect of a rule read by an action
-abbrev pub rule_bindings : PlainRule → Action → NodeState → Bindings
-rule_bindings r a c = entry_bindings r.entry c.program.variables a c.variables
+node_answer c a = and_then (values_answer c a) (λ vs. Ok (node_state c.program vs))
 
 -- a guard or a condition holds: there is none, or its value is true
 abbrev pub GuardHolds : Option CheckedTerm → Bindings → Type 0
@@ -158,12 +158,12 @@ GuardHolds (Some t) e = value t e ≡ Some (truth true)
 -- hold, and each state variable has its value after the effect; the program stays
 pub record IsNodeStep (a : Action) (c d : NodeState) : Type 0 where
   pub rule : PlainRule
-  pub mine : rule_for a c.program.rules ≡ Some rule
+  pub mine : rule_for c.program a ≡ Some rule
   pub natural : are_natural rule.entry.parameters (action_arguments a) ≡ true
-  pub condition : GuardHolds rule.entry.condition (rule_bindings rule a c)
-  pub guard : GuardHolds rule.transition.pre (rule_bindings rule a c)
+  pub condition : GuardHolds rule.entry.condition (rule_bindings entry_condition rule a c)
+  pub guard : GuardHolds rule.transition.pre (rule_bindings guard_or_effect rule a c)
   pub left : Bindings
-  pub effect : after rule.transition.effect (rule_bindings rule a c) ≡ Some left
+  pub effect : after rule.transition.effect (rule_bindings guard_or_effect rule a c) ≡ Some left
   pub reached : d ≡ node_state c.program (take (length c.variables) (map (λ b. b.1) left))
 
 -- the results that a guard or a condition meets
@@ -171,15 +171,15 @@ abbrev pub numbers_met_by_guard : Option CheckedTerm → Bindings → List Data
 numbers_met_by_guard None e = []
 numbers_met_by_guard (Some t) e = numbers_met t e
 
--- the results that a rule meets: its entry's condition, its guard and its effect, one after another
-abbrev pub numbers_met_by_rule : PlainRule → Bindings → List Data
-numbers_met_by_rule r e =
-    numbers_met_by_guard r.entry.condition e
-    ++ (numbers_met_by_guard r.transition.pre e
-    ++ numbers_met_by r.transition.effect e)
+-- the results that a rule meets by an action at a node: its entry's condition, its guard and its effect, one after
+-- another
+abbrev pub numbers_met_by_rule : PlainRule → Action → NodeState → List Data
+numbers_met_by_rule r a c =
+    numbers_met_by_guard r.entry.condition (rule_bindings entry_condition r a c)
+    ++ (numbers_met_by_guard r.transition.pre (rule_bindings guard_or_effect r a c)
+    ++ numbers_met_by r.transition.effect (rule_bindings guard_or_effect r a c))
 
 -- every number that the rule of an action meets lies within 64 bits (profile)
 abbrev pub FitsNodeStep : Action → NodeState → Type 0
 FitsNodeStep a c =
-    (r : PlainRule) → rule_for a c.program.rules ≡ Some r
-    → list_all is_within (numbers_met_by_rule r (rule_bindings r a c)) ≡ true
+    (r : PlainRule) → rule_for c.program a ≡ Some r → list_all is_within (numbers_met_by_rule r a c) ≡ true

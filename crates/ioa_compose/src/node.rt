@@ -65,7 +65,7 @@ impl NodeConf {
     /// The values of the state variables, in the order of their declaration.
     pub fn variables(&self) -> &Values
         ensures value { result.now ≡ self.now.variables }
-        ensures valued { length result.now ≡ length self.now.program.variables }
+        ensures valued { length result.now ≡ length self.now.program.automaton.variables }
     {
         &self.variables
     }

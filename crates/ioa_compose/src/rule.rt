@@ -1,25 +1,26 @@
 //! The rule of a program that an action takes, and the values that the rule leaves.
 
-ghost use Rattle.std.specs.Prelude.{◌≡◌, ◌++◌, ◌≤◌, [], IfOk, OnOk, IfSome, true, map, length};
+ghost use Rattle.std.specs.Prelude.{◌≡◌, ◌+◌, ◌++◌, ◌≤◌, IfOk, OnOk, IfSome, true, map, length, drop};
 ghost use Rattle.std.specs.Option.{option_copied, option_map};
-ghost use Rattle.std.specs.List.{zip};
 ghost use Rattle.ioa_source.specs.TextView.{entry_of, parameter_of};
-ghost use Rattle.ioa_terms.specs.View.{term_of, statement_of};
+ghost use Rattle.ioa_terms.specs.View.{term_of};
 ghost use Rattle.ioa_values.specs.Outcome.{Answers};
 ghost use Rattle.ioa_actions.specs.ActionParts.{action_arguments};
+ghost use Rattle.ioa_system.specs.InView.{declared_names, given_bindings};
 ghost use Rattle.ioa_system.specs.ResolvedPrograms.{IsResolvedRule, IsResolvedGuard};
 ghost use Rattle.ioa_system.specs.ResolvedPrograms.{IsResolvedParameter, AreResolvedParameters};
+ghost use Rattle.ioa_compose.specs.NodeState.{node_state};
 ghost use Rattle.ioa_compose.specs.NodeStep as spec;
 ghost use Rattle.ioa_terms.specs.Meaning.{answer};
 ghost use Rattle.ioa_terms.specs.Performance.{answer_by};
 ghost use Rattle.ioa_terms.specs.Resolved.{AreResolved, IsResolved};
-ghost use Rattle.ioa_terms.specs.Bindings.{names_of};
+ghost use Rattle.ioa_terms.specs.Bindings.{names_of, environment};
 
 use crate::fault::StepFault;
 use ioa_actions::{Action, RECEIVE, SEND};
 use ioa_source::{Entry, Parameter};
 use ioa_system::{Program, Rule};
-use ioa_terms::{Checked, Env, Kind, Shape, Statement, TermFault, Value, Word, eval, perform};
+use ioa_terms::{Checked, Env, Kind, Shape, TermFault, Value, Word, eval, perform};
 use ioa_values::copies;
 use std::alloc::{AllocError, Global};
 
@@ -43,27 +44,34 @@ fn kind_agrees(action: &Action, kind: Kind) -> bool
     }
 }
 
-/// Whether a value is one that a parameter takes. A negative number passes for a Nat here.
+/// Whether a value is one that a parameter takes, if constants read this environment. A negative number passes for a
+/// Nat here.
 fn parameter_agrees(
     alloc: Global,
+    env: &Env,
     parameter: &Parameter<usize, Shape>,
     value: &Value,
 ) -> Result<bool, AllocError>
-    requires { IsResolvedParameter (parameter_of parameter.now) }
-    ensures { IfOk result (λ b. b ≡ spec.parameter_agrees (parameter_of parameter.now) value.now) }
+    requires { IsResolvedParameter (names_of env.now) (parameter_of parameter.now) }
+    ensures { IfOk result (λ b. b ≡ spec.parameter_agrees env.now (parameter_of parameter.now) value.now) }
 {
     match parameter {
-        Parameter::Const(term) => constant_agrees(alloc, term, value),
+        Parameter::Const(term) => constant_agrees(alloc, env, term, value),
         Parameter::Declared(declared) => Ok(declared.shape.admits_negative(value)),
     }
 }
 
-/// Whether a value is that of a term that reads no name.
-fn constant_agrees(alloc: Global, term: &Checked, value: &Value) -> Result<bool, AllocError>
-    requires { IsResolved (term_of term.now) [] }
-    ensures { IfOk result (λ b. b ≡ spec.constant_agrees (answer (term_of term.now) []) value.now) }
+/// Whether a value is that of a term.
+fn constant_agrees(
+    alloc: Global,
+    env: &Env,
+    term: &Checked,
+    value: &Value,
+) -> Result<bool, AllocError>
+    requires { IsResolved (term_of term.now) (names_of env.now) }
+    ensures { IfOk result (λ b. b ≡ spec.constant_agrees (answer (term_of term.now) env.now) value.now) }
 {
-    match eval(alloc, term, &Env::new(&[], &[])) {
+    match eval(alloc, term, env) {
         Ok(constant) => Ok(constant.equals(value)),
         Err(TermFault::Undefined) => Ok(false),
         Err(TermFault::Range) => Ok(false),
@@ -71,20 +79,21 @@ fn constant_agrees(alloc: Global, term: &Checked, value: &Value) -> Result<bool,
     }
 }
 
-/// Whether arguments fit an entry's parameters.
+/// Whether arguments fit an entry's parameters, if constants read this environment.
 fn arguments_agree(
     alloc: Global,
+    env: &Env,
     parameters: &[Parameter<usize, Shape>],
     arguments: &[Value],
 ) -> Result<bool, AllocError>
-    requires { AreResolvedParameters (map parameter_of parameters.now) }
-    ensures { IfOk result (λ b. b ≡ spec.arguments_agree (map parameter_of parameters.now) arguments.now) }
+    requires { AreResolvedParameters (names_of env.now) (map parameter_of parameters.now) }
+    ensures { IfOk result (λ b. b ≡ spec.arguments_agree env.now (map parameter_of parameters.now) arguments.now) }
 {
     if parameters.len() != arguments.len() {
         return Ok(false);
     }
     for i in 0..parameters.len() {
-        if !parameter_agrees(alloc, &parameters[i], &arguments[i])? {
+        if !parameter_agrees(alloc, env, &parameters[i], &arguments[i])? {
             return Ok(false);
         }
     }
@@ -116,16 +125,17 @@ fn is_natural(parameter: &Parameter<usize, Shape>, argument: &Value) -> bool
     }
 }
 
-/// Whether an action with these arguments is one of an entry's.
+/// Whether an action with these arguments is one of an entry's, if constants read this environment.
 fn entry_agrees(
     alloc: Global,
+    env: &Env,
     entry: &Entry<usize, Shape>,
     action: &Action,
     arguments: &[Value],
 ) -> Result<bool, AllocError>
-    requires resolved { AreResolvedParameters (entry_of entry.now).parameters }
+    requires resolved { AreResolvedParameters (names_of env.now) (entry_of entry.now).parameters }
     requires own { arguments.now ≡ action_arguments action.now }
-    ensures { IfOk result (λ b. b ≡ spec.entry_agrees action.now (entry_of entry.now)) }
+    ensures { IfOk result (λ b. b ≡ spec.entry_agrees env.now action.now (entry_of entry.now)) }
 {
     if entry.name.as_str() != action.name() {
         return Ok(false);
@@ -133,10 +143,11 @@ fn entry_agrees(
     if !kind_agrees(action, entry.kind) {
         return Ok(false);
     }
-    arguments_agree(alloc, &entry.parameters, arguments)
+    arguments_agree(alloc, env, &entry.parameters, arguments)
 }
 
-/// The rule that an action with these arguments takes, if there is one.
+/// The rule that an action with these arguments takes at a node with this program, if there is one. Constants of
+/// entries read the values that the node gives the automaton's parameters.
 pub fn rule_for<'a>(
     alloc: Global,
     program: &'a Program,
@@ -144,111 +155,167 @@ pub fn rule_for<'a>(
     arguments: &[Value],
 ) -> Result<Option<&'a Rule>, AllocError>
     requires { arguments.now ≡ action_arguments action.now }
-    ensures found { IfOk result (λ r. option_copied r ≡ spec.rule_for action.now program.now.rules) }
-    ensures resolved { IfOk result (λ r. IfSome r (λ x. IsResolvedRule program.now.variables x.now)) }
-    ensures agrees { IfOk result (λ r. IfSome r (λ x. spec.entry_agrees action.now x.now.entry ≡ true)) }
+    ensures found { IfOk result (λ r. option_copied r ≡ spec.rule_for program.now action.now) }
+    ensures resolved { IfOk result
+        (λ r. IfSome r (λ x. IsResolvedRule (declared_names program.now.automaton) x.now)) }
+    ensures agrees { IfOk result (λ r. IfSome r (λ x. spec.entry_agrees
+        (given_bindings program.now.automaton program.now.arguments) action.now x.now.entry ≡ true)) }
 {
-    for rule in program.rules() {
-        if entry_agrees(alloc, &rule.entry, action, arguments)? {
+    let env = program.automaton().given_env(program.arguments());
+    for rule in program.automaton().rules() {
+        if entry_agrees(alloc, &env, &rule.entry, action, arguments)? {
             return Ok(Some(rule));
         }
     }
     Ok(None)
 }
 
-/// The values of a program's state variables after an action.
+/// The values of a node's state variables after an action.
 pub fn values_after(
     alloc: Global,
     program: &Program,
     variables: &[Value],
     action: &Action,
 ) -> Result<Vec<Value>, StepFault>
-    requires { length variables.now ≡ length program.now.variables }
+    requires { length variables.now ≡ length program.now.automaton.variables }
     ensures after { Answers StepFault.Memory (λ v. v.items) result
-        (spec.program_answer program.now variables.now action.now) }
+        (spec.values_answer (node_state program.now variables.now) action.now) }
     ensures valued { IfOk result (λ v. length v.items ≡ length variables.now) }
 {
     let arguments = action.arguments(alloc)?;
     match rule_for(alloc, program, action, &arguments)? {
         None => Err(StepFault::NotMine),
-        Some(rule) => take_transition(alloc, rule, &arguments, variables),
+        Some(rule) => take_transition(alloc, program, rule, &arguments, variables),
     }
 }
 
 /// The values of the state variables after a transition. The arguments are tested first, then the entry's condition,
-/// then the guard, and then the effect is performed.
+/// then the guard, and then the effect is performed. The variables are copied for the effect alone.
 fn take_transition(
     alloc: Global,
+    program: &Program,
     rule: &Rule,
     arguments: &[Value],
     variables: &[Value],
 ) -> Result<Vec<Value>, StepFault>
     // the names in the rule are resolved, and each has a value
-    requires condition { IsResolvedGuard rule.now.entry.condition rule.now.scope }
-    requires guard { IsResolvedGuard rule.now.transition.pre rule.now.scope }
-    requires effect { AreResolved rule.now.transition.effect rule.now.scope rule.now.scope }
-    requires named { length rule.now.scope
-        ≡ length (variables.now ++ spec.own_values rule.now.entry.parameters arguments.now) }
+    requires condition { IsResolvedGuard rule.now.entry.condition
+        (drop (length variables.now) rule.now.scope ++ program.now.automaton.constants) }
+    requires guard { IsResolvedGuard rule.now.transition.pre (rule.now.scope ++ program.now.automaton.constants) }
+    requires effect { AreResolved rule.now.transition.effect rule.now.scope
+        (rule.now.scope ++ program.now.automaton.constants) }
+    requires named { length rule.now.scope ≡ length variables.now
+        + (length program.now.automaton.parameters
+        + length (spec.own_values rule.now.entry.parameters arguments.now)) }
     // the new values, one for each variable
     ensures after { Answers StepFault.Memory (λ v. v.items) result
-        (spec.step_answer (length variables.now) rule.now.entry rule.now.transition
-        arguments.now
-        (zip rule.now.scope
-        (variables.now ++ spec.own_values rule.now.entry.parameters arguments.now))) }
+        (spec.step_answer (length variables.now) rule.now arguments.now
+        (environment (drop (length variables.now) rule.now.scope)
+        (program.now.arguments ++ spec.own_values rule.now.entry.parameters arguments.now)
+        program.now.automaton.constants)
+        (environment rule.now.scope
+        (variables.now ++ (program.now.arguments ++ spec.own_values rule.now.entry.parameters arguments.now))
+        program.now.automaton.constants)) }
     ensures valued { IfOk result (λ v. length v.items ≡ length variables.now) }
 {
     pass_naturals(&rule.entry.parameters, arguments)?;
-    let values = values_in_view(alloc, &rule.entry, arguments, variables)?;
-    let scope = rule.scope.as_slice();
-    pass_guard(alloc, &rule.entry.condition, &Env::new(scope, &values))?;
-    pass_guard(alloc, &rule.transition.pre, &Env::new(scope, &values))?;
-    take_effect(
-        alloc,
-        &rule.transition.effect,
-        scope,
-        values,
-        variables.len(),
-    )
+    let constants = program.automaton().constants();
+    let fixed_values = fixed_values(alloc, program.arguments(), &rule.entry, arguments)?;
+    pass_condition(alloc, rule, constants, &fixed_values, variables.len())?;
+    pass_transition_guard(alloc, rule, constants, variables, &fixed_values)?;
+    let values = all_values(alloc, variables, fixed_values)?;
+    take_effect(alloc, rule, constants, values, variables.len())
 }
 
-/// The values of the first `count` names after an effect.
-#[tactic(auto, using(crate::proofs::Arguments::effect_answer_zip, ioa_terms::proofs::Slots::no_constants))]
+/// Passes if the condition of a rule's entry is true or missing; else `NotEnabled` (40). It reads no state variable:
+/// their names are the first `count` ones, and these are the values of the others.
+fn pass_condition(
+    alloc: Global,
+    rule: &Rule,
+    constants: &[Word],
+    fixed_values: &[Value],
+    count: usize,
+) -> Result<(), StepFault>
+    requires resolved { IsResolvedGuard rule.now.entry.condition (drop count rule.now.scope ++ constants.now) }
+    requires named { length rule.now.scope ≡ count + length fixed_values.now }
+    ensures { Answers StepFault.Memory (λ _. tt) result (spec.guard_answer rule.now.entry.condition
+        (environment (drop count rule.now.scope) fixed_values.now constants.now)) }
+{
+    let scope = &rule.scope.as_slice()[count..];
+    let env = Env::with_constants(scope, fixed_values, constants);
+    pass_guard(alloc, &rule.entry.condition, &env)
+}
+
+/// Passes if the guard of a rule's transition is true or missing; else `NotEnabled` (40). It reads the state variables
+/// and then the values that no effect changes.
+fn pass_transition_guard(
+    alloc: Global,
+    rule: &Rule,
+    constants: &[Word],
+    variables: &[Value],
+    fixed_values: &[Value],
+) -> Result<(), StepFault>
+    requires resolved { IsResolvedGuard rule.now.transition.pre (rule.now.scope ++ constants.now) }
+    requires named { length rule.now.scope ≡ length (variables.now ++ fixed_values.now) }
+    ensures { Answers StepFault.Memory (λ _. tt) result (spec.guard_answer rule.now.transition.pre
+        (environment rule.now.scope (variables.now ++ fixed_values.now) constants.now)) }
+{
+    let env = Env::with_given(rule.scope.as_slice(), variables, fixed_values, constants);
+    pass_guard(alloc, &rule.transition.pre, &env)
+}
+
+/// The values of the first `count` names after a rule's effect.
+#[tactic(auto, using(crate::proofs::Arguments::effect_answer_environment))]
 fn take_effect(
     alloc: Global,
-    effect: &[Statement<usize, Shape>],
-    scope: &[Word],
+    rule: &Rule,
+    constants: &[Word],
     values: Vec<Value>,
     count: usize,
 ) -> Result<Vec<Value>, StepFault>
-    // the names in the effect are resolved, and each has a value
-    requires resolved { AreResolved (map statement_of effect.now) scope.now scope.now }
-    requires named { length scope.now ≡ length values.items }
+    // the names in the effect are resolved, and each name in view has a value
+    requires resolved { AreResolved rule.now.transition.effect rule.now.scope (rule.now.scope ++ constants.now) }
+    requires named { length rule.now.scope ≡ length values.items }
     requires within { count ≤ length values.items }
     // `count` new values
-    ensures after { Answers StepFault.Memory (λ v. v.items) result
-        (spec.effect_answer count (answer_by (map statement_of effect.now) (zip scope.now values.items))) }
+    ensures after { Answers StepFault.Memory (λ v. v.items) result (spec.effect_answer count
+        (answer_by rule.now.transition.effect (environment rule.now.scope values.items constants.now))) }
     ensures valued { IfOk result (λ v. length v.items ≡ count) }
 {
-    let mut left = perform(alloc, effect, scope, &[], values)?;
+    let effect = &rule.transition.effect;
+    let mut left = perform(alloc, effect, rule.scope.as_slice(), constants, values)?;
     left.truncate(count);
     Ok(left)
 }
 
-/// The values of the state variables, and then those of the entry's own parameters.
-fn values_in_view(
+/// The values that an effect reads and does not change: those of the automaton's parameters, and of the entry's own.
+fn fixed_values(
     alloc: Global,
+    given: &[Value],
     entry: &Entry<usize, Shape>,
     arguments: &[Value],
-    variables: &[Value],
 ) -> Result<Vec<Value>, AllocError>
     ensures { IfOk result
-        (λ v. v.items ≡ variables.now ++ spec.own_values (entry_of entry.now).parameters arguments.now) }
+        (λ v. v.items ≡ given.now ++ spec.own_values (entry_of entry.now).parameters arguments.now) }
 {
-    let mut values = copies(alloc, variables)?;
+    let mut values = copies(alloc, given)?;
     let count = entry.parameters.len().min(arguments.len());
     for i in 0..count {
         push_own(alloc, &mut values, &entry.parameters[i], &arguments[i])?;
     }
+    Ok(values)
+}
+
+/// Copies of the state variables' values, and then the other values in view.
+fn all_values(
+    alloc: Global,
+    variables: &[Value],
+    mut fixed_values: Vec<Value>,
+) -> Result<Vec<Value>, AllocError>
+    ensures { IfOk result (λ v. v.items ≡ variables.now ++ fixed_values.items) }
+{
+    let mut values = copies(alloc, variables)?;
+    values.append(&mut fixed_values)?;
     Ok(values)
 }
 

@@ -1,12 +1,12 @@
--- The parts of a program, as plain data (view).
+-- The parts of an automaton that was made ready to step, and of a node's program, as plain data (view).
 use Rattle.std.specs.Prelude.{ℕ, ℤ, List, refl}
 use Rattle.std.specs.Coded.{Coded, code_by, coded×, coded_ℕ, coded_ℤ, coded_list}
 use Rattle.ioa_values.specs.Data.{Data}
 use Rattle.ioa_values.specs.DataCode.{data_code}
 use Rattle.ioa_operators.specs.ShapeCode.{shape_code}
 use Rattle.ioa_terms.specs.TermCode.{statement_code}
-use Rattle.ioa_source.specs.Sides.{CheckedEntry, CheckedStatement, CheckedTransition, CheckedVariable}
-use Rattle.ioa_source.specs.TextCode.{entry_code, transition_code, variable_code}
+use Rattle.ioa_source.specs.Sides.{CheckedDeclared, CheckedEntry, CheckedStatement, CheckedTransition, CheckedVariable}
+use Rattle.ioa_source.specs.TextCode.{declared_code, entry_code, transition_code, variable_code}
 
 -- an entry of a signature with its transition (Lynch 8.1), and the names in view in guard and effect
 pub record PlainRule : Type 0 where
@@ -24,26 +24,54 @@ rule_code =
     (λ t. record { entry = t.0; transition = t.1.0; scope = t.1.1 })
     (λ _. refl)
 
--- the number of the node; its rules; its state variables, their values in the start state; its schedule block
-pub record Parts : Type 0 where
-  pub node : ℤ
-  pub rules : List PlainRule
+-- an automaton: its name, the names of the text's constants, its parameters, its state variables, its rules and its
+-- schedule block
+pub record AutomatonParts : Type 0 where
+  pub name : List ℕ
+  pub constants : List (List ℕ)
+  pub parameters : List CheckedDeclared
   pub variables : List CheckedVariable
-  pub initial : List Data
+  pub rules : List PlainRule
   pub schedule : List CheckedStatement
 
--- a program of these parts
-abbrev pub parts : ℤ → List PlainRule → List CheckedVariable → List Data → List CheckedStatement → Parts
-parts n rs vs ds ss = record { node = n; rules = rs; variables = vs; initial = ds; schedule = ss }
+-- an automaton of these parts
+abbrev pub automaton_parts : List ℕ → List (List ℕ) → List CheckedDeclared → List CheckedVariable → List PlainRule
+    → List CheckedStatement → AutomatonParts
+automaton_parts w cs ds vs rs ss =
+    record { name = w; constants = cs; parameters = ds; variables = vs; rules = rs; schedule = ss }
 
--- the code of the parts: a nest of pairs
+-- the code of an automaton: a nest of pairs
+abbrev pub automaton_code : Coded AutomatonParts
+automaton_code =
+    code_by
+    (List ℕ × (List (List ℕ) × (List CheckedDeclared
+    × (List CheckedVariable × (List PlainRule × List CheckedStatement)))))
+    (coded× (coded_list coded_ℕ)
+    (coded× (coded_list (coded_list coded_ℕ))
+    (coded× (coded_list (declared_code shape_code))
+    (coded× (coded_list (variable_code coded_ℕ shape_code))
+    (coded× (coded_list rule_code) (coded_list (statement_code coded_ℕ shape_code)))))))
+    (λ a. (a.name, (a.constants, (a.parameters, (a.variables, (a.rules, a.schedule))))))
+    (λ t. automaton_parts t.0 t.1.0 t.1.1.0 t.1.1.1.0 t.1.1.1.1.0 t.1.1.1.1.1)
+    (λ _. refl)
+
+-- a node's program: the number of the node, its automaton, the values of the automaton's parameters, and those of the
+-- state variables in the start state
+pub record Parts : Type 0 where
+  pub node : ℤ
+  pub automaton : AutomatonParts
+  pub arguments : List Data
+  pub initial : List Data
+
+-- a program of these parts
+abbrev pub parts : ℤ → AutomatonParts → List Data → List Data → Parts
+parts n a args vs = record { node = n; automaton = a; arguments = args; initial = vs }
+
+-- the code of a program: a nest of pairs
 abbrev pub parts_code : Coded Parts
 parts_code =
-    code_by (ℤ × (List PlainRule × (List CheckedVariable × (List Data × List CheckedStatement))))
-    (coded× coded_ℤ
-    (coded× (coded_list rule_code)
-    (coded× (coded_list (variable_code coded_ℕ shape_code))
-    (coded× (coded_list data_code) (coded_list (statement_code coded_ℕ shape_code))))))
-    (λ p. (p.node, (p.rules, (p.variables, (p.initial, p.schedule)))))
-    (λ t. record { node = t.0; rules = t.1.0; variables = t.1.1.0; initial = t.1.1.1.0; schedule = t.1.1.1.1 })
+    code_by (ℤ × (AutomatonParts × (List Data × List Data)))
+    (coded× coded_ℤ (coded× automaton_code (coded× (coded_list data_code) (coded_list data_code))))
+    (λ p. (p.node, (p.automaton, (p.arguments, p.initial))))
+    (λ t. parts t.0 t.1.0 t.1.1.0 t.1.1.1)
     (λ _. refl)

@@ -1,4 +1,4 @@
--- Whether two rules or two programs are the same (profile).
+-- Whether two rules, two automata or two programs are the same (profile).
 use Rattle.std.specs.Prelude.{◌≡◌, Bool, ◌&&◌, List, nat_eq, refl}
 use Rattle.std.specs.Ordering.{int_eq}
 use Rattle.std.specs.Bool.{Decides}
@@ -14,10 +14,10 @@ use Rattle.ioa_operators.specs.ShapeEquality.{same_shape_is}
 use Rattle.ioa_terms.specs.PlainTerm.{statements_of}
 use Rattle.ioa_terms.specs.SameTerms.{same_statements}
 use Rattle.ioa_terms.proofs.SameTerms.{same_statements_is}
-use Rattle.ioa_source.specs.Sides.{CheckedVariable}
-use Rattle.ioa_source.specs.SameTexts.{same_entry, same_variable, same_transition}
-use Rattle.ioa_source.proofs.SameTexts.{same_entry_is, same_variable_is, same_transition_is}
-use Rattle.ioa_system.specs.Parts.{Parts, PlainRule}
+use Rattle.ioa_source.specs.Sides.{CheckedDeclared, CheckedVariable}
+use Rattle.ioa_source.specs.SameTexts.{same_declared, same_entry, same_variable, same_transition}
+use Rattle.ioa_source.proofs.SameTexts.{same_declared_is, same_entry_is, same_variable_is, same_transition_is}
+use Rattle.ioa_system.specs.Parts.{AutomatonParts, Parts, PlainRule}
 
 -- two rules are the same if their entries, their transitions and the names in view are
 abbrev pub same_rule : PlainRule → PlainRule → Bool
@@ -30,14 +30,26 @@ same_rule a b =
 abbrev pub same_variables : List CheckedVariable → List CheckedVariable → Bool
 same_variables vs ws = pointwise (same_variable nat_eq same_shape) vs ws
 
+-- whether two lists have the same declared names
+abbrev pub same_parameters : List CheckedDeclared → List CheckedDeclared → Bool
+same_parameters ds es = pointwise (same_declared same_shape) ds es
+
+-- two automata are the same if their parts are
+abbrev pub same_automaton : AutomatonParts → AutomatonParts → Bool
+same_automaton a b =
+    pointwise nat_eq a.name b.name
+    && (pointwise (pointwise nat_eq) a.constants b.constants
+    && (same_parameters a.parameters b.parameters
+    && (same_variables a.variables b.variables
+    && (pointwise same_rule a.rules b.rules
+    && same_statements nat_eq same_shape (statements_of a.schedule) (statements_of b.schedule)))))
+
 -- two programs are the same if their parts are
 abbrev pub same_program : Parts → Parts → Bool
 same_program a b =
     int_eq a.node b.node
-    && (pointwise same_rule a.rules b.rules
-    && (same_variables a.variables b.variables
-    && (pointwise same a.initial b.initial
-    && same_statements nat_eq same_shape (statements_of a.schedule) (statements_of b.schedule))))
+    && (pointwise same a.arguments b.arguments
+    && (pointwise same a.initial b.initial && same_automaton a.automaton b.automaton))
 
 -- the test finds two rules the same if and only if they are equal
 pub same_rule_is : (a b : PlainRule) → Decides (same_rule a b) (a ≡ b)
@@ -54,30 +66,52 @@ same_rule_is a b =
 pub same_rule_partial : IsPartialEquivalence same_rule
 same_rule_partial = partial_equiv_from_equiv (decided same_rule same_rule_is)
 
+-- two automata
+pub same_automaton_is : (a b : AutomatonParts) → Decides (same_automaton a b) (a ≡ b)
+same_automaton_is a b =
+    Decides-like _
+    (λ p i. record {
+      name = p.0 i;
+      constants = p.1.0 i;
+      parameters = p.1.1.0 i;
+      variables = p.1.1.1.0 i;
+      rules = p.1.1.1.1.0 i;
+      schedule = p.1.1.1.1.1 i;
+    })
+    (λ e. (
+      ap (λ (x : AutomatonParts). x.name) e,
+      (
+        ap (λ (x : AutomatonParts). x.constants) e,
+        (
+          ap (λ (x : AutomatonParts). x.parameters) e,
+          (
+            ap (λ (x : AutomatonParts). x.variables) e,
+            (ap (λ (x : AutomatonParts). x.rules) e, ap (λ (x : AutomatonParts). x.schedule) e),
+          ),
+        ),
+      ),
+    ))
+    (Decides-and _ _ (bytes_eq-Decides a.name b.name)
+    (Decides-and _ _ (slice_eq-Decides bytes_eq-Decides a.constants b.constants _ refl)
+    (Decides-and _ _ (slice_eq-Decides (same_declared_is same_shape_is) a.parameters b.parameters _ refl)
+    (Decides-and _ _
+    (slice_eq-Decides (same_variable_is Decides-eqb same_shape_is) a.variables b.variables _ refl)
+    (Decides-and _ _ (slice_eq-Decides same_rule_is a.rules b.rules _ refl)
+    (same_statements_is Decides-eqb same_shape_is a.schedule b.schedule))))))
+
 -- and two programs
 pub same_program_is : (a b : Parts) → Decides (same_program a b) (a ≡ b)
 same_program_is a b =
     Decides-like _
-    (λ p i. record {
-      node = p.0 i;
-      rules = p.1.0 i;
-      variables = p.1.1.0 i;
-      initial = p.1.1.1.0 i;
-      schedule = p.1.1.1.1 i;
-    })
+    (λ p i. record { node = p.0 i; automaton = p.1.1.1 i; arguments = p.1.0 i; initial = p.1.1.0 i })
     (λ e. (
       ap (λ (p : Parts). p.node) e,
       (
-        ap (λ (p : Parts). p.rules) e,
-        (
-          ap (λ (p : Parts). p.variables) e,
-          (ap (λ (p : Parts). p.initial) e, ap (λ (p : Parts). p.schedule) e),
-        ),
+        ap (λ (p : Parts). p.arguments) e,
+        (ap (λ (p : Parts). p.initial) e, ap (λ (p : Parts). p.automaton) e),
       ),
     ))
     (Decides-and _ _ (Decides-int_eq a.node b.node)
-    (Decides-and _ _ (slice_eq-Decides same_rule_is a.rules b.rules _ refl)
-    (Decides-and _ _
-    (slice_eq-Decides (same_variable_is Decides-eqb same_shape_is) a.variables b.variables _ refl)
+    (Decides-and _ _ (slice_eq-Decides same_is a.arguments b.arguments _ refl)
     (Decides-and _ _ (slice_eq-Decides same_is a.initial b.initial _ refl)
-    (same_statements_is Decides-eqb same_shape_is a.schedule b.schedule)))))
+    (same_automaton_is a.automaton b.automaton))))

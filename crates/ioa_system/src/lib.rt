@@ -2,10 +2,12 @@
 //! and channels.
 #![tactic(auto)]
 
+mod automaton;
 mod program;
 mod scope;
 mod system;
 
-pub use program::{Program, Rule};
+pub use automaton::{CompiledAutomaton, Rule};
+pub use program::Program;
 pub use scope::Scope;
 pub use system::System;

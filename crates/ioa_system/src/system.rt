@@ -13,7 +13,7 @@ use std::sync::Arc;
 /// A system: the programs of its nodes, node 0 first, and its channels as declared.
 #[derive(Drop)]
 pub struct System {
-    names: Names,
+    names: Arc<Names>,
     programs: Vec<Arc<Program>>,
     channels: Vec<Channel>,
 }
@@ -29,13 +29,13 @@ impl Model for System {
     ghost use Rattle.std.specs.Prelude.{map};
     ghost use Rattle.ioa_system.specs.Systems.{system};
 
-    ghost view = { λ s. system s.names (map arc_value s.programs.items) s.channels.items };
+    ghost view = { λ s. system (arc_value s.names) (map arc_value s.programs.items) s.channels.items };
 }
 
 impl System {
     /// The system of these constants, programs and channels. Nothing is checked of them here.
-    pub fn new(names: Names, programs: Vec<Arc<Program>>, channels: Vec<Channel>) -> Self
-        ensures { result ≡ system names (map arc_value programs.items) channels.items }
+    pub fn new(names: Arc<Names>, programs: Vec<Arc<Program>>, channels: Vec<Channel>) -> Self
+        ensures { result ≡ system (arc_value names) (map arc_value programs.items) channels.items }
     {
         System {
             names,

@@ -54,7 +54,7 @@ queue_line names (component.Script i) items = []
 
 -- the lines of a component
 abbrev pub component_lines : List (List ℕ) → Conf → List ℕ
-component_lines names (Node c) = variable_lines names c.program.node c.variables c.program.variables
+component_lines names (Node c) = variable_lines names c.program.node c.variables c.program.automaton.variables
 component_lines names (Queue q) = queue_line names q.component q.items
 
 -- the lines of the components, in the order of their configurations

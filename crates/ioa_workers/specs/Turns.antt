@@ -1,6 +1,5 @@
 -- Turns of a schedule block of firings (profile).
-use Rattle.std.specs.Prelude.{ℕ, ℤ, ◌+◌, ◌^◌, ◌<◌, List, [], ◌∷◌, map, drop, Result, Ok, Err}
-use Rattle.std.specs.List.{zip}
+use Rattle.std.specs.Prelude.{ℕ, ℤ, ◌+◌, ◌^◌, ◌<◌, List, [], ◌∷◌, drop, Result, Ok, Err}
 use Rattle.ioa_values.specs.Data.{Data}
 use Rattle.ioa_values.specs.Outcome.{and_then}
 use Rattle.ioa_terms.specs.Bindings.{Bindings}
@@ -10,14 +9,14 @@ use Rattle.ioa_actions.specs.ActionParts.{action_at}
 use Rattle.ioa_operators.specs.declared.fault.TermFault.{TermFault}
 use Rattle.ioa_operators.specs.declared.fault.TermFault.TheVariants.{Undefined}
 use Rattle.ioa_source.specs.Sides.{CheckedStatement, CheckedTerm}
-use Rattle.ioa_system.specs.ResolvedPrograms.{variable_names}
+use Rattle.ioa_system.specs.InView.{firing_bindings}
 use Rattle.ioa_compose.specs.NodeState.{NodeState}
 use Rattle.ioa_workers.specs.declared.turn.Turn.{Turn}
 use Rattle.ioa_workers.specs.declared.turn.Turn.TheVariants.{Fire, Done}
 
--- what a block reads: the node's variables with their values
+-- what a block reads: the node's variables and its automaton's parameters with their values, and the text's constants
 abbrev pub block_bindings : NodeState → Bindings
-block_bindings c = zip (variable_names c.program.variables) c.variables
+block_bindings c = firing_bindings c.program.automaton c.program.arguments c.variables
 
 -- the values of terms in order, or the first fault among them
 abbrev pub answers : List CheckedTerm → Bindings → Result (List Data) TermFault
@@ -38,7 +37,7 @@ turn_answer k e (s ∷ more) = statement_answer k e s
 
 -- the result of a turn of a node that has passed the first n statements of its block
 abbrev pub node_turn : NodeState → ℕ → Result Turn TermFault
-node_turn c n = turn_answer c.program.node (block_bindings c) (drop n c.program.schedule)
+node_turn c n = turn_answer c.program.node (block_bindings c) (drop n c.program.automaton.schedule)
 
 -- the number of statements passed is a number of the machine also after one more firing
 abbrev pub FitsAfterTurn : ℕ → Turn → Type 0

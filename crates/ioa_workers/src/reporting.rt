@@ -92,7 +92,7 @@ fn push_component(
     match state {
         Conf::Node(node) => {
             let values = node.variables().as_slice();
-            let variables = node.program().variables();
+            let variables = node.program().automaton().variables();
             push_variables(alloc, names, node.node(), values, variables, report)
         }
         Conf::Queue(queue) => push_queue(alloc, names, queue, report),

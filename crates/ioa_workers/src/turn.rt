@@ -1,19 +1,18 @@
 //! Turns of a schedule block.
 
-ghost use Rattle.std.specs.Prelude.{◌≡◌, IfOk, map};
+ghost use Rattle.std.specs.Prelude.{◌≡◌, [], IfOk, map};
 ghost use Rattle.ioa_values.specs.Outcome.{Answers};
 ghost use Rattle.ioa_terms.specs.Bindings.{names_of};
 ghost use Rattle.ioa_terms.specs.View.{term_of, statement_of};
-ghost use Rattle.ioa_source.specs.TextView.{variable_of};
-ghost use Rattle.ioa_system.specs.ResolvedPrograms.{AreResolvedTerms, IsResolvedFiring, variable_names};
+ghost use Rattle.ioa_system.specs.InView.{declared_names, names_at, firing};
+ghost use Rattle.ioa_system.specs.ResolvedPrograms.{AreResolvedTerms, IsResolvedFiring};
 ghost use Rattle.ioa_workers.specs.Turns.{block_bindings, answers};
 ghost use Rattle.ioa_workers.specs.Turns.{statement_answer, node_turn, FitsAfterTurn};
 
 use ioa_actions::Action;
 use ioa_compose::NodeConf;
-use ioa_source::Variable;
-use ioa_terms::{Checked, Env, Shape, Statement, TermFault, Value, Word, eval};
-use std::alloc::{AllocError, Global};
+use ioa_terms::{Checked, Env, Shape, Statement, TermFault, Value, eval};
+use std::alloc::Global;
 
 /// What a turn comes to (profile).
 #[derive(Debug, Drop)]
@@ -25,13 +24,13 @@ pub enum Turn {
 }
 
 /// The turn of a node that has passed the first `passed` statements of its block (profile): `Done` if nothing is left,
-/// else the action that is fired next. Its arguments are evaluated over the node's variables, from left to right, and
-/// the first fault that is met is returned.
+/// else the action that is fired next. Its arguments are evaluated over the node's variables and the values of its
+/// automaton's parameters, from left to right, and the first fault that is met is returned.
 pub fn next(alloc: Global, node: &NodeConf, passed: usize) -> Result<Turn, TermFault>
     ensures answer { Answers TermFault.Memory (λ t. t) result (node_turn node.now passed) }
     ensures counts { IfOk result (FitsAfterTurn passed) }
 {
-    match node.program().schedule().get(passed) {
+    match node.program().automaton().schedule().get(passed) {
         None => Ok(Turn::Done),
         Some(statement) => fire(alloc, node, statement),
     }
@@ -44,7 +43,7 @@ fn fire(
     statement: &Statement<usize, Shape>,
 ) -> Result<Turn, TermFault>
     requires { IsResolvedFiring (statement_of statement.now)
-        (variable_names node.now.program.variables) }
+        (names_at firing (declared_names node.now.program.automaton) []) }
     ensures { Answers TermFault.Memory (λ t. t) result
         (statement_answer node.now.program.node (block_bindings node.now) (statement_of statement.now)) }
 {
@@ -57,30 +56,19 @@ fn fire(
     }
 }
 
-/// The values of terms over a node's variables, in order.
+/// The values of terms of a node's schedule, in order. No name and no value is copied for them.
 fn arguments_of(alloc: Global, node: &NodeConf, terms: &[Checked]) -> Result<Vec<Value>, TermFault>
     requires { AreResolvedTerms (map term_of terms.now)
-        (variable_names node.now.program.variables) }
+        (names_at firing (declared_names node.now.program.automaton) []) }
     ensures { Answers TermFault.Memory (λ v. v.items) result
         (answers (map term_of terms.now) (block_bindings node.now)) }
 {
-    let names = variable_names(alloc, node.program().variables())?;
-    let env = Env::new(&names, node.variables().as_slice());
+    let program = node.program();
+    let variables = node.variables().as_slice();
+    let env = program
+        .automaton()
+        .firing_env(program.arguments(), variables);
     values_of(alloc, terms, &env)
-}
-
-/// The names of variables, in order.
-fn variable_names(
-    alloc: Global,
-    variables: &[Variable<usize, Shape>],
-) -> Result<Vec<Word>, AllocError>
-    ensures { IfOk result (λ v. v.items ≡ variable_names (map variable_of variables.now)) }
-{
-    let mut names = Vec::new(alloc);
-    for variable in variables {
-        names.push(variable.declared.name.try_copy(alloc)?)?;
-    }
-    Ok(names)
 }
 
 /// The values of terms in an environment, in order.

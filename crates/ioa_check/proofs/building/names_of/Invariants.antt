@@ -2,7 +2,7 @@ use Rattle.std.proofs.Common.{◌≡◌, map, take}
 use Rattle.std.specs.List.{IsDistinct}
 use Rattle.ioa_terms.specs.Bindings.{same_name}
 use Rattle.ioa_source.specs.TextView.{variable_of}
-use Rattle.ioa_system.specs.ResolvedPrograms.{variable_names}
+use Rattle.ioa_system.specs.InView.{variable_names}
 use Rattle.ioa_check.proofs.building.names_of.Given as goal
 
 -- the names so far are declared, and differ

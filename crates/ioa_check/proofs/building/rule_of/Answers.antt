@@ -1,4 +1,4 @@
-use Rattle.std.proofs.Common.{◌≡◌, ◌++◌, ℕ, List, true, false, refl, sym, ap, subst, ◌∙◌, map, take, length, rules}
+use Rattle.std.proofs.Common.{◌≡◌, ◌++◌, ℕ, List, [], true, false, refl, sym, ap, subst, ◌∙◌, map, take, length, append-nil, rules}
 use Rattle.std.proofs.lemmas.Result.{err_from_is_err_and}
 use Rattle.std.proofs.lemmas.List.{length-map}
 use Rattle.std.specs.List.{IsDistinct, list_all}
@@ -6,11 +6,13 @@ use Rattle.ioa_terms.specs.Bindings.{same_name}
 use Rattle.ioa_terms.specs.Resolved.{AreResolved}
 use Rattle.ioa_source.specs.TextView.{automaton_of, entry_of, transition_of, variable_of}
 use Rattle.ioa_source.specs.Sides.{CheckedVariable}
-use Rattle.ioa_system.specs.ResolvedPrograms.{variable_names, own_names, scope_of}
-use Rattle.ioa_check.specs.Rows.{guard_reads_only, assigns_only}
+use Rattle.ioa_system.specs.InView.{entry_condition, names_at, own_names, variable_names}
+use Rattle.ioa_system.specs.ResolvedPrograms.{IsResolvedGuard}
+use Rattle.ioa_check.specs.Resolutions.{first_names, scope_for}
+use Rattle.ioa_check.specs.Rows.{guard_reads_only, assigns_only, names_in_transition}
 use Rattle.ioa_check.specs.Standing.{StandsInEntry, is_known_transition}
 use Rattle.ioa_check.proofs.Refused.{fails_weaker, only_weaker, refuses_weaker}
-use Rattle.ioa_check.proofs.Rows.{scope_of-erase, take_first}
+use Rattle.ioa_check.proofs.Rows.{scope_for-erase, take_first}
 use Rattle.ioa_check.proofs.building.rule_of.Goals as goal
 use Rattle.std.proofs.lemmas.Bool.{and_right}
 
@@ -23,13 +25,14 @@ returns-clause-made c =
     let n = length c.args.variables.now in
     let many : n ≡ length (variable_names vs) = sym (length-map vs (λ (v : CheckedVariable). v.declared.name) ∙ length-map c.args.variables.now variable_of) in
     let first : take n scope ≡ variable_names vs = ap (take n) c.in_ok-scope.ensures.names ∙ take_first n (variable_names vs) own many in
+    let all : scope ≡ scope_for (entry_of c.in_ok-entry.entry) vs ++ [] = c.in_ok-scope.ensures.names ∙ sym (append-nil (scope_for (entry_of c.in_ok-entry.entry) vs)) in
     record {
       resolved = record {
         scope = c.in_ok-scope.ensures.names;
-        parameters = c.in_ok-entry.ensures.made.resolved;
-        condition = c.in_ok-entry.ensures.made.condition scope;
-        guard = c.in_ok-transition.ensures.made.guard.resolved;
-        effect = subst (λ (ns : List (List ℕ)). AreResolved t.effect ns scope) first c.in_ok-transition.ensures.made.effect.resolved;
+        parameters = rw c.new.ensures at c.in_ok-entry.ensures.made.resolved;
+        condition = c.in_ok-entry.ensures.made.condition (names_at entry_condition (first_names vs) own);
+        guard = subst (IsResolvedGuard t.pre) all c.in_ok-transition.ensures.made.guard.resolved;
+        effect = subst (λ (ns : List (List ℕ)). AreResolved t.effect (variable_names vs) ns) all (subst (λ (ns : List (List ℕ)). AreResolved t.effect ns scope) first c.in_ok-transition.ensures.made.effect.resolved);
       };
       entry = c.in_ok-entry.ensures.made.same;
       transition = search rules;
@@ -44,13 +47,14 @@ returns-clause-rows c =
     let scope = c.in_ok-scope.scope in
     let t = transition_of c.in-Some.transition.now in
     let vs = map variable_of c.args.variables.now in
-    let own = own_names (entry_of c.args.entry.now).parameters in
-    let names : scope ≡ variable_names vs ++ own =
-    scope_of-erase vs (entry_of c.in_ok-entry.entry) (entry_of c.args.entry.now) scope c.in_ok-scope.ensures.names c.in_ok-entry.ensures.made.same in
-    let many : length c.args.variables.now ≡ length (variable_names vs) = sym (length-map vs (λ (v : CheckedVariable). v.declared.name) ∙ length-map c.args.variables.now variable_of) in
-    let first : take (length c.args.variables.now) (variable_names vs ++ own) ≡ variable_names vs = take_first (length c.args.variables.now) (variable_names vs) own many in
-    let written : list_all (assigns_only (take (length c.args.variables.now) (variable_names vs ++ own)) (variable_names vs ++ own)) t.effect ≡ true =
-    subst (λ (ns : List (List ℕ)). list_all (assigns_only (take (length c.args.variables.now) ns) ns) t.effect ≡ true) names c.in_ok-transition.ensures.made.effect.known in
+    let e = entry_of c.args.entry.now in
+    let n = length c.args.variables.now in
+    let names : scope ≡ scope_for e vs = scope_for-erase vs (entry_of c.in_ok-entry.entry) e scope c.in_ok-scope.ensures.names c.in_ok-entry.ensures.made.same in
+    let all : scope ≡ names_in_transition (first_names vs) e = names ∙ sym (append-nil (scope_for e vs)) in
+    let many : n ≡ length (variable_names vs) = sym (length-map vs (λ (v : CheckedVariable). v.declared.name) ∙ length-map c.args.variables.now variable_of) in
+    let first : take n scope ≡ variable_names vs = ap (take n) names ∙ take_first n (variable_names vs) (own_names e.parameters) many in
+    let written : list_all (assigns_only (variable_names vs) scope) t.effect ≡ true =
+    subst (λ (ns : List (List ℕ)). list_all (assigns_only ns scope) t.effect ≡ true) first c.in_ok-transition.ensures.made.effect.known in
     record {
       transition = t;
       found = sym c.in-Some.ensures;
@@ -60,9 +64,9 @@ returns-clause-rows c =
       constants = c.in_ok-entry.ensures.made.sorted;
       guard = c.in_ok-transition.ensures.made.guard.sorted;
       effect = c.in_ok-transition.ensures.made.effect.sorted;
-      constant_names = c.in_ok-entry.ensures.made.known;
-      guard_names = subst (λ (ns : List (List ℕ)). guard_reads_only ns t.pre ≡ true) names c.in_ok-transition.ensures.made.guard.known;
-      effect_names = subst (λ (ns : List (List ℕ)). list_all (assigns_only ns (variable_names vs ++ own)) t.effect ≡ true) first written;
+      constant_names = rw c.new.ensures at c.in_ok-entry.ensures.made.known;
+      guard_names = subst (λ (ns : List (List ℕ)). guard_reads_only ns t.pre ≡ true) all c.in_ok-transition.ensures.made.guard.known;
+      effect_names = subst (λ (ns : List (List ℕ)). list_all (assigns_only (variable_names vs) ns) t.effect ≡ true) all written;
     }
 
 pub returns-in_err-scope-clause-refused : goal.returns-in_err-scope-clause-refused
@@ -71,10 +75,10 @@ returns-in_err-scope-clause-refused c =
     let vs = map variable_of c.args.variables.now in
     let e = entry_of c.args.entry.now in
     let resolved = entry_of c.in_ok-entry.entry in
-    let names : scope_of resolved vs ≡ variable_names vs ++ own_names e.parameters = scope_of-erase vs resolved e (scope_of resolved vs) refl c.in_ok-entry.ensures.made.same in
+    let names : scope_for resolved vs ≡ scope_for e vs = scope_for-erase vs resolved e (scope_for resolved vs) refl c.in_ok-entry.ensures.made.same in
     rw (p.1, p.2)
     (refuses_weaker
-    (only_weaker (StandsInEntry (variable_names vs) (automaton_of c.args.automaton.now).transitions e) (λ wrong d. wrong (subst (λ (ns : List (List ℕ)). IsDistinct same_name ns) (sym names) d)))
+    (only_weaker (StandsInEntry (first_names vs) (automaton_of c.args.automaton.now).transitions e) (λ wrong d. wrong (subst (λ (ns : List (List ℕ)). IsDistinct same_name ns) (sym names) d)))
     _ c.in_err-scope.ensures.refused)
 
 pub returns-in_err-transition-clause-refused : goal.returns-in_err-transition-clause-refused
@@ -84,21 +88,20 @@ returns-in_err-transition-clause-refused c =
     let t = transition_of c.in-Some.transition.now in
     let vs = map variable_of c.args.variables.now in
     let e = entry_of c.args.entry.now in
-    let own = own_names e.parameters in
     let n = length c.args.variables.now in
-    let names : scope ≡ variable_names vs ++ own =
-    scope_of-erase vs (entry_of c.in_ok-entry.entry) e scope c.in_ok-scope.ensures.names c.in_ok-entry.ensures.made.same in
+    let names : scope ≡ scope_for e vs = scope_for-erase vs (entry_of c.in_ok-entry.entry) e scope c.in_ok-scope.ensures.names c.in_ok-entry.ensures.made.same in
+    let all : scope ≡ names_in_transition (first_names vs) e = names ∙ sym (append-nil (scope_for e vs)) in
     let many : n ≡ length (variable_names vs) = sym (length-map vs (λ (v : CheckedVariable). v.declared.name) ∙ length-map c.args.variables.now variable_of) in
-    let first : take n (variable_names vs ++ own) ≡ variable_names vs = take_first n (variable_names vs) own many in
+    let first : take n scope ≡ variable_names vs = ap (take n) names ∙ take_first n (variable_names vs) (own_names e.parameters) many in
     rw (p.1, p.2)
     (refuses_weaker
-    (fails_weaker (StandsInEntry (variable_names vs) (automaton_of c.args.automaton.now).transitions e)
+    (fails_weaker (StandsInEntry (first_names vs) (automaton_of c.args.automaton.now).transitions e)
     (λ form. (
       t,
       sym c.in-Some.ensures,
       and_right _ _
-          (subst (λ (ns : List (List ℕ)). is_known_transition ns (variable_names vs ++ own) t ≡ false) first
-          (subst (λ (ns : List (List ℕ)). is_known_transition (take n ns) ns t ≡ false) names form)),
+          (subst (λ (ns : List (List ℕ)). is_known_transition (variable_names vs) ns t ≡ false) all
+          (subst (λ (ns : List (List ℕ)). is_known_transition ns scope t ≡ false) first form)),
     ))
     (λ sort. (t, sym c.in-Some.ensures, and_right _ _ sort)))
     _ c.in_err-transition.ensures.refused)

@@ -2,7 +2,7 @@ use Rattle.std.proofs.Common.{◌≡◌, ◌++◌, map, drop}
 use Rattle.std.specs.List.{IsDistinct}
 use Rattle.ioa_terms.specs.Bindings.{same_name}
 use Rattle.ioa_source.specs.TextView.{parameter_of, variable_of}
-use Rattle.ioa_system.specs.ResolvedPrograms.{variable_names, own_names}
+use Rattle.ioa_system.specs.InView.{variable_names, own_names}
 use Rattle.ioa_check.proofs.building.scope_for.Given as goal
 
 -- the names declared, which differ, and those that are left

@@ -9,4 +9,4 @@ use Rattle.ioa_check.proofs.resolving.resolve_parameters.Goals as goal
 pub returns-in_err-resolve_parameter-clause-refused : goal.returns-in_err-resolve_parameter-clause-refused
 returns-in_err-resolve_parameter-clause-refused c =
     let p = err_from_is_err_and c.from_residual.result c.from_residual.ensures.1 in
-    rw (p.1, p.2) (fails_each is_known_parameter is_number_constant parameter_of c.args.parameters.now c.loop-parameter.parameter-index c.parameter-item.result _ c.in_err-resolve_parameter.ensures.refused (omega arith) c.parameter-item.is)
+    rw (p.1, p.2) (fails_each (is_known_parameter c.args.given.now) is_number_constant parameter_of c.args.parameters.now c.loop-parameter.parameter-index c.parameter-item.result _ c.in_err-resolve_parameter.ensures.refused (omega arith) c.parameter-item.is)

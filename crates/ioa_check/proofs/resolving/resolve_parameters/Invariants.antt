@@ -1,6 +1,6 @@
 use Rattle.std.proofs.Common.{◌≡◌, map, take, drop}
 use Rattle.std.specs.List.{AllByRecursion, list_all}
-use Rattle.ioa_check.specs.Rows.{reads_no_name, is_number_constant}
+use Rattle.ioa_check.specs.Rows.{constant_reads_only, is_number_constant}
 use Rattle.ioa_source.specs.TextView.{parameter_of}
 use Rattle.ioa_source.specs.Erasure.{erase_parameter}
 use Rattle.ioa_system.specs.ResolvedPrograms.{AreResolvedParameters}
@@ -11,8 +11,8 @@ use Rattle.ioa_check.proofs.resolving.resolve_parameters.Given as goal
 abbrev pub invariant-loop-parameter : goal.invariant-loop-parameter
 invariant-loop-parameter l = record {
   same : map erase_parameter (map parameter_of l.resolved.items) ≡ map parameter_of (take l.parameter-index l.parameters);
-  resolved : AreResolvedParameters (map parameter_of l.resolved.items);
+  resolved : AreResolvedParameters l.given (map parameter_of l.resolved.items);
   shapes : AllByRecursion HasParameterShape (map parameter_of l.resolved.items);
   sorted : list_all is_number_constant (map parameter_of (drop l.parameter-index l.parameters)) ≡ list_all is_number_constant (map parameter_of l.parameters);
-  known : list_all reads_no_name (map parameter_of (drop l.parameter-index l.parameters)) ≡ list_all reads_no_name (map parameter_of l.parameters);
+  known : list_all (constant_reads_only l.given) (map parameter_of (drop l.parameter-index l.parameters)) ≡ list_all (constant_reads_only l.given) (map parameter_of l.parameters);
 }

@@ -8,4 +8,4 @@ use Rattle.ioa_compose.proofs.rule.arguments_agree.Goals as goal
 pub returns-then-parameters-arguments : goal.returns-then-parameters-arguments
 returns-then-parameters-arguments c =
     let n = length-map c.args.parameters.now (parameter_of {N = ℕ} {D = Shape}) in
-    sym (arguments_agree_short (map parameter_of c.args.parameters.now) c.args.arguments.now (λ e. omega arith))
+    sym (arguments_agree_short c.args.env.now (map parameter_of c.args.parameters.now) c.args.arguments.now (λ e. omega arith))

@@ -2,7 +2,7 @@ use Rattle.std.proofs.Common.{◌≡◌, min, length, map, refl, arith}
 use Rattle.ioa_operators.proofs.SameLists.{same_ended}
 use Rattle.ioa_source.specs.TextView.{variable_of}
 use Rattle.ioa_system.specs.SameParts.{same_variables}
-use Rattle.ioa_system.proofs.program.are_same_variables.Goals as goal
+use Rattle.ioa_system.proofs.automaton.are_same_variables.Goals as goal
 
 -- the shorter list has ended
 pub returns : goal.returns

@@ -1,7 +1,7 @@
 use Rattle.std.proofs.Common.{◌≡◌, drop, map}
 use Rattle.ioa_source.specs.TextView.{variable_of}
 use Rattle.ioa_system.specs.SameParts.{same_variables}
-use Rattle.ioa_system.proofs.program.are_same_variables.Given as goal
+use Rattle.ioa_system.proofs.automaton.are_same_variables.Given as goal
 
 -- what is left decides as the whole does
 abbrev pub invariant-loop-position : goal.invariant-loop-position

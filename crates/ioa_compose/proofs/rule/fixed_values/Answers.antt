@@ -2,7 +2,7 @@ use Rattle.std.proofs.Common.{sym, ◌∙◌, ap, arith, append-nil, ◌++◌, L
 use Rattle.ioa_source.specs.TextView.{parameter_of}
 use Rattle.ioa_values.specs.Data.{Data}
 use Rattle.ioa_compose.proofs.Arguments.{own_values_end}
-use Rattle.ioa_compose.proofs.rule.values_in_view.Goals as goal
+use Rattle.ioa_compose.proofs.rule.fixed_values.Goals as goal
 
 pub returns : goal.returns
 returns c =

@@ -1,0 +1,94 @@
+-- What the terms of an automaton may read (profile: the table of names).
+use Rattle.std.specs.Prelude.{ℕ, List, [], ◌∷◌, ◌++◌, map}
+use Rattle.ioa_values.specs.Data.{Data}
+use Rattle.ioa_terms.specs.Bindings.{Bindings, environment}
+use Rattle.ioa_source.specs.PlainText.{PlainAutomaton, PlainDeclared, PlainParameter, PlainVariable, const, named}
+use Rattle.ioa_source.specs.Sides.{CheckedParameter}
+use Rattle.ioa_system.specs.Parts.{AutomatonParts}
+
+-- where a term of an automaton is written: as a constant of an entry, as the initial value of a state variable, behind
+-- the `where` of an entry, in the guard or the effect of a transition, or in a firing of the schedule block
+pub data Site : Type 0 where
+  entry_constant : Site
+  initial_value : Site
+  entry_condition : Site
+  guard_or_effect : Site
+  firing : Site
+
+-- what is in view there of what the automaton's parameters, its state variables and the entry's own parameters have,
+-- their names or their values, in the order of the slots
+abbrev pub in_view : {A : Type 0} → Site → (parameters variables own : List A) → List A
+in_view entry_constant parameters variables own = parameters
+in_view initial_value parameters variables own = parameters
+in_view entry_condition parameters variables own = parameters ++ own
+in_view guard_or_effect parameters variables own = variables ++ (parameters ++ own)
+in_view firing parameters variables own = parameters ++ variables
+
+-- the names of an automaton's parameters
+abbrev pub parameter_names : {D : Type 0} → List (PlainDeclared D) → List (List ℕ)
+parameter_names ds = map (λ d. d.name) ds
+
+-- the names of state variables
+abbrev pub variable_names : {N D : Type 0} → List (PlainVariable N D) → List (List ℕ)
+variable_names vs = map (λ v. v.declared.name) vs
+
+-- the name of a parameter of an entry that has one
+abbrev pub own_name : {N D : Type 0} → PlainParameter N D → List (List ℕ)
+own_name (const t) = []
+own_name (named d) = d.name ∷ []
+
+-- the names of an entry's own parameters
+abbrev pub own_names : {N D : Type 0} → List (PlainParameter N D) → List (List ℕ)
+own_names [] = []
+own_names (p ∷ more) = own_name p ++ own_names more
+
+-- the names that an automaton declares, and those of the text's constants, which every term may read
+pub record DeclaredNames : Type 0 where
+  pub constants : List (List ℕ)
+  pub parameters : List (List ℕ)
+  pub variables : List (List ℕ)
+
+-- those of an automaton of a text with these constants
+abbrev pub source_names : {N D : Type 0} → List (List ℕ) → PlainAutomaton N D → DeclaredNames
+source_names cs a = record {
+  constants = cs;
+  parameters = parameter_names a.parameters;
+  variables = variable_names a.states;
+}
+
+-- and of an automaton that was made ready to step
+abbrev pub declared_names : AutomatonParts → DeclaredNames
+declared_names a = record {
+  constants = a.constants;
+  parameters = parameter_names a.parameters;
+  variables = variable_names a.variables;
+}
+
+-- the names in view at a site, the entry's own parameters being these: without the text's constants
+abbrev pub scope_at : Site → DeclaredNames → List (List ℕ) → List (List ℕ)
+scope_at site d own = in_view site d.parameters d.variables own
+
+-- all names that a term may read there
+abbrev pub names_at : Site → DeclaredNames → List (List ℕ) → List (List ℕ)
+names_at site d own = scope_at site d own ++ d.constants
+
+-- what a term reads there, if an automaton declares these names, the entry's own parameters have those, and each of
+-- them has its value among these: the names in view with their values, and the text's constants behind them
+abbrev pub environment_at : Site → DeclaredNames → (own_names : List (List ℕ)) → (arguments variables own : List Data)
+    → Bindings
+environment_at site d names arguments variables own =
+    environment (scope_at site d names) (in_view site arguments variables own) d.constants
+
+-- the same of an automaton that was made ready to step, and of an entry's parameters
+abbrev pub bindings_at : Site → AutomatonParts → (arguments variables : List Data)
+    → List CheckedParameter → (own : List Data) → Bindings
+bindings_at site a arguments variables ps own =
+    environment_at site (declared_names a) (own_names ps) arguments variables own
+
+-- what the constants of entries and the initial values read
+abbrev pub given_bindings : AutomatonParts → List Data → Bindings
+given_bindings a arguments = bindings_at entry_constant a arguments [] [] []
+
+-- what a firing reads
+abbrev pub firing_bindings : AutomatonParts → (arguments variables : List Data) → Bindings
+firing_bindings a arguments variables = bindings_at firing a arguments variables [] []

@@ -1,0 +1,261 @@
+//! An automaton of a text, made ready to step.
+
+ghost use Rattle.std.specs.Prelude.{◌≡◌, ◌↔◌, ◌++◌, [], IsTrue, All, map, length};
+ghost use Rattle.std.specs.Arc.{arc_value};
+ghost use Rattle.ioa_terms.specs.Bindings.{names_of};
+ghost use Rattle.ioa_terms.specs.View.{statement_of};
+ghost use Rattle.ioa_source.specs.TextView.{declared_of, variable_of};
+ghost use Rattle.ioa_system.specs.InView.{declared_names, names_at, scope_at, given_bindings, firing_bindings};
+ghost use Rattle.ioa_system.specs.InView.{entry_constant, initial_value, firing};
+ghost use Rattle.ioa_system.specs.Parts.{automaton_parts};
+ghost use Rattle.ioa_system.specs.ResolvedPrograms.{IsCompiled, IsResolvedRule};
+ghost use Rattle.ioa_system.specs.ResolvedPrograms.{AreResolvedFirings, AreResolvedVariables};
+ghost use Rattle.ioa_system.specs.SameParts.{same_rule, same_parameters, same_variables, same_automaton};
+
+use crate::scope::Scope;
+use ioa_source::{
+    Declared, Entry, Transition, Variable, is_same_declared, is_same_entry, is_same_transition,
+    is_same_variable,
+};
+use ioa_terms::{Env, Names, Shape, Statement, Value, Word, are_same_statements};
+use std::marker::Model;
+use std::sync::Arc;
+
+/// An entry of a signature with its transition (Lynch 8.1), and the names in view there: the state
+/// variables, and then the entry's own parameters. A contract sees plain data.
+#[derive(Drop)]
+pub struct Rule {
+    /// The entry.
+    pub entry: Entry<usize, Shape>,
+    /// Its transition.
+    pub transition: Transition<usize, Shape>,
+    /// The names in view in guard and effect. The slot of a name there is its index among these.
+    pub scope: Scope,
+}
+
+impl Model for Rule {
+    ghost use Rattle.ioa_system.specs.Parts.{PlainRule, rule_code};
+
+    ghost Value = { PlainRule };
+
+    ghost coded = { rule_code };
+
+    ghost use Rattle.ioa_source.specs.TextView.{entry_of, transition_of};
+
+    ghost view = { λ r.
+        record { entry = entry_of r.entry; transition = transition_of r.transition; scope = r.scope } };
+}
+
+impl Rule {
+    /// Whether two rules are the same. Costs time in proportion to the shorter one.
+    #[tactic(auto, using(crate::specs::SameParts::same_rule_is))]
+    pub fn equals(&self, other: &Self) -> bool
+        ensures equality { IsTrue result ↔ (self.now ≡ other.now) }
+    {
+        self.is_same(other)
+    }
+
+    /// Whether two rules are the same, part by part.
+    fn is_same(&self, other: &Self) -> bool
+        ensures { result ≡ same_rule self.now other.now }
+    {
+        is_same_entry(&self.entry, &other.entry)
+            && (is_same_transition(&self.transition, &other.transition)
+                && self.scope.as_slice() == other.scope.as_slice())
+    }
+}
+
+impl PartialEq for Rule {
+    ghost use Rattle.ioa_system.specs.SameParts.{same_rule, same_rule_partial};
+
+    ghost eq = { same_rule };
+
+    ghost laws = { same_rule_partial };
+
+    fn eq(&self, other: &Self) -> bool {
+        self.is_same(other)
+    }
+}
+
+/// An automaton of a text, made ready to step. The nodes on which it is placed share it. Its type
+/// guarantees that each name which a step, an initial value or a firing of the schedule reads is resolved to
+/// the slot of its value.
+#[derive(Drop)]
+pub struct CompiledAutomaton {
+    name: Word,
+    constants: Arc<Names>,
+    parameters: Vec<Declared<Shape>>,
+    variables: Vec<Variable<usize, Shape>>,
+    /// The names of the parameters, and then those of the state variables.
+    scope: Scope,
+    rules: Vec<Rule>,
+    schedule: Vec<Statement<usize, Shape>>,
+}
+
+impl Model for CompiledAutomaton {
+    ghost use Rattle.ioa_system.specs.Parts.{AutomatonParts, automaton_code};
+
+    ghost Value = { AutomatonParts };
+
+    ghost coded = { automaton_code };
+
+    ghost use Rattle.std.specs.Prelude.{map};
+    ghost use Rattle.std.specs.Arc.{arc_value};
+    ghost use Rattle.ioa_terms.specs.View.{statement_of};
+    ghost use Rattle.ioa_source.specs.TextView.{declared_of, variable_of};
+    ghost use Rattle.ioa_system.specs.Parts.{automaton_parts};
+
+    ghost view = { λ a. automaton_parts a.name (arc_value a.constants) (map declared_of a.parameters.items)
+        (map variable_of a.variables.items) a.rules.items (map statement_of a.schedule.items) };
+
+    ghost use Rattle.ioa_system.specs.ResolvedPrograms.{IsCompiled};
+
+    ghost invariant = { λ a. IsCompiled a.scope (automaton_parts a.name (arc_value a.constants)
+        (map declared_of a.parameters.items) (map variable_of a.variables.items) a.rules.items
+        (map statement_of a.schedule.items)) };
+}
+
+impl CompiledAutomaton {
+    /// The automaton of these parts. `constants` are the names of the text's constants, and `scope` has
+    /// the names that a firing reads besides them.
+    pub fn new(
+        name: Word,
+        constants: Arc<Names>,
+        parameters: Vec<Declared<Shape>>,
+        variables: Vec<Variable<usize, Shape>>,
+        scope: Scope,
+        rules: Vec<Rule>,
+        schedule: Vec<Statement<usize, Shape>>,
+    ) -> Self
+        requires { IsCompiled scope (automaton_parts name (arc_value constants) (map declared_of parameters.items)
+            (map variable_of variables.items) rules.items (map statement_of schedule.items)) }
+        ensures { result ≡ automaton_parts name (arc_value constants) (map declared_of parameters.items)
+            (map variable_of variables.items) rules.items (map statement_of schedule.items) }
+    {
+        CompiledAutomaton {
+            name,
+            constants,
+            parameters,
+            variables,
+            scope,
+            rules,
+            schedule,
+        }
+    }
+
+    /// Its name.
+    pub fn name(&self) -> &Word
+        ensures { result.now ≡ self.now.name }
+    {
+        &self.name
+    }
+
+    /// The names of the text's constants.
+    pub fn constants(&self) -> &[Word]
+        ensures { result.now ≡ self.now.constants }
+    {
+        self.constants.as_slice()
+    }
+
+    /// The parameters, to which a node gives values.
+    pub fn parameters(&self) -> &[Declared<Shape>]
+        ensures { map declared_of result.now ≡ self.now.parameters }
+    {
+        self.parameters.as_slice()
+    }
+
+    /// The state variables, in the order of their declaration.
+    pub fn variables(&self) -> &[Variable<usize, Shape>]
+        ensures value { map variable_of result.now ≡ self.now.variables }
+        ensures resolved { AreResolvedVariables (names_at initial_value (declared_names self.now) [])
+            (map variable_of result.now) }
+    {
+        self.variables.as_slice()
+    }
+
+    /// The entries with their transitions, in the order of the signature.
+    pub fn rules(&self) -> &[Rule]
+        ensures value { result.now ≡ self.now.rules }
+        ensures resolved { All (IsResolvedRule (declared_names self.now)) result.now }
+    {
+        self.rules.as_slice()
+    }
+
+    /// The statements of the schedule block.
+    pub fn schedule(&self) -> &[Statement<usize, Shape>]
+        ensures value { map statement_of result.now ≡ self.now.schedule }
+        ensures resolved { AreResolvedFirings (map statement_of result.now)
+            (names_at firing (declared_names self.now) []) }
+    {
+        self.schedule.as_slice()
+    }
+
+    /// What constants of entries and initial values read, if a node gives the parameters these values.
+    pub fn given_env<'a>(&'a self, arguments: &'a [Value]) -> Env<'a>
+        requires { length arguments.now ≡ length self.now.parameters }
+        ensures value { result ≡ given_bindings self.now arguments.now }
+        ensures names { names_of result ≡ names_at entry_constant (declared_names self.now) [] }
+    {
+        let names = &self.scope.as_slice()[..self.parameters.len()];
+        Env::with_constants(names, arguments, self.constants.as_slice())
+    }
+
+    /// What a firing reads, if a node gives the parameters and the state variables these values.
+    pub fn firing_env<'a>(&'a self, arguments: &'a [Value], variables: &'a [Value]) -> Env<'a>
+        requires given { length arguments.now ≡ length self.now.parameters }
+        requires valued { length variables.now ≡ length self.now.variables }
+        ensures value { result ≡ firing_bindings self.now arguments.now variables.now }
+        ensures names { names_of result ≡ names_at firing (declared_names self.now) [] }
+    {
+        let names = self.scope.as_slice();
+        Env::with_given(names, arguments, variables, self.constants.as_slice())
+    }
+
+    /// Whether two automata are the same, whatever memory they are kept in. Costs time in proportion to
+    /// the shorter one.
+    #[tactic(auto, using(crate::specs::SameParts::same_automaton_is))]
+    pub fn equals(&self, other: &Self) -> bool
+        ensures equality { IsTrue result ↔ (self.now ≡ other.now) }
+    {
+        self.is_same(other)
+    }
+
+    /// Whether two automata are the same, part by part.
+    pub(crate) fn is_same(&self, other: &Self) -> bool
+        ensures { result ≡ same_automaton self.now other.now }
+    {
+        self.name == other.name
+            && (self.constants.as_slice() == other.constants.as_slice()
+                && (are_same_parameters(&self.parameters, &other.parameters)
+                    && (are_same_variables(&self.variables, &other.variables)
+                        && (self.rules == other.rules
+                            && are_same_statements(&self.schedule, &other.schedule)))))
+    }
+}
+
+/// Whether parameters are the same, one by one, and as many.
+fn are_same_parameters(parameters: &Vec<Declared<Shape>>, others: &Vec<Declared<Shape>>) -> bool
+    ensures { result ≡ same_parameters (map declared_of parameters.now.items) (map declared_of others.now.items) }
+{
+    for position in 0..parameters.len().min(others.len()) {
+        if !is_same_declared(&parameters[position], &others[position]) {
+            return false;
+        }
+    }
+    parameters.len() == others.len()
+}
+
+/// Whether state variables are the same, one by one, and as many.
+fn are_same_variables(
+    variables: &Vec<Variable<usize, Shape>>,
+    others: &Vec<Variable<usize, Shape>>,
+) -> bool
+    ensures { result ≡ same_variables (map variable_of variables.now.items) (map variable_of others.now.items) }
+{
+    for position in 0..variables.len().min(others.len()) {
+        if !is_same_variable(&variables[position], &others[position]) {
+            return false;
+        }
+    }
+    variables.len() == others.len()
+}
