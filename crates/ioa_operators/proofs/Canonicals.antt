@@ -7,7 +7,7 @@ use Rattle.std.specs.Result.{IfOk}
 use Rattle.ioa_values.proofs.AllOf.{all_appended}
 use Rattle.ioa_values.proofs.AllKept.{one_of_all, all_replaced, all_of_list, all_of_either, all_with_entry, all_without_key, value_at_holds}
 use Rattle.ioa_values.proofs.Ascending.{all_with, all_without, with_member_ascends, without_member_ascends, set_of_ascends, union_ascends, with_entry_ascends, without_key_ascends}
-use Rattle.ioa_values.specs.Data.{Data, Items, Entries, number, truth, constant, tuple, sequence, finite_set, finite_map, no_items, item, no_entries, entry, list_of, pairs_of, items_of, entries_of, as_number, as_truth, is_within}
+use Rattle.ioa_values.specs.Data.{Data, number, truth, constant, tuple, sequence, finite_set, finite_map, list_of, items_of, as_number, as_truth, is_within}
 use Rattle.ioa_values.specs.Collections.{IsAscending, keys_of, with_member, without_member, set_of, union, value_at, with_entry, without_key}
 use Rattle.ioa_operators.specs.Operators.{sequence_of, finite_set_of, finite_map_of, as_sequence, as_set, as_map, unary_value, binary_value, first, rest, count, is_there, call_one, call_two, call_three, call_value, same_truth}
 use Rattle.ioa_operators.specs.Shapes.{PlainShape, tuples, sequences, sets, maps, display_value, field_value, with_field, field_position, replaced_part, have_shapes}
@@ -22,26 +22,9 @@ use Rattle.ioa_operators.specs.declared.operator.Function.{Function}
 use Rattle.ioa_operators.specs.declared.operator.Function.TheVariants as fun
 use Rattle.ioa_operators.specs.declared.shape.DisplayForm.{DisplayForm}
 use Rattle.ioa_operators.specs.declared.shape.DisplayForm.TheVariants.{Braces, Brackets}
-use Rattle.ioa_operators.specs.Canonical.{IsCanonical, IsCanonicalEntry, AreCanonical, AreCanonicalEntries, AllCanonical, AllEntriesCanonical}
+use Rattle.ioa_values.specs.Canonical.{IsCanonical, IsCanonicalEntry, AllCanonical, AllEntriesCanonical}
 use Rattle.ioa_operators.proofs.Holding.{map_holds, and_then_holds, map_holds_any, and_then_holds_any, test_holds, numbers_hold, truths_hold, division_holds, member_holds, size_holds, first_holds, rest_holds}
-use Rattle.ioa_operators.proofs.ItemLists.{list_of_items, pairs_of_entries}
-
--- canonical items are a list of canonical values, and back
-pub all_items : (ds : Items) → AreCanonical ds → AllCanonical (list_of ds)
-all_items no_items h = tt
-all_items (item d ds) h = (h.0, all_items ds h.1)
-
-pub items_all : (ds : List Data) → AllCanonical ds → AreCanonical (items_of ds)
-items_all [] h = tt
-items_all (d ∷ ds) h = (h.0, items_all ds h.1)
-
-pub all_entries : (es : Entries) → AreCanonicalEntries es → AllEntriesCanonical (pairs_of es)
-all_entries no_entries h = tt
-all_entries (entry k v es) h = (h.0, all_entries es h.1)
-
-pub entries_all : (es : List (Data × Data)) → AllEntriesCanonical es → AreCanonicalEntries (entries_of es)
-entries_all [] h = tt
-entries_all (p ∷ es) h = (h.0, entries_all es h.1)
+use Rattle.ioa_values.proofs.Canonicals.{all_items, items_all, all_entries, made_set, made_map}
 
 -- the parts of a canonical value, if it is of their kind
 sequence_items : (x : Data) → IsCanonical x → IfSome (as_sequence x) AllCanonical
@@ -70,13 +53,6 @@ map_entries (tuple ds) h = tt
 map_entries (sequence ds) h = tt
 map_entries (finite_set ds) h = tt
 map_entries (finite_map es) h = (h.0, all_entries es h.1)
-
--- sets and maps made of lists
-made_set : (ds : List Data) → IsAscending ds → AllCanonical ds → IsCanonical (finite_set_of ds)
-made_set ds a h = (rw (list_of_items ds) a, items_all ds h)
-
-made_map : (es : List (Data × Data)) → IsAscending (keys_of es) → AllEntriesCanonical es → IsCanonical (finite_map_of es)
-made_map es a h = (rw (pairs_of_entries es) a, entries_all es h)
 
 -- an operator before a value
 pub unary_canonical : (op : UnaryOperator) (x : Data) → IfSome (unary_value op x) IsCanonical

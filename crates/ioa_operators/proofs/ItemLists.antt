@@ -1,16 +1,8 @@
--- Lists of values and of entries, there and back.
-use Rattle.std.proofs.Common.{◌≡◌, List, [], ◌∷◌, refl, ap, length, ◌==◌, false, Some}
+-- Lists of values of which the first is taken.
+use Rattle.std.proofs.Common.{◌≡◌, List, [], ◌∷◌, refl, length, ◌==◌, false, Some}
 use Rattle.std.specs.List.{remove}
-use Rattle.ioa_values.specs.Data.{Data, items_of, list_of, entries_of, pairs_of}
+use Rattle.ioa_values.specs.Data.{Data}
 use Rattle.ioa_operators.specs.Operators.{rest, sequence_of}
-
-pub list_of_items : (ds : List Data) → list_of (items_of ds) ≡ ds
-list_of_items [] = refl
-list_of_items (d ∷ ds) = ap (λ (xs : List Data). d ∷ xs) (list_of_items ds)
-
-pub pairs_of_entries : (es : List (Data × Data)) → pairs_of (entries_of es) ≡ es
-pairs_of_entries [] = refl
-pairs_of_entries (e ∷ es) = ap (λ (xs : List (Data × Data)). e ∷ xs) (pairs_of_entries es)
 
 -- what follows the first item of a list that is not empty
 pub rest_of_some : (ds : List Data) → (length ds == 0) ≡ false → rest ds ≡ Some (sequence_of (remove ds 0))

@@ -1,5 +1,4 @@
 -- what the contracts of this crate and of those above it cite
-pub mod Canonical
 pub mod TermFaultText
 pub mod RangeCheck
 pub mod Operators

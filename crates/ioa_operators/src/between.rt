@@ -1,7 +1,7 @@
 //! The operators of the language between values.
 
 ghost use Rattle.std.specs.Prelude.{IfOk, false};
-ghost use Rattle.ioa_operators.specs.Canonical.{IsCanonical};
+ghost use Rattle.ioa_values.specs.Canonical.{IsCanonical};
 ghost use Rattle.ioa_values.specs.Outcome.{Answers};
 ghost use Rattle.ioa_operators.specs.RangeCheck.{AnswersOrLacks, LacksMemoryOnlyIf, checked_result};
 ghost use Rattle.ioa_operators.specs.Operators.{unary_value, binary_value, operator_takes_memory};

@@ -1,7 +1,7 @@
 //! Displays: `{..}` and `[..]`.
 
 ghost use Rattle.std.specs.Prelude.{IfOk};
-ghost use Rattle.ioa_operators.specs.Canonical.{AllCanonical, IsCanonical};
+ghost use Rattle.ioa_values.specs.Canonical.{AllCanonical, IsCanonical};
 ghost use Rattle.ioa_values.specs.Outcome.{Answers};
 ghost use Rattle.ioa_operators.specs.RangeCheck.{AnswersOrLacks, LacksMemoryOnlyIf, checked_result};
 ghost use Rattle.ioa_operators.specs.Shapes.{display_value, display_takes_memory};

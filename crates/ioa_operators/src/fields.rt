@@ -1,7 +1,7 @@
 //! The fields of tuples.
 
 ghost use Rattle.std.specs.Prelude.{◌≡◌, IfOk, slice_set, ◌<◌, length, false};
-ghost use Rattle.ioa_operators.specs.Canonical.{IsCanonical};
+ghost use Rattle.ioa_values.specs.Canonical.{IsCanonical};
 ghost use Rattle.ioa_values.specs.Outcome.{Answers};
 ghost use Rattle.ioa_operators.specs.RangeCheck.{AnswersOrLacks, LacksMemoryOnlyIf, checked_result};
 ghost use Rattle.ioa_operators.specs.Shapes.{field_position, field_value, part_named, with_field, with_part};

@@ -1,7 +1,7 @@
 //! The functions of the language.
 
 ghost use Rattle.std.specs.Prelude.{◌≡◌, IfOk, None, MatchOption};
-ghost use Rattle.ioa_operators.specs.Canonical.{AllCanonical, IsCanonical};
+ghost use Rattle.ioa_values.specs.Canonical.{AllCanonical, IsCanonical};
 ghost use Rattle.ioa_values.specs.Outcome.{Answers};
 ghost use Rattle.ioa_operators.specs.RangeCheck.{AnswersOrLacks, LacksMemoryOnlyIf, checked_result};
 ghost use Rattle.ioa_operators.specs.CallParts.{list_of_parts};

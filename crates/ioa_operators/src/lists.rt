@@ -39,7 +39,7 @@ pub(crate) fn concatenate(left: Value, right: Value) -> Result<Value, TermFault>
 }
 
 /// Whether a value is an item of a sequence or a member of a set. Costs one comparison an item.
-#[tactic(auto, using(crate::proofs::ItemLists::list_of_items))]
+#[tactic(auto, using(ioa_values::proofs::ItemLists::list_of_items))]
 pub(crate) fn membership(value: &Value, whole: &Value) -> Result<Value, TermFault>
     ensures { AnswersOrLacks false result (binary_value BinaryOperator.Member value.now whole.now) }
 {
@@ -84,7 +84,7 @@ pub(crate) fn length(sequence: Value) -> Result<Value, TermFault>
 }
 
 /// How many members a set has, or how many keys a map has.
-#[tactic(auto, using(crate::proofs::ItemLists::list_of_items, crate::proofs::ItemLists::pairs_of_entries))]
+#[tactic(auto, using(ioa_values::proofs::ItemLists::list_of_items, ioa_values::proofs::ItemLists::pairs_of_entries))]
 pub(crate) fn size(whole: &Value) -> Result<Value, TermFault>
     ensures { AnswersOrLacks false result (call_one Function.Size whole.now) }
 {

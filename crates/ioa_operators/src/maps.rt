@@ -21,7 +21,7 @@ pub(crate) fn map(entries: Vec<(Value, Value)>) -> Value
 }
 
 /// A copy of the value of a map at a key. Costs time in proportion to the map's entries and to that value.
-#[tactic(auto, using(crate::proofs::ItemLists::pairs_of_entries))]
+#[tactic(auto, using(ioa_values::proofs::ItemLists::pairs_of_entries))]
 pub(crate) fn at_key(alloc: Global, whole: &Value, key: &Value) -> Result<Value, TermFault>
     ensures { AnswersOrLacks true result (binary_value BinaryOperator.At whole.now key.now) }
 {
@@ -52,7 +52,7 @@ pub(crate) fn remove(whole: Value, key: &Value) -> Result<Value, TermFault>
 }
 
 /// Whether a map has a key. Costs time in proportion to the map's entries.
-#[tactic(auto, using(crate::proofs::ItemLists::pairs_of_entries))]
+#[tactic(auto, using(ioa_values::proofs::ItemLists::pairs_of_entries))]
 pub(crate) fn key_membership(whole: &Value, key: &Value) -> Result<Value, TermFault>
     ensures { AnswersOrLacks false result (call_two Function.Defined whole.now key.now) }
 {

@@ -24,7 +24,7 @@ pub(crate) fn truth_of(value: &Value) -> Result<bool, TermFault>
 }
 
 /// The items of a sequence, with their memory.
-#[tactic(auto, using(crate::proofs::ItemLists::list_of_items))]
+#[tactic(auto, using(ioa_values::proofs::ItemLists::list_of_items))]
 pub(crate) fn items_of_sequence(value: Value) -> Result<Vec<Value>, TermFault>
     ensures { Takes (λ v. v.items) result (as_sequence value) }
 {
@@ -35,7 +35,7 @@ pub(crate) fn items_of_sequence(value: Value) -> Result<Vec<Value>, TermFault>
 }
 
 /// The members of a set, with their memory.
-#[tactic(auto, using(crate::proofs::ItemLists::list_of_items))]
+#[tactic(auto, using(ioa_values::proofs::ItemLists::list_of_items))]
 pub(crate) fn members_of_set(value: Value) -> Result<Vec<Value>, TermFault>
     ensures { Takes (λ v. v.items) result (as_set value) }
 {
@@ -46,7 +46,7 @@ pub(crate) fn members_of_set(value: Value) -> Result<Vec<Value>, TermFault>
 }
 
 /// The entries of a map, with their memory.
-#[tactic(auto, using(crate::proofs::ItemLists::pairs_of_entries))]
+#[tactic(auto, using(ioa_values::proofs::ItemLists::pairs_of_entries))]
 pub(crate) fn entries_of_map(value: Value) -> Result<Vec<(Value, Value)>, TermFault>
     ensures { Takes (λ v. v.items) result (as_map value) }
 {
@@ -57,7 +57,7 @@ pub(crate) fn entries_of_map(value: Value) -> Result<Vec<(Value, Value)>, TermFa
 }
 
 /// The parts of a tuple, with their memory.
-#[tactic(auto, using(crate::proofs::ItemLists::list_of_items))]
+#[tactic(auto, using(ioa_values::proofs::ItemLists::list_of_items))]
 pub(crate) fn parts_of_tuple(value: Value) -> Result<Vec<Value>, TermFault>
     ensures { Takes (λ v. v.items) result (as_tuple value) }
 {

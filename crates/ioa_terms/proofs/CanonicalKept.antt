@@ -4,7 +4,7 @@ use Rattle.std.specs.Option.{IfSome, option_and_then, option_map, option_or}
 use Rattle.ioa_values.specs.Data.{Data, truth}
 use Rattle.ioa_operators.specs.Operators.{unary_value, binary_value, left_decision, function_named, call_value}
 use Rattle.ioa_operators.specs.Shapes.{PlainShape, has_shape, display_value, field_value, with_field}
-use Rattle.ioa_operators.specs.Canonical.{IsCanonical, AllCanonical}
+use Rattle.ioa_values.specs.Canonical.{IsCanonical, AllCanonical}
 use Rattle.ioa_terms.specs.Bindings.{Bindings, same_name, lookup, put}
 use Rattle.ioa_terms.specs.PlainTerm as plain
 use Rattle.ioa_terms.specs.PlainTerm.{PlainTerm, PlainTerms, name, one, two, call, display, field, no_terms, term, PlainTarget, variable, at_key, at_field, PlainStatement, PlainStatements, PlainArms, assign, choose, fire, no_statements, statement, no_arms, arm, statements_of}

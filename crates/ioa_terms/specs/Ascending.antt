@@ -1,6 +1,6 @@
 -- Environments in whose values every set and every map, at any depth, ascends (profile).
 use Rattle.std.specs.List.{AllByRecursion}
-use Rattle.ioa_operators.specs.Canonical.{IsCanonical}
+use Rattle.ioa_values.specs.Canonical.{IsCanonical}
 use Rattle.ioa_terms.specs.Bindings.{Bindings}
 
 -- each value is canonical, also one whose name an earlier pair has

@@ -4,7 +4,7 @@ pub use Rattle.ioa_values.specs.Data
 pub use Rattle.ioa_values.specs.DataOrder
 pub use Rattle.ioa_values.specs.Outcome
 pub use Rattle.ioa_values.specs.Text
-pub use Rattle.ioa_operators.specs.Canonical
+pub use Rattle.ioa_values.specs.Canonical
 pub use Rattle.ioa_operators.specs.RangeCheck
 pub use Rattle.ioa_operators.specs.Operators
 pub use Rattle.ioa_operators.specs.Shapes

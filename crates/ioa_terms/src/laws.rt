@@ -6,7 +6,7 @@ ghost use Rattle.ioa_values.specs.Data.{Data, items_of};
 ghost use Rattle.ioa_operators.specs.Operators.{unary_value, binary_value, call_value};
 ghost use Rattle.ioa_operators.specs.Shapes.{PlainShape, shapes_of, wide_shape, has_shape, have_shapes};
 ghost use Rattle.ioa_operators.specs.Shapes.{display_value, field_value};
-ghost use Rattle.ioa_operators.specs.Canonical.{IsCanonical};
+ghost use Rattle.ioa_values.specs.Canonical.{IsCanonical};
 ghost use Rattle.ioa_terms.specs.Bindings.{Bindings, same_name, lookup, put};
 ghost use Rattle.ioa_terms.specs.Meaning.{value};
 ghost use Rattle.ioa_terms.specs.PlainTerm.{PlainTerm, PlainStatement};

@@ -2,11 +2,13 @@
 pub mod AllKept
 pub mod AllOf
 pub mod Ascending
+pub mod Canonicals
 pub mod Commas
 pub mod Endings
 pub mod Equality
 pub mod Falls
 pub mod Halves
+pub mod ItemLists
 pub mod Members
 pub mod Merging
 pub mod Positions

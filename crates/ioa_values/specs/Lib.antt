@@ -1,4 +1,5 @@
 -- what the contracts of this crate and of those above it cite
+pub mod Canonical
 pub mod Collections
 pub mod Data
 pub mod DataCode
