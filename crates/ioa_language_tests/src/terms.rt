@@ -13,7 +13,6 @@ use ioa_terms::{
     Arm, BinaryOperator, Checked, DisplayForm, Env, Names, Shape, ShapeForm, Statement, Target,
     TermFault, UnaryOperator, Value, Word, eval, perform, show,
 };
-use ioa_values::ValueForm;
 use std::alloc::{AllocError, Global};
 use std::sync::Arc;
 use std::test::Fail;
@@ -558,9 +557,7 @@ fn values(alloc: Global) -> Result<Vec<Value>, Fail> {
     values.push(Value::number(1))?;
     values.push(Value::number(2))?;
     values.push(Value::number(0))?;
-    values.push(Value {
-        form: ValueForm::Map(Vec::new(alloc)),
-    })?;
+    values.push(Value::map(Vec::new(alloc)))?;
     values.push(Value::tuple(pair))?;
     Ok(values)
 }

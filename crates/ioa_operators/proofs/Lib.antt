@@ -5,7 +5,6 @@ pub mod SameLists
 pub mod ShapeLists
 pub mod Canonicals
 pub mod Falls
-pub mod Ascents
 pub mod WideShapes
 pub mod Memory
 pub mod Decisions

@@ -7,7 +7,6 @@ ghost use Rattle.ioa_operators.specs.RangeCheck.{AnswersOrLacks, LacksMemoryOnly
 ghost use Rattle.ioa_operators.specs.Shapes.{display_value, display_takes_memory};
 
 use crate::fault::TermFault;
-use crate::maps::map;
 use crate::sets::set_of_values;
 use crate::shape::{DisplayForm, Shape, ShapeForm, each_admits};
 use ioa_values::Value;
@@ -58,7 +57,7 @@ fn braces(alloc: Global, shape: &Shape, parts: Vec<Value>) -> Result<Value, Term
         ShapeForm::Sequences(_) => Ok(Value::sequence(parts)),
         ShapeForm::Sets(_) => set_of_values(alloc, parts),
         ShapeForm::Maps(_, _) => match parts.as_slice() {
-            [] => Ok(map(Vec::new(alloc))),
+            [] => Ok(Value::map(Vec::new(alloc))),
             [_, ..] => Err(TermFault::Undefined),
         },
         _ => Err(TermFault::Undefined),

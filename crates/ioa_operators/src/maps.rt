@@ -1,7 +1,6 @@
 //! Operators and functions of finite maps.
 
-ghost use Rattle.std.specs.Prelude.{◌≡◌, true, false};
-ghost use Rattle.ioa_values.specs.Data.{finite_map, entries_of};
+ghost use Rattle.std.specs.Prelude.{true, false};
 ghost use Rattle.ioa_operators.specs.RangeCheck.{AnswersOrLacks};
 ghost use Rattle.ioa_operators.specs.Operators.{binary_value, call_two, call_three};
 
@@ -10,15 +9,6 @@ use crate::operator::{BinaryOperator, Function};
 use crate::parts::entries_of_map;
 use ioa_values::{Value, ValueForm, collections};
 use std::alloc::Global;
-
-/// The map of these entries, whose keys ascend.
-pub(crate) fn map(entries: Vec<(Value, Value)>) -> Value
-    ensures { result ≡ finite_map (entries_of entries.items) }
-{
-    Value {
-        form: ValueForm::Map(entries),
-    }
-}
 
 /// A copy of the value of a map at a key. Costs time in proportion to the map's entries and to that value.
 #[tactic(auto, using(ioa_values::proofs::ItemLists::pairs_of_entries))]
@@ -40,7 +30,7 @@ pub(crate) fn update(whole: Value, key: Value, value: Value) -> Result<Value, Te
 {
     let entries = entries_of_map(whole)?;
     let entries = collections::update(entries, key, value)?;
-    Ok(map(entries))
+    Ok(Value::map(entries))
 }
 
 /// A map without a key. Costs time in proportion to the map, and takes no memory.
@@ -48,7 +38,7 @@ pub(crate) fn remove(whole: Value, key: &Value) -> Result<Value, TermFault>
     ensures { AnswersOrLacks false result (call_two Function.Remove whole key.now) }
 {
     let entries = entries_of_map(whole)?;
-    Ok(map(collections::remove_key(entries, key)))
+    Ok(Value::map(collections::remove_key(entries, key)))
 }
 
 /// Whether a map has a key. Costs time in proportion to the map's entries.

@@ -1,7 +1,8 @@
 //! The parts that operators take, as what they have to be.
 
-ghost use Rattle.std.specs.Prelude.{Some, pos, false};
+ghost use Rattle.std.specs.Prelude.{IfOk, Some, pos, false};
 ghost use Rattle.ioa_values.specs.Data.{number, as_number, as_truth};
+ghost use Rattle.ioa_values.specs.Collections.{IsAscending, keys_of};
 ghost use Rattle.ioa_operators.specs.Operators.{as_tuple, as_sequence, as_set, as_map};
 ghost use Rattle.ioa_operators.specs.RangeCheck.{AnswersOrLacks};
 ghost use Rattle.ioa_operators.specs.CallParts.{Takes};
@@ -34,10 +35,11 @@ pub(crate) fn items_of_sequence(value: Value) -> Result<Vec<Value>, TermFault>
     }
 }
 
-/// The members of a set, with their memory.
+/// The members of a set, with their memory. They ascend, as every set keeps them.
 #[tactic(auto, using(ioa_values::proofs::ItemLists::list_of_items))]
 pub(crate) fn members_of_set(value: Value) -> Result<Vec<Value>, TermFault>
-    ensures { Takes (λ v. v.items) result (as_set value) }
+    ensures members { Takes (λ v. v.items) result (as_set value) }
+    ensures ascending { IfOk result (λ v. IsAscending v.items) }
 {
     match value.form {
         ValueForm::Set(members) => Ok(members),
@@ -45,10 +47,11 @@ pub(crate) fn members_of_set(value: Value) -> Result<Vec<Value>, TermFault>
     }
 }
 
-/// The entries of a map, with their memory.
+/// The entries of a map, with their memory. Their keys ascend, as every map keeps them.
 #[tactic(auto, using(ioa_values::proofs::ItemLists::pairs_of_entries))]
 pub(crate) fn entries_of_map(value: Value) -> Result<Vec<(Value, Value)>, TermFault>
-    ensures { Takes (λ v. v.items) result (as_map value) }
+    ensures entries { Takes (λ v. v.items) result (as_map value) }
+    ensures ascending { IfOk result (λ v. IsAscending (keys_of v.items)) }
 {
     match value.form {
         ValueForm::Map(entries) => Ok(entries),

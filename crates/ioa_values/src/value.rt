@@ -2,8 +2,9 @@
 
 ghost use Rattle.std.specs.Prelude.{◌≡◌, ◌↔◌, IfOk, IsTrue, true};
 ghost use Rattle.std.specs.Ordering.{ordering_then};
-ghost use Rattle.ioa_values.specs.Data.{number, truth, constant, tuple, sequence, items_of, entries_of};
-ghost use Rattle.ioa_values.specs.Data.{as_number, as_truth, is_within};
+ghost use Rattle.ioa_values.specs.Data.{number, truth, constant, tuple, sequence, finite_set, finite_map};
+ghost use Rattle.ioa_values.specs.Data.{items_of, entries_of, as_number, as_truth, is_within};
+ghost use Rattle.ioa_values.specs.Collections.{IsAscending, keys_of};
 ghost use Rattle.ioa_values.specs.DataOrder.{same, data_cmp, items_cmp, entries_cmp, kind};
 
 use std::alloc::{AllocError, Global};
@@ -11,7 +12,8 @@ use std::cmp::Ordering;
 use std::marker::Model;
 
 /// A value of the language: a number, a truth value, a constant, a tuple, a sequence, a finite set or
-/// a finite map. Numbers are kept in 64 bits; a contract sees the number itself.
+/// a finite map. Numbers are kept in 64 bits; a contract sees the number itself. Every value keeps that
+/// the members of a set and the keys of a map ascend without doubles, and so does each value inside it.
 #[cycle(value)]
 #[derive(Debug, Drop)]
 pub struct Value {
@@ -49,9 +51,11 @@ impl Model for Value {
     ghost coded = { data_code };
 
     ghost use Rattle.ioa_values.specs.Depth.{depth};
-    ghost use Rattle.ioa_values.specs.ValueForm.{data_of};
+    ghost use Rattle.ioa_values.specs.ValueForm.{data_of, IsAscendingForm};
 
     ghost view = { λ v. data_of v.form };
+
+    ghost invariant = { λ v. IsAscendingForm v.form };
 
     ghost size = { depth };
 
@@ -106,6 +110,26 @@ impl Value {
         }
     }
 
+    /// A set of its members, which ascend without doubles.
+    pub fn set(members: Vec<Value>) -> Self
+        requires { IsAscending members.items }
+        ensures { result ≡ finite_set (items_of members.items) }
+    {
+        Value {
+            form: ValueForm::Set(members),
+        }
+    }
+
+    /// A map of its entries, whose keys ascend without doubles.
+    pub fn map(entries: Vec<(Value, Value)>) -> Self
+        requires { IsAscending (keys_of entries.items) }
+        ensures { result ≡ finite_map (entries_of entries.items) }
+    {
+        Value {
+            form: ValueForm::Map(entries),
+        }
+    }
+
     /// The number, if the value is one.
     pub fn as_number(&self) -> Option<i64>
         ensures { result ≡ as_number self.now }
@@ -134,16 +158,15 @@ impl Value {
         ensures equal { IfOk result (λ v. v ≡ self.now) }
         ensures within { is_within self.now ≡ true }
     {
-        let form = match &self.form {
-            ValueForm::Number(n) => ValueForm::Number(*n),
-            ValueForm::Truth(b) => ValueForm::Truth(*b),
-            ValueForm::Constant(index) => ValueForm::Constant(*index),
-            ValueForm::Tuple(parts) => ValueForm::Tuple(copy_values(alloc, parts)?),
-            ValueForm::Sequence(items) => ValueForm::Sequence(copy_values(alloc, items)?),
-            ValueForm::Set(members) => ValueForm::Set(copy_values(alloc, members)?),
-            ValueForm::Map(entries) => ValueForm::Map(copy_entries(alloc, entries)?),
-        };
-        Ok(Value { form })
+        match &self.form {
+            ValueForm::Number(n) => Ok(Value::number(*n)),
+            ValueForm::Truth(b) => Ok(Value::truth(*b)),
+            ValueForm::Constant(index) => Ok(Value::constant(*index)),
+            ValueForm::Tuple(parts) => Ok(Value::tuple(copy_values(alloc, parts)?)),
+            ValueForm::Sequence(items) => Ok(Value::sequence(copy_values(alloc, items)?)),
+            ValueForm::Set(members) => Ok(Value::set(copy_values(alloc, members)?)),
+            ValueForm::Map(entries) => Ok(Value::map(copy_entries(alloc, entries)?)),
+        }
     }
 
     /// The position of the value's kind in the order of kinds.
