@@ -11,5 +11,6 @@ pub mod Halves
 pub mod ItemLists
 pub mod Members
 pub mod Merging
+pub mod Outcomes
 pub mod Positions
 pub mod Rules

@@ -3,6 +3,7 @@
 ghost use Rattle.std.specs.Prelude.{◌≡◌, ◌++◌, IfOk, OnOk, [], string_bytes, codes, get_or};
 ghost use Rattle.std.specs.Fmt.{signed_decimal};
 ghost use Rattle.ioa_values.specs.Data.{items_of, entries_of};
+ghost use Rattle.ioa_values.specs.Canonical.{IsCanonical, AllCanonical, AllEntriesCanonical};
 ghost use Rattle.ioa_values.specs.Outcome.{Writes};
 ghost use Rattle.ioa_values.specs.Text.{text, texts, entry_texts, with_commas, separator};
 
@@ -53,9 +54,12 @@ impl Names {
 
 /// The text of a value (profile): a number is decimal with `-` for a negative one, a truth value is
 /// `true` or `false`, a constant is its name, a tuple is `[a, b]`, a sequence or a set `{a, b}`, and a
-/// map `{k -> v, l -> w}`. A constant without a name has no text.
+/// map `{k -> v, l -> w}`. A constant without a name has no text. If the text is written, every set and
+/// every map in the value, at any depth, ascends, and the text has their members and entries in that order.
+/// If memory runs out, nothing is said of what lies inside the value.
 pub fn show(alloc: Global, names: &Names, value: &Value) -> Result<String, AllocError>
-    ensures { IfOk result (λ s. string_bytes s ≡ text names.now value.now) }
+    ensures text { IfOk result (λ s. string_bytes s ≡ text names.now value.now) }
+    ensures ascending { OnOk result (IsCanonical value.now) }
 {
     let mut output = String::new(alloc);
     push_shown(&mut output, names, value)?;
@@ -63,11 +67,12 @@ pub fn show(alloc: Global, names: &Names, value: &Value) -> Result<String, Alloc
 }
 
 /// Writes the text of a value behind what is already written. If memory runs out, a part of the text
-/// may have been written.
+/// may have been written, and nothing is said of what lies inside the value.
 #[cycle(showing)]
 #[tactic(auto, using(crate::proofs::Falls::most_items, crate::proofs::Falls::most_entries))]
 pub fn push_shown(output: &mut String, names: &Names, value: &Value) -> Result<(), AllocError>
-    ensures { OnOk result (Writes output.old output.new (text names.now value.now)) }
+    ensures text { OnOk result (Writes output.old output.new (text names.now value.now)) }
+    ensures ascending { OnOk result (IsCanonical value.now) }
 {
     match &value.form {
         ValueForm::Number(n) => push_number(output, *n),
@@ -107,8 +112,9 @@ fn push_enclosed(
     values: &Vec<Value>,
     right: &str,
 ) -> Result<(), AllocError>
-    ensures { OnOk result (Writes output.old output.new
+    ensures text { OnOk result (Writes output.old output.new
         (left.now ++ with_commas (texts names.now (items_of values.now.items)) ++ right.now)) }
+    ensures ascending { OnOk result (AllCanonical values.now.items) }
 {
     output.push_str(left)?;
     push_values(output, names, values)?;
@@ -118,7 +124,9 @@ fn push_enclosed(
 /// Writes values with commas between them.
 #[cycle(showing)]
 fn push_values(output: &mut String, names: &Names, values: &Vec<Value>) -> Result<(), AllocError>
-    ensures { OnOk result (Writes output.old output.new (with_commas (texts names.now (items_of values.now.items)))) }
+    ensures text { OnOk result (Writes output.old output.new
+        (with_commas (texts names.now (items_of values.now.items)))) }
+    ensures ascending { OnOk result (AllCanonical values.now.items) }
 {
     for (position, value) in values.iter().enumerate() {
         push_separator(output, position)?;
@@ -134,8 +142,9 @@ fn push_map(
     names: &Names,
     entries: &Vec<(Value, Value)>,
 ) -> Result<(), AllocError>
-    ensures { OnOk result (Writes output.old output.new
+    ensures text { OnOk result (Writes output.old output.new
         (codes "{" ++ with_commas (entry_texts names.now (entries_of entries.now.items)) ++ codes "}")) }
+    ensures ascending { OnOk result (AllEntriesCanonical entries.now.items) }
 {
     output.push_str("{")?;
     push_entries(output, names, entries)?;
@@ -149,8 +158,9 @@ fn push_entries(
     names: &Names,
     entries: &Vec<(Value, Value)>,
 ) -> Result<(), AllocError>
-    ensures { OnOk result (Writes output.old output.new
+    ensures text { OnOk result (Writes output.old output.new
         (with_commas (entry_texts names.now (entries_of entries.now.items)))) }
+    ensures ascending { OnOk result (AllEntriesCanonical entries.now.items) }
 {
     for (position, entry) in entries.iter().enumerate() {
         push_separator(output, position)?;

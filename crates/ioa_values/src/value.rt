@@ -5,6 +5,7 @@ ghost use Rattle.std.specs.Ordering.{ordering_then};
 ghost use Rattle.ioa_values.specs.Data.{number, truth, constant, tuple, sequence, finite_set, finite_map};
 ghost use Rattle.ioa_values.specs.Data.{items_of, entries_of, as_number, as_truth, is_within};
 ghost use Rattle.ioa_values.specs.Collections.{IsAscending, keys_of};
+ghost use Rattle.ioa_values.specs.Canonical.{IsCanonical, AllCanonical, AllEntriesCanonical};
 ghost use Rattle.ioa_values.specs.DataOrder.{same, data_cmp, items_cmp, entries_cmp, kind};
 
 use std::alloc::{AllocError, Global};
@@ -151,12 +152,15 @@ impl Value {
     }
 
     /// An equal value with its own memory. Costs time and memory in proportion to the value. If the
-    /// value is a number, it lies within 64 bits, whether the copy succeeds or not.
+    /// value is a number, it lies within 64 bits, whether the copy succeeds or not. If the copy succeeds,
+    /// every set and every map in it, at any depth, ascends; of a value that is not copied to its end
+    /// nothing is said of what lies inside.
     #[cycle(copying)]
     #[tactic(auto, using(crate::proofs::Falls::most_items, crate::proofs::Falls::most_entries))]
     pub fn try_copy(&self, alloc: Global) -> Result<Self, AllocError>
         ensures equal { IfOk result (λ v. v ≡ self.now) }
         ensures within { is_within self.now ≡ true }
+        ensures ascending { IfOk result IsCanonical }
     {
         match &self.form {
             ValueForm::Number(n) => Ok(Value::number(*n)),
@@ -226,8 +230,10 @@ pub fn copies(alloc: Global, values: &[Value]) -> Result<Vec<Value>, AllocError>
 
 /// Copies of values, in order.
 #[cycle(copying)]
+#[tactic(auto, using(crate::proofs::AllOf::all_pushed))]
 fn copy_values(alloc: Global, values: &Vec<Value>) -> Result<Vec<Value>, AllocError>
-    ensures { IfOk result (λ v. v.items ≡ values.now.items) }
+    ensures equal { IfOk result (λ v. v.items ≡ values.now.items) }
+    ensures ascending { IfOk result (λ v. AllCanonical v.items) }
 {
     let mut copies = Vec::new(alloc);
     for value in values {
@@ -243,7 +249,8 @@ fn copy_entries(
     alloc: Global,
     entries: &Vec<(Value, Value)>,
 ) -> Result<Vec<(Value, Value)>, AllocError>
-    ensures { IfOk result (λ v. v.items ≡ entries.now.items) }
+    ensures equal { IfOk result (λ v. v.items ≡ entries.now.items) }
+    ensures ascending { IfOk result (λ v. AllEntriesCanonical v.items) }
 {
     let mut copies = Vec::new(alloc);
     for (key, value) in entries {

@@ -5,4 +5,4 @@ use Rattle.ioa_actions.proofs.text.show_listed.Goals as goal
 pub loop-position-preserved : goal.loop-position-preserved
 loop-position-preserved c =
     let more = with_commas-more (text c.args.names.now) c.args.values.now c.loop-position.position c.index-values-position.result c.loop-position-test.true in
-    cc (c.in_ok-push_listed.ensures, c.in_ok-item.ensures)
+    cc (c.in_ok-push_listed.ensures, c.in_ok-item.ensures.text)
