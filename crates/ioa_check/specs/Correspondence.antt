@@ -10,7 +10,7 @@ use Rattle.ioa_terms.specs.Performance.{target_shape}
 use Rattle.ioa_operators.specs.Shapes.{PlainShape, integers}
 use Rattle.ioa_source.specs.PlainSort.{PlainSort}
 use Rattle.ioa_source.specs.PlainSort as sort
-use Rattle.ioa_terms.specs.PlainTerm.{assign, choose, fire}
+use Rattle.ioa_terms.specs.PlainTerm.{assign, branch, fire}
 use Rattle.ioa_operators.specs.declared.fault.TermFault.{TermFault}
 use Rattle.ioa_operators.specs.declared.fault.TermFault.TheVariants.{Undefined}
 use Rattle.ioa_terms.specs.declared.tree.Kind.{Kind}
@@ -46,7 +46,7 @@ transition_for e ts = find (λ t. same_name t.name e.name && same_kind t.kind e.
 -- an assigned variable has the shape of its sort, which is Int in this form
 abbrev pub AssignsInteger : CheckedStatement → Type 0
 AssignsInteger (assign p t) = target_shape p ≡ integers
-AssignsInteger (choose arms rest) = ⊥
+AssignsInteger (branch arms rest) = ⊥
 AssignsInteger (fire k x ts) = Unit {0}
 
 -- the shape of a sort; in this form there is Int alone

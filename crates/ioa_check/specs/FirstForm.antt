@@ -9,7 +9,7 @@ use Rattle.ioa_terms.specs.Bindings.{same_name}
 use Rattle.ioa_terms.specs.declared.tree.Kind.{Kind}
 use Rattle.ioa_terms.specs.declared.tree.Kind.TheVariants.{Input, Output, Internal}
 use Rattle.ioa_source.specs.PlainSort.{PlainSort, integers}
-use Rattle.ioa_terms.specs.PlainTerm.{number, variable, at_key, at_field, assign, choose, fire}
+use Rattle.ioa_terms.specs.PlainTerm.{number, variable, at_key, at_field, assign, branch, fire}
 use Rattle.ioa_source.specs.PlainText.{const, named, type_named, automaton, node, channel}
 use Rattle.ioa_source.specs.Sides.{SourceAutomaton, SourceDeclaration, SourceEntry, SourceParameter, SourceTarget}
 use Rattle.ioa_source.specs.Sides.{SourcePlacement, SourceStatement, SourceTerm, SourceTransition, SourceVariable}
@@ -79,13 +79,13 @@ is_first_target (at_field x at d f) = false
 -- a statement of an effect: an assignment to a variable
 abbrev pub is_first_assignment : SourceStatement → Bool
 is_first_assignment (assign p t) = is_first_target p && is_first_term t
-is_first_assignment (choose arms rest) = false
+is_first_assignment (branch arms rest) = false
 is_first_assignment (fire k x ts) = false
 
 -- a statement of a schedule block: a firing without a kind
 abbrev pub is_first_firing : SourceStatement → Bool
 is_first_firing (assign p t) = false
-is_first_firing (choose arms rest) = false
+is_first_firing (branch arms rest) = false
 is_first_firing (fire k x ts) = not (is_some k) && list_all is_first_term ts
 
 -- an input or an output

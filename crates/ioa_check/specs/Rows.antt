@@ -12,7 +12,7 @@ use denote.Enum.Bare.{sameb}
 use Rattle.ioa_operators.specs.declared.operator.BinaryOperator.{BinaryOperator}
 use Rattle.ioa_operators.specs.contracts.operator.BinaryOperator.{the_type}
 use Rattle.ioa_terms.specs.declared.tree.Kind.TheVariants.{Input}
-use Rattle.ioa_terms.specs.PlainTerm.{number, name, two, variable, at_key, at_field, assign, choose, fire}
+use Rattle.ioa_terms.specs.PlainTerm.{number, name, two, variable, at_key, at_field, assign, branch, fire}
 use Rattle.ioa_source.specs.PlainText.{const, named}
 use Rattle.ioa_check.specs.FirstSorts.{is_first, is_number, is_guard}
 use Rattle.ioa_system.specs.InView.{DeclaredNames, names_at, own_names, scope_at, source_names}
@@ -42,7 +42,7 @@ has_entry es t = list_any (λ e. same_name e.name t.name && same_kind e.kind t.k
 -- 20: a firing is of an entry's name
 abbrev pub fires_entry : List SourceEntry → SourceStatement → Bool
 fires_entry es (assign p t) = false
-fires_entry es (choose arms rest) = false
+fires_entry es (branch arms rest) = false
 fires_entry es (fire k x ts) = list_any (λ e. same_name e.name x) es
 
 -- an entry of this name has so many parameters
@@ -52,7 +52,7 @@ takes_as_many x n e = not (same_name e.name x) || nat_eq (length e.parameters) n
 -- 22: a firing has as many arguments as the entries of its name
 abbrev pub fires_as_many : List SourceEntry → SourceStatement → Bool
 fires_as_many es (assign p t) = true
-fires_as_many es (choose arms rest) = true
+fires_as_many es (branch arms rest) = true
 fires_as_many es (fire k x ts) = list_all (takes_as_many x (length ts)) es
 
 -- 20: the transitions of an automaton have entries, and its firings; 22: and as many arguments
@@ -68,13 +68,13 @@ firings_have_as_many a = list_all (fires_as_many a.signature) a.schedule
 -- 22: the arguments of a firing are numbers
 abbrev pub fires_numbers : SourceStatement → Bool
 fires_numbers (assign p t) = true
-fires_numbers (choose arms rest) = true
+fires_numbers (branch arms rest) = true
 fires_numbers (fire k x ts) = list_all is_number ts
 
 -- 22: an assigned term is a number
 abbrev pub assigns_number : SourceStatement → Bool
 assigns_number (assign p t) = is_number t
-assigns_number (choose arms rest) = true
+assigns_number (branch arms rest) = true
 assigns_number (fire k x ts) = true
 
 -- 22: a constant is a number
@@ -135,13 +135,13 @@ writes_only variables (at_field x at d f) = false
 -- 20: a statement of an effect assigns to one of these variables and reads these names
 abbrev pub assigns_only : List (List ℕ) → List (List ℕ) → SourceStatement → Bool
 assigns_only variables names (assign p t) = writes_only variables p && reads_only names t
-assigns_only variables names (choose arms rest) = false
+assigns_only variables names (branch arms rest) = false
 assigns_only variables names (fire k x ts) = false
 
 -- 20: a statement of a schedule block fires an action and reads these names
 abbrev pub fires_only : List (List ℕ) → SourceStatement → Bool
 fires_only names (assign p t) = false
-fires_only names (choose arms rest) = false
+fires_only names (branch arms rest) = false
 fires_only names (fire k x ts) = list_all (reads_only names) ts
 
 -- the names of an automaton of a text of this form, which has no constants

@@ -7,7 +7,7 @@ use Rattle.ioa_tokens.specs.declared.mark.Mark.{Mark}
 use Rattle.ioa_tokens.specs.declared.mark.Mark.TheVariants as mark
 use Rattle.ioa_terms.specs.declared.tree.Kind.{Kind}
 use Rattle.ioa_terms.specs.declared.tree.Kind.TheVariants as kind
-use Rattle.ioa_terms.specs.PlainTerm.{variable, at_key, at_field, assign, choose, fire}
+use Rattle.ioa_terms.specs.PlainTerm.{variable, at_key, at_field, assign, branch, fire}
 use Rattle.ioa_terms.specs.PlainTerm.{no_statements, statement, statements_of, no_arms, arm}
 use Rattle.ioa_source.specs.PlainSort.{PlainSort, booleans, integers, naturals, sequences, sets, maps, named_type}
 use Rattle.ioa_source.specs.PlainText.{const, named, enumeration, tuple_of, type_named, automaton, node, channel}
@@ -129,7 +129,7 @@ abbrev mutual
   -- Target := Term, if Term then Statements {elseif Term then Statements} [else Statements] fi, or fire [Kind] Call
   pub statement_spelling : Statement → List Token
   statement_spelling (assign p t) = target_spelling p ++ (token.Mark mark.Assign ∷ spelling t)
-  statement_spelling (choose arms rest) =
+  statement_spelling (branch arms rest) =
       token.Mark mark.If ∷ (arms_spelling arms
       ++ (else_spelling rest (statements_spelling rest) ++ token.Mark mark.Fi ∷ []))
   statement_spelling (fire k w ts) = token.Mark mark.Fire ∷ (kind_spelling k ++ call_spelling w ts)

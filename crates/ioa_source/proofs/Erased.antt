@@ -1,7 +1,7 @@
 -- A text as it is spelled has no annotation to erase.
 use Rattle.std.proofs.Common.{◌≡◌, List, [], ◌∷◌, Option, Some, None, map, refl, ap}
 use Rattle.std.specs.Option.{option_map}
-use Rattle.ioa_terms.specs.PlainTerm.{number, truth, name, one, two, call, display, field, no_terms, term, variable, at_key, at_field, assign, choose, fire, no_statements, statement, no_arms, arm}
+use Rattle.ioa_terms.specs.PlainTerm.{number, truth, name, one, two, call, display, field, no_terms, term, variable, at_key, at_field, assign, branch, fire, no_statements, statement, no_arms, arm}
 use Rattle.ioa_source.specs.PlainText.{const, named, enumeration, tuple_of, type_named, automaton, node, channel}
 use Rattle.ioa_source.specs.Sides.{SourceTerm, SourceTerms, SourceTarget, SourceStatement, SourceStatements, SourceArms, SourceDeclared, SourceParameter, SourceEntry, SourceVariable, SourceTransition, SourceAutomaton, SourceForm, SourceType, SourceDeclaration, SourceNode, SourcePlacement, SourceText}
 use Rattle.ioa_source.specs.Erasure.{erase_term, erase_terms, erase_target, erase_statement, erase_statements, erase_arms, erase_declared, erase_parameter, erase_entry, erase_variable, erase_transition, erase_automaton, erase_form, erase_type, erase_declaration, erase_node, erase_placement, erase}
@@ -38,7 +38,7 @@ target_erased (at_field w x d f) = refl
 mutual
   statement_erased : (s : SourceStatement) → erase_statement s ≡ s
   statement_erased (assign p t) = λ i. assign (target_erased p i) (term_erased t i)
-  statement_erased (choose arms rest) = λ i. choose (arms_erased arms i) (statements_erased rest i)
+  statement_erased (branch arms rest) = λ i. branch (arms_erased arms i) (statements_erased rest i)
   statement_erased (fire k w ts) = ap (fire k w) (each erase_term term_erased ts)
 
   statements_erased : (ss : SourceStatements) → erase_statements ss ≡ ss

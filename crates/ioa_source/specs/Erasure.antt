@@ -4,7 +4,7 @@ use Rattle.std.specs.Prelude.{map}
 use Rattle.std.specs.Option.{option_map}
 use Rattle.ioa_terms.specs.PlainTerm.{PlainTerm, PlainTerms, PlainTarget, PlainStatement, PlainStatements, PlainArms}
 use Rattle.ioa_terms.specs.PlainTerm.{number, truth, name, one, two, call, display, field, no_terms, term}
-use Rattle.ioa_terms.specs.PlainTerm.{variable, at_key, at_field, assign, choose, fire}
+use Rattle.ioa_terms.specs.PlainTerm.{variable, at_key, at_field, assign, branch, fire}
 use Rattle.ioa_terms.specs.PlainTerm.{no_statements, statement, no_arms, arm}
 use Rattle.ioa_source.specs.PlainText.{PlainDeclared, PlainParameter, PlainEntry, PlainVariable, PlainTransition}
 use Rattle.ioa_source.specs.PlainText.{PlainAutomaton, PlainForm, PlainType, PlainDeclaration}
@@ -40,7 +40,7 @@ erase_target (at_field w x d f) = at_field w tt tt f
 abbrev mutual
   pub erase_statement : {N D : Type 0} → PlainStatement N D → SourceStatement
   erase_statement (assign p t) = assign (erase_target p) (erase_term t)
-  erase_statement (choose arms rest) = choose (erase_arms arms) (erase_statements rest)
+  erase_statement (branch arms rest) = branch (erase_arms arms) (erase_statements rest)
   erase_statement (fire k w ts) = fire k w (map erase_term ts)
 
   pub erase_statements : {N D : Type 0} → PlainStatements N D → SourceStatements

@@ -2,7 +2,7 @@
 use Rattle.std.specs.Prelude.{ℕ, suc, max, List, [], ◌∷◌}
 use Rattle.ioa_terms.specs.PlainTerm.{number, truth, name, one, two, call, display, field, no_terms, term, terms_of}
 use Rattle.ioa_terms.specs.PlainTerm.{variable, at_key, at_field}
-use Rattle.ioa_terms.specs.PlainTerm.{assign, choose, fire, no_statements, statement, no_arms, arm}
+use Rattle.ioa_terms.specs.PlainTerm.{assign, branch, fire, no_statements, statement, no_arms, arm}
 use Rattle.ioa_source.specs.Sides.{SourceTerm, SourceTerms, SourceTarget, SourceStatement, SourceStatements, SourceArms}
 use Rattle.ioa_source.specs.declared.height.TheConstants.{HEIGHT_LIMIT}
 
@@ -43,7 +43,7 @@ abbrev mutual
   -- part
   pub statement_height : SourceStatement → ℕ
   statement_height (assign p t) = max (target_height p) (height t)
-  statement_height (choose arms rest) = suc (max (arms_height arms) (statements_height rest))
+  statement_height (branch arms rest) = suc (max (arms_height arms) (statements_height rest))
   statement_height (fire k w ts) = max 1 (heights (terms_of ts))
 
   -- the highest of several statements

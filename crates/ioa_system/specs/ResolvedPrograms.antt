@@ -2,7 +2,7 @@
 use Rattle.std.specs.Prelude.{◌≡◌, ℕ, List, [], Option, Some, None, length, All}
 use Rattle.std.specs.List.{AllByRecursion}
 use Rattle.ioa_terms.specs.Resolved.{IsResolved, AreResolved}
-use Rattle.ioa_terms.specs.PlainTerm.{assign, choose, fire}
+use Rattle.ioa_terms.specs.PlainTerm.{assign, branch, fire}
 use Rattle.ioa_source.specs.PlainText.{const, named}
 use Rattle.ioa_source.specs.Sides.{CheckedParameter, CheckedStatement, CheckedTerm, CheckedVariable}
 use Rattle.ioa_system.specs.InView.{DeclaredNames, declared_names, names_at, own_names, scope_at}
@@ -40,7 +40,7 @@ AreResolvedTerms ts names = AllByRecursion (λ t. IsResolved t names) ts
 -- the names of a firing's arguments are resolved among these; of another statement nothing is said
 abbrev pub IsResolvedFiring : CheckedStatement → List (List ℕ) → Type 0
 IsResolvedFiring (assign p t) names = Unit {0}
-IsResolvedFiring (choose arms rest) names = Unit {0}
+IsResolvedFiring (branch arms rest) names = Unit {0}
 IsResolvedFiring (fire k a ts) names = AreResolvedTerms ts names
 
 -- the same of each statement of a schedule block

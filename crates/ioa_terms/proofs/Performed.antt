@@ -8,7 +8,7 @@ use Rattle.ioa_values.specs.Outcome.{and_then}
 use Rattle.ioa_operators.specs.Shapes.{PlainShape, truths, integers, naturals, constants, tuples, sequences, sets, maps, with_field, field_position}
 use Rattle.ioa_operators.specs.RangeCheck.{range_check, checked_result}
 use Rattle.ioa_terms.specs.Bindings.{Bindings, lookup, put}
-use Rattle.ioa_terms.specs.PlainTerm.{PlainTerm, PlainTarget, variable, at_key, at_field, PlainStatement, PlainStatements, PlainArms, assign, choose, fire, no_statements, statement, no_arms, arm, statements_of}
+use Rattle.ioa_terms.specs.PlainTerm.{PlainTerm, PlainTarget, variable, at_key, at_field, PlainStatement, PlainStatements, PlainArms, assign, branch, fire, no_statements, statement, no_arms, arm, statements_of}
 use Rattle.ioa_terms.specs.Meaning.{value, numbers_met, if_any}
 use Rattle.ioa_terms.specs.Performance.{target_name, target_shape, updated_map, assignment_value, fitting_value, test_value, by_test, after_one, after_choice, after_all, numbers_met_by_assignment, numbers_met_after, numbers_met_by_one, numbers_met_by_choice, numbers_met_by_all, answer_by}
 use Rattle.ioa_terms.specs.Resolved.{AreAllResolved, AreResolved}
@@ -118,7 +118,7 @@ next_is ds (Some e) more next = range_check_some ds e (λ e. range_check (more e
 mutual
   stepwise_one_is : {N : Type 0} (s : PlainStatement N Shape) (e : Bindings) → stepwise_one s e ≡ range_check (numbers_met_by_one s e) (after_one s e)
   stepwise_one_is (assign p t) e = rw (stepwise_assignment_is p t e) (put_is (numbers_met_by_assignment p t e) (assignment_value p t e) (target_name p) (target_shape p) e)
-  stepwise_one_is (choose arms rest) e = rw (stepwise_all_is rest e) (stepwise_choice_is arms (numbers_met_by_all rest e) (after_all rest e) e)
+  stepwise_one_is (branch arms rest) e = rw (stepwise_all_is rest e) (stepwise_choice_is arms (numbers_met_by_all rest e) (after_all rest e) e)
   stepwise_one_is (fire kind action arguments) e = refl
 
   stepwise_choice_is : {N : Type 0} (arms : PlainArms N Shape) (ds : List Data) (rest : Option Bindings) (e : Bindings) → stepwise_choice arms (range_check ds rest) e ≡ range_check (numbers_met_by_choice arms ds e) (after_choice arms rest e)

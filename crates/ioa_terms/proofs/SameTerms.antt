@@ -15,7 +15,7 @@ use Rattle.ioa_operators.specs.declared.operator.BinaryOperator.{BinaryOperator}
 use Rattle.ioa_operators.specs.declared.shape.DisplayForm.{DisplayForm}
 use Rattle.ioa_terms.specs.contracts.tree.Kind as kind
 use Rattle.ioa_terms.specs.declared.tree.Kind.{Kind}
-use Rattle.ioa_terms.specs.PlainTerm.{PlainTerm, PlainTerms, PlainTarget, PlainStatement, PlainStatements, PlainArms, number, truth, name, one, two, call, display, field, no_terms, term, terms_of, variable, at_key, at_field, assign, choose, fire, no_statements, statement, statements_of, no_arms, arm}
+use Rattle.ioa_terms.specs.PlainTerm.{PlainTerm, PlainTerms, PlainTarget, PlainStatement, PlainStatements, PlainArms, number, truth, name, one, two, call, display, field, no_terms, term, terms_of, variable, at_key, at_field, assign, branch, fire, no_statements, statement, statements_of, no_arms, arm}
 use Rattle.ioa_terms.specs.SameTerms.{same_unary, same_binary, same_form, same_kind, same_term, same_terms, same_target, same_statement, same_statements, same_arms}
 
 unary_is : (a b : UnaryOperator) → Decides (same_unary a b) (a ≡ b)
@@ -131,9 +131,9 @@ module _ {N D : Type 0} {n : N → N → Bool} {d : D → D → Bool} (n_is : (x
     statement_equal (assign x t) (assign y u) h =
         let p = and_parts _ _ h in
         λ i. assign (target_equal x y p.0 i) (term_equal t u p.1 i)
-    statement_equal (choose xs ss) (choose ys ts) h =
+    statement_equal (branch xs ss) (branch ys ts) h =
         let p = and_parts _ _ h in
-        λ i. choose (arms_equal xs ys p.0 i) (statements_equal ss ts p.1 i)
+        λ i. branch (arms_equal xs ys p.0 i) (statements_equal ss ts p.1 i)
     statement_equal (fire k w ts) (fire l v us) h =
         let p = and_parts _ _ h in
         let q = and_parts _ _ p.1 in
@@ -158,7 +158,7 @@ module _ {N D : Type 0} {n : N → N → Bool} {d : D → D → Bool} (n_is : (x
   mutual
     statement_itself : (a : PlainStatement N D) → same_statement n d a a ≡ true
     statement_itself (assign x t) = rw (target_itself x, term_itself t) refl
-    statement_itself (choose xs ss) = rw (arms_itself xs, statements_itself ss) refl
+    statement_itself (branch xs ss) = rw (arms_itself xs, statements_itself ss) refl
     statement_itself (fire k w ts) = rw ((option_is kind_is k k).1 refl, (bytes_eq-Decides w w).1 refl, terms_itself (terms_of ts)) refl
 
     statements_itself : (ss : PlainStatements N D) → same_statements n d ss ss ≡ true

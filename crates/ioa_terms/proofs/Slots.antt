@@ -4,7 +4,7 @@ use Rattle.std.specs.List.{zip, slice_get}
 use Rattle.std.proofs.lemmas.List.{map-append}
 use Rattle.std.proofs.lemmas.Slice.Zip.{firsts-zip}
 use Rattle.std.specs.Option.{option_map}
-use Rattle.ioa_terms.specs.PlainTerm.{PlainTarget, variable, at_key, at_field, PlainStatement, PlainStatements, PlainArms, assign, choose, fire, no_statements, statement, no_arms, arm}
+use Rattle.ioa_terms.specs.PlainTerm.{PlainTarget, variable, at_key, at_field, PlainStatement, PlainStatements, PlainArms, assign, branch, fire, no_statements, statement, no_arms, arm}
 use Rattle.ioa_terms.specs.Resolved.{IsResolvedTarget, IsResolvedStatement, AreArmsResolved, AreAllResolved, AreResolved}
 use Rattle.ioa_operators.specs.declared.shape.Shape.{Shape}
 use Rattle.ioa_values.specs.Data.{Data, constant}
@@ -144,7 +144,7 @@ mutual
   -- the same of statements
   statement_widely : {D : Type 0} (s : PlainStatement ℕ D) (xs more names : List (List ℕ)) → IsResolvedStatement s xs names → IsResolvedStatement s (xs ++ more) names
   statement_widely (assign p t) xs more names h = (target_widely p xs more names h.0, h.1)
-  statement_widely (choose arms rest) xs more names h = (arms_widely arms xs more names h.0, all_widely rest xs more names h.1)
+  statement_widely (branch arms rest) xs more names h = (arms_widely arms xs more names h.0, all_widely rest xs more names h.1)
   statement_widely (fire kind action arguments) xs more names h = tt
 
   arms_widely : {D : Type 0} (arms : PlainArms ℕ D) (xs more names : List (List ℕ)) → AreArmsResolved arms xs names → AreArmsResolved arms (xs ++ more) names

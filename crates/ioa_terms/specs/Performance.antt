@@ -7,7 +7,7 @@ use Rattle.ioa_operators.specs.Shapes.{PlainShape, has_shape, with_field}
 use Rattle.ioa_operators.specs.RangeCheck.{range_check}
 use Rattle.ioa_terms.specs.Bindings.{Bindings, lookup, put}
 use Rattle.ioa_terms.specs.PlainTerm.{PlainTerm, PlainTarget, variable, at_key, at_field}
-use Rattle.ioa_terms.specs.PlainTerm.{PlainStatement, PlainStatements, PlainArms, assign, choose, fire}
+use Rattle.ioa_terms.specs.PlainTerm.{PlainStatement, PlainStatements, PlainArms, assign, branch, fire}
 use Rattle.ioa_terms.specs.PlainTerm.{no_statements, statement, no_arms, arm, statements_of}
 use Rattle.ioa_terms.specs.Meaning.{value, numbers_met, if_any}
 use Rattle.ioa_operators.specs.declared.operator.Function.TheVariants as function
@@ -60,7 +60,7 @@ abbrev mutual
   after_one (assign p t) e =
       option_map (λ v. put (target_name p) v e)
       (option_and_then (fitting_value (target_shape p)) (assignment_value p t e))
-  after_one (choose arms rest) e = after_choice arms (after_all rest e) e
+  after_one (branch arms rest) e = after_choice arms (after_all rest e) e
   after_one (fire kind action arguments) e = None
 
   -- the environment after the first arm whose test is true, or after the rest if none is
@@ -88,7 +88,7 @@ abbrev mutual
   -- the results that one statement meets
   pub numbers_met_by_one : {N : Type 0} → PlainStatement N Shape → Bindings → List Data
   numbers_met_by_one (assign p t) e = numbers_met_by_assignment p t e
-  numbers_met_by_one (choose arms rest) e = numbers_met_by_choice arms (numbers_met_by_all rest e) e
+  numbers_met_by_one (branch arms rest) e = numbers_met_by_choice arms (numbers_met_by_all rest e) e
   numbers_met_by_one (fire kind action arguments) e = []
 
   -- the results that a choice meets: tests in order, and then those of what is chosen

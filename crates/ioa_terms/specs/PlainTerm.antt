@@ -42,7 +42,7 @@ mutual
   -- its kind if that is written
   pub data PlainStatement (N D : Type 0) : Type 0 where
     assign : PlainTarget N D → PlainTerm N D → PlainStatement N D
-    choose : PlainArms N D → PlainStatements N D → PlainStatement N D
+    branch : PlainArms N D → PlainStatements N D → PlainStatement N D
     fire : Option Kind → List ℕ → List (PlainTerm N D) → PlainStatement N D
     deriving IsSet as PlainStatement-set
 

@@ -5,7 +5,7 @@ use Rattle.ioa_terms.specs.Bindings.{slot_in}
 use Rattle.ioa_terms.specs.PlainTerm as plain
 use Rattle.ioa_terms.specs.PlainTerm.{PlainTerm, PlainTerms, name, one, two, call, display, field, no_terms, term}
 use Rattle.ioa_terms.specs.PlainTerm.{PlainTarget, variable, at_key, at_field}
-use Rattle.ioa_terms.specs.PlainTerm.{PlainStatement, PlainStatements, PlainArms, assign, choose, fire}
+use Rattle.ioa_terms.specs.PlainTerm.{PlainStatement, PlainStatements, PlainArms, assign, branch, fire}
 use Rattle.ioa_terms.specs.PlainTerm.{no_statements, statement, no_arms, arm}
 
 abbrev mutual
@@ -36,7 +36,7 @@ abbrev mutual
   -- firing, which is no part of an effect
   pub IsResolvedStatement : {D : Type 0} → PlainStatement ℕ D → List (List ℕ) → List (List ℕ) → Type 0
   IsResolvedStatement (assign p t) variables names = IsResolvedTarget p variables names × IsResolved t names
-  IsResolvedStatement (choose arms rest) variables names =
+  IsResolvedStatement (branch arms rest) variables names =
       AreArmsResolved arms variables names × AreAllResolved rest variables names
   IsResolvedStatement (fire kind action arguments) variables names = Unit {0}
 

@@ -15,7 +15,7 @@ use Rattle.ioa_terms.specs.contracts.tree.Kind as kind
 use Rattle.ioa_terms.specs.declared.tree.Kind.{Kind}
 use Rattle.ioa_terms.specs.PlainTerm.{PlainTerm, PlainTerms, PlainTarget, PlainStatement, PlainStatements, PlainArms}
 use Rattle.ioa_terms.specs.PlainTerm.{number, truth, name, one, two, call, display, field, no_terms, term, terms_of}
-use Rattle.ioa_terms.specs.PlainTerm.{variable, at_key, at_field, assign, choose, fire}
+use Rattle.ioa_terms.specs.PlainTerm.{variable, at_key, at_field, assign, branch, fire}
 use Rattle.ioa_terms.specs.PlainTerm.{no_statements, statement, no_arms, arm}
 use Rattle.ioa_terms.specs.Bindings.{same_name}
 
@@ -61,7 +61,7 @@ module _ {N D : Type 0} (n : N → N → Bool) (d : D → D → Bool) where
   abbrev mutual
     pub same_statement : PlainStatement N D → PlainStatement N D → Bool
     same_statement (assign p t) (assign q u) = same_target p q && same_term t u
-    same_statement (choose xs ss) (choose ys ts) = same_arms xs ys && same_statements ss ts
+    same_statement (branch xs ss) (branch ys ts) = same_arms xs ys && same_statements ss ts
     same_statement (fire k w ts) (fire l v us) =
         option_eq same_kind k l && (same_name w v && same_terms (terms_of ts) (terms_of us))
     same_statement a b = false

@@ -12,7 +12,7 @@ use Rattle.ioa_terms.specs.Performance.{target_name, target_shape, updated_map, 
 use Rattle.ioa_terms.specs.PlainTerm as plain
 use Rattle.ioa_terms.specs.PlainTerm.{PlainTerm, PlainTerms, name, one, two, call, display, field, no_terms, term}
 use Rattle.ioa_terms.specs.PlainTerm.{PlainTarget, variable, at_key, at_field}
-use Rattle.ioa_terms.specs.PlainTerm.{PlainStatement, PlainStatements, PlainArms, assign, choose, fire}
+use Rattle.ioa_terms.specs.PlainTerm.{PlainStatement, PlainStatements, PlainArms, assign, branch, fire}
 use Rattle.ioa_terms.specs.PlainTerm.{no_statements, statement, no_arms, arm}
 use Rattle.ioa_operators.specs.declared.operator.BinaryOperator.{BinaryOperator}
 use Rattle.ioa_operators.specs.declared.shape.Shape.{Shape}
@@ -75,7 +75,7 @@ abbrev mutual
   pub stepwise_one : {N : Type 0} → PlainStatement N Shape → Bindings → Result Bindings TermFault
   stepwise_one (assign p t) e =
       and_then (stepwise_assignment p t e) (put_fitting_value (target_name p) (target_shape p) e)
-  stepwise_one (choose arms rest) e = stepwise_choice arms (stepwise_all rest e) e
+  stepwise_one (branch arms rest) e = stepwise_choice arms (stepwise_all rest e) e
   stepwise_one (fire kind action arguments) e = Err Undefined
 
   -- the environment after the first arm whose test is true, or the result of the rest if none is

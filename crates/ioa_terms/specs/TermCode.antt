@@ -10,7 +10,7 @@ use Rattle.ioa_terms.specs.contracts.tree.Kind as kind
 use Rattle.ioa_terms.specs.declared.tree.Kind.{Kind}
 use Rattle.ioa_terms.specs.PlainTerm.{PlainTerm, PlainTerms, PlainTarget, PlainStatement, PlainStatements, PlainArms}
 use Rattle.ioa_terms.specs.PlainTerm.{number, truth, name, one, two, call, display, field, no_terms, term}
-use Rattle.ioa_terms.specs.PlainTerm.{variable, at_key, at_field, assign, choose, fire}
+use Rattle.ioa_terms.specs.PlainTerm.{variable, at_key, at_field, assign, branch, fire}
 use Rattle.ioa_terms.specs.PlainTerm.{no_statements, statement, no_arms, arm}
 
 abbrev word : Coded (List ℕ)
@@ -128,7 +128,7 @@ module _ {N D : Type 0} (n : Coded N) (d : Coded D) where
   mutual
     pub statement_stored : PlainStatement N D → Gv
     statement_stored (assign p t) = gcons (gnum 0) (gcons (target_code.code p) (term_code.code t))
-    statement_stored (choose xs ss) = gcons (gnum 1) (gcons (arms_stored xs) (statements_stored ss))
+    statement_stored (branch xs ss) = gcons (gnum 1) (gcons (arms_stored xs) (statements_stored ss))
     statement_stored (fire k w ts) =
         gcons (gnum 2) (gcons (maybe_kind.code k) (gcons (word.code w) (list_code.code ts)))
 
@@ -149,10 +149,10 @@ module _ {N D : Type 0} (n : Coded N) (d : Coded D) where
         let p : target_code.code x ≡ target_code.code y = cc in
         let q : term_code.code t ≡ term_code.code u = cc in
         λ i. assign (target_code.inj x y p i) (term_code.inj t u q i)
-    statement_apart (choose xs ss) (choose ys ts) e =
+    statement_apart (branch xs ss) (branch ys ts) e =
         let p : arms_stored xs ≡ arms_stored ys = cc in
         let q : statements_stored ss ≡ statements_stored ts = cc in
-        λ i. choose (arms_apart xs ys p i) (statements_apart ss ts q i)
+        λ i. branch (arms_apart xs ys p i) (statements_apart ss ts q i)
     statement_apart (fire k w ts) (fire l v us) e =
         let p : maybe_kind.code k ≡ maybe_kind.code l = cc in
         let q : word.code w ≡ word.code v = cc in

@@ -9,7 +9,7 @@ use Rattle.ioa_terms.specs.declared.tree.Statement.TheOpen.{Statement-F, Arm-F}
 use Rattle.ioa_terms.specs.declared.tree.Arm.{Arm, fold-Arm}
 use Rattle.ioa_terms.specs.PlainTerm.{PlainTerm, number, truth, name, one, two, call, display, field, terms_of}
 use Rattle.ioa_terms.specs.PlainTerm.{PlainTarget, variable, at_key, at_field}
-use Rattle.ioa_terms.specs.PlainTerm.{PlainStatement, PlainStatements, assign, choose, fire, statements_of, arms_of}
+use Rattle.ioa_terms.specs.PlainTerm.{PlainStatement, PlainStatements, assign, branch, fire, statements_of, arms_of}
 
 abbrev pub view_step : {N D : Type 0} → Tree-F N D (PlainTerm N D) → PlainTerm N D
 view_step (Tree-F.Number n) = number n
@@ -34,7 +34,7 @@ target_of (target.Field w x d f) = at_field w x d f
 abbrev pub statement_step : {N D : Type 0} →
     Statement-F N D (PlainStatement N D) (PlainTerm N D × PlainStatements N D) → PlainStatement N D
 statement_step (Statement-F.Assign p t) = assign (target_of p) (term_of t)
-statement_step (Statement-F.If arms rest) = choose (arms_of arms.items) (statements_of rest.items)
+statement_step (Statement-F.If arms rest) = branch (arms_of arms.items) (statements_of rest.items)
 statement_step (Statement-F.Fire k w ts) = fire k w (map term_of ts.items)
 
 abbrev pub arm_step : {N D : Type 0} →

@@ -88,9 +88,9 @@ limited_low : (s : Statement) → statement_height s ≤ height_limit → readin
 unfolding reading.limited_statement
 limited_low s h = rw (le-leb (statement_height s) height_limit h) refl
 
-limited_choice : (arms : Arms) (rest : Statements) → statement_height (plain.choose arms rest) ≤ height_limit →
-    reading.limited_statement (plain.choose (arms_of (arm_list arms)) (statements_of (statement_list rest))) ≡ Some (plain.choose arms rest)
-limited_choice arms rest h = rw (listed_arms_same arms, listed_same rest) (limited_low (plain.choose arms rest) h)
+limited_choice : (arms : Arms) (rest : Statements) → statement_height (plain.branch arms rest) ≤ height_limit →
+    reading.limited_statement (plain.branch (arms_of (arm_list arms)) (statements_of (statement_list rest))) ≡ Some (plain.branch arms rest)
+limited_choice arms rest h = rw (listed_arms_same arms, listed_same rest) (limited_low (plain.branch arms rest) h)
 
 word_begins : (xs : List Token) → at_word xs ≡ true → reading.begins_statement xs ≡ true
 unfolding reading.begins_statement
@@ -117,7 +117,7 @@ module _ (next : List Token → Option (List Statement × List Token)) where
   assigned p t xs zs e f = rw e f
 
   chosen_read : (arms : List (Term × Statements)) (rs : List Statement) (s : Statement) (xs ys zs : List Token) → reading.all_arms next xs ≡ read_next arms ys → reading.rest_of next ys ≡ read_next rs zs →
-      reading.limited_statement (plain.choose (arms_of arms) (statements_of rs)) ≡ Some s → reading.one_statement next (token.Mark mark.If ∷ xs) ≡ read_next s zs
+      reading.limited_statement (plain.branch (arms_of arms) (statements_of rs)) ≡ Some s → reading.one_statement next (token.Mark mark.If ∷ xs) ≡ read_next s zs
   unfolding reading.one_statement reading.choice skip bind choose
   chosen_read arms rs s xs ys zs e f g = rw e (rw f (rw g refl))
 
@@ -174,7 +174,7 @@ mutual
   statement_complete (grammar.choice {arms = arms} {rest = rest} {xs = xs} {ys = us} {zs = ys} ad rd) (suc depth) low deep =
       let next : List Token → Option (List Statement × List Token) = reading.statements_in (suc depth) in
       record {
-        reads = λ h. chosen_read next (arm_list arms) (statement_list rest) (plain.choose arms rest) xs us ys
+        reads = λ h. chosen_read next (arm_list arms) (statement_list rest) (plain.branch arms rest) xs us ys
             (all_arms_read next (arm_list arms) xs us (arms_complete ad depth (omega arith) (omega arith)) (rest_level rest us ys rd) (rest_no_arm rest us ys rd))
             (rest_complete rd depth (omega arith) (omega arith)) (limited_choice arms rest (omega arith));
         begins = if_begins xs;

@@ -7,7 +7,7 @@ use Rattle.ioa_tokens.specs.declared.token.Token.TheVariants as token
 use Rattle.ioa_tokens.specs.declared.mark.Mark.TheVariants as mark
 use Rattle.ioa_terms.specs.declared.tree.Kind.{Kind}
 use Rattle.ioa_terms.specs.declared.tree.Kind.TheVariants as kind
-use Rattle.ioa_terms.specs.PlainTerm.{variable, at_key, at_field, assign, choose, fire}
+use Rattle.ioa_terms.specs.PlainTerm.{variable, at_key, at_field, assign, branch, fire}
 use Rattle.ioa_terms.specs.PlainTerm.{no_statements, statement, statements_of, no_arms, arm}
 use Rattle.ioa_source.specs.PlainSort.{PlainSort, booleans, integers, naturals, sequences, sets, maps, named_type}
 use Rattle.ioa_source.specs.PlainText.{const, named, enumeration, tuple_of, type_named, automaton}
@@ -129,7 +129,7 @@ mutual
         SpellsStatement (assign p t) xs zs
     choice : {arms : Arms} {rest : Statements} {xs ys zs : List Token} →
         SpellsArms arms xs ys → SpellsRest rest ys zs →
-        SpellsStatement (choose arms rest) (token.Mark mark.If ∷ xs) zs
+        SpellsStatement (branch arms rest) (token.Mark mark.If ∷ xs) zs
 
   -- Arms: Term then Statements {elseif Term then Statements}
   pub data SpellsArms : Arms → List Token → List Token → Type 0 where

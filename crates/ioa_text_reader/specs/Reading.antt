@@ -220,7 +220,7 @@ module _ (next : List Token → Option (List Statement × List Token)) where
   unfoldable pub choice : List Token → Option (Statement × List Token)
   choice xs =
       all_arms xs >>= λ arms. rest_of arms.1 >>= λ r.
-      limited_statement (plain.choose (arms_of arms.0) (statements_of r.0)) >>= λ s. Some (s, r.1)
+      limited_statement (plain.branch (arms_of arms.0) (statements_of r.0)) >>= λ s. Some (s, r.1)
 
   -- Target := Term, or if Arms [else Statements] fi
   unfoldable pub one_statement : List Token → Option (Statement × List Token)

@@ -69,7 +69,7 @@ pub(crate) fn choice(
     deep: Unread,
 ) -> Result<BuiltStatement, Unread>
     ensures meant { Matches Memory (λ b. statement_of b.tree) result
-        (spec.limited_statement (plain.choose (arms_of (map arm_of arms.tree.items))
+        (spec.limited_statement (plain.branch (arms_of (map arm_of arms.tree.items))
         (statements_of (map statement_of rest.tree.items)))) }
     ensures told { IfErr result (λ e. e ≡ deep) }
 {

@@ -4,7 +4,7 @@ use Rattle.ioa_values.specs.Data.{Data}
 use Rattle.ioa_values.specs.Outcome.{and_then}
 use Rattle.ioa_terms.specs.Bindings.{Bindings}
 use Rattle.ioa_terms.specs.Meaning.{answer}
-use Rattle.ioa_terms.specs.PlainTerm.{assign, choose, fire}
+use Rattle.ioa_terms.specs.PlainTerm.{assign, branch, fire}
 use Rattle.ioa_actions.specs.ActionParts.{action_at}
 use Rattle.ioa_operators.specs.declared.fault.TermFault.{TermFault}
 use Rattle.ioa_operators.specs.declared.fault.TermFault.TheVariants.{Undefined}
@@ -27,7 +27,7 @@ answers (t ∷ more) e = and_then (answer t e) (λ v. and_then (answers more e) 
 -- values of its terms; a schedule block holds no other statements in what runs today
 abbrev pub statement_answer : ℤ → Bindings → CheckedStatement → Result Turn TermFault
 statement_answer k e (assign p t) = Err Undefined
-statement_answer k e (choose arms rest) = Err Undefined
+statement_answer k e (branch arms rest) = Err Undefined
 statement_answer k e (fire kind name ts) = and_then (answers ts e) (λ vs. Ok (Fire (action_at k name vs)))
 
 -- the result of a turn of node k by the statements that are left of its block: Done if there are none
