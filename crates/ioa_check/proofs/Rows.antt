@@ -4,7 +4,10 @@ use Rattle.std.proofs.lemmas.List.{take_more, map-append, length-map}
 use Rattle.std.proofs.Math.Seq.{take-append_seam}
 use Rattle.std.specs.List.{AllByRecursion, IsDistinct, list_any}
 use lib.Pointwise.{pointwise}
+use Rattle.ioa_operators.specs.declared.shape.Shape.{Shape}
+use Rattle.ioa_source.specs.declared.declaration.Variable.{Variable}
 use Rattle.ioa_source.specs.PlainText.{const, named}
+use Rattle.ioa_source.specs.TextView.{variable_of}
 use Rattle.ioa_system.specs.Parts.{Parts, PlainRule, automaton_parts}
 use Rattle.ioa_system.specs.ResolvedPrograms.{AreResolvedFirings, AreResolvedVariables, IsCompiled, IsResolvedRule}
 use Rattle.ioa_check.specs.Correspondence.{AreNodesOf, nodes_in}
@@ -12,7 +15,7 @@ use Rattle.ioa_source.specs.Erasure.{erase_parameter, erase_entry, erase_variabl
 use Rattle.ioa_source.specs.Sides.{CheckedDeclared, CheckedEntry, CheckedParameter, CheckedStatement, CheckedVariable, SourceAutomaton, SourceDeclared, SourceEntry, SourceNode, SourceText, SourceVariable}
 use Rattle.ioa_system.specs.InView.{DeclaredNames, own_names, parameter_names, variable_names}
 use Rattle.ioa_check.specs.Resolutions.{first_names, scope_for}
-use Rattle.ioa_check.specs.Rows.{automaton_scope}
+use Rattle.ioa_check.specs.Rows.{automaton_scope, names_in_transition}
 use Rattle.ioa_check.proofs.Loops.{each_append}
 use Rattle.std.proofs.lemmas.Bool.{or_parts}
 use Rattle.std.proofs.Math.Bool.{and-false}
@@ -40,6 +43,10 @@ pub scope_for-erase : (vs : List CheckedVariable) (resolved : CheckedEntry) (e :
 scope_for-erase vs resolved e scope s same =
     let names : own_names e.parameters ≡ own_names resolved.parameters = ap (λ (x : SourceEntry). own_names x.parameters) (sym same) ∙ own_names-erase resolved.parameters in
     s ∙ ap (λ (ns : List (List ℕ)). variable_names vs ++ ns) (sym names)
+
+-- and so are all names that guard and effect may read
+pub transition_names : (vs : List CheckedVariable) (resolved : CheckedEntry) (e : SourceEntry) (scope : List (List ℕ)) → scope ≡ scope_for resolved vs → erase_entry resolved ≡ e → scope ≡ names_in_transition (first_names vs) e
+transition_names vs resolved e scope s same = scope_for-erase vs resolved e scope s same ∙ sym (append-nil (scope_for e vs))
 
 -- the variables' names are those that the text spells
 pub variables_erased : (a : SourceAutomaton) (vs : List CheckedVariable) → map erase_variable vs ≡ a.states → variable_names vs ≡ variable_names a.states
@@ -89,8 +96,14 @@ pub few_map : {A B : Type 0} (f : A → B) (xs : List A) (ys : List B) (most : �
 few_map {A} {B} f xs ys most e h = subst (λ (zs : List B). length zs ≤ most) e (rw (length-map xs f) h)
 
 -- the first names in view are those of the variables
-pub take_first : {A : Type 0} (n : ℕ) (xs ys : List A) → n ≡ length xs → take n (xs ++ ys) ≡ xs
+take_first : {A : Type 0} (n : ℕ) (xs ys : List A) → n ≡ length xs → take n (xs ++ ys) ≡ xs
 take_first n xs ys e = rw e (take-append_seam xs ys)
+
+pub first_in_scope : (variables : List (Variable ℕ Shape)) (own scope : List (List ℕ)) → scope ≡ variable_names (map variable_of variables) ++ own → take (length variables) scope ≡ variable_names (map variable_of variables)
+first_in_scope variables own scope names =
+    let vs : List CheckedVariable = map variable_of variables in
+    let many : length variables ≡ length (variable_names vs) = sym (length-map vs (λ (v : CheckedVariable). v.declared.name) ∙ length-map variables variable_of) in
+    ap (take (length variables)) names ∙ take_first (length variables) (variable_names vs) own many
 
 -- an automaton without parameters, in a text without constants, whose names are resolved among those of its variables
 pub resolved_alone : (w : List ℕ) (cs : List (List ℕ)) (ds : List CheckedDeclared) (vs : List CheckedVariable) (scope : List (List ℕ)) (rs : List PlainRule) (ss : List CheckedStatement) → cs ≡ [] → ds ≡ [] → scope ≡ variable_names vs → All (IsResolvedRule (first_names vs)) rs → AreResolvedVariables [] vs → AreResolvedFirings ss scope → IsCompiled scope (automaton_parts w cs ds vs rs ss)

@@ -1,18 +1,16 @@
-use Rattle.std.proofs.Common.{◌≡◌, ◌++◌, ℕ, List, [], true, false, refl, sym, ap, subst, ◌∙◌, map, take, length, append-nil, rules}
+use Rattle.std.proofs.Common.{◌≡◌, ◌++◌, ℕ, List, [], true, false, refl, sym, subst, ◌∙◌, map, append-nil, rules}
 use Rattle.std.proofs.lemmas.Result.{err_from_is_err_and}
-use Rattle.std.proofs.lemmas.List.{length-map}
 use Rattle.std.specs.List.{IsDistinct, list_all}
 use Rattle.ioa_terms.specs.Bindings.{same_name}
 use Rattle.ioa_terms.specs.Resolved.{AreResolved}
 use Rattle.ioa_source.specs.TextView.{automaton_of, entry_of, transition_of, variable_of}
-use Rattle.ioa_source.specs.Sides.{CheckedVariable}
 use Rattle.ioa_system.specs.InView.{entry_condition, names_at, own_names, variable_names}
 use Rattle.ioa_system.specs.ResolvedPrograms.{IsResolvedGuard}
 use Rattle.ioa_check.specs.Resolutions.{first_names, scope_for}
-use Rattle.ioa_check.specs.Rows.{guard_reads_only, assigns_only, names_in_transition}
+use Rattle.ioa_check.specs.Rows.{guard_reads_only, assigns_only}
 use Rattle.ioa_check.specs.Standing.{StandsInEntry, is_known_transition}
 use Rattle.ioa_check.proofs.Refused.{fails_weaker, only_weaker, refuses_weaker}
-use Rattle.ioa_check.proofs.Rows.{scope_for-erase, take_first}
+use Rattle.ioa_check.proofs.Rows.{first_in_scope, scope_for-erase, transition_names}
 use Rattle.ioa_check.proofs.building.rule_of.Goals as goal
 use Rattle.std.proofs.lemmas.Bool.{and_right}
 
@@ -22,9 +20,7 @@ returns-clause-made c =
     let t = transition_of c.in_ok-transition.transition in
     let vs = map variable_of c.args.variables.now in
     let own = own_names (entry_of c.in_ok-entry.entry).parameters in
-    let n = length c.args.variables.now in
-    let many : n ≡ length (variable_names vs) = sym (length-map vs (λ (v : CheckedVariable). v.declared.name) ∙ length-map c.args.variables.now variable_of) in
-    let first : take n scope ≡ variable_names vs = ap (take n) c.in_ok-scope.ensures.names ∙ take_first n (variable_names vs) own many in
+    let first = first_in_scope c.args.variables.now own scope c.in_ok-scope.ensures.names in
     let all : scope ≡ scope_for (entry_of c.in_ok-entry.entry) vs ++ [] = c.in_ok-scope.ensures.names ∙ sym (append-nil (scope_for (entry_of c.in_ok-entry.entry) vs)) in
     record {
       resolved = record {
@@ -48,11 +44,9 @@ returns-clause-rows c =
     let t = transition_of c.in-Some.transition.now in
     let vs = map variable_of c.args.variables.now in
     let e = entry_of c.args.entry.now in
-    let n = length c.args.variables.now in
-    let names : scope ≡ scope_for e vs = scope_for-erase vs (entry_of c.in_ok-entry.entry) e scope c.in_ok-scope.ensures.names c.in_ok-entry.ensures.made.same in
-    let all : scope ≡ names_in_transition (first_names vs) e = names ∙ sym (append-nil (scope_for e vs)) in
-    let many : n ≡ length (variable_names vs) = sym (length-map vs (λ (v : CheckedVariable). v.declared.name) ∙ length-map c.args.variables.now variable_of) in
-    let first : take n scope ≡ variable_names vs = ap (take n) names ∙ take_first n (variable_names vs) (own_names e.parameters) many in
+    let names = scope_for-erase vs (entry_of c.in_ok-entry.entry) e scope c.in_ok-scope.ensures.names c.in_ok-entry.ensures.made.same in
+    let all = transition_names vs (entry_of c.in_ok-entry.entry) e scope c.in_ok-scope.ensures.names c.in_ok-entry.ensures.made.same in
+    let first = first_in_scope c.args.variables.now (own_names e.parameters) scope names in
     let written : list_all (assigns_only (variable_names vs) scope) t.effect ≡ true =
     subst (λ (ns : List (List ℕ)). list_all (assigns_only ns scope) t.effect ≡ true) first c.in_ok-transition.ensures.made.effect.known in
     record {
@@ -88,11 +82,9 @@ returns-in_err-transition-clause-refused c =
     let t = transition_of c.in-Some.transition.now in
     let vs = map variable_of c.args.variables.now in
     let e = entry_of c.args.entry.now in
-    let n = length c.args.variables.now in
-    let names : scope ≡ scope_for e vs = scope_for-erase vs (entry_of c.in_ok-entry.entry) e scope c.in_ok-scope.ensures.names c.in_ok-entry.ensures.made.same in
-    let all : scope ≡ names_in_transition (first_names vs) e = names ∙ sym (append-nil (scope_for e vs)) in
-    let many : n ≡ length (variable_names vs) = sym (length-map vs (λ (v : CheckedVariable). v.declared.name) ∙ length-map c.args.variables.now variable_of) in
-    let first : take n scope ≡ variable_names vs = ap (take n) names ∙ take_first n (variable_names vs) (own_names e.parameters) many in
+    let resolved = entry_of c.in_ok-entry.entry in
+    let names = scope_for-erase vs resolved e scope c.in_ok-scope.ensures.names c.in_ok-entry.ensures.made.same in
+    let first = first_in_scope c.args.variables.now (own_names e.parameters) scope names in
     rw (p.1, p.2)
     (refuses_weaker
     (fails_weaker (StandsInEntry (first_names vs) (automaton_of c.args.automaton.now).transitions e)
@@ -100,7 +92,7 @@ returns-in_err-transition-clause-refused c =
       t,
       sym c.in-Some.ensures,
       and_right _ _
-          (subst (λ (ns : List (List ℕ)). is_known_transition (variable_names vs) ns t ≡ false) all
+          (subst (λ (ns : List (List ℕ)). is_known_transition (variable_names vs) ns t ≡ false) (transition_names vs resolved e scope c.in_ok-scope.ensures.names c.in_ok-entry.ensures.made.same)
           (subst (λ (ns : List (List ℕ)). is_known_transition ns scope t ≡ false) first form)),
     ))
     (λ sort. (t, sym c.in-Some.ensures, and_right _ _ sort)))
