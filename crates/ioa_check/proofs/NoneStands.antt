@@ -17,7 +17,7 @@ use Rattle.ioa_terms.specs.declared.tree.Kind.TheVariants.{Input}
 use Rattle.ioa_terms.specs.PlainTerm.{number, name, two}
 use Rattle.ioa_source.specs.PlainText.{automaton, const, named, type_named}
 use Rattle.ioa_source.specs.Sides.{SourceAutomaton, SourceDeclaration, SourceEntry, SourceNode, SourceParameter, SourceTerm, SourceText, SourceTransition, SourceVariable}
-use Rattle.ioa_system.specs.InView.{DeclaredNames, entry_constant, firing, initial_value, names_at, own_names, parameter_names}
+use Rattle.ioa_system.specs.InView.{DeclaredNames, entry_constant, initial_value, names_at, own_names}
 use Rattle.ioa_check.specs.declared.refusal.Row.{Row}
 use Rattle.ioa_check.specs.declared.refusal.Row.TheVariants as row
 use Rattle.ioa_check.specs.FirstForm.{are_first_parameters, is_end, is_first_automaton, is_first_declaration, is_first_entry, is_first_firing, is_first_name, is_first_sort, is_first_transition, is_first_variable, is_message, is_numeral, passes_or_none}

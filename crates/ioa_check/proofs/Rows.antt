@@ -2,7 +2,7 @@
 use Rattle.std.proofs.Common.{◌≡◌, ◌≢◌, ◌<◌, ◌≤◌, ◌+◌, ℕ, zero, suc, pos, Bool, false, List, [], ◌∷◌, ◌++◌, refl, sym, ap, subst, ◌∙◌, length, map, take, get_or, arith, Contains, All, append-nil}
 use Rattle.std.proofs.lemmas.List.{take_more, map-append, length-map}
 use Rattle.std.proofs.Math.Seq.{take-append_seam}
-use Rattle.std.specs.List.{AllByRecursion, IsDistinct, list_any}
+use Rattle.std.specs.List.{IsDistinct, list_any}
 use lib.Pointwise.{pointwise}
 use Rattle.ioa_operators.specs.declared.shape.Shape.{Shape}
 use Rattle.ioa_source.specs.declared.declaration.Variable.{Variable}
@@ -13,7 +13,7 @@ use Rattle.ioa_system.specs.ResolvedPrograms.{AreResolvedFirings, AreResolvedVar
 use Rattle.ioa_check.specs.Correspondence.{AreNodesOf, nodes_in}
 use Rattle.ioa_source.specs.Erasure.{erase_parameter, erase_entry, erase_variable}
 use Rattle.ioa_source.specs.Sides.{CheckedDeclared, CheckedEntry, CheckedParameter, CheckedStatement, CheckedVariable, SourceAutomaton, SourceDeclared, SourceEntry, SourceNode, SourceText, SourceVariable}
-use Rattle.ioa_system.specs.InView.{DeclaredNames, own_names, parameter_names, variable_names}
+use Rattle.ioa_system.specs.InView.{own_names, parameter_names, variable_names}
 use Rattle.ioa_check.specs.Resolutions.{first_names, scope_for}
 use Rattle.ioa_check.specs.Rows.{automaton_scope, names_in_transition}
 use Rattle.ioa_check.proofs.Loops.{each_append}

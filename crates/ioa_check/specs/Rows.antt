@@ -1,7 +1,7 @@
 -- When no row of refusal applies to a text of the first form (profile). A number before a definition is that of the row
 -- that a text is refused by if it fails the test.
 use Rattle.std.specs.Prelude.{◌≡◌, ◌≤◌, ◌<◌, ℕ, ℤ, pos, Bool, true, false, ◌&&◌, ◌||◌, not, slice_get}
-use Rattle.std.specs.Prelude.{List, [], ◌++◌, Option, Some, None, map, length, nat_eq, Contains}
+use Rattle.std.specs.Prelude.{List, [], Option, Some, None, map, length, nat_eq, Contains}
 use Rattle.std.specs.List.{AllByRecursion, IsDistinct, list_all, list_any}
 use Rattle.std.specs.Option.{is_some}
 use Rattle.std.specs.Ordering.{int_eq}
