@@ -12,12 +12,13 @@ use Rattle.std.specs.Ordering.{int_eq}
 use lib.Pointwise.{pointwise}
 use Rattle.ioa_operators.specs.declared.operator.BinaryOperator.{BinaryOperator}
 use Rattle.ioa_operators.specs.declared.operator.BinaryOperator.TheVariants.{Plus, Equal}
-use Rattle.ioa_terms.specs.Bindings.{same_name}
+use Rattle.ioa_terms.specs.declared.name.Name.TheVariants.{Word}
+use Rattle.ioa_terms.specs.Bindings.{same_word}
 use Rattle.ioa_terms.specs.declared.tree.Kind.TheVariants.{Input}
 use Rattle.ioa_terms.specs.PlainTerm.{number, name, two}
 use Rattle.ioa_source.specs.PlainText.{automaton, const, named, type_named}
 use Rattle.ioa_source.specs.Sides.{SourceAutomaton, SourceDeclaration, SourceEntry, SourceNode, SourceParameter, SourceTerm, SourceText, SourceTransition, SourceVariable}
-use Rattle.ioa_system.specs.InView.{DeclaredNames, entry_constant, initial_value, names_at, own_names}
+use Rattle.ioa_system.specs.InView.{DeclaredNames, entry_constant, initial_value, words_at, own_names}
 use Rattle.ioa_check.specs.declared.refusal.Row.{Row}
 use Rattle.ioa_check.specs.declared.refusal.Row.TheVariants as row
 use Rattle.ioa_check.specs.FirstForm.{are_first_parameters, is_end, is_first_automaton, is_first_declaration, is_first_entry, is_first_firing, is_first_name, is_first_sort, is_first_transition, is_first_variable, is_message, is_numeral, passes_or_none}
@@ -121,14 +122,14 @@ same_first f g h k = absurd (cc)
 
 -- each of some names is one of others
 abbrev AreAmong : List (List ℕ) → List (List ℕ) → Type 0
-AreAmong xs ys = (x : List ℕ) → list_any (same_name x) xs ≡ true → list_any (same_name x) ys ≡ true
+AreAmong xs ys = (x : List ℕ) → list_any (same_word x) xs ≡ true → list_any (same_word x) ys ≡ true
 
 -- a term that repeats one reads what is in view, if what the other one reads is
 repeated_term : (given names : List (List ℕ)) (t u : SourceTerm) → AreAmong given names → rows.same_term t u ≡ true → rows.reads_only given t ≡ true → rows.reads_only names u ≡ true
 repeated_term given names (number m) (number n) among h k = refl
-repeated_term given names (name x a) (name y b) among h k =
+repeated_term given names (name (Word x) a) (name (Word y) b) among h k =
     let same : x ≡ y = (bytes_eq-Decides x y).0 h in
-    subst (λ (w : List ℕ). list_any (same_name w) names ≡ true) same (among x k)
+    subst (λ (w : List ℕ). list_any (same_word w) names ≡ true) same (among x k)
 repeated_term given names (two f a b) (two g c d) among h k =
     let same = and_parts (rows.same_operator f g && rows.same_term a c) (rows.same_term b d) h in
     let first = and_parts (rows.same_operator f g) (rows.same_term a c) same.0 in
@@ -140,13 +141,13 @@ repeated_term given names t u among h k = absurd (cc)
 -- an argument that repeats its parameter reads what is in view
 repeated_argument : (given names : List (List ℕ)) (p : SourceParameter) (ps : List SourceParameter) (u : SourceTerm) → AreAmong given names → AreAmong (own_names (p ∷ ps)) names → rows.argument_repeats p u ≡ true → rows.constant_reads_only given p ≡ true → rows.reads_only names u ≡ true
 repeated_argument given names (const t) ps u among own h k = repeated_term given names t u among h k
-repeated_argument given names (named d) ps (name y at) among own h k = own y (rw h refl)
+repeated_argument given names (named d) ps (name (Word y) at) among own h k = own y (rw h refl)
 repeated_argument given names (named d) ps u among own h k = absurd (cc)
 
 -- the names of later parameters are among those of all
-later_own : (p : SourceParameter) (ps : List SourceParameter) (x : List ℕ) → list_any (same_name x) (own_names ps) ≡ true → list_any (same_name x) (own_names (p ∷ ps)) ≡ true
+later_own : (p : SourceParameter) (ps : List SourceParameter) (x : List ℕ) → list_any (same_word x) (own_names ps) ≡ true → list_any (same_word x) (own_names (p ∷ ps)) ≡ true
 later_own (const t) ps x h = h
-later_own (named d) ps x h = or_right (same_name x d.name) (list_any (same_name x) (own_names ps)) h
+later_own (named d) ps x h = or_right (same_word x d.name) (list_any (same_word x) (own_names ps)) h
 
 -- a head that repeats its entry reads what is in view
 repeated_head : (given names : List (List ℕ)) (ps : List SourceParameter) (us : List SourceTerm) → AreAmong given names → AreAmong (own_names ps) names → pointwise rows.argument_repeats ps us ≡ true → list_all (rows.constant_reads_only given) ps ≡ true → list_all (rows.reads_only names) us ≡ true
@@ -176,17 +177,17 @@ third false false true c h = refl
 third false false false c h = absurd (cc)
 
 -- what the constants of an entry may read is in view in its transition
-given_in_view : (d : DeclaredNames) (e : SourceEntry) → AreAmong (names_at entry_constant d []) (rows.names_in_transition d e)
+given_in_view : (d : DeclaredNames) (e : SourceEntry) → AreAmong (words_at entry_constant d []) (rows.names_in_transition d e)
 given_in_view d e x h =
-    any_part (same_name x) d.variables d.parameters (own_names e.parameters) d.constants
-    ∙ second_or_fourth (list_any (same_name x) d.variables) (list_any (same_name x) d.parameters) (list_any (same_name x) (own_names e.parameters)) (list_any (same_name x) d.constants)
-    (sym (list_any-append (same_name x) d.parameters d.constants) ∙ h)
+    any_part (same_word x) d.variables d.parameters (own_names e.parameters) d.constants
+    ∙ second_or_fourth (list_any (same_word x) d.variables) (list_any (same_word x) d.parameters) (list_any (same_word x) (own_names e.parameters)) (list_any (same_word x) d.constants)
+    (sym (list_any-append (same_word x) d.parameters d.constants) ∙ h)
 
 -- and so are the entry's own names
 own_in_view : (d : DeclaredNames) (e : SourceEntry) → AreAmong (own_names e.parameters) (rows.names_in_transition d e)
 own_in_view d e x h =
-    any_part (same_name x) d.variables d.parameters (own_names e.parameters) d.constants
-    ∙ third (list_any (same_name x) d.variables) (list_any (same_name x) d.parameters) (list_any (same_name x) (own_names e.parameters)) (list_any (same_name x) d.constants) h
+    any_part (same_word x) d.variables d.parameters (own_names e.parameters) d.constants
+    ∙ third (list_any (same_word x) d.variables) (list_any (same_word x) d.parameters) (list_any (same_word x) (own_names e.parameters)) (list_any (same_word x) d.constants) h
 
 -- a state variable of the first form is known
 known_variable : (names : List (List ℕ)) (v : SourceVariable) → is_first_variable v ≡ true → rows.guard_reads_only names v.initial ≡ true → is_known_variable names v ≡ true
@@ -202,15 +203,15 @@ module _ (d : DeclaredNames) (ts : List SourceTransition) (e : SourceEntry) (for
   passed : (p : SourceTransition → Bool) → p h.transition ≡ true → (t : SourceTransition) → transition_for e ts ≡ Some t → p t ≡ true
   passed p k t is = subst (λ (u : SourceTransition). p u ≡ true) (one_value h.found is) k
 
-  known : (is_known_entry (names_at entry_constant d []) e && is_known_transition d.variables (rows.names_in_transition d e) h.transition) ≡ true
+  known : (is_known_entry (words_at entry_constant d []) e && is_known_transition d.variables (rows.names_in_transition d e) h.transition) ≡ true
   known =
-      both_pass (known_entry (names_at entry_constant d []) e form h.constant_names)
-      (both_pass (repeated_head (names_at entry_constant d []) (rows.names_in_transition d e) e.parameters h.transition.arguments (given_in_view d e) (own_in_view d e) h.head h.constant_names)
+      both_pass (known_entry (words_at entry_constant d []) e form h.constant_names)
+      (both_pass (repeated_head (words_at entry_constant d []) (rows.names_in_transition d e) e.parameters h.transition.arguments (given_in_view d e) (own_in_view d e) h.head h.constant_names)
       (both_pass h.guard_names h.effect_names))
 
   -- no row applies to an entry
   pub none_in_entry : (r : Row) → StandsInEntry d ts e r → ⊥
-  none_in_entry row.Unknown s = not_both (passed (λ t. is_known_entry (names_at entry_constant d []) e && is_known_transition d.variables (rows.names_in_transition d e) t) known s.0 s.1) s.2
+  none_in_entry row.Unknown s = not_both (passed (λ t. is_known_entry (words_at entry_constant d []) e && is_known_transition d.variables (rows.names_in_transition d e) t) known s.0 s.1) s.2
   none_in_entry row.Twice s = s h.differ
   none_in_entry row.Sorts s =
       not_both (passed (λ t. list_all rows.is_number_constant e.parameters && is_sorted_transition t) (both_pass h.constants (both_pass h.guard h.effect)) s.0 s.1) s.2
@@ -227,7 +228,7 @@ module _ (d : DeclaredNames) (ts : List SourceTransition) (e : SourceEntry) (for
 -- no row applies to an automaton without its entries
 none_in_parts : (a : SourceAutomaton) → is_first_automaton a ≡ true → HasNoAutomatonRow a → (r : Row) → StandsInParts a r → ⊥
 none_in_parts a form h row.Unknown s =
-    let given : List (List ℕ) = names_at initial_value (rows.automaton_scope a) [] in
+    let given : List (List ℕ) = words_at initial_value (rows.automaton_scope a) [] in
     not_both
     (both_pass (first_parts a form).0 (both_pass h.transitions (both_pass h.firings (both_pass h.read
     (all_by is_first_variable (λ v. rows.guard_reads_only given v.initial) (is_known_variable given) (known_variable given) a.states (first_parts a form).2 h.initial_names))))) s

@@ -7,14 +7,14 @@ use Rattle.std.specs.Prelude.{◌&&◌, find, nat_eq}
 use Rattle.std.specs.List.{IsDistinct, list_all}
 use Rattle.std.specs.Option.{is_some, option_map}
 use Rattle.ioa_operators.specs.declared.shape.Shape.{Shape}
-use Rattle.ioa_terms.specs.Bindings.{Bindings, same_name}
+use Rattle.ioa_terms.specs.Bindings.{Bindings, same_word}
 use Rattle.ioa_source.specs.declared.declaration.Declaration.{Declaration}
 use Rattle.ioa_source.specs.declared.declaration.Parameter.{Parameter}
 use Rattle.ioa_source.specs.declared.declaration.Variable.{Variable}
 use Rattle.ioa_source.specs.Erasure.{erase_declared, erase_term, erase_variable}
 use Rattle.ioa_source.specs.Sides.{CheckedDeclared, CheckedTerm, CheckedVariable, SourceAutomaton, SourceDeclaration, SourceDeclared, SourceNode, SourceText, SourceVariable}
 use Rattle.ioa_source.specs.TextView.{declaration_of, parameter_of, variable_of}
-use Rattle.ioa_system.specs.InView.{environment_at, firing, given_bindings, initial_value, names_at, own_name, own_names, parameter_names}
+use Rattle.ioa_system.specs.InView.{environment_at, firing, given_bindings, initial_value, words_at, own_name, own_names, parameter_names}
 use Rattle.ioa_system.specs.Parts.{AutomatonParts}
 use Rattle.ioa_check.specs.declared.refusal.Row.{Row}
 use Rattle.ioa_check.specs.declared.refusal.Row.TheVariants as row
@@ -39,14 +39,14 @@ find_contains {A} test (y ∷ xs) x h = by_test (test y) (λ e. find_contains te
     by_test false further h = let c = further h in (suc c.0, omega (arith, c.1), c.2)
 
 -- the own names of parameters, one of which repeats a name
-pub parameters_repeat : (names whole : List (List ℕ)) (ps : List (Parameter ℕ Shape)) (i : ℕ) (p : Parameter ℕ Shape) → (IsDistinct same_name (names ++ own_name (parameter_of p)) → ⊥) → names ++ own_names (map parameter_of (drop i ps)) ≡ whole → drop i ps ≡ p ∷ drop (i + 1) ps → IsDistinct same_name whole → ⊥
+pub parameters_repeat : (names whole : List (List ℕ)) (ps : List (Parameter ℕ Shape)) (i : ℕ) (p : Parameter ℕ Shape) → (IsDistinct same_word (names ++ own_name (parameter_of p)) → ⊥) → names ++ own_names (map parameter_of (drop i ps)) ≡ whole → drop i ps ≡ p ∷ drop (i + 1) ps → IsDistinct same_word whole → ⊥
 parameters_repeat names whole ps i p wrong same left d =
     let rest : List (List ℕ) = own_names (map parameter_of (drop (i + 1) ps)) in
     let all : (names ++ own_name (parameter_of p)) ++ rest ≡ whole =
     append_assoc names (own_name (parameter_of p)) rest
     ∙ ap (λ (zs : List (Parameter ℕ Shape)). names ++ own_names (map parameter_of zs)) (sym left)
     ∙ same in
-    first_repeat (names ++ own_name (parameter_of p)) rest wrong (subst (λ (zs : List (List ℕ)). IsDistinct same_name zs) (sym all) d)
+    first_repeat (names ++ own_name (parameter_of p)) rest wrong (subst (λ (zs : List (List ℕ)). IsDistinct same_word zs) (sym all) d)
 
 -- an initial term that is not there is not there in the text
 erased : (v : CheckedVariable) → is_some v.initial ≡ false → is_some (erase_variable v).initial ≡ false
@@ -99,10 +99,10 @@ compiled_stands t n placed a named c is row.BadArgument h =
     inl (inr whole)
 
 -- a schedule that reads what is not in view is a row of its automaton
-pub schedule_stands : (a : SourceAutomaton) → list_all (fires_only (names_at firing (automaton_scope a) [])) a.schedule ≡ false → StandsInParts a row.Unknown
+pub schedule_stands : (a : SourceAutomaton) → list_all (fires_only (words_at firing (automaton_scope a) [])) a.schedule ≡ false → StandsInParts a row.Unknown
 schedule_stands a h =
-    let reads : Bool = list_all (fires_only (names_at firing (automaton_scope a) [])) a.schedule in
-    let known : Bool = list_all (is_known_variable (names_at initial_value (automaton_scope a) [])) a.states in
+    let reads : Bool = list_all (fires_only (words_at firing (automaton_scope a) [])) a.schedule in
+    let known : Bool = list_all (is_known_variable (words_at initial_value (automaton_scope a) [])) a.states in
     and_right (nat_eq (length a.parameters) 0) (transitions_have_entries a && (firings_have_entries a && (reads && known)))
     (and_right (transitions_have_entries a) (firings_have_entries a && (reads && known))
     (and_right (firings_have_entries a) (reads && known) (and_left reads known h)))
@@ -135,7 +135,7 @@ declaration_stands names ds i d same within at r (inl twice) =
     let at_name : SourceAutomaton → List ℕ = λ (a : SourceAutomaton). a.name in
     let whole : map at_name (automata_in (map declaration_of ds)) ≡ (names ++ map at_name own) ++ map at_name after =
     rw (automata_at ds i d within at, map-append at_name (before ++ own) after, map-append at_name before own, same) refl in
-    inl (twice.0, λ all. first_repeat (names ++ map at_name own) (map at_name after) twice.1 (subst (λ (zs : List (List ℕ)). IsDistinct same_name zs) whole all))
+    inl (twice.0, λ all. first_repeat (names ++ map at_name own) (map at_name after) twice.1 (subst (λ (zs : List (List ℕ)). IsDistinct same_word zs) whole all))
 declaration_stands names ds i d same within at r (inr own) =
     let before : List SourceAutomaton = automata_in (map declaration_of (take i ds)) in
     let after : List SourceAutomaton = automata_in (map declaration_of (drop (i + 1) ds)) in

@@ -7,7 +7,8 @@ use Rattle.std.proofs.Math.ListN.{get_or-map}
 use Rattle.std.specs.Prelude.{nat_eq, not}
 use Rattle.std.specs.List.{IsDistinct, list_all, list_any}
 use Rattle.std.specs.Option.{option_map}
-use Rattle.ioa_terms.specs.Bindings.{slot_in, same_name}
+use Rattle.ioa_terms.specs.declared.name.Name.TheVariants.{Word}
+use Rattle.ioa_terms.specs.Bindings.{slot_in, same_word}
 use Rattle.ioa_check.specs.declared.refusal.Refusal.{Refusal}
 use Rattle.ioa_check.specs.declared.refusal.Refusal.TheVariants as refusal
 use Rattle.ioa_check.specs.declared.refusal.Row.{Row}
@@ -80,20 +81,20 @@ same_number : (m n : ℕ) → nat_eq m n ≡ nat_eq n m
 same_number m n = grind (arith, nat_tests)
 
 -- names are the same in either order
-same_name-sym : (x y : List ℕ) → same_name x y ≡ same_name y x
-same_name-sym [] [] = refl
-same_name-sym [] (n ∷ y) = refl
-same_name-sym (m ∷ x) [] = refl
-same_name-sym (m ∷ x) (n ∷ y) = rw (same_number m n, same_name-sym x y) refl
+same_word-sym : (x y : List ℕ) → same_word x y ≡ same_word y x
+same_word-sym [] [] = refl
+same_word-sym [] (n ∷ y) = refl
+same_word-sym (m ∷ x) [] = refl
+same_word-sym (m ∷ x) (n ∷ y) = rw (same_number m n, same_word-sym x y) refl
 
 -- a name that is among others
-any_name : (x : List ℕ) (names : List (List ℕ)) → list_any (same_name x) names ≡ list_any (λ y. same_name y x) names
+any_name : (x : List ℕ) (names : List (List ℕ)) → list_any (same_word x) names ≡ list_any (λ y. same_word y x) names
 any_name x [] = refl
-any_name x (y ∷ names) = rw (same_name-sym x y, any_name x names) refl
+any_name x (y ∷ names) = rw (same_word-sym x y, any_name x names) refl
 
 -- a name that is declared
-pub declared_twice : (x : List ℕ) (names : List (List ℕ)) → list_any (same_name x) names ≡ true → IsDistinct same_name (names ++ x ∷ []) → ⊥
-declared_twice x names h d = repeats_push same_name names x (sym (any_name x names) ∙ h) d
+pub declared_twice : (x : List ℕ) (names : List (List ℕ)) → list_any (same_word x) names ≡ true → IsDistinct same_word (names ++ x ∷ []) → ⊥
+declared_twice x names h d = repeats_push same_word names x (sym (any_name x names) ∙ h) d
 
 -- a list is the items before an item, the item, and the items after it
 pub parts_at : {A : Type 0} (ys : List A) (i : ℕ) (y : A) → i < length ys → y ≡ get_or ys i y → ys ≡ (take i ys ++ y ∷ []) ++ drop (i + 1) ys
@@ -140,21 +141,21 @@ names_repeat {A} {B} {C} e g f ys i y old wrong same within at d =
     wrong (subst (λ (zs : List C). IsDistinct e (zs ++ g (f y) ∷ [])) (sym same) first)
 
 -- if the first names do not differ, all names do not
-pub first_repeat : (xs ys : List (List ℕ)) → (IsDistinct same_name xs → ⊥) → IsDistinct same_name (xs ++ ys) → ⊥
-first_repeat xs ys wrong d = wrong (distinct_first same_name xs ys d)
+pub first_repeat : (xs ys : List (List ℕ)) → (IsDistinct same_word xs → ⊥) → IsDistinct same_word (xs ++ ys) → ⊥
+first_repeat xs ys wrong d = wrong (distinct_first same_word xs ys d)
 
 -- a name that has no slot is none of the names
-pub none_slot : (x : List ℕ) (names : List (List ℕ)) → None ≡ slot_in x names → list_any (same_name x) names ≡ false
+pub none_slot : (x : List ℕ) (names : List (List ℕ)) → None ≡ slot_in (Word x) (map Word names) → list_any (same_word x) names ≡ false
 none_slot x [] h = refl
-none_slot x (y ∷ ys) h = by_test (same_name x y) (λ e. none_slot x ys e) h
+none_slot x (y ∷ ys) h = by_test (same_word x y) (λ e. none_slot x ys e) h
   where
-    by_slot : (o : Option ℕ) → slot_in x ys ≡ o → (None ≡ slot_in x ys → list_any (same_name x) ys ≡ false) → None ≡ option_map (λ k. k + 1) o → list_any (same_name x) ys ≡ false
+    by_slot : (o : Option ℕ) → slot_in (Word x) (map Word ys) ≡ o → (None ≡ slot_in (Word x) (map Word ys) → list_any (same_word x) ys ≡ false) → None ≡ option_map (λ k. k + 1) o → list_any (same_word x) ys ≡ false
     by_slot None e further h = further (sym e)
     by_slot (Some k) e further h = absurd (cc)
 
-    by_test : (b : Bool) → (None ≡ slot_in x ys → list_any (same_name x) ys ≡ false) → None ≡ (if b then Some 0 else option_map (λ k. k + 1) (slot_in x ys)) → (b || list_any (same_name x) ys) ≡ false
+    by_test : (b : Bool) → (None ≡ slot_in (Word x) (map Word ys) → list_any (same_word x) ys ≡ false) → None ≡ (if b then Some 0 else option_map (λ k. k + 1) (slot_in (Word x) (map Word ys))) → (b || list_any (same_word x) ys) ≡ false
     by_test true further h = absurd (cc)
-    by_test false further h = by_slot (slot_in x ys) refl further h
+    by_test false further h = by_slot (slot_in (Word x) (map Word ys)) refl further h
 
 any_of_first : (b c d : Bool) → (c ≡ false → d ≡ false) → (b || c) ≡ false → (b || d) ≡ false
 any_of_first true c d h e = absurd (cc)
@@ -168,23 +169,23 @@ first_of p (x ∷ xs) zero h = refl
 first_of p (x ∷ xs) (suc n) h = any_of_first (p x) (list_any p xs) (list_any p (take n xs)) (λ e. first_of p xs n e) h
 
 -- nor is it one of the first names
-pub none_first_slot : (x : List ℕ) (names : List (List ℕ)) (count : ℕ) → None ≡ slot_in x names → list_any (same_name x) (take count names) ≡ false
-none_first_slot x names count h = first_of (same_name x) names count (none_slot x names h)
+pub none_first_slot : (x : List ℕ) (names : List (List ℕ)) (count : ℕ) → None ≡ slot_in (Word x) (map Word names) → list_any (same_word x) (take count names) ≡ false
+none_first_slot x names count h = first_of (same_word x) names count (none_slot x names h)
 
 -- a name whose slot comes after the first names is none of them
-pub later_slot : (x : List ℕ) (names : List (List ℕ)) (at count : ℕ) → Some at ≡ slot_in x names → count ≤ at → list_any (same_name x) (take count names) ≡ false
+pub later_slot : (x : List ℕ) (names : List (List ℕ)) (at count : ℕ) → Some at ≡ slot_in (Word x) (map Word names) → count ≤ at → list_any (same_word x) (take count names) ≡ false
 later_slot x [] at zero h l = refl
 later_slot x [] at (suc count) h l = refl
 later_slot x (y ∷ ys) at zero h l = refl
-later_slot x (y ∷ ys) at (suc count) h l = by_test (same_name x y) (λ k e m. later_slot x ys k count e m) h
+later_slot x (y ∷ ys) at (suc count) h l = by_test (same_word x y) (λ k e m. later_slot x ys k count e m) h
   where
-    by_slot : (o : Option ℕ) → slot_in x ys ≡ o → ((k : ℕ) → Some k ≡ slot_in x ys → count ≤ k → list_any (same_name x) (take count ys) ≡ false) → Some at ≡ option_map (λ k. k + 1) o → list_any (same_name x) (take count ys) ≡ false
+    by_slot : (o : Option ℕ) → slot_in (Word x) (map Word ys) ≡ o → ((k : ℕ) → Some k ≡ slot_in (Word x) (map Word ys) → count ≤ k → list_any (same_word x) (take count ys) ≡ false) → Some at ≡ option_map (λ k. k + 1) o → list_any (same_word x) (take count ys) ≡ false
     by_slot None e further h = absurd (cc)
     by_slot (Some k) e further h = let next : k + 1 ≡ at = cc in further k (sym e) (omega arith)
 
-    by_test : (b : Bool) → ((k : ℕ) → Some k ≡ slot_in x ys → count ≤ k → list_any (same_name x) (take count ys) ≡ false) → Some at ≡ (if b then Some 0 else option_map (λ k. k + 1) (slot_in x ys)) → (b || list_any (same_name x) (take count ys)) ≡ false
+    by_test : (b : Bool) → ((k : ℕ) → Some k ≡ slot_in (Word x) (map Word ys) → count ≤ k → list_any (same_word x) (take count ys) ≡ false) → Some at ≡ (if b then Some 0 else option_map (λ k. k + 1) (slot_in (Word x) (map Word ys))) → (b || list_any (same_word x) (take count ys)) ≡ false
     by_test true further h = let same : 0 ≡ at = cc in absurd (omega arith)
-    by_test false further h = by_slot (slot_in x ys) refl further h
+    by_test false further h = by_slot (slot_in (Word x) (map Word ys)) refl further h
 
 -- what a test that failed says
 pub from_not : (fresh old : Bool) → fresh ≡ not old → fresh ≡ false → old ≡ true

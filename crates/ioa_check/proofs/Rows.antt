@@ -5,6 +5,7 @@ use Rattle.std.proofs.Math.Seq.{take-append_seam}
 use Rattle.std.specs.List.{IsDistinct, list_any}
 use lib.Pointwise.{pointwise}
 use Rattle.ioa_operators.specs.declared.shape.Shape.{Shape}
+use Rattle.ioa_terms.specs.declared.name.Name.TheVariants.{Word}
 use Rattle.ioa_source.specs.declared.declaration.Variable.{Variable}
 use Rattle.ioa_source.specs.PlainText.{const, named}
 use Rattle.ioa_source.specs.TextView.{variable_of}
@@ -12,7 +13,7 @@ use Rattle.ioa_system.specs.Parts.{Parts, PlainRule, automaton_parts}
 use Rattle.ioa_system.specs.ResolvedPrograms.{AreResolvedFirings, AreResolvedVariables, IsCompiled, IsResolvedRule}
 use Rattle.ioa_check.specs.Correspondence.{AreNodesOf, nodes_in}
 use Rattle.ioa_source.specs.Erasure.{erase_parameter, erase_entry, erase_variable}
-use Rattle.ioa_source.specs.Sides.{CheckedDeclared, CheckedEntry, CheckedParameter, CheckedStatement, CheckedVariable, SourceAutomaton, SourceDeclared, SourceEntry, SourceNode, SourceText, SourceVariable}
+use Rattle.ioa_source.specs.Sides.{CheckedDeclared, CheckedEntry, CheckedParameter, CheckedFiring, CheckedVariable, SourceAutomaton, SourceDeclared, SourceEntry, SourceNode, SourceText, SourceVariable}
 use Rattle.ioa_system.specs.InView.{own_names, parameter_names, variable_names}
 use Rattle.ioa_check.specs.Resolutions.{first_names, scope_for}
 use Rattle.ioa_check.specs.Rows.{automaton_scope, names_in_transition}
@@ -106,7 +107,7 @@ first_in_scope variables own scope names =
     ap (take (length variables)) names ∙ take_first (length variables) (variable_names vs) own many
 
 -- an automaton without parameters, in a text without constants, whose names are resolved among those of its variables
-pub resolved_alone : (w : List ℕ) (cs : List (List ℕ)) (ds : List CheckedDeclared) (vs : List CheckedVariable) (scope : List (List ℕ)) (rs : List PlainRule) (ss : List CheckedStatement) → cs ≡ [] → ds ≡ [] → scope ≡ variable_names vs → All (IsResolvedRule (first_names vs)) rs → AreResolvedVariables [] vs → AreResolvedFirings ss scope → IsCompiled scope (automaton_parts w cs ds vs rs ss)
+pub resolved_alone : (w : List ℕ) (cs : List (List ℕ)) (ds : List CheckedDeclared) (vs : List CheckedVariable) (scope : List (List ℕ)) (rs : List PlainRule) (ss : List CheckedFiring) → cs ≡ [] → ds ≡ [] → scope ≡ variable_names vs → All (IsResolvedRule (first_names vs)) rs → AreResolvedVariables [] vs → AreResolvedFirings ss (map Word scope) → IsCompiled scope (automaton_parts w cs ds vs rs ss)
 resolved_alone w (c ∷ cs) ds vs scope rs ss h k names rules initials schedule = absurd (cc)
 resolved_alone w [] (d ∷ ds) vs scope rs ss h k names rules initials schedule = absurd (cc)
 resolved_alone w [] [] vs scope rs ss h k names rules initials schedule = record {
@@ -114,6 +115,6 @@ resolved_alone w [] [] vs scope rs ss h k names rules initials schedule = record
   resolved = record {
     rules = rules;
     initials = initials;
-    schedule = subst (AreResolvedFirings ss) (names ∙ sym (append-nil (variable_names vs))) schedule;
+    schedule = subst (λ (ns : List (List ℕ)). AreResolvedFirings ss (map Word ns)) (names ∙ sym (append-nil (variable_names vs))) schedule;
   };
 }

@@ -1,10 +1,11 @@
 -- The sorts of the first form are shapes of terms.
-use Rattle.std.proofs.Common.{◌≡◌, ℕ, ◌+◌, Bool, true, false, List, [], ◌∷◌, Option, Some, None, refl, ap, map, if◌then◌else◌}
+use Rattle.std.proofs.Common.{◌≡◌, ℕ, ◌+◌, Bool, true, false, [], ◌∷◌, Option, Some, None, refl, ap, map, if◌then◌else◌}
 use Rattle.std.proofs.lemmas.Bool.{and_parts}
 use Rattle.std.specs.List.{AllByRecursion}
 use Rattle.std.specs.Option.{option_map}
 use Rattle.ioa_operators.specs.Shapes.{integers, truths}
 use Rattle.ioa_operators.specs.declared.operator.BinaryOperator.TheVariants.{Plus, Equal}
+use Rattle.ioa_terms.specs.declared.name.Name.{Name}
 use Rattle.ioa_terms.specs.Bindings.{slot_in, same_name}
 use Rattle.ioa_terms.specs.Resolved.{IsResolved}
 use Rattle.ioa_terms.specs.Sorted.{HasShape, NameShapes, equal, shape_named, sum}
@@ -13,7 +14,7 @@ use Rattle.ioa_source.specs.Sides.{CheckedTerm}
 use Rattle.ioa_check.specs.FirstSorts.{is_guard, is_number}
 
 -- a name that has a slot among integers is an integer
-named_has : (names : NameShapes) → AllByRecursion (λ n. n.1 ≡ integers) names → (x : List ℕ) (at : ℕ) → slot_in x (map (λ n. n.0) names) ≡ Some at → shape_named x names ≡ Some integers
+named_has : (names : NameShapes) → AllByRecursion (λ n. n.1 ≡ integers) names → (x : Name) (at : ℕ) → slot_in x (map (λ n. n.0) names) ≡ Some at → shape_named x names ≡ Some integers
 named_has [] all x at h = absurd (cc)
 named_has (n ∷ names) all x at h = by_test (same_name x n.0) (λ k e. named_has names all.1 x k e) h
   where

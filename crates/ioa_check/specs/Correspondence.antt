@@ -4,19 +4,19 @@ use Rattle.std.specs.Prelude.{◌≡◌, ℕ, pos, Bool, true, false, ◌&&◌, 
 use Rattle.std.specs.Prelude.{Option, Some, None, Result, Ok, Err, map, length, find, Contains}
 use Rattle.std.specs.List.{AllByRecursion}
 use Rattle.ioa_values.specs.Data.{Data}
-use Rattle.ioa_terms.specs.Bindings.{Bindings, same_name}
+use Rattle.ioa_terms.specs.Bindings.{Bindings, same_word}
 use Rattle.ioa_terms.specs.Meaning.{answer}
 use Rattle.ioa_terms.specs.Performance.{target_shape}
 use Rattle.ioa_operators.specs.Shapes.{PlainShape, integers}
 use Rattle.ioa_source.specs.PlainSort.{PlainSort}
 use Rattle.ioa_source.specs.PlainSort as sort
-use Rattle.ioa_terms.specs.PlainTerm.{assign, branch, fire}
+use Rattle.ioa_terms.specs.PlainTerm.{assign, branch}
 use Rattle.ioa_operators.specs.declared.fault.TermFault.{TermFault}
 use Rattle.ioa_operators.specs.declared.fault.TermFault.TheVariants.{Undefined}
 use Rattle.ioa_terms.specs.declared.tree.Kind.{Kind}
 use Rattle.ioa_terms.specs.declared.tree.Kind.TheVariants.{Input, Output, Internal}
 use Rattle.ioa_source.specs.TextView.{node_of}
-use Rattle.ioa_source.specs.Erasure.{erase_declared, erase_entry, erase_variable, erase_transition, erase_statement}
+use Rattle.ioa_source.specs.Erasure.{erase_declared, erase_entry, erase_variable, erase_transition, erase_firing}
 use Rattle.ioa_source.specs.PlainText.{PlainEntry, PlainTransition, const, named}
 use Rattle.ioa_source.specs.PlainText as plain
 use Rattle.ioa_source.specs.declared.declaration.Node.{Node}
@@ -41,13 +41,12 @@ same_kind Internal Internal = true
 
 -- the transition of an entry: the first of its name and kind
 abbrev pub transition_for : {N D : Type 0} → PlainEntry N D → List (PlainTransition N D) → Option (PlainTransition N D)
-transition_for e ts = find (λ t. same_name t.name e.name && same_kind t.kind e.kind) ts
+transition_for e ts = find (λ t. same_word t.name e.name && same_kind t.kind e.kind) ts
 
 -- an assigned variable has the shape of its sort, which is Int in this form
 abbrev pub AssignsInteger : CheckedStatement → Type 0
 AssignsInteger (assign p t) = target_shape p ≡ integers
 AssignsInteger (branch arms rest) = ⊥
-AssignsInteger (fire k x ts) = Unit {0}
 
 -- the shape of a sort; in this form there is Int alone
 abbrev pub IsShapeOf : PlainSort → PlainShape → Type 0
@@ -92,7 +91,7 @@ pub record IsAutomatonOf (a : SourceAutomaton) (c : AutomatonParts) : Type 0 whe
   pub shapes : AllByRecursion HasIntegers c.rules
   pub states : map erase_variable c.variables ≡ a.states
   pub sorts : AllByRecursion (λ v. HasItsShape v.declared) c.variables
-  pub schedule : map erase_statement c.schedule ≡ a.schedule
+  pub schedule : map erase_firing c.schedule ≡ a.schedule
 
 -- the same of each of several automata, in their order
 abbrev pub AreAutomataOf : List SourceAutomaton → List AutomatonParts → Type 0
@@ -109,7 +108,7 @@ pub record AddsAutomata (old new : List AutomatonParts) (automata : List SourceA
 
 -- the automaton of a name, the first if several have it, among those that were made ready
 abbrev pub compiled_named : List ℕ → List AutomatonParts → Option AutomatonParts
-compiled_named x cs = find (λ c. same_name c.name x) cs
+compiled_named x cs = find (λ c. same_word c.name x) cs
 
 -- the initial values of a program are those of its state variables' initial terms, which read what the node gives
 abbrev pub HasInitialValues : Parts → Type 0
@@ -134,7 +133,7 @@ automata_in (d ∷ more) = automaton_in d ++ automata_in more
 
 -- the automaton of a name, the first if several have it
 abbrev pub automaton_named : List ℕ → List SourceDeclaration → Option SourceAutomaton
-automaton_named x ds = find (λ a. same_name a.name x) (automata_in ds)
+automaton_named x ds = find (λ a. same_word a.name x) (automata_in ds)
 
 -- the node behind a reference
 abbrev pub node_at : Bor (Node (Unit {0}) (Unit {0})) → SourceNode

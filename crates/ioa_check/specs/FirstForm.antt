@@ -5,14 +5,15 @@ use Rattle.std.specs.Prelude.{List, Option, Some, None, length}
 use Rattle.std.specs.List.{list_all}
 use Rattle.std.specs.Option.{is_some}
 use Rattle.ioa_actions.specs.ActionParts.{send_name, receive_name}
-use Rattle.ioa_terms.specs.Bindings.{same_name}
+use Rattle.ioa_terms.specs.Bindings.{same_word}
 use Rattle.ioa_terms.specs.declared.tree.Kind.{Kind}
 use Rattle.ioa_terms.specs.declared.tree.Kind.TheVariants.{Input, Output, Internal}
 use Rattle.ioa_source.specs.PlainSort.{PlainSort, integers}
-use Rattle.ioa_terms.specs.PlainTerm.{number, variable, at_key, at_field, assign, branch, fire}
+use Rattle.ioa_terms.specs.PlainTerm.{number, variable, at_key, at_field, assign, branch}
 use Rattle.ioa_source.specs.PlainText.{const, named, type_named, automaton, node, channel}
-use Rattle.ioa_source.specs.Sides.{SourceAutomaton, SourceDeclaration, SourceEntry, SourceParameter, SourceTarget}
-use Rattle.ioa_source.specs.Sides.{SourcePlacement, SourceStatement, SourceTerm, SourceTransition, SourceVariable}
+use Rattle.ioa_source.specs.Sides.{SourceAutomaton, SourceDeclaration, SourceEntry, SourceFiring, SourceParameter}
+use Rattle.ioa_source.specs.Sides.{SourcePlacement, SourceStatement, SourceTarget, SourceTerm, SourceTransition}
+use Rattle.ioa_source.specs.Sides.{SourceVariable}
 use Rattle.ioa_check.specs.FirstSorts.{is_number, is_guard}
 
 -- there is a value, and it passes the test
@@ -58,8 +59,8 @@ are_first_parameters ps =
 
 -- an input is named `receive` and an output `send`; there are no others
 abbrev pub is_first_name : Kind → List ℕ → Bool
-is_first_name Input w = same_name w receive_name
-is_first_name Output w = same_name w send_name
+is_first_name Input w = same_word w receive_name
+is_first_name Output w = same_word w send_name
 is_first_name Internal w = false
 
 -- an entry without a condition
@@ -80,13 +81,10 @@ is_first_target (at_field x at d f) = false
 abbrev pub is_first_assignment : SourceStatement → Bool
 is_first_assignment (assign p t) = is_first_target p && is_first_term t
 is_first_assignment (branch arms rest) = false
-is_first_assignment (fire k x ts) = false
 
--- a statement of a schedule block: a firing without a kind
-abbrev pub is_first_firing : SourceStatement → Bool
-is_first_firing (assign p t) = false
-is_first_firing (branch arms rest) = false
-is_first_firing (fire k x ts) = not (is_some k) && list_all is_first_term ts
+-- a firing without a kind
+abbrev pub is_first_firing : SourceFiring → Bool
+is_first_firing f = not (is_some f.kind) && list_all is_first_term f.arguments
 
 -- an input or an output
 abbrev pub is_first_kind : Kind → Bool

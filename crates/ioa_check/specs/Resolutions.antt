@@ -4,12 +4,14 @@
 use Rattle.std.specs.Prelude.{◌≡◌, ℕ, true, List, [], Option, map, take, All}
 use Rattle.std.specs.List.{AllByRecursion, list_all}
 use Rattle.std.specs.Option.{is_some, option_map}
+use Rattle.ioa_terms.specs.declared.name.Name.{Name}
+use Rattle.ioa_terms.specs.declared.name.Name.TheVariants.{Word}
 use Rattle.ioa_terms.specs.Resolved.{IsResolved, IsResolvedStatement, AreResolved}
-use Rattle.ioa_source.specs.Erasure.{erase_term, erase_statement, erase_parameter}
+use Rattle.ioa_source.specs.Erasure.{erase_term, erase_statement, erase_firing, erase_parameter}
 use Rattle.ioa_source.specs.Erasure.{erase_entry, erase_variable, erase_transition}
-use Rattle.ioa_source.specs.Sides.{SourceTerm, SourceTarget, SourceStatement, SourceParameter}
+use Rattle.ioa_source.specs.Sides.{SourceTerm, SourceTarget, SourceStatement, SourceFiring, SourceParameter}
 use Rattle.ioa_source.specs.Sides.{SourceEntry, SourceVariable, SourceTransition, SourceAutomaton}
-use Rattle.ioa_source.specs.Sides.{CheckedTerm, CheckedStatement, CheckedParameter}
+use Rattle.ioa_source.specs.Sides.{CheckedTerm, CheckedStatement, CheckedFiring, CheckedParameter}
 use Rattle.ioa_source.specs.Sides.{CheckedEntry, CheckedVariable, CheckedTransition}
 use Rattle.ioa_system.specs.Parts.{PlainRule}
 use Rattle.ioa_system.specs.ResolvedPrograms.{IsResolvedGuard, AreResolvedTerms, IsResolvedRule}
@@ -27,7 +29,7 @@ use Rattle.ioa_check.specs.Standing.{is_known_transition, is_sorted_transition}
 -- a term whose names are among these
 pub record IsTermOf (names : List (List ℕ)) (t : SourceTerm) (c : CheckedTerm) : Type 0 where
   pub same : erase_term c ≡ t
-  pub resolved : IsResolved c names
+  pub resolved : IsResolved c (map Word names)
   -- 20: it is of the form that runs today, and its names are in view
   pub known : reads_only names t ≡ true
 
@@ -37,7 +39,7 @@ FailsOfTerm names t = Fails (reads_only names t) true
 -- terms, one for each of the text's
 pub record AreTermsOf (names : List (List ℕ)) (ts : List SourceTerm) (cs : List CheckedTerm) : Type 0 where
   pub same : map erase_term cs ≡ ts
-  pub resolved : AreResolvedTerms cs names
+  pub resolved : AreResolvedTerms cs (map Word names)
   -- 20: they are of the form that runs today, and their names are in view
   pub known : list_all (reads_only names) ts ≡ true
 
@@ -52,7 +54,7 @@ FailsOfTarget count names t = Fails (writes_only (take count names) t) true
 pub record IsAssignmentOf
     (count : ℕ) (names : List (List ℕ)) (s : SourceStatement) (c : CheckedStatement) : Type 0 where
   pub same : erase_statement c ≡ s
-  pub resolved : IsResolvedStatement c (take count names) names
+  pub resolved : IsResolvedStatement c (map Word (take count names)) (map Word names)
   pub shape : AssignsInteger c
   -- 20: it is an assignment to a state variable, and the names that it reads are in view
   pub known : assigns_only (take count names) names s ≡ true
@@ -66,7 +68,7 @@ FailsOfAssignment count names s = Fails (assigns_only (take count names) names s
 pub record IsEffectOf
     (count : ℕ) (names : List (List ℕ)) (ss : List SourceStatement) (cs : List CheckedStatement) : Type 0 where
   pub same : map erase_statement cs ≡ ss
-  pub resolved : AreResolved cs (take count names) names
+  pub resolved : AreResolved cs (map Word (take count names)) (map Word names)
   pub shapes : AllByRecursion AssignsInteger cs
   -- 20: its statements are assignments to state variables, and the names that they read are in view
   pub known : list_all (assigns_only (take count names) names) ss ≡ true
@@ -79,7 +81,7 @@ FailsOfEffect count names ss = Fails (list_all (assigns_only (take count names) 
 -- a guard, if there is one
 pub record IsGuardOf (names : List (List ℕ)) (t : Option SourceTerm) (c : Option CheckedTerm) : Type 0 where
   pub same : option_map erase_term c ≡ t
-  pub resolved : IsResolvedGuard c names
+  pub resolved : IsResolvedGuard c (map Word names)
   -- 20: it is of the form that runs today, and its names are in view
   pub known : guard_reads_only names t ≡ true
   -- 22: it is a truth value
@@ -88,35 +90,35 @@ pub record IsGuardOf (names : List (List ℕ)) (t : Option SourceTerm) (c : Opti
 abbrev pub FailsOfGuard : List (List ℕ) → Option SourceTerm → Row → Type 0
 FailsOfGuard names t = Fails (guard_reads_only names t) (is_guard_or_none t)
 
--- a statement of a schedule block: a firing whose arguments read these state variables
-pub record IsFiringOf (variables : List (List ℕ)) (s : SourceStatement) (c : CheckedStatement) : Type 0 where
-  pub same : erase_statement c ≡ s
-  pub resolved : IsResolvedFiring c variables
-  -- 20: it is a firing, and its arguments read state variables alone
-  pub known : fires_only variables s ≡ true
+-- a firing whose arguments read these state variables
+pub record IsFiringOf (variables : List (List ℕ)) (f : SourceFiring) (c : CheckedFiring) : Type 0 where
+  pub same : erase_firing c ≡ f
+  pub resolved : IsResolvedFiring c (map Word variables)
+  -- 20: its arguments read state variables alone
+  pub known : fires_only variables f ≡ true
   -- 22: its arguments are numbers
-  pub sorted : fires_numbers s ≡ true
+  pub sorted : fires_numbers f ≡ true
 
-abbrev pub FailsOfFiring : List (List ℕ) → SourceStatement → Row → Type 0
-FailsOfFiring variables s = Fails (fires_only variables s) (fires_numbers s)
+abbrev pub FailsOfFiring : List (List ℕ) → SourceFiring → Row → Type 0
+FailsOfFiring variables f = Fails (fires_only variables f) (fires_numbers f)
 
 -- a schedule block
 pub record IsScheduleOf
-    (variables : List (List ℕ)) (ss : List SourceStatement) (cs : List CheckedStatement) : Type 0 where
-  pub same : map erase_statement cs ≡ ss
-  pub resolved : AreResolvedFirings cs variables
-  -- 20: its statements are firings, and their arguments read state variables alone
-  pub known : list_all (fires_only variables) ss ≡ true
-  -- 22: their arguments are numbers
-  pub sorted : list_all fires_numbers ss ≡ true
+    (variables : List (List ℕ)) (fs : List SourceFiring) (cs : List CheckedFiring) : Type 0 where
+  pub same : map erase_firing cs ≡ fs
+  pub resolved : AreResolvedFirings cs (map Word variables)
+  -- 20: the arguments of its firings read state variables alone
+  pub known : list_all (fires_only variables) fs ≡ true
+  -- 22: they are numbers
+  pub sorted : list_all fires_numbers fs ≡ true
 
-abbrev pub FailsOfSchedule : List (List ℕ) → List SourceStatement → Row → Type 0
-FailsOfSchedule variables ss = Fails (list_all (fires_only variables) ss) (list_all fires_numbers ss)
+abbrev pub FailsOfSchedule : List (List ℕ) → List SourceFiring → Row → Type 0
+FailsOfSchedule variables fs = Fails (list_all (fires_only variables) fs) (list_all fires_numbers fs)
 
 -- a parameter of an entry, whose constant may read these names
 pub record IsParameterOf (names : List (List ℕ)) (p : SourceParameter) (c : CheckedParameter) : Type 0 where
   pub same : erase_parameter c ≡ p
-  pub resolved : IsResolvedParameter names c
+  pub resolved : IsResolvedParameter (map Word names) c
   pub shape : HasParameterShape c
   -- 20: a constant reads names in view
   pub known : constant_reads_only names p ≡ true
@@ -130,7 +132,7 @@ FailsOfParameter names p = Fails (is_known_parameter names p) (is_number_constan
 pub record AreParametersOf
     (names : List (List ℕ)) (ps : List SourceParameter) (cs : List CheckedParameter) : Type 0 where
   pub same : map erase_parameter cs ≡ ps
-  pub resolved : AreResolvedParameters names cs
+  pub resolved : AreResolvedParameters (map Word names) cs
   pub shapes : AllByRecursion HasParameterShape cs
   -- 20: constants read names in view
   pub known : list_all (constant_reads_only names) ps ≡ true
@@ -143,8 +145,8 @@ FailsOfParameters names ps = Fails (list_all (is_known_parameter names) ps) (lis
 -- an entry of a signature, which has no condition, and whose constants may read these names
 pub record IsEntryOf (names : List (List ℕ)) (e : SourceEntry) (c : CheckedEntry) : Type 0 where
   pub same : erase_entry c ≡ e
-  pub resolved : AreResolvedParameters names c.parameters
-  pub condition : (more : List (List ℕ)) → IsResolvedGuard c.condition more
+  pub resolved : AreResolvedParameters (map Word names) c.parameters
+  pub condition : (more : List Name) → IsResolvedGuard c.condition more
   pub shapes : AllByRecursion HasParameterShape c.parameters
   -- 20: constants read names in view
   pub known : list_all (constant_reads_only names) e.parameters ≡ true
@@ -157,7 +159,7 @@ FailsOfEntry names e = Fails (is_known_entry names e) (list_all is_number_consta
 -- a state variable, whose initial term may read these names
 pub record IsVariableOf (names : List (List ℕ)) (v : SourceVariable) (c : CheckedVariable) : Type 0 where
   pub same : erase_variable c ≡ v
-  pub resolved : IsResolvedGuard c.initial names
+  pub resolved : IsResolvedGuard c.initial (map Word names)
   pub shape : HasItsShape c.declared
   -- 23: it has an initial term
   pub initial : is_some v.initial ≡ true
@@ -170,7 +172,7 @@ pub record IsVariableOf (names : List (List ℕ)) (v : SourceVariable) (c : Chec
 pub record AreVariablesOf
     (names : List (List ℕ)) (vs : List SourceVariable) (cs : List CheckedVariable) : Type 0 where
   pub same : map erase_variable cs ≡ vs
-  pub resolved : AreResolvedVariables names cs
+  pub resolved : AreResolvedVariables (map Word names) cs
   pub shapes : AllByRecursion (λ v. HasItsShape v.declared) cs
   -- 23: each has an initial term
   pub initials : list_all (λ v. is_some v.initial) vs ≡ true

@@ -5,7 +5,7 @@ use Rattle.std.specs.List.{IsDistinct, list_all}
 use Rattle.std.specs.Option.{is_some}
 use lib.Pointwise.{pointwise}
 use Rattle.ioa_operators.specs.declared.fault.TermFault.{TermFault}
-use Rattle.ioa_terms.specs.Bindings.{Bindings, same_name}
+use Rattle.ioa_terms.specs.Bindings.{Bindings, same_word}
 use Rattle.ioa_terms.specs.Meaning.{answer}
 use Rattle.ioa_terms.specs.declared.tree.Kind.TheVariants.{Input}
 use Rattle.ioa_source.specs.Erasure.{erase_variable}
@@ -13,7 +13,7 @@ use Rattle.ioa_source.specs.PlainText.{const, named}
 use Rattle.ioa_source.specs.Sides.{SourceAutomaton, SourceEntry, SourceParameter, SourceText, SourceTransition}
 use Rattle.ioa_source.specs.Sides.{SourceDeclaration, SourceNode, SourceVariable, CheckedTerm, CheckedVariable}
 use Rattle.ioa_source.specs.declared.declaration.Channel.{Channel}
-use Rattle.ioa_system.specs.InView.{DeclaredNames, environment_at, given_bindings, names_at, own_names, scope_at}
+use Rattle.ioa_system.specs.InView.{DeclaredNames, environment_at, given_bindings, words_at, own_names, scope_at}
 use Rattle.ioa_system.specs.InView.{entry_constant, initial_value, guard_or_effect, firing}
 use Rattle.ioa_system.specs.Parts.{AutomatonParts}
 use Rattle.ioa_check.specs.declared.checking.TheConstants.{MOST_CHANNELS, MOST_NODES}
@@ -93,9 +93,9 @@ is_known_entry names e = list_all (is_known_parameter names) e.parameters && not
 abbrev pub StandsInEntry : DeclaredNames → List SourceTransition → SourceEntry → Row → Type 0
 StandsInEntry d ts e row.Unknown =
     HasTransition e ts (λ t.
-    (is_known_entry (names_at entry_constant d []) e
+    (is_known_entry (words_at entry_constant d []) e
     && is_known_transition d.variables (rows.names_in_transition d e) t) ≡ false)
-StandsInEntry d ts e row.Twice = IsDistinct same_name (scope_at guard_or_effect d (own_names e.parameters)) → ⊥
+StandsInEntry d ts e row.Twice = IsDistinct same_word (scope_at guard_or_effect d (own_names e.parameters)) → ⊥
 StandsInEntry d ts e row.Sorts =
     HasTransition e ts (λ t. (list_all rows.is_number_constant e.parameters && is_sorted_transition t) ≡ false)
 StandsInEntry d ts e row.InputPre = HasTransition e ts (λ t. (is_some t.pre && same_kind e.kind Input) ≡ true)
@@ -140,12 +140,12 @@ StandsInParts a row.Unknown =
     (nat_eq (length a.parameters) 0
     && (rows.transitions_have_entries a
     && (rows.firings_have_entries a
-    && (list_all (rows.fires_only (names_at firing (rows.automaton_scope a) [])) a.schedule
-    && list_all (is_known_variable (names_at initial_value (rows.automaton_scope a) [])) a.states)))) ≡ false
+    && (list_all (rows.fires_only (words_at firing (rows.automaton_scope a) [])) a.schedule
+    && list_all (is_known_variable (words_at initial_value (rows.automaton_scope a) [])) a.states)))) ≡ false
 StandsInParts a row.Twice =
-    IsDistinct same_name (rows.entry_names a.signature)
-    × IsDistinct same_name (rows.transition_names a.transitions)
-    × IsDistinct same_name (scope_at firing (rows.automaton_scope a) []) → ⊥
+    IsDistinct same_word (rows.entry_names a.signature)
+    × IsDistinct same_word (rows.transition_names a.transitions)
+    × IsDistinct same_word (scope_at firing (rows.automaton_scope a) []) → ⊥
 StandsInParts a row.Sorts =
     (rows.firings_have_as_many a
     && (list_all rows.fires_numbers a.schedule && list_all begins_with_number a.states)) ≡ false
@@ -171,7 +171,7 @@ StandsInWhole t row.Unknown =
     && (list_all (rows.is_declared t.declarations) (nodes_in t.system)
     && list_all (rows.joins_nodes (nodes_in t.system)) (channels_in t.system)))) ≡ false
 StandsInWhole t row.Twice =
-    IsDistinct same_name (rows.automaton_names (automata_in t.declarations))
+    IsDistinct same_word (rows.automaton_names (automata_in t.declarations))
     × IsDistinct rows.same_number (nodes_in t.system)
     × IsDistinct rows.same_channel (channels_in t.system) → ⊥
 StandsInWhole t row.InputMissing =
@@ -193,7 +193,7 @@ StandsIn t r =
 -- the rows of automata, in a text in which these names are those of earlier automata
 abbrev pub StandsInAutomata : List (List ℕ) → List SourceAutomaton → Row → Type 0
 StandsInAutomata names automata r =
-    Only row.Twice (IsDistinct same_name (names ++ rows.automaton_names automata) → ⊥) r
+    Only row.Twice (IsDistinct same_word (names ++ rows.automaton_names automata) → ⊥) r
     ⊎ ((a : SourceAutomaton) × Contains automata a × StandsInAutomaton a r)
 
 -- of two tests of nodes, the one that fails gives the row

@@ -5,8 +5,8 @@ ghost use Rattle.std.specs.Option.{option_map, option_copied, is_some};
 ghost use Rattle.std.specs.Arc.{arc_value};
 ghost use lib.Pointwise.{pointwise};
 ghost use Rattle.std.specs.List.{AllByRecursion, IsDistinct, list_all, list_any};
-ghost use Rattle.ioa_terms.specs.Bindings.{same_name};
-ghost use Rattle.ioa_terms.specs.View.{term_of, statement_of};
+ghost use Rattle.ioa_terms.specs.Bindings.{same_word};
+ghost use Rattle.ioa_terms.specs.View.{term_of};
 ghost use Rattle.ioa_source.specs.TextView.{automaton_of, parameter_of, entry_of, transition_of, variable_of};
 ghost use Rattle.ioa_terms.specs.Bindings.{names_of};
 ghost use Rattle.ioa_system.specs.InView.{given_bindings, own_name, variable_names};
@@ -17,7 +17,7 @@ ghost use Rattle.ioa_check.specs.Resolutions.{IsTransitionOf, IsRuleFor, AreRule
 ghost use Rattle.ioa_check.specs.Resolutions.{first_names, scope_for};
 ghost use Rattle.ioa_check.specs.Rows as spec;
 ghost use Rattle.ioa_check.specs.Rows.{HasNoEntryRow, HasNoAutomatonRow, entry_names, transition_names, has_entry};
-ghost use Rattle.ioa_check.specs.Rows.{fires_entry, fires_as_many, takes_as_many, argument_repeats, same_term};
+ghost use Rattle.ioa_check.specs.Rows.{takes_as_many, argument_repeats, same_term};
 ghost use Rattle.ioa_check.specs.Standing.{Fails, IfRefused, RefusesOnly, StandsInAutomaton, StandsInEntries};
 ghost use Rattle.ioa_check.specs.Standing.{StandsInEntry, StandsInCompiled, StandsInInitial, StandsInInitials};
 
@@ -28,9 +28,7 @@ use crate::resolving::{
 };
 use ioa_source::{Automaton, Entry, Parameter, Transition, Variable};
 use ioa_system::{CompiledAutomaton, Program, Rule, Scope};
-use ioa_terms::{
-    Checked, Env, Kind, Names, Shape, Statement, Term, TermFault, Tree, Value, Word, eval,
-};
+use ioa_terms::{Checked, Env, Kind, Name, Names, Shape, Term, TermFault, Tree, Value, Word, eval};
 use std::alloc::Global;
 use std::sync::Arc;
 
@@ -100,9 +98,9 @@ pub(crate) fn program_of(
 /// The names of the state variables. A name that is declared twice is refused by `Twice` (21).
 fn names_of(alloc: Global, variables: &[Variable<usize, Shape>]) -> Result<Scope, Refusal>
     ensures names { IfOk result (λ s. s ≡ variable_names (map variable_of variables.now)) }
-    ensures differ { IfOk result (IsDistinct same_name) }
+    ensures differ { IfOk result (IsDistinct same_word) }
     ensures refused { RefusesOnly result Row.Twice
-        (IsDistinct same_name (variable_names (map variable_of variables.now)) → ⊥) }
+        (IsDistinct same_word (variable_names (map variable_of variables.now)) → ⊥) }
 {
     let mut names = Scope::new(alloc);
     for variable in variables {
@@ -114,8 +112,8 @@ fn names_of(alloc: Global, variables: &[Variable<usize, Shape>]) -> Result<Scope
 /// Declares a name. One that is declared already is refused by `Twice` (21).
 pub(crate) fn declare(alloc: Global, names: &mut Scope, name: &Word) -> Result<(), Refusal>
     ensures added { OnOk result (names.new ≡ names.old ++ name.now ∷ []) }
-    ensures differ { OnOk result (IsDistinct same_name names.old → IsDistinct same_name names.new) }
-    ensures refused { RefusesOnly result Row.Twice (IsDistinct same_name (names.old ++ name.now ∷ []) → ⊥) }
+    ensures differ { OnOk result (IsDistinct same_word names.old → IsDistinct same_word names.new) }
+    ensures refused { RefusesOnly result Row.Twice (IsDistinct same_word (names.old ++ name.now ∷ []) → ⊥) }
 {
     let fresh = names.declare(name.try_copy(alloc)?)?;
     if fresh {
@@ -133,9 +131,9 @@ fn scope_for(
     entry: &Entry<usize, Shape>,
 ) -> Result<Scope, Refusal>
     ensures names { IfOk result (λ s. s ≡ scope_for (entry_of entry.now) (map variable_of variables.now)) }
-    ensures differ { IfOk result (IsDistinct same_name) }
+    ensures differ { IfOk result (IsDistinct same_word) }
     ensures refused { RefusesOnly result Row.Twice
-        (IsDistinct same_name (scope_for (entry_of entry.now) (map variable_of variables.now)) → ⊥) }
+        (IsDistinct same_word (scope_for (entry_of entry.now) (map variable_of variables.now)) → ⊥) }
 {
     let mut names = names_of(alloc, variables)?;
     for parameter in &entry.parameters {
@@ -151,9 +149,9 @@ fn declare_parameter(
     parameter: &Parameter<usize, Shape>,
 ) -> Result<(), Refusal>
     ensures added { OnOk result (names.new ≡ names.old ++ own_name (parameter_of parameter.now)) }
-    ensures differ { OnOk result (IsDistinct same_name names.old → IsDistinct same_name names.new) }
+    ensures differ { OnOk result (IsDistinct same_word names.old → IsDistinct same_word names.new) }
     ensures refused { RefusesOnly result Row.Twice
-        (IsDistinct same_name (names.old ++ own_name (parameter_of parameter.now)) → ⊥) }
+        (IsDistinct same_word (names.old ++ own_name (parameter_of parameter.now)) → ⊥) }
 {
     match parameter {
         Parameter::Const(_) => Ok(()),
@@ -345,7 +343,7 @@ fn argument_repeats(parameter: &Parameter<(), ()>, argument: &Term) -> bool
     match parameter {
         Parameter::Const(term) => same_term(term, argument),
         Parameter::Declared(declared) => match argument {
-            Tree::Name(word, _) => *word == declared.name,
+            Tree::Name(Name::Word(word), _) => *word == declared.name,
             _ => false,
         },
     }
@@ -357,7 +355,7 @@ fn same_term(left: &Term, right: &Term) -> bool
 {
     match (left, right) {
         (Tree::Number(m), Tree::Number(n)) => m == n,
-        (Tree::Name(x, _), Tree::Name(y, _)) => x == y,
+        (Tree::Name(Name::Word(x), _), Tree::Name(Name::Word(y), _)) => x == y,
         (Tree::Two(f, a, b), Tree::Two(g, c, d)) => f == g && same_term(a, c) && same_term(b, d),
         _ => false,
     }
@@ -365,9 +363,9 @@ fn same_term(left: &Term, right: &Term) -> bool
 
 /// Passes if no two entries have one name.
 fn entries_differ(alloc: Global, automaton: &Automaton<(), ()>) -> Result<(), Refusal>
-    ensures differ { OnOk result (IsDistinct same_name (entry_names (automaton_of automaton.now).signature)) }
+    ensures differ { OnOk result (IsDistinct same_word (entry_names (automaton_of automaton.now).signature)) }
     ensures refused { RefusesOnly result Row.Twice
-        (IsDistinct same_name (entry_names (automaton_of automaton.now).signature) → ⊥) }
+        (IsDistinct same_word (entry_names (automaton_of automaton.now).signature) → ⊥) }
 {
     let mut names = Scope::new(alloc);
     for entry in &automaton.signature {
@@ -378,9 +376,9 @@ fn entries_differ(alloc: Global, automaton: &Automaton<(), ()>) -> Result<(), Re
 
 /// Passes if no two transitions have one name.
 fn transitions_differ(alloc: Global, automaton: &Automaton<(), ()>) -> Result<(), Refusal>
-    ensures differ { OnOk result (IsDistinct same_name (transition_names (automaton_of automaton.now).transitions)) }
+    ensures differ { OnOk result (IsDistinct same_word (transition_names (automaton_of automaton.now).transitions)) }
     ensures refused { RefusesOnly result Row.Twice
-        (IsDistinct same_name (transition_names (automaton_of automaton.now).transitions) → ⊥) }
+        (IsDistinct same_word (transition_names (automaton_of automaton.now).transitions) → ⊥) }
 {
     let mut names = Scope::new(alloc);
     for transition in &automaton.transitions {
@@ -419,43 +417,22 @@ fn firings_have_entries(automaton: &Automaton<(), ()>) -> Result<(), Refusal>
         (Fails (spec.firings_have_entries (automaton_of automaton.now))
         (spec.firings_have_as_many (automaton_of automaton.now))) }
 {
-    for statement in &automaton.schedule {
-        if !fires_entry(automaton, statement) {
+    for firing in &automaton.schedule {
+        if !is_entry(automaton, &firing.action) {
             return Err(Refusal::Row(Row::Unknown));
         }
-        if !fires_as_many(automaton, statement) {
+        if !takes_as_many(automaton, &firing.action, &firing.arguments) {
             return Err(Refusal::Row(Row::Sorts));
         }
     }
     Ok(())
 }
 
-/// Whether a statement is a firing that has the name of an entry.
-fn fires_entry(automaton: &Automaton<(), ()>, statement: &Statement<(), ()>) -> bool
-    ensures { result ≡ fires_entry (automaton_of automaton.now).signature (statement_of statement.now) }
-{
-    match statement {
-        Statement::Fire(_, name, _) => is_entry(automaton, name),
-        _ => false,
-    }
-}
-
 /// Whether an entry has a name.
 fn is_entry(automaton: &Automaton<(), ()>, name: &Word) -> bool
-    ensures { result ≡ list_any (λ e. same_name e.name name.now) (automaton_of automaton.now).signature }
+    ensures { result ≡ list_any (λ e. same_word e.name name.now) (automaton_of automaton.now).signature }
 {
     automaton.signature.iter().any(|entry| entry.name == *name)
-}
-
-/// Whether a statement, if it is a firing, has as many arguments as the entries of its name have
-/// parameters.
-fn fires_as_many(automaton: &Automaton<(), ()>, statement: &Statement<(), ()>) -> bool
-    ensures { result ≡ fires_as_many (automaton_of automaton.now).signature (statement_of statement.now) }
-{
-    match statement {
-        Statement::Fire(_, name, arguments) => takes_as_many(automaton, name, arguments),
-        _ => true,
-    }
 }
 
 /// Whether the entries of a name have as many parameters as there are arguments.

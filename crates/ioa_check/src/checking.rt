@@ -5,7 +5,7 @@ ghost use Rattle.std.specs.Prelude.{Some, Contains, IfOk, IfErr, OnOk, IfSome, I
 ghost use Rattle.std.specs.List.{AllByRecursion, IsDistinct, list_all, list_any};
 ghost use Rattle.std.specs.Option.{option_map, option_copied};
 ghost use Rattle.std.specs.Arc.{arc_value};
-ghost use Rattle.ioa_terms.specs.Bindings.{same_name};
+ghost use Rattle.ioa_terms.specs.Bindings.{same_word};
 ghost use Rattle.ioa_source.specs.TextView.{text_of, declaration_of, node_of, placement_of};
 ghost use Rattle.ioa_source.specs.TextView.{automaton_of, entry_of, parameter_of};
 ghost use Rattle.ioa_source.specs.Sides.{SourceNode};
@@ -97,7 +97,7 @@ fn compile_declarations(
     ensures made { IfOk result (λ cs.
         AreAutomataOf (automata_in (map declaration_of declarations.now)) (map arc_value cs.items)) }
     ensures differ { OnOk result
-        (IsDistinct same_name (automaton_names (automata_in (map declaration_of declarations.now)))) }
+        (IsDistinct same_word (automaton_names (automata_in (map declaration_of declarations.now)))) }
     ensures rows { OnOk result (AllByRecursion HasNoAutomatonRow (automata_in (map declaration_of declarations.now))) }
     ensures refused { IfErr result
         (FaultSays (StandsInAutomata [] (automata_in (map declaration_of declarations.now)))) }
@@ -126,7 +126,7 @@ fn compile_declaration(
         (automaton_in (declaration_of declaration.now))) }
     ensures added { OnOk result
         (names.new ≡ names.old ++ automaton_names (automaton_in (declaration_of declaration.now))) }
-    ensures differ { OnOk result (IsDistinct same_name names.old → IsDistinct same_name names.new) }
+    ensures differ { OnOk result (IsDistinct same_word names.old → IsDistinct same_word names.new) }
     // No row applies, or the one that is refused.
     ensures rows { OnOk result (AllByRecursion HasNoAutomatonRow (automaton_in (declaration_of declaration.now))) }
     ensures refused { IfRefused result
@@ -149,7 +149,7 @@ fn compile_named(
     ensures made { OnOk result (AddsAutomata (map arc_value automata.old.items) (map arc_value automata.new.items)
         (automaton_of automaton.now ∷ [])) }
     ensures added { OnOk result (names.new ≡ names.old ++ (automaton_of automaton.now).name ∷ []) }
-    ensures differ { OnOk result (IsDistinct same_name names.old → IsDistinct same_name names.new) }
+    ensures differ { OnOk result (IsDistinct same_word names.old → IsDistinct same_word names.new) }
     // No row applies, or the one that is refused.
     ensures rows { OnOk result (HasNoAutomatonRow (automaton_of automaton.now)) }
     ensures refused { IfRefused result (StandsInAutomata names.old (automaton_of automaton.now ∷ [])) }

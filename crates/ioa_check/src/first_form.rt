@@ -4,7 +4,7 @@ ghost use Rattle.std.specs.Prelude.{◌≡◌, map, slice_get};
 ghost use Rattle.std.specs.List.{list_all};
 ghost use Rattle.std.specs.Option.{option_map};
 ghost use Rattle.ioa_source.specs.SortView.{sort_of};
-ghost use Rattle.ioa_terms.specs.View.{term_of, target_of, statement_of};
+ghost use Rattle.ioa_terms.specs.View.{term_of, target_of, statement_of, firing_of};
 ghost use Rattle.ioa_source.specs.TextView.{automaton_of, declaration_of, entry_of, parameter_of};
 ghost use Rattle.ioa_source.specs.TextView.{placement_of, transition_of, variable_of};
 ghost use Rattle.ioa_check.specs.FirstForm as spec;
@@ -13,7 +13,7 @@ ghost use Rattle.ioa_check.specs.FirstSorts as sorts;
 use crate::resolving::{is_guard, is_number};
 use ioa_actions::{RECEIVE, SEND};
 use ioa_source::{Automaton, Declaration, Entry, Parameter, Placement, Sort, Transition, Variable};
-use ioa_terms::{BinaryOperator, Kind, Statement, Target, Term, Word};
+use ioa_terms::{BinaryOperator, Firing, Kind, Statement, Target, Term, Word};
 
 /// Whether a declaration is an automaton of the first form.
 pub(crate) fn is_first_declaration(declaration: &Declaration<(), ()>) -> bool
@@ -241,7 +241,7 @@ fn is_first_assignment(statement: &Statement<(), ()>) -> bool
 {
     match statement {
         Statement::Assign(target, term) => is_first_target(target) && is_first_term(term),
-        _ => false,
+        Statement::If(_, _) => false,
     }
 }
 
@@ -255,19 +255,16 @@ fn is_first_target(target: &Target<(), ()>) -> bool
     }
 }
 
-/// Whether the statements of a schedule block are of the first form.
-fn are_first_firings(statements: &[Statement<(), ()>]) -> bool
-    ensures { result ≡ list_all spec.is_first_firing (map statement_of statements.now) }
+/// Whether the firings of a schedule block are of the first form.
+fn are_first_firings(firings: &[Firing<(), ()>]) -> bool
+    ensures { result ≡ list_all spec.is_first_firing (map firing_of firings.now) }
 {
-    statements.iter().all(is_first_firing)
+    firings.iter().all(is_first_firing)
 }
 
-/// Whether a statement is a firing without a kind.
-fn is_first_firing(statement: &Statement<(), ()>) -> bool
-    ensures { result ≡ spec.is_first_firing (statement_of statement.now) }
+/// Whether a firing has no kind, and terms of the first form as arguments.
+fn is_first_firing(firing: &Firing<(), ()>) -> bool
+    ensures { result ≡ spec.is_first_firing (firing_of firing.now) }
 {
-    match statement {
-        Statement::Fire(kind, _, arguments) => kind.is_none() && are_first_terms(arguments),
-        _ => false,
-    }
+    firing.kind.is_none() && are_first_terms(&firing.arguments)
 }

@@ -1,10 +1,10 @@
 //! Terms, statements and entries of a text, with each name resolved to its slot.
 
-ghost use Rattle.std.specs.Prelude.{◌≡◌, IfOk, OnOk, map, take, [], ◌∷◌, true, not, List, ℕ};
+ghost use Rattle.std.specs.Prelude.{◌≡◌, IfOk, OnOk, map, take, [], ◌∷◌, true, not, List};
 ghost use Rattle.std.specs.List.{list_all};
 ghost use Rattle.std.specs.Option.{option_map, is_some};
 ghost use Rattle.ioa_terms.specs.PlainTerm as plain;
-ghost use Rattle.ioa_terms.specs.View.{term_of, target_of, statement_of};
+ghost use Rattle.ioa_terms.specs.View.{term_of, target_of, statement_of, firing_of};
 ghost use Rattle.ioa_source.specs.SortView.{sort_of};
 ghost use Rattle.ioa_source.specs.TextView.{declared_of, parameter_of, entry_of, variable_of};
 ghost use Rattle.ioa_source.specs.Erasure.{erase_declared, erase_target, erase_term};
@@ -28,7 +28,7 @@ use crate::first_form::is_first_operator;
 use crate::refusal::{Refusal, Row};
 use ioa_source::{Declared, Entry, Parameter, Sort, Variable};
 use ioa_system::Scope;
-use ioa_terms::{BinaryOperator, Checked, Shape, ShapeForm, Statement, Target, Term, Word};
+use ioa_terms::{BinaryOperator, Checked, Firing, Name, Shape, ShapeForm, Statement, Target, Term};
 use std::alloc::Global;
 
 /// Resolves a term of the form that runs today: each name gets its slot among those in view.
@@ -52,10 +52,10 @@ pub(crate) fn resolve_term(alloc: Global, scope: &Scope, term: &Term) -> Result<
 }
 
 /// Resolves a term that is a name.
-#[tactic(auto, using(crate::proofs::Names::any_slot, crate::proofs::Refused::none_slot))]
-fn resolve_name(alloc: Global, scope: &Scope, name: &Word) -> Result<Checked, Refusal>
+#[tactic(auto, using(crate::proofs::Names::read_slot, crate::proofs::Names::unread_slot))]
+fn resolve_name(alloc: Global, scope: &Scope, name: &Name) -> Result<Checked, Refusal>
     ensures same { IfOk result (λ t. erase_term (term_of t) ≡ plain.name name.now tt) }
-    ensures resolved { IfOk result (λ t. IsResolved (term_of t) scope.now) }
+    ensures resolved { IfOk result (λ t. IsResolved (term_of t) (map Name.Word scope.now)) }
     ensures known { OnOk result (reads_only scope.now (plain.name name.now tt) ≡ true) }
     ensures refused { IfRefused result (FailsOfTerm scope.now (plain.name name.now tt)) }
 {
@@ -92,7 +92,8 @@ fn resolve_target(
 ) -> Result<Target<usize, Shape>, Refusal>
     // The target is the text's, and is resolved.
     ensures same { IfOk result (λ t. erase_target (target_of t) ≡ target_of target.now) }
-    ensures resolved { IfOk result (λ t. IsResolvedTarget (target_of t) (take count scope.now) scope.now) }
+    ensures resolved { IfOk result (λ t. IsResolvedTarget (target_of t) (map Name.Word (take count scope.now))
+        (map Name.Word scope.now)) }
     ensures shape { IfOk result (λ t. target_shape (target_of t) ≡ integers) }
     // It is a state variable, or is refused.
     ensures known { OnOk result (writes_only (take count scope.now) (target_of target.now) ≡ true) }
@@ -101,7 +102,7 @@ fn resolve_target(
     let Target::Variable(name, _, _) = target else {
         return Err(Refusal::Row(Row::Unknown));
     };
-    let Some(slot) = scope.slot_of(name) else {
+    let Some(slot) = scope.slot_of_word(name) else {
         return Err(Refusal::Row(Row::Unknown));
     };
     if slot < count {
@@ -123,7 +124,7 @@ fn resolve_assignment(
 {
     match statement {
         Statement::Assign(target, term) => resolve_assigned(alloc, scope, count, target, term),
-        _ => Err(Refusal::Row(Row::Unknown)),
+        Statement::If(_, _) => Err(Refusal::Row(Row::Unknown)),
     }
 }
 
@@ -188,42 +189,41 @@ pub(crate) fn resolve_guard(
     }
 }
 
-/// Resolves a statement of a schedule block: a firing of numbers.
+/// Resolves a firing of numbers.
 fn resolve_firing(
     alloc: Global,
     variables: &Scope,
-    statement: &Statement<(), ()>,
-) -> Result<Statement<usize, Shape>, Refusal>
-    ensures made { IfOk result (λ s. IsFiringOf variables.now (statement_of statement.now) (statement_of s)) }
-    ensures refused { IfRefused result (FailsOfFiring variables.now (statement_of statement.now)) }
+    firing: &Firing<(), ()>,
+) -> Result<Firing<usize, Shape>, Refusal>
+    ensures made { IfOk result (λ f. IsFiringOf variables.now (firing_of firing.now) (firing_of f)) }
+    ensures refused { IfRefused result (FailsOfFiring variables.now (firing_of firing.now)) }
 {
-    match statement {
-        Statement::Fire(kind, name, arguments) => {
-            let name = name.try_copy(alloc)?;
-            let resolved = resolve_terms(alloc, variables, arguments)?;
-            if !are_numbers(arguments) {
-                return Err(Refusal::Row(Row::Sorts));
-            }
-            Ok(Statement::Fire(*kind, name, resolved))
-        }
-        _ => Err(Refusal::Row(Row::Unknown)),
+    let action = firing.action.try_copy(alloc)?;
+    let arguments = resolve_terms(alloc, variables, &firing.arguments)?;
+    if !are_numbers(&firing.arguments) {
+        return Err(Refusal::Row(Row::Sorts));
     }
+    Ok(Firing {
+        kind: firing.kind,
+        action,
+        arguments,
+    })
 }
 
-/// Resolves the statements of a schedule block.
+/// Resolves the firings of a schedule block.
 #[tactic(auto, using(crate::proofs::Loops::each_push, crate::proofs::Loops::same_push))]
 pub(crate) fn resolve_schedule(
     alloc: Global,
     variables: &Scope,
-    schedule: &[Statement<(), ()>],
-) -> Result<Vec<Statement<usize, Shape>>, Refusal>
-    ensures made { IfOk result (λ ss.
-        IsScheduleOf variables.now (map statement_of schedule.now) (map statement_of ss.items)) }
-    ensures refused { IfRefused result (FailsOfSchedule variables.now (map statement_of schedule.now)) }
+    schedule: &[Firing<(), ()>],
+) -> Result<Vec<Firing<usize, Shape>>, Refusal>
+    ensures made { IfOk result (λ fs.
+        IsScheduleOf variables.now (map firing_of schedule.now) (map firing_of fs.items)) }
+    ensures refused { IfRefused result (FailsOfSchedule variables.now (map firing_of schedule.now)) }
 {
     let mut resolved = Vec::new(alloc);
-    for statement in schedule {
-        resolved.push(resolve_firing(alloc, variables, statement)?)?;
+    for firing in schedule {
+        resolved.push(resolve_firing(alloc, variables, firing)?)?;
     }
     Ok(resolved)
 }
@@ -295,7 +295,7 @@ fn resolve_parameters(
 /// The condition of an entry. There is none in the form that runs today.
 fn resolve_condition(condition: &Option<Term>) -> Result<Option<Checked>, Refusal>
     ensures same { IfOk result (λ t. option_map erase_term (option_map term_of t) ≡ option_map term_of condition.now) }
-    ensures resolved { IfOk result (λ t. (names : List (List ℕ)) → IsResolvedGuard (option_map term_of t) names) }
+    ensures resolved { IfOk result (λ t. (names : List Name) → IsResolvedGuard (option_map term_of t) names) }
     ensures refused { IfRefused result (Fails (not (is_some (option_map term_of condition.now))) true) }
 {
     match condition {

@@ -6,7 +6,9 @@ use Rattle.std.proofs.lemmas.List.{length-map, map-append, take-append-le}
 use Rattle.std.proofs.lemmas.Slice.Zip.{seconds-zip}
 use Rattle.std.proofs.Math.Bool.{and-false}
 use Rattle.ioa_values.specs.Data.{Data}
-use Rattle.ioa_terms.specs.Bindings.{Bindings, same_name, environment, constants_from}
+use Rattle.ioa_terms.specs.declared.name.Name.{Name}
+use Rattle.ioa_terms.specs.declared.name.Name.TheVariants.{Word}
+use Rattle.ioa_terms.specs.Bindings.{Bindings, same_word, environment, constants_from}
 use Rattle.ioa_actions.specs.declared.action.Action.{Action}
 use Rattle.ioa_actions.specs.ActionParts.{action_name, action_arguments}
 use Rattle.ioa_source.specs.PlainText.{const, named}
@@ -48,12 +50,12 @@ are_natural_end f (p ∷ ps) (v ∷ vs) zero h = absurd (omega arith)
 are_natural_end f (p ∷ ps) (v ∷ vs) (suc i) h = are_natural_end f ps vs i (omega arith)
 
 -- the first n values that an effect leaves
-pub effect_answer_environment : (n : ℕ) (names : List (List ℕ)) (vs : List Data) (cs : List (List ℕ)) → length names ≡ length vs → n ≤ length vs → effect_answer n (Ok (environment names vs cs)) ≡ Ok (take n vs)
+pub effect_answer_environment : (n : ℕ) (names : List (List ℕ)) (vs : List Data) (cs : List (List ℕ)) → length names ≡ length vs → n ≤ length vs → effect_answer n (Ok (environment (map Word names) vs cs)) ≡ Ok (take n vs)
 effect_answer_environment n names vs cs many within =
-    let behind : List Data = map (λ (b : List ℕ × Data). b.1) (constants_from 0 cs) in
-    let split : map (λ (b : List ℕ × Data). b.1) (environment names vs cs) ≡ vs ++ behind =
-    map-append (λ (b : List ℕ × Data). b.1) (zip names vs) (constants_from 0 cs)
-    ∙ ap (λ (ds : List Data). ds ++ behind) (seconds-zip names vs (sym many)) in
+    let behind : List Data = map (λ (b : Name × Data). b.1) (constants_from 0 cs) in
+    let split : map (λ (b : Name × Data). b.1) (environment (map Word names) vs cs) ≡ vs ++ behind =
+    map-append (λ (b : Name × Data). b.1) (zip (map Word names) vs) (constants_from 0 cs)
+    ∙ ap (λ (ds : List Data). ds ++ behind) (seconds-zip (map Word names) vs (sym (length-map names Word ∙ many))) in
     ap (λ (ds : List Data). Ok (take n ds)) split ∙ ap Ok (take-append-le n vs behind within)
 
 -- arguments that fit have as many values of their own as the parameters have names
@@ -69,7 +71,7 @@ own_values_named b (named d ∷ ps) (v ∷ vs) h =
 agreeing_arguments : (b : Bindings) (a : Action) (e : CheckedEntry) → entry_agrees b a e ≡ true → arguments_agree b e.parameters (action_arguments a) ≡ true
 agreeing_arguments b a e h =
     second_true (kind_agrees a e.kind) (arguments_agree b e.parameters (action_arguments a))
-    (second_true (same_name e.name (action_name a)) (kind_agrees a e.kind && arguments_agree b e.parameters (action_arguments a)) h)
+    (second_true (same_word e.name (action_name a)) (kind_agrees a e.kind && arguments_agree b e.parameters (action_arguments a)) h)
 
 -- so many names are in view in the guard and the effect of an entry whose action is taken: those of the variables, of
 -- the automaton's parameters, and of the arguments that have names of their own

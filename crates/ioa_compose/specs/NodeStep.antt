@@ -5,7 +5,7 @@ use Rattle.std.specs.List.{list_all}
 use Rattle.ioa_values.specs.Data.{Data, truth, as_truth, is_within}
 use Rattle.ioa_values.specs.Outcome.{and_then}
 use Rattle.ioa_values.specs.DataOrder.{same}
-use Rattle.ioa_terms.specs.Bindings.{Bindings, same_name}
+use Rattle.ioa_terms.specs.Bindings.{Bindings, same_word}
 use Rattle.ioa_terms.specs.Meaning.{value, numbers_met, answer}
 use Rattle.ioa_terms.specs.Performance.{after, numbers_met_by, answer_by}
 use Rattle.ioa_terms.specs.declared.tree.Kind.{Kind}
@@ -34,9 +34,9 @@ kind_agrees (Receive m i j) Input = true
 kind_agrees (Receive m i j) Output = false
 kind_agrees (Receive m i j) Internal = false
 kind_agrees (Local a) Input = false
-kind_agrees (Local a) Output = not (same_name a.name send_name)
+kind_agrees (Local a) Output = not (same_word a.name send_name)
 kind_agrees (Local a) Internal = true
-kind_agrees (Stimulus a) Input = not (same_name a.name receive_name)
+kind_agrees (Stimulus a) Input = not (same_word a.name receive_name)
 kind_agrees (Stimulus a) Output = false
 kind_agrees (Stimulus a) Internal = false
 
@@ -76,7 +76,7 @@ naturals_answer ps vs = if are_natural ps vs then Ok tt else Err Undefined
 -- whether an action is one of an entry's, if constants read these bindings
 abbrev pub entry_agrees : Bindings → Action → CheckedEntry → Bool
 entry_agrees b a e =
-    same_name e.name (action_name a)
+    same_word e.name (action_name a)
     && (kind_agrees a e.kind && arguments_agree b e.parameters (action_arguments a))
 
 -- the argument of a parameter that has a name of its own

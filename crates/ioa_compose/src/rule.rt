@@ -20,7 +20,7 @@ use crate::fault::StepFault;
 use ioa_actions::{Action, RECEIVE, SEND};
 use ioa_source::{Entry, Parameter};
 use ioa_system::{Program, Rule};
-use ioa_terms::{Checked, Env, Kind, Shape, TermFault, Value, Word, eval, perform};
+use ioa_terms::{Checked, Env, Kind, Name, Shape, TermFault, Value, Word, eval, perform};
 use ioa_values::copies;
 use std::alloc::{AllocError, Global};
 
@@ -200,20 +200,21 @@ fn take_transition(
 ) -> Result<Vec<Value>, StepFault>
     // the names in the rule are resolved, and each has a value
     requires condition { IsResolvedGuard rule.now.entry.condition
-        (drop (length variables.now) rule.now.scope ++ program.now.automaton.constants) }
-    requires guard { IsResolvedGuard rule.now.transition.pre (rule.now.scope ++ program.now.automaton.constants) }
-    requires effect { AreResolved rule.now.transition.effect rule.now.scope
-        (rule.now.scope ++ program.now.automaton.constants) }
+        (map Name.Word (drop (length variables.now) rule.now.scope ++ program.now.automaton.constants)) }
+    requires guard { IsResolvedGuard rule.now.transition.pre
+        (map Name.Word (rule.now.scope ++ program.now.automaton.constants)) }
+    requires effect { AreResolved rule.now.transition.effect (map Name.Word rule.now.scope)
+        (map Name.Word (rule.now.scope ++ program.now.automaton.constants)) }
     requires named { length rule.now.scope ≡ length variables.now
         + (length program.now.automaton.parameters
         + length (spec.own_values rule.now.entry.parameters arguments.now)) }
     // the new values, one for each variable
     ensures after { Answers StepFault.Memory (λ v. v.items) result
         (spec.step_answer (length variables.now) rule.now arguments.now
-        (environment (drop (length variables.now) rule.now.scope)
+        (environment (map Name.Word (drop (length variables.now) rule.now.scope))
         (program.now.arguments ++ spec.own_values rule.now.entry.parameters arguments.now)
         program.now.automaton.constants)
-        (environment rule.now.scope
+        (environment (map Name.Word rule.now.scope)
         (variables.now ++ (program.now.arguments ++ spec.own_values rule.now.entry.parameters arguments.now))
         program.now.automaton.constants)) }
     ensures valued { IfOk result (λ v. length v.items ≡ length variables.now) }
@@ -236,10 +237,11 @@ fn pass_condition(
     fixed_values: &[Value],
     count: usize,
 ) -> Result<(), StepFault>
-    requires resolved { IsResolvedGuard rule.now.entry.condition (drop count rule.now.scope ++ constants.now) }
+    requires resolved { IsResolvedGuard rule.now.entry.condition
+        (map Name.Word (drop count rule.now.scope ++ constants.now)) }
     requires named { length rule.now.scope ≡ count + length fixed_values.now }
     ensures { Answers StepFault.Memory (λ _. tt) result (spec.guard_answer rule.now.entry.condition
-        (environment (drop count rule.now.scope) fixed_values.now constants.now)) }
+        (environment (map Name.Word (drop count rule.now.scope)) fixed_values.now constants.now)) }
 {
     let scope = &rule.scope.as_slice()[count..];
     let env = Env::with_constants(scope, fixed_values, constants);
@@ -255,10 +257,10 @@ fn pass_transition_guard(
     variables: &[Value],
     fixed_values: &[Value],
 ) -> Result<(), StepFault>
-    requires resolved { IsResolvedGuard rule.now.transition.pre (rule.now.scope ++ constants.now) }
+    requires resolved { IsResolvedGuard rule.now.transition.pre (map Name.Word (rule.now.scope ++ constants.now)) }
     requires named { length rule.now.scope ≡ length (variables.now ++ fixed_values.now) }
     ensures { Answers StepFault.Memory (λ _. tt) result (spec.guard_answer rule.now.transition.pre
-        (environment rule.now.scope (variables.now ++ fixed_values.now) constants.now)) }
+        (environment (map Name.Word rule.now.scope) (variables.now ++ fixed_values.now) constants.now)) }
 {
     let env = Env::with_given(rule.scope.as_slice(), variables, fixed_values, constants);
     pass_guard(alloc, &rule.transition.pre, &env)
@@ -274,12 +276,14 @@ fn take_effect(
     count: usize,
 ) -> Result<Vec<Value>, StepFault>
     // the names in the effect are resolved, and each name in view has a value
-    requires resolved { AreResolved rule.now.transition.effect rule.now.scope (rule.now.scope ++ constants.now) }
+    requires resolved { AreResolved rule.now.transition.effect (map Name.Word rule.now.scope)
+        (map Name.Word (rule.now.scope ++ constants.now)) }
     requires named { length rule.now.scope ≡ length values.items }
     requires within { count ≤ length values.items }
     // `count` new values
     ensures after { Answers StepFault.Memory (λ v. v.items) result (spec.effect_answer count
-        (answer_by rule.now.transition.effect (environment rule.now.scope values.items constants.now))) }
+        (answer_by rule.now.transition.effect
+        (environment (map Name.Word rule.now.scope) values.items constants.now))) }
     ensures valued { IfOk result (λ v. length v.items ≡ count) }
 {
     let effect = &rule.transition.effect;

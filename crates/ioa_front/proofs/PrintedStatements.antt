@@ -1,15 +1,14 @@
 -- Statements and blocks as they are printed.
-use Rattle.std.proofs.Common.{◌≡◌, List, [], ◌∷◌, ◌++◌, refl, ap, append_assoc, append-nil}
+use Rattle.std.proofs.Common.{◌≡◌, List, [], ◌∷◌, ◌++◌, refl, append_assoc, append-nil}
 use Rattle.ioa_tokens.specs.declared.token.Token.{Token}
 use Rattle.ioa_tokens.specs.declared.token.Token.TheVariants as token
 use Rattle.ioa_tokens.specs.declared.mark.Mark.TheVariants as mark
-use Rattle.ioa_terms.specs.PlainTerm.{statements_of}
-use Rattle.ioa_source.specs.Sides.{SourceTarget as Target, SourceStatement as Statement, SourceStatements as Statements, SourceArms as Arms}
+use Rattle.ioa_source.specs.Sides.{SourceTarget as Target, SourceStatement as Statement, SourceStatements as Statements, SourceArms as Arms, SourceFiring as Firing}
 use Rattle.ioa_term_reader.specs.Spelling.{spelling}
 use Rattle.ioa_term_reader.proofs.PrintedGood.{tokens_joined}
 use Rattle.ioa_text_reader.specs.Grammar as grammar
 use Rattle.ioa_text_reader.specs.Grammar.{SpellsTarget, SpellsStatement, SpellsArms, SpellsRest, SpellsStatements, SpellsEffect, SpellsFire, SpellsBlock}
-use Rattle.ioa_front.specs.Spelling.{more_separated_spelling, separated_spelling, target_spelling, else_spelling, statement_spelling, statements_spelling, more_statements_spelling, arms_spelling, more_arms_spelling, effect_spelling, block_spelling}
+use Rattle.ioa_front.specs.Spelling.{target_spelling, else_spelling, statement_spelling, statements_spelling, more_statements_spelling, arms_spelling, more_arms_spelling, effect_spelling, firing_spelling, firings_spelling, block_spelling}
 use Rattle.ioa_front.proofs.PrintedLists.{Prints, ended_prints}
 use Rattle.ioa_front.proofs.PrintedDeclared.{inner_term, outer_term, call_prints, kind_again, kind_good}
 
@@ -141,33 +140,24 @@ effect_prints ss xs ys d =
 
 -- firings, and blocks of them
 
-fire_prints : (s : Statement) (xs ys : List Token) → SpellsFire s xs ys → Prints SpellsFire statement_spelling s xs ys
-fire_prints s xs ys (grammar.firing {call = c} d) =
+firing_prints : (f : Firing) (xs ys : List Token) → SpellsFire f xs ys → Prints SpellsFire firing_spelling f xs ys
+firing_prints f xs ys (grammar.firing {call = c} d) =
     let p = call_prints d in
     record { again = λ zs. grammar.firing {call = c} (p.again zs); good = λ h. let g = p.good h.1 in ((tt, g.0), g.1) }
-fire_prints s xs ys (grammar.kind_firing {k = k} {call = c} kinded d) =
+firing_prints f xs ys (grammar.kind_firing {k = k} {call = c} kinded d) =
     let p = call_prints d in
     record {
       again = λ zs. grammar.kind_firing {call = c} (kind_again k _) (p.again zs);
       good = λ h. let g = p.good (kind_good kinded h.1) in ((tt, (tt, g.0)), g.1);
     }
 
--- the statements of a list have semicolons between
-more_separated_is : (ss : List Statement) → more_statements_spelling (statements_of ss) ≡ more_separated_spelling mark.Semicolon statement_spelling ss
-more_separated_is [] = refl
-more_separated_is (s ∷ more) = ap (λ l. token.Mark mark.Semicolon ∷ (statement_spelling s ++ l)) (more_separated_is more)
-
-separated_is : (ss : List Statement) → effect_spelling ss ≡ separated_spelling mark.Semicolon statement_spelling ss
-separated_is [] = refl
-separated_is (s ∷ more) = ap (λ l. statement_spelling s ++ l) (more_separated_is more)
-
-pub block_prints : (ss : List Statement) (xs ys : List Token) → SpellsBlock ss xs ys → Prints SpellsBlock block_spelling ss xs ys
-block_prints ss xs ys grammar.idle = record { again = λ zs. grammar.idle; good = λ h. ((tt, (tt, tt)), h.1.1) }
-block_prints ss xs ys (grammar.busy {fires = fires} d) =
-    let p = ended_prints SpellsFire statement_spelling fire_prints mark.Semicolon d in
-    let inside = separated_spelling mark.Semicolon statement_spelling fires in
+pub block_prints : (fs : List Firing) (xs ys : List Token) → SpellsBlock fs xs ys → Prints SpellsBlock block_spelling fs xs ys
+block_prints fs xs ys grammar.idle = record { again = λ zs. grammar.idle; good = λ h. ((tt, (tt, tt)), h.1.1) }
+block_prints fs xs ys (grammar.busy {fires = fires} d) =
+    let p = ended_prints SpellsFire firing_spelling firing_prints mark.Semicolon d in
+    let inside = firings_spelling fires in
     let end = token.Mark mark.Od ∷ [] in
     record {
-      again = λ zs. rw (separated_is fires, append_assoc inside end zs) (grammar.busy (p.again (token.Mark mark.Od ∷ zs)));
-      good = λ h. let g = p.good h.1 in ((tt, rw (separated_is fires) (tokens_joined inside end g.0 (tt, tt))), g.1.1);
+      again = λ zs. rw (append_assoc inside end zs) (grammar.busy (p.again (token.Mark mark.Od ∷ zs)));
+      good = λ h. let g = p.good h.1 in ((tt, tokens_joined inside end g.0 (tt, tt)), g.1.1);
     }

@@ -7,12 +7,13 @@ use Rattle.ioa_tokens.specs.declared.mark.Mark.{Mark}
 use Rattle.ioa_tokens.specs.declared.mark.Mark.TheVariants as mark
 use Rattle.ioa_terms.specs.declared.tree.Kind.{Kind}
 use Rattle.ioa_terms.specs.declared.tree.Kind.TheVariants as kind
-use Rattle.ioa_terms.specs.PlainTerm.{variable, at_key, at_field, assign, branch, fire}
+use Rattle.ioa_terms.specs.PlainTerm.{variable, at_key, at_field, assign, branch}
 use Rattle.ioa_terms.specs.PlainTerm.{no_statements, statement, statements_of, no_arms, arm}
 use Rattle.ioa_source.specs.PlainSort.{PlainSort, booleans, integers, naturals, sequences, sets, maps, named_type}
 use Rattle.ioa_source.specs.PlainText.{const, named, enumeration, tuple_of, type_named, automaton, node, channel}
 use Rattle.ioa_source.specs.Sides.{SourceTerm as Term, SourceTarget as Target, SourceStatement as Statement}
-use Rattle.ioa_source.specs.Sides.{SourceStatements as Statements, SourceArms as Arms, SourceDeclared as Declared}
+use Rattle.ioa_source.specs.Sides.{SourceStatements as Statements, SourceArms as Arms, SourceFiring as Firing}
+use Rattle.ioa_source.specs.Sides.{SourceDeclared as Declared}
 use Rattle.ioa_source.specs.Sides.{SourceParameter as Parameter, SourceEntry as Entry, SourceVariable as Variable}
 use Rattle.ioa_source.specs.Sides.{SourceTransition as Transition, SourceForm as Form, SourceDeclaration as Declaration}
 use Rattle.ioa_source.specs.Sides.{SourcePlacement as Placement, SourceText}
@@ -126,13 +127,12 @@ else_spelling no_statements xs = []
 else_spelling (statement s more) xs = token.Mark mark.Else ∷ xs
 
 abbrev mutual
-  -- Target := Term, if Term then Statements {elseif Term then Statements} [else Statements] fi, or fire [Kind] Call
+  -- Target := Term, or if Term then Statements {elseif Term then Statements} [else Statements] fi
   pub statement_spelling : Statement → List Token
   statement_spelling (assign p t) = target_spelling p ++ (token.Mark mark.Assign ∷ spelling t)
   statement_spelling (branch arms rest) =
       token.Mark mark.If ∷ (arms_spelling arms
       ++ (else_spelling rest (statements_spelling rest) ++ token.Mark mark.Fi ∷ []))
-  statement_spelling (fire k w ts) = token.Mark mark.Fire ∷ (kind_spelling k ++ call_spelling w ts)
 
   -- Statement {; Statement}
   pub statements_spelling : Statements → List Token
@@ -180,13 +180,21 @@ transition_spelling t =
 abbrev pub transitions_spelling : List Transition → List Token
 transitions_spelling ts = section_spelling mark.Transitions (joined_spelling transition_spelling) ts
 
--- do Statements od
-abbrev pub block_spelling : List Statement → List Token
-block_spelling ss = token.Mark mark.Do ∷ (effect_spelling ss ++ token.Mark mark.Od ∷ [])
+-- Fire: fire [Kind] Call
+abbrev pub firing_spelling : Firing → List Token
+firing_spelling f = token.Mark mark.Fire ∷ (kind_spelling f.kind ++ call_spelling f.action f.arguments)
 
--- [schedule do Statements od]
-abbrev pub schedule_spelling : List Statement → List Token
-schedule_spelling ss = section_spelling mark.Schedule block_spelling ss
+-- Fire {; Fire}
+abbrev pub firings_spelling : List Firing → List Token
+firings_spelling fs = separated_spelling mark.Semicolon firing_spelling fs
+
+-- do Fire {; Fire} od
+abbrev pub block_spelling : List Firing → List Token
+block_spelling fs = token.Mark mark.Do ∷ (firings_spelling fs ++ token.Mark mark.Od ∷ [])
+
+-- [schedule do Fire {; Fire} od]
+abbrev pub schedule_spelling : List Firing → List Token
+schedule_spelling fs = section_spelling mark.Schedule block_spelling fs
 
 -- enumeration of Word {, Word}, or tuple of Declared {, Declared}
 abbrev pub form_spelling : Form → List Token

@@ -3,7 +3,7 @@
 ghost use Rattle.std.specs.Prelude.{map};
 ghost use Rattle.ioa_tokens.specs.declared.mark.Mark.TheVariants as mark;
 ghost use Rattle.ioa_source.specs.SortView.{sort_of};
-ghost use Rattle.ioa_terms.specs.View.{statement_of};
+ghost use Rattle.ioa_terms.specs.View.{statement_of, firing_of};
 ghost use Rattle.ioa_source.specs.TextView.{declared_of, parameter_of, entry_of, variable_of, transition_of};
 ghost use Rattle.ioa_source.specs.TextView.{automaton_of, form_of, type_of, declaration_of};
 ghost use Rattle.ioa_source.specs.PlainText as plain;
@@ -11,13 +11,13 @@ ghost use Rattle.ioa_front.specs.Pieces.{Puts};
 ghost use Rattle.ioa_front.specs.Spelling as spec;
 
 use crate::piece::Pieces;
-use crate::statements::{kind_mark, put_call, put_statements};
+use crate::statements::{kind_mark, put_call, put_firings, put_statements};
 use crate::terms::{put_optional, put_term};
 use ioa_source::{
     Automaton, Declaration, Declared, Entry, Parameter, Sort, Transition, TypeDeclaration,
     TypeForm, Variable,
 };
-use ioa_terms::Statement;
+use ioa_terms::{Firing, Statement};
 use ioa_tokens::Mark;
 use ioa_values::Word;
 use std::alloc::AllocError;
@@ -274,19 +274,16 @@ fn put_transitions<'a>(
     }
 }
 
-/// Puts a schedule block, if it has a statement.
-fn put_schedule<'a>(
-    out: &mut Pieces<'a>,
-    schedule: &'a Vec<Statement<(), ()>>,
-) -> Result<(), AllocError>
-    ensures { Puts (spec.schedule_spelling (map statement_of schedule.now.items)) result out.old out.new }
+/// Puts a schedule block, if it has a firing.
+fn put_schedule<'a>(out: &mut Pieces<'a>, schedule: &'a [Firing<(), ()>]) -> Result<(), AllocError>
+    ensures { Puts (spec.schedule_spelling (map firing_of schedule.now)) result out.old out.new }
 {
-    match schedule.as_slice() {
+    match schedule {
         [] => Ok(()),
         [_, ..] => {
             out.put_mark(Mark::Schedule)?;
             out.put_mark(Mark::Do)?;
-            put_statements(out, schedule)?;
+            put_firings(out, schedule)?;
             out.put_mark(Mark::Od)
         }
     }

@@ -1,14 +1,14 @@
-//! The pieces of statements.
+//! The pieces of statements and firings.
 
 ghost use Rattle.std.specs.Prelude.{◌≡◌, map};
-ghost use Rattle.ioa_terms.specs.PlainTerm.{statements_of, arms_of, assign, fire};
-ghost use Rattle.ioa_terms.specs.View.{term_of, target_of, statement_of, arm_of};
+ghost use Rattle.ioa_terms.specs.PlainTerm.{statements_of, arms_of, assign};
+ghost use Rattle.ioa_terms.specs.View.{term_of, target_of, statement_of, arm_of, firing_of};
 ghost use Rattle.ioa_front.specs.Pieces.{Puts};
 ghost use Rattle.ioa_front.specs.Spelling as spec;
 
 use crate::piece::Pieces;
 use crate::terms::{put_bracketed, put_term};
-use ioa_terms::{Arm, Kind, Statement, Target, Term};
+use ioa_terms::{Arm, Firing, Kind, Statement, Target, Term};
 use ioa_tokens::Mark;
 use ioa_values::Word;
 use std::alloc::AllocError;
@@ -79,20 +79,6 @@ fn put_assignment<'a>(
     put_term(out, term)
 }
 
-/// Puts the firing of an action.
-fn put_firing<'a>(
-    out: &mut Pieces<'a>,
-    kind: Option<Kind>,
-    name: &'a Word,
-    arguments: &'a [Term],
-) -> Result<(), AllocError>
-    ensures { Puts (spec.statement_spelling (fire kind name.now (map term_of arguments.now))) result out.old out.new }
-{
-    out.put_mark(Mark::Fire)?;
-    put_kind(out, kind)?;
-    put_call(out, name, arguments)
-}
-
 /// Puts a statement.
 #[cycle(statements)]
 fn put_statement<'a>(
@@ -109,7 +95,6 @@ fn put_statement<'a>(
             put_else(out, rest)?;
             out.put_mark(Mark::Fi)
         }
-        Statement::Fire(kind, name, arguments) => put_firing(out, *kind, name, arguments),
     }
 }
 
@@ -156,6 +141,31 @@ pub(crate) fn put_statements<'a>(
     for statement in statements {
         out.put_between(Mark::Semicolon, first)?;
         put_statement(out, statement)?;
+        first = false;
+    }
+    Ok(())
+}
+
+/// Puts the firing of an action.
+fn put_firing<'a>(out: &mut Pieces<'a>, firing: &'a Firing<(), ()>) -> Result<(), AllocError>
+    ensures { Puts (spec.firing_spelling (firing_of firing.now)) result out.old out.new }
+{
+    out.put_mark(Mark::Fire)?;
+    put_kind(out, firing.kind)?;
+    put_call(out, &firing.action, &firing.arguments)
+}
+
+/// Puts firings with semicolons between.
+pub(crate) fn put_firings<'a>(
+    out: &mut Pieces<'a>,
+    firings: &'a [Firing<(), ()>],
+) -> Result<(), AllocError>
+    ensures { Puts (spec.firings_spelling (map firing_of firings.now)) result out.old out.new }
+{
+    let mut first = true;
+    for firing in firings {
+        out.put_between(Mark::Semicolon, first)?;
+        put_firing(out, firing)?;
         first = false;
     }
     Ok(())

@@ -12,7 +12,7 @@ ghost use Rattle.ioa_front.specs.Pieces.{Puts};
 
 use crate::piece::Pieces;
 use ioa_term_reader::{infix_mark, prefix_mark};
-use ioa_terms::{BinaryOperator, DisplayForm, Term};
+use ioa_terms::{BinaryOperator, DisplayForm, Name, Term};
 use ioa_tokens::Mark;
 use std::alloc::AllocError;
 
@@ -82,7 +82,7 @@ pub(crate) fn put_term<'a>(out: &mut Pieces<'a>, term: &'a Term) -> Result<(), A
     match term {
         Term::Number(number) => out.put_number(*number),
         Term::Truth(truth) => out.put_mark(truth_mark(*truth)),
-        Term::Name(name, _) => out.put_word(name),
+        Term::Name(Name::Word(word), _) => out.put_word(word),
         Term::One(operator, operand) => {
             out.put_mark(prefix_mark(*operator))?;
             put_part(out, operand)

@@ -4,7 +4,7 @@ use ioa_source::{
     Automaton, Declaration, Declared, Entry, Parameter, Placement, Sort, Text, Transition,
     TypeForm, Variable,
 };
-use ioa_terms::{Arm, Kind, Statement, Target, Term, Tree, Word};
+use ioa_terms::{Arm, Firing, Kind, Name, Statement, Target, Term, Tree, Word};
 use std::alloc::{AllocError, Global};
 
 /// Writes a piece of a list after the pieces before it.
@@ -26,7 +26,7 @@ fn term(alloc: Global, tree: &Term) -> Result<String, AllocError> {
     match tree {
         Tree::Number(number) => format!(in alloc; "{number}"),
         Tree::Truth(truth) => format!(in alloc; "{truth}"),
-        Tree::Name(name, _) => format!(in alloc; "{name}"),
+        Tree::Name(Name::Word(word), _) => format!(in alloc; "{word}"),
         Tree::One(operator, part) => {
             let part = term(alloc, part)?;
             format!(in alloc; "({operator:?} {part})")
@@ -175,14 +175,6 @@ fn target(alloc: Global, target: &Target<(), ()>) -> Result<String, AllocError> 
     }
 }
 
-/// The kind of a fired action, if one is written.
-fn fired_kind(alloc: Global, kind: &Option<Kind>) -> Result<String, AllocError> {
-    match kind {
-        None => Ok(String::new(alloc)),
-        Some(kind) => format!(in alloc; "{kind:?} "),
-    }
-}
-
 /// A statement.
 #[cycle(showing_statements)]
 fn statement(alloc: Global, tree: &Statement<(), ()>) -> Result<String, AllocError> {
@@ -196,11 +188,6 @@ fn statement(alloc: Global, tree: &Statement<(), ()>) -> Result<String, AllocErr
             let tried = arms(alloc, tried)?;
             let rest = statements(alloc, rest)?;
             format!(in alloc; "if {tried} else {rest} fi")
-        }
-        Statement::Fire(kind, name, arguments) => {
-            let kind = fired_kind(alloc, kind)?;
-            let arguments = terms(alloc, arguments)?;
-            format!(in alloc; "fire {kind}{name}({arguments})")
         }
     }
 }
@@ -235,6 +222,32 @@ fn statements(alloc: Global, trees: &Vec<Statement<(), ()>>) -> Result<String, A
     Ok(list)
 }
 
+/// The kind of a fired action, if one is written.
+fn fired_kind(alloc: Global, kind: &Option<Kind>) -> Result<String, AllocError> {
+    match kind {
+        None => Ok(String::new(alloc)),
+        Some(kind) => format!(in alloc; "{kind:?} "),
+    }
+}
+
+/// A firing.
+fn firing(alloc: Global, tree: &Firing<(), ()>) -> Result<String, AllocError> {
+    let kind = fired_kind(alloc, &tree.kind)?;
+    let action = &tree.action;
+    let arguments = terms(alloc, &tree.arguments)?;
+    format!(in alloc; "fire {kind}{action}({arguments})")
+}
+
+/// Firings with semicolons between.
+fn firings(alloc: Global, trees: &Vec<Firing<(), ()>>) -> Result<String, AllocError> {
+    let mut list = String::new(alloc);
+    for position in 0..trees.len() {
+        let piece = firing(alloc, &trees[position])?;
+        push_listed(&mut list, position, "; ", piece.as_str())?;
+    }
+    Ok(list)
+}
+
 /// The transitions.
 fn transitions(alloc: Global, transitions: &Vec<Transition<(), ()>>) -> Result<String, AllocError> {
     let mut list = String::new(alloc);
@@ -256,7 +269,7 @@ fn automaton(alloc: Global, tree: &Automaton<(), ()>) -> Result<String, AllocErr
     let signature = entries(alloc, &tree.signature)?;
     let states = variables(alloc, &tree.states)?;
     let transitions = transitions(alloc, &tree.transitions)?;
-    let schedule = statements(alloc, &tree.schedule)?;
+    let schedule = firings(alloc, &tree.schedule)?;
     format!(in alloc;
         "automaton {name}({parameters}){signature}{states}{transitions}\ndo {schedule}\n"
     )

@@ -2,7 +2,7 @@
 
 use ioa_cursor::{Tokens, Unread, offset_of};
 use ioa_term_reader::{BRACKET_LIMIT, term};
-use ioa_terms::{BinaryOperator, DisplayForm, Term, Tree, UnaryOperator};
+use ioa_terms::{BinaryOperator, DisplayForm, Name, Term, Tree, UnaryOperator};
 use ioa_tokens::{LocatedToken, tokens};
 use std::alloc::{AllocError, Global};
 use std::test::Fail;
@@ -157,7 +157,7 @@ fn short_form(alloc: Global, term: &Term) -> Result<String, AllocError> {
     match term {
         Tree::Number(number) => format!(in alloc; "{number}"),
         Tree::Truth(truth) => format!(in alloc; "{truth}"),
-        Tree::Name(name, _) => format!(in alloc; "{name}"),
+        Tree::Name(Name::Word(word), _) => format!(in alloc; "{word}"),
         Tree::One(operator, part) => {
             let part = short_form(alloc, part)?;
             match operator {

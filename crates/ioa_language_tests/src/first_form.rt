@@ -6,7 +6,7 @@ use ioa_source::{
     Automaton, Declaration, Declared, Entry, Node, Parameter, Placement, Sort, Text, Transition,
     TypeDeclaration, TypeForm, Variable,
 };
-use ioa_terms::{Arm, BinaryOperator, Kind, Statement, Target, Term, Word};
+use ioa_terms::{Arm, BinaryOperator, Firing, Kind, Name, Statement, Target, Term, Word};
 use std::alloc::Global;
 use std::test::Fail;
 
@@ -21,7 +21,7 @@ fn word(alloc: Global, text: &str) -> Result<Word, Fail> {
 
 /// The term of a name.
 fn name(alloc: Global, text: &str) -> Result<Term, Fail> {
-    Ok(Term::Name(word(alloc, text)?, ()))
+    Ok(Term::Name(Name::Word(word(alloc, text)?), ()))
 }
 
 /// An operator between a name and a number.
@@ -154,7 +154,7 @@ fn transition(alloc: Global, later: &str) -> Result<Transition<(), ()>, Fail> {
 }
 
 /// `fire send(n, 0, 1)`.
-fn firing(alloc: Global, later: &str) -> Result<Statement<(), ()>, Fail> {
+fn firing(alloc: Global, later: &str) -> Result<Firing<(), ()>, Fail> {
     let kind = if later == "kind" {
         Some(Kind::Output)
     } else {
@@ -164,7 +164,11 @@ fn firing(alloc: Global, later: &str) -> Result<Statement<(), ()>, Fail> {
     arguments.push(name(alloc, "n")?)?;
     arguments.push(Term::Number(0))?;
     arguments.push(Term::Number(1))?;
-    Ok(Statement::Fire(kind, word(alloc, "send")?, arguments))
+    Ok(Firing {
+        kind,
+        action: word(alloc, "send")?,
+        arguments,
+    })
 }
 
 /// An automaton without parts.

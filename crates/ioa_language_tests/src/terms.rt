@@ -10,8 +10,8 @@ ghost use Rattle.ioa_terms.specs.View.{term_of, target_of, statement_of, arm_of}
 
 use ioa_actions::{Action, NodeAction, Values, push_listed, show_action, show_node_action};
 use ioa_terms::{
-    Arm, BinaryOperator, Checked, DisplayForm, Env, Names, Shape, ShapeForm, Statement, Target,
-    TermFault, UnaryOperator, Value, Word, eval, perform, show,
+    Arm, BinaryOperator, Checked, DisplayForm, Env, Name, Names, Shape, ShapeForm, Statement,
+    Target, TermFault, UnaryOperator, Value, Word, eval, perform, show,
 };
 use std::alloc::{AllocError, Global};
 use std::sync::Arc;
@@ -312,7 +312,7 @@ fn step(
         "false" => Ok(Checked::Truth(false)),
         _ => match text.parse::<i64>() {
             Ok(number) => Ok(Checked::Number(number)),
-            Err(_) => Ok(Checked::Name(word(alloc, text)?, slot_of(text, names))),
+            Err(_) => Ok(Checked::Name(Name::Word(word(alloc, text)?), slot_of(text, names))),
         },
     }
 }
@@ -329,7 +329,7 @@ fn term(alloc: Global, text: &str, names: &[Word]) -> Result<Checked, Fail> {
 
 /// Whether a slot is the first one of a name.
 fn is_first(name: &Word, slot: usize, names: &[Word]) -> bool
-    ensures { IsTrue result → slot_in name.now names.now ≡ Some slot }
+    ensures { IsTrue result → slot_in (Name.Word name.now) (map Name.Word names.now) ≡ Some slot }
 {
     for (at, other) in names.iter().enumerate() {
         if name == other {
@@ -342,12 +342,12 @@ fn is_first(name: &Word, slot: usize, names: &[Word]) -> bool
 /// Whether each name of a term has its slot.
 #[cycle(resolving)]
 fn is_resolved(term: &Checked, names: &[Word]) -> bool
-    ensures { IsTrue result → IsResolved (term_of term.now) names.now }
+    ensures { IsTrue result → IsResolved (term_of term.now) (map Name.Word names.now) }
 {
     match term {
         Checked::Number(_) => true,
         Checked::Truth(_) => true,
-        Checked::Name(name, slot) => is_first(name, *slot, names),
+        Checked::Name(Name::Word(word), slot) => is_first(word, *slot, names),
         Checked::One(_, a) => is_resolved(a, names),
         Checked::Two(_, a, b) => is_resolved(a, names) && is_resolved(b, names),
         Checked::Call(_, parts) => are_resolved(parts, names),
@@ -358,7 +358,7 @@ fn is_resolved(term: &Checked, names: &[Word]) -> bool
 
 #[cycle(resolving)]
 fn are_resolved(parts: &Vec<Checked>, names: &[Word]) -> bool
-    ensures { IsTrue result → AreTermsResolved (terms_of (map term_of parts.now.items)) names.now }
+    ensures { IsTrue result → AreTermsResolved (terms_of (map term_of parts.now.items)) (map Name.Word names.now) }
 {
     for part in parts {
         if !is_resolved(part, names) {
@@ -377,7 +377,7 @@ fn answer(
     values: &[Value],
     constants: &Names,
 ) -> Result<String, AllocError>
-    requires resolved { IsResolved (term_of term.now) view.now }
+    requires resolved { IsResolved (term_of term.now) (map Name.Word view.now) }
     requires within { length values.now ≤ length view.now }
 {
     let (variables, behind) = view.split_at(values.len());
@@ -391,7 +391,8 @@ fn answer(
 
 /// Whether the name of a target has its slot among the variables, and the key's names have theirs.
 fn is_resolved_target(target: &Target<usize, Shape>, variables: &[Word], names: &[Word]) -> bool
-    ensures { IsTrue result → IsResolvedTarget (target_of target.now) variables.now names.now }
+    ensures { IsTrue result → IsResolvedTarget (target_of target.now) (map Name.Word variables.now)
+        (map Name.Word names.now) }
 {
     match target {
         Target::Variable(name, at, _) => is_first(name, *at, variables),
@@ -407,7 +408,8 @@ fn is_resolved_statement(
     variables: &[Word],
     names: &[Word],
 ) -> bool
-    ensures { IsTrue result → IsResolvedStatement (statement_of statement.now) variables.now names.now }
+    ensures { IsTrue result → IsResolvedStatement (statement_of statement.now)
+        (map Name.Word variables.now) (map Name.Word names.now) }
 {
     match statement {
         Statement::Assign(target, term) => {
@@ -417,13 +419,13 @@ fn is_resolved_statement(
             are_resolved_arms(arms, variables, names)
                 && are_resolved_statements(rest, variables, names)
         }
-        Statement::Fire(_, _, _) => true,
     }
 }
 
 #[cycle(resolving_statements)]
 fn are_resolved_arms(arms: &Vec<Arm<usize, Shape>>, variables: &[Word], names: &[Word]) -> bool
-    ensures { IsTrue result → AreArmsResolved (arms_of (map arm_of arms.now.items)) variables.now names.now }
+    ensures { IsTrue result → AreArmsResolved (arms_of (map arm_of arms.now.items))
+        (map Name.Word variables.now) (map Name.Word names.now) }
 {
     for arm in arms {
         if !is_resolved(&arm.test, names) || !are_resolved_statements(&arm.body, variables, names) {
@@ -440,7 +442,8 @@ fn are_resolved_statements(
     names: &[Word],
 ) -> bool
     ensures { IsTrue result →
-        AreAllResolved (statements_of (map statement_of statements.now.items)) variables.now names.now }
+        AreAllResolved (statements_of (map statement_of statements.now.items))
+        (map Name.Word variables.now) (map Name.Word names.now) }
 {
     for statement in statements {
         if !is_resolved_statement(statement, variables, names) {
@@ -529,7 +532,8 @@ fn effect_text(
     names: &[Word],
     values: Vec<Value>,
 ) -> Result<String, AllocError>
-    requires resolved { AreAllResolved (statements_of (map statement_of statements.now)) names.now names.now }
+    requires resolved { AreAllResolved (statements_of (map statement_of statements.now))
+        (map Name.Word names.now) (map Name.Word names.now) }
     requires named { length names.now ≡ length values.items }
 {
     match perform(alloc, statements, names, &[], values) {

@@ -1,10 +1,10 @@
 -- A text as it is spelled has no annotation to erase.
 use Rattle.std.proofs.Common.{◌≡◌, List, [], ◌∷◌, Option, Some, None, map, refl, ap}
 use Rattle.std.specs.Option.{option_map}
-use Rattle.ioa_terms.specs.PlainTerm.{number, truth, name, one, two, call, display, field, no_terms, term, variable, at_key, at_field, assign, branch, fire, no_statements, statement, no_arms, arm}
+use Rattle.ioa_terms.specs.PlainTerm.{number, truth, name, one, two, call, display, field, no_terms, term, variable, at_key, at_field, assign, branch, firing, no_statements, statement, no_arms, arm}
 use Rattle.ioa_source.specs.PlainText.{const, named, enumeration, tuple_of, type_named, automaton, node, channel}
-use Rattle.ioa_source.specs.Sides.{SourceTerm, SourceTerms, SourceTarget, SourceStatement, SourceStatements, SourceArms, SourceDeclared, SourceParameter, SourceEntry, SourceVariable, SourceTransition, SourceAutomaton, SourceForm, SourceType, SourceDeclaration, SourceNode, SourcePlacement, SourceText}
-use Rattle.ioa_source.specs.Erasure.{erase_term, erase_terms, erase_target, erase_statement, erase_statements, erase_arms, erase_declared, erase_parameter, erase_entry, erase_variable, erase_transition, erase_automaton, erase_form, erase_type, erase_declaration, erase_node, erase_placement, erase}
+use Rattle.ioa_source.specs.Sides.{SourceTerm, SourceTerms, SourceTarget, SourceStatement, SourceFiring, SourceStatements, SourceArms, SourceDeclared, SourceParameter, SourceEntry, SourceVariable, SourceTransition, SourceAutomaton, SourceForm, SourceType, SourceDeclaration, SourceNode, SourcePlacement, SourceText}
+use Rattle.ioa_source.specs.Erasure.{erase_term, erase_terms, erase_target, erase_statement, erase_firing, erase_statements, erase_arms, erase_declared, erase_parameter, erase_entry, erase_variable, erase_transition, erase_automaton, erase_form, erase_type, erase_declaration, erase_node, erase_placement, erase}
 
 -- a function that changes no item changes no list, and no option
 each : {A : Type 0} (f : A → A) → ((x : A) → f x ≡ x) → (xs : List A) → map f xs ≡ xs
@@ -39,7 +39,6 @@ mutual
   statement_erased : (s : SourceStatement) → erase_statement s ≡ s
   statement_erased (assign p t) = λ i. assign (target_erased p i) (term_erased t i)
   statement_erased (branch arms rest) = λ i. branch (arms_erased arms i) (statements_erased rest i)
-  statement_erased (fire k w ts) = ap (fire k w) (each erase_term term_erased ts)
 
   statements_erased : (ss : SourceStatements) → erase_statements ss ≡ ss
   statements_erased no_statements = refl
@@ -48,6 +47,9 @@ mutual
   arms_erased : (arms : SourceArms) → erase_arms arms ≡ arms
   arms_erased no_arms = refl
   arms_erased (arm t ss more) = λ i. arm (term_erased t i) (statements_erased ss i) (arms_erased more i)
+
+firing_erased : (f : SourceFiring) → erase_firing f ≡ f
+firing_erased f = ap (firing f.kind f.action) (each erase_term term_erased f.arguments)
 
 declared_erased : (d : SourceDeclared) → erase_declared d ≡ d
 declared_erased d = refl
@@ -83,7 +85,7 @@ automaton_erased a = λ i. record {
   signature = each erase_entry entry_erased a.signature i;
   states = each erase_variable variable_erased a.states i;
   transitions = each erase_transition transition_erased a.transitions i;
-  schedule = each erase_statement statement_erased a.schedule i;
+  schedule = each erase_firing firing_erased a.schedule i;
 }
 
 form_erased : (f : SourceForm) → erase_form f ≡ f

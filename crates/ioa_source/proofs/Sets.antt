@@ -11,13 +11,15 @@ use ghost.Sets.{retract_set}
 use Rattle.ioa_operators.specs.contracts.operator.UnaryOperator as unary
 use Rattle.ioa_operators.specs.contracts.operator.BinaryOperator as binary
 use Rattle.ioa_operators.specs.contracts.shape.DisplayForm as form
+use Rattle.ioa_terms.specs.declared.name.Name.{Name}
+use Rattle.ioa_terms.specs.contracts.name.Name as called
 use Rattle.ioa_terms.specs.declared.tree.Kind.{Kind}
 use Rattle.ioa_terms.specs.contracts.tree.Kind as kind
-use Rattle.ioa_terms.specs.PlainTerm.{PlainTerm-set, PlainTarget-set, PlainStatement-set}
+use Rattle.ioa_terms.specs.PlainTerm.{PlainTerm-set, PlainTarget-set, PlainStatement-set, PlainFiring-set}
 use Rattle.ioa_source.specs.contracts.declaration.Channel as channel
 use Rattle.ioa_source.specs.PlainSort.{PlainSort-set}
 use Rattle.ioa_source.specs.PlainText.{PlainDeclared-set, PlainParameter-set, PlainEntry-set, PlainVariable-set, PlainTransition-set, PlainAutomaton-set, PlainForm-set, PlainType-set, PlainDeclaration-set, PlainNode-set, PlainPlacement-set, PlainText-set}
-use Rattle.ioa_source.specs.Sides.{SourceTerm, SourceTarget, SourceStatement, SourceDeclared, SourceEntry, SourceVariable, SourceTransition, SourceAutomaton, SourceDeclaration, SourcePlacement, SourceText}
+use Rattle.ioa_source.specs.Sides.{SourceTerm, SourceTarget, SourceStatement, SourceFiring, SourceDeclared, SourceEntry, SourceVariable, SourceTransition, SourceAutomaton, SourceDeclaration, SourcePlacement, SourceText}
 
 word_set : IsSet (List ℕ)
 word_set = List-set ℕ_set
@@ -42,17 +44,23 @@ as_it_was (Some a) = refl
 pub Option-set : {A : Type 0} → IsSet A → IsSet (Option A)
 Option-set s = retract_set as_maybe as_option as_it_was (maybe_set s)
 
+name_set : IsSet Name
+name_set = Coded-set called.the_row.coded
+
 kind_set : IsSet Kind
 kind_set = Coded-set kind.the_row.coded
 
 term_set : IsSet SourceTerm
-term_set = PlainTerm-set ℤ_set Bool-set word_set unit_set (Coded-set unary.the_row.coded) (Coded-set binary.the_row.coded) (Coded-set form.the_row.coded) unit_set
+term_set = PlainTerm-set ℤ_set Bool-set name_set unit_set (Coded-set unary.the_row.coded) (Coded-set binary.the_row.coded) word_set (Coded-set form.the_row.coded) unit_set
 
 target_set : IsSet SourceTarget
 target_set = PlainTarget-set word_set unit_set unit_set term_set
 
 statement_set : IsSet SourceStatement
-statement_set = PlainStatement-set target_set term_set (Option-set kind_set) word_set (List-set term_set)
+statement_set = PlainStatement-set target_set term_set
+
+firing_set : IsSet SourceFiring
+firing_set = PlainFiring-set (Option-set kind_set) word_set (List-set term_set)
 
 declared_set : IsSet SourceDeclared
 declared_set = PlainDeclared-set word_set (PlainSort-set word_set) unit_set
@@ -68,7 +76,7 @@ transition_set = PlainTransition-set kind_set word_set (List-set term_set) (Opti
 
 automaton_set : IsSet SourceAutomaton
 automaton_set =
-    PlainAutomaton-set word_set (List-set declared_set) (List-set entry_set) (List-set variable_set) (List-set transition_set) (List-set statement_set)
+    PlainAutomaton-set word_set (List-set declared_set) (List-set entry_set) (List-set variable_set) (List-set transition_set) (List-set firing_set)
 
 declaration_set : IsSet SourceDeclaration
 declaration_set = PlainDeclaration-set (PlainType-set word_set (PlainForm-set (List-set word_set) (List-set declared_set))) automaton_set

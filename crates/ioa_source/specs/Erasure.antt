@@ -4,13 +4,14 @@ use Rattle.std.specs.Prelude.{map}
 use Rattle.std.specs.Option.{option_map}
 use Rattle.ioa_terms.specs.PlainTerm.{PlainTerm, PlainTerms, PlainTarget, PlainStatement, PlainStatements, PlainArms}
 use Rattle.ioa_terms.specs.PlainTerm.{number, truth, name, one, two, call, display, field, no_terms, term}
-use Rattle.ioa_terms.specs.PlainTerm.{variable, at_key, at_field, assign, branch, fire}
+use Rattle.ioa_terms.specs.PlainTerm.{variable, at_key, at_field, assign, branch, PlainFiring, firing}
 use Rattle.ioa_terms.specs.PlainTerm.{no_statements, statement, no_arms, arm}
 use Rattle.ioa_source.specs.PlainText.{PlainDeclared, PlainParameter, PlainEntry, PlainVariable, PlainTransition}
 use Rattle.ioa_source.specs.PlainText.{PlainAutomaton, PlainForm, PlainType, PlainDeclaration}
 use Rattle.ioa_source.specs.PlainText.{PlainNode, PlainPlacement, PlainText}
 use Rattle.ioa_source.specs.PlainText.{const, named, enumeration, tuple_of, type_named, automaton, node, channel}
 use Rattle.ioa_source.specs.Sides.{SourceTerm, SourceTerms, SourceTarget, SourceStatement, SourceStatements, SourceArms}
+use Rattle.ioa_source.specs.Sides.{SourceFiring}
 use Rattle.ioa_source.specs.Sides.{SourceDeclared, SourceParameter, SourceEntry, SourceVariable, SourceTransition}
 use Rattle.ioa_source.specs.Sides.{SourceAutomaton, SourceForm, SourceType, SourceDeclaration}
 use Rattle.ioa_source.specs.Sides.{SourceNode, SourcePlacement, SourceText}
@@ -41,7 +42,6 @@ abbrev mutual
   pub erase_statement : {N D : Type 0} → PlainStatement N D → SourceStatement
   erase_statement (assign p t) = assign (erase_target p) (erase_term t)
   erase_statement (branch arms rest) = branch (erase_arms arms) (erase_statements rest)
-  erase_statement (fire k w ts) = fire k w (map erase_term ts)
 
   pub erase_statements : {N D : Type 0} → PlainStatements N D → SourceStatements
   erase_statements no_statements = no_statements
@@ -50,6 +50,9 @@ abbrev mutual
   pub erase_arms : {N D : Type 0} → PlainArms N D → SourceArms
   erase_arms no_arms = no_arms
   erase_arms (arm t ss more) = arm (erase_term t) (erase_statements ss) (erase_arms more)
+
+abbrev pub erase_firing : {N D : Type 0} → PlainFiring N D → SourceFiring
+erase_firing f = firing f.kind f.action (map erase_term f.arguments)
 
 abbrev pub erase_declared : {D : Type 0} → PlainDeclared D → SourceDeclared
 erase_declared d = record { name = d.name; sort = d.sort; shape = tt }
@@ -85,7 +88,7 @@ erase_automaton a = record {
   signature = map erase_entry a.signature;
   states = map erase_variable a.states;
   transitions = map erase_transition a.transitions;
-  schedule = map erase_statement a.schedule;
+  schedule = map erase_firing a.schedule;
 }
 
 abbrev pub erase_form : {D : Type 0} → PlainForm D → SourceForm

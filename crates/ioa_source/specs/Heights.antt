@@ -1,8 +1,8 @@
 -- How high the trees of terms and statements are (profile).
 use Rattle.std.specs.Prelude.{ℕ, suc, max, List, [], ◌∷◌}
-use Rattle.ioa_terms.specs.PlainTerm.{number, truth, name, one, two, call, display, field, no_terms, term, terms_of}
+use Rattle.ioa_terms.specs.PlainTerm.{number, truth, name, one, two, call, display, field, no_terms, term}
 use Rattle.ioa_terms.specs.PlainTerm.{variable, at_key, at_field}
-use Rattle.ioa_terms.specs.PlainTerm.{assign, branch, fire, no_statements, statement, no_arms, arm}
+use Rattle.ioa_terms.specs.PlainTerm.{assign, branch, no_statements, statement, no_arms, arm}
 use Rattle.ioa_source.specs.Sides.{SourceTerm, SourceTerms, SourceTarget, SourceStatement, SourceStatements, SourceArms}
 use Rattle.ioa_source.specs.declared.height.TheConstants.{HEIGHT_LIMIT}
 
@@ -39,12 +39,10 @@ target_height (at_key w at shape t) = height t
 target_height (at_field w at shape f) = 0
 
 abbrev mutual
-  -- an assignment or a firing is as high as its highest part, and at least 1; an `if` is one higher than its highest
-  -- part
+  -- an assignment is as high as its highest part, and an `if` one higher than its highest part
   pub statement_height : SourceStatement → ℕ
   statement_height (assign p t) = max (target_height p) (height t)
   statement_height (branch arms rest) = suc (max (arms_height arms) (statements_height rest))
-  statement_height (fire k w ts) = max 1 (heights (terms_of ts))
 
   -- the highest of several statements
   pub statements_height : SourceStatements → ℕ

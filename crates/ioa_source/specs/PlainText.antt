@@ -2,7 +2,7 @@
 -- each name that a term or a target reads; `D` annotates each display, field, assigned variable and declared sort.
 use Rattle.std.specs.Prelude.{ℕ, ℤ, List, Option}
 use Rattle.ioa_terms.specs.declared.tree.Kind.{Kind}
-use Rattle.ioa_terms.specs.PlainTerm.{PlainTerm, PlainStatement}
+use Rattle.ioa_terms.specs.PlainTerm.{PlainTerm, PlainStatement, PlainFiring}
 use Rattle.ioa_source.specs.PlainSort.{PlainSort}
 use Rattle.ioa_source.specs.declared.declaration.Channel.{Channel}
 
@@ -49,7 +49,7 @@ pub record PlainAutomaton (N D : Type 0) : Type 0 where
   pub signature : List (PlainEntry N D)
   pub states : List (PlainVariable N D)
   pub transitions : List (PlainTransition N D)
-  pub schedule : List (PlainStatement N D)
+  pub schedule : List (PlainFiring N D)
   deriving IsSet as PlainAutomaton-set
 
 -- what a type's values are: the constants of these names, or a value for each of these fields

@@ -3,7 +3,7 @@
 use Rattle.std.specs.Prelude.{Bool, true, false, ◌&&◌}
 use Rattle.std.specs.Option.{option_eq}
 use lib.Pointwise.{pointwise}
-use Rattle.ioa_terms.specs.Bindings.{same_name}
+use Rattle.ioa_terms.specs.Bindings.{same_word}
 use Rattle.ioa_terms.specs.PlainTerm.{terms_of, statements_of}
 use Rattle.ioa_terms.specs.SameTerms.{same_kind, same_term, same_terms, same_statements}
 use Rattle.ioa_source.specs.PlainSort.{PlainSort, booleans, integers, naturals, sequences, sets, maps, named_type}
@@ -18,12 +18,12 @@ same_sort naturals naturals = true
 same_sort (sequences s) (sequences t) = same_sort s t
 same_sort (sets s) (sets t) = same_sort s t
 same_sort (maps k v) (maps l w) = same_sort k l && same_sort v w
-same_sort (named_type w) (named_type v) = same_name w v
+same_sort (named_type w) (named_type v) = same_word w v
 same_sort a b = false
 
 -- other parts are the same if their parts are
 abbrev pub same_declared : {D : Type 0} → (D → D → Bool) → PlainDeclared D → PlainDeclared D → Bool
-same_declared d a b = same_name a.name b.name && (same_sort a.sort b.sort && d a.shape b.shape)
+same_declared d a b = same_word a.name b.name && (same_sort a.sort b.sort && d a.shape b.shape)
 
 module _ {N D : Type 0} (n : N → N → Bool) (d : D → D → Bool) where
   abbrev pub same_parameter : PlainParameter N D → PlainParameter N D → Bool
@@ -34,7 +34,7 @@ module _ {N D : Type 0} (n : N → N → Bool) (d : D → D → Bool) where
   abbrev pub same_entry : PlainEntry N D → PlainEntry N D → Bool
   same_entry a b =
       same_kind a.kind b.kind
-      && (same_name a.name b.name
+      && (same_word a.name b.name
       && (pointwise same_parameter a.parameters b.parameters
       && option_eq (same_term n d) a.condition b.condition))
 
@@ -44,7 +44,7 @@ module _ {N D : Type 0} (n : N → N → Bool) (d : D → D → Bool) where
   abbrev pub same_transition : PlainTransition N D → PlainTransition N D → Bool
   same_transition a b =
       same_kind a.kind b.kind
-      && (same_name a.name b.name
+      && (same_word a.name b.name
       && (same_terms n d (terms_of a.arguments) (terms_of b.arguments)
       && (option_eq (same_term n d) a.pre b.pre
       && same_statements n d (statements_of a.effect) (statements_of b.effect))))

@@ -4,6 +4,7 @@
 use Rattle.std.specs.Prelude.{ℕ}
 use Rattle.ioa_operators.specs.declared.shape.Shape.{Shape}
 use Rattle.ioa_terms.specs.PlainTerm.{PlainTerm, PlainTerms, PlainTarget, PlainStatement, PlainStatements, PlainArms}
+use Rattle.ioa_terms.specs.PlainTerm.{PlainFiring}
 use Rattle.ioa_source.specs.PlainText.{PlainDeclared, PlainParameter, PlainEntry, PlainVariable, PlainTransition}
 use Rattle.ioa_source.specs.PlainText.{PlainAutomaton, PlainForm, PlainType, PlainDeclaration}
 use Rattle.ioa_source.specs.PlainText.{PlainNode, PlainPlacement, PlainText}
@@ -26,6 +27,9 @@ SourceStatements = PlainStatements (Unit {0}) (Unit {0})
 
 abbrev pub SourceArms : Type 0
 SourceArms = PlainArms (Unit {0}) (Unit {0})
+
+abbrev pub SourceFiring : Type 0
+SourceFiring = PlainFiring (Unit {0}) (Unit {0})
 
 abbrev pub SourceDeclared : Type 0
 SourceDeclared = PlainDeclared (Unit {0})
@@ -69,6 +73,9 @@ CheckedTerm = PlainTerm ℕ Shape
 
 abbrev pub CheckedStatement : Type 0
 CheckedStatement = PlainStatement ℕ Shape
+
+abbrev pub CheckedFiring : Type 0
+CheckedFiring = PlainFiring ℕ Shape
 
 abbrev pub CheckedDeclared : Type 0
 CheckedDeclared = PlainDeclared Shape

@@ -1,7 +1,7 @@
 -- The plain data of the code's trees (view).
 use Rattle.std.specs.Prelude.{map}
 use Rattle.std.specs.Option.{option_map}
-use Rattle.ioa_terms.specs.View.{term_of, statement_of}
+use Rattle.ioa_terms.specs.View.{term_of, statement_of, firing_of}
 use Rattle.ioa_source.specs.SortView.{sort_of}
 use Rattle.ioa_source.specs.PlainText.{PlainDeclared, PlainParameter, PlainEntry, PlainVariable, PlainTransition}
 use Rattle.ioa_source.specs.PlainText.{PlainAutomaton, PlainForm, PlainType, PlainDeclaration}
@@ -58,7 +58,7 @@ automaton_of a = record {
   signature = map entry_of a.signature.items;
   states = map variable_of a.states.items;
   transitions = map transition_of a.transitions.items;
-  schedule = map statement_of a.schedule.items;
+  schedule = map firing_of a.schedule.items;
 }
 
 abbrev pub form_of : {D : Type 0} → TypeForm D → PlainForm D

@@ -4,7 +4,7 @@
 //! checked system.
 
 use crate::sort::Sort;
-use ioa_terms::{Kind, Statement, Tree, Word};
+use ioa_terms::{Firing, Kind, Statement, Tree, Word};
 
 /// `x: S`: a name for any value of a sort (profile).
 #[derive(Drop)]
@@ -76,8 +76,8 @@ pub struct Automaton<N, D> {
     pub states: Vec<Variable<N, D>>,
     /// Its transitions.
     pub transitions: Vec<Transition<N, D>>,
-    /// The statements of its schedule block; none if it has no block.
-    pub schedule: Vec<Statement<N, D>>,
+    /// The firings of its schedule block; none if it has no block.
+    pub schedule: Vec<Firing<N, D>>,
 }
 
 /// What a type's values are (profile).

@@ -1,6 +1,8 @@
 -- What the terms of an automaton may read (profile: the table of names).
 use Rattle.std.specs.Prelude.{ℕ, List, [], ◌∷◌, ◌++◌, map}
 use Rattle.ioa_values.specs.Data.{Data}
+use Rattle.ioa_terms.specs.declared.name.Name.{Name}
+use Rattle.ioa_terms.specs.declared.name.Name.TheVariants.{Word}
 use Rattle.ioa_terms.specs.Bindings.{Bindings, environment}
 use Rattle.ioa_source.specs.PlainText.{PlainAutomaton, PlainDeclared, PlainParameter, PlainVariable, const, named}
 use Rattle.ioa_source.specs.Sides.{CheckedParameter}
@@ -68,16 +70,20 @@ declared_names a = record {
 abbrev pub scope_at : Site → DeclaredNames → List (List ℕ) → List (List ℕ)
 scope_at site d own = in_view site d.parameters d.variables own
 
--- all names that a term may read there
-abbrev pub names_at : Site → DeclaredNames → List (List ℕ) → List (List ℕ)
-names_at site d own = scope_at site d own ++ d.constants
+-- all words that a term may read there
+abbrev pub words_at : Site → DeclaredNames → List (List ℕ) → List (List ℕ)
+words_at site d own = scope_at site d own ++ d.constants
+
+-- and so all names
+abbrev pub names_at : Site → DeclaredNames → List (List ℕ) → List Name
+names_at site d own = map Word (words_at site d own)
 
 -- what a term reads there, if an automaton declares these names, the entry's own parameters have those, and each of
 -- them has its value among these: the names in view with their values, and the text's constants behind them
 abbrev pub environment_at : Site → DeclaredNames → (own_names : List (List ℕ)) → (arguments variables own : List Data)
     → Bindings
 environment_at site d names arguments variables own =
-    environment (scope_at site d names) (in_view site arguments variables own) d.constants
+    environment (map Word (scope_at site d names)) (in_view site arguments variables own) d.constants
 
 -- the same of an automaton that was made ready to step, and of an entry's parameters
 abbrev pub bindings_at : Site → AutomatonParts → (arguments variables : List Data)

@@ -4,8 +4,8 @@ use Rattle.std.specs.Coded.{Coded, code_by, coded×, coded_ℕ, coded_ℤ, coded
 use Rattle.ioa_values.specs.Data.{Data}
 use Rattle.ioa_values.specs.DataCode.{data_code}
 use Rattle.ioa_operators.specs.ShapeCode.{shape_code}
-use Rattle.ioa_terms.specs.TermCode.{statement_code}
-use Rattle.ioa_source.specs.Sides.{CheckedDeclared, CheckedEntry, CheckedStatement, CheckedTransition, CheckedVariable}
+use Rattle.ioa_terms.specs.TermCode.{firing_code}
+use Rattle.ioa_source.specs.Sides.{CheckedDeclared, CheckedEntry, CheckedFiring, CheckedTransition, CheckedVariable}
 use Rattle.ioa_source.specs.TextCode.{declared_code, entry_code, transition_code, variable_code}
 
 -- an entry of a signature with its transition (Lynch 8.1), and the names in view in guard and effect
@@ -24,19 +24,19 @@ rule_code =
     (λ t. record { entry = t.0; transition = t.1.0; scope = t.1.1 })
     (λ _. refl)
 
--- an automaton: its name, the names of the text's constants, its parameters, its state variables, its rules and its
--- schedule block
+-- an automaton: its name, the names of the text's constants, its parameters, its state variables, its rules and the
+-- firings of its schedule block
 pub record AutomatonParts : Type 0 where
   pub name : List ℕ
   pub constants : List (List ℕ)
   pub parameters : List CheckedDeclared
   pub variables : List CheckedVariable
   pub rules : List PlainRule
-  pub schedule : List CheckedStatement
+  pub schedule : List CheckedFiring
 
 -- an automaton of these parts
 abbrev pub automaton_parts : List ℕ → List (List ℕ) → List CheckedDeclared → List CheckedVariable → List PlainRule
-    → List CheckedStatement → AutomatonParts
+    → List CheckedFiring → AutomatonParts
 automaton_parts w cs ds vs rs ss =
     record { name = w; constants = cs; parameters = ds; variables = vs; rules = rs; schedule = ss }
 
@@ -45,12 +45,12 @@ abbrev pub automaton_code : Coded AutomatonParts
 automaton_code =
     code_by
     (List ℕ × (List (List ℕ) × (List CheckedDeclared
-    × (List CheckedVariable × (List PlainRule × List CheckedStatement)))))
+    × (List CheckedVariable × (List PlainRule × List CheckedFiring)))))
     (coded× (coded_list coded_ℕ)
     (coded× (coded_list (coded_list coded_ℕ))
     (coded× (coded_list (declared_code shape_code))
     (coded× (coded_list (variable_code coded_ℕ shape_code))
-    (coded× (coded_list rule_code) (coded_list (statement_code coded_ℕ shape_code)))))))
+    (coded× (coded_list rule_code) (coded_list (firing_code coded_ℕ shape_code)))))))
     (λ a. (a.name, (a.constants, (a.parameters, (a.variables, (a.rules, a.schedule))))))
     (λ t. automaton_parts t.0 t.1.0 t.1.1.0 t.1.1.1.0 t.1.1.1.1.0 t.1.1.1.1.1)
     (λ _. refl)

@@ -1,25 +1,26 @@
 -- When each name that a step reads is resolved to the slot of its value (profile).
-use Rattle.std.specs.Prelude.{◌≡◌, ℕ, List, [], Option, Some, None, length, All}
+use Rattle.std.specs.Prelude.{◌≡◌, ℕ, List, [], Option, Some, None, length, map, All}
 use Rattle.std.specs.List.{AllByRecursion}
 use Rattle.ioa_terms.specs.Resolved.{IsResolved, AreResolved}
-use Rattle.ioa_terms.specs.PlainTerm.{assign, branch, fire}
+use Rattle.ioa_terms.specs.declared.name.Name.{Name}
+use Rattle.ioa_terms.specs.declared.name.Name.TheVariants.{Word}
 use Rattle.ioa_source.specs.PlainText.{const, named}
-use Rattle.ioa_source.specs.Sides.{CheckedParameter, CheckedStatement, CheckedTerm, CheckedVariable}
+use Rattle.ioa_source.specs.Sides.{CheckedFiring, CheckedParameter, CheckedTerm, CheckedVariable}
 use Rattle.ioa_system.specs.InView.{DeclaredNames, declared_names, names_at, own_names, scope_at}
 use Rattle.ioa_system.specs.InView.{entry_constant, initial_value, entry_condition, guard_or_effect, firing}
 use Rattle.ioa_system.specs.Parts.{AutomatonParts, Parts, PlainRule}
 
 -- the names of a constant parameter are resolved among these; of another parameter nothing is said
-abbrev pub IsResolvedParameter : List (List ℕ) → CheckedParameter → Type 0
+abbrev pub IsResolvedParameter : List Name → CheckedParameter → Type 0
 IsResolvedParameter names (const t) = IsResolved t names
 IsResolvedParameter names (named d) = Unit {0}
 
 -- the same of each parameter
-abbrev pub AreResolvedParameters : List (List ℕ) → List CheckedParameter → Type 0
+abbrev pub AreResolvedParameters : List Name → List CheckedParameter → Type 0
 AreResolvedParameters names ps = AllByRecursion (IsResolvedParameter names) ps
 
 -- the names of a term, if there is one, are resolved among these names
-abbrev pub IsResolvedGuard : Option CheckedTerm → List (List ℕ) → Type 0
+abbrev pub IsResolvedGuard : Option CheckedTerm → List Name → Type 0
 IsResolvedGuard None names = Unit {0}
 IsResolvedGuard (Some t) names = IsResolved t names
 
@@ -30,25 +31,23 @@ pub record IsResolvedRule (d : DeclaredNames) (r : PlainRule) : Type 0 where
   pub parameters : AreResolvedParameters (names_at entry_constant d []) r.entry.parameters
   pub condition : IsResolvedGuard r.entry.condition (names_at entry_condition d (own_names r.entry.parameters))
   pub guard : IsResolvedGuard r.transition.pre (names_at guard_or_effect d (own_names r.entry.parameters))
-  pub effect : AreResolved r.transition.effect d.variables
+  pub effect : AreResolved r.transition.effect (map Word d.variables)
       (names_at guard_or_effect d (own_names r.entry.parameters))
 
 -- the names of each term are resolved among these names
-abbrev pub AreResolvedTerms : List CheckedTerm → List (List ℕ) → Type 0
+abbrev pub AreResolvedTerms : List CheckedTerm → List Name → Type 0
 AreResolvedTerms ts names = AllByRecursion (λ t. IsResolved t names) ts
 
--- the names of a firing's arguments are resolved among these; of another statement nothing is said
-abbrev pub IsResolvedFiring : CheckedStatement → List (List ℕ) → Type 0
-IsResolvedFiring (assign p t) names = Unit {0}
-IsResolvedFiring (branch arms rest) names = Unit {0}
-IsResolvedFiring (fire k a ts) names = AreResolvedTerms ts names
+-- the names of a firing's arguments are resolved among these
+abbrev pub IsResolvedFiring : CheckedFiring → List Name → Type 0
+IsResolvedFiring f names = AreResolvedTerms f.arguments names
 
--- the same of each statement of a schedule block
-abbrev pub AreResolvedFirings : List CheckedStatement → List (List ℕ) → Type 0
-AreResolvedFirings ss names = AllByRecursion (λ s. IsResolvedFiring s names) ss
+-- the same of each firing of a schedule block
+abbrev pub AreResolvedFirings : List CheckedFiring → List Name → Type 0
+AreResolvedFirings fs names = AllByRecursion (λ f. IsResolvedFiring f names) fs
 
 -- the names of initial terms are resolved among these
-abbrev pub AreResolvedVariables : List (List ℕ) → List CheckedVariable → Type 0
+abbrev pub AreResolvedVariables : List Name → List CheckedVariable → Type 0
 AreResolvedVariables names vs = AllByRecursion (λ v. IsResolvedGuard v.initial names) vs
 
 -- an automaton in which each name is resolved that a step, an initial value or a firing of the schedule reads

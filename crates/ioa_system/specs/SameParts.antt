@@ -11,9 +11,8 @@ use Rattle.ioa_values.specs.DataOrder.{same}
 use Rattle.ioa_values.proofs.Equality.{same_is}
 use Rattle.ioa_operators.specs.SameShapes.{same_shape}
 use Rattle.ioa_operators.specs.ShapeEquality.{same_shape_is}
-use Rattle.ioa_terms.specs.PlainTerm.{statements_of}
-use Rattle.ioa_terms.specs.SameTerms.{same_statements}
-use Rattle.ioa_terms.proofs.SameTerms.{same_statements_is}
+use Rattle.ioa_terms.specs.SameTerms.{same_firing}
+use Rattle.ioa_terms.proofs.SameTerms.{same_firing_is}
 use Rattle.ioa_source.specs.Sides.{CheckedDeclared, CheckedVariable}
 use Rattle.ioa_source.specs.SameTexts.{same_declared, same_entry, same_variable, same_transition}
 use Rattle.ioa_source.proofs.SameTexts.{same_declared_is, same_entry_is, same_variable_is, same_transition_is}
@@ -42,7 +41,7 @@ same_automaton a b =
     && (same_parameters a.parameters b.parameters
     && (same_variables a.variables b.variables
     && (pointwise same_rule a.rules b.rules
-    && same_statements nat_eq same_shape (statements_of a.schedule) (statements_of b.schedule)))))
+    && pointwise (same_firing nat_eq same_shape) a.schedule b.schedule))))
 
 -- two programs are the same if their parts are
 abbrev pub same_program : Parts → Parts → Bool
@@ -97,7 +96,7 @@ same_automaton_is a b =
     (Decides-and _ _
     (slice_eq-Decides (same_variable_is Decides-eqb same_shape_is) a.variables b.variables _ refl)
     (Decides-and _ _ (slice_eq-Decides same_rule_is a.rules b.rules _ refl)
-    (same_statements_is Decides-eqb same_shape_is a.schedule b.schedule))))))
+    (slice_eq-Decides (same_firing_is Decides-eqb same_shape_is) a.schedule b.schedule _ refl))))))
 
 -- and two programs
 pub same_program_is : (a b : Parts) → Decides (same_program a b) (a ≡ b)

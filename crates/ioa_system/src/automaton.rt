@@ -3,7 +3,7 @@
 ghost use Rattle.std.specs.Prelude.{◌≡◌, ◌↔◌, ◌++◌, [], IsTrue, All, map, length};
 ghost use Rattle.std.specs.Arc.{arc_value};
 ghost use Rattle.ioa_terms.specs.Bindings.{names_of};
-ghost use Rattle.ioa_terms.specs.View.{statement_of};
+ghost use Rattle.ioa_terms.specs.View.{firing_of};
 ghost use Rattle.ioa_source.specs.TextView.{declared_of, variable_of};
 ghost use Rattle.ioa_system.specs.InView.{declared_names, names_at, scope_at, given_bindings, firing_bindings};
 ghost use Rattle.ioa_system.specs.InView.{entry_constant, initial_value, firing};
@@ -17,7 +17,7 @@ use ioa_source::{
     Declared, Entry, Transition, Variable, is_same_declared, is_same_entry, is_same_transition,
     is_same_variable,
 };
-use ioa_terms::{Env, Names, Shape, Statement, Value, Word, are_same_statements};
+use ioa_terms::{Env, Firing, Names, Shape, Value, Word, are_same_firings};
 use std::marker::Model;
 use std::sync::Arc;
 
@@ -89,7 +89,7 @@ pub struct CompiledAutomaton {
     /// The names of the parameters, and then those of the state variables.
     scope: Scope,
     rules: Vec<Rule>,
-    schedule: Vec<Statement<usize, Shape>>,
+    schedule: Vec<Firing<usize, Shape>>,
 }
 
 impl Model for CompiledAutomaton {
@@ -101,18 +101,18 @@ impl Model for CompiledAutomaton {
 
     ghost use Rattle.std.specs.Prelude.{map};
     ghost use Rattle.std.specs.Arc.{arc_value};
-    ghost use Rattle.ioa_terms.specs.View.{statement_of};
+    ghost use Rattle.ioa_terms.specs.View.{firing_of};
     ghost use Rattle.ioa_source.specs.TextView.{declared_of, variable_of};
     ghost use Rattle.ioa_system.specs.Parts.{automaton_parts};
 
     ghost view = { λ a. automaton_parts a.name (arc_value a.constants) (map declared_of a.parameters.items)
-        (map variable_of a.variables.items) a.rules.items (map statement_of a.schedule.items) };
+        (map variable_of a.variables.items) a.rules.items (map firing_of a.schedule.items) };
 
     ghost use Rattle.ioa_system.specs.ResolvedPrograms.{IsCompiled};
 
     ghost invariant = { λ a. IsCompiled a.scope (automaton_parts a.name (arc_value a.constants)
         (map declared_of a.parameters.items) (map variable_of a.variables.items) a.rules.items
-        (map statement_of a.schedule.items)) };
+        (map firing_of a.schedule.items)) };
 }
 
 impl CompiledAutomaton {
@@ -125,12 +125,12 @@ impl CompiledAutomaton {
         variables: Vec<Variable<usize, Shape>>,
         scope: Scope,
         rules: Vec<Rule>,
-        schedule: Vec<Statement<usize, Shape>>,
+        schedule: Vec<Firing<usize, Shape>>,
     ) -> Self
         requires { IsCompiled scope (automaton_parts name (arc_value constants) (map declared_of parameters.items)
-            (map variable_of variables.items) rules.items (map statement_of schedule.items)) }
+            (map variable_of variables.items) rules.items (map firing_of schedule.items)) }
         ensures { result ≡ automaton_parts name (arc_value constants) (map declared_of parameters.items)
-            (map variable_of variables.items) rules.items (map statement_of schedule.items) }
+            (map variable_of variables.items) rules.items (map firing_of schedule.items) }
     {
         CompiledAutomaton {
             name,
@@ -181,10 +181,10 @@ impl CompiledAutomaton {
         self.rules.as_slice()
     }
 
-    /// The statements of the schedule block.
-    pub fn schedule(&self) -> &[Statement<usize, Shape>]
-        ensures value { map statement_of result.now ≡ self.now.schedule }
-        ensures resolved { AreResolvedFirings (map statement_of result.now)
+    /// The firings of the schedule block.
+    pub fn schedule(&self) -> &[Firing<usize, Shape>]
+        ensures value { map firing_of result.now ≡ self.now.schedule }
+        ensures resolved { AreResolvedFirings (map firing_of result.now)
             (names_at firing (declared_names self.now) []) }
     {
         self.schedule.as_slice()
@@ -229,7 +229,7 @@ impl CompiledAutomaton {
                 && (are_same_parameters(&self.parameters, &other.parameters)
                     && (are_same_variables(&self.variables, &other.variables)
                         && (self.rules == other.rules
-                            && are_same_statements(&self.schedule, &other.schedule)))))
+                            && are_same_firings(&self.schedule, &other.schedule)))))
     }
 }
 

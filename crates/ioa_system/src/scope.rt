@@ -1,11 +1,11 @@
 //! Names in view. The slot of a name is its index in the order of declaration, counted from 0.
 
-ghost use Rattle.std.specs.Prelude.{◌≡◌, ◌++◌, [], ◌∷◌, IfOk, OnOk, OnErr, MatchBool, not};
+ghost use Rattle.std.specs.Prelude.{◌≡◌, ◌++◌, [], ◌∷◌, IfOk, OnOk, OnErr, MatchBool, map, not};
 ghost use Rattle.std.specs.List.{list_any, IsDistinct};
-ghost use Rattle.ioa_terms.specs.Bindings.{slot_in, same_name};
+ghost use Rattle.ioa_terms.specs.Bindings.{slot_in, same_word};
 
 use indexmap::IndexSet;
-use ioa_terms::Word;
+use ioa_terms::{Name, Word};
 use std::alloc::{AllocError, Global};
 use std::marker::Model;
 
@@ -38,20 +38,29 @@ impl Scope {
     pub fn declare(&mut self, name: Word) -> Result<bool, AllocError>
         ensures ok { IfOk result (λ fresh.
             MatchBool fresh (self.new ≡ self.old ++ name ∷ []) (self.new ≡ self.old)) }
-        ensures fresh { IfOk result (λ fresh. fresh ≡ not (list_any (same_name name) self.old)) }
-        ensures differ { OnOk result (IsDistinct same_name self.old → IsDistinct same_name self.new) }
+        ensures fresh { IfOk result (λ fresh. fresh ≡ not (list_any (same_word name) self.old)) }
+        ensures differ { OnOk result (IsDistinct same_word self.old → IsDistinct same_word self.new) }
         ensures err { OnErr result (self.new ≡ self.old) }
     {
         let (_, fresh) = self.names.insert_full(name)?;
         Ok(fresh)
     }
 
-    /// The slot of a name, if it is declared.
-    #[tactic(auto, using(crate::proofs::Scopes::position_slot))]
-    pub fn slot_of(&self, name: &Word) -> Option<usize>
-        ensures { result ≡ slot_in name.now self.now }
+    /// The slot of a name that a term reads, if it is declared.
+    pub fn slot_of(&self, name: &Name) -> Option<usize>
+        ensures { result ≡ slot_in name.now (map Name.Word self.now) }
     {
-        self.names.get_index_of(name)
+        match name {
+            Name::Word(word) => self.slot_of_word(word),
+        }
+    }
+
+    /// The slot of the name that a word is, if it is declared.
+    #[tactic(auto, using(crate::proofs::Scopes::position_slot))]
+    pub fn slot_of_word(&self, word: &Word) -> Option<usize>
+        ensures { result ≡ slot_in (Name.Word word.now) (map Name.Word self.now) }
+    {
+        self.names.get_index_of(word)
     }
 
     /// The names in order.

@@ -12,6 +12,7 @@ use Rattle.ioa_operators.specs.declared.operator.BinaryOperator.{BinaryOperator}
 use Rattle.ioa_operators.specs.declared.operator.BinaryOperator.TheVariants.{At}
 use Rattle.ioa_operators.specs.declared.shape.DisplayForm.{DisplayForm}
 use Rattle.ioa_operators.specs.declared.shape.DisplayForm.TheVariants.{Braces, Brackets}
+use Rattle.ioa_terms.specs.declared.name.Name.TheVariants.{Word}
 use Rattle.ioa_terms.specs.PlainTerm as plain
 use Rattle.ioa_terms.specs.PlainTerm.{no_terms, terms_of}
 use Rattle.ioa_source.specs.Sides.{SourceTerm}
@@ -152,7 +153,7 @@ module _ (next : ℕ → ℕ → List Token → Option (SourceTerm × List Token
   operand_prefix room least m op t xs ys is l e h =
       rw (operand_mark room least m xs, marked_prefix next room least m op xs is, test_yes least (prefix_level op) l) (rw e (rw (limited_low (plain.one op t) h) refl))
 
-  pub operand_word : (room least : ℕ) (w : List ℕ) (xs : List Token) → skip mark.OpenRound xs ≡ stays false xs → operand next room least (token.Word w ∷ xs) ≡ term_at_level atom_level (plain.name w tt) xs
+  pub operand_word : (room least : ℕ) (w : List ℕ) (xs : List Token) → skip mark.OpenRound xs ≡ stays false xs → operand next room least (token.Word w ∷ xs) ≡ term_at_level atom_level (plain.name (Word w) tt) xs
   unfolding operand at_number at_word word word_term choose bind
   operand_word room least w xs e = rw e refl
 

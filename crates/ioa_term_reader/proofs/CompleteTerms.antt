@@ -8,6 +8,7 @@ use Rattle.ioa_tokens.specs.declared.mark.Mark.TheVariants as mark
 use Rattle.ioa_operators.specs.declared.operator.BinaryOperator.TheVariants.{At}
 use Rattle.ioa_operators.specs.declared.shape.DisplayForm.{DisplayForm}
 use Rattle.ioa_operators.specs.declared.shape.DisplayForm.TheVariants.{Braces, Brackets}
+use Rattle.ioa_terms.specs.declared.name.Name.TheVariants.{Word}
 use Rattle.ioa_terms.specs.PlainTerm as plain
 use Rattle.ioa_terms.specs.PlainTerm.{no_terms, terms_of}
 use Rattle.ioa_source.specs.Sides.{SourceTerm, SourceTerms}
@@ -161,7 +162,7 @@ mutual
   reach (grammar.yes {room = room} {ys = ys}) depth least h high b deep = from_operand depth room least atom_level (plain.truth true) _ ys (operand_truth (read depth) room least ys)
   reach (grammar.no {room = room} {ys = ys}) depth least h high b deep = from_operand depth room least atom_level (plain.truth false) _ ys (operand_falsity (read depth) room least ys)
   reach (grammar.word {room = room} {w = w} {ys = ys}) depth least h high b deep =
-      from_operand depth room least atom_level (plain.name w tt) _ ys (operand_word (read depth) room least w ys (not_opened ys b))
+      from_operand depth room least atom_level (plain.name (Word w) tt) _ ys (operand_word (read depth) room least w ys (not_opened ys b))
   reach (grammar.call {room = room} {w = w} {ts = ts} {xs = xs} {ys = ys} d) depth least h high b deep =
       let r = reach_all d depth (omega arith) (omega arith) (omega arith) (no_comma mark.CloseRound ys refl) in
       from_operand depth (suc room) least atom_level (plain.call w ts) _ ys

@@ -9,6 +9,7 @@ use Rattle.ioa_operators.specs.declared.operator.UnaryOperator.{UnaryOperator}
 use Rattle.ioa_operators.specs.declared.operator.BinaryOperator.{BinaryOperator}
 use Rattle.ioa_operators.specs.declared.operator.BinaryOperator.TheVariants.{At}
 use Rattle.ioa_operators.specs.declared.shape.DisplayForm.TheVariants.{Braces, Brackets}
+use Rattle.ioa_terms.specs.declared.name.Name.TheVariants.{Word}
 use Rattle.ioa_terms.specs.PlainTerm as plain
 use Rattle.ioa_terms.specs.PlainTerm.{no_terms, term}
 use Rattle.ioa_source.specs.Sides.{SourceTerm, SourceTerms}
@@ -26,7 +27,8 @@ mutual
     numeral : {room : ℕ} {n : ℤ} {ys : List Token} → SpellsAt room atom_level (plain.number n) (token.Number n ∷ ys) ys
     yes : {room : ℕ} {ys : List Token} → SpellsAt room atom_level (plain.truth true) (token.Mark mark.True ∷ ys) ys
     no : {room : ℕ} {ys : List Token} → SpellsAt room atom_level (plain.truth false) (token.Mark mark.False ∷ ys) ys
-    word : {room : ℕ} {w : List ℕ} {ys : List Token} → SpellsAt room atom_level (plain.name w tt) (token.Word w ∷ ys) ys
+    word : {room : ℕ} {w : List ℕ} {ys : List Token} →
+        SpellsAt room atom_level (plain.name (Word w) tt) (token.Word w ∷ ys) ys
     -- Word ( Term {, Term} )
     call : {room : ℕ} {w : List ℕ} {ts : SourceTerms} {xs ys : List Token} →
         SpellsTerms room ts xs (token.Mark mark.CloseRound ∷ ys) →

@@ -9,6 +9,7 @@ use Rattle.ioa_operators.specs.declared.operator.UnaryOperator.{UnaryOperator}
 use Rattle.ioa_operators.specs.declared.operator.BinaryOperator.TheVariants.{At}
 use Rattle.ioa_operators.specs.declared.shape.DisplayForm.{DisplayForm}
 use Rattle.ioa_operators.specs.declared.shape.DisplayForm.TheVariants.{Braces, Brackets}
+use Rattle.ioa_terms.specs.declared.name.Name.TheVariants.{Word}
 use Rattle.ioa_terms.specs.PlainTerm as plain
 use Rattle.ioa_terms.specs.PlainTerm.{no_terms, terms_of}
 use Rattle.ioa_source.specs.Sides.{SourceTerm}
@@ -95,7 +96,7 @@ module _ (next : ℕ → ℕ → List Token → Option (SourceTerm × List Token
   word_term room w xs =
       choose (skip mark.OpenRound xs).0
       (call_term room w (skip mark.OpenRound xs).1)
-      (term_at_level atom_level (plain.name w tt) (skip mark.OpenRound xs).1)
+      (term_at_level atom_level (plain.name (Word w) tt) (skip mark.OpenRound xs).1)
 
   -- a term of an operator's level, behind the operator
   unfoldable pub prefixed_term : ℕ → ℕ → UnaryOperator → List Token → Option TermAtLevel

@@ -9,6 +9,7 @@ use Rattle.ioa_operators.specs.declared.operator.BinaryOperator.{BinaryOperator}
 use Rattle.ioa_operators.specs.declared.operator.BinaryOperator.TheVariants as operator
 use Rattle.ioa_operators.specs.declared.shape.DisplayForm.{DisplayForm}
 use Rattle.ioa_operators.specs.declared.shape.DisplayForm.TheVariants.{Braces, Brackets}
+use Rattle.ioa_terms.specs.declared.name.Name.TheVariants.{Word}
 use Rattle.ioa_terms.specs.PlainTerm.{number, truth, name, one, two, call, display, field, no_terms, term}
 use Rattle.ioa_source.specs.Sides.{SourceTerm, SourceTerms}
 use Rattle.ioa_term_reader.specs.Levels.{prefix_mark, infix_mark}
@@ -48,7 +49,7 @@ abbrev mutual
   pub spelling : SourceTerm → List Token
   spelling (number n) = token.Number n ∷ []
   spelling (truth b) = token.Mark (truth_mark b) ∷ []
-  spelling (name w at) = token.Word w ∷ []
+  spelling (name (Word w) at) = token.Word w ∷ []
   spelling (one op a) = token.Mark (prefix_mark op) ∷ in_brackets_if (is_operation a) (spelling a)
   spelling (two op a b) =
       in_brackets_if (is_operation a) (spelling a)

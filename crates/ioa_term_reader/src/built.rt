@@ -12,7 +12,7 @@ ghost use Rattle.ioa_values.specs.Outcome.{Matches};
 
 use ioa_cursor::Unread;
 use ioa_source::{HEIGHT_LIMIT, HasHeight};
-use ioa_terms::{BinaryOperator, DisplayForm, Term, Tree, UnaryOperator};
+use ioa_terms::{BinaryOperator, DisplayForm, Name, Term, Tree, UnaryOperator};
 use ioa_values::Word;
 use std::alloc::Global;
 
@@ -136,10 +136,10 @@ impl Built<Term> {
 
     /// A name.
     pub(crate) fn name(name: Word) -> Self
-        ensures { term_of result.tree ≡ plain.name name tt }
+        ensures { term_of result.tree ≡ plain.name (Name.Word name) tt }
     {
         Built {
-            tree: Tree::Name(name, ()),
+            tree: Tree::Name(Name::Word(name), ()),
             height: 1,
         }
     }

@@ -1,13 +1,15 @@
 -- Terms make canonical values, and statements canonical environments, of canonical environments.
-use Rattle.std.proofs.Common.{◌≡◌, ℕ, Bool, true, false, List, [], ◌∷◌, Option, Some, None, if◌then◌else◌}
+use Rattle.std.proofs.Common.{◌≡◌, Bool, true, false, List, [], ◌∷◌, Option, Some, None, if◌then◌else◌}
 use Rattle.std.specs.Option.{IfSome, option_and_then, option_map, option_or}
 use Rattle.ioa_values.specs.Data.{Data, truth}
 use Rattle.ioa_operators.specs.Operators.{unary_value, binary_value, left_decision, function_named, call_value}
 use Rattle.ioa_operators.specs.Shapes.{PlainShape, has_shape, display_value, field_value, with_field}
 use Rattle.ioa_values.specs.Canonical.{IsCanonical, AllCanonical}
+use Rattle.ioa_terms.specs.declared.name.Name.{Name}
+use Rattle.ioa_terms.specs.declared.name.Name.TheVariants.{Word}
 use Rattle.ioa_terms.specs.Bindings.{Bindings, same_name, lookup, put}
 use Rattle.ioa_terms.specs.PlainTerm as plain
-use Rattle.ioa_terms.specs.PlainTerm.{PlainTerm, PlainTerms, name, one, two, call, display, field, no_terms, term, PlainTarget, variable, at_key, at_field, PlainStatement, PlainStatements, PlainArms, assign, branch, fire, no_statements, statement, no_arms, arm, statements_of}
+use Rattle.ioa_terms.specs.PlainTerm.{PlainTerm, PlainTerms, name, one, two, call, display, field, no_terms, term, PlainTarget, variable, at_key, at_field, PlainStatement, PlainStatements, PlainArms, assign, branch, no_statements, statement, no_arms, arm, statements_of}
 use Rattle.ioa_terms.specs.Meaning.{value, values, named_call_value}
 use Rattle.ioa_terms.specs.Performance.{target_name, target_shape, updated_map, assignment_value, fitting_value, test_value, by_test, after_one, after_choice, after_all, after}
 use Rattle.ioa_terms.specs.Ascending.{IsAscendingEnvironment}
@@ -30,12 +32,12 @@ after_test P (Some true) x y z h k l = k
 after_test P (Some false) x y z h k l = l
 
 -- the value of a name, and the environment in which a name has another value
-lookup_canonical : (x : List ℕ) (e : Bindings) → IsAscendingEnvironment e → IfSome (lookup x e) IsCanonical
+lookup_canonical : (x : Name) (e : Bindings) → IsAscendingEnvironment e → IfSome (lookup x e) IsCanonical
 lookup_canonical x [] g = tt
 lookup_canonical x (b ∷ e) g =
     by_condition (λ (o : Option Data). IfSome o IsCanonical) (same_name x b.0) (Some b.1) (lookup x e) g.0 (lookup_canonical x e g.1)
 
-put_canonical : (x : List ℕ) (v : Data) (e : Bindings) → IsCanonical v → IsAscendingEnvironment e → IsAscendingEnvironment (put x v e)
+put_canonical : (x : Name) (v : Data) (e : Bindings) → IsCanonical v → IsAscendingEnvironment e → IsAscendingEnvironment (put x v e)
 put_canonical x v [] h g = tt
 put_canonical x v (b ∷ e) h g =
     by_condition IsAscendingEnvironment (same_name x b.0) ((b.0, v) ∷ e) (b ∷ put x v e) (h, g.1) (g.0, put_canonical x v e h g.1)
@@ -82,13 +84,13 @@ mutual
 assigned_canonical : {N : Type 0} (p : PlainTarget N Shape) (t : PlainTerm N Shape) (e : Bindings) → IsAscendingEnvironment e → IfSome (assignment_value p t e) IsCanonical
 assigned_canonical (variable x at d) t e g = term_canonical e g t
 assigned_canonical (at_key x at d k) t e g =
-    and_then_holds IsCanonical IsCanonical (λ i. option_and_then (λ v. option_and_then (updated_map i v) (lookup x e)) (value t e)) (value k e) (term_canonical e g k)
-    (λ i h. and_then_holds IsCanonical IsCanonical (λ v. option_and_then (updated_map i v) (lookup x e)) (value t e) (term_canonical e g t)
-    (λ v l. and_then_holds IsCanonical IsCanonical (updated_map i v) (lookup x e) (lookup_canonical x e g)
+    and_then_holds IsCanonical IsCanonical (λ i. option_and_then (λ v. option_and_then (updated_map i v) (lookup (Word x) e)) (value t e)) (value k e) (term_canonical e g k)
+    (λ i h. and_then_holds IsCanonical IsCanonical (λ v. option_and_then (updated_map i v) (lookup (Word x) e)) (value t e) (term_canonical e g t)
+    (λ v l. and_then_holds IsCanonical IsCanonical (updated_map i v) (lookup (Word x) e) (lookup_canonical (Word x) e g)
     (λ m r. call_canonical function.Update (m ∷ i ∷ v ∷ []) (r, (h, (l, tt))))))
 assigned_canonical (at_field x at d f) t e g =
-    and_then_holds IsCanonical IsCanonical (λ v. option_and_then (with_field d f v) (lookup x e)) (value t e) (term_canonical e g t)
-    (λ v h. and_then_holds IsCanonical IsCanonical (with_field d f v) (lookup x e) (lookup_canonical x e g) (λ old k. with_field_canonical d f v old h k))
+    and_then_holds IsCanonical IsCanonical (λ v. option_and_then (with_field d f v) (lookup (Word x) e)) (value t e) (term_canonical e g t)
+    (λ v h. and_then_holds IsCanonical IsCanonical (with_field d f v) (lookup (Word x) e) (lookup_canonical (Word x) e g) (λ old k. with_field_canonical d f v old h k))
 
 fitted_canonical : (s : PlainShape) (v : Data) → IsCanonical v → IfSome (fitting_value s v) IsCanonical
 fitted_canonical s v h = by_condition (λ (o : Option Data). IfSome o IsCanonical) (has_shape s v) (Some v) None h tt
@@ -101,7 +103,6 @@ mutual
       (and_then_holds IsCanonical IsCanonical (fitting_value (target_shape p)) (assignment_value p t e) (assigned_canonical p t e g) (fitted_canonical (target_shape p)))
       (λ v h. put_canonical (target_name p) v e h g)
   statement_canonical (branch arms rest) e g = choice_canonical arms (after_all rest e) e g (statements_canonical rest e g)
-  statement_canonical (fire kind action arguments) e g = tt
 
   choice_canonical : {N : Type 0} (arms : PlainArms N Shape) (rest : Option Bindings) (e : Bindings) → IsAscendingEnvironment e → IfSome rest IsAscendingEnvironment → IfSome (after_choice arms rest e) IsAscendingEnvironment
   choice_canonical no_arms rest e g h = h

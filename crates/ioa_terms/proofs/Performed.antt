@@ -7,8 +7,10 @@ use Rattle.ioa_values.specs.Data.{Data, is_within, as_truth, number, truth, cons
 use Rattle.ioa_values.specs.Outcome.{and_then}
 use Rattle.ioa_operators.specs.Shapes.{PlainShape, truths, integers, naturals, constants, tuples, sequences, sets, maps, with_field, field_position}
 use Rattle.ioa_operators.specs.RangeCheck.{range_check, checked_result}
+use Rattle.ioa_terms.specs.declared.name.Name.{Name}
+use Rattle.ioa_terms.specs.declared.name.Name.TheVariants.{Word}
 use Rattle.ioa_terms.specs.Bindings.{Bindings, lookup, put}
-use Rattle.ioa_terms.specs.PlainTerm.{PlainTerm, PlainTarget, variable, at_key, at_field, PlainStatement, PlainStatements, PlainArms, assign, branch, fire, no_statements, statement, no_arms, arm, statements_of}
+use Rattle.ioa_terms.specs.PlainTerm.{PlainTerm, PlainTarget, variable, at_key, at_field, PlainStatement, PlainStatements, PlainArms, assign, branch, no_statements, statement, no_arms, arm, statements_of}
 use Rattle.ioa_terms.specs.Meaning.{value, numbers_met, if_any}
 use Rattle.ioa_terms.specs.Performance.{target_name, target_shape, updated_map, assignment_value, fitting_value, test_value, by_test, after_one, after_choice, after_all, numbers_met_by_assignment, numbers_met_after, numbers_met_by_one, numbers_met_by_choice, numbers_met_by_all, answer_by}
 use Rattle.ioa_terms.specs.Resolved.{AreAllResolved, AreResolved}
@@ -72,14 +74,14 @@ stepwise_assignment_is : {N : Type 0} (p : PlainTarget N Shape) (t : PlainTerm N
 stepwise_assignment_is (variable x at d) t e = stepwise_is t e
 stepwise_assignment_is (at_key x at d k) t e =
     rw (stepwise_is k e, stepwise_is t e)
-    (ap (λ (f : Data → Data → Result Data TermFault). and_then (range_check (numbers_met k e) (value k e)) (λ i. and_then (range_check (numbers_met t e) (value t e)) (f i))) (λ j i v. updated_within i v (lookup x e) j)
-    ∙ key_first (numbers_met k e) (numbers_met t e) (value k e) (value t e) (λ i v. option_and_then (updated_map i v) (lookup x e)))
+    (ap (λ (f : Data → Data → Result Data TermFault). and_then (range_check (numbers_met k e) (value k e)) (λ i. and_then (range_check (numbers_met t e) (value t e)) (f i))) (λ j i v. updated_within i v (lookup (Word x) e) j)
+    ∙ key_first (numbers_met k e) (numbers_met t e) (value k e) (value t e) (λ i v. option_and_then (updated_map i v) (lookup (Word x) e)))
 stepwise_assignment_is (at_field x at d f) t e =
     rw (stepwise_is t e)
-    (ap (λ (g : Data → Result Data TermFault). and_then (range_check (numbers_met t e) (value t e)) g) (λ j v. field_within d f v (lookup x e) j)
-    ∙ and_step (numbers_met t e) (value t e) (λ v. option_and_then (with_field d f v) (lookup x e)))
+    (ap (λ (g : Data → Result Data TermFault). and_then (range_check (numbers_met t e) (value t e)) g) (λ j v. field_within d f v (lookup (Word x) e) j)
+    ∙ and_step (numbers_met t e) (value t e) (λ v. option_and_then (with_field d f v) (lookup (Word x) e)))
 
-put_one : (x : List ℕ) (s : PlainShape) (e : Bindings) (v : Data) → put_fitting_value x s e v ≡ range_check [] (option_map (λ w. put x w e) (fitting_value s v))
+put_one : (x : Name) (s : PlainShape) (e : Bindings) (v : Data) → put_fitting_value x s e v ≡ range_check [] (option_map (λ w. put x w e) (fitting_value s v))
 put_one x s e v = made_of [] (fitting_value s v) (λ w. put x w e)
 
 map_and_then : {A B C : Type 0} (f : A → Option B) (g : B → C) (o : Option A) → option_and_then (λ v. option_map g (f v)) o ≡ option_map g (option_and_then f o)
@@ -87,7 +89,7 @@ map_and_then f g None = refl
 map_and_then f g (Some v) = refl
 
 -- the new value is put if it has the variable's shape
-put_is : (ds : List Data) (o : Option Data) (x : List ℕ) (s : PlainShape) (e : Bindings) → and_then (range_check ds o) (put_fitting_value x s e) ≡ range_check ds (option_map (λ w. put x w e) (option_and_then (fitting_value s) o))
+put_is : (ds : List Data) (o : Option Data) (x : Name) (s : PlainShape) (e : Bindings) → and_then (range_check ds o) (put_fitting_value x s e) ≡ range_check ds (option_map (λ w. put x w e) (option_and_then (fitting_value s) o))
 put_is ds o x s e =
     ap (λ (f : Data → Result Bindings TermFault). and_then (range_check ds o) f) (λ j v. put_one x s e v j)
     ∙ and_step ds o (λ v. option_map (λ w. put x w e) (fitting_value s v))
@@ -119,7 +121,6 @@ mutual
   stepwise_one_is : {N : Type 0} (s : PlainStatement N Shape) (e : Bindings) → stepwise_one s e ≡ range_check (numbers_met_by_one s e) (after_one s e)
   stepwise_one_is (assign p t) e = rw (stepwise_assignment_is p t e) (put_is (numbers_met_by_assignment p t e) (assignment_value p t e) (target_name p) (target_shape p) e)
   stepwise_one_is (branch arms rest) e = rw (stepwise_all_is rest e) (stepwise_choice_is arms (numbers_met_by_all rest e) (after_all rest e) e)
-  stepwise_one_is (fire kind action arguments) e = refl
 
   stepwise_choice_is : {N : Type 0} (arms : PlainArms N Shape) (ds : List Data) (rest : Option Bindings) (e : Bindings) → stepwise_choice arms (range_check ds rest) e ≡ range_check (numbers_met_by_choice arms ds e) (after_choice arms rest e)
   stepwise_choice_is no_arms ds rest e = refl
@@ -138,10 +139,10 @@ pub stepwise_by_is : {N : Type 0} (ss : List (PlainStatement N Shape)) (e : Bind
 stepwise_by_is ss e = stepwise_all_is (statements_of ss) e
 
 -- statements of a list are resolved one by one
-pub all_resolved : {D : Type 0} (ss : List (PlainStatement ℕ D)) (variables names : List (List ℕ)) → AreResolved ss variables names → AreAllResolved (statements_of ss) variables names
+pub all_resolved : {D : Type 0} (ss : List (PlainStatement ℕ D)) (variables names : List Name) → AreResolved ss variables names → AreAllResolved (statements_of ss) variables names
 all_resolved [] variables names h = tt
 all_resolved (s ∷ ss) variables names h = (h.0, all_resolved ss variables names h.1)
 
-pub resolved_all : {D : Type 0} (ss : List (PlainStatement ℕ D)) (variables names : List (List ℕ)) → AreAllResolved (statements_of ss) variables names → AreResolved ss variables names
+pub resolved_all : {D : Type 0} (ss : List (PlainStatement ℕ D)) (variables names : List Name) → AreAllResolved (statements_of ss) variables names → AreResolved ss variables names
 resolved_all [] variables names h = tt
 resolved_all (s ∷ ss) variables names h = (h.0, resolved_all ss variables names h.1)

@@ -1,10 +1,10 @@
 -- Terms, targets and statements that the tests find the same are equal, if the tests of annotations decide equality.
-use Rattle.std.proofs.Common.{◌≡◌, Bool, true, List, [], ◌∷◌, Option, Some, None, refl, rules}
+use Rattle.std.proofs.Common.{◌≡◌, Bool, true, List, [], ◌∷◌, Option, Some, None, refl, ap, rules}
 use Rattle.std.specs.Option.{option_eq}
 use Rattle.std.specs.Bool.{Decides}
 use Rattle.std.specs.Cmp.{booleans_Decides}
 use Rattle.std.proofs.lemmas.Bool.{and_parts}
-use Rattle.std.proofs.lemmas.Bool.Decides.{Decides-int_eq}
+use Rattle.std.proofs.lemmas.Bool.Decides.{Decides-and, Decides-int_eq, Decides-like}
 use Rattle.std.proofs.lemmas.Slice.Eq.{bytes_eq-Decides}
 use denote.Enum.Bare.{same_true, true_same}
 use Rattle.ioa_operators.specs.contracts.operator.UnaryOperator as unary
@@ -15,8 +15,9 @@ use Rattle.ioa_operators.specs.declared.operator.BinaryOperator.{BinaryOperator}
 use Rattle.ioa_operators.specs.declared.shape.DisplayForm.{DisplayForm}
 use Rattle.ioa_terms.specs.contracts.tree.Kind as kind
 use Rattle.ioa_terms.specs.declared.tree.Kind.{Kind}
-use Rattle.ioa_terms.specs.PlainTerm.{PlainTerm, PlainTerms, PlainTarget, PlainStatement, PlainStatements, PlainArms, number, truth, name, one, two, call, display, field, no_terms, term, terms_of, variable, at_key, at_field, assign, branch, fire, no_statements, statement, statements_of, no_arms, arm}
-use Rattle.ioa_terms.specs.SameTerms.{same_unary, same_binary, same_form, same_kind, same_term, same_terms, same_target, same_statement, same_statements, same_arms}
+use Rattle.ioa_terms.specs.PlainTerm.{PlainTerm, PlainTerms, PlainTarget, PlainStatement, PlainStatements, PlainArms, number, truth, name, one, two, call, display, field, no_terms, term, terms_of, variable, at_key, at_field, assign, branch, PlainFiring, firing, no_statements, statement, statements_of, no_arms, arm}
+use Rattle.ioa_terms.specs.SameNames.{same_name_is}
+use Rattle.ioa_terms.specs.SameTerms.{same_unary, same_binary, same_form, same_kind, same_term, same_terms, same_target, same_statement, same_statements, same_arms, same_firing}
 
 unary_is : (a b : UnaryOperator) → Decides (same_unary a b) (a ≡ b)
 unary_is a b = (same_true unary.the_type (search rules) a b, true_same unary.the_type a b)
@@ -44,7 +45,7 @@ module _ {N D : Type 0} {n : N → N → Bool} {d : D → D → Bool} (n_is : (x
     term_equal (truth a) (truth b) h = λ i. truth ((booleans_Decides a b).0 h i)
     term_equal (name w x) (name v y) h =
         let p = and_parts _ _ h in
-        λ i. name ((bytes_eq-Decides w v).0 p.0 i) ((n_is x y).0 p.1 i)
+        λ i. name ((same_name_is w v).0 p.0 i) ((n_is x y).0 p.1 i)
     term_equal (one op a) (one oq b) h =
         let p = and_parts _ _ h in
         λ i. one ((unary_is op oq).0 p.0 i) (term_equal a b p.1 i)
@@ -76,7 +77,7 @@ module _ {N D : Type 0} {n : N → N → Bool} {d : D → D → Bool} (n_is : (x
     term_itself : (a : PlainTerm N D) → same_term n d a a ≡ true
     term_itself (number z) = (Decides-int_eq z z).1 refl
     term_itself (truth b) = (booleans_Decides b b).1 refl
-    term_itself (name w x) = rw ((bytes_eq-Decides w w).1 refl, (n_is x x).1 refl) refl
+    term_itself (name w x) = rw ((same_name_is w w).1 refl, (n_is x x).1 refl) refl
     term_itself (one op a) = rw ((unary_is op op).1 refl, term_itself a) refl
     term_itself (two op a b) = rw ((binary_is op op).1 refl, term_itself a, term_itself b) refl
     term_itself (call w ts) = rw ((bytes_eq-Decides w w).1 refl, terms_itself ts) refl
@@ -134,10 +135,6 @@ module _ {N D : Type 0} {n : N → N → Bool} {d : D → D → Bool} (n_is : (x
     statement_equal (branch xs ss) (branch ys ts) h =
         let p = and_parts _ _ h in
         λ i. branch (arms_equal xs ys p.0 i) (statements_equal ss ts p.1 i)
-    statement_equal (fire k w ts) (fire l v us) h =
-        let p = and_parts _ _ h in
-        let q = and_parts _ _ p.1 in
-        λ i. fire ((option_is kind_is k l).0 p.0 i) ((bytes_eq-Decides w v).0 q.0 i) ((same_terms_is ts us).0 q.1 i)
     statement_equal a b h = absurd (cc)
 
     statements_equal : (ss ts : PlainStatements N D) → same_statements n d ss ts ≡ true → ss ≡ ts
@@ -159,7 +156,6 @@ module _ {N D : Type 0} {n : N → N → Bool} {d : D → D → Bool} (n_is : (x
     statement_itself : (a : PlainStatement N D) → same_statement n d a a ≡ true
     statement_itself (assign x t) = rw (target_itself x, term_itself t) refl
     statement_itself (branch xs ss) = rw (arms_itself xs, statements_itself ss) refl
-    statement_itself (fire k w ts) = rw ((option_is kind_is k k).1 refl, (bytes_eq-Decides w w).1 refl, terms_itself (terms_of ts)) refl
 
     statements_itself : (ss : PlainStatements N D) → same_statements n d ss ss ≡ true
     statements_itself no_statements = refl
@@ -185,3 +181,11 @@ module _ {N D : Type 0} {n : N → N → Bool} {d : D → D → Bool} (n_is : (x
 
   pub same_statements_is : (ss ts : List (PlainStatement N D)) → Decides (same_statements n d (statements_of ss) (statements_of ts)) (ss ≡ ts)
   same_statements_is ss ts = (λ h. listed_statements ss ts (statements_equal (statements_of ss) (statements_of ts) h), λ e. rw (← e) (statements_itself (statements_of ss)))
+
+  -- the test finds two firings the same if and only if they are equal
+  pub same_firing_is : (a b : PlainFiring N D) → Decides (same_firing n d a b) (a ≡ b)
+  same_firing_is a b =
+      Decides-like _ (λ p i. firing (p.0 i) (p.1.0 i) (p.1.1 i))
+      (λ e. (ap (λ (f : PlainFiring N D). f.kind) e, (ap (λ (f : PlainFiring N D). f.action) e, ap (λ (f : PlainFiring N D). f.arguments) e)))
+      (Decides-and _ _ (option_is kind_is a.kind b.kind)
+      (Decides-and _ _ (bytes_eq-Decides a.action b.action) (same_terms_is a.arguments b.arguments)))

@@ -1,71 +1,73 @@
 -- Names and the slots of their values.
-use Rattle.std.proofs.Common.{◌≡◌, ℕ, zero, suc, ◌+◌, ◌<◌, ◌≤◌, min, Bool, true, false, List, [], ◌∷◌, ◌++◌, Option, Some, None, refl, sym, ap, ◌∙◌, length, take, set, arith, if◌then◌else◌, inl, inr, ◌⊎◌, get_or, append-nil}
+use Rattle.std.proofs.Common.{◌≡◌, ℕ, zero, suc, ◌+◌, ◌<◌, ◌≤◌, min, Bool, true, false, List, [], ◌∷◌, ◌++◌, Option, Some, None, refl, sym, ap, subst, ◌∙◌, length, map, take, set, arith, if◌then◌else◌, inl, inr, ◌⊎◌, get_or, append-nil}
 use Rattle.std.specs.List.{zip, slice_get}
-use Rattle.std.proofs.lemmas.List.{map-append}
+use Rattle.std.proofs.lemmas.List.{length-map, map-append}
 use Rattle.std.proofs.lemmas.Slice.Zip.{firsts-zip}
 use Rattle.std.specs.Option.{option_map}
-use Rattle.ioa_terms.specs.PlainTerm.{PlainTarget, variable, at_key, at_field, PlainStatement, PlainStatements, PlainArms, assign, branch, fire, no_statements, statement, no_arms, arm}
+use Rattle.ioa_terms.specs.PlainTerm.{PlainTarget, variable, at_key, at_field, PlainStatement, PlainStatements, PlainArms, assign, branch, no_statements, statement, no_arms, arm}
 use Rattle.ioa_terms.specs.Resolved.{IsResolvedTarget, IsResolvedStatement, AreArmsResolved, AreAllResolved, AreResolved}
 use Rattle.ioa_operators.specs.declared.shape.Shape.{Shape}
 use Rattle.ioa_values.specs.Data.{Data, constant}
+use Rattle.ioa_terms.specs.declared.name.Name.{Name}
+use Rattle.ioa_terms.specs.declared.name.Name.TheVariants.{Word}
 use Rattle.ioa_terms.specs.Bindings.{Bindings, lookup, put, slot_in, names_of, same_name, constants_from, environment}
 
 -- what is at the slot of a variable
-pub environment_variable : (names : List (List ℕ)) (vs : List Data) (cs : List (List ℕ)) (i : ℕ) (d : Data) → i < length names → i < length vs → option_map (λ (b : List ℕ × Data). b.1) (slice_get (environment names vs cs) i) ≡ Some (get_or vs i d)
+pub environment_variable : (names : List Name) (vs : List Data) (cs : List (List ℕ)) (i : ℕ) (d : Data) → i < length names → i < length vs → option_map (λ (b : Name × Data). b.1) (slice_get (environment names vs cs) i) ≡ Some (get_or vs i d)
 environment_variable [] vs cs i d h g = absurd (omega arith)
 environment_variable (n ∷ names) [] cs i d h g = absurd (omega arith)
 environment_variable (n ∷ names) (v ∷ vs) cs zero d h g = refl
 environment_variable (n ∷ names) (v ∷ vs) cs (suc i) d h g = environment_variable names vs cs i d (omega arith) (omega arith)
 
 -- what is at a slot among the first values
-pub environment_first : (names : List (List ℕ)) (vs gs : List Data) (cs : List (List ℕ)) (i : ℕ) (d : Data) → i < length names → i < length vs → option_map (λ (b : List ℕ × Data). b.1) (slice_get (environment names (vs ++ gs) cs) i) ≡ Some (get_or vs i d)
+pub environment_first : (names : List Name) (vs gs : List Data) (cs : List (List ℕ)) (i : ℕ) (d : Data) → i < length names → i < length vs → option_map (λ (b : Name × Data). b.1) (slice_get (environment names (vs ++ gs) cs) i) ≡ Some (get_or vs i d)
 environment_first [] vs gs cs i d h g = absurd (omega arith)
 environment_first (n ∷ names) [] gs cs i d h g = absurd (omega arith)
 environment_first (n ∷ names) (v ∷ vs) gs cs zero d h g = refl
 environment_first (n ∷ names) (v ∷ vs) gs cs (suc i) d h g = environment_first names vs gs cs i d (omega arith) (omega arith)
 
 -- what is at a slot among the values that are given besides
-pub environment_given : (names : List (List ℕ)) (vs gs : List Data) (cs : List (List ℕ)) (i j : ℕ) (d : Data) → i ≡ length vs + j → i < length names → j < length gs → option_map (λ (b : List ℕ × Data). b.1) (slice_get (environment names (vs ++ gs) cs) i) ≡ Some (get_or gs j d)
+pub environment_given : (names : List Name) (vs gs : List Data) (cs : List (List ℕ)) (i j : ℕ) (d : Data) → i ≡ length vs + j → i < length names → j < length gs → option_map (λ (b : Name × Data). b.1) (slice_get (environment names (vs ++ gs) cs) i) ≡ Some (get_or gs j d)
 environment_given [] vs gs cs i j d at h g = absurd (omega arith)
 environment_given (n ∷ names) [] gs cs i j d at h g = let same : i ≡ j = omega arith in rw same (environment_variable (n ∷ names) gs cs j d (omega arith) g)
 environment_given (n ∷ names) (v ∷ vs) gs cs zero j d at h g = absurd (omega arith)
 environment_given (n ∷ names) (v ∷ vs) gs cs (suc i) j d at h g = environment_given names vs gs cs i j d (omega arith) (omega arith) g
 
 -- behind the variables are the constants
-behind : (names : List (List ℕ)) (vs : List Data) (cs : List (List ℕ)) (i j : ℕ) → i ≡ min (length names) (length vs) + j → slice_get (environment names vs cs) i ≡ slice_get (constants_from 0 cs) j
+behind : (names : List Name) (vs : List Data) (cs : List (List ℕ)) (i j : ℕ) → i ≡ min (length names) (length vs) + j → slice_get (environment names vs cs) i ≡ slice_get (constants_from 0 cs) j
 behind [] vs cs i j h = ap (slice_get (constants_from 0 cs)) (omega arith)
 behind (n ∷ names) [] cs i j h = ap (slice_get (constants_from 0 cs)) (omega arith)
 behind (n ∷ names) (v ∷ vs) cs zero j h = absurd (omega arith)
 behind (n ∷ names) (v ∷ vs) cs (suc i) j h = behind names vs cs i j (omega arith)
 
-constant_at : (k : ℕ) (cs : List (List ℕ)) (j : ℕ) → j < length cs → option_map (λ (b : List ℕ × Data). b.1) (slice_get (constants_from k cs) j) ≡ Some (constant (k + j))
+constant_at : (k : ℕ) (cs : List (List ℕ)) (j : ℕ) → j < length cs → option_map (λ (b : Name × Data). b.1) (slice_get (constants_from k cs) j) ≡ Some (constant (k + j))
 constant_at k [] j h = absurd (omega arith)
 constant_at k (c ∷ cs) zero h = ap (λ n. Some (constant n)) (omega arith)
 constant_at k (c ∷ cs) (suc j) h = constant_at (k + 1) cs j (omega arith) ∙ ap (λ n. Some (constant n)) (omega arith)
 
-no_constant : (k : ℕ) (cs : List (List ℕ)) (j : ℕ) → length cs ≤ j → None ≡ option_map (λ (b : List ℕ × Data). b.1) (slice_get (constants_from k cs) j)
+no_constant : (k : ℕ) (cs : List (List ℕ)) (j : ℕ) → length cs ≤ j → None ≡ option_map (λ (b : Name × Data). b.1) (slice_get (constants_from k cs) j)
 no_constant k [] j h = refl
 no_constant k (c ∷ cs) zero h = absurd (omega arith)
 no_constant k (c ∷ cs) (suc j) h = no_constant (k + 1) cs j (omega arith)
 
 -- what is at the slot of a constant
-pub environment_constant : (names : List (List ℕ)) (vs : List Data) (cs : List (List ℕ)) (i j : ℕ) → i ≡ min (length names) (length vs) + j → j < length cs → option_map (λ (b : List ℕ × Data). b.1) (slice_get (environment names vs cs) i) ≡ Some (constant j)
+pub environment_constant : (names : List Name) (vs : List Data) (cs : List (List ℕ)) (i j : ℕ) → i ≡ min (length names) (length vs) + j → j < length cs → option_map (λ (b : Name × Data). b.1) (slice_get (environment names vs cs) i) ≡ Some (constant j)
 environment_constant names vs cs i j at h = rw (behind names vs cs i j at) (constant_at 0 cs j h ∙ ap (λ n. Some (constant n)) (omega arith))
 
 -- behind the constants is nothing
-pub environment_past : (names : List (List ℕ)) (vs : List Data) (cs : List (List ℕ)) (i j : ℕ) → i ≡ min (length names) (length vs) + j → length cs ≤ j → None ≡ option_map (λ (b : List ℕ × Data). b.1) (slice_get (environment names vs cs) i)
+pub environment_past : (names : List Name) (vs : List Data) (cs : List (List ℕ)) (i j : ℕ) → i ≡ min (length names) (length vs) + j → length cs ≤ j → None ≡ option_map (λ (b : Name × Data). b.1) (slice_get (environment names vs cs) i)
 environment_past names vs cs i j at h = rw (behind names vs cs i j at) (no_constant 0 cs j h)
 
 mapped : (o : Option ℕ) (p : ℕ) → option_map (λ k. k + 1) o ≡ Some p → (k : ℕ) × (o ≡ Some k) × (p ≡ suc k)
 mapped None p h = absurd (cc)
 mapped (Some k) p h = let e : k + 1 ≡ p = cc in (k, refl, omega arith)
 
-slot_first : (t : Bool) (names : List (List ℕ)) (x : List ℕ) (p : ℕ) → (if t then Some 0 else option_map (λ k. k + 1) (slot_in x names)) ≡ Some p → ((t ≡ true) × (p ≡ zero)) ⊎ ((t ≡ false) × (k : ℕ) × (slot_in x names ≡ Some k) × (p ≡ suc k))
+slot_first : (t : Bool) (names : List Name) (x : Name) (p : ℕ) → (if t then Some 0 else option_map (λ k. k + 1) (slot_in x names)) ≡ Some p → ((t ≡ true) × (p ≡ zero)) ⊎ ((t ≡ false) × (k : ℕ) × (slot_in x names ≡ Some k) × (p ≡ suc k))
 slot_first true names x p h = inl (refl, cc)
 slot_first false names x p h = let m = mapped (slot_in x names) p h in inr (refl, m.0, m.1, m.2)
 
 -- the value of a name is at its slot
-pub lookup_slot : (e : Bindings) (x : List ℕ) (p : ℕ) → slot_in x (names_of e) ≡ Some p → lookup x e ≡ option_map (λ (b : List ℕ × Data). b.1) (slice_get e p)
+pub lookup_slot : (e : Bindings) (x : Name) (p : ℕ) → slot_in x (names_of e) ≡ Some p → lookup x e ≡ option_map (λ (b : Name × Data). b.1) (slice_get e p)
 lookup_slot [] x p h = absurd (cc)
 lookup_slot (b ∷ e) x p h =
     elim (slot_first (same_name x b.0) (names_of e) x p h) [
@@ -73,17 +75,17 @@ lookup_slot (b ∷ e) x p h =
       | inr w ↦ rw (w.0, w.3) (lookup_slot e x w.1 w.2)
     ]
 
--- the slot of a name is below the number of names
-pub slot_within : (names : List (List ℕ)) (x : List ℕ) (p : ℕ) → slot_in x names ≡ Some p → p < length names
+-- the slot of a name is below the number of variables
+pub slot_within : (names : List (List ℕ)) (x : Name) (p : ℕ) → slot_in x (map Word names) ≡ Some p → p < length names
 slot_within [] x p h = absurd (cc)
 slot_within (n ∷ names) x p h =
-    elim (slot_first (same_name x n) names x p h) [
+    elim (slot_first (same_name x (Word n)) (map Word names) x p h) [
       | inl w ↦ omega arith
       | inr w ↦ let less = slot_within names x w.1 w.2 in omega arith
     ]
 
 -- the slot of a name is the same among more names
-pub slot_among_more : (names more : List (List ℕ)) (x : List ℕ) (p : ℕ) → slot_in x names ≡ Some p → slot_in x (names ++ more) ≡ Some p
+pub slot_among_more : (names more : List Name) (x : Name) (p : ℕ) → slot_in x names ≡ Some p → slot_in x (names ++ more) ≡ Some p
 slot_among_more [] more x p h = absurd (cc)
 slot_among_more (n ∷ names) more x p h =
     elim (slot_first (same_name x n) names x p h) [
@@ -92,73 +94,74 @@ slot_among_more (n ∷ names) more x p h =
     ]
 
 -- a new value of a variable is at the variable's slot
-pub put_environment : (names : List (List ℕ)) (vs : List Data) (cs : List (List ℕ)) (x : List ℕ) (p : ℕ) (v : Data) → length names ≡ length vs → slot_in x names ≡ Some p → put x v (environment names vs cs) ≡ environment names (set vs p v) cs
+pub put_environment : (names : List (List ℕ)) (vs : List Data) (cs : List (List ℕ)) (x : Name) (p : ℕ) (v : Data) → length names ≡ length vs → slot_in x (map Word names) ≡ Some p → put x v (environment (map Word names) vs cs) ≡ environment (map Word names) (set vs p v) cs
 put_environment [] vs cs x p v many h = absurd (cc)
 put_environment (n ∷ names) [] cs x p v many h = absurd (omega arith)
 put_environment (n ∷ names) (u ∷ vs) cs x p v many h =
-    elim (slot_first (same_name x n) names x p h) [
+    elim (slot_first (same_name x (Word n)) (map Word names) x p h) [
       | inl w ↦ rw (w.0, w.1) refl
-      | inr w ↦ rw (w.0, w.3) (ap (λ (e : Bindings). (n, u) ∷ e) (put_environment names vs cs x w.1 v (omega arith) w.2))
+      | inr w ↦ rw (w.0, w.3) (ap (λ (e : Bindings). (Word n, u) ∷ e) (put_environment names vs cs x w.1 v (omega arith) w.2))
     ]
 
 -- the names of pairs
-pub names_zip : (names : List (List ℕ)) (vs : List Data) → length names ≡ length vs → names_of (zip names vs) ≡ names
-names_zip names vs h = firsts-zip names vs (sym h)
+pub names_zip : (names : List (List ℕ)) (vs : List Data) → length names ≡ length vs → names_of (zip (map Word names) vs) ≡ map Word names
+names_zip names vs h = firsts-zip (map Word names) vs (sym (length-map names Word ∙ h))
 
-constant_names : (k : ℕ) (cs : List (List ℕ)) → names_of (constants_from k cs) ≡ cs
+constant_names : (k : ℕ) (cs : List (List ℕ)) → names_of (constants_from k cs) ≡ map Word cs
 constant_names k [] = refl
-constant_names k (c ∷ cs) = ap (λ (ws : List (List ℕ)). c ∷ ws) (constant_names (k + 1) cs)
+constant_names k (c ∷ cs) = ap (λ (ws : List Name). Word c ∷ ws) (constant_names (k + 1) cs)
 
 -- the names of an environment are those of its variables and of its constants
-pub names_environment : (names : List (List ℕ)) (vs : List Data) (cs : List (List ℕ)) → length names ≡ length vs → names_of (environment names vs cs) ≡ names ++ cs
-names_environment names vs cs h = rw (map-append (λ (b : List ℕ × Data). b.0) (zip names vs) (constants_from 0 cs), names_zip names vs h, constant_names 0 cs) refl
+pub names_environment : (names : List (List ℕ)) (vs : List Data) (cs : List (List ℕ)) → length names ≡ length vs → names_of (environment (map Word names) vs cs) ≡ map Word (names ++ cs)
+names_environment names vs cs h = rw (map-append Word names cs, map-append (λ (b : Name × Data). b.0) (zip (map Word names) vs) (constants_from 0 cs), names_zip names vs h, constant_names 0 cs) refl
 
 -- without constants an environment has the variables alone
-pub no_constants : (names : List (List ℕ)) (vs : List Data) → environment names vs [] ≡ zip names vs
+pub no_constants : (names : List Name) (vs : List Data) → environment names vs [] ≡ zip names vs
 no_constants names vs = append-nil (zip names vs)
 
 -- if no value is given besides, an environment has the first values alone
-pub none_given : (names : List (List ℕ)) (vs : List Data) (cs : List (List ℕ)) → environment names (vs ++ []) cs ≡ environment names vs cs
+pub none_given : (names : List Name) (vs : List Data) (cs : List (List ℕ)) → environment names (vs ++ []) cs ≡ environment names vs cs
 none_given names vs cs = ap (λ (ds : List Data). environment names ds cs) (append-nil vs)
 
-pub values_alone : (names : List (List ℕ)) (vs : List Data) → environment names (vs ++ []) [] ≡ zip names vs
+pub values_alone : (names : List Name) (vs : List Data) → environment names (vs ++ []) [] ≡ zip names vs
 values_alone names vs = none_given names vs [] ∙ no_constants names vs
 
--- the slot of a name that is among the first names
-pub slot_among_first : (names : List (List ℕ)) (x : List ℕ) (p count : ℕ) → slot_in x names ≡ Some p → p < count → slot_in x (take count names) ≡ Some p
+-- the slot of a name that is among the first variables
+pub slot_among_first : (names : List (List ℕ)) (x : Name) (p count : ℕ) → slot_in x (map Word names) ≡ Some p → p < count → slot_in x (map Word (take count names)) ≡ Some p
 slot_among_first [] x p count h l = absurd (cc)
 slot_among_first (n ∷ names) x p zero h l = absurd (omega arith)
 slot_among_first (n ∷ names) x p (suc count) h l =
-    elim (slot_first (same_name x n) names x p h) [
+    elim (slot_first (same_name x (Word n)) (map Word names) x p h) [
       | inl w ↦ rw (w.0, w.1) refl
       | inr w ↦ rw (w.0, w.3, slot_among_first names x w.1 count w.2 (omega arith)) (ap (λ k. Some k) (omega arith))
     ]
 
 -- a target is one too if there are more variables
-target_widely : {D : Type 0} (p : PlainTarget ℕ D) (xs more names : List (List ℕ)) → IsResolvedTarget p xs names → IsResolvedTarget p (xs ++ more) names
-target_widely (variable x at d) xs more names h = slot_among_more xs more x at h
-target_widely (at_key x at d k) xs more names h = (slot_among_more xs more x at h.0, h.1)
-target_widely (at_field x at d f) xs more names h = slot_among_more xs more x at h
+target_widely : {D : Type 0} (p : PlainTarget ℕ D) (xs more names : List Name) → IsResolvedTarget p xs names → IsResolvedTarget p (xs ++ more) names
+target_widely (variable x at d) xs more names h = slot_among_more xs more (Word x) at h
+target_widely (at_key x at d k) xs more names h = (slot_among_more xs more (Word x) at h.0, h.1)
+target_widely (at_field x at d f) xs more names h = slot_among_more xs more (Word x) at h
 
 mutual
   -- the same of statements
-  statement_widely : {D : Type 0} (s : PlainStatement ℕ D) (xs more names : List (List ℕ)) → IsResolvedStatement s xs names → IsResolvedStatement s (xs ++ more) names
+  statement_widely : {D : Type 0} (s : PlainStatement ℕ D) (xs more names : List Name) → IsResolvedStatement s xs names → IsResolvedStatement s (xs ++ more) names
   statement_widely (assign p t) xs more names h = (target_widely p xs more names h.0, h.1)
   statement_widely (branch arms rest) xs more names h = (arms_widely arms xs more names h.0, all_widely rest xs more names h.1)
-  statement_widely (fire kind action arguments) xs more names h = tt
 
-  arms_widely : {D : Type 0} (arms : PlainArms ℕ D) (xs more names : List (List ℕ)) → AreArmsResolved arms xs names → AreArmsResolved arms (xs ++ more) names
+  arms_widely : {D : Type 0} (arms : PlainArms ℕ D) (xs more names : List Name) → AreArmsResolved arms xs names → AreArmsResolved arms (xs ++ more) names
   arms_widely no_arms xs more names h = tt
   arms_widely (arm t body others) xs more names h = (h.0, all_widely body xs more names h.1, arms_widely others xs more names h.2)
 
-  all_widely : {D : Type 0} (ss : PlainStatements ℕ D) (xs more names : List (List ℕ)) → AreAllResolved ss xs names → AreAllResolved ss (xs ++ more) names
+  all_widely : {D : Type 0} (ss : PlainStatements ℕ D) (xs more names : List Name) → AreAllResolved ss xs names → AreAllResolved ss (xs ++ more) names
   all_widely no_statements xs more names h = tt
   all_widely (statement s others) xs more names h = (statement_widely s xs more names h.0, all_widely others xs more names h.1)
 
-pub resolved_widely : {D : Type 0} (ss : List (PlainStatement ℕ D)) (xs more names : List (List ℕ)) → AreResolved ss xs names → AreResolved ss (xs ++ more) names
+pub resolved_widely : {D : Type 0} (ss : List (PlainStatement ℕ D)) (xs more names : List Name) → AreResolved ss xs names → AreResolved ss (xs ++ more) names
 resolved_widely [] xs more names h = tt
 resolved_widely (s ∷ ss) xs more names h = (statement_widely s xs more names h.0, resolved_widely ss xs more names h.1)
 
 -- a target among the variables is one among the names in view
-pub target_among_more : (p : PlainTarget ℕ Shape) (names more : List (List ℕ)) → IsResolvedTarget p names (names ++ more) → IsResolvedTarget p (names ++ more) (names ++ more)
-target_among_more p names more h = target_widely p names more (names ++ more) h
+pub target_among_more : (p : PlainTarget ℕ Shape) (names more : List (List ℕ)) → IsResolvedTarget p (map Word names) (map Word (names ++ more)) → IsResolvedTarget p (map Word (names ++ more)) (map Word (names ++ more))
+target_among_more p names more h =
+    subst (λ (ns : List Name). IsResolvedTarget p ns (map Word (names ++ more))) (sym (map-append Word names more))
+    (target_widely p (map Word names) (map Word more) (map Word (names ++ more)) h)

@@ -1,9 +1,10 @@
 -- The value of a term has the term's shape.
-use Rattle.std.proofs.Common.{◌≡◌, ℕ, List, [], ◌∷◌, Option, Some, None, refl, subst, true}
+use Rattle.std.proofs.Common.{◌≡◌, List, [], ◌∷◌, Option, Some, None, refl, subst, true}
 use Rattle.std.specs.Option.{IfSome, option_and_then, option_map, option_or}
 use Rattle.ioa_values.specs.Data.{Data}
 use Rattle.ioa_operators.specs.Operators.{unary_value, binary_value, left_decision}
 use Rattle.ioa_operators.specs.Shapes.{PlainShape, has_shape, display_value, field_value}
+use Rattle.ioa_terms.specs.declared.name.Name.{Name}
 use Rattle.ioa_terms.specs.Bindings.{Bindings, lookup}
 use Rattle.ioa_terms.specs.PlainTerm as plain
 use Rattle.ioa_terms.specs.PlainTerm.{PlainTerm, PlainTerms, name, one, two, call, display, field, no_terms, term}
@@ -18,7 +19,7 @@ each P None g = tt
 each P (Some v) g = g v refl
 
 -- what a name has
-named_has : (names : NameShapes) (e : Bindings) → IsShaped names e → (x : List ℕ) (s : PlainShape) (v : Data) (o : Option PlainShape) → shape_named x names ≡ o → option_map shape_in_terms o ≡ Some s → lookup x e ≡ Some v → Has s v
+named_has : (names : NameShapes) (e : Bindings) → IsShaped names e → (x : Name) (s : PlainShape) (v : Data) (o : Option PlainShape) → shape_named x names ≡ o → option_map shape_in_terms o ≡ Some s → lookup x e ≡ Some v → Has s v
 named_has names e g x s v (Some z) q h k =
     let f : shape_in_terms z ≡ s = cc in
     subst (λ (y : PlainShape). Has y v) f (shape_in_terms_has z v (g x z v q k))

@@ -12,6 +12,7 @@ pub use Rattle.ioa_operators.specs.ShapeView
 -- what the contracts of this crate and of those above it cite
 pub mod PlainTerm
 pub mod TermCode
+pub mod SameNames
 pub mod SameTerms
 pub mod View
 pub mod Bindings

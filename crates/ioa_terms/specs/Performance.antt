@@ -1,13 +1,15 @@
 -- What statements mean (profile): each sees the environment that the one before it left.
-use Rattle.std.specs.Prelude.{ℕ, Bool, true, false, if◌then◌else◌, List, [], ◌∷◌, ◌++◌, Option, Some, None, Result}
+use Rattle.std.specs.Prelude.{Bool, true, false, if◌then◌else◌, List, [], ◌∷◌, ◌++◌, Option, Some, None, Result}
 use Rattle.std.specs.Option.{option_and_then, option_map}
 use Rattle.ioa_values.specs.Data.{Data, as_truth}
 use Rattle.ioa_operators.specs.Operators.{call_value}
 use Rattle.ioa_operators.specs.Shapes.{PlainShape, has_shape, with_field}
 use Rattle.ioa_operators.specs.RangeCheck.{range_check}
+use Rattle.ioa_terms.specs.declared.name.Name.{Name}
+use Rattle.ioa_terms.specs.declared.name.Name.TheVariants.{Word}
 use Rattle.ioa_terms.specs.Bindings.{Bindings, lookup, put}
 use Rattle.ioa_terms.specs.PlainTerm.{PlainTerm, PlainTarget, variable, at_key, at_field}
-use Rattle.ioa_terms.specs.PlainTerm.{PlainStatement, PlainStatements, PlainArms, assign, branch, fire}
+use Rattle.ioa_terms.specs.PlainTerm.{PlainStatement, PlainStatements, PlainArms, assign, branch}
 use Rattle.ioa_terms.specs.PlainTerm.{no_statements, statement, no_arms, arm, statements_of}
 use Rattle.ioa_terms.specs.Meaning.{value, numbers_met, if_any}
 use Rattle.ioa_operators.specs.declared.operator.Function.TheVariants as function
@@ -15,10 +17,10 @@ use Rattle.ioa_operators.specs.declared.shape.Shape.{Shape}
 use Rattle.ioa_operators.specs.declared.fault.TermFault.{TermFault}
 
 -- the variable that an assignment changes, and its shape
-abbrev pub target_name : {N D : Type 0} → PlainTarget N D → List ℕ
-target_name (variable x at d) = x
-target_name (at_key x at d k) = x
-target_name (at_field x at d f) = x
+abbrev pub target_name : {N D : Type 0} → PlainTarget N D → Name
+target_name (variable x at d) = Word x
+target_name (at_key x at d k) = Word x
+target_name (at_field x at d f) = Word x
 
 abbrev pub target_shape : {N : Type 0} → PlainTarget N Shape → PlainShape
 target_shape (variable x at d) = d
@@ -35,10 +37,10 @@ abbrev pub assignment_value : {N : Type 0} → PlainTarget N Shape → PlainTerm
 assignment_value (variable x at d) t e = value t e
 assignment_value (at_key x at d k) t e =
     option_and_then
-    (λ i. option_and_then (λ v. option_and_then (updated_map i v) (lookup x e)) (value t e))
+    (λ i. option_and_then (λ v. option_and_then (updated_map i v) (lookup (Word x) e)) (value t e))
     (value k e)
 assignment_value (at_field x at d f) t e =
-    option_and_then (λ v. option_and_then (with_field d f v) (lookup x e)) (value t e)
+    option_and_then (λ v. option_and_then (with_field d f v) (lookup (Word x) e)) (value t e)
 
 -- the value, if it has the shape: a negative number is no natural
 abbrev pub fitting_value : PlainShape → Data → Option Data
@@ -55,13 +57,12 @@ by_test (Some true) neither held other = held
 by_test (Some false) neither held other = other
 
 abbrev mutual
-  -- the environment after one statement; a firing is no part of an effect and leaves none
+  -- the environment after one statement
   pub after_one : {N : Type 0} → PlainStatement N Shape → Bindings → Option Bindings
   after_one (assign p t) e =
       option_map (λ v. put (target_name p) v e)
       (option_and_then (fitting_value (target_shape p)) (assignment_value p t e))
   after_one (branch arms rest) e = after_choice arms (after_all rest e) e
-  after_one (fire kind action arguments) e = None
 
   -- the environment after the first arm whose test is true, or after the rest if none is
   pub after_choice : {N : Type 0} → PlainArms N Shape → Option Bindings → Bindings → Option Bindings
@@ -89,7 +90,6 @@ abbrev mutual
   pub numbers_met_by_one : {N : Type 0} → PlainStatement N Shape → Bindings → List Data
   numbers_met_by_one (assign p t) e = numbers_met_by_assignment p t e
   numbers_met_by_one (branch arms rest) e = numbers_met_by_choice arms (numbers_met_by_all rest e) e
-  numbers_met_by_one (fire kind action arguments) e = []
 
   -- the results that a choice meets: tests in order, and then those of what is chosen
   pub numbers_met_by_choice : {N : Type 0} → PlainArms N Shape → List Data → Bindings → List Data

@@ -5,6 +5,7 @@ use Rattle.std.specs.Prelude.{ℕ, ℤ, Bool, List, [], ◌∷◌, Option}
 use Rattle.ioa_operators.specs.declared.operator.UnaryOperator.{UnaryOperator}
 use Rattle.ioa_operators.specs.declared.operator.BinaryOperator.{BinaryOperator}
 use Rattle.ioa_operators.specs.declared.shape.DisplayForm.{DisplayForm}
+use Rattle.ioa_terms.specs.declared.name.Name.{Name}
 use Rattle.ioa_terms.specs.declared.tree.Kind.{Kind}
 
 mutual
@@ -13,7 +14,7 @@ mutual
   pub data PlainTerm (N D : Type 0) : Type 0 where
     number : ℤ → PlainTerm N D
     truth : Bool → PlainTerm N D
-    name : List ℕ → N → PlainTerm N D
+    name : Name → N → PlainTerm N D
     one : UnaryOperator → PlainTerm N D → PlainTerm N D
     two : BinaryOperator → PlainTerm N D → PlainTerm N D → PlainTerm N D
     call : List ℕ → PlainTerms N D → PlainTerm N D
@@ -38,12 +39,10 @@ pub data PlainTarget (N D : Type 0) : Type 0 where
   deriving IsSet as PlainTarget-set
 
 mutual
-  -- a statement (profile): an assignment, an `if` of arms and the rest, or in a schedule the firing of an action, with
-  -- its kind if that is written
+  -- a statement of an effect (profile): an assignment, or an `if` of arms and the rest
   pub data PlainStatement (N D : Type 0) : Type 0 where
     assign : PlainTarget N D → PlainTerm N D → PlainStatement N D
     branch : PlainArms N D → PlainStatements N D → PlainStatement N D
-    fire : Option Kind → List ℕ → List (PlainTerm N D) → PlainStatement N D
     deriving IsSet as PlainStatement-set
 
   -- statements one after another
@@ -63,3 +62,14 @@ statements_of (s ∷ more) = statement s (statements_of more)
 abbrev pub arms_of : {N D : Type 0} → List (PlainTerm N D × PlainStatements N D) → PlainArms N D
 arms_of [] = no_arms
 arms_of (a ∷ more) = arm a.0 a.1 (arms_of more)
+
+-- a statement of a schedule block (profile): the firing of an action, with its kind if that is written
+pub record PlainFiring (N D : Type 0) : Type 0 where
+  pub kind : Option Kind
+  pub action : List ℕ
+  pub arguments : List (PlainTerm N D)
+  deriving IsSet as PlainFiring-set
+
+-- a firing of these parts
+abbrev pub firing : {N D : Type 0} → Option Kind → List ℕ → List (PlainTerm N D) → PlainFiring N D
+firing k a ts = record { kind = k; action = a; arguments = ts }

@@ -1,16 +1,18 @@
 -- Terms and statements whose names are resolved (profile): each is annotated with the slot of its value.
 use Rattle.std.specs.Prelude.{◌≡◌, ℕ, List, Some}
 use Rattle.std.specs.List.{AllByRecursion}
+use Rattle.ioa_terms.specs.declared.name.Name.{Name}
+use Rattle.ioa_terms.specs.declared.name.Name.TheVariants.{Word}
 use Rattle.ioa_terms.specs.Bindings.{slot_in}
 use Rattle.ioa_terms.specs.PlainTerm as plain
 use Rattle.ioa_terms.specs.PlainTerm.{PlainTerm, PlainTerms, name, one, two, call, display, field, no_terms, term}
 use Rattle.ioa_terms.specs.PlainTerm.{PlainTarget, variable, at_key, at_field}
-use Rattle.ioa_terms.specs.PlainTerm.{PlainStatement, PlainStatements, PlainArms, assign, branch, fire}
+use Rattle.ioa_terms.specs.PlainTerm.{PlainStatement, PlainStatements, PlainArms, assign, branch}
 use Rattle.ioa_terms.specs.PlainTerm.{no_statements, statement, no_arms, arm}
 
 abbrev mutual
   -- each name of a term has the slot of that name among the names in view: the first, if it is there twice
-  pub IsResolved : {D : Type 0} → PlainTerm ℕ D → List (List ℕ) → Type 0
+  pub IsResolved : {D : Type 0} → PlainTerm ℕ D → List Name → Type 0
   IsResolved (plain.number n) names = Unit {0}
   IsResolved (plain.truth b) names = Unit {0}
   IsResolved (name x at) names = slot_in x names ≡ Some at
@@ -21,37 +23,35 @@ abbrev mutual
   IsResolved (field a w d) names = IsResolved a names
 
   -- the same of each of terms
-  pub AreTermsResolved : {D : Type 0} → PlainTerms ℕ D → List (List ℕ) → Type 0
+  pub AreTermsResolved : {D : Type 0} → PlainTerms ℕ D → List Name → Type 0
   AreTermsResolved no_terms names = Unit {0}
   AreTermsResolved (term t more) names = IsResolved t names × AreTermsResolved more names
 
 -- the same of a target, which is a variable or a part of one, and of its key
-abbrev pub IsResolvedTarget : {D : Type 0} → PlainTarget ℕ D → List (List ℕ) → List (List ℕ) → Type 0
-IsResolvedTarget (variable x at d) variables names = slot_in x variables ≡ Some at
-IsResolvedTarget (at_key x at d k) variables names = (slot_in x variables ≡ Some at) × IsResolved k names
-IsResolvedTarget (at_field x at d f) variables names = slot_in x variables ≡ Some at
+abbrev pub IsResolvedTarget : {D : Type 0} → PlainTarget ℕ D → List Name → List Name → Type 0
+IsResolvedTarget (variable x at d) variables names = slot_in (Word x) variables ≡ Some at
+IsResolvedTarget (at_key x at d k) variables names = (slot_in (Word x) variables ≡ Some at) × IsResolved k names
+IsResolvedTarget (at_field x at d f) variables names = slot_in (Word x) variables ≡ Some at
 
 abbrev mutual
-  -- the same of a statement: what it assigns are variables, and what it reads are names in view; nothing is asked of a
-  -- firing, which is no part of an effect
-  pub IsResolvedStatement : {D : Type 0} → PlainStatement ℕ D → List (List ℕ) → List (List ℕ) → Type 0
+  -- the same of a statement: what it assigns are variables, and what it reads are names in view
+  pub IsResolvedStatement : {D : Type 0} → PlainStatement ℕ D → List Name → List Name → Type 0
   IsResolvedStatement (assign p t) variables names = IsResolvedTarget p variables names × IsResolved t names
   IsResolvedStatement (branch arms rest) variables names =
       AreArmsResolved arms variables names × AreAllResolved rest variables names
-  IsResolvedStatement (fire kind action arguments) variables names = Unit {0}
 
   -- the same of each arm
-  pub AreArmsResolved : {D : Type 0} → PlainArms ℕ D → List (List ℕ) → List (List ℕ) → Type 0
+  pub AreArmsResolved : {D : Type 0} → PlainArms ℕ D → List Name → List Name → Type 0
   AreArmsResolved no_arms variables names = Unit {0}
   AreArmsResolved (arm t body more) variables names =
       IsResolved t names × AreAllResolved body variables names × AreArmsResolved more variables names
 
   -- the same of each of statements
-  pub AreAllResolved : {D : Type 0} → PlainStatements ℕ D → List (List ℕ) → List (List ℕ) → Type 0
+  pub AreAllResolved : {D : Type 0} → PlainStatements ℕ D → List Name → List Name → Type 0
   AreAllResolved no_statements variables names = Unit {0}
   AreAllResolved (statement s more) variables names =
       IsResolvedStatement s variables names × AreAllResolved more variables names
 
 -- the same of statements in a list
-abbrev pub AreResolved : {D : Type 0} → List (PlainStatement ℕ D) → List (List ℕ) → List (List ℕ) → Type 0
+abbrev pub AreResolved : {D : Type 0} → List (PlainStatement ℕ D) → List Name → List Name → Type 0
 AreResolved ss variables names = AllByRecursion (λ s. IsResolvedStatement s variables names) ss

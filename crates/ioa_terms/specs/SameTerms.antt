@@ -1,5 +1,5 @@
--- Whether two terms, targets or statements are the same (profile), by a test of what stands beside names and one of
--- what stands beside displays.
+-- Whether two terms, targets, statements or firings are the same (profile), by a test of what stands beside names and
+-- one of what stands beside displays.
 use Rattle.std.specs.Prelude.{Bool, true, false, ◌&&◌}
 use Rattle.std.specs.Ordering.{int_eq}
 use Rattle.std.specs.Option.{option_eq}
@@ -15,9 +15,9 @@ use Rattle.ioa_terms.specs.contracts.tree.Kind as kind
 use Rattle.ioa_terms.specs.declared.tree.Kind.{Kind}
 use Rattle.ioa_terms.specs.PlainTerm.{PlainTerm, PlainTerms, PlainTarget, PlainStatement, PlainStatements, PlainArms}
 use Rattle.ioa_terms.specs.PlainTerm.{number, truth, name, one, two, call, display, field, no_terms, term, terms_of}
-use Rattle.ioa_terms.specs.PlainTerm.{variable, at_key, at_field, assign, branch, fire}
+use Rattle.ioa_terms.specs.PlainTerm.{variable, at_key, at_field, assign, branch, PlainFiring}
 use Rattle.ioa_terms.specs.PlainTerm.{no_statements, statement, no_arms, arm}
-use Rattle.ioa_terms.specs.Bindings.{same_name}
+use Rattle.ioa_terms.specs.Bindings.{same_word, same_name}
 
 abbrev pub same_unary : UnaryOperator → UnaryOperator → Bool
 same_unary = sameb unary.the_type
@@ -40,9 +40,9 @@ module _ {N D : Type 0} (n : N → N → Bool) (d : D → D → Bool) where
     same_term (name w x) (name v y) = same_name w v && n x y
     same_term (one op a) (one oq b) = same_unary op oq && same_term a b
     same_term (two op a b) (two oq f g) = same_binary op oq && (same_term a f && same_term b g)
-    same_term (call w ts) (call v us) = same_name w v && same_terms ts us
+    same_term (call w ts) (call v us) = same_word w v && same_terms ts us
     same_term (display f s ts) (display g t us) = same_form f g && (d s t && same_terms ts us)
-    same_term (field a w s) (field b v t) = same_term a b && (same_name w v && d s t)
+    same_term (field a w s) (field b v t) = same_term a b && (same_word w v && d s t)
     same_term a b = false
 
     pub same_terms : PlainTerms N D → PlainTerms N D → Bool
@@ -52,9 +52,9 @@ module _ {N D : Type 0} (n : N → N → Bool) (d : D → D → Bool) where
 
   -- so are two targets
   abbrev pub same_target : PlainTarget N D → PlainTarget N D → Bool
-  same_target (variable w x s) (variable v y t) = same_name w v && (n x y && d s t)
-  same_target (at_key w x s a) (at_key v y t b) = same_name w v && (n x y && (d s t && same_term a b))
-  same_target (at_field w x s f) (at_field v y t g) = same_name w v && (n x y && (d s t && same_name f g))
+  same_target (variable w x s) (variable v y t) = same_word w v && (n x y && d s t)
+  same_target (at_key w x s a) (at_key v y t b) = same_word w v && (n x y && (d s t && same_term a b))
+  same_target (at_field w x s f) (at_field v y t g) = same_word w v && (n x y && (d s t && same_word f g))
   same_target a b = false
 
   -- and two statements
@@ -62,8 +62,6 @@ module _ {N D : Type 0} (n : N → N → Bool) (d : D → D → Bool) where
     pub same_statement : PlainStatement N D → PlainStatement N D → Bool
     same_statement (assign p t) (assign q u) = same_target p q && same_term t u
     same_statement (branch xs ss) (branch ys ts) = same_arms xs ys && same_statements ss ts
-    same_statement (fire k w ts) (fire l v us) =
-        option_eq same_kind k l && (same_name w v && same_terms (terms_of ts) (terms_of us))
     same_statement a b = false
 
     pub same_statements : PlainStatements N D → PlainStatements N D → Bool
@@ -75,3 +73,9 @@ module _ {N D : Type 0} (n : N → N → Bool) (d : D → D → Bool) where
     same_arms no_arms no_arms = true
     same_arms (arm t ss xs) (arm u ts ys) = (same_term t u && same_statements ss ts) && same_arms xs ys
     same_arms xs ys = false
+
+  -- and two firings
+  abbrev pub same_firing : PlainFiring N D → PlainFiring N D → Bool
+  same_firing a b =
+      option_eq same_kind a.kind b.kind
+      && (same_word a.action b.action && same_terms (terms_of a.arguments) (terms_of b.arguments))

@@ -7,6 +7,7 @@ use Rattle.ioa_values.specs.Data.{Data}
 use Rattle.ioa_operators.specs.Operators.{function_named}
 use Rattle.ioa_operators.specs.Shapes.{PlainShape, truths, integers, naturals, constants, tuples, sequences, sets, maps}
 use Rattle.ioa_operators.specs.Shapes.{PlainShapes, no_shapes, shape, has_shape, field_position}
+use Rattle.ioa_terms.specs.declared.name.Name.{Name}
 use Rattle.ioa_terms.specs.Bindings.{Bindings, same_name, lookup}
 use Rattle.ioa_terms.specs.PlainTerm as plain
 use Rattle.ioa_terms.specs.PlainTerm.{PlainTerm, PlainTerms, name, one, two, call, display, field, no_terms, term}
@@ -80,9 +81,9 @@ pub data FunctionIs : Function → List PlainShape → PlainShape → Type 0 whe
 
 -- the shapes of the names in view, as declared; the first of a name counts
 abbrev pub NameShapes : Type 0
-NameShapes = List (List ℕ × PlainShape)
+NameShapes = List (Name × PlainShape)
 
-abbrev pub shape_named : List ℕ → NameShapes → Option PlainShape
+abbrev pub shape_named : Name → NameShapes → Option PlainShape
 shape_named x [] = None
 shape_named x (n ∷ names) = if same_name x n.0 then Some n.1 else shape_named x names
 
@@ -134,5 +135,5 @@ abbrev mutual
 
 -- each value of an environment has the shape of its name
 abbrev pub IsShaped : NameShapes → Bindings → Type 0
-IsShaped names e = (x : List ℕ) (s : PlainShape) (v : Data) →
+IsShaped names e = (x : Name) (s : PlainShape) (v : Data) →
     shape_named x names ≡ Some s → lookup x e ≡ Some v → has_shape s v ≡ true

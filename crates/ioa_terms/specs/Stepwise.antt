@@ -1,23 +1,24 @@
 -- Evaluation step by step, each step checked when it is made (form). It is equal to the meaning, by a lemma.
-use Rattle.std.specs.Prelude.{ℕ, Bool, true, false, List, [], ◌∷◌, Option, Some, None, Result, Ok, Err}
+use Rattle.std.specs.Prelude.{Bool, true, false, List, [], ◌∷◌, Option, Some, None, Result, Ok, Err}
 use Rattle.std.specs.Option.{option_and_then}
 use Rattle.ioa_values.specs.Outcome.{and_then}
 use Rattle.ioa_values.specs.Data.{Data, number, truth, as_truth}
 use Rattle.ioa_operators.specs.Operators.{unary_value, binary_value, left_decision}
 use Rattle.ioa_operators.specs.Shapes.{PlainShape, display_value, field_value, with_field}
 use Rattle.ioa_operators.specs.RangeCheck.{range_check, checked_result}
+use Rattle.ioa_terms.specs.declared.name.Name.{Name}
+use Rattle.ioa_terms.specs.declared.name.Name.TheVariants.{Word}
 use Rattle.ioa_terms.specs.Bindings.{Bindings, lookup, put}
 use Rattle.ioa_terms.specs.Meaning.{named_call_value}
 use Rattle.ioa_terms.specs.Performance.{target_name, target_shape, updated_map, fitting_value}
 use Rattle.ioa_terms.specs.PlainTerm as plain
 use Rattle.ioa_terms.specs.PlainTerm.{PlainTerm, PlainTerms, name, one, two, call, display, field, no_terms, term}
 use Rattle.ioa_terms.specs.PlainTerm.{PlainTarget, variable, at_key, at_field}
-use Rattle.ioa_terms.specs.PlainTerm.{PlainStatement, PlainStatements, PlainArms, assign, branch, fire}
+use Rattle.ioa_terms.specs.PlainTerm.{PlainStatement, PlainStatements, PlainArms, assign, branch}
 use Rattle.ioa_terms.specs.PlainTerm.{no_statements, statement, no_arms, arm}
 use Rattle.ioa_operators.specs.declared.operator.BinaryOperator.{BinaryOperator}
 use Rattle.ioa_operators.specs.declared.shape.Shape.{Shape}
 use Rattle.ioa_operators.specs.declared.fault.TermFault.{TermFault}
-use Rattle.ioa_operators.specs.declared.fault.TermFault.TheVariants.{Undefined}
 
 -- what the left side decides, or else the operator with the result of the right side
 abbrev pub with_right : BinaryOperator → Data → Option Data → Result Data TermFault → Result Data TermFault
@@ -54,13 +55,13 @@ abbrev pub stepwise_assignment : {N : Type 0} →
 stepwise_assignment (variable x at d) t e = stepwise_answer t e
 stepwise_assignment (at_key x at d k) t e =
     and_then (stepwise_answer k e)
-    (λ i. and_then (stepwise_answer t e) (λ v. checked_result (option_and_then (updated_map i v) (lookup x e))))
+    (λ i. and_then (stepwise_answer t e) (λ v. checked_result (option_and_then (updated_map i v) (lookup (Word x) e))))
 stepwise_assignment (at_field x at d f) t e =
     and_then (stepwise_answer t e)
-    (λ v. checked_result (option_and_then (with_field d f v) (lookup x e)))
+    (λ v. checked_result (option_and_then (with_field d f v) (lookup (Word x) e)))
 
 -- the environment in which a variable has a new value; `Undefined (1)` if the value lacks the variable's shape
-abbrev pub put_fitting_value : List ℕ → PlainShape → Bindings → Data → Result Bindings TermFault
+abbrev pub put_fitting_value : Name → PlainShape → Bindings → Data → Result Bindings TermFault
 put_fitting_value x s e v = and_then (range_check [] (fitting_value s v)) (λ w. Ok (put x w e))
 
 -- one of two, by the result of a test
@@ -71,12 +72,11 @@ if_answered (Ok false) held other = other
 if_answered (Err f) held other = Err f
 
 abbrev mutual
-  -- the environment after one statement; a firing is no part of an effect
+  -- the environment after one statement
   pub stepwise_one : {N : Type 0} → PlainStatement N Shape → Bindings → Result Bindings TermFault
   stepwise_one (assign p t) e =
       and_then (stepwise_assignment p t e) (put_fitting_value (target_name p) (target_shape p) e)
   stepwise_one (branch arms rest) e = stepwise_choice arms (stepwise_all rest e) e
-  stepwise_one (fire kind action arguments) e = Err Undefined
 
   -- the environment after the first arm whose test is true, or the result of the rest if none is
   pub stepwise_choice : {N : Type 0} →

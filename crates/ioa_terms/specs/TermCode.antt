@@ -1,16 +1,17 @@
 -- How the logic stores terms and statements (form): as trees of numbers, no two alike. Names and displays are
 -- annotated with data that is stored in a way of its own.
 use Rattle.std.specs.Prelude.{◌≡◌, ℕ, List, Option, refl}
-use Rattle.std.specs.Coded.{coded_option}
+use Rattle.std.specs.Coded.{code_by, coded×, coded_option}
 use base.Stored.{Gv, gnil, gnum, gcons, Coded, coded_ℕ, coded_ℤ, coded_bool, coded_list}
 use Rattle.ioa_operators.specs.contracts.operator.UnaryOperator as unary
 use Rattle.ioa_operators.specs.contracts.operator.BinaryOperator as binary
 use Rattle.ioa_operators.specs.contracts.shape.DisplayForm as form
+use Rattle.ioa_terms.specs.contracts.name.Name as called
 use Rattle.ioa_terms.specs.contracts.tree.Kind as kind
 use Rattle.ioa_terms.specs.declared.tree.Kind.{Kind}
 use Rattle.ioa_terms.specs.PlainTerm.{PlainTerm, PlainTerms, PlainTarget, PlainStatement, PlainStatements, PlainArms}
 use Rattle.ioa_terms.specs.PlainTerm.{number, truth, name, one, two, call, display, field, no_terms, term}
-use Rattle.ioa_terms.specs.PlainTerm.{variable, at_key, at_field, assign, branch, fire}
+use Rattle.ioa_terms.specs.PlainTerm.{variable, at_key, at_field, assign, branch, PlainFiring, firing}
 use Rattle.ioa_terms.specs.PlainTerm.{no_statements, statement, no_arms, arm}
 
 abbrev word : Coded (List ℕ)
@@ -25,7 +26,7 @@ module _ {N D : Type 0} (n : Coded N) (d : Coded D) where
     pub term_stored : PlainTerm N D → Gv
     term_stored (number z) = gcons (gnum 0) (coded_ℤ.code z)
     term_stored (truth b) = gcons (gnum 1) (coded_bool.code b)
-    term_stored (name w x) = gcons (gnum 2) (gcons (word.code w) (n.code x))
+    term_stored (name w x) = gcons (gnum 2) (gcons (called.the_row.coded.code w) (n.code x))
     term_stored (one op a) = gcons (gnum 3) (gcons (unary.the_row.coded.code op) (term_stored a))
     term_stored (two op a b) =
         gcons (gnum 4) (gcons (binary.the_row.coded.code op) (gcons (term_stored a) (term_stored b)))
@@ -50,9 +51,9 @@ module _ {N D : Type 0} (n : Coded N) (d : Coded D) where
         let p : coded_bool.code a ≡ coded_bool.code b = cc in
         λ i. truth (coded_bool.inj a b p i)
     term_apart (name w x) (name v y) e =
-        let p : word.code w ≡ word.code v = cc in
+        let p : called.the_row.coded.code w ≡ called.the_row.coded.code v = cc in
         let q : n.code x ≡ n.code y = cc in
-        λ i. name (word.inj w v p i) (n.inj x y q i)
+        λ i. name (called.the_row.coded.inj w v p i) (n.inj x y q i)
     term_apart (one op a) (one oq b) e =
         let p : unary.the_row.coded.code op ≡ unary.the_row.coded.code oq = cc in
         let q : term_stored a ≡ term_stored b = cc in
@@ -121,16 +122,11 @@ module _ {N D : Type 0} (n : Coded N) (d : Coded D) where
   abbrev target_code : Coded (PlainTarget N D)
   target_code = record { code = target_stored; inj = target_apart }
 
-  abbrev list_code : Coded (List (PlainTerm N D))
-  list_code = coded_list term_code
-
   -- a statement as a tree
   mutual
     pub statement_stored : PlainStatement N D → Gv
     statement_stored (assign p t) = gcons (gnum 0) (gcons (target_code.code p) (term_code.code t))
     statement_stored (branch xs ss) = gcons (gnum 1) (gcons (arms_stored xs) (statements_stored ss))
-    statement_stored (fire k w ts) =
-        gcons (gnum 2) (gcons (maybe_kind.code k) (gcons (word.code w) (list_code.code ts)))
 
     pub statements_stored : PlainStatements N D → Gv
     statements_stored no_statements = gnil
@@ -153,11 +149,6 @@ module _ {N D : Type 0} (n : Coded N) (d : Coded D) where
         let p : arms_stored xs ≡ arms_stored ys = cc in
         let q : statements_stored ss ≡ statements_stored ts = cc in
         λ i. branch (arms_apart xs ys p i) (statements_apart ss ts q i)
-    statement_apart (fire k w ts) (fire l v us) e =
-        let p : maybe_kind.code k ≡ maybe_kind.code l = cc in
-        let q : word.code w ≡ word.code v = cc in
-        let r : list_code.code ts ≡ list_code.code us = cc in
-        λ i. fire (maybe_kind.inj k l p i) (word.inj w v q i) (list_code.inj ts us r i)
     statement_apart a b e = absurd (cc)
 
     statements_apart : (ss ts : PlainStatements N D) → statements_stored ss ≡ statements_stored ts → ss ≡ ts
@@ -180,3 +171,12 @@ module _ {N D : Type 0} (n : Coded N) (d : Coded D) where
   -- the code by which a proof tells statements apart
   abbrev pub statement_code : Coded (PlainStatement N D)
   statement_code = record { code = statement_stored; inj = statement_apart }
+
+  -- the code of a firing: a nest of pairs
+  abbrev pub firing_code : Coded (PlainFiring N D)
+  firing_code =
+      code_by (Option Kind × (List ℕ × List (PlainTerm N D)))
+      (coded× maybe_kind (coded× word (coded_list term_code)))
+      (λ f. (f.kind, (f.action, f.arguments)))
+      (λ t. firing t.0 t.1.0 t.1.1)
+      (λ _. refl)

@@ -1,11 +1,12 @@
 //! Environments in which terms are evaluated.
 
-ghost use Rattle.std.specs.Prelude.{◌≡◌, ◌++◌, slice_get, length};
+ghost use Rattle.std.specs.Prelude.{◌≡◌, ◌++◌, slice_get, length, map};
 ghost use Rattle.std.specs.Option.{option_map};
 ghost use Rattle.std.specs.List.{zip};
 ghost use Rattle.ioa_terms.specs.Bindings.{names_of, environment};
 ghost use Rattle.ioa_terms.specs.Slots.{slot_value};
 
+use crate::name::Name;
 use ioa_values::{Value, Word};
 use std::marker::Model;
 
@@ -21,16 +22,18 @@ pub struct Env<'a> {
 }
 
 impl<'a> Model for Env<'a> {
-    ghost use Rattle.std.specs.Prelude.{◌++◌};
+    ghost use Rattle.std.specs.Prelude.{◌++◌, map};
     ghost use Rattle.ioa_terms.specs.Bindings.{Bindings, environment};
-    ghost use Rattle.std.specs.Coded.{coded×, coded_ℕ, coded_list};
+    ghost use Rattle.ioa_terms.specs.declared.name.Name.TheVariants.{Word};
+    ghost use Rattle.ioa_terms.specs.contracts.name.Name as called;
+    ghost use Rattle.std.specs.Coded.{coded×, coded_list};
     ghost use Rattle.ioa_values.specs.DataCode.{data_code};
 
     ghost Value = { Bindings };
 
-    ghost coded = { coded_list (coded× (coded_list coded_ℕ) data_code) };
+    ghost coded = { coded_list (coded× called.the_row.coded data_code) };
 
-    ghost view = { λ e. environment e.names.now (e.values.now ++ e.given.now) e.constants.now };
+    ghost view = { λ e. environment (map Word e.names.now) (e.values.now ++ e.given.now) e.constants.now };
 }
 
 /// What is at a slot of an environment.
@@ -43,12 +46,13 @@ pub enum Slot<'a> {
 }
 
 impl<'a> Env<'a> {
-    /// The environment of these names and values, the first value under the first name. If there are more
-    /// names than values, or more values than names, the last ones are ignored. It has no constants.
+    /// The environment of variables with these names and values, the first value under the first name. If
+    /// there are more names than values, or more values than names, the last ones are ignored. It has no
+    /// constants.
     #[tactic(auto, using(crate::proofs::Slots::names_zip, crate::proofs::Slots::values_alone))]
     pub fn new(names: &'a [Word], values: &'a [Value]) -> Self
-        ensures value { result ≡ zip names.now values.now }
-        ensures names { length names.now ≡ length values.now → names_of result ≡ names.now }
+        ensures value { result ≡ zip (map Name.Word names.now) values.now }
+        ensures names { length names.now ≡ length values.now → names_of result ≡ map Name.Word names.now }
     {
         Env {
             names,
@@ -61,8 +65,9 @@ impl<'a> Env<'a> {
     /// The environment of these names and values, and of the text's constants behind them.
     #[tactic(auto, using(crate::proofs::Slots::names_environment, crate::proofs::Slots::none_given))]
     pub fn with_constants(names: &'a [Word], values: &'a [Value], constants: &'a [Word]) -> Self
-        ensures value { result ≡ environment names.now values.now constants.now }
-        ensures names { length names.now ≡ length values.now → names_of result ≡ names.now ++ constants.now }
+        ensures value { result ≡ environment (map Name.Word names.now) values.now constants.now }
+        ensures names { length names.now ≡ length values.now
+            → names_of result ≡ map Name.Word (names.now ++ constants.now) }
     {
         Env {
             names,
@@ -81,9 +86,9 @@ impl<'a> Env<'a> {
         given: &'a [Value],
         constants: &'a [Word],
     ) -> Self
-        ensures value { result ≡ environment names.now (values.now ++ given.now) constants.now }
+        ensures value { result ≡ environment (map Name.Word names.now) (values.now ++ given.now) constants.now }
         ensures names { length names.now ≡ length (values.now ++ given.now)
-            → names_of result ≡ names.now ++ constants.now }
+            → names_of result ≡ map Name.Word (names.now ++ constants.now) }
     {
         Env {
             names,

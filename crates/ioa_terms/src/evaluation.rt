@@ -12,6 +12,7 @@ ghost use Rattle.ioa_values.specs.Data.{is_within};
 ghost use Rattle.ioa_terms.specs.View.{term_of};
 
 use crate::environment::{Env, Slot};
+use crate::name::Name;
 use crate::tree::Checked;
 use ioa_operators::{Function, TermFault, binary, call, display, field, left_decision, unary};
 use ioa_values::{Value, Word};
@@ -92,18 +93,20 @@ fn evaluate_all_stepwise(
 }
 
 /// The value of a name, for a term.
-fn read_name(alloc: Global, env: &Env, name: &Word, slot: usize) -> Result<Value, TermFault>
+fn read_name(alloc: Global, env: &Env, name: &Name, slot: usize) -> Result<Value, TermFault>
     requires { slot_in name.now (names_of env.now) ≡ Some slot }
     ensures { Answers TermFault.Memory (λ v. v) result (checked_result (lookup name.now env.now)) }
 {
-    read(alloc, env, name, slot)
+    match name {
+        Name::Word(word) => read(alloc, env, word, slot),
+    }
 }
 
-/// A copy of the value of a name, which is at its slot.
+/// A copy of the value of a word, which is at its slot.
 #[tactic(auto, using(crate::proofs::Slots::lookup_slot))]
 pub(crate) fn read(alloc: Global, env: &Env, name: &Word, slot: usize) -> Result<Value, TermFault>
-    requires { slot_in name.now (names_of env.now) ≡ Some slot }
-    ensures value { Answers TermFault.Memory (λ v. v) result (range_check [] (lookup name.now env.now)) }
+    requires { slot_in (Name.Word name.now) (names_of env.now) ≡ Some slot }
+    ensures value { Answers TermFault.Memory (λ v. v) result (range_check [] (lookup (Name.Word name.now) env.now)) }
     ensures within { IfOk result (λ v. is_within v ≡ true) }
 {
     match env.get(slot) {

@@ -7,6 +7,7 @@ ghost use Rattle.ioa_operators.specs.Operators.{unary_value, binary_value, call_
 ghost use Rattle.ioa_operators.specs.Shapes.{PlainShape, shapes_of, wide_shape, has_shape, have_shapes};
 ghost use Rattle.ioa_operators.specs.Shapes.{display_value, field_value};
 ghost use Rattle.ioa_values.specs.Canonical.{IsCanonical};
+ghost use Rattle.ioa_terms.specs.declared.name.Name.{Name};
 ghost use Rattle.ioa_terms.specs.Bindings.{Bindings, same_name, lookup, put};
 ghost use Rattle.ioa_terms.specs.Meaning.{value};
 ghost use Rattle.ioa_terms.specs.PlainTerm.{PlainTerm, PlainStatement};
@@ -48,7 +49,7 @@ pub fn ascending_law()
 
 /// An assignment changes the value of its name, if it has one, and that of no other name.
 pub fn put_law()
-    ensures { (x y : List ℕ) (v : Data) (e : Bindings) →
+    ensures { (x y : Name) (v : Data) (e : Bindings) →
         lookup y (put x v e) ≡ (if same_name y x then option_map (λ w. v) (lookup x e) else lookup y e) }
 {}
 

@@ -4,6 +4,7 @@
 mod environment;
 mod evaluation;
 mod laws;
+mod name;
 mod performance;
 mod same;
 mod tree;
@@ -15,6 +16,10 @@ pub use ioa_operators::{
 };
 pub use ioa_values::{Names, Value, Word, show};
 pub use laws::{ascending_law, defined_law, put_law, shapes_law};
+pub use name::Name;
 pub use performance::perform;
-pub use same::{are_same_statements, are_same_terms, is_same_statement, is_same_term};
-pub use tree::{Arm, Checked, Kind, Statement, Target, Term, Tree};
+pub use same::{
+    are_same_firings, are_same_statements, are_same_terms, is_same_firing, is_same_statement,
+    is_same_term,
+};
+pub use tree::{Arm, Checked, Firing, Kind, Statement, Target, Term, Tree};

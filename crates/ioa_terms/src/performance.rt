@@ -16,7 +16,8 @@ ghost use Rattle.ioa_terms.specs.View.{statement_of, target_of, term_of};
 
 use crate::environment::Env;
 use crate::evaluation::{evaluate_stepwise, read};
-use crate::tree::{Arm, Checked, Statement, Target};
+use crate::name::Name;
+use crate::tree::{Checked, Statement, Target};
 use ioa_operators::{Function, Shape, TermFault, call, replace_field};
 use ioa_values::{Value, Word};
 use std::alloc::Global;
@@ -26,9 +27,8 @@ use std::mem;
 /// the names of the values, in the same order; `constants` are those of the text's constants, which
 /// terms may read too. The first fault is returned, and the values are dropped then: `Undefined (1)` if a
 /// term has no value, a test has no truth value, or a new value has not the variable's shape, `Range (2)`
-/// if a number lies outside 64 bits, an intermediate one too, and `Memory (3)` if no memory is left. A
-/// firing is no part of an effect: it is `Undefined (1)`. Costs time in proportion to the statements
-/// performed and to the values that they read and make.
+/// if a number lies outside 64 bits, an intermediate one too, and `Memory (3)` if no memory is left. Costs
+/// time in proportion to the statements performed and to the values that they read and make.
 #[tactic(auto, using(crate::proofs::Performed::stepwise_by_is, crate::proofs::Performed::all_resolved))]
 pub fn perform(
     alloc: Global,
@@ -37,10 +37,12 @@ pub fn perform(
     constants: &[Word],
     values: Vec<Value>,
 ) -> Result<Vec<Value>, TermFault>
-    requires resolved { AreResolved (map statement_of statements.now) names.now (names.now ++ constants.now) }
+    requires resolved { AreResolved (map statement_of statements.now)
+        (map Name.Word names.now) (map Name.Word (names.now ++ constants.now)) }
     requires named { length names.now ≡ length values.items }
-    ensures after { Answers TermFault.Memory (λ vs. environment names.now vs.items constants.now) result
-        (answer_by (map statement_of statements.now) (environment names.now values.items constants.now)) }
+    ensures after { Answers TermFault.Memory (λ vs. environment (map Name.Word names.now) vs.items constants.now) result
+        (answer_by (map statement_of statements.now)
+        (environment (map Name.Word names.now) values.items constants.now)) }
     ensures named { IfOk result (λ vs. length names.now ≡ length vs.items) }
 {
     perform_all(alloc, statements, names, constants, values)
@@ -56,11 +58,11 @@ fn perform_all(
     mut values: Vec<Value>,
 ) -> Result<Vec<Value>, TermFault>
     requires resolved { AreAllResolved (statements_of (map statement_of statements.now))
-        names.now (names.now ++ constants.now) }
+        (map Name.Word names.now) (map Name.Word (names.now ++ constants.now)) }
     requires named { length names.now ≡ length values.items }
-    ensures after { Answers TermFault.Memory (λ vs. environment names.now vs.items constants.now) result
+    ensures after { Answers TermFault.Memory (λ vs. environment (map Name.Word names.now) vs.items constants.now) result
         (stepwise_all (statements_of (map statement_of statements.now))
-        (environment names.now values.items constants.now)) }
+        (environment (map Name.Word names.now) values.items constants.now)) }
     ensures named { IfOk result (λ vs. length names.now ≡ length vs.items) }
 {
     for statement in statements {
@@ -78,10 +80,11 @@ fn perform_one(
     constants: &[Word],
     values: Vec<Value>,
 ) -> Result<Vec<Value>, TermFault>
-    requires resolved { IsResolvedStatement (statement_of statement.now) names.now (names.now ++ constants.now) }
+    requires resolved { IsResolvedStatement (statement_of statement.now)
+        (map Name.Word names.now) (map Name.Word (names.now ++ constants.now)) }
     requires named { length names.now ≡ length values.items }
-    ensures after { Answers TermFault.Memory (λ vs. environment names.now vs.items constants.now) result
-        (stepwise_one (statement_of statement.now) (environment names.now values.items constants.now)) }
+    ensures after { Answers TermFault.Memory (λ vs. environment (map Name.Word names.now) vs.items constants.now) result
+        (stepwise_one (statement_of statement.now) (environment (map Name.Word names.now) values.items constants.now)) }
     ensures named { IfOk result (λ vs. length names.now ≡ length vs.items) }
 {
     match statement {
@@ -94,7 +97,6 @@ fn perform_one(
             }
             perform_all(alloc, rest, names, constants, values)
         }
-        Statement::Fire(_, _, _) => Err(TermFault::Undefined),
     }
 }
 
@@ -106,10 +108,10 @@ fn holds(
     constants: &[Word],
     values: &[Value],
 ) -> Result<bool, TermFault>
-    requires resolved { IsResolved (term_of test.now) (names.now ++ constants.now) }
+    requires resolved { IsResolved (term_of test.now) (map Name.Word (names.now ++ constants.now)) }
     requires named { length names.now ≡ length values.now }
     ensures { Answers TermFault.Memory (λ b. b) result
-        (stepwise_test (term_of test.now) (environment names.now values.now constants.now)) }
+        (stepwise_test (term_of test.now) (environment (map Name.Word names.now) values.now constants.now)) }
 {
     let value = evaluate_stepwise(alloc, test, &Env::with_constants(names, values, constants))?;
     match value.as_truth() {
@@ -129,11 +131,11 @@ fn assign(
     values: Vec<Value>,
 ) -> Result<Vec<Value>, TermFault>
     requires resolved { IsResolvedStatement (assign (target_of target.now) (term_of term.now))
-        names.now (names.now ++ constants.now) }
+        (map Name.Word names.now) (map Name.Word (names.now ++ constants.now)) }
     requires named { length names.now ≡ length values.items }
-    ensures after { Answers TermFault.Memory (λ vs. environment names.now vs.items constants.now) result
+    ensures after { Answers TermFault.Memory (λ vs. environment (map Name.Word names.now) vs.items constants.now) result
         (stepwise_one (assign (target_of target.now) (term_of term.now))
-        (environment names.now values.items constants.now)) }
+        (environment (map Name.Word names.now) values.items constants.now)) }
     ensures named { IfOk result (λ vs. length names.now ≡ length vs.items) }
 {
     let value = assignment_value(
@@ -183,11 +185,11 @@ fn assignment_value_at_key(
     term: &Checked,
     env: &Env,
 ) -> Result<Value, TermFault>
-    requires target { slot_in name.now (names_of env.now) ≡ Some at }
+    requires target { slot_in (Name.Word name.now) (names_of env.now) ≡ Some at }
     requires term { IsResolved (term_of term.now) (names_of env.now) }
     ensures { Answers TermFault.Memory (λ v. v) result
         (and_then (stepwise_answer (term_of term.now) env.now)
-        (λ v. checked_result (option_and_then (updated_map key v) (lookup name.now env.now)))) }
+        (λ v. checked_result (option_and_then (updated_map key v) (lookup (Name.Word name.now) env.now)))) }
 {
     let value = evaluate_stepwise(alloc, term, env)?;
     update(alloc, name, at, key, value, env)
@@ -202,9 +204,9 @@ fn update(
     value: Value,
     env: &Env,
 ) -> Result<Value, TermFault>
-    requires { slot_in name.now (names_of env.now) ≡ Some at }
+    requires { slot_in (Name.Word name.now) (names_of env.now) ≡ Some at }
     ensures { Answers TermFault.Memory (λ v. v) result
-        (checked_result (option_and_then (updated_map key value) (lookup name.now env.now))) }
+        (checked_result (option_and_then (updated_map key value) (lookup (Name.Word name.now) env.now))) }
 {
     let map = read(alloc, env, name, at)?;
     let mut parts = Vec::new(alloc);
@@ -224,9 +226,10 @@ fn replace(
     value: Value,
     env: &Env,
 ) -> Result<Value, TermFault>
-    requires { slot_in name.now (names_of env.now) ≡ Some at }
+    requires { slot_in (Name.Word name.now) (names_of env.now) ≡ Some at }
     ensures { Answers TermFault.Memory (λ v. v) result
-        (checked_result (option_and_then (with_field shape.now field.now value) (lookup name.now env.now))) }
+        (checked_result (option_and_then (with_field shape.now field.now value)
+        (lookup (Name.Word name.now) env.now))) }
 {
     let whole = read(alloc, env, name, at)?;
     replace_field(shape, field, value, whole)
@@ -243,10 +246,11 @@ fn put(
     constants: &[Word],
     mut values: Vec<Value>,
 ) -> Result<Vec<Value>, TermFault>
-    requires resolved { slot_in name.now names.now ≡ Some at }
+    requires resolved { slot_in (Name.Word name.now) (map Name.Word names.now) ≡ Some at }
     requires named { length names.now ≡ length values.items }
-    ensures after { Answers TermFault.Memory (λ vs. environment names.now vs.items constants.now) result
-        (put_fitting_value name.now shape.now (environment names.now values.items constants.now) value) }
+    ensures after { Answers TermFault.Memory (λ vs. environment (map Name.Word names.now) vs.items constants.now) result
+        (put_fitting_value (Name.Word name.now) shape.now
+        (environment (map Name.Word names.now) values.items constants.now) value) }
     ensures named { IfOk result (λ vs. length names.now ≡ length vs.items) }
 {
     if shape.admits(&value) {

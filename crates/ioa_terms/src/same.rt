@@ -1,12 +1,13 @@
-//! Whether two terms, targets or statements are the same, whatever memory they are kept in.
+//! Whether two terms, targets, statements or firings are the same, whatever memory they are kept in.
 
 ghost use Rattle.std.specs.Prelude.{◌≡◌, ◌↔◌, ◌&&◌, IsTrue, map};
 ghost use Rattle.ioa_terms.specs.PlainTerm.{terms_of, statements_of, arms_of};
 ghost use Rattle.ioa_terms.specs.SameTerms.{same_term, same_terms, same_target};
-ghost use Rattle.ioa_terms.specs.SameTerms.{same_statement, same_statements, same_arms};
-ghost use Rattle.ioa_terms.specs.View.{term_of, target_of, statement_of, arm_of};
+ghost use lib.Pointwise.{pointwise};
+ghost use Rattle.ioa_terms.specs.SameTerms.{same_statement, same_statements, same_arms, same_firing};
+ghost use Rattle.ioa_terms.specs.View.{term_of, target_of, statement_of, arm_of, firing_of};
 
-use crate::tree::{Arm, Statement, Target, Tree};
+use crate::tree::{Arm, Firing, Statement, Target, Tree};
 use ioa_operators::Shape;
 
 impl Tree<usize, Shape> {
@@ -24,6 +25,15 @@ impl Statement<usize, Shape> {
         ensures equality { IsTrue result ↔ (statement_of self.now ≡ statement_of other.now) }
     {
         is_same_statement(self, other)
+    }
+}
+
+impl Firing<usize, Shape> {
+    /// Whether two firings are the same. Costs time in proportion to the shorter one.
+    pub fn equals(&self, other: &Self) -> bool
+        ensures equality { IsTrue result ↔ (firing_of self.now ≡ firing_of other.now) }
+    {
+        is_same_firing(self, other)
     }
 }
 
@@ -97,9 +107,6 @@ pub fn is_same_statement<N: PartialEq, D: PartialEq>(
         (Statement::If(xs, ss), Statement::If(ys, ts)) => {
             are_same_arms(xs, ys) && are_same_statements(ss, ts)
         }
-        (Statement::Fire(k, w, ts), Statement::Fire(l, v, us)) => {
-            k == l && (w == v && are_same_terms(ts, us))
-        }
         _ => false,
     }
 }
@@ -142,4 +149,31 @@ fn is_same_arm<N: PartialEq, D: PartialEq>(arm: &Arm<N, D>, other: &Arm<N, D>) -
         && same_statements N.eq D.eq (arm_of arm.now).1 (arm_of other.now).1) }
 {
     is_same_term(&arm.test, &other.test) && are_same_statements(&arm.body, &other.body)
+}
+
+/// Whether two firings are the same, by the tests of their annotations.
+pub fn is_same_firing<N: PartialEq, D: PartialEq>(
+    firing: &Firing<N, D>,
+    other: &Firing<N, D>,
+) -> bool
+    ensures { result ≡ same_firing N.eq D.eq (firing_of firing.now) (firing_of other.now) }
+{
+    firing.kind == other.kind
+        && (firing.action == other.action && are_same_terms(&firing.arguments, &other.arguments))
+}
+
+/// Whether firings are the same, one by one, and as many.
+pub fn are_same_firings<N: PartialEq, D: PartialEq>(
+    firings: &Vec<Firing<N, D>>,
+    others: &Vec<Firing<N, D>>,
+) -> bool
+    ensures { result ≡ pointwise (same_firing N.eq D.eq) (map firing_of firings.now.items)
+        (map firing_of others.now.items) }
+{
+    for position in 0..firings.len().min(others.len()) {
+        if !is_same_firing(&firings[position], &others[position]) {
+            return false;
+        }
+    }
+    firings.len() == others.len()
 }

@@ -1,5 +1,6 @@
 //! Terms and statements as trees, with annotations beside names and displays.
 
+use crate::name::Name;
 use ioa_operators::{BinaryOperator, DisplayForm, Shape, UnaryOperator};
 use ioa_values::Word;
 
@@ -23,8 +24,8 @@ pub enum Tree<N, D> {
     Number(i64),
     /// `true` or `false`.
     Truth(bool),
-    /// A parameter, a variable or a constant.
-    Name(Word, N),
+    /// What a name has.
+    Name(Name, N),
     /// An operator before a term.
     One(UnaryOperator, Box<Tree<N, D>>),
     /// An operator between two terms, the left one first.
@@ -64,7 +65,7 @@ pub struct Arm<N, D> {
     pub body: Vec<Statement<N, D>>,
 }
 
-/// A statement of an effect or of a schedule block (profile).
+/// A statement of an effect (profile).
 #[cycle(statement)]
 #[derive(Drop)]
 pub enum Statement<N, D> {
@@ -72,6 +73,15 @@ pub enum Statement<N, D> {
     Assign(Target<N, D>, Tree<N, D>),
     /// `if t then s elseif u then s else s fi`: the first arm whose test is true, or the rest.
     If(Vec<Arm<N, D>>, Vec<Statement<N, D>>),
-    /// `fire a(t, u)`, in schedule blocks alone, with the action's kind if it is written.
-    Fire(Option<Kind>, Word, Vec<Tree<N, D>>),
+}
+
+/// `fire a(t, u)`, a statement of a schedule block (profile).
+#[derive(Drop)]
+pub struct Firing<N, D> {
+    /// The kind of the action, if it is written.
+    pub kind: Option<Kind>,
+    /// The name of the action.
+    pub action: Word,
+    /// The terms of its arguments.
+    pub arguments: Vec<Tree<N, D>>,
 }

@@ -7,7 +7,7 @@ use Rattle.ioa_terms.specs.declared.tree.Kind.{Kind}
 use Rattle.ioa_terms.specs.PlainTerm as plain
 use Rattle.ioa_source.specs.PlainSort.{PlainSort}
 use Rattle.ioa_source.specs.PlainText as declarations
-use Rattle.ioa_source.specs.Sides.{SourceTerm as Term, SourceStatement as Statement, SourceDeclared as Declared, SourceEntry as Entry, SourceVariable as Variable, SourceTransition as Transition, SourceForm as Form, SourceType as TypeOf, SourceAutomaton as Automaton, SourceDeclaration as Declaration, SourceNode as Node, SourcePlacement as Placement, SourceText}
+use Rattle.ioa_source.specs.Sides.{SourceTerm as Term, SourceStatement as Statement, SourceFiring as Firing, SourceDeclared as Declared, SourceEntry as Entry, SourceVariable as Variable, SourceTransition as Transition, SourceForm as Form, SourceType as TypeOf, SourceAutomaton as Automaton, SourceDeclaration as Declaration, SourceNode as Node, SourcePlacement as Placement, SourceText}
 use Rattle.ioa_cursor.specs.Lists.{Several, SeparatedBy, SeparatedOrEndedBy, Section, Optional, SeveralLists}
 use Rattle.ioa_cursor.specs.Reading.{bind, choose, skip, expect, word, number, at, peek_mark, end}
 use Rattle.ioa_cursor.proofs.Steps.{read_next, stays}
@@ -33,8 +33,8 @@ variable_with w s i = record { declared = record { name = w; sort = s; shape = t
 abbrev transition_with : Kind → Call → Option Term → List Statement → Transition
 transition_with k c g ss = record { kind = k; name = c.name; arguments = c.arguments; pre = g; effect = ss }
 
-abbrev automaton_with : List ℕ → List Declared → List Entry → List Variable → List Transition → List Statement → Automaton
-automaton_with w ds es vs ts ss = record { name = w; parameters = ds; signature = es; states = vs; transitions = ts; schedule = ss }
+abbrev automaton_with : List ℕ → List Declared → List Entry → List Variable → List Transition → List Firing → Automaton
+automaton_with w ds es vs ts fs = record { name = w; parameters = ds; signature = es; states = vs; transitions = ts; schedule = fs }
 
 abbrev type_with : List ℕ → Form → TypeOf
 type_with w f = record { name = w; form = f }
@@ -115,12 +115,12 @@ transitions_part_complete ts xs ys d h =
 
 -- schedules
 
-firing_read : (c : Call) (xs ys : List Token) → at_kind xs ≡ false → reading.call xs ≡ read_next c ys → reading.firing (token.Mark mark.Fire ∷ xs) ≡ read_next (plain.fire None c.name c.arguments) ys
+firing_read : (c : Call) (xs ys : List Token) → at_kind xs ≡ false → reading.call xs ≡ read_next c ys → reading.firing (token.Mark mark.Fire ∷ xs) ≡ read_next (plain.firing None c.name c.arguments) ys
 unfolding reading.firing expect skip bind choose
 firing_read c xs ys e f = rw e (rw f refl)
 
 kind_firing_read : (k : Kind) (c : Call) (xs ys zs : List Token) → at_kind xs ≡ true → reading.kind xs ≡ read_next k ys → reading.call ys ≡ read_next c zs →
-    reading.firing (token.Mark mark.Fire ∷ xs) ≡ read_next (plain.fire (Some k) c.name c.arguments) zs
+    reading.firing (token.Mark mark.Fire ∷ xs) ≡ read_next (plain.firing (Some k) c.name c.arguments) zs
 unfolding reading.firing expect skip bind choose
 kind_firing_read k c xs ys zs e f g = rw e (rw f (rw g refl))
 
@@ -128,44 +128,44 @@ call_no_kind : (c : Call) (xs ys : List Token) → SpellsCall c xs ys → at_kin
 unfolding at_kind kind_first peek_mark bind
 call_no_kind _ _ _ (grammar.called d) = refl
 
-firing_complete : (x : Statement) (xs ys : List Token) → SpellsFire x xs ys → level ys < 14 → reading.firing xs ≡ read_next x ys
+firing_complete : (x : Firing) (xs ys : List Token) → SpellsFire x xs ys → level ys < 14 → reading.firing xs ≡ read_next x ys
 firing_complete _ _ ys (grammar.firing {call = c} {xs = xs} d) h = firing_read c xs ys (call_no_kind c xs ys d) (call_complete c xs ys d h)
 firing_complete _ _ zs (grammar.kind_firing {k = k} {call = c} {xs = xs} {ys = ys} kd d) h =
     kind_firing_read k c xs ys zs (kind_begins k xs ys kd) (kind_complete k xs ys kd) (call_complete c ys zs d h)
 
-firing_begins : (x : Statement) (xs ys : List Token) → SpellsFire x xs ys → at mark.Fire xs ≡ true
+firing_begins : (x : Firing) (xs ys : List Token) → SpellsFire x xs ys → at mark.Fire xs ≡ true
 unfolding at
 firing_begins _ _ _ (grammar.firing d) = refl
 firing_begins _ _ _ (grammar.kind_firing kd d) = refl
 
-firing_not_over : (x : Statement) (xs ys : List Token) → SpellsFire x xs ys → at mark.Od xs ≡ false
+firing_not_over : (x : Firing) (xs ys : List Token) → SpellsFire x xs ys → at mark.Od xs ≡ false
 unfolding at
 firing_not_over _ _ _ (grammar.firing d) = refl
 firing_not_over _ _ _ (grammar.kind_firing kd d) = refl
 
-firings_complete : (ss : List Statement) (xs ys : List Token) → SeparatedOrEndedBy mark.Semicolon SpellsFire ss xs ys → level ys < 11 → reading.firings xs ≡ read_next ss ys
+firings_complete : (fs : List Firing) (xs ys : List Token) → SeparatedOrEndedBy mark.Semicolon SpellsFire fs xs ys → level ys < 11 → reading.firings xs ≡ read_next fs ys
 unfolding reading.firings
-firings_complete ss xs ys d h =
-    ended_complete (Below 14) SpellsFire reading.firing firing_complete firing_shorter mark.Semicolon (at mark.Fire) firing_begins (λ zs. omega arith) ss xs ys d (omega arith)
+firings_complete fs xs ys d h =
+    ended_complete (Below 14) SpellsFire reading.firing firing_complete firing_shorter mark.Semicolon (at mark.Fire) firing_begins (λ zs. omega arith) fs xs ys d (omega arith)
     (at_below mark.Semicolon ys h) (at_below mark.Fire ys h)
 
 idle_block : (xs : List Token) → reading.block (token.Mark mark.Do ∷ token.Mark mark.Od ∷ xs) ≡ read_next [] xs
 unfolding reading.block expect skip bind choose
 idle_block xs = refl
 
-busy_block : (ss : List Statement) (xs ys : List Token) → skip mark.Od xs ≡ stays false xs → reading.firings xs ≡ read_next ss (token.Mark mark.Od ∷ ys) →
-    reading.block (token.Mark mark.Do ∷ xs) ≡ read_next ss ys
+busy_block : (fs : List Firing) (xs ys : List Token) → skip mark.Od xs ≡ stays false xs → reading.firings xs ≡ read_next fs (token.Mark mark.Od ∷ ys) →
+    reading.block (token.Mark mark.Do ∷ xs) ≡ read_next fs ys
 unfolding reading.block expect bind choose
-busy_block ss xs ys e f = rw (skip_same mark.Do xs) (rw e (rw f (rw (skip_same mark.Od ys) refl)))
+busy_block fs xs ys e f = rw (skip_same mark.Do xs) (rw e (rw f (rw (skip_same mark.Od ys) refl)))
 
-block_complete : (ss : List Statement) (xs ys : List Token) → SpellsBlock ss xs ys → level ys < 14 → reading.block xs ≡ read_next ss ys
+block_complete : (fs : List Firing) (xs ys : List Token) → SpellsBlock fs xs ys → level ys < 14 → reading.block xs ≡ read_next fs ys
 block_complete _ _ ys grammar.idle h = idle_block ys
-block_complete ss _ ys (grammar.busy {xs = xs} d) h =
-    busy_block ss xs ys (skip_other mark.Od xs (ended_starts (λ us. at mark.Od us ≡ false) SpellsFire firing_not_over d)) (firings_complete ss xs _ d (omega arith))
+block_complete fs _ ys (grammar.busy {xs = xs} d) h =
+    busy_block fs xs ys (skip_other mark.Od xs (ended_starts (λ us. at mark.Od us ≡ false) SpellsFire firing_not_over d)) (firings_complete fs xs _ d (omega arith))
 
-schedule_complete : (ss : List Statement) (xs ys : List Token) → Section mark.Schedule SpellsBlock ss xs ys → level ys < 4 → reading.schedule_part xs ≡ read_next ss ys
+schedule_complete : (fs : List Firing) (xs ys : List Token) → Section mark.Schedule SpellsBlock fs xs ys → level ys < 4 → reading.schedule_part xs ≡ read_next fs ys
 unfolding reading.schedule_part
-schedule_complete ss xs ys d h = section_complete (Below 14) SpellsBlock reading.block block_complete mark.Schedule ss xs ys d (omega arith) (at_below mark.Schedule ys h)
+schedule_complete fs xs ys d h = section_complete (Below 14) SpellsBlock reading.block block_complete mark.Schedule fs xs ys d (omega arith) (at_below mark.Schedule ys h)
 
 -- automata
 
@@ -182,11 +182,11 @@ head_complete : (ds : List Declared) (xs ys : List Token) → SpellsHead ds xs y
 head_complete _ _ ys grammar.no_parameters h = no_head ys (skip_below mark.OpenRound ys h)
 head_complete ds _ ys (grammar.parameters {xs = xs} d) h = some_head ds xs ys (declared_names_complete inner_limit ds xs _ d (omega arith))
 
-automaton_read : (w : List ℕ) (ds : List Declared) (es : List Entry) (vs : List Variable) (ts : List Transition) (ss : List Statement) (xs os ps qs rs ys : List Token) →
+automaton_read : (w : List ℕ) (ds : List Declared) (es : List Entry) (vs : List Variable) (ts : List Transition) (fs : List Firing) (xs os ps qs rs ys : List Token) →
     reading.head xs ≡ read_next ds os → reading.signature_part os ≡ read_next es ps → reading.states_part ps ≡ read_next vs qs → reading.transitions_part qs ≡ read_next ts rs →
-    reading.schedule_part rs ≡ read_next ss ys → reading.automaton (token.Word w ∷ xs) ≡ read_next (automaton_with w ds es vs ts ss) ys
+    reading.schedule_part rs ≡ read_next fs ys → reading.automaton (token.Word w ∷ xs) ≡ read_next (automaton_with w ds es vs ts fs) ys
 unfolding reading.automaton word bind
-automaton_read w ds es vs ts ss xs os ps qs rs ys e f i j k = rw e (rw f (rw i (rw j (rw k refl))))
+automaton_read w ds es vs ts fs xs os ps qs rs ys e f i j k = rw e (rw f (rw i (rw j (rw k refl))))
 
 declared_automaton : (a : Automaton) (xs ys : List Token) → reading.automaton xs ≡ read_next a ys → reading.declaration (token.Mark mark.Automaton ∷ xs) ≡ read_next (declarations.automaton a) ys
 unfolding reading.declaration expect skip bind choose
@@ -216,14 +216,14 @@ type_read w f xs ys e = rw e refl
 
 declaration_complete : (x : Declaration) (xs ys : List Token) → SpellsDeclaration x xs ys → level ys < 4 → reading.declaration xs ≡ read_next x ys
 declaration_complete _ _ ys (grammar.type_form {w = w} {f = f} {xs = xs} d) h = type_read w f xs ys (form_complete f xs ys d (omega arith))
-declaration_complete _ _ ys (grammar.automaton_parts {w = w} {head = ds} {entries = es} {variables = vs} {transitions = ts} {block = ss} {xs = xs} {os = os} {ps = ps} {qs = qs} {rs = rs} hd ed vd td sd) h =
-    let a = section_starts (Below 5) mark.Schedule SpellsBlock (λ zs. omega arith) ss rs ys sd (omega arith) in
+declaration_complete _ _ ys (grammar.automaton_parts {w = w} {head = ds} {entries = es} {variables = vs} {transitions = ts} {block = fs} {xs = xs} {os = os} {ps = ps} {qs = qs} {rs = rs} hd ed vd td sd) h =
+    let a = section_starts (Below 5) mark.Schedule SpellsBlock (λ zs. omega arith) fs rs ys sd (omega arith) in
     let b = section_starts (Below 6) mark.Transitions (Several SpellsTransition) (λ zs. omega arith) ts qs rs td (omega arith) in
     let c = section_starts (Below 7) mark.States (SeparatedBy mark.Comma SpellsVariable) (λ zs. omega arith) vs ps qs vd (omega arith) in
     let e = section_starts (Below 14) mark.Signature (SeveralLists SpellsGroup) (λ zs. omega arith) es os ps ed (omega arith) in
-    declared_automaton (automaton_with w ds es vs ts ss) (token.Word w ∷ xs) ys
-    (automaton_read w ds es vs ts ss xs os ps qs rs ys (head_complete ds xs os hd e) (signature_complete es os ps ed c) (states_complete vs ps qs vd b) (transitions_part_complete ts qs rs td a)
-    (schedule_complete ss rs ys sd h))
+    declared_automaton (automaton_with w ds es vs ts fs) (token.Word w ∷ xs) ys
+    (automaton_read w ds es vs ts fs xs os ps qs rs ys (head_complete ds xs os hd e) (signature_complete es os ps ed c) (states_complete vs ps qs vd b) (transitions_part_complete ts qs rs td a)
+    (schedule_complete fs rs ys sd h))
 
 declaration_begins : (x : Declaration) (xs ys : List Token) → SpellsDeclaration x xs ys → at_declaration xs ≡ true
 unfolding at_declaration at

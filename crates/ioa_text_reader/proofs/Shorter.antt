@@ -4,7 +4,7 @@ use Rattle.ioa_tokens.specs.declared.token.Token.{Token}
 use Rattle.ioa_tokens.specs.declared.mark.Mark.TheVariants as mark
 use Rattle.ioa_terms.specs.declared.tree.Kind.{Kind}
 use Rattle.ioa_source.specs.PlainSort.{PlainSort}
-use Rattle.ioa_source.specs.Sides.{SourceTerm as Term, SourceTarget as Target, SourceStatement as Statement, SourceStatements as Statements, SourceArms as Arms, SourceDeclared as Declared, SourceParameter as Parameter, SourceEntry as Entry, SourceVariable as Variable, SourceTransition as Transition, SourceForm as Form, SourceDeclaration as Declaration, SourcePlacement as Placement}
+use Rattle.ioa_source.specs.Sides.{SourceTerm as Term, SourceTarget as Target, SourceStatement as Statement, SourceStatements as Statements, SourceArms as Arms, SourceFiring as Firing, SourceDeclared as Declared, SourceParameter as Parameter, SourceEntry as Entry, SourceVariable as Variable, SourceTransition as Transition, SourceForm as Form, SourceDeclaration as Declaration, SourcePlacement as Placement}
 use Rattle.ioa_cursor.specs.Lists.{Several, SeparatedBy, ListsSeparatedBy, SeveralLists}
 use Rattle.ioa_cursor.proofs.Shorter.{several_shorter, separated_shorter, ended_shorter, gathered_shorter, gathered_several_shorter, section_shorter, optional_shorter}
 use Rattle.ioa_term_reader.specs.Grammar.{SpellsTerm, bracket_limit}
@@ -117,11 +117,11 @@ transition_shorter _ _ _ (grammar.transition k h g e) =
     let d = section_shorter SpellsEffect effect_shorter e in
     omega arith
 
-pub firing_shorter : (s : Statement) (xs ys : List Token) → SpellsFire s xs ys → length ys < length xs
+pub firing_shorter : (f : Firing) (xs ys : List Token) → SpellsFire f xs ys → length ys < length xs
 firing_shorter _ _ _ (grammar.firing d) = let a = call_shorter _ _ _ d in omega arith
 firing_shorter _ _ _ (grammar.kind_firing k d) = let a = kind_shorter _ _ _ k in let b = call_shorter _ _ _ d in omega arith
 
-block_shorter : (ss : List Statement) (xs ys : List Token) → SpellsBlock ss xs ys → length ys ≤ length xs
+block_shorter : (fs : List Firing) (xs ys : List Token) → SpellsBlock fs xs ys → length ys ≤ length xs
 block_shorter _ _ _ grammar.idle = omega arith
 block_shorter _ _ _ (grammar.busy d) = let a = ended_shorter SpellsFire firing_shorter d in omega arith
 

@@ -5,7 +5,7 @@ use Rattle.ioa_tokens.specs.declared.token.Token.{Token}
 use Rattle.ioa_tokens.specs.declared.token.Token.TheVariants as token
 use Rattle.ioa_tokens.specs.declared.mark.Mark.TheVariants as mark
 use Rattle.ioa_source.specs.PlainText.{type_named, automaton, node}
-use Rattle.ioa_source.specs.Sides.{SourceTerm as Term, SourceStatement as Statement, SourceDeclared as Declared, SourceTransition as Transition, SourceForm as Form, SourceType as TypeOf, SourceAutomaton as Automaton, SourceDeclaration as Declaration, SourceNode as Node, SourcePlacement as Placement, SourceText}
+use Rattle.ioa_source.specs.Sides.{SourceTerm as Term, SourceStatement as Statement, SourceFiring as Firing, SourceDeclared as Declared, SourceTransition as Transition, SourceForm as Form, SourceType as TypeOf, SourceAutomaton as Automaton, SourceDeclaration as Declaration, SourceNode as Node, SourcePlacement as Placement, SourceText}
 use Rattle.ioa_cursor.specs.Lists.{Several, SeparatedOrEndedBy, Section, Optional}
 use Rattle.ioa_cursor.specs.Reading.{skip, at, end}
 use Rattle.ioa_cursor.proofs.Steps.{read_next, choose_cases, bind_cases, skip_taken, skip_left, expected_taken, word_taken, number_taken}
@@ -61,7 +61,7 @@ transitions_part_sound xs ys all e = section_sound mark.Transitions (Several Spe
 
 -- schedules
 
-firing_sound : (xs ys : List Token) (x : Statement) → reading.firing xs ≡ read_next x ys → SpellsFire x xs ys
+firing_sound : (xs ys : List Token) (x : Firing) → reading.firing xs ≡ read_next x ys → SpellsFire x xs ys
 unfolding reading.firing
 firing_sound xs ys x e =
     let P : Type 0 = SpellsFire x xs ys in
@@ -76,11 +76,11 @@ firing_sound xs ys x e =
     let p = some_pair_parts _ _ _ _ done in
     rw (expected_taken mark.Fire xs f f_is, ← p.0, ← p.1) (grammar.firing (call_sound f.1 c.1 c.0 c_is)))))
 
-firings_sound : (xs ys : List Token) (all : List Statement) → reading.firings xs ≡ read_next all ys → SeparatedOrEndedBy mark.Semicolon SpellsFire all xs ys
+firings_sound : (xs ys : List Token) (all : List Firing) → reading.firings xs ≡ read_next all ys → SeparatedOrEndedBy mark.Semicolon SpellsFire all xs ys
 unfolding reading.firings
 firings_sound xs ys all e = ended_sound SpellsFire reading.firing firing_sound mark.Semicolon (at mark.Fire) xs ys all e
 
-block_sound : (xs ys : List Token) (all : List Statement) → reading.block xs ≡ read_next all ys → SpellsBlock all xs ys
+block_sound : (xs ys : List Token) (all : List Firing) → reading.block xs ≡ read_next all ys → SpellsBlock all xs ys
 unfolding reading.block
 block_sound xs ys all e =
     let P : Type 0 = SpellsBlock all xs ys in
@@ -95,7 +95,7 @@ block_sound xs ys all e =
     let within = rw (skip_left mark.Od d.1 not_closed, expected_taken mark.Od r.1 c c_is) at (firings_sound _ r.1 r.0 r_is) in
     rw (expected_taken mark.Do xs d d_is, ← p.0, ← p.1) (grammar.busy within)))))
 
-schedule_sound : (xs ys : List Token) (all : List Statement) → reading.schedule_part xs ≡ read_next all ys → Section mark.Schedule SpellsBlock all xs ys
+schedule_sound : (xs ys : List Token) (all : List Firing) → reading.schedule_part xs ≡ read_next all ys → Section mark.Schedule SpellsBlock all xs ys
 unfolding reading.schedule_part
 schedule_sound xs ys all e = section_sound mark.Schedule SpellsBlock reading.block block_sound xs ys all e
 

@@ -7,13 +7,15 @@ use Rattle.ioa_tokens.specs.declared.token.Token.TheVariants as token
 use Rattle.ioa_tokens.specs.declared.mark.Mark.TheVariants as mark
 use Rattle.ioa_terms.specs.declared.tree.Kind.{Kind}
 use Rattle.ioa_terms.specs.declared.tree.Kind.TheVariants as kind
-use Rattle.ioa_terms.specs.PlainTerm.{variable, at_key, at_field, assign, branch, fire}
+use Rattle.ioa_terms.specs.PlainTerm as terms
+use Rattle.ioa_terms.specs.PlainTerm.{variable, at_key, at_field, assign, branch}
 use Rattle.ioa_terms.specs.PlainTerm.{no_statements, statement, statements_of, no_arms, arm}
 use Rattle.ioa_source.specs.PlainSort.{PlainSort, booleans, integers, naturals, sequences, sets, maps, named_type}
 use Rattle.ioa_source.specs.PlainText.{const, named, enumeration, tuple_of, type_named, automaton}
 use Rattle.ioa_source.specs.PlainText as plain
 use Rattle.ioa_source.specs.Sides.{SourceTerm as Term, SourceTarget as Target, SourceStatement as Statement}
-use Rattle.ioa_source.specs.Sides.{SourceStatements as Statements, SourceArms as Arms, SourceDeclared as Declared}
+use Rattle.ioa_source.specs.Sides.{SourceStatements as Statements, SourceArms as Arms, SourceFiring as Firing}
+use Rattle.ioa_source.specs.Sides.{SourceDeclared as Declared}
 use Rattle.ioa_source.specs.Sides.{SourceParameter as Parameter, SourceEntry as Entry, SourceVariable as Variable}
 use Rattle.ioa_source.specs.Sides.{SourceTransition as Transition, SourceForm as Form, SourceDeclaration as Declaration}
 use Rattle.ioa_source.specs.Sides.{SourcePlacement as Placement, SourceText}
@@ -177,16 +179,16 @@ pub data SpellsTransition : Transition → List Token → List Token → Type 0 
       (record { kind = k; name = head.name; arguments = head.arguments; pre = pre; effect = effect }) xs ys
 
 -- Fire: fire [Kind] Call
-pub data SpellsFire : Statement → List Token → List Token → Type 0 where
+pub data SpellsFire : Firing → List Token → List Token → Type 0 where
   firing : {call : Call} {xs ys : List Token} → SpellsCall call xs ys →
-      SpellsFire (fire None call.name call.arguments) (token.Mark mark.Fire ∷ xs) ys
+      SpellsFire (terms.firing None call.name call.arguments) (token.Mark mark.Fire ∷ xs) ys
   kind_firing : {k : Kind} {call : Call} {xs ys zs : List Token} → SpellsKind k xs ys → SpellsCall call ys zs →
-      SpellsFire (fire (Some k) call.name call.arguments) (token.Mark mark.Fire ∷ xs) zs
+      SpellsFire (terms.firing (Some k) call.name call.arguments) (token.Mark mark.Fire ∷ xs) zs
 
 -- do [Fire {; Fire} [;]] od
-pub data SpellsBlock : List Statement → List Token → List Token → Type 0 where
+pub data SpellsBlock : List Firing → List Token → List Token → Type 0 where
   idle : {xs : List Token} → SpellsBlock [] (token.Mark mark.Do ∷ token.Mark mark.Od ∷ xs) xs
-  busy : {fires : List Statement} {xs ys : List Token} →
+  busy : {fires : List Firing} {xs ys : List Token} →
       SeparatedOrEndedBy mark.Semicolon SpellsFire fires xs (token.Mark mark.Od ∷ ys) →
       SpellsBlock fires (token.Mark mark.Do ∷ xs) ys
 
@@ -212,7 +214,7 @@ pub data SpellsDeclaration : Declaration → List Token → List Token → Type 
       SpellsDeclaration (type_named (record { name = w; form = f }))
       (token.Mark mark.Type ∷ token.Word w ∷ token.Mark mark.Equal ∷ xs) ys
   automaton_parts : {w : List ℕ} {head : List Declared} {entries : List Entry} {variables : List Variable}
-      {transitions : List Transition} {block : List Statement} {xs os ps qs rs ys : List Token} →
+      {transitions : List Transition} {block : List Firing} {xs os ps qs rs ys : List Token} →
       SpellsHead head xs os →
       Section mark.Signature (SeveralLists SpellsGroup) entries os ps →
       Section mark.States (SeparatedBy mark.Comma SpellsVariable) variables ps qs →

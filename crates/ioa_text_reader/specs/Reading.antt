@@ -12,7 +12,7 @@ use Rattle.ioa_terms.specs.PlainTerm.{statements_of, arms_of}
 use Rattle.ioa_source.specs.PlainSort.{PlainSort, booleans, integers, naturals, sequences, sets, maps, named_type}
 use Rattle.ioa_source.specs.PlainText as declarations
 use Rattle.ioa_source.specs.Sides.{SourceTerm as Term, SourceTarget as Target, SourceStatement as Statement}
-use Rattle.ioa_source.specs.Sides.{SourceStatements as Statements, SourceDeclared as Declared}
+use Rattle.ioa_source.specs.Sides.{SourceStatements as Statements, SourceFiring as Firing, SourceDeclared as Declared}
 use Rattle.ioa_source.specs.Sides.{SourceParameter as Parameter, SourceEntry as Entry, SourceVariable as Variable}
 use Rattle.ioa_source.specs.Sides.{SourceTransition as Transition, SourceForm as Form, SourceType as TypeOf}
 use Rattle.ioa_source.specs.Sides.{SourceAutomaton as Automaton, SourceDeclaration as Declaration}
@@ -259,19 +259,19 @@ unfoldable pub transitions : List Token → Option (List Transition × List Toke
 transitions xs = several (begins_with at_kind) transition xs
 
 -- fire [Kind] Call
-unfoldable pub firing : List Token → Option (Statement × List Token)
+unfoldable pub firing : List Token → Option (Firing × List Token)
 firing xs =
     expect mark.Fire xs >>= λ f.
     choose (at_kind f.1)
-    (kind f.1 >>= λ k. call k.1 >>= λ c. Some (plain.fire (Some k.0) c.0.name c.0.arguments, c.1))
-    (call f.1 >>= λ c. Some (plain.fire None c.0.name c.0.arguments, c.1))
+    (kind f.1 >>= λ k. call k.1 >>= λ c. Some (plain.firing (Some k.0) c.0.name c.0.arguments, c.1))
+    (call f.1 >>= λ c. Some (plain.firing None c.0.name c.0.arguments, c.1))
 
 -- Fire {; Fire} [;]
-unfoldable pub firings : List Token → Option (List Statement × List Token)
+unfoldable pub firings : List Token → Option (List Firing × List Token)
 firings xs = several_more (resumes_with mark.Semicolon (at mark.Fire)) firing [] xs
 
 -- do [Fire {; Fire} [;]] od
-unfoldable pub block : List Token → Option (List Statement × List Token)
+unfoldable pub block : List Token → Option (List Firing × List Token)
 block xs =
     expect mark.Do xs >>= λ d.
     choose (skip mark.Od d.1).0
@@ -291,7 +291,7 @@ unfoldable pub transitions_part : List Token → Option (List Transition × List
 transitions_part xs = section mark.Transitions transitions xs
 
 -- [schedule Block]
-unfoldable pub schedule_part : List Token → Option (List Statement × List Token)
+unfoldable pub schedule_part : List Token → Option (List Firing × List Token)
 schedule_part xs = section mark.Schedule block xs
 
 -- [ ( Declared {, Declared} ) ]

@@ -4,7 +4,7 @@ ghost use Rattle.std.specs.Prelude.{map};
 ghost use Rattle.std.specs.Option.{option_map};
 ghost use Rattle.ioa_cursor.specs.Outcome.{Reads};
 ghost use Rattle.ioa_source.specs.TextView.{declared_of, variable_of, transition_of, automaton_of};
-ghost use Rattle.ioa_terms.specs.View.{term_of, statement_of};
+ghost use Rattle.ioa_terms.specs.View.{term_of, firing_of};
 ghost use Rattle.ioa_text_reader.specs.Reading as spec;
 
 use crate::call::{INNER_LIMIT, at_kind, call, kind};
@@ -15,7 +15,7 @@ use crate::statement::effect;
 use ioa_cursor::{Tokens, Unread};
 use ioa_source::{Automaton, Declared, Transition, Variable};
 use ioa_term_reader::{BRACKET_LIMIT, term};
-use ioa_terms::{Statement, Term};
+use ioa_terms::{Firing, Term};
 use ioa_tokens::Mark;
 use std::alloc::Global;
 
@@ -123,23 +123,31 @@ fn transitions(alloc: Global, tokens: &mut Tokens<'_>) -> Result<Vec<Transition<
 
 /// `fire` [Kind] Call
 #[tactic(auto, unfolding(crate::specs::Reading::firing, crate::specs::bind, crate::specs::choose))]
-fn firing(alloc: Global, tokens: &mut Tokens<'_>) -> Result<Statement<(), ()>, Unread>
-    ensures { Reads statement_of (spec.firing tokens.old) result tokens.new }
+fn firing(alloc: Global, tokens: &mut Tokens<'_>) -> Result<Firing<(), ()>, Unread>
+    ensures { Reads firing_of (spec.firing tokens.old) result tokens.new }
 {
     tokens.expect(Mark::Fire)?;
     if !at_kind(tokens) {
         let fired = call(alloc, tokens)?;
-        return Ok(Statement::Fire(None, fired.name, fired.arguments));
+        return Ok(Firing {
+            kind: None,
+            action: fired.name,
+            arguments: fired.arguments,
+        });
     }
     let kind = kind(tokens)?;
     let fired = call(alloc, tokens)?;
-    Ok(Statement::Fire(Some(kind), fired.name, fired.arguments))
+    Ok(Firing {
+        kind: Some(kind),
+        action: fired.name,
+        arguments: fired.arguments,
+    })
 }
 
 /// Fire {`;` Fire} [`;`]
 #[tactic(auto, unfolding(crate::specs::Reading::firings, crate::specs::bind))]
-fn firings(alloc: Global, tokens: &mut Tokens<'_>) -> Result<Vec<Statement<(), ()>>, Unread>
-    ensures { Reads (λ v. map statement_of v.items) (spec.firings tokens.old) result tokens.new }
+fn firings(alloc: Global, tokens: &mut Tokens<'_>) -> Result<Vec<Firing<(), ()>>, Unread>
+    ensures { Reads (λ v. map firing_of v.items) (spec.firings tokens.old) result tokens.new }
 {
     let mut firings = Vec::new(alloc);
     firings.push(firing(alloc, tokens)?)?;
@@ -154,8 +162,8 @@ fn firings(alloc: Global, tokens: &mut Tokens<'_>) -> Result<Vec<Statement<(), (
 
 /// `do` [Fire {`;` Fire} [`;`]] `od`
 #[tactic(auto, unfolding(crate::specs::Reading::block, crate::specs::bind, crate::specs::choose))]
-fn block(alloc: Global, tokens: &mut Tokens<'_>) -> Result<Vec<Statement<(), ()>>, Unread>
-    ensures { Reads (λ v. map statement_of v.items) (spec.block tokens.old) result tokens.new }
+fn block(alloc: Global, tokens: &mut Tokens<'_>) -> Result<Vec<Firing<(), ()>>, Unread>
+    ensures { Reads (λ v. map firing_of v.items) (spec.block tokens.old) result tokens.new }
 {
     tokens.expect(Mark::Do)?;
     if tokens.skip(Mark::Od) {
@@ -193,8 +201,8 @@ fn transitions_part(
 
 /// [`schedule` Block]
 #[tactic(auto, unfolding(crate::specs::Reading::schedule_part, crate::specs::choose))]
-fn schedule_part(alloc: Global, tokens: &mut Tokens<'_>) -> Result<Vec<Statement<(), ()>>, Unread>
-    ensures { Reads (λ v. map statement_of v.items) (spec.schedule_part tokens.old) result tokens.new }
+fn schedule_part(alloc: Global, tokens: &mut Tokens<'_>) -> Result<Vec<Firing<(), ()>>, Unread>
+    ensures { Reads (λ v. map firing_of v.items) (spec.schedule_part tokens.old) result tokens.new }
 {
     if !tokens.skip(Mark::Schedule) {
         return Ok(Vec::new(alloc));

@@ -70,7 +70,7 @@ turn_outcome limit schedule states k (Err f) = Err (fault_of_term f)
 abbrev pub attempt_answer : ℕ → List Action → List Conf → Progress → Result PlainAttemptOutcome NodeFault
 attempt_answer limit schedule states p = turn_outcome limit schedule states p.node (turn_at states p.node p.passed)
 
--- the number of statements passed is a number of the machine also after one more
+-- the number of firings passed is a number of the machine also after one more
 abbrev pub FitsAfterAttempt : ℕ → AttemptOutcome → Type 0
 FitsAfterAttempt passed outcome.Finished = Unit {0}
 FitsAfterAttempt passed outcome.Missed = passed + 1 < 2 ^ 64

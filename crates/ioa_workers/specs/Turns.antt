@@ -1,14 +1,12 @@
 -- Turns of a schedule block of firings (profile).
-use Rattle.std.specs.Prelude.{ℕ, ℤ, ◌+◌, ◌^◌, ◌<◌, List, [], ◌∷◌, drop, Result, Ok, Err}
+use Rattle.std.specs.Prelude.{ℕ, ℤ, ◌+◌, ◌^◌, ◌<◌, List, [], ◌∷◌, drop, Result, Ok}
 use Rattle.ioa_values.specs.Data.{Data}
 use Rattle.ioa_values.specs.Outcome.{and_then}
 use Rattle.ioa_terms.specs.Bindings.{Bindings}
 use Rattle.ioa_terms.specs.Meaning.{answer}
-use Rattle.ioa_terms.specs.PlainTerm.{assign, branch, fire}
 use Rattle.ioa_actions.specs.ActionParts.{action_at}
 use Rattle.ioa_operators.specs.declared.fault.TermFault.{TermFault}
-use Rattle.ioa_operators.specs.declared.fault.TermFault.TheVariants.{Undefined}
-use Rattle.ioa_source.specs.Sides.{CheckedStatement, CheckedTerm}
+use Rattle.ioa_source.specs.Sides.{CheckedFiring, CheckedTerm}
 use Rattle.ioa_system.specs.InView.{firing_bindings}
 use Rattle.ioa_compose.specs.NodeState.{NodeState}
 use Rattle.ioa_workers.specs.declared.turn.Turn.{Turn}
@@ -23,23 +21,20 @@ abbrev pub answers : List CheckedTerm → Bindings → Result (List Data) TermFa
 answers [] e = Ok []
 answers (t ∷ more) e = and_then (answer t e) (λ v. and_then (answers more e) (λ vs. Ok (v ∷ vs)))
 
--- the result of a turn of node k if this is the next statement: a firing gives the action whose arguments are the
--- values of its terms; a schedule block holds no other statements in what runs today
-abbrev pub statement_answer : ℤ → Bindings → CheckedStatement → Result Turn TermFault
-statement_answer k e (assign p t) = Err Undefined
-statement_answer k e (branch arms rest) = Err Undefined
-statement_answer k e (fire kind name ts) = and_then (answers ts e) (λ vs. Ok (Fire (action_at k name vs)))
+-- the result of a turn of node k if this is the next firing: the action whose arguments are the values of its terms
+abbrev pub firing_answer : ℤ → Bindings → CheckedFiring → Result Turn TermFault
+firing_answer k e f = and_then (answers f.arguments e) (λ vs. Ok (Fire (action_at k f.action vs)))
 
--- the result of a turn of node k by the statements that are left of its block: Done if there are none
-abbrev pub turn_answer : ℤ → Bindings → List CheckedStatement → Result Turn TermFault
+-- the result of a turn of node k by the firings that are left of its block: Done if there are none
+abbrev pub turn_answer : ℤ → Bindings → List CheckedFiring → Result Turn TermFault
 turn_answer k e [] = Ok Done
-turn_answer k e (s ∷ more) = statement_answer k e s
+turn_answer k e (f ∷ more) = firing_answer k e f
 
--- the result of a turn of a node that has passed the first n statements of its block
+-- the result of a turn of a node that has passed the first n firings of its block
 abbrev pub node_turn : NodeState → ℕ → Result Turn TermFault
 node_turn c n = turn_answer c.program.node (block_bindings c) (drop n c.program.automaton.schedule)
 
--- the number of statements passed is a number of the machine also after one more firing
+-- the number of firings passed is a number of the machine also after one more firing
 abbrev pub FitsAfterTurn : ℕ → Turn → Type 0
 FitsAfterTurn passed Done = Unit {0}
 FitsAfterTurn passed (Fire a) = passed + 1 < 2 ^ 64

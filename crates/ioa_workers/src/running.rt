@@ -31,7 +31,7 @@ struct Course {
     states: Vec<Conf>,
 }
 
-/// How far a node has come: how many statements of its block it has passed, how many attempts it has left, and how it
+/// How far a node has come: how many firings of its block it has passed, how many attempts it has left, and how it
 /// ended, if it did.
 #[derive(Clone, Copy, Debug, PartialEq, Eq)]
 struct Progress {
@@ -108,7 +108,7 @@ fn have_all_ended(nodes: &[Progress]) -> bool
     nodes.iter().all(|node| node.ending.is_some())
 }
 
-/// The nodes before a run: none has passed a statement, and each has all its attempts.
+/// The nodes before a run: none has passed a firing, and each has all its attempts.
 fn progress_of(
     alloc: Global,
     programs: &[Arc<Program>],

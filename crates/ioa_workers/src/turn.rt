@@ -3,15 +3,16 @@
 ghost use Rattle.std.specs.Prelude.{◌≡◌, [], IfOk, map};
 ghost use Rattle.ioa_values.specs.Outcome.{Answers};
 ghost use Rattle.ioa_terms.specs.Bindings.{names_of};
-ghost use Rattle.ioa_terms.specs.View.{term_of, statement_of};
-ghost use Rattle.ioa_system.specs.InView.{declared_names, names_at, firing};
+ghost use Rattle.ioa_terms.specs.View.{term_of, firing_of};
+ghost use Rattle.ioa_system.specs.InView as site;
+ghost use Rattle.ioa_system.specs.InView.{declared_names, names_at};
 ghost use Rattle.ioa_system.specs.ResolvedPrograms.{AreResolvedTerms, IsResolvedFiring};
 ghost use Rattle.ioa_workers.specs.Turns.{block_bindings, answers};
-ghost use Rattle.ioa_workers.specs.Turns.{statement_answer, node_turn, FitsAfterTurn};
+ghost use Rattle.ioa_workers.specs.Turns.{firing_answer, node_turn, FitsAfterTurn};
 
 use ioa_actions::Action;
 use ioa_compose::NodeConf;
-use ioa_terms::{Checked, Env, Shape, Statement, TermFault, Value, eval};
+use ioa_terms::{Checked, Env, Firing, Shape, TermFault, Value, eval};
 use std::alloc::Global;
 
 /// What a turn comes to (profile).
@@ -23,7 +24,7 @@ pub enum Turn {
     Done,
 }
 
-/// The turn of a node that has passed the first `passed` statements of its block (profile): `Done` if nothing is left,
+/// The turn of a node that has passed the first `passed` firings of its block (profile): `Done` if nothing is left,
 /// else the action that is fired next. Its arguments are evaluated over the node's variables and the values of its
 /// automaton's parameters, from left to right, and the first fault that is met is returned.
 pub fn next(alloc: Global, node: &NodeConf, passed: usize) -> Result<Turn, TermFault>
@@ -32,34 +33,26 @@ pub fn next(alloc: Global, node: &NodeConf, passed: usize) -> Result<Turn, TermF
 {
     match node.program().automaton().schedule().get(passed) {
         None => Ok(Turn::Done),
-        Some(statement) => fire(alloc, node, statement),
+        Some(firing) => fire(alloc, node, firing),
     }
 }
 
-/// The turn if this is the next statement.
-fn fire(
-    alloc: Global,
-    node: &NodeConf,
-    statement: &Statement<usize, Shape>,
-) -> Result<Turn, TermFault>
-    requires { IsResolvedFiring (statement_of statement.now)
-        (names_at firing (declared_names node.now.program.automaton) []) }
+/// The turn if this is the next firing.
+fn fire(alloc: Global, node: &NodeConf, firing: &Firing<usize, Shape>) -> Result<Turn, TermFault>
+    requires { IsResolvedFiring (firing_of firing.now)
+        (names_at site.firing (declared_names node.now.program.automaton) []) }
     ensures { Answers TermFault.Memory (λ t. t) result
-        (statement_answer node.now.program.node (block_bindings node.now) (statement_of statement.now)) }
+        (firing_answer node.now.program.node (block_bindings node.now) (firing_of firing.now)) }
 {
-    match statement {
-        Statement::Fire(_, name, terms) => {
-            let arguments = arguments_of(alloc, node, terms)?;
-            Ok(Turn::Fire(Action::at_node(alloc, node.node(), name, arguments)?))
-        }
-        _ => Err(TermFault::Undefined),
-    }
+    let arguments = arguments_of(alloc, node, &firing.arguments)?;
+    let action = Action::at_node(alloc, node.node(), &firing.action, arguments)?;
+    Ok(Turn::Fire(action))
 }
 
 /// The values of terms of a node's schedule, in order. No name and no value is copied for them.
 fn arguments_of(alloc: Global, node: &NodeConf, terms: &[Checked]) -> Result<Vec<Value>, TermFault>
     requires { AreResolvedTerms (map term_of terms.now)
-        (names_at firing (declared_names node.now.program.automaton) []) }
+        (names_at site.firing (declared_names node.now.program.automaton) []) }
     ensures { Answers TermFault.Memory (λ v. v.items) result
         (answers (map term_of terms.now) (block_bindings node.now)) }
 {

@@ -2,10 +2,10 @@ use Rattle.std.proofs.Common.{◌≡◌, ◌∙◌, ℕ, List, [], true, false, 
 use Rattle.std.proofs.lemmas.Result.{err_from_is_err_and}
 use Rattle.std.proofs.lemmas.Bool.{and_left, and_right}
 use Rattle.std.specs.List.{AllByRecursion, IsDistinct, list_all}
-use Rattle.ioa_terms.specs.Bindings.{same_name}
+use Rattle.ioa_terms.specs.Bindings.{same_word}
 use Rattle.ioa_source.specs.TextView.{automaton_of, declared_of, variable_of}
-use Rattle.ioa_terms.specs.View.{statement_of}
-use Rattle.ioa_system.specs.InView.{DeclaredNames, firing, initial_value, names_at, scope_at, variable_names}
+use Rattle.ioa_terms.specs.View.{firing_of}
+use Rattle.ioa_system.specs.InView.{DeclaredNames, firing, initial_value, words_at, scope_at, variable_names}
 use Rattle.ioa_check.specs.Resolutions.{first_names}
 use Rattle.ioa_check.specs.Rows.{HasNoEntryRow, automaton_scope, fires_only, guard_reads_only}
 use Rattle.ioa_check.specs.Standing.{StandsInAutomaton, StandsInEntries}
@@ -18,7 +18,7 @@ use Rattle.ioa_check.proofs.building.compile.Goals as goal
 pub new-requires-2 : goal.new-requires-2
 new-requires-2 c =
     let vs = map variable_of c.in_ok-variables.variables.items in
-    resolved_alone _ _ _ vs c.in_ok-scope.scope c.in_ok-rules.rules.items (map statement_of c.in_ok-schedule.schedule.items)
+    resolved_alone _ _ _ vs c.in_ok-scope.scope c.in_ok-rules.rules.items (map firing_of c.in_ok-schedule.schedule.items)
     (c.in_ok-constants.ensures.ok ∙ c.none.ensures)
     (ap (map declared_of) c.new-parameters.ensures.items)
     (rw c.deref-2.ensures.value at c.in_ok-scope.ensures.names)
@@ -49,19 +49,19 @@ returns-clause-rows c =
     let given : c.new-given.result ≡ [] = c.new-given.ensures in
     let same : first_names vs ≡ d = names_erased a vs c.in_ok-no_parameters.ensures.none (rw c.deref.ensures.value at c.in_ok-variables.ensures.made.same) in
     let names : c.in_ok-scope.scope ≡ scope_at firing (first_names vs) [] = rw c.deref-2.ensures.value at c.in_ok-scope.ensures.names in
-    let all : c.in_ok-scope.scope ≡ names_at firing (first_names vs) [] = names ∙ sym (append-nil (variable_names vs)) in
+    let all : c.in_ok-scope.scope ≡ words_at firing (first_names vs) [] = names ∙ sym (append-nil (variable_names vs)) in
     record {
       entries_differ = c.in_ok-entries_differ.ensures.differ;
-      variables_differ = subst (λ (x : DeclaredNames). IsDistinct same_name (scope_at firing x [])) same (subst (λ (ns : List (List ℕ)). IsDistinct same_name ns) names c.in_ok-scope.ensures.differ);
+      variables_differ = subst (λ (x : DeclaredNames). IsDistinct same_word (scope_at firing x [])) same (subst (λ (ns : List (List ℕ)). IsDistinct same_word ns) names c.in_ok-scope.ensures.differ);
       transitions_differ = c.in_ok-transitions_differ.ensures.differ;
       transitions = c.in_ok-transitions_have_entries.ensures.known;
       firings = c.in_ok-firings_have_entries.ensures.known;
       many = c.in_ok-firings_have_entries.ensures.many;
       arguments = rw c.deref-4.ensures.value at c.in_ok-schedule.ensures.made.sorted;
-      read = subst (λ (x : DeclaredNames). list_all (fires_only (names_at firing x [])) a.schedule ≡ true) same (subst (λ (ns : List (List ℕ)). list_all (fires_only ns) a.schedule ≡ true) all (rw c.deref-4.ensures.value at c.in_ok-schedule.ensures.made.known));
+      read = subst (λ (x : DeclaredNames). list_all (fires_only (words_at firing x [])) a.schedule ≡ true) same (subst (λ (ns : List (List ℕ)). list_all (fires_only ns) a.schedule ≡ true) all (rw c.deref-4.ensures.value at c.in_ok-schedule.ensures.made.known));
       initials = rw c.deref.ensures.value at c.in_ok-variables.ensures.made.initials;
       initial_numbers = rw c.deref.ensures.value at c.in_ok-variables.ensures.made.sorted;
-      initial_names = subst (λ (x : DeclaredNames). list_all (λ v. guard_reads_only (names_at initial_value x []) v.initial) a.states ≡ true) same (rw (c.deref.ensures.value, given) at c.in_ok-variables.ensures.made.known);
+      initial_names = subst (λ (x : DeclaredNames). list_all (λ v. guard_reads_only (words_at initial_value x []) v.initial) a.states ≡ true) same (rw (c.deref.ensures.value, given) at c.in_ok-variables.ensures.made.known);
       entries = subst (λ (x : DeclaredNames). AllByRecursion (HasNoEntryRow x a.transitions) a.signature) same (rw c.deref-3.ensures.value at c.in_ok-rules.ensures.rows);
     }
 
@@ -73,7 +73,7 @@ returns-in_err-scope-clause-refused c =
     let vs = map variable_of c.in_ok-variables.variables.items in
     let same : first_names vs ≡ automaton_scope a = names_erased a vs c.in_ok-no_parameters.ensures.none (rw c.deref.ensures.value at c.in_ok-variables.ensures.made.same) in
     rw (p.1, p.2)
-    (refuses_weaker (only_weaker (StandsInAutomaton a) (λ wrong. inl (λ d. wrong (subst (λ (x : DeclaredNames). IsDistinct same_name (scope_at firing x [])) (sym same) d.2))))
+    (refuses_weaker (only_weaker (StandsInAutomaton a) (λ wrong. inl (λ d. wrong (subst (λ (x : DeclaredNames). IsDistinct same_word (scope_at firing x [])) (sym same) d.2))))
     _ (rw c.deref-2.ensures.value at c.in_err-scope.ensures.refused))
 
 pub returns-in_err-transitions_have_entries-clause-refused : goal.returns-in_err-transitions_have_entries-clause-refused
@@ -107,9 +107,9 @@ returns-in_err-schedule-clause-refused c =
     let a = automaton_of c.args.automaton.now in
     let vs = map variable_of c.in_ok-variables.variables.items in
     let same : first_names vs ≡ automaton_scope a = names_erased a vs c.in_ok-no_parameters.ensures.none (rw c.deref.ensures.value at c.in_ok-variables.ensures.made.same) in
-    let all : c.in_ok-scope.scope ≡ names_at firing (first_names vs) [] = (rw c.deref-2.ensures.value at c.in_ok-scope.ensures.names) ∙ sym (append-nil (variable_names vs)) in
-    let read : list_all (fires_only c.in_ok-scope.scope) a.schedule ≡ false → list_all (fires_only (names_at firing (automaton_scope a) [])) a.schedule ≡ false =
-    λ form. subst (λ (x : DeclaredNames). list_all (fires_only (names_at firing x [])) a.schedule ≡ false) same (subst (λ (ns : List (List ℕ)). list_all (fires_only ns) a.schedule ≡ false) all form) in
+    let all : c.in_ok-scope.scope ≡ words_at firing (first_names vs) [] = (rw c.deref-2.ensures.value at c.in_ok-scope.ensures.names) ∙ sym (append-nil (variable_names vs)) in
+    let read : list_all (fires_only c.in_ok-scope.scope) a.schedule ≡ false → list_all (fires_only (words_at firing (automaton_scope a) [])) a.schedule ≡ false =
+    λ form. subst (λ (x : DeclaredNames). list_all (fires_only (words_at firing x [])) a.schedule ≡ false) same (subst (λ (ns : List (List ℕ)). list_all (fires_only ns) a.schedule ≡ false) all form) in
     rw (p.1, p.2)
     (refuses_weaker
     (fails_weaker (StandsInAutomaton a)

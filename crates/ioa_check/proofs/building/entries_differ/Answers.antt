@@ -1,5 +1,5 @@
 use Rattle.std.proofs.lemmas.Result.{err_from_is_err_and}
-use Rattle.ioa_terms.specs.Bindings.{same_name}
+use Rattle.ioa_terms.specs.Bindings.{same_word}
 use Rattle.ioa_source.specs.Sides.{SourceEntry}
 use Rattle.ioa_source.specs.TextView.{entry_of}
 use Rattle.ioa_check.proofs.Refused.{names_repeat, only_map}
@@ -11,5 +11,5 @@ returns-in_err-declare-clause-refused c =
     let p = err_from_is_err_and c.from_residual.result c.from_residual.ensures.1 in
     rw (p.1, p.2)
     (only_map row.Twice
-    (λ wrong d. names_repeat same_name (λ (e : SourceEntry). e.name) entry_of c.args.automaton.now.signature.items c.loop-entry.entry-index c.entry-item.result c.loop-entry.names wrong c.loop-entry.invariant.names (rw c.deref-entry-items.ensures.value at c.loop-entry-test.true) (rw c.deref-entry-items.ensures.value at c.entry-item.is) d)
+    (λ wrong d. names_repeat same_word (λ (e : SourceEntry). e.name) entry_of c.args.automaton.now.signature.items c.loop-entry.entry-index c.entry-item.result c.loop-entry.names wrong c.loop-entry.invariant.names (rw c.deref-entry-items.ensures.value at c.loop-entry-test.true) (rw c.deref-entry-items.ensures.value at c.entry-item.is) d)
     _ c.in_err-declare.ensures.refused)

@@ -2,7 +2,7 @@ use Rattle.std.proofs.Common.{Bool, rules, tests}
 use Rattle.std.proofs.lemmas.Iterator.{YieldsList-from_slice}
 use Rattle.std.proofs.lemmas.Iterator.Search.{any_from_yields_List}
 use Rattle.std.specs.Prelude.{◌&&◌}
-use Rattle.ioa_terms.specs.Bindings.{same_name}
+use Rattle.ioa_terms.specs.Bindings.{same_word}
 use Rattle.ioa_source.specs.Sides.{SourceEntry}
 use Rattle.ioa_source.specs.TextView.{entry_of}
 use Rattle.ioa_check.specs.Correspondence.{same_kind}
@@ -11,6 +11,6 @@ use Rattle.ioa_check.proofs.building.has_entry.Goals as goal
 
 pub returns : goal.returns
 returns c =
-    let test : SourceEntry → Bool = λ e. same_name e.name c.args.transition.now.name && same_kind e.kind c.args.transition.now.kind in
+    let test : SourceEntry → Bool = λ e. same_word e.name c.args.transition.now.name && same_kind e.kind c.args.transition.now.kind in
     rw (any_mapped test entry_of c.args.automaton.now.signature.items)
     (any_from_yields_List (λ x. test (entry_of x)) _ _ _ c.any.ensures.ran (YieldsList-from_slice c.args.automaton.now.signature.items cc) (λ x b q k. search (rules, tests)))

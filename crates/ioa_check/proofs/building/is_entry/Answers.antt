@@ -1,7 +1,7 @@
 use Rattle.std.proofs.Common.{Bool, rules, tests}
 use Rattle.std.proofs.lemmas.Iterator.{YieldsList-from_slice}
 use Rattle.std.proofs.lemmas.Iterator.Search.{any_from_yields_List}
-use Rattle.ioa_terms.specs.Bindings.{same_name}
+use Rattle.ioa_terms.specs.Bindings.{same_word}
 use Rattle.ioa_source.specs.Sides.{SourceEntry}
 use Rattle.ioa_source.specs.TextView.{entry_of}
 use Rattle.ioa_check.proofs.Searches.{any_mapped}
@@ -9,6 +9,6 @@ use Rattle.ioa_check.proofs.building.is_entry.Goals as goal
 
 pub returns : goal.returns
 returns c =
-    let test : SourceEntry → Bool = λ e. same_name e.name c.args.name.now in
+    let test : SourceEntry → Bool = λ e. same_word e.name c.args.name.now in
     rw (any_mapped test entry_of c.args.automaton.now.signature.items)
     (any_from_yields_List (λ x. test (entry_of x)) _ _ _ c.any.ensures.ran (YieldsList-from_slice c.args.automaton.now.signature.items cc) (λ x b q k. search (rules, tests)))

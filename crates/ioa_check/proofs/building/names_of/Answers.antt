@@ -1,6 +1,6 @@
 use Rattle.std.proofs.Common.{arith}
 use Rattle.std.proofs.lemmas.Result.{err_from_is_err_and}
-use Rattle.ioa_terms.specs.Bindings.{same_name}
+use Rattle.ioa_terms.specs.Bindings.{same_word}
 use Rattle.ioa_source.specs.Sides.{CheckedVariable}
 use Rattle.ioa_source.specs.TextView.{variable_of}
 use Rattle.ioa_check.proofs.Refused.{names_repeat, only_map}
@@ -12,5 +12,5 @@ returns-in_err-declare-clause-refused c =
     let p = err_from_is_err_and c.from_residual.result c.from_residual.ensures.1 in
     rw (p.1, p.2)
     (only_map row.Twice
-    (λ wrong d. names_repeat same_name (λ (v : CheckedVariable). v.declared.name) variable_of c.args.variables.now c.loop-variable.variable-index c.variable-item.result c.loop-variable.names wrong c.loop-variable.invariant.names (omega arith) c.variable-item.is d)
+    (λ wrong d. names_repeat same_word (λ (v : CheckedVariable). v.declared.name) variable_of c.args.variables.now c.loop-variable.variable-index c.variable-item.result c.loop-variable.names wrong c.loop-variable.invariant.names (omega arith) c.variable-item.is d)
     _ c.in_err-declare.ensures.refused)

@@ -1,7 +1,8 @@
 use Rattle.std.proofs.Common.{◌≡◌, ◌++◌, ℕ, List, [], true, false, refl, sym, subst, ◌∙◌, map, append-nil, rules}
 use Rattle.std.proofs.lemmas.Result.{err_from_is_err_and}
 use Rattle.std.specs.List.{IsDistinct, list_all}
-use Rattle.ioa_terms.specs.Bindings.{same_name}
+use Rattle.ioa_terms.specs.Bindings.{same_word}
+use Rattle.ioa_terms.specs.declared.name.Name.TheVariants.{Word}
 use Rattle.ioa_terms.specs.Resolved.{AreResolved}
 use Rattle.ioa_source.specs.TextView.{automaton_of, entry_of, transition_of, variable_of}
 use Rattle.ioa_system.specs.InView.{entry_condition, names_at, own_names, variable_names}
@@ -27,8 +28,8 @@ returns-clause-made c =
         scope = c.in_ok-scope.ensures.names;
         parameters = rw c.new.ensures at c.in_ok-entry.ensures.made.resolved;
         condition = c.in_ok-entry.ensures.made.condition (names_at entry_condition (first_names vs) own);
-        guard = subst (IsResolvedGuard t.pre) all c.in_ok-transition.ensures.made.guard.resolved;
-        effect = subst (λ (ns : List (List ℕ)). AreResolved t.effect (variable_names vs) ns) all (subst (λ (ns : List (List ℕ)). AreResolved t.effect ns scope) first c.in_ok-transition.ensures.made.effect.resolved);
+        guard = subst (λ (ns : List (List ℕ)). IsResolvedGuard t.pre (map Word ns)) all c.in_ok-transition.ensures.made.guard.resolved;
+        effect = subst (λ (ns : List (List ℕ)). AreResolved t.effect (map Word (variable_names vs)) (map Word ns)) all (subst (λ (ns : List (List ℕ)). AreResolved t.effect (map Word ns) (map Word scope)) first c.in_ok-transition.ensures.made.effect.resolved);
       };
       entry = c.in_ok-entry.ensures.made.same;
       transition = search rules;
@@ -54,7 +55,7 @@ returns-clause-rows c =
       found = sym c.in-Some.ensures;
       input_pre = search rules;
       head = search rules;
-      differ = subst (λ (ns : List (List ℕ)). IsDistinct same_name ns) names c.in_ok-scope.ensures.differ;
+      differ = subst (λ (ns : List (List ℕ)). IsDistinct same_word ns) names c.in_ok-scope.ensures.differ;
       constants = c.in_ok-entry.ensures.made.sorted;
       guard = c.in_ok-transition.ensures.made.guard.sorted;
       effect = c.in_ok-transition.ensures.made.effect.sorted;
@@ -72,7 +73,7 @@ returns-in_err-scope-clause-refused c =
     let names : scope_for resolved vs ≡ scope_for e vs = scope_for-erase vs resolved e (scope_for resolved vs) refl c.in_ok-entry.ensures.made.same in
     rw (p.1, p.2)
     (refuses_weaker
-    (only_weaker (StandsInEntry (first_names vs) (automaton_of c.args.automaton.now).transitions e) (λ wrong d. wrong (subst (λ (ns : List (List ℕ)). IsDistinct same_name ns) (sym names) d)))
+    (only_weaker (StandsInEntry (first_names vs) (automaton_of c.args.automaton.now).transitions e) (λ wrong d. wrong (subst (λ (ns : List (List ℕ)). IsDistinct same_word ns) (sym names) d)))
     _ c.in_err-scope.ensures.refused)
 
 pub returns-in_err-transition-clause-refused : goal.returns-in_err-transition-clause-refused

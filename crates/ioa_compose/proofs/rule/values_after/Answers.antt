@@ -1,4 +1,7 @@
-use Rattle.std.proofs.Common.{◌++◌, List, ℕ, sym, subst}
+use Rattle.std.proofs.Common.{◌++◌, List, ℕ, map, sym, subst}
+use Rattle.std.proofs.lemmas.List.{map-append}
+use Rattle.ioa_terms.specs.declared.name.Name.{Name}
+use Rattle.ioa_terms.specs.declared.name.Name.TheVariants.{Word}
 use Rattle.ioa_terms.specs.Resolved.{AreResolved}
 use Rattle.ioa_terms.proofs.Slots.{resolved_widely}
 use Rattle.ioa_system.specs.InView.{given_bindings, own_names, parameter_names, variable_names}
@@ -35,5 +38,7 @@ take_transition-requires-clause-effect c =
     let effect = rule.transition.effect in
     let given = parameter_names automaton.parameters ++ own_names rule.entry.parameters in
     let variables = variable_names automaton.variables in
-    subst (λ (ns : List (List ℕ)). AreResolved effect ns (ns ++ automaton.constants)) (sym resolved.scope)
-    (resolved_widely effect variables given ((variables ++ given) ++ automaton.constants) resolved.effect)
+    let names = map Word ((variables ++ given) ++ automaton.constants) in
+    subst (λ (ns : List (List ℕ)). AreResolved effect (map Word ns) (map Word (ns ++ automaton.constants))) (sym resolved.scope)
+    (subst (λ (xs : List Name). AreResolved effect xs names) (sym (map-append Word variables given))
+    (resolved_widely effect (map Word variables) (map Word given) names resolved.effect))

@@ -1,8 +1,9 @@
 use Rattle.std.proofs.Common.{map, append-nil}
+use Rattle.ioa_terms.specs.declared.name.Name.TheVariants.{Word}
 use Rattle.ioa_terms.specs.View.{statement_of}
 use Rattle.ioa_terms.proofs.Performed.{resolved_all}
 use Rattle.ioa_language_tests.proofs.terms.effect_text.Goals as goal
 
 pub perform-requires-clause-resolved : goal.perform-requires-clause-resolved
 perform-requires-clause-resolved c =
-    rw (append-nil c.args.names.now) (resolved_all (map statement_of c.args.statements.now) c.args.names.now c.args.names.now c.requires.resolved)
+    rw (append-nil c.args.names.now) (resolved_all (map statement_of c.args.statements.now) (map Word c.args.names.now) (map Word c.args.names.now) c.requires.resolved)
