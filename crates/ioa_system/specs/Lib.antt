@@ -1,6 +1,7 @@
 -- the definitions that the contracts of this crate and of the crates above it cite
 pub mod Parts
 pub mod InView
+pub mod Declarations
 pub mod ResolvedPrograms
 pub mod Systems
 pub mod SameParts

@@ -1,0 +1,26 @@
+-- When a system declares each thing once (profile: row 21 of the refusals).
+use Rattle.std.specs.Prelude.{◌≡◌, Bool, ◌&&◌, map, length}
+use Rattle.std.specs.List.{AllByRecursion, IsDistinct}
+use Rattle.std.specs.Ordering.{int_eq}
+use Rattle.ioa_terms.specs.Bindings.{same_word}
+use Rattle.ioa_source.specs.declared.declaration.Channel.{Channel}
+use Rattle.ioa_system.specs.InView.{variable_names}
+use Rattle.ioa_system.specs.Parts.{Parts}
+use Rattle.ioa_system.specs.Systems.{SystemParts}
+
+-- whether two channels are between the same nodes, in the same direction
+abbrev pub same_channel : Channel → Channel → Bool
+same_channel c d = int_eq c.from d.from && int_eq c.to d.to
+
+-- a program in which the names of the entries differ, and those of the state variables; each state variable has an
+-- initial value
+pub record DeclaresOnce (p : Parts) : Type 0 where
+  pub entries : IsDistinct same_word (map (λ r. r.entry.name) p.automaton.rules)
+  pub variables : IsDistinct same_word (variable_names p.automaton.variables)
+  pub valued : length p.initial ≡ length p.automaton.variables
+
+-- a system in which the numbers of the nodes differ, and the channels, and whose programs declare each thing once
+pub record IsWellDeclared (s : SystemParts) : Type 0 where
+  pub nodes : IsDistinct int_eq (map (λ p. p.node) s.programs)
+  pub channels : IsDistinct same_channel s.channels
+  pub programs : AllByRecursion DeclaresOnce s.programs
