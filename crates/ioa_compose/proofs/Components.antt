@@ -1,6 +1,8 @@
 -- Names of components, and the configurations that bear them.
 use Rattle.std.proofs.Common.{◌≡◌, Bool, true, false, ◌||◌, List, [], ◌∷◌, Some, Result, Ok, Err, refl, ap, sym, ◌∙◌, map, if◌then◌else◌}
 use Rattle.std.specs.Bool.{Decides}
+use Rattle.std.specs.Prelude.{◌&&◌}
+use Rattle.std.specs.Ordering.{int_eq}
 use Rattle.std.specs.List.{list_any}
 use Rattle.std.proofs.lemmas.Bool.Decides.{Decides-int_eq, Decides-and, Decides-like}
 use Rattle.ioa_values.specs.Data.{Data}
@@ -18,7 +20,7 @@ use Rattle.ioa_system.specs.Parts.{Parts}
 use Rattle.ioa_compose.specs.NodeState.{NodeState, node_state}
 use Rattle.ioa_compose.specs.NodeStep.{node_answer, values_answer}
 use Rattle.ioa_compose.specs.Queues.{QueueState, queue_state, queue_answer, items_behind, with_last, without_first}
-use Rattle.ioa_compose.specs.Participants.{same_component}
+use Rattle.ioa_compose.specs.Participants.{same_component, participants_of, takes_part}
 use Rattle.ioa_compose.specs.Composition.{component_of, component_names, conf_answer, find_conf, put_conf, put_confs}
 
 -- the test says that two names are those of one component exactly if they are equal
@@ -37,6 +39,25 @@ Decides-same_component (Script i) (Script j) = Decides-like _ (λ e. ap Script e
 -- a name is that of its own component
 pub same_component-itself : (k : Component) → same_component k k ≡ true
 same_component-itself k = (Decides-same_component k k).1 refl
+
+or_false : (b : Bool) → (b || false) ≡ b
+or_false true = refl
+or_false false = refl
+
+-- a component takes part in an action exactly if it is one of the participants
+pub takes_part-is : (k : Component) (a : Action) → takes_part k a ≡ list_any (same_component k) (participants_of a)
+takes_part-is (Node k) (Send m i j) = sym (or_false (int_eq k i))
+takes_part-is (Node k) (Receive m i j) = sym (or_false (int_eq k j))
+takes_part-is (Node k) (Local a) = sym (or_false (int_eq k a.node))
+takes_part-is (Node k) (Stimulus a) = sym (or_false (int_eq k a.node))
+takes_part-is (Channel i j) (Send m from to) = sym (or_false (int_eq i from && int_eq j to))
+takes_part-is (Channel i j) (Receive m from to) = sym (or_false (int_eq i from && int_eq j to))
+takes_part-is (Channel i j) (Local a) = refl
+takes_part-is (Channel i j) (Stimulus a) = refl
+takes_part-is (Script k) (Send m from to) = refl
+takes_part-is (Script k) (Receive m from to) = refl
+takes_part-is (Script k) (Local a) = refl
+takes_part-is (Script k) (Stimulus a) = sym (or_false (int_eq k a.node))
 
 -- a node's step keeps its program
 program-node_answer : (c : NodeState) (a : Action) (d : NodeState) → node_answer c a ≡ Ok d → d.program ≡ c.program

@@ -9,8 +9,9 @@ use Rattle.ioa_compose.specs.declared.configuration.Conf.{Conf}
 use Rattle.ioa_compose.specs.declared.fault.StepFault.{StepFault}
 use Rattle.ioa_compose.specs.declared.fault.StepFault.TheVariants.{NoChannel}
 use Rattle.ioa_compose.specs.Participants.{same_component, participants_of, takes_part}
-use Rattle.ioa_compose.specs.Composition.{component_of, component_names, conf_answer, find_conf, put_conf, put_confs, find_confs, own_steps, changes_of, joint_answer, HasStep, TakesStep, IsJointStep, AllHaveSteps}
-use Rattle.ioa_compose.proofs.Components.{Decides-same_component, same_component-itself, component_names-put_confs, component_of-conf_answer, component_of-find_conf, find_conf-put_conf_same, find_conf-put_conf_other, find_conf-put_confs_other}
+use Rattle.ioa_compose.specs.Composition.{component_of, component_names, conf_answer, find_conf, put_conf, put_confs, find_confs, own_steps, changes_of, joint_answer}
+use Rattle.ioa_compose.specs.JointStep.{HasStep, TakesStep, IsJointStep, AllHaveSteps, HasAnswer}
+use Rattle.ioa_compose.proofs.Components.{Decides-same_component, takes_part-is, same_component-itself, component_names-put_confs, component_of-conf_answer, component_of-find_conf, find_conf-put_conf_same, find_conf-put_conf_other, find_conf-put_confs_other}
 
 -- what own steps are made of: the first component's, and the others'
 record StepParts (a : Action) (k : Component) (ks : List Component) (cs ds : List Conf) : Type 0 where
@@ -69,7 +70,7 @@ joint_answer-parts a cs next h = of_absent (list_any is_none (find_confs (partic
 pub find_conf-joint_other : (k : Component) (a : Action) (cs next : List Conf) → joint_answer a cs ≡ Ok next → takes_part k a ≡ false → find_conf k next ≡ find_conf k cs
 find_conf-joint_other k a cs next h apart =
     let p : JointParts a cs next = joint_answer-parts a cs next h in
-    let elsewhere : list_any (same_component k) (component_names p.changed) ≡ false = rw (component_names-own_steps a (participants_of a) cs p.changed p.steps) apart in
+    let elsewhere : list_any (same_component k) (component_names p.changed) ≡ false = rw (component_names-own_steps a (participants_of a) cs p.changed p.steps) (sym (takes_part-is k a) ∙ apart) in
     rw p.put_in (find_conf-put_confs_other k p.changed cs elsewhere)
 
 -- what a participant comes to: its own step
@@ -111,7 +112,7 @@ own_step k a (l ∷ ks) cs ds c h found part held b there =
 pub find_conf-joint_own : (k : Component) (a : Action) (cs next : List Conf) (c : Conf) → joint_answer a cs ≡ Ok next → takes_part k a ≡ true → find_conf k cs ≡ Some c → StepsTo a c k next
 find_conf-joint_own k a cs next c h part found =
     let p : JointParts a cs next = joint_answer-parts a cs next h in
-    rw p.put_in (own_step k a (participants_of a) cs p.changed c p.steps found part cs c found)
+    rw p.put_in (own_step k a (participants_of a) cs p.changed c p.steps found (sym (takes_part-is k a) ∙ part) cs c found)
 
 -- a joint step keeps the names
 pub component_names-joint_answer : (a : Action) (cs next : List Conf) → joint_answer a cs ≡ Ok next → component_names next ≡ component_names cs
@@ -135,19 +136,19 @@ is_found k a (l ∷ ks) cs ds h part =
     by_test old found further false e part = further part
 
 -- the result is a joint step
-pub joint_answer-is : (a : Action) (cs next : List Conf) → joint_answer a cs ≡ Ok next → IsJointStep a cs next
+pub joint_answer-is : (a : Action) (cs next : List Conf) → joint_answer a cs ≡ Ok next → IsJointStep HasAnswer a cs next
 joint_answer-is a cs next h = record {
   participants = λ k part. taken k part;
   others = λ k apart. find_conf-joint_other k a cs next h apart;
   same_names = component_names-joint_answer a cs next h;
 }
   where
-    taken : (k : Component) → takes_part k a ≡ true → TakesStep a k cs next
+    taken : (k : Component) → takes_part k a ≡ true → TakesStep HasAnswer a k cs next
     taken k part =
         let p : JointParts a cs next = joint_answer-parts a cs next h in
-        let there : IsFound k cs = is_found k a (participants_of a) cs p.changed p.steps part in
+        let there : IsFound k cs = is_found k a (participants_of a) cs p.changed p.steps (sym (takes_part-is k a) ∙ part) in
         let own : StepsTo a there.conf k next = find_conf-joint_own k a cs next there.conf h part there.found in
-        record { old = there.conf; new = own.new; before = there.found; step = own.step; after = own.found }
+        record { old = there.conf; new = own.new; before = there.found; step_of = own.step; after = own.found }
 
 -- own steps that are there
 record HasSteps (a : Action) (ks : List Component) (cs : List Conf) : Type 0 where
@@ -156,20 +157,20 @@ record HasSteps (a : Action) (ks : List Component) (cs : List Conf) : Type 0 whe
   steps : own_steps a (find_confs ks cs) ≡ Ok changed
 
 -- if each component has a step, all own steps are there
-has_steps : (a : Action) (ks : List Component) (cs : List Conf) → ((k : Component) → list_any (same_component k) ks ≡ true → HasStep a k cs) → HasSteps a ks cs
+has_steps : (a : Action) (ks : List Component) (cs : List Conf) → ((k : Component) → list_any (same_component k) ks ≡ true → HasStep HasAnswer a k cs) → HasSteps a ks cs
 has_steps a [] cs each = record { changed = []; present = refl; steps = refl }
 has_steps a (k ∷ ks) cs each =
-    let p : HasStep a k cs = each k (rw (same_component-itself k) refl) in
+    let p : HasStep HasAnswer a k cs = each k (rw (same_component-itself k) refl) in
     let others : HasSteps a ks cs = has_steps a ks cs (λ l part. each l (second_true (same_component l k) (list_any (same_component l) ks) part)) in
-    record { changed = p.new ∷ others.changed; present = rw (p.before, others.present) refl; steps = rw (p.before, p.step, others.steps) refl }
+    record { changed = p.new ∷ others.changed; present = rw (p.before, others.present) refl; steps = rw (p.before, p.step_of, others.steps) refl }
   where
     second_true : (s t : Bool) → t ≡ true → (s || t) ≡ true
     second_true true t h = refl
     second_true false t h = h
 
 -- if each participant has a step there is a joint step
-pub joint_answer-exists : (a : Action) (cs : List Conf) → AllHaveSteps a cs → (next : List Conf) × (joint_answer a cs ≡ Ok next)
+pub joint_answer-exists : (a : Action) (cs : List Conf) → AllHaveSteps HasAnswer a cs → (next : List Conf) × (joint_answer a cs ≡ Ok next)
 joint_answer-exists a cs each =
-    let p : HasSteps a (participants_of a) cs = has_steps a (participants_of a) cs each in
+    let p : HasSteps a (participants_of a) cs = has_steps a (participants_of a) cs (λ k part. each k (takes_part-is k a ∙ part)) in
     let taken : changes_of a (find_confs (participants_of a) cs) ≡ Ok p.changed = rw (p.present, p.steps) refl in
     (put_confs p.changed cs, rw taken refl)

@@ -1,6 +1,7 @@
 -- the lemmas of this crate
 pub mod Arguments
 pub mod Components
+pub mod Compositions
 pub mod Deliveries
 pub mod Items
 pub mod JointSteps
@@ -9,3 +10,5 @@ pub mod Positions
 pub mod Projections
 pub mod Replays
 pub mod SameConfs
+pub mod Signatures
+pub mod Starts

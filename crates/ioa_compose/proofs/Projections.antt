@@ -1,30 +1,67 @@
--- Executions projected on their components.
-use Rattle.std.proofs.Common.{◌≡◌, Bool, true, false, List, [], ◌∷◌, Some, Result, Ok, Err, refl, ◌∙◌}
+-- Executions of the composition, and their projections on its components.
+use Rattle.std.proofs.Common.{◌≡◌, Bool, true, false, List, [], ◌∷◌, Some, Result, Ok, Err, refl, sym, ◌∙◌, subst}
+use Rattle.std.specs.List.{IsDistinct}
+use Rattle.ioa_actions.specs.declared.component.Component.{Component}
 use Rattle.ioa_actions.specs.declared.action.Action.{Action}
 use Rattle.ioa_compose.specs.declared.configuration.Conf.{Conf}
 use Rattle.ioa_compose.specs.declared.fault.StepFault.{StepFault}
-use Rattle.ioa_compose.specs.Participants.{takes_part}
-use Rattle.ioa_compose.specs.Composition.{find_conf, joint_answer}
-use Rattle.ioa_compose.specs.Executions.{after_step, replay, replay_one, projection_of, ProjectsOnEach}
-use Rattle.ioa_compose.proofs.JointSteps.{StepsTo, find_conf-joint_own, find_conf-joint_other}
+use Rattle.ioa_compose.specs.Participants.{same_component, takes_part}
+use Rattle.ioa_compose.specs.Composition.{component_names, find_conf, joint_answer}
+use Rattle.ioa_compose.specs.Executions.{after_step, replay, projection_of}
+use Rattle.ioa_compose.specs.Automata.{IsExecution, ProjectsOnEach}
+use Rattle.ioa_compose.specs.Steps.{IsStep}
+use Rattle.ioa_compose.specs.JointStep.{TakesStep, IsJointStep, FitsJointStep, HasAnswer}
+use Rattle.ioa_compose.proofs.JointSteps.{joint_answer-is}
+use Rattle.ioa_compose.proofs.Compositions.{is_joint_step, joint_answer-from}
 
--- an execution, projected on a component, is one of that component
-pub projects : (actions : List Action) (start confs : List Conf) → replay actions start ≡ Some confs → ProjectsOnEach start actions confs
-projects [] start confs h k c found = let same_confs : start ≡ confs = cc in (c, rw (← same_confs) found, refl)
-projects (a ∷ more) start confs h k c found = at_step (joint_answer a start) refl h (λ mid e. projects more mid confs e k)
+-- a replay is an execution by any steps that the runtime's are
+pub replay-execution : (T : Action → List Conf → List Conf → Type 0) → ((a : Action) (s t : List Conf) → joint_answer a s ≡ Ok t → T a s t) →
+    (actions : List Action) (start confs : List Conf) → replay actions start ≡ Some confs → IsExecution T start actions confs
+replay-execution T f [] start confs h = of_some h
+  where
+    of_some : Some start ≡ Some confs → start ≡ confs
+    of_some h = cc
+replay-execution T f (a ∷ more) start confs h = at_step (joint_answer a start) refl h (λ mid e. replay-execution T f more mid confs e)
+  where
+    at_step : (r : Result (List Conf) StepFault) → joint_answer a start ≡ r → after_step (replay more) r ≡ Some confs → ((mid : List Conf) → replay more mid ≡ Some confs → IsExecution T mid more confs) → IsExecution T start (a ∷ more) confs
+    at_step (Ok mid) e h further = (mid, f a start mid e, further mid h)
+    at_step (Err f) e h further = absurd (cc)
+
+-- a replay is an execution of the composition
+pub replays : (actions : List Action) (start confs : List Conf) → replay actions start ≡ Some confs → IsExecution (IsJointStep IsStep) start actions confs
+replays = replay-execution (IsJointStep IsStep) (λ a s t h. (is_joint_step a s t h).0)
+
+-- if the names differ, an execution is a replay if every number met lies within 64 bits
+pub replays-from : (actions : List Action) (start confs : List Conf) → IsDistinct same_component (component_names start) → IsExecution (λ a s t. IsJointStep IsStep a s t × FitsJointStep a s) start actions confs → replay actions start ≡ Some confs
+replays-from [] start confs differ h = rw h refl
+replays-from (a ∷ more) start confs differ h =
+    let step : joint_answer a start ≡ Ok h.0 = joint_answer-from a start h.0 differ h.1.0 h.1.1 in
+    let still : IsDistinct same_component (component_names h.0) = subst (λ (ks : List Component). IsDistinct same_component ks) (sym h.1.0.same_names) differ in
+    rw step (replays-from more h.0 confs still h.2)
+
+-- an execution of a composition, projected on a component, is one of that component
+pub projects : (step : Action → Conf → Conf → Type 0) (actions : List Action) (start confs : List Conf) → IsExecution (IsJointStep step) start actions confs → ProjectsOnEach step start actions confs
+projects step [] start confs h k c found = (c, rw (← h) found, refl)
+projects step (a ∷ more) start confs h k c found = at_part (takes_part k a) refl (λ d e. projects step more h.0 confs h.2 k d e)
   where
     Projected : List Action → Conf → Type 0
-    Projected actions c = (d : Conf) × (find_conf k confs ≡ Some d) × (replay_one (projection_of k actions) c ≡ Some d)
+    Projected actions c = (d : Conf) × (find_conf k confs ≡ Some d) × IsExecution step c (projection_of k actions) d
 
-    at_part : (mid : List Conf) → joint_answer a start ≡ Ok mid → ((c : Conf) → find_conf k mid ≡ Some c → Projected more c) → (t : Bool) → takes_part k a ≡ t → Projected (a ∷ more) c
-    at_part mid e further true part =
-        let own : StepsTo a c k mid = find_conf-joint_own k a start mid c e part found in
-        let end : Projected more own.new = further own.new own.found in
-        (end.0, end.1, rw (part, own.step) end.2)
-    at_part mid e further false part =
-        let end : Projected more c = further c (find_conf-joint_other k a start mid e part ∙ found) in
+    of_some : (x y : Conf) → Some x ≡ Some y → x ≡ y
+    of_some x y h = cc
+
+    own : TakesStep step a k start h.0 → takes_part k a ≡ true → ((d : Conf) → find_conf k h.0 ≡ Some d → Projected more d) → Projected (a ∷ more) c
+    own t part further =
+        let end : Projected more t.new = further t.new t.after in
+        let same_old : t.old ≡ c = of_some t.old c (sym t.before ∙ found) in
+        (end.0, end.1, rw part (t.new, subst (λ (x : Conf). step a x t.new) same_old t.step_of, end.2))
+
+    at_part : (t : Bool) → takes_part k a ≡ t → ((d : Conf) → find_conf k h.0 ≡ Some d → Projected more d) → Projected (a ∷ more) c
+    at_part true part further = own (h.1.participants k part) part further
+    at_part false part further =
+        let end : Projected more c = further c (h.1.others k part ∙ found) in
         (end.0, end.1, rw part end.2)
 
-    at_step : (r : Result (List Conf) StepFault) → joint_answer a start ≡ r → after_step (replay more) r ≡ Some confs → ((mid : List Conf) → replay more mid ≡ Some confs → (c : Conf) → find_conf k mid ≡ Some c → Projected more c) → Projected (a ∷ more) c
-    at_step (Ok mid) e h further = at_part mid e (further mid h) (takes_part k a) refl
-    at_step (Err f) e h further = absurd (cc)
+-- a replay, projected on a component, is one of the steps that the runtime finds for that component
+pub replay_projects : (actions : List Action) (start confs : List Conf) → replay actions start ≡ Some confs → ProjectsOnEach HasAnswer start actions confs
+replay_projects actions start confs h = projects HasAnswer actions start confs (replay-execution (IsJointStep HasAnswer) joint_answer-is actions start confs h)

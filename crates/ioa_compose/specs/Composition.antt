@@ -13,7 +13,7 @@ use Rattle.ioa_compose.specs.declared.fault.StepFault.{StepFault}
 use Rattle.ioa_compose.specs.declared.fault.StepFault.TheVariants.{NoChannel}
 use Rattle.ioa_compose.specs.NodeStep.{node_answer}
 use Rattle.ioa_compose.specs.Queues.{queue_answer}
-use Rattle.ioa_compose.specs.Participants.{same_component, participants_of, takes_part}
+use Rattle.ioa_compose.specs.Participants.{same_component, participants_of}
 
 -- the name of a configuration's component
 abbrev pub component_of : Conf → Component
@@ -60,28 +60,3 @@ changes_of a rs = if list_any is_none rs then Err NoChannel else own_steps a rs
 -- the result of an action in the composition: each participant takes its own step, and all others stay (Lynch 8.2)
 abbrev pub joint_answer : Action → List Conf → Result (List Conf) StepFault
 joint_answer a cs = and_then (changes_of a (find_confs (participants_of a) cs)) (λ ds. Ok (put_confs ds cs))
-
--- a component has a step by an action
-pub record HasStep (a : Action) (k : Component) (cs : List Conf) : Type 0 where
-  pub old : Conf
-  pub new : Conf
-  pub before : find_conf k cs ≡ Some old
-  pub step : conf_answer a old ≡ Ok new
-
--- a component takes its step by an action
-pub record TakesStep (a : Action) (k : Component) (cs next : List Conf) : Type 0 where
-  pub old : Conf
-  pub new : Conf
-  pub before : find_conf k cs ≡ Some old
-  pub step : conf_answer a old ≡ Ok new
-  pub after : find_conf k next ≡ Some new
-
--- each component that has an action takes its own step by it, and all others stay (Lynch 8.2)
-pub record IsJointStep (a : Action) (cs next : List Conf) : Type 0 where
-  pub participants : (k : Component) → takes_part k a ≡ true → TakesStep a k cs next
-  pub others : (k : Component) → takes_part k a ≡ false → find_conf k next ≡ find_conf k cs
-  pub same_names : component_names next ≡ component_names cs
-
--- each component that has an action has a step by it (Lynch 8.2)
-abbrev pub AllHaveSteps : Action → List Conf → Type 0
-AllHaveSteps a cs = (k : Component) → takes_part k a ≡ true → HasStep a k cs

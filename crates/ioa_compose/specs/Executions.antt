@@ -9,7 +9,7 @@ use Rattle.ioa_compose.specs.declared.fault.StepFault.TheVariants.{Memory}
 use Rattle.ioa_compose.specs.declared.replaying.ReplayFault.{ReplayFault}
 use Rattle.ioa_compose.specs.StepFaults.{step_fault_text}
 use Rattle.ioa_compose.specs.Participants.{takes_part}
-use Rattle.ioa_compose.specs.Composition.{conf_answer, joint_answer, find_conf}
+use Rattle.ioa_compose.specs.Composition.{joint_answer}
 
 -- further steps after a step; none if it is no step
 abbrev pub after_step : {C : Type 0} → (C → Option C) → Result C StepFault → Option C
@@ -21,11 +21,6 @@ after_step steps (Err e) = None
 abbrev pub replay : List Action → List Conf → Option (List Conf)
 replay [] cs = Some cs
 replay (a ∷ more) cs = after_step (replay more) (joint_answer a cs)
-
--- one component's configuration after its own steps by a list of actions, if each action is a step (Lynch 8.1)
-abbrev pub replay_one : List Action → Conf → Option Conf
-replay_one [] c = Some c
-replay_one (a ∷ more) c = after_step (replay_one more) (conf_answer a c)
 
 -- the projection of a list of actions on a component: those in which it takes part (Lynch 8.2)
 abbrev pub projection_of : Component → List Action → List Action
@@ -51,9 +46,3 @@ replay_fault_text f = step_fault_text f.fault ++ (codes " at " ++ decimal f.posi
 abbrev pub IsReplay : {X : Type 0} → (X → List Conf) → Result X ReplayFault → Result (List Conf) ReplayFault → Type 0
 IsReplay view (Ok x) meant = meant ≡ Ok (view x)
 IsReplay view (Err e) meant = (e.fault ≡ Memory) ⊎ (meant ≡ Err e)
-
--- each component's own replay of its projection leads to the configuration that it has at the end (Lynch 8.2)
-abbrev pub ProjectsOnEach : List Conf → List Action → List Conf → Type 0
-ProjectsOnEach start actions confs =
-    (k : Component) (c : Conf) → find_conf k start ≡ Some c
-    → (d : Conf) × (find_conf k confs ≡ Some d) × (replay_one (projection_of k actions) c ≡ Some d)

@@ -1,9 +1,9 @@
 -- The components that take part in an action (Lynch 8.2; the profile's for scripts).
 use Rattle.std.specs.Prelude.{Bool, false, ◌&&◌, List, [], ◌∷◌}
-use Rattle.std.specs.List.{list_any}
 use Rattle.std.specs.Ordering.{int_eq}
 use Rattle.ioa_actions.specs.declared.component.Component.{Component}
 use Rattle.ioa_actions.specs.declared.component.Component.TheVariants.{Node, Channel, Script}
+use Rattle.ioa_actions.specs.ActionParts.{node_of}
 use Rattle.ioa_actions.specs.declared.action.Action.{Action}
 use Rattle.ioa_actions.specs.declared.action.Action.TheVariants.{Send, Receive, Local, Stimulus}
 use Rattle.ioa_compose.specs.declared.parties.Parties.{Parties}
@@ -33,6 +33,15 @@ same_component (Script i) (Node j) = false
 same_component (Script i) (Channel j l) = false
 same_component (Script i) (Script j) = int_eq i j
 
--- whether a component takes part in an action
+-- whether a component has an action in its signature (Lynch 8.2): a node the actions of its own, a channel the sends and
+-- the receives between its two ends (Lynch 14.1), and a script the stimuli of its node (profile)
 abbrev pub takes_part : Component → Action → Bool
-takes_part k a = list_any (same_component k) (participants_of a)
+takes_part (Node k) a = int_eq k (node_of a)
+takes_part (Channel i j) (Send m from to) = int_eq i from && int_eq j to
+takes_part (Channel i j) (Receive m from to) = int_eq i from && int_eq j to
+takes_part (Channel i j) (Local a) = false
+takes_part (Channel i j) (Stimulus a) = false
+takes_part (Script k) (Send m from to) = false
+takes_part (Script k) (Receive m from to) = false
+takes_part (Script k) (Local a) = false
+takes_part (Script k) (Stimulus a) = int_eq k a.node

@@ -1,15 +1,26 @@
 //! Laws of executions. Each law is the contract of a function that does nothing.
 
-ghost use Rattle.std.specs.Prelude.{◌≡◌, ◌↔◌, ◌∷◌, List, Some, Ok};
+ghost use Rattle.std.specs.Prelude.{◌≡◌, ◌↔◌, ◌||◌, ℤ, true, List, Some, Ok};
+ghost use Rattle.std.specs.List.{IsDistinct, list_any};
+ghost use Rattle.std.specs.Option.{is_some};
+ghost use Rattle.ioa_actions.specs.ActionParts.{node_of};
+ghost use Rattle.ioa_actions.specs.declared.component.Component.{Component};
 ghost use Rattle.ioa_actions.specs.declared.action.Action.{Action};
 ghost use Rattle.ioa_compose.specs.declared.configuration.Conf.{Conf};
-ghost use Rattle.ioa_compose.specs.declared.queue.Item.{Item};
 ghost use Rattle.ioa_compose.specs.NodeState.{NodeState};
 ghost use Rattle.ioa_compose.specs.NodeStep.{node_answer, IsNodeStep, FitsNodeStep};
-ghost use Rattle.ioa_compose.specs.Queues.{items_behind};
-ghost use Rattle.ioa_compose.specs.Composition.{joint_answer, IsJointStep, AllHaveSteps};
-ghost use Rattle.ioa_compose.specs.Executions.{replay, ProjectsOnEach};
-ghost use Rattle.ioa_compose.specs.Channels.{HandsOutInOrder, HandsOutPrefix};
+ghost use Rattle.ioa_compose.specs.Queues.{QueueState, queue_answer};
+ghost use Rattle.ioa_compose.specs.Participants.{same_component, participants_of, takes_part};
+ghost use Rattle.ioa_compose.specs.Steps.{IsStep, IsQueueStep};
+ghost use Rattle.ioa_compose.specs.JointStep.{IsJointStep, FitsJointStep, AllHaveSteps, HasAnswer};
+ghost use Rattle.ioa_compose.specs.Composition.{component_names, joint_answer};
+ghost use Rattle.ioa_compose.specs.Executions.{replay};
+ghost use Rattle.ioa_system.specs.Declarations.{IsWellDeclared};
+ghost use Rattle.ioa_system.specs.Systems.{SystemParts};
+ghost use Rattle.ioa_compose.specs.Start.{start};
+ghost use Rattle.ioa_compose.specs.IsStart.{IsStart};
+ghost use Rattle.ioa_compose.specs.Automata.{IsExecution, ProjectsOnEach};
+ghost use Rattle.ioa_compose.specs.Channels.{HandsOutInOrder, HandsOutPrefix, message_sent, message_received};
 
 /// The code gives a node's new configuration exactly if a step of the node leads to it (Lynch 8.1) and every number
 /// that this step meets lies within 64 bits.
@@ -20,32 +31,66 @@ pub fn node_step_law()
         → node_answer c a ≡ Ok d }
 {}
 
-/// An item comes out of a queue exactly if it is the first one (Lynch 14.1).
+/// The code gives a queue's new state exactly if a step of the queue leads to it (Lynch 14.1).
 pub fn queue_step_law()
-    ensures { (item : Item) (items rest : List Item) → (items_behind item items ≡ Ok rest) ↔ (items ≡ item ∷ rest) }
+    ensures { (q : QueueState) (a : Action) (r : QueueState) → (queue_answer q a ≡ Ok r) ↔ IsQueueStep a q r }
 {}
 
-/// In a joint step each component that has the action takes its own step, and all others stay. There is a joint step
-/// if each component that has the action has a step (Lynch 8.2).
+/// The code gives a list of configurations exactly if it is a joint step from here, in which each component that has the
+/// action takes its own step and all others stay (Lynch 8.2), and every number that the participants meet lies within 64
+/// bits. If no component is listed twice, there is one joint step by an action at most. There is one if each component
+/// that has the action has a step.
 pub fn joint_step_law()
     ensures step { (action : Action) (confs next : List Conf) → joint_answer action confs ≡ Ok next
-        → IsJointStep action confs next }
-    ensures enabled { (action : Action) (confs : List Conf) → AllHaveSteps action confs
+        → IsJointStep IsStep action confs next × FitsJointStep action confs }
+    ensures answer { (action : Action) (confs next : List Conf) → IsDistinct same_component (component_names confs)
+        → IsJointStep IsStep action confs next → FitsJointStep action confs → joint_answer action confs ≡ Ok next }
+    ensures one { (action : Action) (confs next other : List Conf) → IsDistinct same_component (component_names confs)
+        → IsJointStep IsStep action confs next → IsJointStep IsStep action confs other → next ≡ other }
+    ensures enabled { (action : Action) (confs : List Conf) → AllHaveSteps HasAnswer action confs
         → (next : List Conf) × (joint_answer action confs ≡ Ok next) }
 {}
 
+/// The components that have an action in their signature are its participants (Lynch 8.2). An action is its own node's
+/// and no other node's, and a channel has exactly what is sent and what is received on it (Lynch 14.1).
+pub fn signature_law()
+    ensures participants { (k : Component) (action : Action) →
+        takes_part k action ≡ list_any (same_component k) (participants_of action) }
+    ensures nodes { (k : ℤ) (action : Action) → (takes_part (Component.Node k) action ≡ true) ↔ (k ≡ node_of action) }
+    ensures channels { (i j : ℤ) (action : Action) → takes_part (Component.Channel i j) action
+        ≡ (is_some (message_sent i j action) || is_some (message_received i j action)) }
+{}
+
+/// The start of a system that declares each thing once has each component of the system once and no other: each node with
+/// its program and its initial values, each declared channel and each script with an empty queue (Lynch 8.1 and 14.1).
+pub fn start_law()
+    ensures { (s : SystemParts) → IsWellDeclared s → IsStart s (start s) }
+{}
+
+/// A replay is an execution of the composition (Lynch 8.1). If no component is listed twice at the start, an execution
+/// is a replay if every number that its steps meet lies within 64 bits.
+pub fn execution_law()
+    ensures execution { (actions : List Action) (start confs : List Conf) → replay actions start ≡ Some confs
+        → IsExecution (IsJointStep IsStep) start actions confs }
+    ensures replay { (actions : List Action) (start confs : List Conf) → IsDistinct same_component (component_names start)
+        → IsExecution (λ a s t. IsJointStep IsStep a s t × FitsJointStep a s) start actions confs
+        → replay actions start ≡ Some confs }
+{}
+
 /// The projection of an execution on a component is an execution of that component. It ends in the configuration that
-/// the component has at the end (Lynch 8.2).
+/// the component has at the end (Lynch 8.2). The same is true of a replay and the steps that the code finds.
 pub fn projection_law()
-    ensures { (actions : List Action) (start confs : List Conf) → replay actions start ≡ Some confs
-        → ProjectsOnEach start actions confs }
+    ensures execution { (actions : List Action) (start confs : List Conf) →
+        IsExecution (IsJointStep IsStep) start actions confs → ProjectsOnEach IsStep start actions confs }
+    ensures replay { (actions : List Action) (start confs : List Conf) → replay actions start ≡ Some confs
+        → ProjectsOnEach HasAnswer start actions confs }
 {}
 
 /// In an execution each channel hands out its messages in the order in which they were sent, and keeps the rest: the
 /// messages received are a prefix of the messages sent (Lynch 14.1).
 pub fn prefix_law()
-    ensures queued { (actions : List Action) (start confs : List Conf) → replay actions start ≡ Some confs
-        → HandsOutInOrder start actions confs }
-    ensures from_empty { (actions : List Action) (start confs : List Conf) → replay actions start ≡ Some confs
-        → HandsOutPrefix start actions confs }
+    ensures queued { (actions : List Action) (start confs : List Conf) →
+        IsExecution (IsJointStep IsStep) start actions confs → HandsOutInOrder start actions confs }
+    ensures from_empty { (actions : List Action) (start confs : List Conf) →
+        IsExecution (IsJointStep IsStep) start actions confs → HandsOutPrefix start actions confs }
 {}

@@ -1,0 +1,204 @@
+-- Steps of components and of their composition, by relation, and what the runtime returns for them.
+use Rattle.std.proofs.Common.{◌≡◌, Bool, true, false, List, [], ◌∷◌, Option, Some, None, Result, Ok, Err, refl, sym, ap, subst, ◌∙◌, map, take, length, if◌then◌else◌}
+use Rattle.std.specs.List.{AllByRecursion, IsDistinct}
+use Rattle.ioa_values.specs.Data.{Data}
+use Rattle.ioa_values.specs.Outcome.{and_then}
+use Rattle.ioa_terms.specs.declared.name.Name.{Name}
+use Rattle.ioa_terms.specs.Bindings.{Bindings}
+use Rattle.ioa_terms.specs.Performance.{after}
+use Rattle.ioa_actions.specs.declared.component.Component.{Component}
+use Rattle.ioa_actions.specs.declared.action.Action.{Action}
+use Rattle.ioa_actions.specs.declared.action.Action.TheVariants as action
+use Rattle.ioa_system.specs.InView.{guard_or_effect}
+use Rattle.ioa_system.specs.Parts.{PlainRule}
+use Rattle.ioa_compose.specs.declared.configuration.Conf.{Conf}
+use Rattle.ioa_compose.specs.declared.configuration.Conf.TheVariants.{Node, Queue}
+use Rattle.ioa_compose.specs.declared.queue.Item.{Item}
+use Rattle.ioa_compose.specs.declared.queue.Item.TheVariants.{Message, Stimulus}
+use Rattle.ioa_compose.specs.declared.fault.StepFault.{StepFault}
+use Rattle.ioa_compose.specs.NodeState.{NodeState, node_state}
+use Rattle.ioa_compose.specs.NodeStep.{node_answer, rule_for, rule_bindings, IsNodeStep}
+use Rattle.ioa_compose.specs.Queues.{QueueState, queue_state, queue_answer, items_behind, without_first, with_last}
+use Rattle.ioa_compose.specs.Participants.{same_component, takes_part}
+use Rattle.ioa_compose.specs.Composition.{component_of, component_names, conf_answer, find_conf, joint_answer}
+use Rattle.ioa_compose.specs.Steps.{IsQueueStep, IsStep, FitsStep}
+use Rattle.ioa_compose.specs.JointStep.{HasStep, TakesStep, IsJointStep, HasAnswer, FitsJointStep}
+use Rattle.ioa_compose.proofs.Components.{Decides-same_component, same_component-itself}
+use Rattle.ioa_compose.proofs.Items.{items_behind_is}
+use Rattle.ioa_compose.proofs.JointSteps.{joint_answer-is, joint_answer-exists}
+use Rattle.ioa_compose.proofs.NodeSteps.{is_node_step, node_answer_is}
+
+-- what comes out of a queue was its first item
+taken : (x : Item) (q r : QueueState) → without_first x q ≡ Ok r → q ≡ queue_state r.component (x ∷ r.items)
+taken x q r h = by_items (items_behind x q.items) refl h
+  where
+    by_items : (s : Result (List Item) StepFault) → items_behind x q.items ≡ s → and_then s (λ items. Ok (queue_state q.component items)) ≡ Ok r → q ≡ queue_state r.component (x ∷ r.items)
+    by_items (Ok items) e h =
+        let same_state : queue_state q.component items ≡ r = cc in
+        let first : q.items ≡ x ∷ items = (items_behind_is x q.items items).0 e in
+        rw (← same_state) (ap (λ (xs : List Item). queue_state q.component xs) first)
+    by_items (Err f) e h = absurd (cc)
+
+-- the first item comes out of a queue
+comes_out : (x : Item) (q r : QueueState) → q ≡ queue_state r.component (x ∷ r.items) → without_first x q ≡ Ok r
+comes_out x q r e =
+    let behind : items_behind x q.items ≡ Ok r.items = (items_behind_is x q.items r.items).1 (ap (λ (s : QueueState). s.items) e) in
+    let name : q.component ≡ r.component = ap (λ (s : QueueState). s.component) e in
+    rw behind (ap (λ k. Ok (queue_state k r.items)) name)
+
+-- what the runtime returns for a queue is its step
+pub queue_answer-is : (q : QueueState) (a : Action) (r : QueueState) → queue_answer q a ≡ Ok r → IsQueueStep a q r
+queue_answer-is q (action.Send m i j) r h = let same_state : with_last (Message m) q ≡ r = cc in sym same_state
+queue_answer-is q (action.Receive m i j) r h = taken (Message m) q r h
+queue_answer-is q (action.Local a) r h = absurd (cc)
+queue_answer-is q (action.Stimulus a) r h = taken (Stimulus a) q r h
+
+-- and each step of a queue is returned
+pub queue_answer-from : (q : QueueState) (a : Action) (r : QueueState) → IsQueueStep a q r → queue_answer q a ≡ Ok r
+queue_answer-from q (action.Send m i j) r e = ap Ok (sym e)
+queue_answer-from q (action.Receive m i j) r e = comes_out (Message m) q r e
+queue_answer-from q (action.Local a) r e = absurd e
+queue_answer-from q (action.Stimulus a) r e = comes_out (Stimulus a) q r e
+
+-- what the runtime returns for a component is its step, and what the step meets lies within 64 bits
+pub is_step : (a : Action) (c d : Conf) → conf_answer a c ≡ Ok d → IsStep a c d × FitsStep a c
+unfolding conf_answer
+is_step a (Node c) d h = of_node (node_answer c a) refl d h
+  where
+    of_node : (r : Result NodeState StepFault) → node_answer c a ≡ r → (d : Conf) → and_then r (λ s. Ok (Node s)) ≡ Ok d → IsStep a (Node c) d × FitsStep a (Node c)
+    of_node (Ok s) e (Node d) h =
+        let same_state : s ≡ d = cc in
+        let step = is_node_step c a s e in
+        (subst (λ (x : NodeState). IsNodeStep a c x) same_state step.0, step.1)
+    of_node (Ok s) e (Queue r) h = absurd (cc)
+    of_node (Err f) e d h = absurd (cc)
+is_step a (Queue q) d h = of_queue (queue_answer q a) refl d h
+  where
+    of_queue : (r : Result QueueState StepFault) → queue_answer q a ≡ r → (d : Conf) → and_then r (λ s. Ok (Queue s)) ≡ Ok d → IsStep a (Queue q) d × FitsStep a (Queue q)
+    of_queue (Ok s) e (Queue r) h =
+        let same_state : s ≡ r = cc in
+        (queue_answer-is q a r (e ∙ ap Ok same_state), tt)
+    of_queue (Ok s) e (Node d) h = absurd (cc)
+    of_queue (Err f) e d h = absurd (cc)
+
+-- and each step of a component is returned, if what it meets lies within 64 bits
+pub conf_answer-from : (a : Action) (c d : Conf) → IsStep a c d → FitsStep a c → conf_answer a c ≡ Ok d
+unfolding conf_answer
+conf_answer-from a (Node c) (Node d) step fits = rw (node_answer_is c a d step fits) refl
+conf_answer-from a (Node c) (Queue r) step fits = absurd step
+conf_answer-from a (Queue q) (Node d) step fits = absurd step
+conf_answer-from a (Queue q) (Queue r) step fits = rw (queue_answer-from q a r step) refl
+
+-- a node has one step by an action
+one_node_step : (a : Action) (c d e : NodeState) → IsNodeStep a c d → IsNodeStep a c e → d ≡ e
+one_node_step a c d e p q =
+    let rule : p.rule ≡ q.rule = of_some p.rule q.rule (sym p.mine ∙ q.mine) in
+    let left : Some p.left ≡ Some q.left = sym p.effect ∙ ap (λ (r : PlainRule). after r.transition.effect (rule_bindings guard_or_effect r a c)) rule ∙ q.effect in
+    let same_left : p.left ≡ q.left = of_some p.left q.left left in
+    p.reached ∙ ap (λ (b : Bindings). node_state c.program (take (length c.variables) (map (λ x. x.1) b))) same_left ∙ sym q.reached
+  where
+    of_some : {A : Type 0} (x y : A) → Some x ≡ Some y → x ≡ y
+    of_some x y h = cc
+
+-- a component has one step by an action
+pub one_step : (a : Action) (c d e : Conf) → IsStep a c d → IsStep a c e → d ≡ e
+one_step a (Node c) (Node d) (Node e) p q = ap Node (one_node_step a c d e p q)
+one_step a (Node c) (Node d) (Queue s) p q = absurd q
+one_step a (Node c) (Queue r) e p q = absurd p
+one_step a (Queue c) (Node d) e p q = absurd p
+one_step a (Queue c) (Queue r) (Node e) p q = absurd q
+one_step a (Queue c) (Queue r) (Queue s) p q =
+    let both : Ok r ≡ Ok s = sym (queue_answer-from c a r p) ∙ queue_answer-from c a s q in
+    let same_state : r ≡ s = cc in ap Queue same_state
+
+-- a joint step by other steps of its participants
+pub joint_step-map : (S T : Action → Conf → Conf → Type 0) (a : Action) (cs next : List Conf) →
+    ((k : Component) (c d : Conf) → takes_part k a ≡ true → find_conf k cs ≡ Some c → S a c d → T a c d) → IsJointStep S a cs next → IsJointStep T a cs next
+joint_step-map S T a cs next f p = record {
+  participants = λ k part. at k part (p.participants k part);
+  others = p.others;
+  same_names = p.same_names;
+}
+  where
+    at : (k : Component) → takes_part k a ≡ true → TakesStep S a k cs next → TakesStep T a k cs next
+    at k part t = record { old = t.old; new = t.new; before = t.before; step_of = f k t.old t.new part t.before t.step_of; after = t.after }
+
+-- what the runtime returns is a joint step
+pub is_joint_step : (a : Action) (cs next : List Conf) → joint_answer a cs ≡ Ok next → IsJointStep IsStep a cs next × FitsJointStep a cs
+is_joint_step a cs next h =
+    let p : IsJointStep HasAnswer a cs next = joint_answer-is a cs next h in
+    (joint_step-map HasAnswer IsStep a cs next (λ k c d part found e. (is_step a c d e).0) p, λ k c part found. fits k c found (p.participants k part))
+  where
+    fits : (k : Component) (c : Conf) → find_conf k cs ≡ Some c → TakesStep HasAnswer a k cs next → FitsStep a c
+    fits k c found t =
+        let one : t.old ≡ c = of_some t.old c (sym t.before ∙ found) in
+        subst (λ (x : Conf). FitsStep a x) one (is_step a t.old t.new t.step_of).1
+      where
+        of_some : {A : Type 0} (x y : A) → Some x ≡ Some y → x ≡ y
+        of_some x y h = cc
+
+-- a name that differs from all others finds nothing
+find_none : (k : Component) (cs : List Conf) → AllByRecursion (λ l. same_component k l ≡ false) (component_names cs) → find_conf k cs ≡ None
+find_none k [] apart = refl
+find_none k (c ∷ cs) apart = rw apart.0 (find_none k cs apart.1)
+
+-- a name finds what bears it
+find_first : (k : Component) (c : Conf) (cs : List Conf) → k ≡ component_of c → find_conf k (c ∷ cs) ≡ Some c
+find_first k c cs e = rw (e, same_component-itself (component_of c)) refl
+
+-- lists of one list of names, which differ, are equal if each name finds the same in both
+pub same_lists : (cs ds : List Conf) → IsDistinct same_component (component_names cs) → component_names cs ≡ component_names ds → ((k : Component) → find_conf k cs ≡ find_conf k ds) → cs ≡ ds
+unfolding IsDistinct
+same_lists [] [] differ names found = refl
+same_lists [] (d ∷ ds) differ names found = absurd (cc)
+same_lists (c ∷ cs) [] differ names found = absurd (cc)
+same_lists (c ∷ cs) (d ∷ ds) differ names found =
+    let name : component_of c ≡ component_of d = cc in
+    let behind : component_names cs ≡ component_names ds = cc in
+    let both : Some c ≡ Some d = sym (find_first (component_of c) c cs refl) ∙ found (component_of c) ∙ find_first (component_of c) d ds name in
+    let head : c ≡ d = of_some both in
+    let further : cs ≡ ds = same_lists cs ds differ.1 behind (λ k. later name behind k (same_component k (component_of c)) refl) in
+    cc
+  where
+    of_some : Some c ≡ Some d → c ≡ d
+    of_some h = cc
+
+    later : component_of c ≡ component_of d → component_names cs ≡ component_names ds → (k : Component) (t : Bool) → same_component k (component_of c) ≡ t → find_conf k cs ≡ find_conf k ds
+    later name behind k true e =
+        let one : k ≡ component_of c = (Decides-same_component k (component_of c)).0 e in
+        let apart : AllByRecursion (λ l. same_component (component_of c) l ≡ false) (component_names cs) = differ.0 in
+        let other : AllByRecursion (λ l. same_component (component_of c) l ≡ false) (component_names ds) = subst (λ (ks : List Component). AllByRecursion (λ l. same_component (component_of c) l ≡ false) ks) behind apart in
+        rw one (find_none (component_of c) cs apart ∙ sym (find_none (component_of c) ds other))
+    later name behind k false e =
+        let at : find_conf k (c ∷ cs) ≡ find_conf k (d ∷ ds) = found k in
+        let not_d : same_component k (component_of d) ≡ false = rw (← name) e in
+        rw (e, not_d) at at
+
+-- if the names differ there is one joint step by an action
+pub one_joint_step : (a : Action) (cs next other : List Conf) → IsDistinct same_component (component_names cs) → IsJointStep IsStep a cs next → IsJointStep IsStep a cs other → next ≡ other
+one_joint_step a cs next other differ p q =
+    same_lists next other (subst (λ (ks : List Component). IsDistinct same_component ks) (sym p.same_names) differ) (p.same_names ∙ sym q.same_names) (λ k. at k (takes_part k a) refl)
+  where
+    of_some : {A : Type 0} (x y : A) → Some x ≡ Some y → x ≡ y
+    of_some x y h = cc
+
+    own : (k : Component) → TakesStep IsStep a k cs next → TakesStep IsStep a k cs other → find_conf k next ≡ find_conf k other
+    own k s t =
+        let old : t.old ≡ s.old = of_some t.old s.old (sym t.before ∙ s.before) in
+        let new : s.new ≡ t.new = one_step a s.old s.new t.new s.step_of (subst (λ (c : Conf). IsStep a c t.new) old t.step_of) in
+        s.after ∙ ap Some new ∙ sym t.after
+
+    at : (k : Component) (t : Bool) → takes_part k a ≡ t → find_conf k next ≡ find_conf k other
+    at k true part = own k (p.participants k part) (q.participants k part)
+    at k false apart = p.others k apart ∙ sym (q.others k apart)
+
+-- if the names differ, a joint step is returned if every number that it meets lies within 64 bits
+pub joint_answer-from : (a : Action) (cs next : List Conf) → IsDistinct same_component (component_names cs) → IsJointStep IsStep a cs next → FitsJointStep a cs → joint_answer a cs ≡ Ok next
+joint_answer-from a cs next differ p fits =
+    let answered : IsJointStep HasAnswer a cs next = joint_step-map IsStep HasAnswer a cs next (λ k c d part found step. conf_answer-from a c d step (fits k c part found)) p in
+    let there = joint_answer-exists a cs (λ k part. has (answered.participants k part)) in
+    let same_next : there.0 ≡ next = one_joint_step a cs there.0 next differ (is_joint_step a cs there.0 there.1).0 p in
+    there.1 ∙ ap Ok same_next
+  where
+    has : {k : Component} → TakesStep HasAnswer a k cs next → HasStep HasAnswer a k cs
+    has t = record { old = t.old; new = t.new; before = t.before; step_of = t.step_of }

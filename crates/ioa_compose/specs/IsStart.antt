@@ -1,0 +1,42 @@
+-- What the start of a system is (Lynch 8.1, 8.2 and 14.1).
+use Rattle.std.specs.Prelude.{◌≡◌, ℤ, Bool, true, ◌&&◌, List, [], Some}
+use Rattle.std.specs.List.{AllByRecursion, IsDistinct, list_all, list_any}
+use Rattle.std.specs.Ordering.{int_eq}
+use Rattle.ioa_actions.specs.declared.component.Component.{Component}
+use Rattle.ioa_actions.specs.declared.component.Component.TheVariants as component
+use Rattle.ioa_source.specs.declared.declaration.Channel.{Channel}
+use Rattle.ioa_system.specs.Parts.{Parts}
+use Rattle.ioa_system.specs.Systems.{SystemParts}
+use Rattle.ioa_compose.specs.declared.configuration.Conf.{Conf}
+use Rattle.ioa_compose.specs.declared.configuration.Conf.TheVariants.{Node, Queue}
+use Rattle.ioa_compose.specs.NodeState.{node_state}
+use Rattle.ioa_compose.specs.Queues.{queue_state}
+use Rattle.ioa_compose.specs.Participants.{same_component}
+use Rattle.ioa_compose.specs.Composition.{component_names, find_conf}
+
+-- whether a component is one of a system: a node or its script, of which there is a program, or a declared channel
+abbrev pub is_component_of : SystemParts → Component → Bool
+is_component_of s (component.Node k) = list_any (λ p. int_eq p.node k) s.programs
+is_component_of s (component.Channel i j) = list_any (λ c. int_eq c.from i && int_eq c.to j) s.channels
+is_component_of s (component.Script k) = list_any (λ p. int_eq p.node k) s.programs
+
+-- a component starts with an empty queue
+abbrev pub StartsEmpty : List Conf → Component → Type 0
+StartsEmpty cs k = find_conf k cs ≡ Some (Queue (queue_state k []))
+
+-- a node starts with its program and the initial values of its variables
+abbrev pub StartsInitial : List Conf → Parts → Type 0
+StartsInitial cs p = find_conf (component.Node p.node) cs ≡ Some (Node (node_state p p.initial))
+
+-- the start of a system
+pub record IsStart (s : SystemParts) (cs : List Conf) : Type 0 where
+  -- no component is there twice (Lynch 8.2)
+  pub once : IsDistinct same_component (component_names cs)
+  -- each node has its program and its initial values (Lynch 8.1)
+  pub nodes : AllByRecursion (StartsInitial cs) s.programs
+  -- the queue of each declared channel is empty (Lynch 14.1)
+  pub channels : AllByRecursion (λ c. StartsEmpty cs (component.Channel c.from c.to)) s.channels
+  -- the script of each node is empty (profile)
+  pub scripts : AllByRecursion (λ p. StartsEmpty cs (component.Script p.node)) s.programs
+  -- there is no other component
+  pub no_other : list_all (is_component_of s) (component_names cs) ≡ true
