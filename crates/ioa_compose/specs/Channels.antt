@@ -5,6 +5,7 @@ use Rattle.ioa_values.specs.Data.{Data}
 use Rattle.ioa_actions.specs.declared.component.Component.TheVariants.{Channel}
 use Rattle.ioa_actions.specs.declared.action.Action.{Action}
 use Rattle.ioa_actions.specs.declared.action.Action.TheVariants.{Send, Receive, Local, Stimulus}
+use Rattle.ioa_source.specs.declared.declaration.Channel as declaration
 use Rattle.ioa_compose.specs.declared.queue.Item.TheVariants.{Message}
 use Rattle.ioa_compose.specs.declared.configuration.Conf.{Conf}
 use Rattle.ioa_compose.specs.declared.configuration.Conf.TheVariants.{Queue}
@@ -48,3 +49,11 @@ HandsOutPrefix start actions confs =
     (i j : ℤ) (q : QueueState) → find_conf (Channel i j) start ≡ Some (Queue q) → q.items ≡ [] →
     (r : QueueState) × (find_conf (Channel i j) confs ≡ Some (Queue r))
     × (map Message (messages_sent i j actions) ≡ map Message (messages_received i j actions) ++ r.items)
+
+-- a declared channel has handed out, in order, a beginning of what was sent on it, and its queue holds the rest (Lynch
+-- 14.1)
+pub record HandsOutBeginning (actions : List Action) (confs : List Conf) (c : declaration.Channel) : Type 0 where
+  pub queue : QueueState
+  pub held : find_conf (Channel c.from c.to) confs ≡ Some (Queue queue)
+  pub order : map Message (messages_sent c.from c.to actions)
+      ≡ map Message (messages_received c.from c.to actions) ++ queue.items

@@ -12,6 +12,7 @@ use Rattle.ioa_check.specs.Correspondence.{IsSystemOf}
 use Rattle.ioa_check.specs.Refusals.{check_fault_text}
 use Rattle.ioa_check.specs.Rows.{HasNoRow}
 use Rattle.ioa_check.specs.Standing as standing
+use Rattle.ioa_system.specs.Declarations.{IsWellDeclared}
 use Rattle.ioa_system.specs.Systems.{SystemParts}
 use Rattle.ioa_record.specs.declared.ending.Ending.{Ending}
 use Rattle.ioa_record.specs.declared.record.Record.{Record}
@@ -25,12 +26,13 @@ use Rattle.ioa_workers.specs.Solo.{IsSoloRun}
 use Rattle.ioa_source.specs.Sides.{SourceText}
 
 -- a system that a text describes: the tokens of the text spell a source that meets no row of refusal, and the system is
--- that source's
+-- that source's; so it declares each thing once
 pub record IsDescribed (text : List ℕ) (s : SystemParts) : Type 0 where
   pub source : SourceText
   pub spelled : TextSpells source text
   pub rows : HasNoRow source
   pub system : IsSystemOf source s
+  pub declared : IsWellDeclared s
 
 -- the report of the worker's run of a system that a text describes, with these options
 pub record IsReport (text : List ℕ) (options : PlainOptions) (report : List ℕ) : Type 0 where

@@ -10,7 +10,7 @@ ghost use Rattle.ioa_compose.specs.Composition.{joint_answer, put_confs};
 ghost use Rattle.ioa_workers.specs.Turns.{FitsAfterTurn};
 ghost use Rattle.ioa_workers.specs.Attempts.{attempt_outcome_on, turn_at, step_outcome, fire_answer, attempt_answer};
 ghost use Rattle.ioa_workers.specs.Attempts.{FitsAfterAttempt, IsStepOf};
-ghost use Rattle.ioa_workers.specs.Recorded.{Continues, IsRunOf};
+ghost use Rattle.ioa_workers.specs.Recorded.{Continues, IsRecordOf};
 ghost use Rattle.ioa_workers.specs.Solo.{IsSoloRun, IsEndedBy, ending_of, has_ended, is_cut_short, is_under_way};
 ghost use Rattle.ioa_workers.specs.Solo.{progress_at, course_of, visit, round, rounds, short_of_memory};
 
@@ -62,7 +62,7 @@ pub fn run(
     system: &System,
     options: &Options,
 ) -> Result<(Record, Vec<Ending>), AllocError>
-    ensures run { IfOk result (λ r. IsRunOf system.now options.now.steps r.0 r.1.items) }
+    ensures left { IfOk result (λ r. IsRecordOf system.now options.now.steps r.0 r.1.items) }
     ensures solo { IfOk result (λ r. IsSoloRun system.now options.now r.0 r.1.items) }
 {
     let mut course = Course {

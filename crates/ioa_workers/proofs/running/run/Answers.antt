@@ -5,9 +5,9 @@ use Rattle.ioa_workers.specs.Solo.{ending_of, course_of}
 use Rattle.ioa_workers.proofs.Termination.{all_written, solo_from}
 use Rattle.ioa_workers.proofs.running.run.Goals as goal
 
-pub returns-clause-run : goal.returns-clause-run
-returns-clause-run c = record {
-  execution = c.go_on.ensures.execution (start c.args.system.now) (record { leads = search rules; within = search rules });
+pub returns-clause-left : goal.returns-clause-left
+returns-clause-left c = record {
+  replayed = c.go_on.ensures.execution (start c.args.system.now) (record { leads = search rules; within = search rules });
   counted = search rules;
   ended = rw (c.in_ok-endings.ensures, length-map) (search (rules, length-map));
 }
