@@ -1,5 +1,6 @@
 -- the lemmas of this crate
 pub mod Automata
+pub mod DeclaredOnce
 pub mod Loops
 pub mod Names
 pub mod Nodes

@@ -16,6 +16,7 @@ use Rattle.ioa_terms.specs.declared.tree.Kind.TheVariants.{Input}
 use Rattle.ioa_terms.specs.PlainTerm.{number, name, two, variable, at_key, at_field, assign, branch}
 use Rattle.ioa_source.specs.PlainText.{const, named}
 use Rattle.ioa_check.specs.FirstSorts.{is_first, is_number, is_guard}
+use Rattle.ioa_system.specs.Declarations.{same_channel}
 use Rattle.ioa_system.specs.InView.{DeclaredNames, words_at, own_names, scope_at, source_names}
 use Rattle.ioa_system.specs.InView.{entry_constant, initial_value, guard_or_effect, firing}
 use Rattle.ioa_check.specs.FirstForm.{is_first_declaration, is_first_placement, passes_or_none}
@@ -237,10 +238,6 @@ joins_two c = not (int_eq c.from c.to)
 -- 21: two nodes have one number
 abbrev pub same_number : SourceNode → SourceNode → Bool
 same_number m n = int_eq m.number n.number
-
--- 21: two channels are between the same nodes, in the same direction
-abbrev pub same_channel : Channel → Channel → Bool
-same_channel c d = int_eq c.from d.from && int_eq c.to d.to
 
 -- no row applies to a node, nor to nodes, in a text with these declarations
 pub record HasNoNodeRow (ds : List SourceDeclaration) (n : SourceNode) : Type 0 where

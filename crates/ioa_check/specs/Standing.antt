@@ -16,6 +16,7 @@ use Rattle.ioa_source.specs.declared.declaration.Channel.{Channel}
 use Rattle.ioa_system.specs.InView.{DeclaredNames, environment_at, given_bindings, words_at, own_names, scope_at}
 use Rattle.ioa_system.specs.InView.{entry_constant, initial_value, guard_or_effect, firing}
 use Rattle.ioa_system.specs.Parts.{AutomatonParts}
+use Rattle.ioa_system.specs.Declarations.{same_channel}
 use Rattle.ioa_check.specs.declared.checking.TheConstants.{MOST_CHANNELS, MOST_NODES}
 use Rattle.ioa_check.specs.declared.refusal.CheckFault.{CheckFault}
 use Rattle.ioa_check.specs.declared.refusal.CheckFault.TheVariants as fault
@@ -173,7 +174,7 @@ StandsInWhole t row.Unknown =
 StandsInWhole t row.Twice =
     IsDistinct same_word (rows.automaton_names (automata_in t.declarations))
     × IsDistinct rows.same_number (nodes_in t.system)
-    × IsDistinct rows.same_channel (channels_in t.system) → ⊥
+    × IsDistinct same_channel (channels_in t.system) → ⊥
 StandsInWhole t row.InputMissing =
     list_all (rows.has_input t.declarations (nodes_in t.system)) (channels_in t.system) ≡ false
 StandsInWhole t row.SelfChannel = list_all rows.joins_two (channels_in t.system) ≡ false

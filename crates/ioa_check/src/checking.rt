@@ -9,6 +9,7 @@ ghost use Rattle.ioa_terms.specs.Bindings.{same_word};
 ghost use Rattle.ioa_source.specs.TextView.{text_of, declaration_of, node_of, placement_of};
 ghost use Rattle.ioa_source.specs.TextView.{automaton_of, entry_of, parameter_of};
 ghost use Rattle.ioa_source.specs.Sides.{SourceNode};
+ghost use Rattle.ioa_system.specs.Declarations.{IsWellDeclared, same_channel};
 ghost use Rattle.ioa_check.specs.Correspondence.{IsSystemOf, IsNodeOf, AreNodesOf, nodes_in, channels_in, node_at};
 ghost use Rattle.ioa_check.specs.Correspondence.{automaton_named, automaton_in, automata_in};
 ghost use Rattle.ioa_check.specs.Correspondence.{AddsAutomata, AreAutomataOf, compiled_named};
@@ -43,6 +44,7 @@ const MOST_CHANNELS: usize = 256;
 pub fn check(alloc: Global, text: &Text<(), ()>) -> Result<System, CheckFault>
     ensures system { IfOk result (IsSystemOf (text_of text.now)) }
     ensures rows { OnOk result (HasNoRow (text_of text.now)) }
+    ensures declared { IfOk result IsWellDeclared }
     ensures refused { IfErr result (λ f. StandsInSource f (text_of text.now)) }
 {
     check_first_form(text)?;
@@ -250,8 +252,8 @@ fn is_node(nodes: &[&Node<(), ()>], number: i64) -> bool
 
 /// Passes if no two channels are between the same nodes in the same direction.
 fn channels_differ(channels: &[Channel]) -> Result<(), Refusal>
-    ensures differ { OnOk result (IsDistinct spec.same_channel channels.now) }
-    ensures refused { RefusesOnly result Row.Twice (IsDistinct spec.same_channel channels.now → ⊥) }
+    ensures differ { OnOk result (IsDistinct same_channel channels.now) }
+    ensures refused { RefusesOnly result Row.Twice (IsDistinct same_channel channels.now → ⊥) }
 {
     for (position, channel) in channels.iter().enumerate() {
         if is_channel(&channels[..position], channel) {
@@ -263,7 +265,7 @@ fn channels_differ(channels: &[Channel]) -> Result<(), Refusal>
 
 /// Whether a channel is one of these.
 fn is_channel(channels: &[Channel], channel: &Channel) -> bool
-    ensures { result ≡ list_any (λ c. spec.same_channel c channel.now) channels.now }
+    ensures { result ≡ list_any (λ c. same_channel c channel.now) channels.now }
 {
     channels.iter().any(|other| other.from == channel.from && other.to == channel.to)
 }

@@ -16,8 +16,10 @@ mod starting;
 pub use composition::{changes, copy_confs, find_conf, joint_step, put_conf, put_confs};
 pub use configuration::Conf;
 pub use fault::StepFault;
-pub use laws::{execution_law, joint_step_law, node_step_law, prefix_law};
-pub use laws::{projection_law, queue_step_law, signature_law, start_law};
+pub use laws::{
+    execution_law, joint_step_law, node_step_law, prefix_law, projection_law, queue_step_law,
+    signature_law, start_law,
+};
 pub use node::NodeConf;
 pub use parties::{Parties, participants, takes_part_in};
 pub use projection::project;
