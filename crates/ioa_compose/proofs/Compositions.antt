@@ -1,9 +1,7 @@
 -- Steps of components and of their composition, by relation, and what the runtime returns for them.
-use Rattle.std.proofs.Common.{◌≡◌, Bool, true, false, List, [], ◌∷◌, Option, Some, None, Result, Ok, Err, refl, sym, ap, subst, ◌∙◌, map, take, length, if◌then◌else◌}
+use Rattle.std.proofs.Common.{◌≡◌, Bool, true, false, List, [], ◌∷◌, Some, None, Result, Ok, Err, refl, sym, ap, subst, ◌∙◌, map, take, length}
 use Rattle.std.specs.List.{AllByRecursion, IsDistinct}
-use Rattle.ioa_values.specs.Data.{Data}
 use Rattle.ioa_values.specs.Outcome.{and_then}
-use Rattle.ioa_terms.specs.declared.name.Name.{Name}
 use Rattle.ioa_terms.specs.Bindings.{Bindings}
 use Rattle.ioa_terms.specs.Performance.{after}
 use Rattle.ioa_actions.specs.declared.component.Component.{Component}
@@ -17,7 +15,7 @@ use Rattle.ioa_compose.specs.declared.queue.Item.{Item}
 use Rattle.ioa_compose.specs.declared.queue.Item.TheVariants.{Message, Stimulus}
 use Rattle.ioa_compose.specs.declared.fault.StepFault.{StepFault}
 use Rattle.ioa_compose.specs.NodeState.{NodeState, node_state}
-use Rattle.ioa_compose.specs.NodeStep.{node_answer, rule_for, rule_bindings, IsNodeStep}
+use Rattle.ioa_compose.specs.NodeStep.{node_answer, rule_bindings, IsNodeStep}
 use Rattle.ioa_compose.specs.Queues.{QueueState, queue_state, queue_answer, items_behind, without_first, with_last}
 use Rattle.ioa_compose.specs.Participants.{same_component, takes_part}
 use Rattle.ioa_compose.specs.Composition.{component_of, component_names, conf_answer, find_conf, joint_answer}

@@ -1,5 +1,5 @@
 -- What channels hand out in executions.
-use Rattle.std.proofs.Common.{◌≡◌, ℤ, Bool, true, false, List, [], ◌∷◌, ◌++◌, Some, None, refl, ap, sym, ◌∙◌, map, append_assoc, if◌then◌else◌}
+use Rattle.std.proofs.Common.{◌≡◌, ℤ, Bool, true, false, List, [], ◌∷◌, ◌++◌, Some, None, ap, sym, ◌∙◌, map, append_assoc, if◌then◌else◌}
 use Rattle.std.specs.List.{cons_option}
 use Rattle.std.proofs.lemmas.List.{append-nil}
 use Rattle.ioa_values.specs.Data.{Data}
@@ -15,7 +15,7 @@ use Rattle.ioa_compose.specs.Participants.{same_component}
 use Rattle.ioa_compose.specs.Executions.{projection_of}
 use Rattle.ioa_compose.specs.Automata.{IsExecution}
 use Rattle.ioa_compose.specs.JointStep.{IsJointStep}
-use Rattle.ioa_compose.specs.Steps.{IsStep, IsQueueStep}
+use Rattle.ioa_compose.specs.Steps.{IsStep}
 use Rattle.ioa_compose.specs.Channels.{messages_sent, messages_received, HandsOutInOrder, HandsOutPrefix}
 use Rattle.ioa_compose.proofs.Projections.{projects}
 

@@ -1,6 +1,6 @@
 -- The composition of a system's components (Lynch 8.2). A configuration bears its component's name, and a list of
 -- configurations is the map from names to them: of two with one name the first counts.
-use Rattle.std.specs.Prelude.{◌≡◌, true, false, if◌then◌else◌, List, [], ◌∷◌, map, find}
+use Rattle.std.specs.Prelude.{if◌then◌else◌, List, [], ◌∷◌, map, find}
 use Rattle.std.specs.Prelude.{Option, Some, None, Result, Ok, Err, is_none}
 use Rattle.std.specs.List.{list_any}
 use Rattle.ioa_values.specs.Outcome.{and_then}
