@@ -33,8 +33,8 @@ same_component (Script i) (Node j) = false
 same_component (Script i) (Channel j l) = false
 same_component (Script i) (Script j) = int_eq i j
 
--- whether a component has an action in its signature (Lynch 8.2): a node the actions of its own, a channel the sends and
--- the receives between its two ends (Lynch 14.1), and a script the stimuli of its node (profile)
+-- whether a component has an action in its signature (Lynch 8.2): a node the actions of its own, a channel the sends
+-- and the receives between its two ends (Lynch 14.1), and a script the stimuli of its node (profile)
 abbrev pub takes_part : Component → Action → Bool
 takes_part (Node k) a = int_eq k (node_of a)
 takes_part (Channel i j) (Send m from to) = int_eq i from && int_eq j to

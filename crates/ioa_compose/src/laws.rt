@@ -36,10 +36,10 @@ pub fn queue_step_law()
     ensures { (q : QueueState) (a : Action) (r : QueueState) → (queue_answer q a ≡ Ok r) ↔ IsQueueStep a q r }
 {}
 
-/// The code gives a list of configurations exactly if it is a joint step from here, in which each component that has the
-/// action takes its own step and all others stay (Lynch 8.2), and every number that the participants meet lies within 64
-/// bits. If no component is listed twice, there is one joint step by an action at most. There is one if each component
-/// that has the action has a step.
+/// The code gives a list of configurations exactly if a joint step leads there and every number that the participants
+/// meet lies within 64 bits. In a joint step each component that has the action takes its own step, and all others stay
+/// (Lynch 8.2). If no component is listed twice, there is one joint step by an action at most. The code finds one if it
+/// finds a step of each component that has the action.
 pub fn joint_step_law()
     ensures step { (action : Action) (confs next : List Conf) → joint_answer action confs ≡ Ok next
         → IsJointStep IsStep action confs next × FitsJointStep action confs }
@@ -61,8 +61,9 @@ pub fn signature_law()
         ≡ (is_some (message_sent i j action) || is_some (message_received i j action)) }
 {}
 
-/// The start of a system that declares each thing once has each component of the system once and no other: each node with
-/// its program and its initial values, each declared channel and each script with an empty queue (Lynch 8.1 and 14.1).
+/// The start of a system that declares each thing once has each component of the system once and no other: each node
+/// with its program and its initial values, each declared channel and each script with an empty queue (Lynch 8.1 and
+/// 14.1).
 pub fn start_law()
     ensures { (s : SystemParts) → IsWellDeclared s → IsStart s (start s) }
 {}
@@ -72,7 +73,8 @@ pub fn start_law()
 pub fn execution_law()
     ensures execution { (actions : List Action) (start confs : List Conf) → replay actions start ≡ Some confs
         → IsExecution (IsJointStep IsStep) start actions confs }
-    ensures replay { (actions : List Action) (start confs : List Conf) → IsDistinct same_component (component_names start)
+    ensures replay { (actions : List Action) (start confs : List Conf) →
+        IsDistinct same_component (component_names start)
         → IsExecution (λ a s t. IsJointStep IsStep a s t × FitsJointStep a s) start actions confs
         → replay actions start ≡ Some confs }
 {}
