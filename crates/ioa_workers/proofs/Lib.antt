@@ -4,3 +4,4 @@ mod Nexts
 mod Termination
 mod Rounds
 mod Runs
+mod SoloRuns

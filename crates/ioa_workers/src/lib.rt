@@ -1,11 +1,13 @@
 //! Workers that run a system: its turns, its runs and its report, and whole runs from a text to its report.
 #![tactic(auto)]
 
+mod laws;
 mod options;
 mod reporting;
 mod running;
 mod turn;
 mod whole_run;
 
+pub use laws::solo_law;
 pub use options::{DEFAULT_ATTEMPTS, DEFAULT_STEPS, Options};
 pub use whole_run::{RunFault, run_system};

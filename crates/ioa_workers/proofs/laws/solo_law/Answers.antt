@@ -1,0 +1,12 @@
+use Rattle.ioa_compose.proofs.Projections.{replays}
+use Rattle.ioa_workers.proofs.SoloRuns.{solo_replays, solo_settled}
+use Rattle.ioa_workers.proofs.Termination.{solo_ends}
+use Rattle.ioa_workers.proofs.laws.solo_law.Goals as goal
+
+pub returns : goal.returns
+returns c = record {
+  ends = solo_ends;
+  settled = solo_settled;
+  replays = solo_replays;
+  execution = λ s attempts limit. replays _ _ _ (solo_replays s attempts limit).leads;
+}
