@@ -2,7 +2,7 @@
 
 ghost use Rattle.std.specs.Prelude.{◌≡◌, ◌⊎◌, IfOk, IfErr};
 ghost use Rattle.ioa_compose.specs.Start.{start};
-ghost use Rattle.ioa_compose.specs.Executions.{replay, replay_answer, IsReplay};
+ghost use Rattle.ioa_compose.specs.Executions.{replay, StopsAt};
 
 use crate::composition::joint_step;
 use crate::configuration::Conf;
@@ -37,7 +37,8 @@ impl fmt::Display for ReplayFault {
 
 /// The configurations after the joint steps by a list of actions, one after another.
 fn steps(alloc: Global, start: Vec<Conf>, actions: &[Action]) -> Result<Vec<Conf>, ReplayFault>
-    ensures { IsReplay (λ v. v.items) result (replay_answer 0 actions.now start.items) }
+    ensures execution { IfOk result (λ v. replay actions.now start.items ≡ Some v.items) }
+    ensures stopped { IfErr result (StopsAt start.items actions.now) }
 {
     let mut confs = start;
     for (position, action) in actions.iter().enumerate() {
@@ -56,8 +57,8 @@ pub fn replay_from(
     start: Vec<Conf>,
     actions: &[Action],
 ) -> Result<Vec<Conf>, ReplayFault>
-    ensures answer { IsReplay (λ v. v.items) result (replay_answer 0 actions.now start.items) }
     ensures execution { IfOk result (λ v. replay actions.now start.items ≡ Some v.items) }
+    ensures stopped { IfErr result (StopsAt start.items actions.now) }
     ensures no_execution { IfErr result
         (λ e. (e.fault ≡ StepFault.Memory) ⊎ (replay actions.now start.items ≡ None)) }
 {
@@ -67,8 +68,8 @@ pub fn replay_from(
 /// The configurations after the joint steps by a list of actions from a system's start (Lynch 8.1), or the position of
 /// the first action that is no step, with the fault of its joint step. If memory runs out it may stop at any action.
 pub fn replay(alloc: Global, system: &System, actions: &[Action]) -> Result<Vec<Conf>, ReplayFault>
-    ensures answer { IsReplay (λ v. v.items) result (replay_answer 0 actions.now (start system.now)) }
     ensures execution { IfOk result (λ v. replay actions.now (start system.now) ≡ Some v.items) }
+    ensures stopped { IfErr result (StopsAt (start system.now) actions.now) }
     ensures no_execution { IfErr result
         (λ e. (e.fault ≡ StepFault.Memory) ⊎ (replay actions.now (start system.now) ≡ None)) }
 {

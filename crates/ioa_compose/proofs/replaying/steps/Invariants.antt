@@ -1,7 +1,7 @@
-use Rattle.std.proofs.Common.{◌≡◌, drop}
-use Rattle.ioa_compose.specs.Executions.{replay_answer}
+use Rattle.std.proofs.Common.{◌≡◌, Some, take}
+use Rattle.ioa_compose.specs.Executions.{replay}
 use Rattle.ioa_compose.proofs.replaying.steps.Given as goal
 
--- the replay of the actions that are left, from the configurations so far, is the replay of all of them
+-- the actions so far replay to the configurations so far
 abbrev pub invariant-loop-position : goal.invariant-loop-position
-invariant-loop-position l = replay_answer l.position (drop l.position l.actions) l.confs.items ≡ replay_answer 0 l.actions l.fn.start.items
+invariant-loop-position l = replay (take l.position l.actions) l.fn.start.items ≡ Some l.confs.items
