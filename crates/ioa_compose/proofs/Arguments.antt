@@ -16,7 +16,8 @@ use Rattle.ioa_source.specs.Sides.{CheckedDeclared, CheckedEntry, CheckedParamet
 use Rattle.ioa_system.specs.InView.{declared_names, own_names, parameter_names, variable_names, scope_at}
 use Rattle.ioa_system.specs.InView.{entry_condition, guard_or_effect}
 use Rattle.ioa_system.specs.Parts.{AutomatonParts}
-use Rattle.ioa_compose.specs.NodeStep.{effect_answer, arguments_agree, parameter_agrees, are_natural, own_values, entry_agrees, kind_agrees}
+use Rattle.ioa_compose.specs.NodeAnswers.{effect_answer, arguments_agree, parameter_agrees, are_natural, entry_agrees, kind_agrees}
+use Rattle.ioa_compose.specs.NodeStep.{own_values}
 
 second_true : (a b : Bool) → a && b ≡ true → b ≡ true
 second_true true b h = h

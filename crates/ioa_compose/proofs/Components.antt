@@ -18,7 +18,7 @@ use Rattle.ioa_compose.specs.declared.queue.Item.{Item}
 use Rattle.ioa_compose.specs.declared.queue.Item.TheVariants as item
 use Rattle.ioa_system.specs.Parts.{Parts}
 use Rattle.ioa_compose.specs.NodeState.{NodeState, node_state}
-use Rattle.ioa_compose.specs.NodeStep.{node_answer, values_answer}
+use Rattle.ioa_compose.specs.NodeAnswers.{node_answer, values_answer}
 use Rattle.ioa_compose.specs.Queues.{QueueState, queue_state, queue_answer, items_behind, with_last, without_first}
 use Rattle.ioa_compose.specs.Participants.{same_component, participants_of, takes_part}
 use Rattle.ioa_compose.specs.Composition.{component_of, component_names, conf_answer, find_conf, put_conf, put_confs}

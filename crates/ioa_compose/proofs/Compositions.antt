@@ -1,30 +1,27 @@
 -- Steps of components and of their composition, by relation, and what the runtime returns for them.
-use Rattle.std.proofs.Common.{◌≡◌, Bool, true, false, List, [], ◌∷◌, Some, None, Result, Ok, Err, refl, sym, ap, subst, ◌∙◌, map, take, length}
+use Rattle.std.proofs.Common.{◌≡◌, Bool, true, false, List, [], ◌∷◌, Some, None, Result, Ok, Err, refl, sym, ap, subst, ◌∙◌}
 use Rattle.std.specs.List.{AllByRecursion, IsDistinct}
 use Rattle.ioa_values.specs.Outcome.{and_then}
-use Rattle.ioa_terms.specs.Bindings.{Bindings}
-use Rattle.ioa_terms.specs.Performance.{after}
 use Rattle.ioa_actions.specs.declared.component.Component.{Component}
 use Rattle.ioa_actions.specs.declared.action.Action.{Action}
 use Rattle.ioa_actions.specs.declared.action.Action.TheVariants as action
-use Rattle.ioa_system.specs.InView.{guard_or_effect}
-use Rattle.ioa_system.specs.Parts.{PlainRule}
 use Rattle.ioa_compose.specs.declared.configuration.Conf.{Conf}
 use Rattle.ioa_compose.specs.declared.configuration.Conf.TheVariants.{Node, Queue}
 use Rattle.ioa_compose.specs.declared.queue.Item.{Item}
 use Rattle.ioa_compose.specs.declared.queue.Item.TheVariants.{Message, Stimulus}
 use Rattle.ioa_compose.specs.declared.fault.StepFault.{StepFault}
-use Rattle.ioa_compose.specs.NodeState.{NodeState, node_state}
-use Rattle.ioa_compose.specs.NodeStep.{node_answer, rule_bindings, IsNodeStep}
+use Rattle.ioa_compose.specs.NodeState.{NodeState}
+use Rattle.ioa_compose.specs.NodeAnswers.{node_answer}
+use Rattle.ioa_compose.specs.NodeStep.{IsState, IsNodeStep}
 use Rattle.ioa_compose.specs.Queues.{QueueState, queue_state, queue_answer, items_behind, without_first, with_last}
 use Rattle.ioa_compose.specs.Participants.{same_component, takes_part}
 use Rattle.ioa_compose.specs.Composition.{component_of, component_names, conf_answer, find_conf, joint_answer}
 use Rattle.ioa_compose.specs.Steps.{IsQueueStep, IsStep, FitsStep}
-use Rattle.ioa_compose.specs.JointStep.{HasStep, TakesStep, IsJointStep, HasAnswer, FitsJointStep}
+use Rattle.ioa_compose.specs.JointStep.{IsJointState, HasStep, TakesStep, IsJointStep, HasAnswer, FitsJointStep}
 use Rattle.ioa_compose.proofs.Components.{Decides-same_component, same_component-itself}
 use Rattle.ioa_compose.proofs.Items.{items_behind_is}
 use Rattle.ioa_compose.proofs.JointSteps.{joint_answer-is, joint_answer-exists}
-use Rattle.ioa_compose.proofs.NodeSteps.{is_node_step, node_answer_is}
+use Rattle.ioa_compose.proofs.NodeSteps.{is_node_step, node_answer_is, one_node_step, state_after}
 
 -- what comes out of a queue was its first item
 taken : (x : Item) (q r : QueueState) → without_first x q ≡ Ok r → q ≡ queue_state r.component (x ∷ r.items)
@@ -58,19 +55,29 @@ queue_answer-from q (action.Receive m i j) r e = comes_out (Message m) q r e
 queue_answer-from q (action.Local a) r e = absurd e
 queue_answer-from q (action.Stimulus a) r e = comes_out (Stimulus a) q r e
 
+-- a configuration of a node is a state of it
+abbrev pub IsStateOf : Conf → Type 0
+IsStateOf (Node c) = IsState c
+IsStateOf (Queue q) = Unit {0}
+
+-- each component of a state of the composition is in a state of its own
+pub state_of : (cs : List Conf) → IsJointState cs → (k : Component) (c : Conf) → find_conf k cs ≡ Some c → IsStateOf c
+state_of cs s k (Node c) h = s.nodes k c h
+state_of cs s k (Queue q) h = tt
+
 -- what the runtime returns for a component is its step, and what the step meets lies within 64 bits
-pub is_step : (a : Action) (c d : Conf) → conf_answer a c ≡ Ok d → IsStep a c d × FitsStep a c
+pub is_step : (a : Action) (c d : Conf) → IsStateOf c → conf_answer a c ≡ Ok d → IsStep a c d × FitsStep a c
 unfolding conf_answer
-is_step a (Node c) d h = of_node (node_answer c a) refl d h
+is_step a (Node c) d state h = of_node (node_answer c a) refl d h
   where
     of_node : (r : Result NodeState StepFault) → node_answer c a ≡ r → (d : Conf) → and_then r (λ s. Ok (Node s)) ≡ Ok d → IsStep a (Node c) d × FitsStep a (Node c)
     of_node (Ok s) e (Node d) h =
         let same_state : s ≡ d = cc in
-        let step = is_node_step c a s e in
+        let step = is_node_step c a s state e in
         (subst (λ (x : NodeState). IsNodeStep a c x) same_state step.0, step.1)
     of_node (Ok s) e (Queue r) h = absurd (cc)
     of_node (Err f) e d h = absurd (cc)
-is_step a (Queue q) d h = of_queue (queue_answer q a) refl d h
+is_step a (Queue q) d state h = of_queue (queue_answer q a) refl d h
   where
     of_queue : (r : Result QueueState StepFault) → queue_answer q a ≡ r → (d : Conf) → and_then r (λ s. Ok (Queue s)) ≡ Ok d → IsStep a (Queue q) d × FitsStep a (Queue q)
     of_queue (Ok s) e (Queue r) h =
@@ -80,32 +87,21 @@ is_step a (Queue q) d h = of_queue (queue_answer q a) refl d h
     of_queue (Err f) e d h = absurd (cc)
 
 -- and each step of a component is returned, if what it meets lies within 64 bits
-pub conf_answer-from : (a : Action) (c d : Conf) → IsStep a c d → FitsStep a c → conf_answer a c ≡ Ok d
+pub conf_answer-from : (a : Action) (c d : Conf) → IsStateOf c → IsStep a c d → FitsStep a c → conf_answer a c ≡ Ok d
 unfolding conf_answer
-conf_answer-from a (Node c) (Node d) step fits = rw (node_answer_is c a d step fits) refl
-conf_answer-from a (Node c) (Queue r) step fits = absurd step
-conf_answer-from a (Queue q) (Node d) step fits = absurd step
-conf_answer-from a (Queue q) (Queue r) step fits = rw (queue_answer-from q a r step) refl
-
--- a node has one step by an action
-one_node_step : (a : Action) (c d e : NodeState) → IsNodeStep a c d → IsNodeStep a c e → d ≡ e
-one_node_step a c d e p q =
-    let rule : p.rule ≡ q.rule = of_some p.rule q.rule (sym p.mine ∙ q.mine) in
-    let left : Some p.left ≡ Some q.left = sym p.effect ∙ ap (λ (r : PlainRule). after r.transition.effect (rule_bindings guard_or_effect r a c)) rule ∙ q.effect in
-    let same_left : p.left ≡ q.left = of_some p.left q.left left in
-    p.reached ∙ ap (λ (b : Bindings). node_state c.program (take (length c.variables) (map (λ x. x.1) b))) same_left ∙ sym q.reached
-  where
-    of_some : {A : Type 0} (x y : A) → Some x ≡ Some y → x ≡ y
-    of_some x y h = cc
+conf_answer-from a (Node c) (Node d) state step fits = rw (node_answer_is c a d state step fits) refl
+conf_answer-from a (Node c) (Queue r) state step fits = absurd step
+conf_answer-from a (Queue q) (Node d) state step fits = absurd step
+conf_answer-from a (Queue q) (Queue r) state step fits = rw (queue_answer-from q a r step) refl
 
 -- a component has one step by an action
-pub one_step : (a : Action) (c d e : Conf) → IsStep a c d → IsStep a c e → d ≡ e
-one_step a (Node c) (Node d) (Node e) p q = ap Node (one_node_step a c d e p q)
-one_step a (Node c) (Node d) (Queue s) p q = absurd q
-one_step a (Node c) (Queue r) e p q = absurd p
-one_step a (Queue c) (Node d) e p q = absurd p
-one_step a (Queue c) (Queue r) (Node e) p q = absurd q
-one_step a (Queue c) (Queue r) (Queue s) p q =
+pub one_step : (a : Action) (c d e : Conf) → IsStateOf c → IsStep a c d → IsStep a c e → d ≡ e
+one_step a (Node c) (Node d) (Node e) state p q = ap Node (one_node_step a c d e state p q)
+one_step a (Node c) (Node d) (Queue s) state p q = absurd q
+one_step a (Node c) (Queue r) e state p q = absurd p
+one_step a (Queue c) (Node d) e state p q = absurd p
+one_step a (Queue c) (Queue r) (Node e) state p q = absurd q
+one_step a (Queue c) (Queue r) (Queue s) state p q =
     let both : Ok r ≡ Ok s = sym (queue_answer-from c a r p) ∙ queue_answer-from c a s q in
     let same_state : r ≡ s = cc in ap Queue same_state
 
@@ -122,15 +118,15 @@ joint_step-map S T a cs next f p = record {
     at k part t = record { old = t.old; new = t.new; before = t.before; step_of = f k t.old t.new part t.before t.step_of; after = t.after }
 
 -- what the runtime returns is a joint step
-pub is_joint_step : (a : Action) (cs next : List Conf) → joint_answer a cs ≡ Ok next → IsJointStep IsStep a cs next × FitsJointStep a cs
-is_joint_step a cs next h =
+pub is_joint_step : (a : Action) (cs next : List Conf) → IsJointState cs → joint_answer a cs ≡ Ok next → IsJointStep IsStep a cs next × FitsJointStep a cs
+is_joint_step a cs next state h =
     let p : IsJointStep HasAnswer a cs next = joint_answer-is a cs next h in
-    (joint_step-map HasAnswer IsStep a cs next (λ k c d part found e. (is_step a c d e).0) p, λ k c part found. fits k c found (p.participants k part))
+    (joint_step-map HasAnswer IsStep a cs next (λ k c d part found e. (is_step a c d (state_of cs state k c found) e).0) p, λ k c part found. fits k c found (p.participants k part))
   where
     fits : (k : Component) (c : Conf) → find_conf k cs ≡ Some c → TakesStep HasAnswer a k cs next → FitsStep a c
     fits k c found t =
         let one : t.old ≡ c = of_some t.old c (sym t.before ∙ found) in
-        subst (λ (x : Conf). FitsStep a x) one (is_step a t.old t.new t.step_of).1
+        subst (λ (x : Conf). FitsStep a x) one (is_step a t.old t.new (state_of cs state k t.old t.before) t.step_of).1
       where
         of_some : {A : Type 0} (x y : A) → Some x ≡ Some y → x ≡ y
         of_some x y h = cc
@@ -172,10 +168,10 @@ same_lists (c ∷ cs) (d ∷ ds) differ names found =
         let not_d : same_component k (component_of d) ≡ false = rw (← name) e in
         rw (e, not_d) at at
 
--- if the names differ there is one joint step by an action
-pub one_joint_step : (a : Action) (cs next other : List Conf) → IsDistinct same_component (component_names cs) → IsJointStep IsStep a cs next → IsJointStep IsStep a cs other → next ≡ other
-one_joint_step a cs next other differ p q =
-    same_lists next other (subst (λ (ks : List Component). IsDistinct same_component ks) (sym p.same_names) differ) (p.same_names ∙ sym q.same_names) (λ k. at k (takes_part k a) refl)
+-- from a state there is one joint step by an action
+pub one_joint_step : (a : Action) (cs next other : List Conf) → IsJointState cs → IsJointStep IsStep a cs next → IsJointStep IsStep a cs other → next ≡ other
+one_joint_step a cs next other state p q =
+    same_lists next other (subst (λ (ks : List Component). IsDistinct same_component ks) (sym p.same_names) state.once) (p.same_names ∙ sym q.same_names) (λ k. at k (takes_part k a) refl)
   where
     of_some : {A : Type 0} (x y : A) → Some x ≡ Some y → x ≡ y
     of_some x y h = cc
@@ -183,20 +179,43 @@ one_joint_step a cs next other differ p q =
     own : (k : Component) → TakesStep IsStep a k cs next → TakesStep IsStep a k cs other → find_conf k next ≡ find_conf k other
     own k s t =
         let old : t.old ≡ s.old = of_some t.old s.old (sym t.before ∙ s.before) in
-        let new : s.new ≡ t.new = one_step a s.old s.new t.new s.step_of (subst (λ (c : Conf). IsStep a c t.new) old t.step_of) in
+        let new : s.new ≡ t.new = one_step a s.old s.new t.new (state_of cs state k s.old s.before) s.step_of (subst (λ (c : Conf). IsStep a c t.new) old t.step_of) in
         s.after ∙ ap Some new ∙ sym t.after
 
     at : (k : Component) (t : Bool) → takes_part k a ≡ t → find_conf k next ≡ find_conf k other
     at k true part = own k (p.participants k part) (q.participants k part)
     at k false apart = p.others k apart ∙ sym (q.others k apart)
 
--- if the names differ, a joint step is returned if every number that it meets lies within 64 bits
-pub joint_answer-from : (a : Action) (cs next : List Conf) → IsDistinct same_component (component_names cs) → IsJointStep IsStep a cs next → FitsJointStep a cs → joint_answer a cs ≡ Ok next
-joint_answer-from a cs next differ p fits =
-    let answered : IsJointStep HasAnswer a cs next = joint_step-map IsStep HasAnswer a cs next (λ k c d part found step. conf_answer-from a c d step (fits k c part found)) p in
+-- from a state a joint step is returned if every number that it meets lies within 64 bits
+pub joint_answer-from : (a : Action) (cs next : List Conf) → IsJointState cs → IsJointStep IsStep a cs next → FitsJointStep a cs → joint_answer a cs ≡ Ok next
+joint_answer-from a cs next state p fits =
+    let answered : IsJointStep HasAnswer a cs next = joint_step-map IsStep HasAnswer a cs next (λ k c d part found step. conf_answer-from a c d (state_of cs state k c found) step (fits k c part found)) p in
     let there = joint_answer-exists a cs (λ k part. has (answered.participants k part)) in
-    let same_next : there.0 ≡ next = one_joint_step a cs there.0 next differ (is_joint_step a cs there.0 there.1).0 p in
+    let same_next : there.0 ≡ next = one_joint_step a cs there.0 next state (is_joint_step a cs there.0 state there.1).0 p in
     there.1 ∙ ap Ok same_next
   where
     has : {k : Component} → TakesStep HasAnswer a k cs next → HasStep HasAnswer a k cs
     has t = record { old = t.old; new = t.new; before = t.before; step_of = t.step_of }
+
+-- a joint step leads from a state to a state
+pub joint_state_after : (a : Action) (cs next : List Conf) → IsJointState cs → IsJointStep IsStep a cs next → IsJointState next
+joint_state_after a cs next state p = record {
+  once = subst (λ (ks : List Component). IsDistinct same_component ks) (sym p.same_names) state.once;
+  nodes = λ k d found. at k d found (takes_part k a) refl;
+}
+  where
+    by_old : (k : Component) (c : Conf) (d : NodeState) → find_conf k cs ≡ Some c → IsStep a c (Node d) → IsState d
+    by_old k (Node c) d before step = state_after a c d (state.nodes k c before) step
+    by_old k (Queue q) d before step = absurd step
+
+    own : (k : Component) (d : NodeState) → find_conf k next ≡ Some (Node d) → TakesStep IsStep a k cs next → IsState d
+    own k d found t =
+        let new : t.new ≡ Node d = of_some t.new (Node d) (sym t.after ∙ found) in
+        by_old k t.old d t.before (subst (λ (c : Conf). IsStep a t.old c) new t.step_of)
+      where
+        of_some : (x y : Conf) → Some x ≡ Some y → x ≡ y
+        of_some x y h = cc
+
+    at : (k : Component) (d : NodeState) → find_conf k next ≡ Some (Node d) → (t : Bool) → takes_part k a ≡ t → IsState d
+    at k d found true part = own k d found (p.participants k part)
+    at k d found false apart = state.nodes k d (sym (p.others k apart) ∙ found)

@@ -5,7 +5,9 @@ pub mod Compositions
 pub mod Deliveries
 pub mod Items
 pub mod JointSteps
+pub mod NodeSignatures
 pub mod NodeSteps
+pub mod NodeVariables
 pub mod Positions
 pub mod Projections
 pub mod Replays

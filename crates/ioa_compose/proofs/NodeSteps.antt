@@ -1,56 +1,27 @@
 -- Steps of nodes.
-use Rattle.std.proofs.Common.{◌≡◌, ℕ, Bool, true, false, List, ◌++◌, Option, Some, None, Result, Ok, Err, refl, sym, ap, ◌∙◌, map, take, length}
-use Rattle.std.specs.Prelude.{◌&&◌, if◌then◌else◌}
-use Rattle.std.specs.List.{list_all}
-use Rattle.std.specs.Option.{ok_or}
-use Rattle.std.proofs.lemmas.List.Folds.{list_all-append}
-use Rattle.ioa_values.specs.Data.{Data, number, truth, constant, tuple, sequence, finite_set, finite_map, as_truth, is_within}
+use Rattle.std.proofs.Common.{◌≡◌, ℕ, Bool, true, false, List, ◌++◌, Option, Some, None, Result, Ok, Err, refl, sym, ap, subst, ◌∙◌, map, take, length}
+use Rattle.std.specs.Prelude.{if◌then◌else◌}
+use Rattle.ioa_values.specs.Data.{Data, number, truth, constant, tuple, sequence, finite_set, finite_map, as_truth}
 use Rattle.ioa_values.specs.Outcome.{and_then}
-use Rattle.ioa_terms.specs.Bindings.{Bindings}
-use Rattle.ioa_operators.specs.RangeCheck.{range_check}
+use Rattle.ioa_terms.specs.declared.name.Name.TheVariants.{Word}
+use Rattle.ioa_terms.specs.Bindings.{Bindings, lookup}
+use Rattle.ioa_terms.proofs.Statements.{after_names}
+use Rattle.std.proofs.lemmas.List.{length-map}
 use Rattle.ioa_terms.specs.Meaning.{value, numbers_met, answer}
 use Rattle.ioa_terms.specs.Performance.{after, numbers_met_by, answer_by}
 use Rattle.ioa_actions.specs.declared.action.Action.{Action}
 use Rattle.ioa_actions.specs.ActionParts.{action_arguments}
 use Rattle.ioa_operators.specs.declared.fault.TermFault.{TermFault}
-use Rattle.ioa_operators.specs.declared.fault.TermFault.TheVariants as term
 use Rattle.ioa_source.specs.Sides.{CheckedTerm, CheckedTransition}
-use Rattle.ioa_system.specs.InView.{entry_condition, guard_or_effect}
+use Rattle.ioa_system.specs.InView.{entry_condition, guard_or_effect, given_bindings, variable_names, parameter_names, own_names}
 use Rattle.ioa_system.specs.Parts.{PlainRule}
 use Rattle.ioa_compose.specs.declared.fault.StepFault.{StepFault}
 use Rattle.ioa_compose.specs.declared.fault.StepFault.TheVariants.{Undefined}
 use Rattle.ioa_compose.specs.NodeState.{NodeState, node_state}
-use Rattle.ioa_compose.specs.NodeStep.{truth_answer, value_answer, guard_answer, effect_answer, transition_answer, step_answer, are_natural, rule_for, rule_answer, node_answer, rule_bindings, GuardHolds, IsNodeStep, numbers_met_by_guard, numbers_met_by_rule, FitsNodeStep}
-
--- every number among results lies within 64 bits
-abbrev AreWithin : List Data → Type 0
-AreWithin ds = list_all is_within ds ≡ true
-
--- results one after another are within 64 bits if both parts are
-two_true : (a b : Bool) → a ≡ true → b ≡ true → a && b ≡ true
-two_true a b h k = ap (λ x. x && b) h ∙ k
-
-both_true : (a b : Bool) → a && b ≡ true → (a ≡ true) × (b ≡ true)
-both_true true b h = (refl, h)
-both_true false b h = absurd (cc)
-
-all_within : (xs ys : List Data) → AreWithin xs → AreWithin ys → AreWithin (xs ++ ys)
-all_within xs ys h k = list_all-append is_within xs ys ∙ two_true (list_all is_within xs) (list_all is_within ys) h k
-
-within_both : (xs ys : List Data) → AreWithin (xs ++ ys) → AreWithin xs × AreWithin ys
-within_both xs ys h = both_true (list_all is_within xs) (list_all is_within ys) (sym (list_all-append is_within xs ys) ∙ h)
-
--- what is judged is a value exactly if that is the value and every number met lies within 64 bits
-range_check_by : {A : Type 0} (b : Bool) (o : Option A) (v : A) → (if b then ok_or o term.Undefined else Err term.Range) ≡ Ok v → (b ≡ true) × (o ≡ Some v)
-range_check_by true (Some w) v h = (refl, cc)
-range_check_by true None v h = absurd (cc)
-range_check_by false o v h = absurd (cc)
-
-range_check_parts : {A : Type 0} (ds : List Data) (o : Option A) (v : A) → range_check ds o ≡ Ok v → AreWithin ds × (o ≡ Some v)
-range_check_parts ds o v h = range_check_by (list_all is_within ds) o v h
-
-range_check_within : {A : Type 0} (ds : List Data) (o : Option A) (v : A) → AreWithin ds → o ≡ Some v → range_check ds o ≡ Ok v
-range_check_within ds o v within is = ap (λ b. if b then ok_or o term.Undefined else Err term.Range) within ∙ ap (λ p. ok_or p term.Undefined) is
+use Rattle.ioa_compose.specs.NodeAnswers.{truth_answer, value_answer, guard_answer, effect_answer, transition_answer, step_answer, are_natural, rule_for, rule_answer, node_answer}
+use Rattle.ioa_compose.specs.NodeStep.{rule_bindings, own_values, GuardHolds, HasRule, IsState, IsNodeStep, numbers_met_by_guard, numbers_met_by_parameters, numbers_met_by_rule, FitsNodeStep}
+use Rattle.ioa_compose.proofs.NodeSignatures.{AreWithin, all_within, within_both, range_check_parts, range_check_within, rule_for_is, rule_for_from, one_rule, sorts_natural, natural_sorts}
+use Rattle.ioa_compose.proofs.NodeVariables.{first_names, variables_left, values_equal}
 
 -- a value by which a guard passes is true
 truth_answer_true : (v : Data) → truth_answer (as_truth v) ≡ Ok tt → v ≡ truth true
@@ -140,39 +111,81 @@ step_left n r args e b left within natural condition guard effect =
     ∙ ap (λ x. and_then x (λ _. transition_answer n r.transition b)) (guard_passes r.entry.condition e p.0 condition)
     ∙ transition_left n r.transition b left p.1 guard effect
 
+-- what a rule leaves the variables
+pub names_left : (c : NodeState) (r : PlainRule) (a : Action) (left : Bindings) → IsState c → after r.transition.effect (rule_bindings guard_or_effect r a c) ≡ Some left →
+    map (λ x. lookup (Word x) left) (variable_names c.program.automaton.variables) ≡ map Some (take (length c.variables) (map (λ b. b.1) left))
+names_left c r a left h effect =
+    let ws = variable_names c.program.automaton.variables in
+    let many : length ws ≡ length c.program.automaton.variables = length-map c.program.automaton.variables (λ v. v.declared.name) in
+    let valued : length c.variables ≡ length ws = h.valued ∙ sym many in
+    let before = first_names ws (parameter_names c.program.automaton.parameters ++ own_names r.entry.parameters) c.variables (c.program.arguments ++ own_values r.entry.parameters (action_arguments a)) c.program.automaton.constants valued in
+    variables_left (length c.variables) ws left before.0 valued h.program.variables (after_names r.transition.effect (rule_bindings guard_or_effect r a c) left effect ∙ before.1)
+
 -- the result at a node is a configuration to which its step leads, and what the step meets lies within 64 bits
-pub is_node_step : (c : NodeState) (a : Action) (d : NodeState) → node_answer c a ≡ Ok d → IsNodeStep a c d × FitsNodeStep a c
+pub is_node_step : (c : NodeState) (a : Action) (d : NodeState) → IsState c → node_answer c a ≡ Ok d → IsNodeStep a c d × FitsNodeStep a c
 unfolding node_answer
-is_node_step c a d = by_rule (rule_for c.program a) refl
+is_node_step c a d state = by_rule (rule_for c.program a) refl
   where
     with_values : List Data → Result NodeState StepFault
     with_values vs = Ok (node_state c.program vs)
 
-    fits : (r s : PlainRule) → rule_for c.program a ≡ Some r → rule_for c.program a ≡ Some s → AreWithin (numbers_met_by_rule r a c) → AreWithin (numbers_met_by_rule s a c)
-    fits r s q k h =
-        let same_rule : r ≡ s = cc in
-        ap (λ t. list_all is_within (numbers_met_by_rule t a c)) (sym same_rule) ∙ h
-
-    by_values : (r : PlainRule) → rule_for c.program a ≡ Some r → (s : Result (List Data) StepFault) → rule_answer c a (Some r) ≡ s → and_then s with_values ≡ Ok d → IsNodeStep a c d × FitsNodeStep a c
-    by_values r q (Ok vs) e h =
+    by_values : (r : PlainRule) → AreWithin (numbers_met_by_parameters (given_bindings c.program.automaton c.program.arguments) r.entry.parameters) → HasRule c.program a r →
+        (s : Result (List Data) StepFault) → rule_answer c a (Some r) ≡ s → and_then s with_values ≡ Ok d → IsNodeStep a c d × FitsNodeStep a c
+    by_values r met mine (Ok vs) e h =
         let same_state : node_state c.program vs ≡ d = cc in
         let p : StepParts (length c.variables) r (action_arguments a) (rule_bindings entry_condition r a c) (rule_bindings guard_or_effect r a c) vs =
         step_parts (length c.variables) r (action_arguments a) (rule_bindings entry_condition r a c) (rule_bindings guard_or_effect r a c) vs e in
         let t = p.transition in
-        (record { rule = r; mine = q; natural = p.natural; condition = p.condition; guard = t.guard; left = t.left; effect = t.effect; reached = sym same_state ∙ ap (node_state c.program) t.variables }, λ s k. fits r s q k p.within)
-    by_values r q (Err f) e h = absurd (cc)
+        let within : AreWithin (numbers_met_by_rule r a c) = all_within (numbers_met_by_parameters (given_bindings c.program.automaton c.program.arguments) r.entry.parameters) (numbers_met_by_step r (rule_bindings entry_condition r a c) (rule_bindings guard_or_effect r a c)) met p.within in (
+          record {
+            rule = r;
+            mine = mine;
+            sorts = natural_sorts (given_bindings c.program.automaton c.program.arguments) r.entry.parameters (action_arguments a) mine.action.arguments p.natural;
+            condition = p.condition;
+            guard = t.guard;
+            left = t.left;
+            effect = t.effect;
+            variables = names_left c r a t.left state t.effect ∙ ap (λ (us : List Data). map Some us) (sym t.variables ∙ ap (λ (x : NodeState). x.variables) same_state);
+            program = sym (ap (λ (x : NodeState). x.program) same_state);
+          },
+          λ s other. subst (λ (x : PlainRule). AreWithin (numbers_met_by_rule x a c)) (one_rule c.program a r s state.program mine other) within,
+        )
+    by_values r met mine (Err f) e h = absurd (cc)
 
     by_rule : (o : Option PlainRule) → rule_for c.program a ≡ o → and_then (rule_answer c a o) with_values ≡ Ok d → IsNodeStep a c d × FitsNodeStep a c
-    by_rule (Some r) q h = by_values r q (rule_answer c a (Some r)) refl h
+    by_rule (Some r) q h = let p = rule_for_is c.program a r q in by_values r p.0 p.1 (rule_answer c a (Some r)) refl h
     by_rule None q h = absurd (cc)
 
 -- and each such configuration is the result
-pub node_answer_is : (c : NodeState) (a : Action) (d : NodeState) → IsNodeStep a c d → FitsNodeStep a c → node_answer c a ≡ Ok d
+pub node_answer_is : (c : NodeState) (a : Action) (d : NodeState) → IsState c → IsNodeStep a c d → FitsNodeStep a c → node_answer c a ≡ Ok d
 unfolding node_answer
-node_answer_is c a d p fits =
-    ap (λ o. and_then (rule_answer c a o) with_values) p.mine
-    ∙ ap (λ s. and_then s with_values) (step_left (length c.variables) p.rule (action_arguments a) (rule_bindings entry_condition p.rule a c) (rule_bindings guard_or_effect p.rule a c) p.left (fits p.rule p.mine) p.natural p.condition p.guard p.effect)
-    ∙ ap Ok (sym p.reached)
+node_answer_is c a d state p fits =
+    let within = within_both (numbers_met_by_parameters (given_bindings c.program.automaton c.program.arguments) p.rule.entry.parameters) (numbers_met_by_step p.rule (rule_bindings entry_condition p.rule a c) (rule_bindings guard_or_effect p.rule a c)) (fits p.rule p.mine) in
+    let values : take (length c.variables) (map (λ b. b.1) p.left) ≡ d.variables = values_equal (take (length c.variables) (map (λ b. b.1) p.left)) d.variables (sym (names_left c p.rule a p.left state p.effect) ∙ p.variables) in
+    ap (λ o. and_then (rule_answer c a o) with_values) (rule_for_from c.program a p.rule state.program within.0 p.mine)
+    ∙ ap (λ s. and_then s with_values) (step_left (length c.variables) p.rule (action_arguments a) (rule_bindings entry_condition p.rule a c) (rule_bindings guard_or_effect p.rule a c) p.left within.1 (sorts_natural p.rule.entry.parameters (action_arguments a) p.sorts) p.condition p.guard p.effect)
+    ∙ ap with_values values
+    ∙ ap (λ q. Ok (node_state q d.variables)) (sym p.program)
   where
     with_values : List Data → Result NodeState StepFault
     with_values vs = Ok (node_state c.program vs)
+
+-- a node has one step by an action
+pub one_node_step : (a : Action) (c d e : NodeState) → IsState c → IsNodeStep a c d → IsNodeStep a c e → d ≡ e
+one_node_step a c d e state p q =
+    let rule : p.rule ≡ q.rule = one_rule c.program a p.rule q.rule state.program p.mine q.mine in
+    let left : Some p.left ≡ Some q.left = sym p.effect ∙ ap (λ (r : PlainRule). after r.transition.effect (rule_bindings guard_or_effect r a c)) rule ∙ q.effect in
+    let same_left : p.left ≡ q.left = of_some p.left q.left left in
+    let values : d.variables ≡ e.variables = values_equal d.variables e.variables (sym p.variables ∙ ap (λ (b : Bindings). map (λ x. lookup (Word x) b) (variable_names c.program.automaton.variables)) same_left ∙ q.variables) in
+    ap (λ (vs : List Data). node_state d.program vs) values ∙ ap (λ x. node_state x e.variables) (p.program ∙ sym q.program)
+  where
+    of_some : {A : Type 0} (x y : A) → Some x ≡ Some y → x ≡ y
+    of_some x y h = cc
+
+-- a step of a node leads from a state to a state
+pub state_after : (a : Action) (c d : NodeState) → IsState c → IsNodeStep a c d → IsState d
+state_after a c d state p =
+    let named : length (variable_names c.program.automaton.variables) ≡ length c.program.automaton.variables = length-map c.program.automaton.variables (λ v. v.declared.name) in
+    let many : length d.variables ≡ length c.program.automaton.variables =
+    sym (length-map d.variables Some) ∙ ap length (sym p.variables) ∙ length-map (variable_names c.program.automaton.variables) (λ x. lookup (Word x) p.left) ∙ named in
+    record { program = rw p.program state.program; valued = rw p.program many }

@@ -1,43 +1,40 @@
 -- Executions of the composition, and their projections on its components.
 use Rattle.std.proofs.Common.{◌≡◌, Bool, true, false, List, [], ◌∷◌, Some, Result, Ok, Err, refl, sym, ◌∙◌, subst}
-use Rattle.std.specs.List.{IsDistinct}
-use Rattle.ioa_actions.specs.declared.component.Component.{Component}
 use Rattle.ioa_actions.specs.declared.action.Action.{Action}
 use Rattle.ioa_compose.specs.declared.configuration.Conf.{Conf}
 use Rattle.ioa_compose.specs.declared.fault.StepFault.{StepFault}
-use Rattle.ioa_compose.specs.Participants.{same_component, takes_part}
-use Rattle.ioa_compose.specs.Composition.{component_names, find_conf, joint_answer}
+use Rattle.ioa_compose.specs.Participants.{takes_part}
+use Rattle.ioa_compose.specs.Composition.{find_conf, joint_answer}
 use Rattle.ioa_compose.specs.Executions.{after_step, replay, projection_of}
 use Rattle.ioa_compose.specs.Automata.{IsExecution, ProjectsOnEach}
 use Rattle.ioa_compose.specs.Steps.{IsStep}
-use Rattle.ioa_compose.specs.JointStep.{TakesStep, IsJointStep, FitsJointStep, HasAnswer}
+use Rattle.ioa_compose.specs.JointStep.{IsJointState, TakesStep, IsJointStep, FitsJointStep, HasAnswer}
 use Rattle.ioa_compose.proofs.JointSteps.{joint_answer-is}
-use Rattle.ioa_compose.proofs.Compositions.{is_joint_step, joint_answer-from}
+use Rattle.ioa_compose.proofs.Compositions.{is_joint_step, joint_answer-from, joint_state_after}
 
--- a replay is an execution by any steps that the runtime's are
-pub replay-execution : (T : Action → List Conf → List Conf → Type 0) → ((a : Action) (s t : List Conf) → joint_answer a s ≡ Ok t → T a s t) →
-    (actions : List Action) (start confs : List Conf) → replay actions start ≡ Some confs → IsExecution T start actions confs
-replay-execution T f [] start confs h = of_some h
+-- a replay is an execution by any steps that the runtime's are, if those keep a law of states
+pub replay-execution : (T : Action → List Conf → List Conf → Type 0) (K : List Conf → Type 0) → ((a : Action) (s t : List Conf) → K s → joint_answer a s ≡ Ok t → T a s t × K t) →
+    (actions : List Action) (start confs : List Conf) → K start → replay actions start ≡ Some confs → IsExecution T start actions confs
+replay-execution T K f [] start confs law h = of_some h
   where
     of_some : Some start ≡ Some confs → start ≡ confs
     of_some h = cc
-replay-execution T f (a ∷ more) start confs h = at_step (joint_answer a start) refl h (λ mid e. replay-execution T f more mid confs e)
+replay-execution T K f (a ∷ more) start confs law h = at_step (joint_answer a start) refl h (λ mid kept e. replay-execution T K f more mid confs kept e)
   where
-    at_step : (r : Result (List Conf) StepFault) → joint_answer a start ≡ r → after_step (replay more) r ≡ Some confs → ((mid : List Conf) → replay more mid ≡ Some confs → IsExecution T mid more confs) → IsExecution T start (a ∷ more) confs
-    at_step (Ok mid) e h further = (mid, f a start mid e, further mid h)
+    at_step : (r : Result (List Conf) StepFault) → joint_answer a start ≡ r → after_step (replay more) r ≡ Some confs → ((mid : List Conf) → K mid → replay more mid ≡ Some confs → IsExecution T mid more confs) → IsExecution T start (a ∷ more) confs
+    at_step (Ok mid) e h further = let step = f a start mid law e in (mid, step.0, further mid step.1 h)
     at_step (Err f) e h further = absurd (cc)
 
--- a replay is an execution of the composition
-pub replays : (actions : List Action) (start confs : List Conf) → replay actions start ≡ Some confs → IsExecution (IsJointStep IsStep) start actions confs
-replays = replay-execution (IsJointStep IsStep) (λ a s t h. (is_joint_step a s t h).0)
+-- a replay from a state is an execution of the composition
+pub replays : (actions : List Action) (start confs : List Conf) → IsJointState start → replay actions start ≡ Some confs → IsExecution (IsJointStep IsStep) start actions confs
+replays = replay-execution (IsJointStep IsStep) IsJointState (λ a s t state h. let step = (is_joint_step a s t state h).0 in (step, joint_state_after a s t state step))
 
--- if the names differ, an execution is a replay if every number met lies within 64 bits
-pub replays-from : (actions : List Action) (start confs : List Conf) → IsDistinct same_component (component_names start) → IsExecution (λ a s t. IsJointStep IsStep a s t × FitsJointStep a s) start actions confs → replay actions start ≡ Some confs
-replays-from [] start confs differ h = rw h refl
-replays-from (a ∷ more) start confs differ h =
-    let step : joint_answer a start ≡ Ok h.0 = joint_answer-from a start h.0 differ h.1.0 h.1.1 in
-    let still : IsDistinct same_component (component_names h.0) = subst (λ (ks : List Component). IsDistinct same_component ks) (sym h.1.0.same_names) differ in
-    rw step (replays-from more h.0 confs still h.2)
+-- an execution from a state is a replay if every number met lies within 64 bits
+pub replays-from : (actions : List Action) (start confs : List Conf) → IsJointState start → IsExecution (λ a s t. IsJointStep IsStep a s t × FitsJointStep a s) start actions confs → replay actions start ≡ Some confs
+replays-from [] start confs state h = rw h refl
+replays-from (a ∷ more) start confs state h =
+    let step : joint_answer a start ≡ Ok h.0 = joint_answer-from a start h.0 state h.1.0 h.1.1 in
+    rw step (replays-from more h.0 confs (joint_state_after a start h.0 state h.1.0) h.2)
 
 -- an execution of a composition, projected on a component, is one of that component
 pub projects : (step : Action → Conf → Conf → Type 0) (actions : List Action) (start confs : List Conf) → IsExecution (IsJointStep step) start actions confs → ProjectsOnEach step start actions confs
@@ -64,4 +61,4 @@ projects step (a ∷ more) start confs h k c found = at_part (takes_part k a) re
 
 -- a replay, projected on a component, is one of the steps that the runtime finds for that component
 pub replay_projects : (actions : List Action) (start confs : List Conf) → replay actions start ≡ Some confs → ProjectsOnEach HasAnswer start actions confs
-replay_projects actions start confs h = projects HasAnswer actions start confs (replay-execution (IsJointStep HasAnswer) joint_answer-is actions start confs h)
+replay_projects actions start confs h = projects HasAnswer actions start confs (replay-execution (IsJointStep HasAnswer) (λ s. Unit {0}) (λ a s t law e. (joint_answer-is a s t e, tt)) actions start confs tt h)

@@ -1,6 +1,6 @@
 -- The start of a system in which each thing is declared once.
 use Rattle.std.proofs.Common.{◌≡◌, ℤ, Bool, true, false, ◌||◌, List, [], ◌∷◌, ◌++◌, Some, refl, sym, ap, subst, ◌∙◌, map}
-use Rattle.std.specs.Prelude.{◌&&◌}
+use Rattle.std.specs.Prelude.{◌&&◌, if◌then◌else◌}
 use Rattle.std.specs.List.{AllByRecursion, IsDistinct, list_all, list_any}
 use Rattle.std.specs.Ordering.{int_eq}
 use Rattle.std.proofs.lemmas.List.{map-append}
@@ -13,6 +13,9 @@ use Rattle.ioa_system.specs.Declarations.{IsWellDeclared, same_channel}
 use Rattle.ioa_system.specs.Parts.{Parts}
 use Rattle.ioa_system.specs.Systems.{SystemParts}
 use Rattle.ioa_compose.specs.declared.configuration.Conf.{Conf}
+use Rattle.ioa_compose.specs.declared.configuration.Conf.TheVariants.{Node}
+use Rattle.ioa_compose.specs.JointStep.{IsJointState}
+use Rattle.ioa_compose.proofs.Compositions.{IsStateOf}
 use Rattle.ioa_compose.specs.Participants.{same_component}
 use Rattle.ioa_compose.specs.Composition.{component_of, component_names, find_conf}
 use Rattle.ioa_compose.specs.Start.{start, node_start, channel_start, script_start}
@@ -183,3 +186,29 @@ is_start s w =
   where
     Found : Conf → Type 0
     Found c = find_conf (component_of c) (start s) ≡ Some c
+
+-- what holds of each configuration holds of the one that a name finds
+of_found : (P : Conf → Type 0) (cs : List Conf) → AllByRecursion P cs → (k : Component) (c : Conf) → find_conf k cs ≡ Some c → P c
+of_found P [] each k c h = absurd (cc)
+of_found P (d ∷ cs) each k c h = by_test (same_component k (component_of d)) h (of_found P cs each.1 k c)
+  where
+    by_test : (t : Bool) → (if t then Some d else find_conf k cs) ≡ Some c → (find_conf k cs ≡ Some c → P c) → P c
+    by_test true e further = let one : d ≡ c = cc in subst P one each.0
+    by_test false e further = further e
+
+all_map : {A B : Type 0} (P : B → Type 0) (f : A → B) (xs : List A) → AllByRecursion (λ x. P (f x)) xs → AllByRecursion P (map f xs)
+all_map P f [] h = tt
+all_map P f (x ∷ xs) h = (h.0, all_map P f xs h.1)
+
+-- the start of a system that declares each thing once is a state of the composition
+pub start_state : (s : SystemParts) → IsWellDeclared s → IsJointState (start s)
+start_state s w =
+    let nodes : AllByRecursion IsStateOf (map node_start s.programs) = all_map IsStateOf node_start s.programs (all_weaken (λ p once. record { program = once; valued = once.valued }) s.programs w.programs) in
+    let channels : AllByRecursion IsStateOf (map channel_start s.channels) = all_map IsStateOf channel_start s.channels (every (λ c. tt) s.channels) in
+    let scripts : AllByRecursion IsStateOf (map script_start s.programs) = all_map IsStateOf script_start s.programs (every (λ p. tt) s.programs) in
+    let all = all_join IsStateOf (map node_start s.programs ++ map channel_start s.channels) (map script_start s.programs) (all_join IsStateOf (map node_start s.programs) (map channel_start s.channels) nodes channels) scripts in
+    record { once = start_once s w; nodes = λ k c found. of_found IsStateOf (start s) all k (Node c) found }
+  where
+    every : {A : Type 0} {P : A → Type 0} → ((x : A) → P x) → (xs : List A) → AllByRecursion P xs
+    every f [] = tt
+    every f (x ∷ xs) = (f x, every f xs)

@@ -11,7 +11,7 @@ use Rattle.ioa_compose.specs.declared.configuration.Conf.{Conf}
 use Rattle.ioa_compose.specs.declared.configuration.Conf.TheVariants.{Node, Queue}
 use Rattle.ioa_compose.specs.declared.fault.StepFault.{StepFault}
 use Rattle.ioa_compose.specs.declared.fault.StepFault.TheVariants.{NoChannel}
-use Rattle.ioa_compose.specs.NodeStep.{node_answer}
+use Rattle.ioa_compose.specs.NodeAnswers.{node_answer}
 use Rattle.ioa_compose.specs.Queues.{queue_answer}
 use Rattle.ioa_compose.specs.Participants.{same_component, participants_of}
 

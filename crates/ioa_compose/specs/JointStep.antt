@@ -1,12 +1,21 @@
 -- Steps of a composition (Lynch 8.2), for any steps of its components: those of the book, or those that the runtime
 -- finds.
 use Rattle.std.specs.Prelude.{◌≡◌, true, false, List, Some, Ok}
+use Rattle.std.specs.List.{IsDistinct}
 use Rattle.ioa_actions.specs.declared.component.Component.{Component}
 use Rattle.ioa_actions.specs.declared.action.Action.{Action}
 use Rattle.ioa_compose.specs.declared.configuration.Conf.{Conf}
+use Rattle.ioa_compose.specs.declared.configuration.Conf.TheVariants.{Node}
+use Rattle.ioa_compose.specs.NodeState.{NodeState}
+use Rattle.ioa_compose.specs.NodeStep.{IsState}
 use Rattle.ioa_compose.specs.Composition.{component_names, conf_answer, find_conf}
-use Rattle.ioa_compose.specs.Participants.{takes_part}
+use Rattle.ioa_compose.specs.Participants.{same_component, takes_part}
 use Rattle.ioa_compose.specs.Steps.{FitsStep}
+
+-- a state of the composition (Lynch 8.2): no component is there twice, and each node is in a state of its own
+pub record IsJointState (cs : List Conf) : Type 0 where
+  pub once : IsDistinct same_component (component_names cs)
+  pub nodes : (k : Component) (c : NodeState) → find_conf k cs ≡ Some (Node c) → IsState c
 
 -- a component has a step by an action
 pub record HasStep (step : Action → Conf → Conf → Type 0) (a : Action) (k : Component) (cs : List Conf) : Type 0 where

@@ -6,6 +6,7 @@ pub mod Executions
 pub mod IsStart
 pub mod JointStep
 pub mod NodeState
+pub mod NodeAnswers
 pub mod NodeStep
 pub mod Participants
 pub mod Queues

@@ -1,83 +1,59 @@
--- Steps of a node's automaton (Lynch 8.1).
-use Rattle.std.specs.Prelude.{◌≡◌, ℕ, Bool, true, false, not, ◌&&◌, if◌then◌else◌, Option, Some, None, Result, Ok, Err}
-use Rattle.std.specs.Prelude.{List, [], ◌∷◌, ◌++◌, map, length, take, find}
-use Rattle.std.specs.List.{list_all}
-use Rattle.ioa_values.specs.Data.{Data, truth, as_truth, is_within}
-use Rattle.ioa_values.specs.Outcome.{and_then}
-use Rattle.ioa_values.specs.DataOrder.{same}
-use Rattle.ioa_terms.specs.Bindings.{Bindings, same_word}
-use Rattle.ioa_terms.specs.Meaning.{value, numbers_met, answer}
-use Rattle.ioa_terms.specs.Performance.{after, numbers_met_by, answer_by}
+-- Steps of a node's automaton, over numbers without bound (Lynch 8.1).
+use Rattle.std.specs.Prelude.{◌≡◌, ◌≢◌, ◌⊎◌, true, List, [], ◌∷◌, ◌++◌, map, Option, Some, None}
+use Rattle.std.specs.List.{AllZip, Contains, list_all}
+use Rattle.ioa_values.specs.Data.{Data, truth, is_within}
+use Rattle.ioa_operators.specs.Shapes.{has_shape, wide_shape}
+use Rattle.ioa_terms.specs.declared.name.Name.TheVariants.{Word}
 use Rattle.ioa_terms.specs.declared.tree.Kind.{Kind}
 use Rattle.ioa_terms.specs.declared.tree.Kind.TheVariants.{Input, Output, Internal}
+use Rattle.ioa_terms.specs.Bindings.{Bindings, lookup}
+use Rattle.ioa_terms.specs.Meaning.{value, numbers_met}
+use Rattle.ioa_terms.specs.Performance.{after, numbers_met_by}
 use Rattle.ioa_actions.specs.ActionParts.{send_name, receive_name, action_name, action_arguments}
 use Rattle.ioa_actions.specs.declared.action.Action.{Action}
 use Rattle.ioa_actions.specs.declared.action.Action.TheVariants.{Send, Receive, Local, Stimulus}
-use Rattle.ioa_operators.specs.Shapes.{has_shape, wide_shape}
-use Rattle.ioa_operators.specs.declared.fault.TermFault.{TermFault}
 use Rattle.ioa_source.specs.PlainText.{const, named}
-use Rattle.ioa_source.specs.Sides.{CheckedEntry, CheckedParameter, CheckedTerm, CheckedTransition}
-use Rattle.ioa_system.specs.InView.{Site, entry_condition, guard_or_effect, bindings_at, given_bindings}
+use Rattle.ioa_source.specs.Sides.{CheckedEntry, CheckedParameter, CheckedTerm}
+use Rattle.ioa_system.specs.Declarations.{DeclaresOnce}
+use Rattle.ioa_system.specs.InView.{Site, entry_condition, guard_or_effect, bindings_at, given_bindings, variable_names}
 use Rattle.ioa_system.specs.Parts.{Parts, PlainRule}
-use Rattle.ioa_compose.specs.NodeState.{NodeState, node_state}
-use Rattle.ioa_compose.specs.StepFaults.{step_fault}
-use Rattle.ioa_compose.specs.declared.fault.StepFault.{StepFault}
-use Rattle.ioa_compose.specs.declared.fault.StepFault.TheVariants.{NotEnabled, NotMine, Undefined}
+use Rattle.ioa_compose.specs.NodeState.{NodeState, IsValued}
 
--- whether an action's kind is that of an entry: a send is the output `send`, a receive the input `receive`, a local
--- action another output or an internal action, a stimulus another input (profile)
-abbrev pub kind_agrees : Action → Kind → Bool
-kind_agrees (Send m i j) Input = false
-kind_agrees (Send m i j) Output = true
-kind_agrees (Send m i j) Internal = false
-kind_agrees (Receive m i j) Input = true
-kind_agrees (Receive m i j) Output = false
-kind_agrees (Receive m i j) Internal = false
-kind_agrees (Local a) Input = false
-kind_agrees (Local a) Output = not (same_word a.name send_name)
-kind_agrees (Local a) Internal = true
-kind_agrees (Stimulus a) Input = not (same_word a.name receive_name)
-kind_agrees (Stimulus a) Output = false
-kind_agrees (Stimulus a) Internal = false
+-- a state of a node: its program declares each thing once, and each state variable has a value
+pub record IsState (c : NodeState) : Type 0 where
+  pub program : DeclaresOnce c.program
+  pub valued : IsValued c
 
--- whether a value is the one that a constant parameter has
-abbrev pub constant_agrees : Result Data TermFault → Data → Bool
-constant_agrees (Ok u) v = same u v
-constant_agrees (Err f) v = false
+-- an action is of the kind of an entry (profile): a send is the output `send`, a receive the input `receive`, a local
+-- action an internal action or another output, a stimulus another input
+abbrev pub IsOfKind : Action → Kind → Type 0
+IsOfKind (Send m i j) k = k ≡ Output
+IsOfKind (Receive m i j) k = k ≡ Input
+IsOfKind (Local a) k = (k ≡ Internal) ⊎ (k ≡ Output) × (a.name ≢ send_name)
+IsOfKind (Stimulus a) k = (k ≡ Input) × (a.name ≢ receive_name)
 
--- whether a value is one that a parameter takes, if constants read these bindings: it is the constant, or it has the
--- shape; a negative number passes for a Nat here
-abbrev pub parameter_agrees : Bindings → CheckedParameter → Data → Bool
-parameter_agrees b (const t) v = constant_agrees (answer t b) v
-parameter_agrees b (named d) v = has_shape (wide_shape d.shape) v
+-- a parameter takes a value, if constants read these bindings: a constant takes its own value, a name each value of its
+-- shape, and a negative number for a Nat
+abbrev pub Takes : Bindings → CheckedParameter → Data → Type 0
+Takes b (const t) v = value t b ≡ Some v
+Takes b (named d) v = has_shape (wide_shape d.shape) v ≡ true
 
--- whether arguments are those of an entry's parameters: there are as many, and each parameter takes its own
-abbrev pub arguments_agree : Bindings → List CheckedParameter → List Data → Bool
-arguments_agree b [] [] = true
-arguments_agree b [] (v ∷ vs) = false
-arguments_agree b (p ∷ more) [] = false
-arguments_agree b (p ∷ more) (v ∷ vs) = parameter_agrees b p v && arguments_agree b more vs
+-- an action is one of an entry's, if constants read these bindings: it has the entry's name and kind, and an argument
+-- for each parameter, which takes it
+pub record IsActionOf (b : Bindings) (a : Action) (e : CheckedEntry) : Type 0 where
+  pub name : e.name ≡ action_name a
+  pub kind : IsOfKind a e.kind
+  pub arguments : AllZip (Takes b) e.parameters (action_arguments a)
 
--- whether an argument holds no negative number where its sort says Nat
-abbrev pub is_natural : CheckedParameter → Data → Bool
-is_natural (const t) v = true
-is_natural (named d) v = has_shape d.shape v
+-- a rule of a program has an action: its entry is one of the automaton's, and the action is one of the entry's
+pub record HasRule (p : Parts) (a : Action) (r : PlainRule) : Type 0 where
+  pub present : Contains p.automaton.rules r
+  pub action : IsActionOf (given_bindings p.automaton p.arguments) a r.entry
 
--- whether no argument holds one, each beside its parameter
-abbrev pub are_natural : List CheckedParameter → List Data → Bool
-are_natural [] vs = true
-are_natural (p ∷ more) [] = true
-are_natural (p ∷ more) (v ∷ vs) = is_natural p v && are_natural more vs
-
--- the test of arguments: a negative number has no value as a Nat
-abbrev pub naturals_answer : List CheckedParameter → List Data → Result (Unit {0}) StepFault
-naturals_answer ps vs = if are_natural ps vs then Ok tt else Err Undefined
-
--- whether an action is one of an entry's, if constants read these bindings
-abbrev pub entry_agrees : Bindings → Action → CheckedEntry → Bool
-entry_agrees b a e =
-    same_word e.name (action_name a)
-    && (kind_agrees a e.kind && arguments_agree b e.parameters (action_arguments a))
+-- an argument is of a parameter's sort: it holds no negative number where the sort says Nat
+abbrev pub IsOfSort : CheckedParameter → Data → Type 0
+IsOfSort (const t) v = Unit {0}
+IsOfSort (named d) v = has_shape d.shape v ≡ true
 
 -- the argument of a parameter that has a name of its own
 abbrev pub own_value : CheckedParameter → Data → List Data
@@ -97,89 +73,50 @@ rule_bindings site r a c =
     bindings_at site c.program.automaton c.program.arguments c.variables r.entry.parameters
     (own_values r.entry.parameters (action_arguments a))
 
--- a guard passes if it is true
-abbrev pub truth_answer : Option Bool → Result (Unit {0}) StepFault
-truth_answer None = Err NotEnabled
-truth_answer (Some true) = Ok tt
-truth_answer (Some false) = Err NotEnabled
-
--- the test of a guard by its value: it passes if that is true
-abbrev pub value_answer : Result Data TermFault → Result (Unit {0}) StepFault
-value_answer (Err f) = Err (step_fault f)
-value_answer (Ok v) = truth_answer (as_truth v)
-
--- the test of a guard: it passes if it is true, or if there is none
-abbrev pub guard_answer : Option CheckedTerm → Bindings → Result (Unit {0}) StepFault
-guard_answer None e = Ok tt
-guard_answer (Some t) e = value_answer (answer t e)
-
--- the values of the state variables after an effect
-abbrev pub effect_answer : ℕ → Result Bindings TermFault → Result (List Data) StepFault
-effect_answer n (Ok e) = Ok (take n (map (λ b. b.1) e))
-effect_answer n (Err f) = Err (step_fault f)
-
--- the result of a transition over n state variables: their new values, or the first fault of guard and effect
-abbrev pub transition_answer : ℕ → CheckedTransition → Bindings → Result (List Data) StepFault
-transition_answer n t b = and_then (guard_answer t.pre b) (λ _. effect_answer n (answer_by t.effect b))
-
--- the result of a rule for these arguments, over n state variables: the first fault of the arguments, of the entry's
--- condition, which reads the first bindings, and of the guard and the effect, which read the second; or the new values
-abbrev pub step_answer : ℕ → PlainRule → List Data → Bindings → Bindings → Result (List Data) StepFault
-step_answer n r args e b =
-    and_then (naturals_answer r.entry.parameters args)
-    (λ _. and_then (guard_answer r.entry.condition e) (λ _. transition_answer n r.transition b))
-
--- the rule of an action at a node with this program: the first whose entry it is one of
-abbrev pub rule_for : Parts → Action → Option PlainRule
-rule_for p a = find (λ r. entry_agrees (given_bindings p.automaton p.arguments) a r.entry) p.automaton.rules
-
--- the values of a node's variables after an action, by the rule of that action
-abbrev pub rule_answer : NodeState → Action → Option PlainRule → Result (List Data) StepFault
-rule_answer c a None = Err NotMine
-rule_answer c a (Some r) =
-    step_answer (length c.variables) r (action_arguments a)
-    (rule_bindings entry_condition r a c) (rule_bindings guard_or_effect r a c)
-
--- the values of a node's variables after an action, or why the action is no step
-abbrev pub values_answer : NodeState → Action → Result (List Data) StepFault
-values_answer c a = rule_answer c a (rule_for c.program a)
-
--- the result of an action at a node: its new configuration, or why there is none
-unfoldable pub node_answer : NodeState → Action → Result NodeState StepFault
-node_answer c a = and_then (values_answer c a) (λ vs. Ok (node_state c.program vs))
-
 -- a guard or a condition holds: there is none, or its value is true
 abbrev pub GuardHolds : Option CheckedTerm → Bindings → Type 0
 GuardHolds None e = Unit {0}
 GuardHolds (Some t) e = value t e ≡ Some (truth true)
 
--- a step of a node from one configuration to another, over numbers without bound (Lynch 8.1): by the first rule that
--- has the action, no argument holds a negative number where its sort says Nat, the entry's condition and the guard
--- hold, and each state variable has its value after the effect; the program stays
+-- a step of a node from one configuration to another (Lynch 8.1): a rule of the program has the action, each argument
+-- is of its sort, the entry's condition and the guard hold, each state variable has by its name the value that the
+-- effect leaves, and the program stays
 pub record IsNodeStep (a : Action) (c d : NodeState) : Type 0 where
   pub rule : PlainRule
-  pub mine : rule_for c.program a ≡ Some rule
-  pub natural : are_natural rule.entry.parameters (action_arguments a) ≡ true
+  pub mine : HasRule c.program a rule
+  pub sorts : AllZip IsOfSort rule.entry.parameters (action_arguments a)
   pub condition : GuardHolds rule.entry.condition (rule_bindings entry_condition rule a c)
   pub guard : GuardHolds rule.transition.pre (rule_bindings guard_or_effect rule a c)
   pub left : Bindings
   pub effect : after rule.transition.effect (rule_bindings guard_or_effect rule a c) ≡ Some left
-  pub reached : d ≡ node_state c.program (take (length c.variables) (map (λ b. b.1) left))
+  pub variables : map (λ x. lookup (Word x) left) (variable_names c.program.automaton.variables) ≡ map Some d.variables
+  pub program : d.program ≡ c.program
+
+-- the results that a parameter meets, if constants read these bindings
+abbrev pub numbers_met_by_parameter : Bindings → CheckedParameter → List Data
+numbers_met_by_parameter b (const t) = numbers_met t b
+numbers_met_by_parameter b (named d) = []
+
+-- the results that parameters meet, one after another
+abbrev pub numbers_met_by_parameters : Bindings → List CheckedParameter → List Data
+numbers_met_by_parameters b [] = []
+numbers_met_by_parameters b (p ∷ more) = numbers_met_by_parameter b p ++ numbers_met_by_parameters b more
 
 -- the results that a guard or a condition meets
 abbrev pub numbers_met_by_guard : Option CheckedTerm → Bindings → List Data
 numbers_met_by_guard None e = []
 numbers_met_by_guard (Some t) e = numbers_met t e
 
--- the results that a rule meets by an action at a node: its entry's condition, its guard and its effect, one after
--- another
+-- the results that a rule meets by an action at a node: the constants of its entry, the entry's condition, the guard and
+-- the effect, one after another
 abbrev pub numbers_met_by_rule : PlainRule → Action → NodeState → List Data
 numbers_met_by_rule r a c =
-    numbers_met_by_guard r.entry.condition (rule_bindings entry_condition r a c)
+    numbers_met_by_parameters (given_bindings c.program.automaton c.program.arguments) r.entry.parameters
+    ++ (numbers_met_by_guard r.entry.condition (rule_bindings entry_condition r a c)
     ++ (numbers_met_by_guard r.transition.pre (rule_bindings guard_or_effect r a c)
-    ++ numbers_met_by r.transition.effect (rule_bindings guard_or_effect r a c))
+    ++ numbers_met_by r.transition.effect (rule_bindings guard_or_effect r a c)))
 
--- every number that the rule of an action meets lies within 64 bits (profile)
+-- every number that a rule of an action meets lies within 64 bits (profile)
 abbrev pub FitsNodeStep : Action → NodeState → Type 0
 FitsNodeStep a c =
-    (r : PlainRule) → rule_for c.program a ≡ Some r → list_all is_within (numbers_met_by_rule r a c) ≡ true
+    (r : PlainRule) → HasRule c.program a r → list_all is_within (numbers_met_by_rule r a c) ≡ true

@@ -8,27 +8,34 @@ ghost use Rattle.ioa_actions.specs.declared.component.Component.{Component};
 ghost use Rattle.ioa_actions.specs.declared.action.Action.{Action};
 ghost use Rattle.ioa_compose.specs.declared.configuration.Conf.{Conf};
 ghost use Rattle.ioa_compose.specs.NodeState.{NodeState};
-ghost use Rattle.ioa_compose.specs.NodeStep.{node_answer, IsNodeStep, FitsNodeStep};
+ghost use Rattle.ioa_compose.specs.NodeAnswers.{node_answer};
+ghost use Rattle.ioa_compose.specs.NodeStep.{IsState, HasRule, IsNodeStep, FitsNodeStep};
 ghost use Rattle.ioa_compose.specs.Queues.{QueueState, queue_answer};
 ghost use Rattle.ioa_compose.specs.Participants.{same_component, participants_of, takes_part};
 ghost use Rattle.ioa_compose.specs.Steps.{IsStep, IsQueueStep};
-ghost use Rattle.ioa_compose.specs.JointStep.{IsJointStep, FitsJointStep, AllHaveSteps, HasAnswer};
+ghost use Rattle.ioa_compose.specs.JointStep.{IsJointState, IsJointStep, FitsJointStep, AllHaveSteps, HasAnswer};
 ghost use Rattle.ioa_compose.specs.Composition.{component_names, joint_answer};
 ghost use Rattle.ioa_compose.specs.Executions.{replay};
-ghost use Rattle.ioa_system.specs.Declarations.{IsWellDeclared};
+ghost use Rattle.ioa_system.specs.Declarations.{DeclaresOnce, IsWellDeclared};
+ghost use Rattle.ioa_system.specs.Parts.{Parts, PlainRule};
 ghost use Rattle.ioa_system.specs.Systems.{SystemParts};
 ghost use Rattle.ioa_compose.specs.Start.{start};
 ghost use Rattle.ioa_compose.specs.IsStart.{IsStart};
 ghost use Rattle.ioa_compose.specs.Automata.{IsExecution, ProjectsOnEach};
 ghost use Rattle.ioa_compose.specs.Channels.{HandsOutInOrder, HandsOutPrefix, message_sent, message_received};
 
-/// The code gives a node's new configuration exactly if a step of the node leads to it (Lynch 8.1) and every number
-/// that this step meets lies within 64 bits.
+/// From a state of a node the code gives a new configuration exactly if a step of the node leads there (Lynch 8.1) and
+/// every number that this step meets lies within 64 bits. One rule of the program has an action at most, there is one
+/// step by it at most, and this leads to a state of the node again.
 pub fn node_step_law()
-    ensures step { (c : NodeState) (a : Action) (d : NodeState) → node_answer c a ≡ Ok d
+    ensures step { (c : NodeState) (a : Action) (d : NodeState) → IsState c → node_answer c a ≡ Ok d
         → IsNodeStep a c d × FitsNodeStep a c }
-    ensures answer { (c : NodeState) (a : Action) (d : NodeState) → IsNodeStep a c d → FitsNodeStep a c
+    ensures answer { (c : NodeState) (a : Action) (d : NodeState) → IsState c → IsNodeStep a c d → FitsNodeStep a c
         → node_answer c a ≡ Ok d }
+    ensures one_rule { (p : Parts) (a : Action) (r s : PlainRule) → DeclaresOnce p → HasRule p a r → HasRule p a s
+        → r ≡ s }
+    ensures one_step { (a : Action) (c d e : NodeState) → IsState c → IsNodeStep a c d → IsNodeStep a c e → d ≡ e }
+    ensures state { (a : Action) (c d : NodeState) → IsState c → IsNodeStep a c d → IsState d }
 {}
 
 /// The code gives a queue's new state exactly if a step of the queue leads to it (Lynch 14.1).
@@ -36,17 +43,19 @@ pub fn queue_step_law()
     ensures { (q : QueueState) (a : Action) (r : QueueState) → (queue_answer q a ≡ Ok r) ↔ IsQueueStep a q r }
 {}
 
-/// The code gives a list of configurations exactly if a joint step leads there and every number that the participants
-/// meet lies within 64 bits. In a joint step each component that has the action takes its own step, and all others stay
-/// (Lynch 8.2). If no component is listed twice, there is one joint step by an action at most. The code finds one if it
-/// finds a step of each component that has the action.
+/// From a state of the composition the code gives a list of configurations exactly if a joint step leads there and every
+/// number that the participants meet lies within 64 bits. In a joint step each component that has the action takes its
+/// own step, and all others stay (Lynch 8.2). There is one joint step by an action at most, and it leads to a state of
+/// the composition again. The code finds one if it finds a step of each component that has the action.
 pub fn joint_step_law()
-    ensures step { (action : Action) (confs next : List Conf) → joint_answer action confs ≡ Ok next
-        → IsJointStep IsStep action confs next × FitsJointStep action confs }
-    ensures answer { (action : Action) (confs next : List Conf) → IsDistinct same_component (component_names confs)
+    ensures step { (action : Action) (confs next : List Conf) → IsJointState confs
+        → joint_answer action confs ≡ Ok next → IsJointStep IsStep action confs next × FitsJointStep action confs }
+    ensures answer { (action : Action) (confs next : List Conf) → IsJointState confs
         → IsJointStep IsStep action confs next → FitsJointStep action confs → joint_answer action confs ≡ Ok next }
-    ensures one { (action : Action) (confs next other : List Conf) → IsDistinct same_component (component_names confs)
+    ensures one { (action : Action) (confs next other : List Conf) → IsJointState confs
         → IsJointStep IsStep action confs next → IsJointStep IsStep action confs other → next ≡ other }
+    ensures state { (action : Action) (confs next : List Conf) → IsJointState confs
+        → IsJointStep IsStep action confs next → IsJointState next }
     ensures enabled { (action : Action) (confs : List Conf) → AllHaveSteps HasAnswer action confs
         → (next : List Conf) × (joint_answer action confs ≡ Ok next) }
 {}
@@ -63,18 +72,18 @@ pub fn signature_law()
 
 /// The start of a system that declares each thing once has each component of the system once and no other: each node
 /// with its program and its initial values, each declared channel and each script with an empty queue (Lynch 8.1 and
-/// 14.1).
+/// 14.1). It is a state of the composition.
 pub fn start_law()
-    ensures { (s : SystemParts) → IsWellDeclared s → IsStart s (start s) }
+    ensures start { (s : SystemParts) → IsWellDeclared s → IsStart s (start s) }
+    ensures state { (s : SystemParts) → IsWellDeclared s → IsJointState (start s) }
 {}
 
-/// A replay is an execution of the composition (Lynch 8.1). If no component is listed twice at the start, an execution
-/// is a replay if every number that its steps meet lies within 64 bits.
+/// A replay from a state of the composition is an execution of it (Lynch 8.1). An execution is a replay if every number
+/// that its steps meet lies within 64 bits.
 pub fn execution_law()
-    ensures execution { (actions : List Action) (start confs : List Conf) → replay actions start ≡ Some confs
-        → IsExecution (IsJointStep IsStep) start actions confs }
-    ensures replay { (actions : List Action) (start confs : List Conf) →
-        IsDistinct same_component (component_names start)
+    ensures execution { (actions : List Action) (start confs : List Conf) → IsJointState start
+        → replay actions start ≡ Some confs → IsExecution (IsJointStep IsStep) start actions confs }
+    ensures replay { (actions : List Action) (start confs : List Conf) → IsJointState start
         → IsExecution (λ a s t. IsJointStep IsStep a s t × FitsJointStep a s) start actions confs
         → replay actions start ≡ Some confs }
 {}

@@ -2,7 +2,7 @@
 
 ghost use Rattle.std.specs.Prelude.{◌≡◌, ◌↔◌, IfOk, IsTrue, length};
 ghost use Rattle.ioa_values.specs.Outcome.{Answers};
-ghost use Rattle.ioa_compose.specs.NodeStep.{node_answer};
+ghost use Rattle.ioa_compose.specs.NodeAnswers.{node_answer};
 ghost use Rattle.ioa_compose.specs.SameConfs.{same_node};
 ghost use Rattle.std.specs.Arc.{arc_value};
 ghost use Rattle.ioa_compose.specs.NodeState.{node_state};
@@ -100,7 +100,7 @@ impl NodeConf {
     /// number met lies outside 64 bits, `Undefined` (1) if a part has no value or an argument holds a negative number
     /// where its sort says Nat, `NotEnabled` (40) if the condition or the guard is not true. It is meant for an action
     /// in which the node takes part, and does not test that.
-    #[tactic(auto, unfolding(crate::specs::NodeStep::node_answer))]
+    #[tactic(auto, unfolding(crate::specs::NodeAnswers::node_answer))]
     pub fn step(&self, alloc: Global, action: &Action) -> Result<Self, StepFault>
         ensures { Answers StepFault.Memory (λ c. c) result (node_answer self.now action.now) }
     {

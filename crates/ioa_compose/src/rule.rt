@@ -10,7 +10,8 @@ ghost use Rattle.ioa_system.specs.InView.{declared_names, given_bindings};
 ghost use Rattle.ioa_system.specs.ResolvedPrograms.{IsResolvedRule, IsResolvedGuard};
 ghost use Rattle.ioa_system.specs.ResolvedPrograms.{IsResolvedParameter, AreResolvedParameters};
 ghost use Rattle.ioa_compose.specs.NodeState.{node_state};
-ghost use Rattle.ioa_compose.specs.NodeStep as spec;
+ghost use Rattle.ioa_compose.specs.NodeAnswers as spec;
+ghost use Rattle.ioa_compose.specs.NodeStep.{own_value, own_values};
 ghost use Rattle.ioa_terms.specs.Meaning.{answer};
 ghost use Rattle.ioa_terms.specs.Performance.{answer_by};
 ghost use Rattle.ioa_terms.specs.Resolved.{AreResolved, IsResolved};
@@ -207,15 +208,15 @@ fn take_transition(
         (map Name.Word (rule.now.scope ++ program.now.automaton.constants)) }
     requires named { length rule.now.scope ≡ length variables.now
         + (length program.now.automaton.parameters
-        + length (spec.own_values rule.now.entry.parameters arguments.now)) }
+        + length (own_values rule.now.entry.parameters arguments.now)) }
     // the new values, one for each variable
     ensures after { Answers StepFault.Memory (λ v. v.items) result
         (spec.step_answer (length variables.now) rule.now arguments.now
         (environment (map Name.Word (drop (length variables.now) rule.now.scope))
-        (program.now.arguments ++ spec.own_values rule.now.entry.parameters arguments.now)
+        (program.now.arguments ++ own_values rule.now.entry.parameters arguments.now)
         program.now.automaton.constants)
         (environment (map Name.Word rule.now.scope)
-        (variables.now ++ (program.now.arguments ++ spec.own_values rule.now.entry.parameters arguments.now))
+        (variables.now ++ (program.now.arguments ++ own_values rule.now.entry.parameters arguments.now))
         program.now.automaton.constants)) }
     ensures valued { IfOk result (λ v. length v.items ≡ length variables.now) }
 {
@@ -300,7 +301,7 @@ fn fixed_values(
     arguments: &[Value],
 ) -> Result<Vec<Value>, AllocError>
     ensures { IfOk result
-        (λ v. v.items ≡ given.now ++ spec.own_values (entry_of entry.now).parameters arguments.now) }
+        (λ v. v.items ≡ given.now ++ own_values (entry_of entry.now).parameters arguments.now) }
 {
     let mut values = copies(alloc, given)?;
     let count = entry.parameters.len().min(arguments.len());
@@ -331,7 +332,7 @@ fn push_own(
     argument: &Value,
 ) -> Result<(), AllocError>
     ensures { OnOk result
-        (values.new.items ≡ values.old.items ++ spec.own_value (parameter_of parameter.now) argument.now) }
+        (values.new.items ≡ values.old.items ++ own_value (parameter_of parameter.now) argument.now) }
 {
     match parameter {
         Parameter::Const(_) => Ok(()),

@@ -11,7 +11,7 @@ use Rattle.ioa_tokens.specs.Written.{may_touch}
 use Rattle.ioa_tokens.proofs.Apart.{loose_touches, apart_from_closed}
 use Rattle.ioa_front.specs.Touching.{is_opening, is_part_end, follows_any, precedes_any, is_prefix, is_plain, touches}
 
--- a bracket that opens may stand right behind any token
+-- a bracket that opens may come right behind any token
 opens : (t u : Token) → is_opening u ≡ true → may_touch t u ≡ true
 unfolding mark_text signs reserved
 opens t (token.Mark mark.OpenRound) e = loose_touches t mark.OpenRound refl
@@ -31,7 +31,7 @@ ends t (token.Mark mark.Semicolon) e = loose_touches t mark.Semicolon refl
 ends t (token.Mark mark.Colon) e = loose_touches t mark.Colon refl
 ends t _ e = absurd (true≢false (sym e))
 
--- any token may stand right behind these
+-- any token may come right behind these
 precedes : (t u : Token) → precedes_any t ≡ true → may_touch t u ≡ true
 precedes (token.Mark mark.OpenRound) u e = apart_from_closed mark.OpenRound ((gap.Joined, u) ∷ []) refl
 precedes (token.Mark mark.OpenSquare) u e = apart_from_closed mark.OpenSquare ((gap.Joined, u) ∷ []) refl
@@ -39,7 +39,7 @@ precedes (token.Mark mark.OpenBrace) u e = apart_from_closed mark.OpenBrace ((ga
 precedes (token.Mark mark.Dot) u e = apart_from_closed mark.Dot ((gap.Joined, u) ∷ []) refl
 precedes _ u e = absurd (true≢false (sym e))
 
--- a name, a number or a truth value may stand right behind an operator before a term
+-- a name, a number or a truth value may come right behind an operator before a term
 operand : (t u : Token) → is_prefix t ≡ true → is_plain u ≡ true → may_touch t u ≡ true
 unfolding mark_text signs reserved
 operand (token.Mark mark.Minus) (token.Word word) e f = refl

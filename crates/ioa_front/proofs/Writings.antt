@@ -14,7 +14,7 @@ pub last_more : (before : Option Token) (ts : List Token) (t : Token) → last_t
 last_more before [] t = refl
 last_more before (u ∷ ts) t = last_more (Some u) ts t
 
--- tokens stay apart with one more that may stand behind the last
+-- tokens stay apart with one more that may come behind the last
 apart_behind : (first : Gap × Token) (ws : List (Gap × Token)) (w : Gap × Token) → AreApart (first ∷ ws) → may_begin (last_token (Some first.1) (map (λ v. v.1) ws)) w ≡ true → AreApart (first ∷ (ws ++ w ∷ []))
 apart_behind first [] w apart may = (may, (tt, tt))
 apart_behind first (second ∷ ws) w apart may = (apart.0, apart_behind second ws w apart.1 may)

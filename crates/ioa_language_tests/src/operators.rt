@@ -53,7 +53,7 @@ fn answer_text(alloc: Global, answer: Result<Value, TermFault>) -> Result<String
     }
 }
 
-/// Whether an answer has this text.
+/// Whether a result has this text.
 fn shows(alloc: Global, answer: Result<Value, TermFault>, text: &str) -> Result<bool, AllocError> {
     Ok(answer_text(alloc, answer)?.as_str() == text)
 }

@@ -1,4 +1,4 @@
--- Whether two parts of a text are the same (profile), by a test of what stands beside names and one of what stands
+-- Whether two parts of a text are the same (profile), by a test of what is beside names and one of what is
 -- beside displays.
 use Rattle.std.specs.Prelude.{Bool, true, false, ◌&&◌}
 use Rattle.std.specs.Option.{option_eq}

@@ -81,7 +81,7 @@ by_order : (k l : ℕ) → (k < l) ⊎ (k ≡ l) → left_side (grouping k) k �
 by_order k l (inl less) h = let r = right_side_above (grouping l) l in omega arith
 by_order k l (inr same) h = rw same (one_side_above (grouping l) l (rw same at h))
 
--- an operator that may stand behind a term of a level does not go on with the right side of an operator of that level
+-- an operator that may come behind a term of a level does not go on with the right side of an operator of that level
 sides : (k l : ℕ) → left_side (grouping k) k ≤ l → k < right_side (grouping l) l
 sides k l h = let a = left_side_above (grouping k) k in by_order k l (same_or_less k l (omega arith)) h
 
@@ -91,7 +91,7 @@ left_level_above op = left_side_above (infix_row op).groups (level op)
 pub right_level_above : (op : BinaryOperator) → level op ≤ right_level op
 right_level_above op = right_side_above (infix_row op).groups (level op)
 
--- what goes on with a term stands at the level of that term, or at a looser one
+-- what goes on with a term is at the level of that term, or at a looser one
 pub level_below : (a : After) → level_of a ≤ left_of a
 level_below (Infix op) = left_level_above op
 level_below Field = omega arith
@@ -103,14 +103,14 @@ ends_right op (Infix other) h = rw (grouping_is op) (sides (level other) (level 
 ends_right op Field h = rw (grouping_is op) (sides 12 (level op) h)
 ends_right op Key h = rw (grouping_is op) (sides 12 (level op) h)
 
--- no operator between two terms stands at the level of one before a term
+-- no operator between two terms is at the level of one before a term
 apart : (p : UnaryOperator) (op : BinaryOperator) → level op ≢ prefix_level p
 apart Not operator.At = omega arith
 apart Not _ = omega arith
 apart Negative operator.At = omega arith
 apart Negative _ = omega arith
 
--- so does what an operator stands before
+-- so does what comes behind an operator
 pub ends_prefix : (p : UnaryOperator) (a : After) → left_of a ≤ prefix_level p → level_of a < prefix_level p
 ends_prefix p (Infix op) h = let b = level_below (Infix op) in let d = apart p op in omega arith
 ends_prefix Not Field h = absurd (omega arith)

@@ -28,7 +28,7 @@ use Rattle.ioa_term_reader.proofs.Shorter.{at_shorter}
 use Rattle.ioa_term_reader.proofs.Begins.{terms_begin, skip_at_term}
 use Rattle.ioa_term_reader.proofs.CompleteSteps.{limited_low, accepted_next, after_infix, climb_stops, climb_same, climb_more, grown_infix, grown_field, grown_key, operand_number, operand_truth, operand_falsity, operand_prefix, operand_word, operand_call, operand_brackets, operand_empty, operand_fields, operand_braces, read_operand}
 
--- where the reader stands once it has read the term `t` of level `most`, in a number of turns that are left
+-- where the reader is once it has read the term `t` of level `most`, in a number of turns that are left
 record Reached (depth room least most : ℕ) (t : SourceTerm) (xs ys : List Token) : Type 0 where
   turns : ℕ
   enough : height_limit < turns + height t
@@ -50,7 +50,7 @@ from_operand depth room least most t xs ys e =
     let p = height_positive t in
     record { turns = height_limit; enough = omega arith; is = read_operand depth room least most t xs ys e }
 
--- a term of a level stands at a looser one too, where what comes behind it goes on at that one
+-- a term of a level is one of a looser level too, if what comes behind it goes on at that one
 loosened : (depth room least most other : ℕ) (t : SourceTerm) (xs ys : List Token) → binds ys ≤ most → binds ys ≤ other →
     Reached depth room least most t xs ys → Reached depth room least other t xs ys
 loosened depth room least most other t xs ys h k r =

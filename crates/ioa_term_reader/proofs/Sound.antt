@@ -33,7 +33,7 @@ use Rattle.std.proofs.lemmas.Bool.{and_parts}
 abbrev pub Good : ℕ → ℕ → SourceTerm → List Token → List Token → Type 0
 Good room l t xs ys = SpellsAt room l t xs ys × (height t ≤ height_limit)
 
--- a term that is spelled at the level that was reached, which is as tight as the least that may stand there
+-- a term that is spelled at the level that was reached, which is as tight as the least that may be there
 abbrev Operand : ℕ → ℕ → List Token → TermAtLevel → Type 0
 Operand room least xs o = Good room o.0.0 o.0.1 xs o.1 × (least ≤ o.0.0)
 
@@ -250,7 +250,7 @@ module _ (next : ℕ → ℕ → List Token → Option (SourceTerm × List Token
       (kept (λ v. Good (suc (room - 1)) postfix_level v start c.1) u_is
       (λ low. (grammar.key (rw (has_room, key_is m m_is) at d) (rw (expected_taken mark.CloseSquare t.1 c c_is) at k.0), low)))))))
 
-  -- from `start` on, a term of level `most` stands to the left
+  -- from `start` on, a term of level `most` is to the left
   climb_sound : (turns room least most : ℕ) (left : SourceTerm) (start xs ys : List Token) (t : SourceTerm) → Good room most left start xs → least ≤ most →
       climb next turns room least most left xs ≡ read_next t ys → Good room least t start ys
   unfolding climb

@@ -9,3 +9,4 @@ pub mod CanonicalKept
 pub mod Assigned
 pub mod Negatives
 pub mod DefinedValues
+pub mod Statements

@@ -1,5 +1,5 @@
--- Whether two terms, targets, statements or firings are the same (profile), by a test of what stands beside names and
--- one of what stands beside displays.
+-- Whether two terms, targets, statements or firings are the same (profile), by a test of what is beside names and
+-- one of what is beside displays.
 use Rattle.std.specs.Prelude.{Bool, true, false, ◌&&◌}
 use Rattle.std.specs.Ordering.{int_eq}
 use Rattle.std.specs.Option.{option_eq}

@@ -1,16 +1,16 @@
 //! Laws of terms and statements: what functions ensure that do nothing.
 
-ghost use Rattle.std.specs.Prelude.{◌≡◌, ℕ, List, Some, true, not, ◌&&◌, ◌||◌, if◌then◌else◌};
-ghost use Rattle.std.specs.Option.{is_some, option_map};
+ghost use Rattle.std.specs.Prelude.{◌≡◌, ℕ, List, [], ◌∷◌, ◌++◌, Some, true, not, ◌&&◌, ◌||◌, if◌then◌else◌};
+ghost use Rattle.std.specs.Option.{is_some, option_and_then, option_map};
 ghost use Rattle.ioa_values.specs.Data.{Data, items_of};
 ghost use Rattle.ioa_operators.specs.Operators.{unary_value, binary_value, call_value};
 ghost use Rattle.ioa_operators.specs.Shapes.{PlainShape, shapes_of, wide_shape, has_shape, have_shapes};
 ghost use Rattle.ioa_operators.specs.Shapes.{display_value, field_value};
 ghost use Rattle.ioa_values.specs.Canonical.{IsCanonical};
 ghost use Rattle.ioa_terms.specs.declared.name.Name.{Name};
-ghost use Rattle.ioa_terms.specs.Bindings.{Bindings, same_name, lookup, put};
+ghost use Rattle.ioa_terms.specs.Bindings.{Bindings, names_of, same_name, lookup, put};
 ghost use Rattle.ioa_terms.specs.Meaning.{value};
-ghost use Rattle.ioa_terms.specs.PlainTerm.{PlainTerm, PlainStatement};
+ghost use Rattle.ioa_terms.specs.PlainTerm.{PlainTerm, PlainStatement, assign, variable};
 ghost use Rattle.ioa_terms.specs.Sorted.{NameShapes, HasShape, IsShaped, shape_in_terms, field_shape};
 ghost use Rattle.ioa_terms.specs.Sorted.{UnaryIs, BinaryIs, FunctionIs, DisplayIs};
 ghost use Rattle.ioa_terms.specs.Undefined.{is_missing_key, is_empty_end, is_low_divisor};
@@ -51,6 +51,18 @@ pub fn ascending_law()
 pub fn put_law()
     ensures { (x y : Name) (v : Data) (e : Bindings) →
         lookup y (put x v e) ≡ (if same_name y x then option_map (λ w. v) (lookup x e) else lookup y e) }
+{}
+
+/// Statements apply in order: the later ones start from what the earlier ones leave. An assignment of a value that has
+/// the variable's shape gives the variable this value. No statement binds a new name.
+pub fn statements_law()
+    ensures order { (earlier later : List (PlainStatement ℕ Shape)) (e : Bindings) →
+        after (earlier ++ later) e ≡ option_and_then (after later) (after earlier e) }
+    ensures assignment { (x : List ℕ) (at : ℕ) (s : PlainShape) (t : PlainTerm ℕ Shape) (e : Bindings) (v : Data) →
+        value t e ≡ Some v → has_shape s v ≡ true →
+        after (assign (variable x at s) t ∷ []) e ≡ Some (put (Name.Word x) v e) }
+    ensures names { (ss : List (PlainStatement ℕ Shape)) (e f : Bindings) →
+        after ss e ≡ Some f → names_of f ≡ names_of e }
 {}
 
 /// An operator, a function, a display or a field has a value of values with the shapes that it takes,

@@ -15,7 +15,7 @@ pub use ioa_operators::{
     BinaryOperator, DisplayForm, Function, Shape, ShapeForm, TermFault, UnaryOperator,
 };
 pub use ioa_values::{Names, Value, Word, show};
-pub use laws::{ascending_law, defined_law, put_law, shapes_law};
+pub use laws::{ascending_law, defined_law, put_law, shapes_law, statements_law};
 pub use name::Name;
 pub use performance::perform;
 pub use same::{

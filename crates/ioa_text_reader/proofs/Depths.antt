@@ -1,4 +1,4 @@
--- Sorts and statements where more may stand within.
+-- Sorts and statements with more within.
 use Rattle.std.proofs.Common.{◌≡◌, ℕ, suc, ◌-◌, List, ap}
 use Rattle.ioa_tokens.specs.declared.token.Token.{Token}
 use Rattle.ioa_term_reader.proofs.Turns.{above_zero}

@@ -1,4 +1,4 @@
--- What the answer of the reader tells about the sources that a text spells.
+-- What the result of the reader tells about the sources that a text spells.
 use Rattle.std.proofs.Common.{◌≡◌, ◌⊎◌, inl, inr, ℕ, ◌<◌, ◌≤◌, true, List, [], length, Option, Some, None, Result, Ok, Err, refl, sym, ap, ◌∙◌, arith}
 use Rattle.std.specs.Prelude.{IfOk, IfErr, MatchResult}
 use Rattle.std.proofs.lemmas.Option.{some_pair_parts}
@@ -83,7 +83,7 @@ pub parses_found : (r : Result Source FrontFault) (text : List ℕ) → Parses r
 parses_found (Ok s) text h = let located = h.1.0 in (located, h.1.2, whole_sound (bare located) h.1.1 (text_of s.text) h.1.3)
 parses_found (Err e) text h = tt
 
--- what is spelled is answered
+-- what is spelled is returned
 pub parses_only : (r : Result Source FrontFault) (text : List ℕ) → Parses r text → (p : SourceText) → length text ≤ length_limit → TextSpells p text →
     MatchResult r (λ s. text_of s.text ≡ p) (λ e. e ≡ Memory)
 parses_only (Ok s) text h p l d =
@@ -97,7 +97,7 @@ parses_only (Err (TooDeep offset)) text h p l d = absurd (spells_none text h.1 p
 parses_only (Err (LeftOut w offset)) text h p l d = absurd (spells_none text h.1 p d)
 parses_only (Err Memory) text h p l d = refl
 
--- a refusal stands
+-- a refusal is true
 pub parses_refused : (r : Result Source FrontFault) (text : List ℕ) → Parses r text → IfErr r (λ e. StandsInText e text)
 parses_refused (Ok s) text h = tt
 parses_refused (Err TooLong) text h = h
@@ -109,7 +109,7 @@ parses_refused (Err (TooDeep offset)) text h = (h.0, spells_none text h.1)
 parses_refused (Err (LeftOut w offset)) text h = (h.0, spells_none text h.1)
 parses_refused (Err Memory) text h = tt
 
--- the exact refusals come where they stand
+-- the exact refusals come where they are true
 pub parses_exact : (r : Result Source FrontFault) (text : List ℕ) → Parses r text → (e : FrontFault) → is_exact e ≡ true → StandsInText e text → MatchResult r (λ _. ⊥) (λ f. (f ≡ Memory) ⊎ (f ≡ e))
 parses_exact r text h (Unexpected offset) x s = absurd cc
 parses_exact r text h (TooDeep offset) x s = absurd cc

@@ -10,7 +10,7 @@ module _ {A : Type 0} (rows : List (Bor (List ℕ) × A)) (i : ℕ) (row : Bor (
   spelled_rows-drop : spelled_rows (drop i rows) ≡ (row.0.now, row.1) ∷ spelled_rows (drop (i + 1) rows)
   spelled_rows-drop = ap spelled_rows (drop-cons rows i row within) ∙ rw (← is, add-one) refl
 
-  -- a row that passes is the answer
+  -- a row that passes is the result
   pub lookup_here : (test : List ℕ → Bool) → test row.0.now ≡ true → lookup test (spelled_rows (drop i rows)) ≡ Some row.1
   lookup_here test passes = rw (spelled_rows-drop, passes) refl
 

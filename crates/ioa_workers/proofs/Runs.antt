@@ -18,7 +18,7 @@ use Rattle.ioa_compose.specs.Channels.{HandsOutBeginning}
 use Rattle.ioa_compose.proofs.Replays.{replay-push}
 use Rattle.ioa_compose.proofs.Projections.{projects, replays}
 use Rattle.ioa_compose.proofs.Deliveries.{hands_out_prefix}
-use Rattle.ioa_compose.proofs.Starts.{is_start}
+use Rattle.ioa_compose.proofs.Starts.{is_start, start_state}
 use Rattle.ioa_record.specs.declared.ending.Ending.{Ending}
 use Rattle.ioa_record.specs.declared.record.Record.{Record}
 use Rattle.ioa_workers.specs.Recorded.{ReplaysWithin, IsRecordOf, IsRunOf}
@@ -42,7 +42,7 @@ each_beginning actions from confs h (c ∷ cs) empty =
 pub is_run_of : (s : SystemParts) (limit : ℕ) (r : Record) (endings : List Ending) → IsWellDeclared s → IsRecordOf s limit r endings → IsRunOf s limit r endings
 is_run_of s limit r endings w left =
     let begins : IsStart s (start s) = is_start s w in
-    let execution : IsExecution (IsJointStep IsStep) (start s) r.schedule.items r.states.items = replays r.schedule.items (start s) r.states.items left.replayed.leads in
+    let execution : IsExecution (IsJointStep IsStep) (start s) r.schedule.items r.states.items = replays r.schedule.items (start s) r.states.items (start_state s w) left.replayed.leads in
     record {
       begins = begins;
       execution = execution;

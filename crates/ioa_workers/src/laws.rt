@@ -6,19 +6,20 @@ ghost use Rattle.ioa_compose.specs.Automata.{IsExecution};
 ghost use Rattle.ioa_compose.specs.JointStep.{IsJointStep};
 ghost use Rattle.ioa_compose.specs.Start.{start};
 ghost use Rattle.ioa_compose.specs.Steps.{IsStep};
+ghost use Rattle.ioa_system.specs.Declarations.{IsWellDeclared};
 ghost use Rattle.ioa_system.specs.Systems.{SystemParts};
 ghost use Rattle.ioa_workers.specs.Recorded.{ReplaysWithin};
 ghost use Rattle.ioa_workers.specs.Solo.{has_ended, rounds, solo};
 
 /// The run by one worker comes to its end: each node has an ending, and more rounds change nothing, so there are rounds
-/// enough (profile). Its schedule is an execution of the composition from the start to the states that the run leaves
-/// (Lynch 8.1 and 8.2), and is no longer than the limit.
+/// enough (profile). Its schedule is no longer than the limit. If the system declares each thing once, the schedule is an
+/// execution of the composition from the start to the states that the run leaves (Lynch 8.1 and 8.2).
 pub fn solo_law()
     ensures ends { (s : SystemParts) (attempts limit : ℕ) → list_all has_ended (solo s attempts limit).1 ≡ true }
     ensures settled { (s : SystemParts) (attempts limit more : ℕ) →
         rounds limit more (solo s attempts limit).0 (solo s attempts limit).1 ≡ solo s attempts limit }
     ensures replays { (s : SystemParts) (attempts limit : ℕ) → ReplaysWithin limit (start s)
         (solo s attempts limit).0.schedule (solo s attempts limit).0.states }
-    ensures execution { (s : SystemParts) (attempts limit : ℕ) → IsExecution (IsJointStep IsStep) (start s)
-        (solo s attempts limit).0.schedule (solo s attempts limit).0.states }
+    ensures execution { (s : SystemParts) (attempts limit : ℕ) → IsWellDeclared s → IsExecution (IsJointStep IsStep)
+        (start s) (solo s attempts limit).0.schedule (solo s attempts limit).0.states }
 {}

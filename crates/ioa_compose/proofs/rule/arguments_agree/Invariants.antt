@@ -2,7 +2,7 @@ use Rattle.std.proofs.Common.{◌≡◌, length, map, drop}
 use Rattle.ioa_source.specs.TextView.{parameter_of}
 use Rattle.ioa_terms.specs.Bindings.{names_of}
 use Rattle.ioa_system.specs.ResolvedPrograms.{AreResolvedParameters}
-use Rattle.ioa_compose.specs.NodeStep as spec
+use Rattle.ioa_compose.specs.NodeAnswers as spec
 use Rattle.ioa_compose.proofs.rule.arguments_agree.Given as goal
 
 -- what is left to compare decides

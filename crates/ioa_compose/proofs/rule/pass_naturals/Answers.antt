@@ -1,6 +1,6 @@
 use Rattle.std.proofs.Common.{◌≡◌, ◌∙◌, true, refl, sym, map, arith}
 use Rattle.ioa_source.specs.TextView.{parameter_of}
-use Rattle.ioa_compose.specs.NodeStep.{are_natural}
+use Rattle.ioa_compose.specs.NodeAnswers.{are_natural}
 use Rattle.ioa_compose.proofs.Arguments.{are_natural_end}
 use Rattle.ioa_compose.proofs.rule.pass_naturals.Goals as goal
 

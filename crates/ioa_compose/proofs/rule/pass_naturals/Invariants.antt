@@ -1,6 +1,6 @@
 use Rattle.std.proofs.Common.{◌≡◌, map, drop}
 use Rattle.ioa_source.specs.TextView.{parameter_of}
-use Rattle.ioa_compose.specs.NodeStep as spec
+use Rattle.ioa_compose.specs.NodeAnswers as spec
 use Rattle.ioa_compose.proofs.rule.pass_naturals.Given as goal
 
 -- what is left to look at decides

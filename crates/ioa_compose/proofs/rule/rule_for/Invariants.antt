@@ -3,7 +3,7 @@ use Rattle.std.specs.Prelude.{find}
 use Rattle.ioa_terms.specs.Bindings.{names_of}
 use Rattle.ioa_system.specs.InView.{declared_names, entry_constant, given_bindings, names_at}
 use Rattle.ioa_system.specs.ResolvedPrograms.{IsResolvedRule}
-use Rattle.ioa_compose.specs.NodeStep as spec
+use Rattle.ioa_compose.specs.NodeAnswers as spec
 use Rattle.ioa_compose.proofs.rule.rule_for.Given as goal
 
 -- no rule gone by is the action's

@@ -1,4 +1,5 @@
 use Rattle.ioa_compose.proofs.Projections.{replays}
+use Rattle.ioa_compose.proofs.Starts.{start_state}
 use Rattle.ioa_workers.proofs.SoloRuns.{solo_replays, solo_settled}
 use Rattle.ioa_workers.proofs.Termination.{solo_ends}
 use Rattle.ioa_workers.proofs.laws.solo_law.Goals as goal
@@ -8,5 +9,5 @@ returns c = record {
   ends = solo_ends;
   settled = solo_settled;
   replays = solo_replays;
-  execution = λ s attempts limit. replays _ _ _ (solo_replays s attempts limit).leads;
+  execution = λ s attempts limit w. replays _ _ _ (start_state s w) (solo_replays s attempts limit).leads;
 }
