@@ -21,7 +21,8 @@ use Rattle.ioa_source.specs.PlainText.{PlainEntry}
 use Rattle.ioa_system.specs.ResolvedPrograms.{IsResolvedFiring, AreResolvedFirings}
 use Rattle.ioa_check.specs.declared.refusal.Row.{Row}
 use Rattle.ioa_check.specs.Correspondence.{AssignsInteger, HasItsShape, HasParameterShape, HasIntegers, IsRuleOf}
-use Rattle.ioa_check.specs.Rows.{reads_only, constant_reads_only, guard_reads_only, writes_only, assigns_only, fires_only}
+use Rattle.ioa_check.specs.Rows.{reads_only, constant_reads_only, guard_reads_only}
+use Rattle.ioa_check.specs.Rows.{writes_only, assigns_only, fires_only}
 use Rattle.ioa_check.specs.Rows.{assigns_number, fires_numbers, is_number_constant, is_number_term, is_guard_or_none}
 use Rattle.ioa_check.specs.Standing.{Fails, is_known_parameter, is_known_entry}
 use Rattle.ioa_check.specs.Standing.{is_known_transition, is_sorted_transition}

@@ -25,7 +25,8 @@ use Rattle.ioa_check.specs.Correspondence.{nodes_in, channels_in}
 use Rattle.ioa_check.specs.declared.checking.TheConstants.{MOST_CHANNELS, MOST_NODES}
 use Rattle.ioa_source.specs.declared.declaration.Channel.{Channel}
 use Rattle.ioa_source.specs.Sides.{SourceAutomaton, SourceDeclaration, SourceEntry, SourceNode, SourceParameter}
-use Rattle.ioa_source.specs.Sides.{SourceFiring, SourceTarget, SourceStatement, SourceTerm, SourceText, SourceTransition}
+use Rattle.ioa_source.specs.Sides.{SourceFiring, SourceTarget, SourceStatement, SourceTerm}
+use Rattle.ioa_source.specs.Sides.{SourceText, SourceTransition}
 
 -- the names of entries, of transitions and of automata
 abbrev pub entry_names : List SourceEntry → List (List ℕ)

@@ -26,7 +26,8 @@ use Rattle.ioa_check.specs.declared.refusal.Row.{Row}
 use Rattle.ioa_check.specs.declared.refusal.Row.TheVariants as row
 use Rattle.ioa_check.specs.FirstForm.{is_first_declaration, is_first_placement, is_first_sort, passes_or_none}
 use Rattle.ioa_check.specs.FirstSorts.{is_number}
-use Rattle.ioa_check.specs.Correspondence.{automata_in, automaton_named, channels_in, nodes_in, same_kind, transition_for}
+use Rattle.ioa_check.specs.Correspondence.{automata_in, automaton_named, channels_in, nodes_in}
+use Rattle.ioa_check.specs.Correspondence.{same_kind, transition_for}
 use Rattle.ioa_check.specs.Rows as rows
 
 -- if a row is refused, this holds of it; of a refusal for want of memory nothing is said

@@ -107,8 +107,8 @@ abbrev pub numbers_met_by_guard : Option CheckedTerm → Bindings → List Data
 numbers_met_by_guard None e = []
 numbers_met_by_guard (Some t) e = numbers_met t e
 
--- the results that a rule meets by an action at a node: the constants of its entry, the entry's condition, the guard and
--- the effect, one after another
+-- the results that a rule meets by an action at a node: the constants of its entry, the entry's condition, the guard
+-- and the effect, one after another
 abbrev pub numbers_met_by_rule : PlainRule → Action → NodeState → List Data
 numbers_met_by_rule r a c =
     numbers_met_by_parameters (given_bindings c.program.automaton c.program.arguments) r.entry.parameters

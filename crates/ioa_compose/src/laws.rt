@@ -43,10 +43,10 @@ pub fn queue_step_law()
     ensures { (q : QueueState) (a : Action) (r : QueueState) → (queue_answer q a ≡ Ok r) ↔ IsQueueStep a q r }
 {}
 
-/// From a state of the composition the code gives a list of configurations exactly if a joint step leads there and every
-/// number that the participants meet lies within 64 bits. In a joint step each component that has the action takes its
-/// own step, and all others stay (Lynch 8.2). There is one joint step by an action at most, and it leads to a state of
-/// the composition again. The code finds one if it finds a step of each component that has the action.
+/// From a state of the composition the code gives a list of configurations exactly if a joint step leads there and
+/// every number that the participants meet lies within 64 bits. In a joint step each component that has the action takes
+/// its own step, and all others stay (Lynch 8.2). There is one joint step by an action at most, and it leads to a state
+/// of the composition again. The code finds one if it finds a step of each component that has the action.
 pub fn joint_step_law()
     ensures step { (action : Action) (confs next : List Conf) → IsJointState confs
         → joint_answer action confs ≡ Ok next → IsJointStep IsStep action confs next × FitsJointStep action confs }

@@ -1,7 +1,7 @@
 -- What comes after a token lets it end.
 use Rattle.std.proofs.Common.{◌≡◌, ℕ, ◌<◌, Bool, true, false, not, nat_eq, List, [], ◌∷◌, ◌++◌, length, refl, sym, ap, arith, subst, ◌∙◌, true≢false, pos, negsuc, decimal, append_assoc, ⊎_elim, eqb-true}
 use Rattle.std.specs.List.{list_all, list_any, starts_with}
-use Rattle.std.specs.Prelude.{map, ◌&&◌, ◌||◌, slice_index, if◌then◌else◌}
+use Rattle.std.specs.Prelude.{map, ◌||◌, slice_index, if◌then◌else◌}
 use Rattle.std.specs.Char.{is_ascii_alphabetic, is_ascii_digit}
 use Rattle.std.proofs.lemmas.Bool.{and_parts, cond_both, cases_Bool}
 use Rattle.std.proofs.lemmas.Bool.Decides.{nat_tests}
