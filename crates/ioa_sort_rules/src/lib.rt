@@ -1,0 +1,12 @@
+//! The sorts that operators and functions take and give, by rows: what a sort checker reads.
+#![tactic(auto)]
+
+mod fault;
+mod kinds;
+mod laws;
+mod rows;
+
+pub use fault::SortFault;
+pub use kinds::{Alike, Arity, Pairing, Single, arity_of, pairing_of, single_of};
+pub use laws::sort_rules_law;
+pub use rows::{Sides, other_of_left, other_of_right, undetermined, value_of_alike, value_of_one};
