@@ -24,7 +24,7 @@ use Rattle.ioa_system.specs.Declarations.{DeclaresOnce}
 use Rattle.ioa_system.specs.InView.{given_bindings}
 use Rattle.ioa_system.specs.Parts.{Parts, PlainRule}
 use Rattle.ioa_compose.specs.NodeAnswers.{kind_agrees, constant_agrees, parameter_agrees, arguments_agree, entry_agrees, are_natural, rule_for}
-use Rattle.ioa_compose.specs.NodeStep.{IsOfKind, Takes, IsActionOf, HasRule, IsOfSort, numbers_met_by_parameter, numbers_met_by_parameters}
+use Rattle.ioa_compose.specs.NodeStep.{IsOfKind, TakesArgument, IsActionOf, HasRule, IsOfSort, numbers_met_by_parameter, numbers_met_by_parameters}
 
 -- every number among results lies within 64 bits
 abbrev pub AreWithin : List Data → Type 0
@@ -90,7 +90,7 @@ of_kind (Local a) k (inr h) = rw h.0 (differing_words a.name send_name h.1)
 of_kind (Stimulus a) k h = rw h.0 (differing_words a.name receive_name h.1)
 
 -- a parameter takes what the test lets through, and what it meets lies within 64 bits
-takes : (b : Bindings) (p : CheckedParameter) (v : Data) → parameter_agrees b p v ≡ true → AreWithin (numbers_met_by_parameter b p) × Takes b p v
+takes : (b : Bindings) (p : CheckedParameter) (v : Data) → parameter_agrees b p v ≡ true → AreWithin (numbers_met_by_parameter b p) × TakesArgument b p v
 takes b (const t) v h = by_value (answer t b) refl h
   where
     by_value : (r : Result Data TermFault) → answer t b ≡ r → constant_agrees r v ≡ true → AreWithin (numbers_met t b) × (value t b ≡ Some v)
@@ -100,12 +100,12 @@ takes b (const t) v h = by_value (answer t b) refl h
     by_value (Err f) q k = absurd (cc)
 takes b (named d) v h = (refl, h)
 
-taken_by : (b : Bindings) (p : CheckedParameter) (v : Data) → AreWithin (numbers_met_by_parameter b p) → Takes b p v → parameter_agrees b p v ≡ true
+taken_by : (b : Bindings) (p : CheckedParameter) (v : Data) → AreWithin (numbers_met_by_parameter b p) → TakesArgument b p v → parameter_agrees b p v ≡ true
 taken_by b (const t) v within h = ap (λ r. constant_agrees r v) (range_check_within (numbers_met t b) (value t b) v within h) ∙ (same_is v v).1 refl
 taken_by b (named d) v within h = h
 
 -- and the same of all parameters
-takes_each : (b : Bindings) (ps : List CheckedParameter) (vs : List Data) → arguments_agree b ps vs ≡ true → AreWithin (numbers_met_by_parameters b ps) × AllZip (Takes b) ps vs
+takes_each : (b : Bindings) (ps : List CheckedParameter) (vs : List Data) → arguments_agree b ps vs ≡ true → AreWithin (numbers_met_by_parameters b ps) × AllZip (TakesArgument b) ps vs
 takes_each b [] [] h = (refl, tt)
 takes_each b [] (v ∷ vs) h = absurd (cc)
 takes_each b (p ∷ ps) [] h = absurd (cc)
@@ -115,7 +115,7 @@ takes_each b (p ∷ ps) (v ∷ vs) h =
     let others = takes_each b ps vs both.1 in
     (all_within (numbers_met_by_parameter b p) (numbers_met_by_parameters b ps) first.0 others.0, (first.1, others.1))
 
-each_taken : (b : Bindings) (ps : List CheckedParameter) (vs : List Data) → AreWithin (numbers_met_by_parameters b ps) → AllZip (Takes b) ps vs → arguments_agree b ps vs ≡ true
+each_taken : (b : Bindings) (ps : List CheckedParameter) (vs : List Data) → AreWithin (numbers_met_by_parameters b ps) → AllZip (TakesArgument b) ps vs → arguments_agree b ps vs ≡ true
 each_taken b [] [] within h = refl
 each_taken b [] (v ∷ vs) within h = absurd h
 each_taken b (p ∷ ps) [] within h = absurd h
@@ -213,7 +213,7 @@ sorts_natural (p ∷ ps) [] h = refl
 sorts_natural (const t ∷ ps) (v ∷ vs) h = sorts_natural ps vs h.1
 sorts_natural (named d ∷ ps) (v ∷ vs) h = rw h.0 (sorts_natural ps vs h.1)
 
-pub natural_sorts : (b : Bindings) (ps : List CheckedParameter) (vs : List Data) → AllZip (Takes b) ps vs → are_natural ps vs ≡ true → AllZip IsOfSort ps vs
+pub natural_sorts : (b : Bindings) (ps : List CheckedParameter) (vs : List Data) → AllZip (TakesArgument b) ps vs → are_natural ps vs ≡ true → AllZip IsOfSort ps vs
 natural_sorts b [] [] h k = tt
 natural_sorts b [] (v ∷ vs) h k = absurd h
 natural_sorts b (p ∷ ps) [] h k = absurd h

@@ -34,16 +34,16 @@ IsOfKind (Stimulus a) k = (k ≡ Input) × (a.name ≢ receive_name)
 
 -- a parameter takes a value, if constants read these bindings: a constant takes its own value, a name each value of its
 -- shape, and a negative number for a Nat
-abbrev pub Takes : Bindings → CheckedParameter → Data → Type 0
-Takes b (const t) v = value t b ≡ Some v
-Takes b (named d) v = has_shape (wide_shape d.shape) v ≡ true
+abbrev pub TakesArgument : Bindings → CheckedParameter → Data → Type 0
+TakesArgument b (const t) v = value t b ≡ Some v
+TakesArgument b (named d) v = has_shape (wide_shape d.shape) v ≡ true
 
 -- an action is one of an entry's, if constants read these bindings: it has the entry's name and kind, and an argument
 -- for each parameter, which takes it
 pub record IsActionOf (b : Bindings) (a : Action) (e : CheckedEntry) : Type 0 where
   pub name : e.name ≡ action_name a
   pub kind : IsOfKind a e.kind
-  pub arguments : AllZip (Takes b) e.parameters (action_arguments a)
+  pub arguments : AllZip (TakesArgument b) e.parameters (action_arguments a)
 
 -- a rule of a program has an action: its entry is one of the automaton's, and the action is one of the entry's
 pub record HasRule (p : Parts) (a : Action) (r : PlainRule) : Type 0 where
