@@ -1,9 +1,10 @@
 -- The rules of sorts, a row a kind (profile). Shapes are those of terms, in which naturals count as integers.
-use Rattle.std.specs.Prelude.{Option, Some, None, Result, Ok, Err}
+use Rattle.std.specs.Prelude.{ℕ, List, Option, Some, None, Result, Ok, Err}
 use Rattle.ioa_values.specs.Outcome.{and_then}
-use Rattle.ioa_operators.specs.Shapes.{PlainShape, truths, integers, sequences, sets, maps}
+use Rattle.ioa_operators.specs.Shapes.{PlainShape, truths, integers, tuples, sequences, sets, maps}
+use Rattle.ioa_terms.specs.Sorted.{shape_in_terms, field_shape}
 use Rattle.ioa_sort_rules.specs.declared.fault.SortFault.{SortFault}
-use Rattle.ioa_sort_rules.specs.declared.fault.SortFault.TheVariants.{Sorts, EmptyOfWhat}
+use Rattle.ioa_sort_rules.specs.declared.fault.SortFault.TheVariants.{Unknown, Sorts, EmptyOfWhat}
 use Rattle.ioa_sort_rules.specs.declared.kinds.Single.{Single}
 use Rattle.ioa_sort_rules.specs.declared.kinds.Single.TheVariants as single
 use Rattle.ioa_sort_rules.specs.declared.kinds.Alike.{Alike}
@@ -73,3 +74,24 @@ undetermined (Both Truths) = Sorts
 undetermined (Both Numbers) = Sorts
 undetermined (Both Order) = Sorts
 undetermined _ = EmptyOfWhat
+
+-- why a display has no sort as the one part of a form
+abbrev pub undetermined_alone : Single → SortFault
+undetermined_alone single.Truth = Sorts
+undetermined_alone single.Number = Sorts
+undetermined_alone _ = EmptyOfWhat
+
+-- the shapes of the keys and of the values of a map, which are those of the other parts of `update`
+abbrev pub entry_of : PlainShape → Result PlainSides SortFault
+entry_of (maps k v) = Ok (sides k v)
+entry_of _ = Err Sorts
+
+-- a field's shape as it is in a term, if the type has the field
+abbrev pub declared_field : Option PlainShape → Result PlainShape SortFault
+declared_field None = Err Unknown
+declared_field (Some s) = Ok (shape_in_terms s)
+
+-- the shape of a field in a term: only tuples have fields, and only those of their type
+abbrev pub value_of_field : List ℕ → PlainShape → Result PlainShape SortFault
+value_of_field w (tuples type names fields) = declared_field (field_shape w (tuples type names fields))
+value_of_field w _ = Err Sorts

@@ -7,6 +7,8 @@ use thiserror::Error;
 /// Why a term has no sort here.
 #[derive(Clone, Copy, Debug, PartialEq, Eq, Error)]
 pub enum SortFault {
+    /// 20: a name, a function or a field is not declared.
+    Unknown,
     /// 22: a part has another sort than its operator, function or place takes, or there are more or fewer parts.
     Sorts,
     /// 32: nothing gives a display its sort.
@@ -23,6 +25,7 @@ impl fmt::Display for SortFault {
 
     fn fmt<W: fmt::Write>(&self, f: &mut fmt::Formatter<W>) -> fmt::Result {
         match self {
+            SortFault::Unknown => f.write_str("20 Unknown"),
             SortFault::Sorts => f.write_str("22 Sorts"),
             SortFault::EmptyOfWhat => f.write_str("32 EmptyOfWhat"),
             SortFault::Memory => f.write_str("3 Memory"),

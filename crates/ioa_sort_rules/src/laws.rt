@@ -13,9 +13,9 @@ ghost use Rattle.ioa_sort_rules.specs.declared.kinds.Pairing.{Pairing};
 ghost use Rattle.ioa_sort_rules.specs.Kinds.{single_of, pairing_of, arity_of};
 ghost use Rattle.ioa_sort_rules.specs.Rows.{sides, value_of_one, other_of_left, other_of_right};
 
-/// The rows give exactly the shapes that the operators and functions take and give. If the left part tells, it tells the
-/// right part's shape and the value's. If it does not, the right part does. The right part tells the left part's shape
-/// and the value's, unless the left part is a map.
+/// The rows give exactly the shapes that the operators and functions take and give. If the left part tells, it tells
+/// the right part's shape and the value's. If it does not, the right part does. The right part tells the left part's
+/// shape and the value's, unless the left part is a map.
 pub fn sort_rules_law()
     // operators
     ensures unary { (op : UnaryOperator) (x s : PlainShape) →

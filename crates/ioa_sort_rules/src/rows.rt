@@ -1,16 +1,17 @@
 //! The rules of sorts, a row a kind.
 
-ghost use Rattle.std.specs.Prelude.{◌≡◌, IfOk};
-ghost use Rattle.std.specs.Option.{option_map};
+ghost use Rattle.std.specs.Prelude.{◌≡◌, IfOk, [], slice_get};
+ghost use Rattle.std.specs.Option.{option_map, option_and_then};
 ghost use Rattle.ioa_values.specs.Outcome.{Answers};
-ghost use Rattle.ioa_operators.specs.Shapes.{sequences, sets};
+ghost use Rattle.ioa_operators.specs.Shapes.{field_position, shapes_of, tuples};
 ghost use Rattle.ioa_sort_rules.specs.Rows as spec;
 
 use crate::fault::SortFault;
 use crate::kinds::{Alike, Pairing, Single};
+use crate::shapes::{sequence_of, set_of, shape_in_terms};
 use ioa_operators::{Shape, ShapeForm};
+use ioa_values::Word;
 use std::alloc::{AllocError, Global};
-use std::sync::Arc;
 
 /// What one part of two tells: the shape of the other part, and that of the value.
 #[derive(Drop)]
@@ -37,7 +38,8 @@ pub fn value_of_one(alloc: Global, kind: Single, part: &Shape) -> Result<Shape, 
     }
 }
 
-/// The shape of the value of a form of two parts of one shape, by that shape. `Sorts` (22) if the form does not take it.
+/// The shape of the value of a form of two parts of one shape, by that shape. `Sorts` (22) if the form does not take
+/// it.
 pub fn value_of_alike(alloc: Global, kind: Alike, part: &Shape) -> Result<Shape, SortFault>
     ensures { Answers SortFault.Memory (λ s. s) result (spec.value_of_alike kind part.now) }
 {
@@ -65,13 +67,19 @@ pub fn other_of_left(alloc: Global, kind: Pairing, left: &Shape) -> Result<Optio
             Ok(Some(Sides { other, whole }))
         }
         (Pairing::Membership, _) => Ok(None),
-        (Pairing::Prepend, _) => Ok(Some(same_sides(alloc, sequence_of(alloc, left)?)?)),
+        (Pairing::Prepend, _) => Ok(Some(same_sides(
+            alloc,
+            sequence_of(alloc, left.try_copy(alloc)?)?,
+        )?)),
         (Pairing::Append, ShapeForm::Sequences(item)) => {
             let other = item.try_copy(alloc)?;
             let whole = left.try_copy(alloc)?;
             Ok(Some(Sides { other, whole }))
         }
-        (Pairing::Members, _) => Ok(Some(same_sides(alloc, set_of(alloc, left)?)?)),
+        (Pairing::Members, _) => Ok(Some(same_sides(
+            alloc,
+            set_of(alloc, left.try_copy(alloc)?)?,
+        )?)),
         (Pairing::At, ShapeForm::Maps(key, value)) => {
             let other = key.try_copy(alloc)?;
             let whole = value.try_copy(alloc)?;
@@ -91,8 +99,8 @@ pub fn other_of_left(alloc: Global, kind: Pairing, left: &Shape) -> Result<Optio
     }
 }
 
-/// What the right part of a form of two tells, by its shape, if the left one is a display. `EmptyOfWhat` (32) if the left
-/// part is a map: a key does not tell its sort. `Sorts` (22) if the form does not take this shape on the right.
+/// What the right part of a form of two tells, by its shape, if the left one is a display. `EmptyOfWhat` (32) if the
+/// left part is a map: a key does not tell its sort. `Sorts` (22) if the form does not take this shape on the right.
 pub fn other_of_right(alloc: Global, kind: Pairing, right: &Shape) -> Result<Sides, SortFault>
     ensures { Answers SortFault.Memory (λ s. spec.sides s.other s.whole) result
         (spec.other_of_right kind right.now) }
@@ -110,7 +118,7 @@ pub fn other_of_right(alloc: Global, kind: Pairing, right: &Shape) -> Result<Sid
             let whole = right.try_copy(alloc)?;
             Ok(Sides { other, whole })
         }
-        (Pairing::Append, _) => Ok(same_sides(alloc, sequence_of(alloc, right)?)?),
+        (Pairing::Append, _) => Ok(same_sides(alloc, sequence_of(alloc, right.try_copy(alloc)?)?)?),
         (Pairing::Members, ShapeForm::Sets(member)) => {
             let other = member.try_copy(alloc)?;
             let whole = right.try_copy(alloc)?;
@@ -136,20 +144,75 @@ pub fn undetermined(kind: Pairing) -> SortFault
     }
 }
 
-/// The sequences of items of a shape.
-fn sequence_of(alloc: Global, item: &Shape) -> Result<Shape, AllocError>
-    ensures { IfOk result (λ s. s ≡ sequences item.now) }
+/// Why a form of one part has no sort if the part is a display: `Sorts` (22) if it takes Bool or Int, else
+/// `EmptyOfWhat` (32).
+pub fn undetermined_alone(kind: Single) -> SortFault
+    ensures { result ≡ spec.undetermined_alone kind }
 {
-    let item = Arc::new(alloc, item.try_copy(alloc)?)?;
-    Ok(Shape::of(ShapeForm::Sequences(item)))
+    match kind {
+        Single::Truth => SortFault::Sorts,
+        Single::Number => SortFault::Sorts,
+        _ => SortFault::EmptyOfWhat,
+    }
 }
 
-/// The sets of members of a shape.
-fn set_of(alloc: Global, member: &Shape) -> Result<Shape, AllocError>
-    ensures { IfOk result (λ s. s ≡ sets member.now) }
+/// The shapes of the keys (`other`) and of the values (`whole`) of a map. `Sorts` (22) if the shape is no map's.
+pub fn entry_of(alloc: Global, map: &Shape) -> Result<Sides, SortFault>
+    ensures { Answers SortFault.Memory (λ s. spec.sides s.other s.whole) result (spec.entry_of map.now) }
 {
-    let member = Arc::new(alloc, member.try_copy(alloc)?)?;
-    Ok(Shape::of(ShapeForm::Sets(member)))
+    match &map.form {
+        ShapeForm::Maps(key, value) => {
+            let other = key.try_copy(alloc)?;
+            let whole = value.try_copy(alloc)?;
+            Ok(Sides { other, whole })
+        }
+        _ => Err(SortFault::Sorts),
+    }
+}
+
+/// The shape of a field in a term. `Sorts` (22) if the whole is no tuple, and `Unknown` (20) if its type has no such
+/// field.
+pub fn value_of_field(alloc: Global, name: &Word, whole: &Shape) -> Result<Shape, SortFault>
+    ensures { Answers SortFault.Memory (λ s. s) result (spec.value_of_field name.now whole.now) }
+{
+    match &whole.form {
+        ShapeForm::Tuples(_, names, fields) => field_among(alloc, name, names, fields),
+        _ => Err(SortFault::Sorts),
+    }
+}
+
+/// The shape in a term of a field among those of a type.
+fn field_among(
+    alloc: Global,
+    name: &Word,
+    names: &Vec<Word>,
+    fields: &Vec<Shape>,
+) -> Result<Shape, SortFault>
+    ensures { Answers SortFault.Memory (λ s. s) result
+        (spec.value_of_field name.now (tuples [] names.now.items (shapes_of fields.now.items))) }
+{
+    field_at(alloc, fields, position_of(names, name))
+}
+
+/// The position of a field's name.
+fn position_of(names: &Vec<Word>, name: &Word) -> Option<usize>
+    ensures { result ≡ field_position name.now names.now.items }
+{
+    names.iter().position(|other| name == other)
+}
+
+/// The shape in a term of the field at a position, if there is one.
+fn field_at(alloc: Global, fields: &Vec<Shape>, position: Option<usize>) -> Result<Shape, SortFault>
+    ensures { Answers SortFault.Memory (λ s. s) result
+        (spec.declared_field (option_and_then (slice_get fields.now.items) position)) }
+{
+    let Some(position) = position else {
+        return Err(SortFault::Unknown);
+    };
+    match fields.get(position) {
+        Some(field) => Ok(shape_in_terms(alloc, field)?),
+        None => Err(SortFault::Unknown),
+    }
 }
 
 /// The sides of a form whose other part and value have one shape.

@@ -1,0 +1,8 @@
+-- the lemmas of this crate
+pub mod Named
+pub mod Calls
+pub mod Chains
+pub mod Types
+pub mod Sound
+pub mod Complete
+pub mod Told

@@ -1,0 +1,7 @@
+-- what the contracts of this crate and of those above it cite
+pub mod Sorting
+pub mod SortingView
+pub mod Views
+pub mod Determined
+pub mod DeclaredTypes
+pub mod SortedTerms

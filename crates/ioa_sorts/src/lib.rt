@@ -1,0 +1,12 @@
+//! The sorts of terms: from a term as spelled and the names in view, the term with slots and shapes, or the refusal.
+#![tactic(auto)]
+
+mod laws;
+mod parts;
+mod sorting;
+mod view;
+
+pub use laws::sorts_law;
+pub use parts::Typed;
+pub use sorting::{fit, infer};
+pub use view::View;
