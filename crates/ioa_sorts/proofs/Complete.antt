@@ -27,7 +27,7 @@ use Rattle.ioa_sort_rules.proofs.Rules.{unary_from}
 use Rattle.ioa_operators.specs.declared.shape.Shape.{Shape}
 use Rattle.ioa_sort_rules.specs.declared.kinds.Single.TheVariants as single
 use Rattle.ioa_sort_rules.specs.declared.kinds.Alike.TheVariants.{Numbers, Union}
-use Rattle.ioa_sorts.specs.Sorting.{SortedTerm, PlainTyped, typed, PlainPair, pair, PlainUpdate, update, Sorting, own, infer, fit, fit_typed, part_known, one_part, right_tells, left_tells, left_known, right_known, two_parts, map_known, key_known, three_parts, call_one, call_two, call_three, call_of_arity, call_of_function, all_fit, each_fit, display_parts, display_at, field_known, named, name_known, sorting, sortings}
+use Rattle.ioa_sorts.specs.Sorting.{SortedTerm, PlainTyped, typed, PlainPair, pair, PlainUpdate, update, Sorting, own, infer, fit, fit_typed, part_known, one_part, right_tells, left_tells, left_known, right_known, two_parts, map_known, key_known, three_parts, call_one, call_two, call_three, call_of_arity, call_of_function, all_fit, each_fit, display_parts, display_at, field_known, declared_at, named, name_known, sorting, sortings}
 use Rattle.ioa_sorts.specs.Determined.{is_display, displays, tells, tells_update, tells_parts, tells_call, IsDetermined, AreDetermined}
 use Rattle.ioa_sorts.specs.SortedTerms.{IsTermOf}
 use Rattle.ioa_sorts.proofs.Sound.{own_is, fit_is}
@@ -163,7 +163,7 @@ abbrev list_is : List SortedTerm → Result (List SortedTerm) SortFault
 list_is ts = Ok ts
 
 -- the shape of a field, as the rules find it
-field_found : (w : List ℕ) (x s : PlainShape) → option_map shape_in_terms (field_shape w x) ≡ Some s → value_of_field w x ≡ Ok s
+pub field_found : (w : List ℕ) (x s : PlainShape) → option_map shape_in_terms (field_shape w x) ≡ Some s → value_of_field w x ≡ Ok s
 field_found w truths s h = absurd (cc)
 field_found w integers s h = absurd (cc)
 field_found w naturals s h = absurd (cc)
@@ -182,23 +182,30 @@ unfolding field_known
 field_known_found w x s t h = rw (field_found w x s h) refl
 
 -- names
-abbrev named_is_at : ℕ → PlainShape → Option (ℕ × PlainShape)
+abbrev pub named_is_at : ℕ → PlainShape → Option (ℕ × PlainShape)
 named_is_at k s = Some (k, s)
 
 mapped : (o : Option ℕ) (p : ℕ) → option_map (λ k. k + 1) o ≡ Some p → (k : ℕ) × (o ≡ Some k) × (k + 1 ≡ p)
 mapped None p h = absurd (cc)
 mapped (Some k) p h = let e : k + 1 ≡ p = cc in (k, refl, e)
 
-named_found : (names : NameShapes) (x : Name) (at : ℕ) (s : PlainShape) → slot_in x (map (λ n. n.0) names) ≡ Some at → option_map shape_in_terms (shape_named x names) ≡ Some s → named_is_at at s ≡ named x names
-named_found [] x at s h g = absurd (cc)
-named_found (n ∷ names) x at s h g = by_test (named_found names x) (same_name x n.0) h g
+pub declared_found : (names : NameShapes) (x : Name) (at : ℕ) (s : PlainShape) → slot_in x (map (λ n. n.0) names) ≡ Some at → shape_named x names ≡ Some s → named_is_at at s ≡ declared_at x names
+declared_found [] x at s h g = absurd (cc)
+declared_found (n ∷ names) x at s h g = by_test (λ k. declared_found names x k s) (same_name x n.0) h g
   where
-    later : (k : ℕ) → named_is_at k s ≡ named x names → k + 1 ≡ at → named_is_at at s ≡ option_map (λ p. (p.0 + 1, p.1)) (named x names)
+    later : (k : ℕ) → named_is_at k s ≡ declared_at x names → k + 1 ≡ at → named_is_at at s ≡ option_map (λ p. (p.0 + 1, p.1)) (declared_at x names)
     later k e f = rw (← e, ← f) refl
 
-    by_test : ((at : ℕ) (s : PlainShape) → slot_in x (map (λ n. n.0) names) ≡ Some at → option_map shape_in_terms (shape_named x names) ≡ Some s → named_is_at at s ≡ named x names) → (b : Bool) → (if b then Some 0 else option_map (λ k. k + 1) (slot_in x (map (λ n. n.0) names))) ≡ Some at → option_map shape_in_terms (if b then Some n.1 else shape_named x names) ≡ Some s → named_is_at at s ≡ (if b then Some (0, shape_in_terms n.1) else option_map (λ p. (p.0 + 1, p.1)) (named x names))
-    by_test rest true h g = let e : 0 ≡ at = cc in let f : shape_in_terms n.1 ≡ s = cc in λ i. Some (sym e i, sym f i)
-    by_test rest false h g = let m = mapped (slot_in x (map (λ n. n.0) names)) at h in later m.0 (rest m.0 s m.1 g) m.2
+    by_test : ((at : ℕ) → slot_in x (map (λ n. n.0) names) ≡ Some at → shape_named x names ≡ Some s → named_is_at at s ≡ declared_at x names) → (b : Bool) → (if b then Some 0 else option_map (λ k. k + 1) (slot_in x (map (λ n. n.0) names))) ≡ Some at → (if b then Some n.1 else shape_named x names) ≡ Some s → named_is_at at s ≡ (if b then Some (0, n.1) else option_map (λ p. (p.0 + 1, p.1)) (declared_at x names))
+    by_test rest true h g = let e : 0 ≡ at = cc in let f : n.1 ≡ s = cc in λ i. Some (sym e i, sym f i)
+    by_test rest false h g = let m = mapped (slot_in x (map (λ n. n.0) names)) at h in later m.0 (rest m.0 m.1 g) m.2
+
+named_found : (names : NameShapes) (x : Name) (at : ℕ) (s : PlainShape) → slot_in x (map (λ n. n.0) names) ≡ Some at → option_map shape_in_terms (shape_named x names) ≡ Some s → named_is_at at s ≡ named x names
+named_found names x at s h g = by_shape (shape_named x names) refl g
+  where
+    by_shape : (o : Option PlainShape) → shape_named x names ≡ o → option_map shape_in_terms o ≡ Some s → named_is_at at s ≡ named x names
+    by_shape None e g = absurd (cc)
+    by_shape (Some d) e g = let f : shape_in_terms d ≡ s = cc in rw (← declared_found names x at d h e, ← f) refl
 
 name_known_found : (x : Name) (at : ℕ) (s : PlainShape) (o : Option (ℕ × PlainShape)) → named_is_at at s ≡ o → typed_is (name x at) s ≡ name_known x o
 name_known_found x at s o e = rw (← e) refl

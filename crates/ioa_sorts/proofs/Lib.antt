@@ -6,3 +6,6 @@ pub mod Types
 pub mod Sound
 pub mod Complete
 pub mod Told
+pub mod SoundStatements
+pub mod CompleteStatements
+pub mod ToldStatements

@@ -27,7 +27,7 @@ use Rattle.ioa_sort_rules.specs.Kinds.{single_of, pairing_of, arity_of}
 use Rattle.ioa_sort_rules.specs.Rows.{PlainSides, sides, value_of_one, other_of_left, other_of_right, entry_of, declared_field, value_of_field}
 use Rattle.ioa_sort_rules.specs.SameSorts.{same_sort}
 use Rattle.ioa_sort_rules.proofs.Rules.{unary_is, left_is, right_is, one_is, two_left_is, two_right_is, update_is}
-use Rattle.ioa_sorts.specs.Sorting.{SortedTerm, PlainTyped, typed, PlainPair, pair, PlainUpdate, update, Sorting, own, given, infer, fit, fit_typed, part_known, one_part, right_tells, left_tells, left_known, right_known, right_first, left_first, two_parts, map_known, value_first, key_known, key_first, map_first, three_parts, call_one, call_two, call_three, call_of_arity, call_of_function, all_fit, each_fit, display_parts, display_at, field_known, named, name_known, sorting, sortings}
+use Rattle.ioa_sorts.specs.Sorting.{SortedTerm, PlainTyped, typed, PlainPair, pair, PlainUpdate, update, Sorting, own, given, infer, fit, fit_typed, part_known, one_part, right_tells, left_tells, left_known, right_known, right_first, left_first, two_parts, map_known, value_first, key_known, key_first, map_first, three_parts, call_one, call_two, call_three, call_of_arity, call_of_function, all_fit, each_fit, display_parts, display_at, field_known, declared_at, name_known, sorting, sortings}
 use Rattle.ioa_sorts.specs.Determined.{is_display, tells, tells_update, AreDetermined}
 use Rattle.ioa_sorts.specs.DeclaredTypes.{TupleTypes, IsDeclared, AreAllDeclared}
 use Rattle.ioa_sorts.specs.SortedTerms.{IsTermOf}
@@ -107,7 +107,7 @@ both_told Removal = refl
 both_told Definition = refl
 
 -- what is found of a field's shape
-field_is : (w : List ℕ) (x s : PlainShape) → value_of_field w x ≡ Ok s → option_map shape_in_terms (field_shape w x) ≡ Some s
+pub field_is : (w : List ℕ) (x s : PlainShape) → value_of_field w x ≡ Ok s → option_map shape_in_terms (field_shape w x) ≡ Some s
 field_is w truths s h = absurd (cc)
 field_is w integers s h = absurd (cc)
 field_is w naturals s h = absurd (cc)
@@ -121,27 +121,27 @@ field_is w (sequences i) s h = absurd (cc)
 field_is w (sets i) s h = absurd (cc)
 field_is w (maps k v) s h = absurd (cc)
 
--- what is found of a name
-record IsNamed (types : TupleTypes) (names : NameShapes) (x : Name) (p : ℕ × PlainShape) : Type 0 where
-  slot : slot_in x (map (λ n. n.0) names) ≡ Some p.0
-  shape : option_map shape_in_terms (shape_named x names) ≡ Some p.1
-  declared : IsDeclared types p.1
+-- what is found of a name, with its declared shape
+pub record IsDeclaredAt (types : TupleTypes) (names : NameShapes) (x : Name) (p : ℕ × PlainShape) : Type 0 where
+  pub slot : slot_in x (map (λ n. n.0) names) ≡ Some p.0
+  pub shape : shape_named x names ≡ Some p.1
+  pub declared : IsDeclared types p.1
 
-abbrev IsNamedIf : TupleTypes → NameShapes → Name → Option (ℕ × PlainShape) → Type 0
-IsNamedIf types names x None = Unit {0}
-IsNamedIf types names x (Some p) = IsNamed types names x p
+abbrev pub IsDeclaredIf : TupleTypes → NameShapes → Name → Option (ℕ × PlainShape) → Type 0
+IsDeclaredIf types names x None = Unit {0}
+IsDeclaredIf types names x (Some p) = IsDeclaredAt types names x p
 
-named_is : (types : TupleTypes) (names : NameShapes) (x : Name) → AreAllDeclared types names → IsNamedIf types names x (named x names)
-named_is types [] x h = tt
-named_is types (n ∷ names) x h = by_test (named_is types names x h.1) (same_name x n.0) refl
+pub declared_is : (types : TupleTypes) (names : NameShapes) (x : Name) → AreAllDeclared types names → IsDeclaredIf types names x (declared_at x names)
+declared_is types [] x h = tt
+declared_is types (n ∷ names) x h = by_test (declared_is types names x h.1) (same_name x n.0) refl
   where
-    later : (b : Bool) → same_name x n.0 ≡ b → b ≡ false → (o : Option (ℕ × PlainShape)) → IsNamedIf types names x o → IsNamedIf types (n ∷ names) x (option_map (λ p. (p.0 + 1, p.1)) o)
+    later : (b : Bool) → same_name x n.0 ≡ b → b ≡ false → (o : Option (ℕ × PlainShape)) → IsDeclaredIf types names x o → IsDeclaredIf types (n ∷ names) x (option_map (λ p. (p.0 + 1, p.1)) o)
     later b e f None k = tt
     later b e f (Some p) k = record { slot = rw (e, f, k.slot) refl; shape = rw (e, f) k.shape; declared = k.declared }
 
-    by_test : IsNamedIf types names x (named x names) → (b : Bool) → same_name x n.0 ≡ b → IsNamedIf types (n ∷ names) x (if b then Some (0, shape_in_terms n.1) else option_map (λ p. (p.0 + 1, p.1)) (named x names))
-    by_test rest true e = record { slot = rw e refl; shape = rw e refl; declared = in_terms types n.1 h.0 }
-    by_test rest false e = later false e refl (named x names) rest
+    by_test : IsDeclaredIf types names x (declared_at x names) → (b : Bool) → same_name x n.0 ≡ b → IsDeclaredIf types (n ∷ names) x (if b then Some (0, n.1) else option_map (λ p. (p.0 + 1, p.1)) (declared_at x names))
+    by_test rest true e = record { slot = rw e refl; shape = rw e refl; declared = h.0 }
+    by_test rest false e = later false e refl (declared_at x names) rest
 
 binary_rule : (op : BinaryOperator) (x y s : PlainShape) → (other_of_left (pairing_of op) x ≡ Ok (Some (sides y s))) ⊎ (other_of_right (pairing_of op) y ≡ Ok (sides x s)) → BinaryIs op x y s
 binary_rule op x y s (inl h) = left_is op x y s h
@@ -461,11 +461,11 @@ module _ (types : TupleTypes) (names : NameShapes) where
       by_whole (Some t) h = by_value t h.0 h.1 (value_of_field w t.shape) refl (field_declared types w t.shape h.1.declared)
 
   -- names
-  name_good : (x : Name) (o : Option (ℕ × PlainShape)) → IsNamedIf types names x o → IfOk (name_known x o) (λ p. IsFound types names (name x tt) p.tree p.shape)
+  name_good : (x : Name) (o : Option (ℕ × PlainShape)) → IsDeclaredIf types names x o → IfOk (name_known x (option_map (λ p. (p.0, shape_in_terms p.1)) o)) (λ p. IsFound types names (name x tt) p.tree p.shape)
   name_good x None h = tt
   name_good x (Some p) h = record {
-    of = record { same = refl; resolved = h.slot; has_shape = h.shape; determined = tt };
-    declared = h.declared;
+    of = record { same = refl; resolved = h.slot; has_shape = rw h.shape refl; determined = tt };
+    declared = in_terms types p.1 h.declared;
   }
 
   module _ (declared : AreAllDeclared types names) where
@@ -473,7 +473,7 @@ module _ (types : TupleTypes) (names : NameShapes) where
       pub good : (u : SourceTerm) → Good u (sorting names u)
       good (number n) = (refl, record { of = record { same = refl; resolved = tt; has_shape = refl; determined = tt }; declared = tt })
       good (truth b) = (refl, record { of = record { same = refl; resolved = tt; has_shape = refl; determined = tt }; declared = tt })
-      good (name x tt) = (refl, name_good x (named x names) (named_is types names x declared))
+      good (name x tt) = (refl, name_good x (declared_at x names) (declared_is types names x declared))
       good (one op a) = (
         refl,
         chain (IsPart types names (single_of op) a) (λ p. IsFound types names (one op a) p.tree p.shape) (λ t. Ok (typed (one op t.tree) t.shape)) (one_part (single_of op) (sorting names a)) (one_good (single_of op) a (sorting names a) (good a))
@@ -507,6 +507,9 @@ module _ (types : TupleTypes) (names : NameShapes) where
       goods : (us : SourceTerms) → AreGood us (sortings names us)
       goods no_terms = tt
       goods (term u us) = (good u, goods us)
+
+    pub fit_found : (u : SourceTerm) (s : PlainShape) → IsDeclared types s → IfOk (fit (sorting names u) s) (λ t. IsFound types names u t s)
+    fit_found u s d = fit_good u (sorting names u) s (good u) d
 
     -- the laws
     pub own_sound : (u : SourceTerm) (t : SortedTerm) (s : PlainShape) → own_is t s ≡ infer (sorting names u) → IsTermOf names u t s

@@ -32,21 +32,21 @@ abbrev pub Calmly : {A : Type 0} → (A → Type 0) → Result A SortFault → T
 Calmly P (Ok x) = P x
 Calmly P (Err e) = e ≡ EmptyOfWhat → ⊥
 
-abbrev Anything : {A : Type 0} → A → Type 0
+abbrev pub Anything : {A : Type 0} → A → Type 0
 Anything x = Unit {0}
 
-calm_chain : {A B : Type 0} (P : A → Type 0) (Q : B → Type 0) (f : A → Result B SortFault) (r : Result A SortFault) → Calmly P r → ((x : A) → P x → Calmly Q (f x)) → Calmly Q (and_then r f)
+pub calm_chain : {A B : Type 0} (P : A → Type 0) (Q : B → Type 0) (f : A → Result B SortFault) (r : Result A SortFault) → Calmly P r → ((x : A) → P x → Calmly Q (f x)) → Calmly Q (and_then r f)
 calm_chain P Q f (Ok x) h g = g x h
 calm_chain P Q f (Err e) h g = h
 
-calm_end : {A B : Type 0} (P : A → Type 0) (f : A → B) (r : Result A SortFault) → Calmly P r → Calmly Anything (and_then r (λ x. Ok (f x)))
+pub calm_end : {A B : Type 0} (P : A → Type 0) (f : A → B) (r : Result A SortFault) → Calmly P r → Calmly Anything (and_then r (λ x. Ok (f x)))
 calm_end P f (Ok x) h = tt
 calm_end P f (Err e) h = h
 
 sorts_is_calm : Sorts ≡ EmptyOfWhat → ⊥
 sorts_is_calm e = absurd (cc)
 
-unknown_is_calm : Unknown ≡ EmptyOfWhat → ⊥
+pub unknown_is_calm : Unknown ≡ EmptyOfWhat → ⊥
 unknown_is_calm e = absurd (cc)
 
 -- the rows
@@ -224,7 +224,7 @@ right_calm Members (sequences x) h = sorts_is_calm
 right_calm Members (sets x) h = tt
 right_calm Members (maps k v) h = sorts_is_calm
 
-entry_calm : (x : PlainShape) → Calmly Anything (entry_of x)
+pub entry_calm : (x : PlainShape) → Calmly Anything (entry_of x)
 entry_calm truths = sorts_is_calm
 entry_calm integers = sorts_is_calm
 entry_calm naturals = sorts_is_calm
@@ -234,7 +234,7 @@ entry_calm (sequences x) = sorts_is_calm
 entry_calm (sets x) = sorts_is_calm
 entry_calm (maps k v) = tt
 
-field_calm : (w : List ℕ) (x : PlainShape) → Calmly Anything (value_of_field w x)
+pub field_calm : (w : List ℕ) (x : PlainShape) → Calmly Anything (value_of_field w x)
 field_calm w truths = sorts_is_calm
 field_calm w integers = sorts_is_calm
 field_calm w naturals = sorts_is_calm
@@ -457,13 +457,16 @@ module _ (names : NameShapes) where
     each_is_calm no_terms d = tt
     each_is_calm (term u us) d = (calm u d.0, each_is_calm us d.1)
 
+  pub fit_is_calm : (u : SourceTerm) (s : PlainShape) → IsDetermined u → Calmly Anything (fit (sorting names u) s)
+  fit_is_calm u s d = fit_calm (is_display u) (sorting names u) s (calm u d)
+
   -- the law
-  told : {A : Type 0} (P : A → Type 0) (r : Result A SortFault) → Calmly P r → r ≡ Err EmptyOfWhat → ⊥
+  pub told : {A : Type 0} (P : A → Type 0) (r : Result A SortFault) → Calmly P r → r ≡ Err EmptyOfWhat → ⊥
   told P (Ok x) h e = absurd (cc)
   told P (Err f) h e = let g : f ≡ EmptyOfWhat = cc in h g
 
   pub fit_told : (u : SourceTerm) (s : PlainShape) → IsDetermined u → fit (sorting names u) s ≡ Err EmptyOfWhat → ⊥
-  fit_told u s d e = told Anything (fit (sorting names u) s) (fit_calm (is_display u) (sorting names u) s (calm u d)) e
+  fit_told u s d e = told Anything (fit (sorting names u) s) (fit_is_calm u s d) e
 
   pub infer_told : (u : SourceTerm) → IsDetermined u → infer (sorting names u) ≡ Err EmptyOfWhat → ⊥
   infer_told u d e = told (Kind (is_display u)) (infer (sorting names u)) (infer_calm (is_display u) (sorting names u) (calm u d)) e

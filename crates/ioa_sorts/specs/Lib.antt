@@ -5,3 +5,5 @@ pub mod Views
 pub mod Determined
 pub mod DeclaredTypes
 pub mod SortedTerms
+pub mod Statements
+pub mod SortedStatements

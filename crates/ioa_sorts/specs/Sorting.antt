@@ -197,11 +197,15 @@ unfoldable pub field_known : List ℕ → Option PlainTyped → Result PlainType
 field_known w None = Err EmptyOfWhat
 field_known w (Some t) = and_then (value_of_field w t.shape) (λ s. Ok (typed (field t.tree w t.shape) s))
 
+-- the slot of a name, and its declared shape
+abbrev pub declared_at : Name → NameShapes → Option (ℕ × PlainShape)
+declared_at x [] = None
+declared_at x (n ∷ names) =
+    if same_name x n.0 then Some (0, n.1) else option_map (λ p. (p.0 + 1, p.1)) (declared_at x names)
+
 -- the slot of a name, and its shape in a term
 abbrev pub named : Name → NameShapes → Option (ℕ × PlainShape)
-named x [] = None
-named x (n ∷ names) =
-    if same_name x n.0 then Some (0, shape_in_terms n.1) else option_map (λ p. (p.0 + 1, p.1)) (named x names)
+named x names = option_map (λ p. (p.0, shape_in_terms p.1)) (declared_at x names)
 
 abbrev pub name_known : Name → Option (ℕ × PlainShape) → Result PlainTyped SortFault
 name_known x None = Err Unknown

@@ -1,14 +1,16 @@
-//! A law of the sorts of terms: what a function ensures that does nothing.
+//! Laws of sorts: what functions ensure that do nothing.
 
 ghost use Rattle.std.specs.Prelude.{◌≡◌, false, Some, Ok, Err};
 ghost use Rattle.ioa_operators.specs.Shapes.{PlainShape};
 ghost use Rattle.ioa_terms.specs.Sorted.{NameShapes};
-ghost use Rattle.ioa_source.specs.Sides.{SourceTerm};
+ghost use Rattle.ioa_source.specs.Sides.{SourceTerm, SourceStatement};
 ghost use Rattle.ioa_sort_rules.specs.declared.fault.SortFault.{SortFault};
 ghost use Rattle.ioa_sorts.specs.Sorting.{SortedTerm, typed, infer, fit, sorting};
 ghost use Rattle.ioa_sorts.specs.Determined.{is_display, IsDetermined};
 ghost use Rattle.ioa_sorts.specs.DeclaredTypes.{TupleTypes, IsDeclared, AreAllDeclared};
 ghost use Rattle.ioa_sorts.specs.SortedTerms.{IsTermOf};
+ghost use Rattle.ioa_sorts.specs.SortedStatements.{IsDeterminedStatement, IsStatementOf};
+ghost use Rattle.ioa_sorts.specs.Statements.{SortedStatement, statement_sorting};
 
 /// The rules of sorts, against the meaning of sorts. A term that they find is the text's, with the slot of each name,
 /// has the shape, and has only determined displays. There is no other such term: they find each that there is. They
@@ -31,4 +33,18 @@ pub fn sorts_law()
         fit (sorting names u) s ≡ Err SortFault.EmptyOfWhat → ⊥ }
     ensures told_own { (names : NameShapes) (u : SourceTerm) → IsDetermined u →
         infer (sorting names u) ≡ Err SortFault.EmptyOfWhat → ⊥ }
+{}
+
+/// The same of statements, where some names in view are variables, which may be assigned: a statement that the rules
+/// find is the text's with slots and shapes, what it assigns has the sort of its target, and what it tests is a truth
+/// value. They find each such statement, and refuse one by `EmptyOfWhat` (32) only if one of its displays is not
+/// determined.
+pub fn statements_law()
+    ensures sound { (types : TupleTypes) (variables names : NameShapes) →
+        AreAllDeclared types variables → AreAllDeclared types names → (u : SourceStatement) (s : SortedStatement) →
+        statement_sorting variables names u ≡ Ok s → IsStatementOf variables names u s }
+    ensures found { (variables names : NameShapes) (u : SourceStatement) (s : SortedStatement) →
+        IsStatementOf variables names u s → statement_sorting variables names u ≡ Ok s }
+    ensures told { (variables names : NameShapes) (u : SourceStatement) → IsDeterminedStatement u →
+        statement_sorting variables names u ≡ Err SortFault.EmptyOfWhat → ⊥ }
 {}

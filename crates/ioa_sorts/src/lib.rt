@@ -4,9 +4,11 @@
 mod laws;
 mod parts;
 mod sorting;
+mod statements;
 mod view;
 
-pub use laws::sorts_law;
+pub use laws::{sorts_law, statements_law};
 pub use parts::Typed;
 pub use sorting::{fit, infer};
+pub use statements::sort_statements;
 pub use view::View;

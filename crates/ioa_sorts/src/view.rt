@@ -1,15 +1,15 @@
 //! Names in view, with their shapes.
 
-ghost use Rattle.std.specs.Prelude.{◌≡◌, IfOk, map};
+ghost use Rattle.std.specs.Prelude.{◌≡◌, IfOk, map, take};
 ghost use Rattle.std.specs.List.{zip};
 ghost use Rattle.std.specs.Option.{option_map};
 ghost use Rattle.ioa_terms.specs.Sorted as sorted;
-ghost use Rattle.ioa_sorts.specs.Sorting.{named};
+ghost use Rattle.ioa_sorts.specs.Sorting.{declared_at, named};
 ghost use Rattle.ioa_sorts.specs.Views as views;
 
 use ioa_sort_rules::shape_in_terms;
 use ioa_system::Scope;
-use ioa_terms::{Name, Shape};
+use ioa_terms::{Name, Shape, Word};
 use std::alloc::{AllocError, Global};
 use std::marker::Model;
 
@@ -63,6 +63,27 @@ impl View {
             Some(slot) => at_slot(&self.shapes, slot),
             None => None,
         }
+    }
+
+    /// The slot of a name, and its declared shape, if it is one of the first names in view, as many as are variables.
+    pub fn find_variable(&self, name: &Word, variables: usize) -> Option<(usize, &Shape)>
+        ensures { option_map (λ p. (p.0, p.1.now)) result ≡ declared_at (Name.Word name.now) (take variables self.now) }
+    {
+        match self.names.slot_of_word(name) {
+            Some(slot) => below(&self.declared, slot, variables),
+            None => None,
+        }
+    }
+}
+
+/// A slot with the shape that is at it, if the slot is one of the first.
+fn below(shapes: &Vec<Shape>, slot: usize, variables: usize) -> Option<(usize, &Shape)>
+    ensures { option_map (λ p. (p.0, p.1.now)) result ≡ views.at_slot (take variables shapes.now.items) slot }
+{
+    if slot < variables {
+        at_slot(shapes, slot)
+    } else {
+        None
     }
 }
 
