@@ -2,4 +2,5 @@
 pub mod Kinds
 pub mod Rows
 pub mod SameSorts
+pub mod DeclaredTypes
 pub mod SortFaultText

@@ -29,7 +29,7 @@ use Rattle.ioa_sort_rules.specs.SameSorts.{same_sort}
 use Rattle.ioa_sort_rules.proofs.Rules.{unary_is, left_is, right_is, one_is, two_left_is, two_right_is, update_is}
 use Rattle.ioa_sorts.specs.Sorting.{SortedTerm, PlainTyped, typed, PlainPair, pair, PlainUpdate, update, Sorting, own, given, infer, fit, fit_typed, part_known, one_part, right_tells, left_tells, left_known, right_known, right_first, left_first, two_parts, map_known, value_first, key_known, key_first, map_first, three_parts, call_one, call_two, call_three, call_of_arity, call_of_function, all_fit, each_fit, display_parts, display_at, field_known, declared_at, name_known, sorting, sortings}
 use Rattle.ioa_sorts.specs.Determined.{is_display, tells, tells_update, AreDetermined}
-use Rattle.ioa_sorts.specs.DeclaredTypes.{TupleTypes, IsDeclared, AreAllDeclared}
+use Rattle.ioa_sort_rules.specs.DeclaredTypes.{TupleTypes, IsDeclared, AreAllDeclared}
 use Rattle.ioa_sorts.specs.SortedTerms.{IsTermOf}
 use Rattle.ioa_sorts.proofs.Chains.{chain}
 use Rattle.ioa_sorts.proofs.Types.{same_is, in_terms, listed, field_declared, one_declared, left_declared, right_declared, entry_declared, AreBoth, AreBothIfTold}

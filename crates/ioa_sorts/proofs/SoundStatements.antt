@@ -13,7 +13,7 @@ use Rattle.ioa_sort_rules.specs.Rows.{entry_of, value_of_field}
 use Rattle.ioa_sorts.specs.Sorting.{SortedTerm, fit, declared_at, sorting}
 use Rattle.ioa_sorts.specs.Statements.{SortedStatement, SortedStatements, PlainTypedTarget, typed_target, all_ok, whole_target, key_target, field_target, target_sorting, assignment_sorting, statement_sorting, statement_sortings, arm_sortings}
 use Rattle.ioa_sorts.specs.SortedStatements.{HoldsShape, AreArmsSorted, AreSorted, IsDeterminedTarget, AreArmsDetermined, AreStatementsDetermined, IsStatementOf}
-use Rattle.ioa_sorts.specs.DeclaredTypes.{TupleTypes, IsDeclared, AreAllDeclared}
+use Rattle.ioa_sort_rules.specs.DeclaredTypes.{TupleTypes, IsDeclared, AreAllDeclared}
 use Rattle.ioa_sorts.proofs.Chains.{chain}
 use Rattle.ioa_sorts.proofs.Types.{in_terms, field_declared, entry_declared, AreBoth}
 use Rattle.ioa_sorts.proofs.CompleteStatements.{statement_is}

@@ -15,7 +15,7 @@ use Rattle.ioa_sort_rules.specs.declared.kinds.Pairing.{Pairing}
 use Rattle.ioa_sort_rules.specs.declared.kinds.Pairing.TheVariants.{Both, Membership, Prepend, Append, Members, At, Removal, Definition}
 use Rattle.ioa_sort_rules.specs.Rows.{PlainSides, sides, value_of_one, value_of_alike, other_of_left, other_of_right, entry_of, declared_field, value_of_field}
 use Rattle.ioa_sort_rules.specs.SameSorts.{same_sort}
-use Rattle.ioa_sorts.specs.DeclaredTypes.{TupleTypes, IsDeclared, AreDeclared}
+use Rattle.ioa_sort_rules.specs.DeclaredTypes.{TupleTypes, IsDeclared, AreDeclared}
 use Rattle.ioa_sorts.proofs.Chains.{chain}
 
 -- a shape is of its own sort

@@ -3,7 +3,6 @@ pub mod Sorting
 pub mod SortingView
 pub mod Views
 pub mod Determined
-pub mod DeclaredTypes
 pub mod SortedTerms
 pub mod Statements
 pub mod SortedStatements

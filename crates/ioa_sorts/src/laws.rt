@@ -7,7 +7,7 @@ ghost use Rattle.ioa_source.specs.Sides.{SourceTerm, SourceStatement};
 ghost use Rattle.ioa_sort_rules.specs.declared.fault.SortFault.{SortFault};
 ghost use Rattle.ioa_sorts.specs.Sorting.{SortedTerm, typed, infer, fit, sorting};
 ghost use Rattle.ioa_sorts.specs.Determined.{is_display, IsDetermined};
-ghost use Rattle.ioa_sorts.specs.DeclaredTypes.{TupleTypes, IsDeclared, AreAllDeclared};
+ghost use Rattle.ioa_sort_rules.specs.DeclaredTypes.{TupleTypes, IsDeclared, AreAllDeclared};
 ghost use Rattle.ioa_sorts.specs.SortedTerms.{IsTermOf};
 ghost use Rattle.ioa_sorts.specs.SortedStatements.{IsDeterminedStatement, IsStatementOf};
 ghost use Rattle.ioa_sorts.specs.Statements.{SortedStatement, statement_sorting};
