@@ -6,4 +6,6 @@ mod first_form;
 #[cfg(test)]
 mod operators;
 #[cfg(test)]
+mod sorts;
+#[cfg(test)]
 mod terms;

@@ -177,7 +177,7 @@ static ACTIONS: [(i64, bool, &str); 3] = [
 ];
 
 /// A word of ASCII letters.
-fn word(alloc: Global, text: &str) -> Result<Word, Fail> {
+pub(crate) fn word(alloc: Global, text: &str) -> Result<Word, Fail> {
     if text.is_ascii() {
         Ok(Word::from_ascii(alloc, text.as_bytes())?)
     } else {
