@@ -1,0 +1,4 @@
+-- the lemmas of this crate
+pub mod Heights
+pub mod Tables
+pub mod Meant

@@ -1,0 +1,70 @@
+-- The types that a text declares, in order, and the shapes of sorts (profile). A shape has the fields of tuple types
+-- in it.
+use Rattle.std.specs.Prelude.{ℕ, Bool, true, not, ◌&&◌, nat_lt, if◌then◌else◌}
+use Rattle.std.specs.Prelude.{List, [], ◌∷◌, ◌++◌, Option, Some, None, Result, Ok, Err, map}
+use Rattle.std.specs.List.{list_any}
+use Rattle.ioa_values.specs.Outcome.{and_then}
+use Rattle.ioa_operators.specs.Shapes.{PlainShape, truths, integers, naturals, tuples, sequences, sets, maps}
+use Rattle.ioa_operators.specs.Shapes.{shapes_of}
+use Rattle.ioa_operators.specs.ShapeHeight.{height}
+use Rattle.ioa_terms.specs.declared.name.Name.TheVariants.{Word}
+use Rattle.ioa_terms.specs.Bindings.{same_word}
+use Rattle.ioa_terms.specs.Sorted.{NameShapes, shape_named}
+use Rattle.ioa_source.specs.PlainSort as sort
+use Rattle.ioa_source.specs.PlainSort.{PlainSort}
+use Rattle.ioa_source.specs.Sides.{SourceDeclared}
+use Rattle.ioa_types.specs.declared.fault.TypeFault.{TypeFault}
+use Rattle.ioa_types.specs.declared.fault.TypeFault.TheVariants.{Unknown, Twice, Limit}
+use Rattle.ioa_types.specs.declared.height.TheConstants.{SHAPE_LIMIT}
+
+-- the types in the order of their declarations
+abbrev pub TypeTable : Type 0
+TypeTable = NameShapes
+
+-- a shape, if it is not too high
+unfoldable pub limited : PlainShape → Result PlainShape TypeFault
+limited s = if nat_lt (height s) SHAPE_LIMIT then Ok s else Err Limit
+
+-- the shape that a type's name has
+abbrev pub known_type : Option PlainShape → Result PlainShape TypeFault
+known_type None = Err Unknown
+known_type (Some s) = Ok s
+
+-- the shape of a sort
+abbrev pub shape_of_sort : TypeTable → PlainSort → Result PlainShape TypeFault
+shape_of_sort types sort.booleans = Ok truths
+shape_of_sort types sort.integers = Ok integers
+shape_of_sort types sort.naturals = Ok naturals
+shape_of_sort types (sort.sequences s) = and_then (shape_of_sort types s) (λ x. limited (sequences x))
+shape_of_sort types (sort.sets s) = and_then (shape_of_sort types s) (λ x. limited (sets x))
+shape_of_sort types (sort.maps k v) =
+    and_then (shape_of_sort types k) (λ x. and_then (shape_of_sort types v) (λ y. limited (maps x y)))
+shape_of_sort types (sort.named_type w) = known_type (shape_named (Word w) types)
+
+-- the shapes of the sorts of fields
+abbrev pub field_shapes : TypeTable → List SourceDeclared → Result (List PlainShape) TypeFault
+field_shapes types [] = Ok []
+field_shapes types (f ∷ fs) =
+    and_then (shape_of_sort types f.sort) (λ s. and_then (field_shapes types fs) (λ ss. Ok (s ∷ ss)))
+
+-- whether names differ from each other, and from those before
+abbrev pub are_new : List (List ℕ) → List (List ℕ) → Bool
+are_new before [] = true
+are_new before (w ∷ ws) = not (list_any (same_word w) before) && are_new (before ++ w ∷ []) ws
+
+-- the names of fields, which differ
+abbrev pub field_names : List SourceDeclared → Result (List (List ℕ)) TypeFault
+field_names fs = if are_new [] (map (λ f. f.name) fs) then Ok (map (λ f. f.name) fs) else Err Twice
+
+-- a tuple type: its fields' names first
+abbrev pub tuple_shape : TypeTable → List ℕ → List SourceDeclared → Result PlainShape TypeFault
+tuple_shape types w fs = and_then (field_names fs)
+    (λ ns. and_then (field_shapes types fs) (λ ss. limited (tuples w ns (shapes_of ss))))
+
+-- the types with one more, of a new name
+abbrev pub declared_newly : TypeTable → List ℕ → PlainShape → Option PlainShape → Result TypeTable TypeFault
+declared_newly types w s None = Ok (types ++ (Word w, s) ∷ [])
+declared_newly types w s (Some t) = Err Twice
+
+abbrev pub with_type : TypeTable → List ℕ → PlainShape → Result TypeTable TypeFault
+with_type types w s = declared_newly types w s (shape_named (Word w) types)

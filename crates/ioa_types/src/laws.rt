@@ -1,0 +1,29 @@
+//! A law of declared types: what a function ensures that does nothing.
+
+ghost use Rattle.std.specs.Prelude.{◌≡◌, ◌<◌, ℕ, List, [], Ok};
+ghost use Rattle.ioa_operators.specs.Shapes.{PlainShape, constants};
+ghost use Rattle.ioa_operators.specs.ShapeHeight.{height};
+ghost use Rattle.ioa_source.specs.PlainSort.{PlainSort};
+ghost use Rattle.ioa_source.specs.Sides.{SourceDeclared};
+ghost use Rattle.ioa_sort_rules.specs.DeclaredTypes.{IsDeclared};
+ghost use Rattle.ioa_types.specs.TypeTables.{TypeTable, shape_of_sort, tuple_shape, with_type};
+ghost use Rattle.ioa_types.specs.Meanings.{Means, tuple_types, IsTypeTable};
+ghost use Rattle.ioa_types.specs.declared.height.TheConstants.{SHAPE_LIMIT};
+
+/// A sort has a shape exactly if it means one that is not too high. Of a table of types the tuple types in that shape
+/// are the declared ones of their names. Types stay such a table if an enumeration or a tuple type is declared.
+pub fn types_law()
+    // sorts
+    ensures means { (types : TypeTable) (s : PlainSort) (x : PlainShape) → IsTypeTable types →
+        shape_of_sort types s ≡ Ok x → Means types s x × (height x < SHAPE_LIMIT) }
+    ensures found { (types : TypeTable) (s : PlainSort) (x : PlainShape) →
+        Means types s x → height x < SHAPE_LIMIT → shape_of_sort types s ≡ Ok x }
+    ensures declared { (types : TypeTable) (s : PlainSort) (x : PlainShape) → IsTypeTable types →
+        shape_of_sort types s ≡ Ok x → IsDeclared (tuple_types types) x }
+    // types
+    ensures none { IsTypeTable [] }
+    ensures enumeration { (types more : TypeTable) (w : List ℕ) (from many : ℕ) → IsTypeTable types →
+        with_type types w (constants w from many) ≡ Ok more → IsTypeTable more }
+    ensures tuple { (types more : TypeTable) (w : List ℕ) (fields : List SourceDeclared) (s : PlainShape) →
+        IsTypeTable types → tuple_shape types w fields ≡ Ok s → with_type types w s ≡ Ok more → IsTypeTable more }
+{}

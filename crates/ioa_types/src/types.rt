@@ -1,0 +1,178 @@
+//! The types that a text declares.
+
+ghost use Rattle.std.specs.Prelude.{◌≡◌, [], IfOk, map, slice_get};
+ghost use Rattle.ioa_values.specs.Outcome.{Answers};
+ghost use Rattle.ioa_terms.specs.Sorted.{shape_named};
+ghost use Rattle.ioa_source.specs.SortView.{sort_of};
+ghost use Rattle.ioa_source.specs.TextView.{declared_of};
+ghost use Rattle.ioa_types.specs.TypeTables as spec;
+
+use crate::fault::TypeFault;
+use crate::height::{FieldShapes, ShapeWithHeight};
+use ioa_source::{Declared, Sort};
+use ioa_system::Scope;
+use ioa_terms::{Name, Word};
+use std::alloc::{AllocError, Global};
+use std::marker::Model;
+
+/// The types that are declared so far, each with its shape. A contract sees the pairs of names and shapes.
+#[derive(Drop)]
+pub struct Types {
+    names: Scope,
+    shapes: Vec<ShapeWithHeight>,
+}
+
+impl Model for Types {
+    ghost use Rattle.std.specs.Prelude.{map, ◌≡◌, length};
+    ghost use Rattle.std.specs.List.{zip};
+    ghost use Rattle.std.specs.Coded.{coded×, coded_list};
+    ghost use Rattle.ioa_operators.specs.ShapeCode.{shape_code};
+    ghost use Rattle.ioa_terms.specs.declared.name.Name.TheVariants.{Word};
+    ghost use Rattle.ioa_terms.specs.contracts.name.Name as called;
+    ghost use Rattle.ioa_terms.specs.Sorted.{NameShapes};
+
+    ghost Value = { NameShapes };
+
+    ghost coded = { coded_list (coded× called.the_row.coded shape_code) };
+
+    ghost view = { λ t. zip (map Word t.names) t.shapes.items };
+
+    ghost invariant = { λ t. length t.names ≡ length t.shapes.items };
+}
+
+impl Types {
+    /// No types.
+    pub fn new(alloc: Global) -> Self
+        ensures { result ≡ [] }
+    {
+        Types {
+            names: Scope::new(alloc),
+            shapes: Vec::new(alloc),
+        }
+    }
+
+    /// The shape of a sort. `Unknown` (20) if it names no type that is declared, `Limit` (31) if it is too high.
+    pub fn shape_of(&self, alloc: Global, sort: &Sort) -> Result<ShapeWithHeight, TypeFault>
+        ensures { Answers TypeFault.Memory (λ s. s) result (spec.shape_of_sort self.now (sort_of sort.now)) }
+    {
+        match sort {
+            Sort::Bool => Ok(ShapeWithHeight::truths()),
+            Sort::Int => Ok(ShapeWithHeight::integers()),
+            Sort::Nat => Ok(ShapeWithHeight::naturals()),
+            Sort::Seq(item) => {
+                let item = self.shape_of(alloc, item)?;
+                ShapeWithHeight::sequences(alloc, item)
+            }
+            Sort::Set(member) => {
+                let member = self.shape_of(alloc, member)?;
+                ShapeWithHeight::sets(alloc, member)
+            }
+            Sort::Map(key, value) => {
+                let key = self.shape_of(alloc, key)?;
+                let value = self.shape_of(alloc, value)?;
+                ShapeWithHeight::maps(alloc, key, value)
+            }
+            Sort::Named(name) => self.shape_named(alloc, name),
+        }
+    }
+
+    /// The shape of a type, by its name.
+    fn shape_named(&self, alloc: Global, name: &Word) -> Result<ShapeWithHeight, TypeFault>
+        ensures { Answers TypeFault.Memory (λ s. s) result
+            (spec.known_type (shape_named (Name.Word name.now) self.now)) }
+    {
+        match self.names.slot_of_word(name) {
+            Some(slot) => at_slot(alloc, &self.shapes, slot),
+            None => Err(TypeFault::Unknown),
+        }
+    }
+
+    /// The tuple type of a name, with these fields. `Twice` (21) if two fields have one name; `Unknown` (20) and
+    /// `Limit` (31) as `shape_of`.
+    pub fn tuple_shape(
+        &self,
+        alloc: Global,
+        name: &Word,
+        fields: &Vec<Declared<()>>,
+    ) -> Result<ShapeWithHeight, TypeFault>
+        ensures { Answers TypeFault.Memory (λ s. s) result
+            (spec.tuple_shape self.now name.now (map declared_of fields.now.items)) }
+    {
+        let names = field_names(alloc, fields)?;
+        let shapes = self.field_shapes(alloc, fields)?;
+        let name = name.try_copy(alloc)?;
+        shapes.tuples(alloc, name, names)
+    }
+
+    /// The shapes of the sorts of fields.
+    fn field_shapes(
+        &self,
+        alloc: Global,
+        fields: &Vec<Declared<()>>,
+    ) -> Result<FieldShapes, TypeFault>
+        ensures { Answers TypeFault.Memory (λ s. s) result
+            (spec.field_shapes self.now (map declared_of fields.now.items)) }
+    {
+        let mut shapes = FieldShapes::new(alloc);
+        for field in fields {
+            let shape = self.shape_of(alloc, &field.sort)?;
+            shapes = shapes.with(shape)?;
+        }
+        Ok(shapes)
+    }
+
+    /// The types with one more. `Twice` (21) if its name is that of another.
+    pub fn with(self, name: Word, shape: ShapeWithHeight) -> Result<Self, TypeFault>
+        ensures { Answers TypeFault.Memory (λ t. t) result (spec.with_type self name shape) }
+    {
+        let Types {
+            mut names,
+            mut shapes,
+        } = self;
+        if names.declare(name)? {
+            shapes.push(shape)?;
+            Ok(Types { names, shapes })
+        } else {
+            Err(TypeFault::Twice)
+        }
+    }
+}
+
+/// The shape at a slot.
+fn at_slot(
+    alloc: Global,
+    shapes: &Vec<ShapeWithHeight>,
+    slot: usize,
+) -> Result<ShapeWithHeight, TypeFault>
+    ensures { Answers TypeFault.Memory (λ s. s) result (spec.known_type (slice_get shapes.now.items slot)) }
+{
+    match shapes.get(slot) {
+        Some(shape) => Ok(shape.try_copy(alloc)?),
+        None => Err(TypeFault::Unknown),
+    }
+}
+
+/// The names of fields, which differ.
+fn field_names(alloc: Global, fields: &Vec<Declared<()>>) -> Result<Vec<Word>, TypeFault>
+    ensures { Answers TypeFault.Memory (λ ns. ns.items) result (spec.field_names (map declared_of fields.now.items)) }
+{
+    let mut before = Scope::new(alloc);
+    for field in fields {
+        if !before.declare(field.name.try_copy(alloc)?)? {
+            return Err(TypeFault::Twice);
+        }
+    }
+    Ok(names_of(alloc, fields)?)
+}
+
+/// The names of fields.
+fn names_of(alloc: Global, fields: &Vec<Declared<()>>) -> Result<Vec<Word>, AllocError>
+    ensures { IfOk result (λ ns. ns.items ≡ map (λ f. f.name) (map declared_of fields.now.items)) }
+{
+    let mut names = Vec::new(alloc);
+    for field in fields {
+        let name = field.name.try_copy(alloc)?;
+        names.push(name)?;
+    }
+    Ok(names)
+}
