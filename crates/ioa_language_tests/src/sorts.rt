@@ -4,7 +4,7 @@
 use crate::terms::word;
 use ioa_actions::push_listed;
 use ioa_cursor::Tokens;
-use ioa_sort_rules::{SortFault, map_of};
+use ioa_sort_rules::{Refusal, map_of};
 use ioa_sorts::{View, fit, infer};
 use ioa_system::Scope;
 use ioa_term_reader::{BRACKET_LIMIT, infix_mark, prefix_mark, term};
@@ -555,9 +555,9 @@ fn list_text(alloc: Global, terms: &Vec<Checked>) -> Result<String, AllocError> 
 }
 
 /// The refusal as it is shown, unless memory ran out.
-fn refusal(alloc: Global, fault: SortFault) -> Result<String, AllocError> {
+fn refusal(alloc: Global, fault: Refusal) -> Result<String, AllocError> {
     match fault {
-        SortFault::Memory => Err(AllocError),
+        Refusal::Memory => Err(AllocError),
         _ => format!(in alloc; "{fault}"),
     }
 }
@@ -578,7 +578,7 @@ fn at_sort(
     view: &View,
     text: &str,
     sort: &str,
-) -> Result<Result<Checked, SortFault>, Fail> {
+) -> Result<Result<Checked, Refusal>, Fail> {
     let term = read(alloc, text)?;
     let want = shape_of(alloc, sort)?;
     Ok(fit(alloc, view, &term, &want))

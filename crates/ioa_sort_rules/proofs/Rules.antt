@@ -9,8 +9,8 @@ use Rattle.ioa_operators.specs.declared.operator.BinaryOperator.TheVariants as b
 use Rattle.ioa_operators.specs.declared.operator.Function.{Function}
 use Rattle.ioa_operators.specs.declared.operator.Function.TheVariants as function
 use Rattle.ioa_terms.specs.Sorted.{UnaryIs, negation, negative, BinaryIs, equivalent, implies, either, both, equal, differ, below, at_most, above, at_least, item_of, member_of, prepended, appended, joined, sum, difference, product, at_key, FunctionIs, head, tail, items, members, keys, quotient, remainder, inserted, deleted, united, updated, removed, defined}
-use Rattle.ioa_sort_rules.specs.declared.fault.SortFault.{SortFault}
-use Rattle.ioa_sort_rules.specs.declared.fault.SortFault.TheVariants.{EmptyOfWhat}
+use Rattle.ioa_sort_rules.specs.declared.refusal.Refusal.{Refusal}
+use Rattle.ioa_sort_rules.specs.declared.refusal.Refusal.TheVariants.{EmptyOfWhat}
 use Rattle.ioa_sort_rules.specs.declared.kinds.Single.{Single}
 use Rattle.ioa_sort_rules.specs.declared.kinds.Single.TheVariants as single
 use Rattle.ioa_sort_rules.specs.declared.kinds.Alike.{Alike}
@@ -25,10 +25,10 @@ use Rattle.ioa_sort_rules.specs.Rows.{PlainSides, sides, value_of_one, value_of_
 equal_sides : (a b c d : PlainShape) → sides a b ≡ sides c d → (a ≡ c) × (b ≡ d)
 equal_sides a b c d h = (ap (λ (p : PlainSides). p.other) h, ap (λ (p : PlainSides). p.whole) h)
 
-abbrev of_left : PlainSides → Result (Option PlainSides) SortFault
+abbrev of_left : PlainSides → Result (Option PlainSides) Refusal
 of_left p = Ok (Some p)
 
-abbrev of_right : PlainSides → Result PlainSides SortFault
+abbrev of_right : PlainSides → Result PlainSides Refusal
 of_right p = Ok p
 
 left_sides : (a b c d : PlainShape) → of_left (sides a b) ≡ of_left (sides c d) → (a ≡ c) × (b ≡ d)
@@ -45,14 +45,14 @@ of_equal R x y s u v w e f g h = rw (e, f, g) h
 both_left : (k : Alike) (x y s : PlainShape) → other_of_left (Both k) x ≡ Ok (Some (sides y s)) → (x ≡ y) × (value_of_alike k x ≡ Ok s)
 both_left k x y s h = by_value (value_of_alike k x) h
   where
-    by_value : (r : Result PlainShape SortFault) → and_then r (λ w. Ok (Some (sides x w))) ≡ Ok (Some (sides y s)) → (x ≡ y) × (r ≡ Ok s)
+    by_value : (r : Result PlainShape Refusal) → and_then r (λ w. Ok (Some (sides x w))) ≡ Ok (Some (sides y s)) → (x ≡ y) × (r ≡ Ok s)
     by_value (Ok w) h = let e = left_sides x w y s h in (e.0, ap Ok e.1)
     by_value (Err f) h = absurd (cc)
 
 both_right : (k : Alike) (x y s : PlainShape) → other_of_right (Both k) y ≡ Ok (sides x s) → (y ≡ x) × (value_of_alike k y ≡ Ok s)
 both_right k x y s h = by_value (value_of_alike k y) h
   where
-    by_value : (r : Result PlainShape SortFault) → and_then r (λ w. Ok (sides y w)) ≡ Ok (sides x s) → (y ≡ x) × (r ≡ Ok s)
+    by_value : (r : Result PlainShape Refusal) → and_then r (λ w. Ok (sides y w)) ≡ Ok (sides x s) → (y ≡ x) × (r ≡ Ok s)
     by_value (Ok w) h = let e = right_sides y w x s h in (e.0, ap Ok e.1)
     by_value (Err f) h = absurd (cc)
 

@@ -3,4 +3,4 @@ pub mod Kinds
 pub mod Rows
 pub mod SameSorts
 pub mod DeclaredTypes
-pub mod SortFaultText
+pub mod Refusals

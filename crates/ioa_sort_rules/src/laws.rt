@@ -6,7 +6,7 @@ ghost use Rattle.ioa_operators.specs.declared.operator.BinaryOperator.{BinaryOpe
 ghost use Rattle.ioa_operators.specs.declared.operator.Function.{Function};
 ghost use Rattle.ioa_operators.specs.declared.operator.UnaryOperator.{UnaryOperator};
 ghost use Rattle.ioa_terms.specs.Sorted.{UnaryIs, BinaryIs, FunctionIs};
-ghost use Rattle.ioa_sort_rules.specs.declared.fault.SortFault.{SortFault};
+ghost use Rattle.ioa_sort_rules.specs.declared.refusal.Refusal.{Refusal};
 ghost use Rattle.ioa_sort_rules.specs.declared.kinds.Arity.{Arity};
 ghost use Rattle.ioa_sort_rules.specs.declared.kinds.Single.{Single};
 ghost use Rattle.ioa_sort_rules.specs.declared.kinds.Pairing.{Pairing};
@@ -28,7 +28,7 @@ pub fn sort_rules_law()
         (other_of_left (pairing_of op) x ≡ Ok (Some (sides y s))) ⊎ (other_of_left (pairing_of op) x ≡ Ok None) }
     ensures right_tells { (op : BinaryOperator) (x y s : PlainShape) → BinaryIs op x y s →
         (other_of_right (pairing_of op) y ≡ Ok (sides x s))
-        ⊎ (other_of_right (pairing_of op) y ≡ Err SortFault.EmptyOfWhat) }
+        ⊎ (other_of_right (pairing_of op) y ≡ Err Refusal.EmptyOfWhat) }
     // functions of one part and of two
     ensures of_one { (f : Function) (k : Single) (x s : PlainShape) → arity_of f ≡ Arity.One k →
         value_of_one k x ≡ Ok s → FunctionIs f (x ∷ []) s }
@@ -42,7 +42,7 @@ pub fn sort_rules_law()
         FunctionIs f (x ∷ y ∷ []) s → other_of_left k x ≡ Ok (Some (sides y s)) }
     ensures of_right_tells { (f : Function) (k : Pairing) (x y s : PlainShape) → arity_of f ≡ Arity.Two k →
         FunctionIs f (x ∷ y ∷ []) s →
-        (other_of_right k y ≡ Ok (sides x s)) ⊎ (other_of_right k y ≡ Err SortFault.EmptyOfWhat) }
+        (other_of_right k y ≡ Ok (sides x s)) ⊎ (other_of_right k y ≡ Err Refusal.EmptyOfWhat) }
     // `update` alone has three parts
     ensures of_map { (f : Function) (k v : PlainShape) → arity_of f ≡ Arity.Update →
         FunctionIs f (maps k v ∷ k ∷ v ∷ []) (maps k v) }

@@ -5,7 +5,7 @@ use Rattle.ioa_operators.specs.Shapes.{PlainShape}
 use Rattle.ioa_terms.specs.PlainTerm.{call, no_terms, term, terms_of}
 use Rattle.ioa_terms.specs.Sorted.{NameShapes, shape_in_terms}
 use Rattle.ioa_source.specs.Sides.{SourceTerm}
-use Rattle.ioa_sort_rules.specs.declared.fault.SortFault.TheVariants.{Sorts}
+use Rattle.ioa_sort_rules.specs.declared.refusal.Refusal.TheVariants.{Sorts}
 use Rattle.ioa_sort_rules.specs.declared.kinds.Single.{Single}
 use Rattle.ioa_sort_rules.specs.declared.kinds.Pairing.{Pairing}
 use Rattle.ioa_sorts.specs.Sorting.{typed, one_part, two_parts, three_parts, call_one, call_two, call_three, each_fit, sorting, sortings}

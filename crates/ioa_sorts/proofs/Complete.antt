@@ -16,7 +16,7 @@ use Rattle.ioa_terms.specs.Resolved.{IsResolved, AreTermsResolved}
 use Rattle.ioa_terms.specs.Sorted.{NameShapes, HasShape, HaveShapes, DisplayIs, FunctionIs, head, tail, items, members, keys, quotient, remainder, inserted, deleted, united, updated, removed, defined, BinaryIs, equivalent, implies, either, both, equal, differ, below, at_most, above, at_least, item_of, member_of, prepended, appended, joined, sum, difference, product, at_key, shape_named, shape_in_terms, field_shape, listed_shapes}
 use Rattle.ioa_source.specs.Erasure.{erase_term, erase_terms}
 use Rattle.ioa_source.specs.Sides.{SourceTerm}
-use Rattle.ioa_sort_rules.specs.declared.fault.SortFault.{SortFault}
+use Rattle.ioa_sort_rules.specs.declared.refusal.Refusal.{Refusal}
 use Rattle.ioa_sort_rules.specs.declared.kinds.Single.{Single}
 use Rattle.ioa_sort_rules.specs.declared.kinds.Pairing.{Pairing}
 use Rattle.ioa_sort_rules.specs.declared.kinds.Pairing.TheVariants.{Both, Membership, Prepend, Append, Members, At, Removal, Definition}
@@ -33,13 +33,13 @@ use Rattle.ioa_sorts.specs.SortedTerms.{IsTermOf}
 use Rattle.ioa_sorts.proofs.Sound.{own_is, fit_is}
 use Rattle.ioa_sorts.proofs.Types.{same_itself}
 
-abbrev pub pair_is : SortedTerm → SortedTerm → PlainShape → Result PlainPair SortFault
+abbrev pub pair_is : SortedTerm → SortedTerm → PlainShape → Result PlainPair Refusal
 pair_is l r s = Ok (pair l r s)
 
-abbrev pub update_found : SortedTerm → SortedTerm → SortedTerm → PlainShape → Result PlainUpdate SortFault
+abbrev pub update_found : SortedTerm → SortedTerm → SortedTerm → PlainShape → Result PlainUpdate Refusal
 update_found m k v s = Ok (update m k v s)
 
-abbrev pub typed_is : SortedTerm → PlainShape → Result PlainTyped SortFault
+abbrev pub typed_is : SortedTerm → PlainShape → Result PlainTyped Refusal
 typed_is t s = Ok (typed t s)
 
 -- a rule of a form of two parts, as either part tells it
@@ -92,7 +92,7 @@ typed_fits : (t : SortedTerm) (s : PlainShape) → fit_is t ≡ fit_typed s (typ
 unfolding fit_typed
 typed_fits t s = rw (same_itself s) refl
 
-own_finds : (t : SortedTerm) (s : PlainShape) (r : Result PlainTyped SortFault) → typed_is t s ≡ r → Finds false t s (own r)
+own_finds : (t : SortedTerm) (s : PlainShape) (r : Result PlainTyped Refusal) → typed_is t s ≡ r → Finds false t s (own r)
 own_finds t s r e = record { fits = rw (← e) (typed_fits t s); infers = rw (← e) refl }
 
 -- forms of one part
@@ -159,7 +159,7 @@ terms_listed : {N D : Type 0} (ts : PlainTerms N D) → terms_of (listed_terms t
 terms_listed no_terms = refl
 terms_listed (term t more) = ap (term t) (terms_listed more)
 
-abbrev list_is : List SortedTerm → Result (List SortedTerm) SortFault
+abbrev list_is : List SortedTerm → Result (List SortedTerm) Refusal
 list_is ts = Ok ts
 
 -- the shape of a field, as the rules find it

@@ -8,7 +8,7 @@ use Rattle.ioa_terms.specs.Resolved.{IsResolvedTarget, IsResolvedStatement, AreA
 use Rattle.ioa_terms.specs.Sorted.{NameShapes, HasShape, shape_in_terms}
 use Rattle.ioa_source.specs.Erasure.{erase_term, erase_target, erase_statement, erase_statements, erase_arms}
 use Rattle.ioa_source.specs.Sides.{SourceStatement}
-use Rattle.ioa_sort_rules.specs.declared.fault.SortFault.{SortFault}
+use Rattle.ioa_sort_rules.specs.declared.refusal.Refusal.{Refusal}
 use Rattle.ioa_sort_rules.specs.Rows.{value_of_field}
 use Rattle.ioa_sorts.specs.Sorting.{SortedTerm, fit, sorting}
 use Rattle.ioa_sorts.specs.Statements.{SortedTarget, SortedStatement, SortedStatements, PlainTypedTarget, typed_target, all_ok, whole_target, key_target, field_target, target_sorting, assignment_sorting, statement_sorting, statement_sortings, arm_sortings}
@@ -17,13 +17,13 @@ use Rattle.ioa_sorts.specs.Determined.{IsDetermined}
 use Rattle.ioa_terms.specs.Resolved.{IsResolved}
 use Rattle.ioa_sorts.proofs.Complete.{named_is_at, declared_found, field_found, finds}
 
-abbrev pub target_is : SortedTarget → PlainShape → Result PlainTypedTarget SortFault
+abbrev pub target_is : SortedTarget → PlainShape → Result PlainTypedTarget Refusal
 target_is p s = Ok (typed_target p s)
 
-abbrev pub statement_is : SortedStatement → Result SortedStatement SortFault
+abbrev pub statement_is : SortedStatement → Result SortedStatement Refusal
 statement_is s = Ok s
 
-abbrev term_is : SortedTerm → Result SortedTerm SortFault
+abbrev term_is : SortedTerm → Result SortedTerm Refusal
 term_is t = Ok t
 
 -- statements and arms as lists
@@ -43,10 +43,10 @@ arms_listed : (ts : PlainArms ℕ Shape) → arms_of (listed_arms ts) ≡ ts
 arms_listed no_arms = refl
 arms_listed (arm t body more) = ap (arm t body) (arms_listed more)
 
-abbrev statements_are : List SortedStatement → Result (List SortedStatement) SortFault
+abbrev statements_are : List SortedStatement → Result (List SortedStatement) Refusal
 statements_are ss = Ok ss
 
-abbrev arms_are : List (SortedTerm × SortedStatements) → Result (List (SortedTerm × SortedStatements)) SortFault
+abbrev arms_are : List (SortedTerm × SortedStatements) → Result (List (SortedTerm × SortedStatements)) Refusal
 arms_are ts = Ok ts
 
 whole_found : (x : List ℕ) (at : ℕ) (d : PlainShape) → target_is (variable x at d) (shape_in_terms d) ≡ whole_target x (named_is_at at d)

@@ -16,8 +16,8 @@ use Rattle.ioa_terms.specs.Resolved.{AreTermsResolved}
 use Rattle.ioa_terms.specs.Sorted.{NameShapes, HaveShapes, DisplayIs, FunctionIs, BinaryIs, shape_named, shape_in_terms, field_shape, listed_shapes}
 use Rattle.ioa_source.specs.Erasure.{erase_terms}
 use Rattle.ioa_source.specs.Sides.{SourceTerm, SourceTerms}
-use Rattle.ioa_sort_rules.specs.declared.fault.SortFault.{SortFault}
-use Rattle.ioa_sort_rules.specs.declared.fault.SortFault.TheVariants.{Sorts}
+use Rattle.ioa_sort_rules.specs.declared.refusal.Refusal.{Refusal}
+use Rattle.ioa_sort_rules.specs.declared.refusal.Refusal.TheVariants.{Sorts}
 use Rattle.ioa_sort_rules.specs.declared.kinds.Single.{Single}
 use Rattle.ioa_sort_rules.specs.declared.kinds.Pairing.{Pairing}
 use Rattle.ioa_sort_rules.specs.declared.kinds.Pairing.TheVariants.{Both, Membership, Prepend, Append, Members, At, Removal, Definition}
@@ -147,10 +147,10 @@ binary_rule : (op : BinaryOperator) (x y s : PlainShape) → (other_of_left (pai
 binary_rule op x y s (inl h) = left_is op x y s h
 binary_rule op x y s (inr h) = right_is op x y s h
 
-abbrev pub own_is : SortedTerm → PlainShape → Result (Option PlainTyped) SortFault
+abbrev pub own_is : SortedTerm → PlainShape → Result (Option PlainTyped) Refusal
 own_is t s = Ok (Some (typed t s))
 
-abbrev pub fit_is : SortedTerm → Result SortedTerm SortFault
+abbrev pub fit_is : SortedTerm → Result SortedTerm Refusal
 fit_is t = Ok t
 
 module _ (types : TupleTypes) (names : NameShapes) where
@@ -191,7 +191,7 @@ module _ (types : TupleTypes) (names : NameShapes) where
   part_good k u None h = tt
   part_good k u (Some p) h = by_value (value_of_one k p.shape) refl (one_declared types k p.shape h.1.declared)
     where
-      by_value : (r : Result PlainShape SortFault) → value_of_one k p.shape ≡ r → IfOk r (IsDeclared types) → IfOk (and_then r (λ s. Ok (typed p.tree s))) (IsPart types names k u)
+      by_value : (r : Result PlainShape Refusal) → value_of_one k p.shape ≡ r → IfOk r (IsDeclared types) → IfOk (and_then r (λ s. Ok (typed p.tree s))) (IsPart types names k u)
       by_value (Ok s) e d = record { part = p.shape; found = h.1; value = e; declared = d; bare = h.0 }
       by_value (Err x) e d = tt
 
@@ -205,7 +205,7 @@ module _ (types : TupleTypes) (names : NameShapes) where
     right_tells_good l bare h None q = tt
     right_tells_good l bare h (Some r) q = by_other (other_of_right k r.shape) refl (right_declared types k r.shape q.1.declared)
       where
-        by_other : (o : Result PlainSides SortFault) → other_of_right k r.shape ≡ o → IfOk o (AreBoth types) → IfOk (and_then o (λ p. and_then (fit_typed p.other l) (λ t. Ok (pair t r.tree p.whole)))) (IsPairOf types names k u v)
+        by_other : (o : Result PlainSides Refusal) → other_of_right k r.shape ≡ o → IfOk o (AreBoth types) → IfOk (and_then o (λ p. and_then (fit_typed p.other l) (λ t. Ok (pair t r.tree p.whole)))) (IsPairOf types names k u v)
         by_other (Ok p) e d = chain (λ t. IsFound types names u t p.other) (IsPairOf types names k u v) (λ t. Ok (pair t r.tree p.whole)) (fit_typed p.other l) (typed_good u l p.other h d.0)
             (λ t found. record { x = p.other; y = r.shape; first = found; second = q.1; rule = inr e; declared = d.1; told = rw (bare, q.0) (both_told k) })
         by_other (Err x) e d = tt
@@ -214,7 +214,7 @@ module _ (types : TupleTypes) (names : NameShapes) where
     unfolding left_known
     left_known_good l bare h g good = by_other (other_of_left k l.shape) refl (left_declared types k l.shape h.declared)
       where
-        by_other : (o : Result (Option PlainSides) SortFault) → other_of_left k l.shape ≡ o → IfOk o (AreBothIfTold types) → IfOk (and_then o (left_tells k l g)) (IsPairOf types names k u v)
+        by_other : (o : Result (Option PlainSides) Refusal) → other_of_left k l.shape ≡ o → IfOk o (AreBothIfTold types) → IfOk (and_then o (left_tells k l g)) (IsPairOf types names k u v)
         by_other (Ok (Some p)) e d = chain (λ t. IsFound types names v t p.other) (IsPairOf types names k u v) (λ t. Ok (pair l.tree t p.whole)) (fit g p.other) (fit_good v g p.other good d.0)
             (λ t found. record { x = l.shape; y = p.other; first = h; second = found; rule = inl e; declared = d.1; told = rw bare (left_told k l.shape p (is_display v) e) })
         by_other (Ok None) e d = chain (IsKnown v) (IsPairOf types names k u v) (right_tells k l) (infer g) (infer_good v g good) (right_tells_good l bare h)
@@ -224,7 +224,7 @@ module _ (types : TupleTypes) (names : NameShapes) where
     unfolding right_known
     right_known_good f good shut r bare h = by_other (other_of_right k r.shape) refl (right_declared types k r.shape h.declared)
       where
-        by_other : (o : Result PlainSides SortFault) → other_of_right k r.shape ≡ o → IfOk o (AreBoth types) → IfOk (and_then o (λ p. and_then (fit f p.other) (λ t. Ok (pair t r.tree p.whole)))) (IsPairOf types names k u v)
+        by_other : (o : Result PlainSides Refusal) → other_of_right k r.shape ≡ o → IfOk o (AreBoth types) → IfOk (and_then o (λ p. and_then (fit f p.other) (λ t. Ok (pair t r.tree p.whole)))) (IsPairOf types names k u v)
         by_other (Ok p) e d = chain (λ t. IsFound types names u t p.other) (IsPairOf types names k u v) (λ t. Ok (pair t r.tree p.whole)) (fit f p.other) (fit_good u f p.other good d.0)
             (λ t found. record { x = p.other; y = r.shape; first = found; second = h; rule = inr e; declared = d.1; told = rw (shut, bare) (right_told k r.shape p e) })
         by_other (Err x) e d = tt
@@ -408,7 +408,7 @@ module _ (types : TupleTypes) (names : NameShapes) where
   parts_good Braces (sets s) us fs g d = all_good s us fs g d
   parts_good Braces (maps k v) us fs g d = kept (each_fit fs []) (each_good [] us fs g tt)
     where
-      kept : (r : Result (List SortedTerm) SortFault) → IfOk r (λ ts. AreFound types names us ts []) → IfOk r (AreParts Braces (maps k v) us)
+      kept : (r : Result (List SortedTerm) Refusal) → IfOk r (λ ts. AreFound types names us ts []) → IfOk r (AreParts Braces (maps k v) us)
       kept (Ok ts) h = ([], h, refl)
       kept (Err e) h = tt
   parts_good Brackets truths us fs g d = tt
@@ -417,7 +417,7 @@ module _ (types : TupleTypes) (names : NameShapes) where
   parts_good Brackets (constants w k n) us fs g d = tt
   parts_good Brackets (tuples w ns ss) us fs g d = kept (each_fit fs (map shape_in_terms (listed_shapes ss))) (each_good (map shape_in_terms (listed_shapes ss)) us fs g (listed types ss d.1))
     where
-      kept : (r : Result (List SortedTerm) SortFault) → IfOk r (λ ts. AreFound types names us ts (map shape_in_terms (listed_shapes ss))) → IfOk r (AreParts Brackets (tuples w ns ss) us)
+      kept : (r : Result (List SortedTerm) Refusal) → IfOk r (λ ts. AreFound types names us ts (map shape_in_terms (listed_shapes ss))) → IfOk r (AreParts Brackets (tuples w ns ss) us)
       kept (Ok ts) h = (map shape_in_terms (listed_shapes ss), h, refl)
       kept (Err e) h = tt
   parts_good Brackets (sequences s) us fs g d = tt
@@ -444,7 +444,7 @@ module _ (types : TupleTypes) (names : NameShapes) where
   unfolding field_known
   field_good w u f g = (refl, chain (IsKnown u) (λ p. IsFound types names (field u w tt) p.tree p.shape) (field_known w) (infer f) (infer_good u f g) by_whole)
     where
-      by_value : (t : PlainTyped) → (is_display u ≡ false) → IsFound types names u t.tree t.shape → (r : Result PlainShape SortFault) → value_of_field w t.shape ≡ r → IfOk r (IsDeclared types) → IfOk (and_then r (λ s. Ok (typed (field t.tree w t.shape) s))) (λ p. IsFound types names (field u w tt) p.tree p.shape)
+      by_value : (t : PlainTyped) → (is_display u ≡ false) → IsFound types names u t.tree t.shape → (r : Result PlainShape Refusal) → value_of_field w t.shape ≡ r → IfOk r (IsDeclared types) → IfOk (and_then r (λ s. Ok (typed (field t.tree w t.shape) s))) (λ p. IsFound types names (field u w tt) p.tree p.shape)
       by_value t bare h (Err x) e d = tt
       by_value t bare h (Ok s) e d = record {
         of = record {

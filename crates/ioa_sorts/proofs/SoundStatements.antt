@@ -8,7 +8,7 @@ use Rattle.ioa_terms.specs.Resolved.{IsResolvedTarget, AreArmsResolved, AreAllRe
 use Rattle.ioa_terms.specs.Sorted.{NameShapes, shape_in_terms}
 use Rattle.ioa_source.specs.Erasure.{erase_target, erase_statements, erase_arms}
 use Rattle.ioa_source.specs.Sides.{SourceTarget, SourceTerm, SourceStatement, SourceStatements, SourceArms}
-use Rattle.ioa_sort_rules.specs.declared.fault.SortFault.{SortFault}
+use Rattle.ioa_sort_rules.specs.declared.refusal.Refusal.{Refusal}
 use Rattle.ioa_sort_rules.specs.Rows.{entry_of, value_of_field}
 use Rattle.ioa_sorts.specs.Sorting.{SortedTerm, fit, declared_at, sorting}
 use Rattle.ioa_sorts.specs.Statements.{SortedStatement, SortedStatements, PlainTypedTarget, typed_target, all_ok, whole_target, key_target, field_target, target_sorting, assignment_sorting, statement_sorting, statement_sortings, arm_sortings}
@@ -72,7 +72,7 @@ module _ (types : TupleTypes) (variables names : NameShapes) (declared_variables
   field_good x f None h = tt
   field_good x f (Some p) h = by_value (value_of_field f p.1) refl (field_declared types f p.1 h.declared)
     where
-      by_value : (r : Result PlainShape SortFault) → value_of_field f p.1 ≡ r → IfOk r (IsDeclared types) → IfOk (and_then r (λ s. Ok (typed_target (at_field x p.0 p.1 f) s))) (IsTargetOf types variables names (at_field x tt tt f))
+      by_value : (r : Result PlainShape Refusal) → value_of_field f p.1 ≡ r → IfOk r (IsDeclared types) → IfOk (and_then r (λ s. Ok (typed_target (at_field x p.0 p.1 f) s))) (IsTargetOf types variables names (at_field x tt tt f))
       by_value (Ok s) e d = record { same = refl; resolved = h.slot; holds = (h.shape, field_is f p.1 s e); declared = d; determined = tt }
       by_value (Err x) e d = tt
 

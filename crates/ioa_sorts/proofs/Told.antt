@@ -10,8 +10,8 @@ use Rattle.ioa_terms.specs.declared.name.Name.{Name}
 use Rattle.ioa_terms.specs.PlainTerm.{number, truth, name, one, two, call, display, field, no_terms, term, terms_of}
 use Rattle.ioa_terms.specs.Sorted.{NameShapes, shape_in_terms, field_shape, listed_shapes}
 use Rattle.ioa_source.specs.Sides.{SourceTerm, SourceTerms}
-use Rattle.ioa_sort_rules.specs.declared.fault.SortFault.{SortFault}
-use Rattle.ioa_sort_rules.specs.declared.fault.SortFault.TheVariants.{Unknown, Sorts, EmptyOfWhat}
+use Rattle.ioa_sort_rules.specs.declared.refusal.Refusal.{Refusal}
+use Rattle.ioa_sort_rules.specs.declared.refusal.Refusal.TheVariants.{Unknown, Sorts, EmptyOfWhat}
 use Rattle.ioa_sort_rules.specs.declared.kinds.Single.{Single}
 use Rattle.ioa_sort_rules.specs.declared.kinds.Pairing.{Pairing}
 use Rattle.ioa_sort_rules.specs.declared.kinds.Pairing.TheVariants.{Both, Membership, Prepend, Append, Members, At, Removal, Definition}
@@ -27,19 +27,19 @@ use Rattle.ioa_sorts.specs.Sorting.{PlainTyped, typed, pair, update, Sorting, ow
 use Rattle.ioa_sorts.specs.Determined.{is_display, displays, tells, tells_update, tells_parts, tells_call, IsDetermined, AreDetermined}
 use Rattle.ioa_sorts.proofs.Complete.{none_told}
 
--- a result is a value of a kind, or a fault other than `EmptyOfWhat` (32)
-abbrev pub Calmly : {A : Type 0} → (A → Type 0) → Result A SortFault → Type 0
+-- a result is a value of a kind, or a refusal other than `EmptyOfWhat` (32)
+abbrev pub Calmly : {A : Type 0} → (A → Type 0) → Result A Refusal → Type 0
 Calmly P (Ok x) = P x
 Calmly P (Err e) = e ≡ EmptyOfWhat → ⊥
 
 abbrev pub Anything : {A : Type 0} → A → Type 0
 Anything x = Unit {0}
 
-pub calm_chain : {A B : Type 0} (P : A → Type 0) (Q : B → Type 0) (f : A → Result B SortFault) (r : Result A SortFault) → Calmly P r → ((x : A) → P x → Calmly Q (f x)) → Calmly Q (and_then r f)
+pub calm_chain : {A B : Type 0} (P : A → Type 0) (Q : B → Type 0) (f : A → Result B Refusal) (r : Result A Refusal) → Calmly P r → ((x : A) → P x → Calmly Q (f x)) → Calmly Q (and_then r f)
 calm_chain P Q f (Ok x) h g = g x h
 calm_chain P Q f (Err e) h g = h
 
-pub calm_end : {A B : Type 0} (P : A → Type 0) (f : A → B) (r : Result A SortFault) → Calmly P r → Calmly Anything (and_then r (λ x. Ok (f x)))
+pub calm_end : {A B : Type 0} (P : A → Type 0) (f : A → B) (r : Result A Refusal) → Calmly P r → Calmly Anything (and_then r (λ x. Ok (f x)))
 calm_end P f (Ok x) h = tt
 calm_end P f (Err e) h = h
 
@@ -461,7 +461,7 @@ module _ (names : NameShapes) where
   fit_is_calm u s d = fit_calm (is_display u) (sorting names u) s (calm u d)
 
   -- the law
-  pub told : {A : Type 0} (P : A → Type 0) (r : Result A SortFault) → Calmly P r → r ≡ Err EmptyOfWhat → ⊥
+  pub told : {A : Type 0} (P : A → Type 0) (r : Result A Refusal) → Calmly P r → r ≡ Err EmptyOfWhat → ⊥
   told P (Ok x) h e = absurd (cc)
   told P (Err f) h e = let g : f ≡ EmptyOfWhat = cc in h g
 

@@ -6,7 +6,7 @@ use Rattle.ioa_terms.specs.declared.name.Name.TheVariants.{Word}
 use Rattle.ioa_terms.specs.PlainTerm.{variable, at_key, at_field, assign, branch, no_statements, statement, statements_of, no_arms, arm, arms_of}
 use Rattle.ioa_terms.specs.Sorted.{NameShapes, shape_in_terms}
 use Rattle.ioa_source.specs.Sides.{SourceTarget, SourceTerm, SourceStatement, SourceStatements, SourceArms}
-use Rattle.ioa_sort_rules.specs.declared.fault.SortFault.TheVariants.{EmptyOfWhat}
+use Rattle.ioa_sort_rules.specs.declared.refusal.Refusal.TheVariants.{EmptyOfWhat}
 use Rattle.ioa_sort_rules.specs.Rows.{entry_of, value_of_field}
 use Rattle.ioa_sorts.specs.Sorting.{fit, declared_at, sorting}
 use Rattle.ioa_sorts.specs.Statements.{typed_target, all_ok, whole_target, key_target, field_target, target_sorting, statement_sorting, statement_sortings, arm_sortings}

@@ -15,8 +15,8 @@ use Rattle.ioa_terms.specs.PlainTerm.{PlainTerm, number, truth, name, one, two, 
 use Rattle.ioa_terms.specs.PlainTerm.{no_terms, term, terms_of}
 use Rattle.ioa_terms.specs.Sorted.{NameShapes, shape_in_terms, listed_shapes}
 use Rattle.ioa_source.specs.Sides.{SourceTerm, SourceTerms}
-use Rattle.ioa_sort_rules.specs.declared.fault.SortFault.{SortFault}
-use Rattle.ioa_sort_rules.specs.declared.fault.SortFault.TheVariants.{Unknown, Sorts, EmptyOfWhat}
+use Rattle.ioa_sort_rules.specs.declared.refusal.Refusal.{Refusal}
+use Rattle.ioa_sort_rules.specs.declared.refusal.Refusal.TheVariants.{Unknown, Sorts, EmptyOfWhat}
 use Rattle.ioa_sort_rules.specs.declared.kinds.Single.{Single}
 use Rattle.ioa_sort_rules.specs.declared.kinds.Pairing.{Pairing}
 use Rattle.ioa_sort_rules.specs.declared.kinds.Arity.{Arity}
@@ -57,143 +57,143 @@ pub record PlainUpdate : Type 0 where
 abbrev pub update : SortedTerm → SortedTerm → SortedTerm → PlainShape → PlainUpdate
 update m k v s = record { map = m; key = k; value = v; whole = s }
 
--- a term has a shape of its own or a fault; a display is a term, or a fault, by the shape that is asked of it
+-- a term has a shape of its own or a refusal; a display is a term, or a refusal, by the shape that is asked of it
 pub data Sorting : Type 0 where
-  own : Result PlainTyped SortFault → Sorting
-  given : (PlainShape → Result SortedTerm SortFault) → Sorting
+  own : Result PlainTyped Refusal → Sorting
+  given : (PlainShape → Result SortedTerm Refusal) → Sorting
 
 -- the term with its own shape; a display has none
-abbrev pub infer : Sorting → Result (Option PlainTyped) SortFault
+abbrev pub infer : Sorting → Result (Option PlainTyped) Refusal
 infer (own r) = and_then r (λ t. Ok (Some t))
 infer (given f) = Ok None
 
 -- the same of a term that is no display
-abbrev pub known : Sorting → Result PlainTyped SortFault
+abbrev pub known : Sorting → Result PlainTyped Refusal
 known (own r) = r
 known (given f) = Err EmptyOfWhat
 
 -- a term with its own shape, if that is the one asked
-unfoldable pub fit_typed : PlainShape → PlainTyped → Result SortedTerm SortFault
+unfoldable pub fit_typed : PlainShape → PlainTyped → Result SortedTerm Refusal
 fit_typed s t = if same_sort t.shape s then Ok t.tree else Err Sorts
 
 -- the term at a shape
-abbrev pub fit : Sorting → PlainShape → Result SortedTerm SortFault
+abbrev pub fit : Sorting → PlainShape → Result SortedTerm Refusal
 fit (own r) s = and_then r (fit_typed s)
 fit (given f) s = f s
 
 -- the part of a form of one
-unfoldable pub part_known : Single → Option PlainTyped → Result PlainTyped SortFault
+unfoldable pub part_known : Single → Option PlainTyped → Result PlainTyped Refusal
 part_known k None = Err (undetermined_alone k)
 part_known k (Some t) = and_then (value_of_one k t.shape) (λ s. Ok (typed t.tree s))
 
-abbrev pub one_part : Single → Sorting → Result PlainTyped SortFault
+abbrev pub one_part : Single → Sorting → Result PlainTyped Refusal
 one_part k f = and_then (infer f) (part_known k)
 
 -- the parts of a form of two, if the right one has to tell: it does by its own shape
-unfoldable pub right_tells : Pairing → PlainTyped → Option PlainTyped → Result PlainPair SortFault
+unfoldable pub right_tells : Pairing → PlainTyped → Option PlainTyped → Result PlainPair Refusal
 right_tells k l None = Err (undetermined k)
 right_tells k l (Some r) = and_then (other_of_right k r.shape)
     (λ p. and_then (fit_typed p.other l) (λ t. Ok (pair t r.tree p.whole)))
 
 -- the parts, by what the left one tells
-abbrev pub left_tells : Pairing → PlainTyped → Sorting → Option PlainSides → Result PlainPair SortFault
+abbrev pub left_tells : Pairing → PlainTyped → Sorting → Option PlainSides → Result PlainPair Refusal
 left_tells k l g (Some p) = and_then (fit g p.other) (λ t. Ok (pair l.tree t p.whole))
 left_tells k l g None = and_then (infer g) (right_tells k l)
 
 -- the parts, if the left one has a shape of its own
-unfoldable pub left_known : Pairing → PlainTyped → Sorting → Result PlainPair SortFault
+unfoldable pub left_known : Pairing → PlainTyped → Sorting → Result PlainPair Refusal
 left_known k l g = and_then (other_of_left k l.shape) (left_tells k l g)
 
 -- the parts, if the left one is a display and the right one has a shape of its own
-unfoldable pub right_known : Pairing → Sorting → PlainTyped → Result PlainPair SortFault
+unfoldable pub right_known : Pairing → Sorting → PlainTyped → Result PlainPair Refusal
 right_known k f r = and_then (other_of_right k r.shape)
     (λ p. and_then (fit f p.other) (λ t. Ok (pair t r.tree p.whole)))
 
-abbrev pub right_first : Pairing → Sorting → Option PlainTyped → Result PlainPair SortFault
+abbrev pub right_first : Pairing → Sorting → Option PlainTyped → Result PlainPair Refusal
 right_first k f None = Err (undetermined k)
 right_first k f (Some r) = right_known k f r
 
-abbrev pub left_first : Pairing → Sorting → Sorting → Option PlainTyped → Result PlainPair SortFault
+abbrev pub left_first : Pairing → Sorting → Sorting → Option PlainTyped → Result PlainPair Refusal
 left_first k f g None = and_then (infer g) (right_first k f)
 left_first k f g (Some l) = left_known k l g
 
 -- the parts of a form of two: the left one's shape is asked first
-abbrev pub two_parts : Pairing → Sorting → Sorting → Result PlainPair SortFault
+abbrev pub two_parts : Pairing → Sorting → Sorting → Result PlainPair Refusal
 two_parts k f g = and_then (infer f) (left_first k f g)
 
 -- the parts of `update`, if the map has a shape of its own
-unfoldable pub map_known : PlainTyped → Sorting → Sorting → Result PlainUpdate SortFault
+unfoldable pub map_known : PlainTyped → Sorting → Sorting → Result PlainUpdate Refusal
 map_known m g h = and_then (entry_of m.shape)
     (λ p. and_then (fit g p.other) (λ k. and_then (fit h p.whole) (λ v. Ok (update m.tree k v m.shape))))
 
 -- the parts of `update`, if the map is a display: the key and the value tell its shape
-abbrev pub value_first : PlainTyped → Sorting → Option PlainTyped → Result PlainUpdate SortFault
+abbrev pub value_first : PlainTyped → Sorting → Option PlainTyped → Result PlainUpdate Refusal
 value_first k f None = Err EmptyOfWhat
 value_first k f (Some v) =
     and_then (fit f (maps k.shape v.shape)) (λ m. Ok (update m k.tree v.tree (maps k.shape v.shape)))
 
-unfoldable pub key_known : PlainTyped → Sorting → Sorting → Result PlainUpdate SortFault
+unfoldable pub key_known : PlainTyped → Sorting → Sorting → Result PlainUpdate Refusal
 key_known k f h = and_then (infer h) (value_first k f)
 
-abbrev pub key_first : Sorting → Sorting → Option PlainTyped → Result PlainUpdate SortFault
+abbrev pub key_first : Sorting → Sorting → Option PlainTyped → Result PlainUpdate Refusal
 key_first f h None = Err EmptyOfWhat
 key_first f h (Some k) = key_known k f h
 
-abbrev pub map_first : Sorting → Sorting → Sorting → Option PlainTyped → Result PlainUpdate SortFault
+abbrev pub map_first : Sorting → Sorting → Sorting → Option PlainTyped → Result PlainUpdate Refusal
 map_first f g h None = and_then (infer g) (key_first f h)
 map_first f g h (Some m) = map_known m g h
 
-abbrev pub three_parts : Sorting → Sorting → Sorting → Result PlainUpdate SortFault
+abbrev pub three_parts : Sorting → Sorting → Sorting → Result PlainUpdate Refusal
 three_parts f g h = and_then (infer f) (map_first f g h)
 
 -- a call of a function of one, two or three parts; another number of parts is refused
-unfoldable pub call_one : List ℕ → Single → List Sorting → Result PlainTyped SortFault
+unfoldable pub call_one : List ℕ → Single → List Sorting → Result PlainTyped Refusal
 call_one w k (f ∷ []) = and_then (one_part k f) (λ t. Ok (typed (call w (term t.tree no_terms)) t.shape))
 call_one w k fs = Err Sorts
 
-unfoldable pub call_two : List ℕ → Pairing → List Sorting → Result PlainTyped SortFault
+unfoldable pub call_two : List ℕ → Pairing → List Sorting → Result PlainTyped Refusal
 call_two w k (f ∷ g ∷ []) =
     and_then (two_parts k f g) (λ p. Ok (typed (call w (term p.left (term p.right no_terms))) p.whole))
 call_two w k fs = Err Sorts
 
-unfoldable pub call_three : List ℕ → List Sorting → Result PlainTyped SortFault
+unfoldable pub call_three : List ℕ → List Sorting → Result PlainTyped Refusal
 call_three w (f ∷ g ∷ h ∷ []) = and_then (three_parts f g h)
     (λ u. Ok (typed (call w (term u.map (term u.key (term u.value no_terms)))) u.whole))
 call_three w fs = Err Sorts
 
-unfoldable pub call_of_arity : List ℕ → List Sorting → Arity → Result PlainTyped SortFault
+unfoldable pub call_of_arity : List ℕ → List Sorting → Arity → Result PlainTyped Refusal
 call_of_arity w fs (One k) = call_one w k fs
 call_of_arity w fs (Two k) = call_two w k fs
 call_of_arity w fs Update = call_three w fs
 
-abbrev pub call_of_function : List ℕ → List Sorting → Option Function → Result PlainTyped SortFault
+abbrev pub call_of_function : List ℕ → List Sorting → Option Function → Result PlainTyped Refusal
 call_of_function w fs None = Err Unknown
 call_of_function w fs (Some f) = call_of_arity w fs (arity_of f)
 
 -- terms that all have one shape, and terms that have shapes one by one
-abbrev pub all_fit : List Sorting → PlainShape → Result (List SortedTerm) SortFault
+abbrev pub all_fit : List Sorting → PlainShape → Result (List SortedTerm) Refusal
 all_fit [] s = Ok []
 all_fit (f ∷ fs) s = and_then (fit f s) (λ t. and_then (all_fit fs s) (λ ts. Ok (t ∷ ts)))
 
-abbrev pub each_fit : List Sorting → List PlainShape → Result (List SortedTerm) SortFault
+abbrev pub each_fit : List Sorting → List PlainShape → Result (List SortedTerm) Refusal
 each_fit [] [] = Ok []
 each_fit (f ∷ fs) (s ∷ ss) = and_then (fit f s) (λ t. and_then (each_fit fs ss) (λ ts. Ok (t ∷ ts)))
 each_fit fs ss = Err Sorts
 
 -- the parts of a display that has a shape: `{..}` is a sequence or a set of items, or an empty map, and `[..]` is a
 -- tuple of all its type's fields
-unfoldable pub display_parts : DisplayForm → List Sorting → PlainShape → Result (List SortedTerm) SortFault
+unfoldable pub display_parts : DisplayForm → List Sorting → PlainShape → Result (List SortedTerm) Refusal
 display_parts Braces fs (sequences s) = all_fit fs s
 display_parts Braces fs (sets s) = all_fit fs s
 display_parts Braces fs (maps k v) = each_fit fs []
 display_parts Brackets fs (tuples w names fields) = each_fit fs (map shape_in_terms (listed_shapes fields))
 display_parts form fs s = Err Sorts
 
-abbrev pub display_at : DisplayForm → List Sorting → PlainShape → Result SortedTerm SortFault
+abbrev pub display_at : DisplayForm → List Sorting → PlainShape → Result SortedTerm Refusal
 display_at form fs s = and_then (display_parts form fs s) (λ ts. Ok (display form s (terms_of ts)))
 
 -- a field of a tuple
-unfoldable pub field_known : List ℕ → Option PlainTyped → Result PlainTyped SortFault
+unfoldable pub field_known : List ℕ → Option PlainTyped → Result PlainTyped Refusal
 field_known w None = Err EmptyOfWhat
 field_known w (Some t) = and_then (value_of_field w t.shape) (λ s. Ok (typed (field t.tree w t.shape) s))
 
@@ -207,7 +207,7 @@ declared_at x (n ∷ names) =
 abbrev pub named : Name → NameShapes → Option (ℕ × PlainShape)
 named x names = option_map (λ p. (p.0, shape_in_terms p.1)) (declared_at x names)
 
-abbrev pub name_known : Name → Option (ℕ × PlainShape) → Result PlainTyped SortFault
+abbrev pub name_known : Name → Option (ℕ × PlainShape) → Result PlainTyped Refusal
 name_known x None = Err Unknown
 name_known x (Some p) = Ok (typed (name x p.0) p.1)
 

@@ -4,7 +4,7 @@ ghost use Rattle.std.specs.Prelude.{◌≡◌, false, Some, Ok, Err};
 ghost use Rattle.ioa_operators.specs.Shapes.{PlainShape};
 ghost use Rattle.ioa_terms.specs.Sorted.{NameShapes};
 ghost use Rattle.ioa_source.specs.Sides.{SourceTerm, SourceStatement};
-ghost use Rattle.ioa_sort_rules.specs.declared.fault.SortFault.{SortFault};
+ghost use Rattle.ioa_sort_rules.specs.declared.refusal.Refusal.{Refusal};
 ghost use Rattle.ioa_sorts.specs.Sorting.{SortedTerm, typed, infer, fit, sorting};
 ghost use Rattle.ioa_sorts.specs.Determined.{is_display, IsDetermined};
 ghost use Rattle.ioa_sort_rules.specs.DeclaredTypes.{TupleTypes, IsDeclared, AreAllDeclared};
@@ -30,9 +30,9 @@ pub fn sorts_law()
         is_display u ≡ false → infer (sorting names u) ≡ Ok (Some (typed t s)) }
     // if each display is determined, the term is not refused for want of a sort
     ensures told { (names : NameShapes) (u : SourceTerm) → IsDetermined u → (s : PlainShape) →
-        fit (sorting names u) s ≡ Err SortFault.EmptyOfWhat → ⊥ }
+        fit (sorting names u) s ≡ Err Refusal.EmptyOfWhat → ⊥ }
     ensures told_own { (names : NameShapes) (u : SourceTerm) → IsDetermined u →
-        infer (sorting names u) ≡ Err SortFault.EmptyOfWhat → ⊥ }
+        infer (sorting names u) ≡ Err Refusal.EmptyOfWhat → ⊥ }
 {}
 
 /// The same of statements, where some names in view are variables, which may be assigned: a statement that the rules
@@ -46,5 +46,5 @@ pub fn statements_law()
     ensures found { (variables names : NameShapes) (u : SourceStatement) (s : SortedStatement) →
         IsStatementOf variables names u s → statement_sorting variables names u ≡ Ok s }
     ensures told { (variables names : NameShapes) (u : SourceStatement) → IsDeterminedStatement u →
-        statement_sorting variables names u ≡ Err SortFault.EmptyOfWhat → ⊥ }
+        statement_sorting variables names u ≡ Err Refusal.EmptyOfWhat → ⊥ }
 {}

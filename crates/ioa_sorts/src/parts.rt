@@ -11,7 +11,7 @@ ghost use Rattle.ioa_sorts.specs.SortingView.{typed_of};
 
 use crate::view::View;
 use ioa_sort_rules::{
-    Single, SortFault, is_same_sort, undetermined_alone, value_of_field, value_of_one,
+    Refusal, Single, is_same_sort, undetermined_alone, value_of_field, value_of_one,
 };
 use ioa_terms::{BinaryOperator, Checked, DisplayForm, Name, Shape, UnaryOperator, Word};
 use std::alloc::{AllocError, Global};
@@ -43,8 +43,8 @@ pub(crate) struct Update {
 }
 
 /// The term that a name is.
-pub(crate) fn name_known(alloc: Global, view: &View, name: &Name) -> Result<Typed, SortFault>
-    ensures { Answers SortFault.Memory typed_of result (spec.name_known name.now (spec.named name.now view.now)) }
+pub(crate) fn name_known(alloc: Global, view: &View, name: &Name) -> Result<Typed, Refusal>
+    ensures { Answers Refusal.Memory typed_of result (spec.name_known name.now (spec.named name.now view.now)) }
 {
     match view.find(name) {
         Some((slot, shape)) => {
@@ -52,18 +52,14 @@ pub(crate) fn name_known(alloc: Global, view: &View, name: &Name) -> Result<Type
             let shape = shape.try_copy(alloc)?;
             Ok(Typed { tree, shape })
         }
-        None => Err(SortFault::Unknown),
+        None => Err(Refusal::Unknown),
     }
 }
 
 /// The part of a form of one, with the shape of the form's value.
 #[tactic(auto, unfolding(crate::specs::Sorting::part_known))]
-pub(crate) fn part_known(
-    alloc: Global,
-    kind: Single,
-    part: Option<Typed>,
-) -> Result<Typed, SortFault>
-    ensures { Answers SortFault.Memory typed_of result (spec.part_known kind (option_map typed_of part)) }
+pub(crate) fn part_known(alloc: Global, kind: Single, part: Option<Typed>) -> Result<Typed, Refusal>
+    ensures { Answers Refusal.Memory typed_of result (spec.part_known kind (option_map typed_of part)) }
 {
     match part {
         Some(part) => {
@@ -79,13 +75,13 @@ pub(crate) fn part_known(
 
 /// The term, if its shape is the one asked.
 #[tactic(auto, unfolding(crate::specs::Sorting::fit_typed))]
-pub(crate) fn fit_typed(want: &Shape, typed: Typed) -> Result<Checked, SortFault>
-    ensures { Answers SortFault.Memory term_of result (spec.fit_typed want.now (typed_of typed)) }
+pub(crate) fn fit_typed(want: &Shape, typed: Typed) -> Result<Checked, Refusal>
+    ensures { Answers Refusal.Memory term_of result (spec.fit_typed want.now (typed_of typed)) }
 {
     if is_same_sort(&typed.shape, want) {
         Ok(typed.tree)
     } else {
-        Err(SortFault::Sorts)
+        Err(Refusal::Sorts)
     }
 }
 
@@ -185,8 +181,8 @@ pub(crate) fn field_known(
     alloc: Global,
     name: &Word,
     whole: Option<Typed>,
-) -> Result<Typed, SortFault>
-    ensures { Answers SortFault.Memory typed_of result (spec.field_known name.now (option_map typed_of whole)) }
+) -> Result<Typed, Refusal>
+    ensures { Answers Refusal.Memory typed_of result (spec.field_known name.now (option_map typed_of whole)) }
 {
     match whole {
         Some(whole) => {
@@ -197,6 +193,6 @@ pub(crate) fn field_known(
                 shape,
             })
         }
-        None => Err(SortFault::EmptyOfWhat),
+        None => Err(Refusal::EmptyOfWhat),
     }
 }

@@ -18,7 +18,7 @@ use crate::parts::{
 };
 use crate::view::View;
 use ioa_sort_rules::{
-    Arity, Pairing, Single, SortFault, arity_of, entry_of, map_of, other_of_left, other_of_right,
+    Arity, Pairing, Refusal, Single, arity_of, entry_of, map_of, other_of_left, other_of_right,
     pairing_of, shape_in_terms, single_of, undetermined,
 };
 use ioa_terms::{Checked, DisplayForm, Function, Shape, ShapeForm, Term, Word};
@@ -30,8 +30,8 @@ use std::alloc::Global;
 /// or fewer parts, `EmptyOfWhat` (32) if nothing gives a display its sort, and `Memory` (3) if no memory is left.
 /// Costs time in proportion to the term and to the shapes of its parts.
 #[cycle(sorting)]
-pub fn infer(alloc: Global, view: &View, term: &Term) -> Result<Option<Typed>, SortFault>
-    ensures { Answers SortFault.Memory (option_map typed_of) result
+pub fn infer(alloc: Global, view: &View, term: &Term) -> Result<Option<Typed>, Refusal>
+    ensures { Answers Refusal.Memory (option_map typed_of) result
         (spec.infer (spec.sorting view.now (term_of term.now))) }
 {
     match term {
@@ -43,8 +43,8 @@ pub fn infer(alloc: Global, view: &View, term: &Term) -> Result<Option<Typed>, S
 /// The term at a shape, in which naturals count as integers. Returns what `infer` does, and `Sorts` (22) if the term
 /// has another shape.
 #[cycle(sorting)]
-pub fn fit(alloc: Global, view: &View, term: &Term, want: &Shape) -> Result<Checked, SortFault>
-    ensures { Answers SortFault.Memory term_of result
+pub fn fit(alloc: Global, view: &View, term: &Term, want: &Shape) -> Result<Checked, Refusal>
+    ensures { Answers Refusal.Memory term_of result
         (spec.fit (spec.sorting view.now (term_of term.now)) want.now) }
 {
     match term {
@@ -55,8 +55,8 @@ pub fn fit(alloc: Global, view: &View, term: &Term, want: &Shape) -> Result<Chec
 
 /// A term that is no display, and the shape of its value.
 #[cycle(sorting)]
-fn known(alloc: Global, view: &View, term: &Term) -> Result<Typed, SortFault>
-    ensures { Answers SortFault.Memory typed_of result (spec.known (spec.sorting view.now (term_of term.now))) }
+fn known(alloc: Global, view: &View, term: &Term) -> Result<Typed, Refusal>
+    ensures { Answers Refusal.Memory typed_of result (spec.known (spec.sorting view.now (term_of term.now))) }
 {
     match term {
         Term::Number(n) => Ok(Typed {
@@ -78,7 +78,7 @@ fn known(alloc: Global, view: &View, term: &Term) -> Result<Typed, SortFault>
             Ok(two_term(alloc, *operator, parts)?)
         }
         Term::Call(name, parts) => call(alloc, view, parts, name),
-        Term::Display(_, _, _) => Err(SortFault::EmptyOfWhat),
+        Term::Display(_, _, _) => Err(Refusal::EmptyOfWhat),
         Term::Field(a, name, _) => {
             let whole = infer(alloc, view, a)?;
             field_known(alloc, name, whole)
@@ -88,14 +88,8 @@ fn known(alloc: Global, view: &View, term: &Term) -> Result<Typed, SortFault>
 
 /// The parts of a form of two.
 #[cycle(sorting)]
-fn two_parts(
-    alloc: Global,
-    view: &View,
-    a: &Term,
-    b: &Term,
-    kind: Pairing,
-) -> Result<Pair, SortFault>
-    ensures { Answers SortFault.Memory pair_of result (spec.two_parts kind
+fn two_parts(alloc: Global, view: &View, a: &Term, b: &Term, kind: Pairing) -> Result<Pair, Refusal>
+    ensures { Answers Refusal.Memory pair_of result (spec.two_parts kind
         (spec.sorting view.now (term_of a.now)) (spec.sorting view.now (term_of b.now))) }
 {
     match infer(alloc, view, a)? {
@@ -116,8 +110,8 @@ fn left_known(
     b: &Term,
     kind: Pairing,
     left: Typed,
-) -> Result<Pair, SortFault>
-    ensures { Answers SortFault.Memory pair_of result
+) -> Result<Pair, Refusal>
+    ensures { Answers Refusal.Memory pair_of result
         (spec.left_known kind (typed_of left) (spec.sorting view.now (term_of b.now))) }
 {
     match other_of_left(alloc, kind, &left.shape)? {
@@ -143,8 +137,8 @@ fn right_tells(
     kind: Pairing,
     left: Typed,
     right: Option<Typed>,
-) -> Result<Pair, SortFault>
-    ensures { Answers SortFault.Memory pair_of result
+) -> Result<Pair, Refusal>
+    ensures { Answers Refusal.Memory pair_of result
         (spec.right_tells kind (typed_of left) (option_map typed_of right)) }
 {
     match right {
@@ -170,8 +164,8 @@ fn right_known(
     a: &Term,
     kind: Pairing,
     right: Typed,
-) -> Result<Pair, SortFault>
-    ensures { Answers SortFault.Memory pair_of result
+) -> Result<Pair, Refusal>
+    ensures { Answers Refusal.Memory pair_of result
         (spec.right_known kind (spec.sorting view.now (term_of a.now)) (typed_of right)) }
 {
     let sides = other_of_right(alloc, kind, &right.shape)?;
@@ -185,14 +179,8 @@ fn right_known(
 
 /// The parts of `update`.
 #[cycle(sorting)]
-fn three_parts(
-    alloc: Global,
-    view: &View,
-    a: &Term,
-    b: &Term,
-    d: &Term,
-) -> Result<Update, SortFault>
-    ensures { Answers SortFault.Memory update_of result (spec.three_parts
+fn three_parts(alloc: Global, view: &View, a: &Term, b: &Term, d: &Term) -> Result<Update, Refusal>
+    ensures { Answers Refusal.Memory update_of result (spec.three_parts
         (spec.sorting view.now (term_of a.now)) (spec.sorting view.now (term_of b.now))
         (spec.sorting view.now (term_of d.now))) }
 {
@@ -200,7 +188,7 @@ fn three_parts(
         Some(map) => map_known(alloc, view, b, d, map),
         None => match infer(alloc, view, b)? {
             Some(key) => key_known(alloc, view, a, d, key),
-            None => Err(SortFault::EmptyOfWhat),
+            None => Err(Refusal::EmptyOfWhat),
         },
     }
 }
@@ -208,14 +196,8 @@ fn three_parts(
 /// The parts of `update`, if the map has a shape of its own.
 #[cycle(sorting)]
 #[tactic(auto, unfolding(crate::specs::Sorting::map_known))]
-fn map_known(
-    alloc: Global,
-    view: &View,
-    b: &Term,
-    d: &Term,
-    map: Typed,
-) -> Result<Update, SortFault>
-    ensures { Answers SortFault.Memory update_of result (spec.map_known (typed_of map)
+fn map_known(alloc: Global, view: &View, b: &Term, d: &Term, map: Typed) -> Result<Update, Refusal>
+    ensures { Answers Refusal.Memory update_of result (spec.map_known (typed_of map)
         (spec.sorting view.now (term_of b.now)) (spec.sorting view.now (term_of d.now))) }
 {
     let sides = entry_of(alloc, &map.shape)?;
@@ -232,14 +214,8 @@ fn map_known(
 /// The parts of `update`, if the map is a display and the key has a shape of its own.
 #[cycle(sorting)]
 #[tactic(auto, unfolding(crate::specs::Sorting::key_known))]
-fn key_known(
-    alloc: Global,
-    view: &View,
-    a: &Term,
-    d: &Term,
-    key: Typed,
-) -> Result<Update, SortFault>
-    ensures { Answers SortFault.Memory update_of result (spec.key_known (typed_of key)
+fn key_known(alloc: Global, view: &View, a: &Term, d: &Term, key: Typed) -> Result<Update, Refusal>
+    ensures { Answers Refusal.Memory update_of result (spec.key_known (typed_of key)
         (spec.sorting view.now (term_of a.now)) (spec.sorting view.now (term_of d.now))) }
 {
     match infer(alloc, view, d)? {
@@ -253,19 +229,19 @@ fn key_known(
                 whole,
             })
         }
-        None => Err(SortFault::EmptyOfWhat),
+        None => Err(Refusal::EmptyOfWhat),
     }
 }
 
 /// A call of a function, by its name.
 #[cycle(sorting)]
-fn call(alloc: Global, view: &View, parts: &Vec<Term>, name: &Word) -> Result<Typed, SortFault>
-    ensures { Answers SortFault.Memory typed_of result (spec.call_of_function name.now
+fn call(alloc: Global, view: &View, parts: &Vec<Term>, name: &Word) -> Result<Typed, Refusal>
+    ensures { Answers Refusal.Memory typed_of result (spec.call_of_function name.now
         (spec.sortings view.now (terms_of (map term_of parts.now.items))) (function_named name.now)) }
 {
     match Function::named(name) {
         Some(function) => call_of_arity(alloc, view, parts, name, arity_of(function)),
-        None => Err(SortFault::Unknown),
+        None => Err(Refusal::Unknown),
     }
 }
 
@@ -278,8 +254,8 @@ fn call_of_arity(
     parts: &Vec<Term>,
     name: &Word,
     arity: Arity,
-) -> Result<Typed, SortFault>
-    ensures { Answers SortFault.Memory typed_of result (spec.call_of_arity name.now
+) -> Result<Typed, Refusal>
+    ensures { Answers Refusal.Memory typed_of result (spec.call_of_arity name.now
         (spec.sortings view.now (terms_of (map term_of parts.now.items))) arity) }
 {
     match arity {
@@ -297,14 +273,14 @@ fn call_one(
     parts: &Vec<Term>,
     name: &Word,
     kind: Single,
-) -> Result<Typed, SortFault>
-    ensures { Answers SortFault.Memory typed_of result (spec.call_one name.now kind
+) -> Result<Typed, Refusal>
+    ensures { Answers Refusal.Memory typed_of result (spec.call_one name.now kind
         (spec.sortings view.now (terms_of (map term_of parts.now.items)))) }
 {
     if parts.len() == 1 {
         call_of_one(alloc, view, &parts[0], name, kind)
     } else {
-        Err(SortFault::Sorts)
+        Err(Refusal::Sorts)
     }
 }
 
@@ -316,8 +292,8 @@ fn call_of_one(
     a: &Term,
     name: &Word,
     kind: Single,
-) -> Result<Typed, SortFault>
-    ensures { Answers SortFault.Memory typed_of result
+) -> Result<Typed, Refusal>
+    ensures { Answers Refusal.Memory typed_of result
         (and_then (spec.one_part kind (spec.sorting view.now (term_of a.now)))
         (λ t. Ok (spec.typed (plain.call name.now (plain.term t.tree plain.no_terms)) t.shape))) }
 {
@@ -334,14 +310,14 @@ fn call_two(
     parts: &Vec<Term>,
     name: &Word,
     kind: Pairing,
-) -> Result<Typed, SortFault>
-    ensures { Answers SortFault.Memory typed_of result (spec.call_two name.now kind
+) -> Result<Typed, Refusal>
+    ensures { Answers Refusal.Memory typed_of result (spec.call_two name.now kind
         (spec.sortings view.now (terms_of (map term_of parts.now.items)))) }
 {
     if parts.len() == 2 {
         call_of_two(alloc, view, &parts[0], &parts[1], name, kind)
     } else {
-        Err(SortFault::Sorts)
+        Err(Refusal::Sorts)
     }
 }
 
@@ -354,8 +330,8 @@ fn call_of_two(
     b: &Term,
     name: &Word,
     kind: Pairing,
-) -> Result<Typed, SortFault>
-    ensures { Answers SortFault.Memory typed_of result
+) -> Result<Typed, Refusal>
+    ensures { Answers Refusal.Memory typed_of result
         (and_then (spec.two_parts kind (spec.sorting view.now (term_of a.now)) (spec.sorting view.now (term_of b.now)))
         (λ p. Ok (spec.typed (plain.call name.now (plain.term p.left (plain.term p.right plain.no_terms))) p.whole))) }
 {
@@ -365,19 +341,14 @@ fn call_of_two(
 
 /// A call of `update`.
 #[cycle(sorting)]
-fn call_three(
-    alloc: Global,
-    view: &View,
-    parts: &Vec<Term>,
-    name: &Word,
-) -> Result<Typed, SortFault>
-    ensures { Answers SortFault.Memory typed_of result (spec.call_three name.now
+fn call_three(alloc: Global, view: &View, parts: &Vec<Term>, name: &Word) -> Result<Typed, Refusal>
+    ensures { Answers Refusal.Memory typed_of result (spec.call_three name.now
         (spec.sortings view.now (terms_of (map term_of parts.now.items)))) }
 {
     if parts.len() == 3 {
         call_of_three(alloc, view, &parts[0], &parts[1], &parts[2], name)
     } else {
-        Err(SortFault::Sorts)
+        Err(Refusal::Sorts)
     }
 }
 
@@ -390,8 +361,8 @@ fn call_of_three(
     b: &Term,
     d: &Term,
     name: &Word,
-) -> Result<Typed, SortFault>
-    ensures { Answers SortFault.Memory typed_of result
+) -> Result<Typed, Refusal>
+    ensures { Answers Refusal.Memory typed_of result
         (and_then (spec.three_parts (spec.sorting view.now (term_of a.now)) (spec.sorting view.now (term_of b.now))
         (spec.sorting view.now (term_of d.now)))
         (λ u. Ok (spec.typed (plain.call name.now
@@ -409,8 +380,8 @@ fn display(
     parts: &Vec<Term>,
     form: DisplayForm,
     want: &Shape,
-) -> Result<Checked, SortFault>
-    ensures { Answers SortFault.Memory term_of result (spec.display_at form
+) -> Result<Checked, Refusal>
+    ensures { Answers Refusal.Memory term_of result (spec.display_at form
         (spec.sortings view.now (terms_of (map term_of parts.now.items))) want.now) }
 {
     let parts = display_parts(alloc, view, parts, form, want)?;
@@ -426,8 +397,8 @@ fn display_parts(
     parts: &Vec<Term>,
     form: DisplayForm,
     want: &Shape,
-) -> Result<Vec<Checked>, SortFault>
-    ensures { Answers SortFault.Memory (λ ts. map term_of ts.items) result (spec.display_parts form
+) -> Result<Vec<Checked>, Refusal>
+    ensures { Answers Refusal.Memory (λ ts. map term_of ts.items) result (spec.display_parts form
         (spec.sortings view.now (terms_of (map term_of parts.now.items))) want.now) }
 {
     match (form, &want.form) {
@@ -442,7 +413,7 @@ fn display_parts(
         (DisplayForm::Brackets, ShapeForm::Tuples(_, _, fields)) => {
             fit_fields(alloc, view, parts, fields)
         }
-        _ => Err(SortFault::Sorts),
+        _ => Err(Refusal::Sorts),
     }
 }
 
@@ -453,8 +424,8 @@ fn fit_all(
     view: &View,
     parts: &Vec<Term>,
     want: &Shape,
-) -> Result<Vec<Checked>, SortFault>
-    ensures { Answers SortFault.Memory (λ ts. map term_of ts.items) result
+) -> Result<Vec<Checked>, Refusal>
+    ensures { Answers Refusal.Memory (λ ts. map term_of ts.items) result
         (spec.all_fit (spec.sortings view.now (terms_of (map term_of parts.now.items))) want.now) }
 {
     let mut terms = Vec::new(alloc);
@@ -472,8 +443,8 @@ fn fit_fields(
     view: &View,
     parts: &Vec<Term>,
     fields: &Vec<Shape>,
-) -> Result<Vec<Checked>, SortFault>
-    ensures { Answers SortFault.Memory (λ ts. map term_of ts.items) result (spec.each_fit
+) -> Result<Vec<Checked>, Refusal>
+    ensures { Answers Refusal.Memory (λ ts. map term_of ts.items) result (spec.each_fit
         (spec.sortings view.now (terms_of (map term_of parts.now.items)))
         (map shape_in_terms (listed_shapes (shapes_of fields.now.items)))) }
 {
@@ -487,8 +458,8 @@ fn fit_each(
     view: &View,
     parts: &Vec<Term>,
     fields: &Vec<Shape>,
-) -> Result<Vec<Checked>, SortFault>
-    ensures { Answers SortFault.Memory (λ ts. map term_of ts.items) result (spec.each_fit
+) -> Result<Vec<Checked>, Refusal>
+    ensures { Answers Refusal.Memory (λ ts. map term_of ts.items) result (spec.each_fit
         (spec.sortings view.now (terms_of (map term_of parts.now.items)))
         (map shape_in_terms fields.now.items)) }
 {
@@ -501,6 +472,6 @@ fn fit_each(
     if parts.len() == fields.len() {
         Ok(terms)
     } else {
-        Err(SortFault::Sorts)
+        Err(Refusal::Sorts)
     }
 }

@@ -11,7 +11,7 @@ ghost use Rattle.ioa_sorts.specs.Statements as spec;
 
 use crate::sorting::fit;
 use crate::view::View;
-use ioa_sort_rules::{SortFault, entry_of, shape_in_terms, value_of_field};
+use ioa_sort_rules::{Refusal, entry_of, shape_in_terms, value_of_field};
 use ioa_terms::{Arm, Name, Shape, ShapeForm, Statement, Target, Term, Word};
 use std::alloc::Global;
 
@@ -25,15 +25,15 @@ pub(crate) struct TypedTarget {
 /// The statements with the slot of each name and the shape of each display and of each target's variable. Of the
 /// names in view the first `variables` may be assigned. Returns what `fit` does, `Unknown` (20) if a target is no
 /// variable or has no such field, and `Sorts` (22) if a target has no keys or no fields, or if a term has another
-/// sort than its target or is tested and no truth value. The first fault in the text's order is returned.
+/// sort than its target or is tested and no truth value. The first refusal in the text's order is returned.
 #[cycle(sorting_statements)]
 pub fn sort_statements(
     alloc: Global,
     view: &View,
     statements: &Vec<Statement<(), ()>>,
     variables: usize,
-) -> Result<Vec<Statement<usize, Shape>>, SortFault>
-    ensures { Answers SortFault.Memory (λ ss. map statement_of ss.items) result
+) -> Result<Vec<Statement<usize, Shape>>, Refusal>
+    ensures { Answers Refusal.Memory (λ ss. map statement_of ss.items) result
         (spec.all_ok (spec.statement_sortings (take variables view.now) view.now
         (statements_of (map statement_of statements.now.items)))) }
 {
@@ -52,8 +52,8 @@ fn sort_statement(
     view: &View,
     statement: &Statement<(), ()>,
     variables: usize,
-) -> Result<Statement<usize, Shape>, SortFault>
-    ensures { Answers SortFault.Memory statement_of result
+) -> Result<Statement<usize, Shape>, Refusal>
+    ensures { Answers Refusal.Memory statement_of result
         (spec.statement_sorting (take variables view.now) view.now (statement_of statement.now)) }
 {
     match statement {
@@ -73,8 +73,8 @@ fn sort_arms(
     view: &View,
     arms: &Vec<Arm<(), ()>>,
     variables: usize,
-) -> Result<Vec<Arm<usize, Shape>>, SortFault>
-    ensures { Answers SortFault.Memory (λ ts. map arm_of ts.items) result
+) -> Result<Vec<Arm<usize, Shape>>, Refusal>
+    ensures { Answers Refusal.Memory (λ ts. map arm_of ts.items) result
         (spec.all_ok (spec.arm_sortings (take variables view.now) view.now (arms_of (map arm_of arms.now.items)))) }
 {
     let mut sorted = Vec::new(alloc);
@@ -92,8 +92,8 @@ fn sort_arm(
     view: &View,
     arm: &Arm<(), ()>,
     variables: usize,
-) -> Result<Arm<usize, Shape>, SortFault>
-    ensures { Answers SortFault.Memory arm_of result
+) -> Result<Arm<usize, Shape>, Refusal>
+    ensures { Answers Refusal.Memory arm_of result
         (spec.arm_sorting (take variables view.now) view.now (arm_of arm.now)) }
 {
     let test = fit(alloc, view, &arm.test, &Shape::of(ShapeForm::Truths))?;
@@ -119,8 +119,8 @@ fn sort_assignment(
     target: &Target<(), ()>,
     term: &Term,
     variables: usize,
-) -> Result<Statement<usize, Shape>, SortFault>
-    ensures { Answers SortFault.Memory statement_of result (spec.assignment_sorting (take variables view.now) view.now
+) -> Result<Statement<usize, Shape>, Refusal>
+    ensures { Answers Refusal.Memory statement_of result (spec.assignment_sorting (take variables view.now) view.now
         (target_of target.now) (term_of term.now)) }
 {
     let target = sort_target(alloc, view, target, variables)?;
@@ -134,8 +134,8 @@ fn sort_target(
     view: &View,
     target: &Target<(), ()>,
     variables: usize,
-) -> Result<TypedTarget, SortFault>
-    ensures { Answers SortFault.Memory typed_target_of result
+) -> Result<TypedTarget, Refusal>
+    ensures { Answers Refusal.Memory typed_target_of result
         (spec.target_sorting (take variables view.now) view.now (target_of target.now)) }
 {
     match target {
@@ -152,12 +152,12 @@ fn whole_target(
     view: &View,
     name: &Word,
     variables: usize,
-) -> Result<TypedTarget, SortFault>
-    ensures { Answers SortFault.Memory typed_target_of result
+) -> Result<TypedTarget, Refusal>
+    ensures { Answers Refusal.Memory typed_target_of result
         (spec.whole_target name.now (declared_at (Name.Word name.now) (take variables view.now))) }
 {
     let Some((slot, declared)) = view.find_variable(name, variables) else {
-        return Err(SortFault::Unknown);
+        return Err(Refusal::Unknown);
     };
     let shape = shape_in_terms(alloc, declared)?;
     let name = name.try_copy(alloc)?;
@@ -173,13 +173,13 @@ fn key_target(
     name: &Word,
     key: &Term,
     variables: usize,
-) -> Result<TypedTarget, SortFault>
-    ensures { Answers SortFault.Memory typed_target_of result
+) -> Result<TypedTarget, Refusal>
+    ensures { Answers Refusal.Memory typed_target_of result
         (spec.key_target view.now name.now (term_of key.now)
         (declared_at (Name.Word name.now) (take variables view.now))) }
 {
     let Some((slot, declared)) = view.find_variable(name, variables) else {
-        return Err(SortFault::Unknown);
+        return Err(Refusal::Unknown);
     };
     let shape = shape_in_terms(alloc, declared)?;
     let sides = entry_of(alloc, &shape)?;
@@ -200,12 +200,12 @@ fn field_target(
     name: &Word,
     field: &Word,
     variables: usize,
-) -> Result<TypedTarget, SortFault>
-    ensures { Answers SortFault.Memory typed_target_of result
+) -> Result<TypedTarget, Refusal>
+    ensures { Answers Refusal.Memory typed_target_of result
         (spec.field_target name.now field.now (declared_at (Name.Word name.now) (take variables view.now))) }
 {
     let Some((slot, declared)) = view.find_variable(name, variables) else {
-        return Err(SortFault::Unknown);
+        return Err(Refusal::Unknown);
     };
     let shape = value_of_field(alloc, field, declared)?;
     let name = name.try_copy(alloc)?;

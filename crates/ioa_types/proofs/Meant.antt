@@ -15,17 +15,18 @@ use Rattle.ioa_source.specs.PlainSort as sort
 use Rattle.ioa_source.specs.PlainSort.{PlainSort}
 use Rattle.ioa_source.specs.Sides.{SourceDeclared}
 use Rattle.ioa_sort_rules.specs.DeclaredTypes.{TupleTypes, IsDeclared, AreDeclared}
-use Rattle.ioa_types.specs.declared.fault.TypeFault.{TypeFault}
-use Rattle.ioa_types.specs.declared.fault.TypeFault.TheVariants.{Limit}
+use Rattle.ioa_sort_rules.specs.declared.refusal.Refusal.{Refusal}
+use Rattle.ioa_sort_rules.specs.declared.refusal.Refusal.TheVariants.{Limit}
 use Rattle.ioa_types.specs.declared.height.TheConstants.{SHAPE_LIMIT}
-use Rattle.ioa_types.specs.TypeTables.{TypeTable, limited, known_type, shape_of_sort, field_shapes, field_names, tuple_shape, declared_newly, with_type}
+use Rattle.ioa_types.specs.NameTables.{named_newly, with_name}
+use Rattle.ioa_types.specs.TypeTables.{TypeTable, limited, known_type, shape_of_sort, field_shapes, field_names, tuple_shape}
 use Rattle.ioa_types.specs.Meanings.{Means, tuple_types, IsTypeTable}
 use Rattle.ioa_types.proofs.Tables.{table_is}
 
-abbrev pub shape_is : PlainShape → Result PlainShape TypeFault
+abbrev pub shape_is : PlainShape → Result PlainShape Refusal
 shape_is s = Ok s
 
-abbrev shapes_are : List PlainShape → Result (List PlainShape) TypeFault
+abbrev shapes_are : List PlainShape → Result (List PlainShape) Refusal
 shapes_are ss = Ok ss
 
 -- what results hold, one after another
@@ -73,7 +74,7 @@ module _ (types : TypeTable) (table : IsTypeTable types) where
   named_kept w None e d l = tt
   named_kept w (Some s) e d l = record { means = e; declared = d; low = l }
 
-  kept : (s : PlainSort) (r : Result PlainShape TypeFault) → IfOk r (λ x. IsMeant s x × (height x < SHAPE_LIMIT)) → IfOk r (IsFound s)
+  kept : (s : PlainSort) (r : Result PlainShape Refusal) → IfOk r (λ x. IsMeant s x × (height x < SHAPE_LIMIT)) → IfOk r (IsFound s)
   kept s (Ok x) h = record { means = h.0.0; declared = h.0.1; low = h.1 }
   kept s (Err e) h = tt
 
@@ -107,7 +108,7 @@ module _ (types : TypeTable) (table : IsTypeTable types) where
       (λ ns _. chain (λ ss. AreDeclared (tuple_types types) (shapes_of ss)) (λ s. IsTuple w s × (height s < SHAPE_LIMIT)) (λ ss. limited (tuples w ns (shapes_of ss))) (field_shapes types fs) (fields_kept fs)
       (λ ss d. limit_kept (IsTuple w) (tuples w ns (shapes_of ss)) (record { names = ns; fields = shapes_of ss; same = refl; declared = d })))
     where
-      anything : {A : Type 0} (r : Result A TypeFault) → IfOk r (λ x. Unit {0})
+      anything : {A : Type 0} (r : Result A Refusal) → IfOk r (λ x. Unit {0})
       anything (Ok x) = tt
       anything (Err e) = tt
 
@@ -170,10 +171,10 @@ named_new (t ∷ types) w s h = by_test (named_new types w s) (same_name (Word w
     by_test rest false h = rest h
 
 -- what declaring a type did
-added : (types more : TypeTable) (w : List ℕ) (s : PlainShape) → with_type types w s ≡ table_is more → (shape_named (Word w) types ≡ None) × (types ++ (Word w, s) ∷ [] ≡ more)
+added : (types more : TypeTable) (w : List ℕ) (s : PlainShape) → with_name types w s ≡ table_is more → (shape_named (Word w) types ≡ None) × (types ++ (Word w, s) ∷ [] ≡ more)
 added types more w s h = by_found (shape_named (Word w) types) refl h
   where
-    by_found : (o : Option PlainShape) → shape_named (Word w) types ≡ o → declared_newly types w s o ≡ table_is more → (shape_named (Word w) types ≡ None) × (types ++ (Word w, s) ∷ [] ≡ more)
+    by_found : (o : Option PlainShape) → shape_named (Word w) types ≡ o → named_newly types w s o ≡ table_is more → (shape_named (Word w) types ≡ None) × (types ++ (Word w, s) ∷ [] ≡ more)
     by_found None e h = let f : types ++ (Word w, s) ∷ [] ≡ more = cc in (e, f)
     by_found (Some t) e h = absurd (cc)
 
@@ -189,12 +190,12 @@ extended types w s t low d =
 pub no_types : IsTypeTable []
 no_types = record { declared = tt; low = tt }
 
-pub enumeration_added : (types more : TypeTable) (w : List ℕ) (from many : ℕ) → IsTypeTable types → with_type types w (constants w from many) ≡ table_is more → IsTypeTable more
+pub enumeration_added : (types more : TypeTable) (w : List ℕ) (from many : ℕ) → IsTypeTable types → with_name types w (constants w from many) ≡ table_is more → IsTypeTable more
 enumeration_added types more w from many t h =
     let a = added types more w (constants w from many) h in
     subst IsTypeTable a.1 (extended types w (constants w from many) t (omega arith) tt)
 
-pub tuple_added : (types more : TypeTable) (w : List ℕ) (fs : List SourceDeclared) (s : PlainShape) → IsTypeTable types → shape_is s ≡ tuple_shape types w fs → with_type types w s ≡ table_is more → IsTypeTable more
+pub tuple_added : (types more : TypeTable) (w : List ℕ) (fs : List SourceDeclared) (s : PlainShape) → IsTypeTable types → shape_is s ≡ tuple_shape types w fs → with_name types w s ≡ table_is more → IsTypeTable more
 tuple_added types more w fs s t e h =
     let a = added types more w s h in
     let p : IsTuple types t w s × (height s < SHAPE_LIMIT) = subst (λ r. IfOk r (λ x. IsTuple types t w x × (height x < SHAPE_LIMIT))) (sym e) (tuple_kept types t w fs) in

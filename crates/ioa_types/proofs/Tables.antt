@@ -7,9 +7,10 @@ use Rattle.ioa_terms.specs.declared.name.Name.{Name}
 use Rattle.ioa_terms.specs.declared.name.Name.TheVariants.{Word}
 use Rattle.ioa_terms.specs.Bindings.{same_name, same_word, slot_in}
 use Rattle.ioa_terms.specs.Sorted.{shape_named}
-use Rattle.ioa_types.specs.declared.fault.TypeFault.{TypeFault}
-use Rattle.ioa_types.specs.declared.fault.TypeFault.TheVariants.{Twice}
-use Rattle.ioa_types.specs.TypeTables.{TypeTable, declared_newly, with_type}
+use Rattle.ioa_sort_rules.specs.declared.refusal.Refusal.{Refusal}
+use Rattle.ioa_sort_rules.specs.declared.refusal.Refusal.TheVariants.{Twice}
+use Rattle.ioa_types.specs.NameTables.{named_newly, with_name, words}
+use Rattle.ioa_types.specs.TypeTables.{TypeTable}
 
 -- no shapes
 abbrev nothing : List PlainShape
@@ -39,6 +40,19 @@ more_zip [] (x ∷ ss) w s h = absurd (omega arith)
 more_zip (n ∷ ns) [] w s h = absurd (omega arith)
 more_zip (n ∷ ns) (x ∷ ss) w s h = ap (λ more. (Word n, x) ∷ more) (more_zip ns ss w s (omega arith))
 
+-- the names of such a table
+pub words_zip : (ns : List (List ℕ)) (ss : List PlainShape) → length ns ≡ length ss → ns ≡ words (zip (map Word ns) ss)
+words_zip [] ss h = refl
+words_zip (n ∷ ns) [] h = absurd (omega arith)
+words_zip (n ∷ ns) (s ∷ ss) h = ap (λ more. n ∷ more) (words_zip ns ss (omega arith))
+
+-- and their number
+pub many_zip : (ns : List (List ℕ)) (ss : List PlainShape) → length ns ≡ length ss → length ss ≡ length (zip (map Word ns) ss)
+many_zip [] [] h = refl
+many_zip [] (s ∷ ss) h = absurd (omega arith)
+many_zip (n ∷ ns) [] h = absurd (omega arith)
+many_zip (n ∷ ns) (s ∷ ss) h = ap suc (many_zip ns ss (omega arith))
+
 -- a name that is not among the names has no shape, and one that is has a shape
 abbrev IsNamedIf : Bool → Option PlainShape → Type 0
 IsNamedIf true o = (s : PlainShape) × (o ≡ Some s)
@@ -54,26 +68,26 @@ among w (n ∷ ns) (s ∷ ss) h = by_test (same_word w n) (among w ns ss (omega 
     by_test true rest = (s, refl)
     by_test false rest = rest
 
-abbrev pub table_is : TypeTable → Result TypeTable TypeFault
+abbrev pub table_is : TypeTable → Result TypeTable Refusal
 table_is t = Ok t
 
 -- a type of a new name is put behind the others
-pub with_new : (w : List ℕ) (s : PlainShape) (ns ms : List (List ℕ)) (ss ts : List PlainShape) (fresh : Bool) → length ns ≡ length ss → fresh ≡ true → fresh ≡ not (list_any (same_word w) ns) → MatchBool fresh (ms ≡ ns ++ w ∷ []) (ms ≡ ns) → ts ≡ ss ++ s ∷ [] → with_type (zip (map Word ns) ss) w s ≡ table_is (zip (map Word ms) ts)
+pub with_new : (w : List ℕ) (s : PlainShape) (ns ms : List (List ℕ)) (ss ts : List PlainShape) (fresh : Bool) → length ns ≡ length ss → fresh ≡ true → fresh ≡ not (list_any (same_word w) ns) → MatchBool fresh (ms ≡ ns ++ w ∷ []) (ms ≡ ns) → ts ≡ ss ++ s ∷ [] → with_name (zip (map Word ns) ss) w s ≡ table_is (zip (map Word ms) ts)
 with_new w s ns ms ss ts true many is new added pushed = rw (added, pushed, more_zip ns ss w s many) (by_found (list_any (same_word w) ns) new (among w ns ss many))
   where
-    by_found : (b : Bool) → true ≡ not b → IsNamedIf b (shape_named (Word w) (zip (map Word ns) ss)) → declared_newly (zip (map Word ns) ss) w s (shape_named (Word w) (zip (map Word ns) ss)) ≡ table_is (zip (map Word ns) ss ++ (Word w, s) ∷ [])
+    by_found : (b : Bool) → true ≡ not b → IsNamedIf b (shape_named (Word w) (zip (map Word ns) ss)) → named_newly (zip (map Word ns) ss) w s (shape_named (Word w) (zip (map Word ns) ss)) ≡ table_is (zip (map Word ns) ss ++ (Word w, s) ∷ [])
     by_found true e h = absurd (cc)
     by_found false e h = rw h refl
 with_new w s ns ms ss ts false many is new added pushed = absurd (cc)
 
 -- one of a name that is there is refused
-abbrev pub twice : Result TypeTable TypeFault
+abbrev pub twice : Result TypeTable Refusal
 twice = Err Twice
 
-pub with_old : (w : List ℕ) (s : PlainShape) (ns : List (List ℕ)) (ss : List PlainShape) (fresh : Bool) → length ns ≡ length ss → fresh ≡ false → fresh ≡ not (list_any (same_word w) ns) → with_type (zip (map Word ns) ss) w s ≡ twice
+pub with_old : (w : List ℕ) (s : PlainShape) (ns : List (List ℕ)) (ss : List PlainShape) (fresh : Bool) → length ns ≡ length ss → fresh ≡ false → fresh ≡ not (list_any (same_word w) ns) → with_name (zip (map Word ns) ss) w s ≡ twice
 with_old w s ns ss true many is new = absurd (cc)
 with_old w s ns ss false many is new = by_found (list_any (same_word w) ns) new (among w ns ss many)
   where
-    by_found : (b : Bool) → false ≡ not b → IsNamedIf b (shape_named (Word w) (zip (map Word ns) ss)) → declared_newly (zip (map Word ns) ss) w s (shape_named (Word w) (zip (map Word ns) ss)) ≡ twice
+    by_found : (b : Bool) → false ≡ not b → IsNamedIf b (shape_named (Word w) (zip (map Word ns) ss)) → named_newly (zip (map Word ns) ss) w s (shape_named (Word w) (zip (map Word ns) ss)) ≡ twice
     by_found true e h = rw h.1 refl
     by_found false e h = absurd (cc)

@@ -13,8 +13,8 @@ use Rattle.ioa_terms.specs.Sorted.{NameShapes, shape_named}
 use Rattle.ioa_source.specs.PlainSort as sort
 use Rattle.ioa_source.specs.PlainSort.{PlainSort}
 use Rattle.ioa_source.specs.Sides.{SourceDeclared}
-use Rattle.ioa_types.specs.declared.fault.TypeFault.{TypeFault}
-use Rattle.ioa_types.specs.declared.fault.TypeFault.TheVariants.{Unknown, Twice, Limit}
+use Rattle.ioa_sort_rules.specs.declared.refusal.Refusal.{Refusal}
+use Rattle.ioa_sort_rules.specs.declared.refusal.Refusal.TheVariants.{Unknown, Twice, Limit}
 use Rattle.ioa_types.specs.declared.height.TheConstants.{SHAPE_LIMIT}
 
 -- the types in the order of their declarations
@@ -22,16 +22,16 @@ abbrev pub TypeTable : Type 0
 TypeTable = NameShapes
 
 -- a shape, if it is not too high
-unfoldable pub limited : PlainShape → Result PlainShape TypeFault
+unfoldable pub limited : PlainShape → Result PlainShape Refusal
 limited s = if nat_lt (height s) SHAPE_LIMIT then Ok s else Err Limit
 
 -- the shape that a type's name has
-abbrev pub known_type : Option PlainShape → Result PlainShape TypeFault
+abbrev pub known_type : Option PlainShape → Result PlainShape Refusal
 known_type None = Err Unknown
 known_type (Some s) = Ok s
 
 -- the shape of a sort
-abbrev pub shape_of_sort : TypeTable → PlainSort → Result PlainShape TypeFault
+abbrev pub shape_of_sort : TypeTable → PlainSort → Result PlainShape Refusal
 shape_of_sort types sort.booleans = Ok truths
 shape_of_sort types sort.integers = Ok integers
 shape_of_sort types sort.naturals = Ok naturals
@@ -42,7 +42,7 @@ shape_of_sort types (sort.maps k v) =
 shape_of_sort types (sort.named_type w) = known_type (shape_named (Word w) types)
 
 -- the shapes of the sorts of fields
-abbrev pub field_shapes : TypeTable → List SourceDeclared → Result (List PlainShape) TypeFault
+abbrev pub field_shapes : TypeTable → List SourceDeclared → Result (List PlainShape) Refusal
 field_shapes types [] = Ok []
 field_shapes types (f ∷ fs) =
     and_then (shape_of_sort types f.sort) (λ s. and_then (field_shapes types fs) (λ ss. Ok (s ∷ ss)))
@@ -53,18 +53,10 @@ are_new before [] = true
 are_new before (w ∷ ws) = not (list_any (same_word w) before) && are_new (before ++ w ∷ []) ws
 
 -- the names of fields, which differ
-abbrev pub field_names : List SourceDeclared → Result (List (List ℕ)) TypeFault
+abbrev pub field_names : List SourceDeclared → Result (List (List ℕ)) Refusal
 field_names fs = if are_new [] (map (λ f. f.name) fs) then Ok (map (λ f. f.name) fs) else Err Twice
 
 -- a tuple type: its fields' names first
-abbrev pub tuple_shape : TypeTable → List ℕ → List SourceDeclared → Result PlainShape TypeFault
+abbrev pub tuple_shape : TypeTable → List ℕ → List SourceDeclared → Result PlainShape Refusal
 tuple_shape types w fs = and_then (field_names fs)
     (λ ns. and_then (field_shapes types fs) (λ ss. limited (tuples w ns (shapes_of ss))))
-
--- the types with one more, of a new name
-abbrev pub declared_newly : TypeTable → List ℕ → PlainShape → Option PlainShape → Result TypeTable TypeFault
-declared_newly types w s None = Ok (types ++ (Word w, s) ∷ [])
-declared_newly types w s (Some t) = Err Twice
-
-abbrev pub with_type : TypeTable → List ℕ → PlainShape → Result TypeTable TypeFault
-with_type types w s = declared_newly types w s (shape_named (Word w) types)

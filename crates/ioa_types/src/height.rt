@@ -6,8 +6,8 @@ ghost use Rattle.ioa_operators.specs.Shapes.{truths, integers, naturals, constan
 ghost use Rattle.ioa_operators.specs.Shapes.{sequences, sets, maps};
 ghost use Rattle.ioa_types.specs.TypeTables as spec;
 
-use crate::fault::TypeFault;
 use ioa_operators::{Shape, ShapeForm};
+use ioa_sort_rules::Refusal;
 use ioa_values::Word;
 use std::alloc::{AllocError, Global};
 use std::marker::Model;
@@ -44,6 +44,13 @@ impl ShapeWithHeight {
         ensures { result.now ≡ self.now }
     {
         &self.shape
+    }
+
+    /// The shape, without its height.
+    pub fn into_shape(self) -> Shape
+        ensures { result ≡ self }
+    {
+        self.shape
     }
 
     /// The same shape once more.
@@ -97,8 +104,8 @@ impl ShapeWithHeight {
 
     /// The sequences of items of a shape.
     #[tactic(auto, unfolding(crate::specs::TypeTables::limited))]
-    pub(crate) fn sequences(alloc: Global, item: Self) -> Result<Self, TypeFault>
-        ensures { Answers TypeFault.Memory (λ s. s) result (spec.limited (sequences item)) }
+    pub(crate) fn sequences(alloc: Global, item: Self) -> Result<Self, Refusal>
+        ensures { Answers Refusal.Memory (λ s. s) result (spec.limited (sequences item)) }
     {
         let height = item.height + 1;
         if height < SHAPE_LIMIT {
@@ -106,14 +113,14 @@ impl ShapeWithHeight {
             let shape = Shape::of(ShapeForm::Sequences(item));
             Ok(ShapeWithHeight { shape, height })
         } else {
-            Err(TypeFault::Limit)
+            Err(Refusal::Limit)
         }
     }
 
     /// The sets of members of a shape.
     #[tactic(auto, unfolding(crate::specs::TypeTables::limited))]
-    pub(crate) fn sets(alloc: Global, member: Self) -> Result<Self, TypeFault>
-        ensures { Answers TypeFault.Memory (λ s. s) result (spec.limited (sets member)) }
+    pub(crate) fn sets(alloc: Global, member: Self) -> Result<Self, Refusal>
+        ensures { Answers Refusal.Memory (λ s. s) result (spec.limited (sets member)) }
     {
         let height = member.height + 1;
         if height < SHAPE_LIMIT {
@@ -121,14 +128,14 @@ impl ShapeWithHeight {
             let shape = Shape::of(ShapeForm::Sets(member));
             Ok(ShapeWithHeight { shape, height })
         } else {
-            Err(TypeFault::Limit)
+            Err(Refusal::Limit)
         }
     }
 
     /// The maps of keys and values of two shapes.
     #[tactic(auto, unfolding(crate::specs::TypeTables::limited))]
-    pub(crate) fn maps(alloc: Global, key: Self, value: Self) -> Result<Self, TypeFault>
-        ensures { Answers TypeFault.Memory (λ s. s) result (spec.limited (maps key value)) }
+    pub(crate) fn maps(alloc: Global, key: Self, value: Self) -> Result<Self, Refusal>
+        ensures { Answers Refusal.Memory (λ s. s) result (spec.limited (maps key value)) }
     {
         let height = key.height.max(value.height) + 1;
         if height < SHAPE_LIMIT {
@@ -137,7 +144,7 @@ impl ShapeWithHeight {
             let shape = Shape::of(ShapeForm::Maps(key, value));
             Ok(ShapeWithHeight { shape, height })
         } else {
-            Err(TypeFault::Limit)
+            Err(Refusal::Limit)
         }
     }
 }
@@ -196,8 +203,8 @@ impl FieldShapes {
         alloc: Global,
         name: Word,
         names: Vec<Word>,
-    ) -> Result<ShapeWithHeight, TypeFault>
-        ensures { Answers TypeFault.Memory (λ s. s) result
+    ) -> Result<ShapeWithHeight, Refusal>
+        ensures { Answers Refusal.Memory (λ s. s) result
             (spec.limited (tuples name names.items (shapes_of self))) }
     {
         let height = self.highest + 1;
@@ -207,7 +214,7 @@ impl FieldShapes {
             let shape = Shape::of(ShapeForm::Tuples(name, names, fields));
             Ok(ShapeWithHeight { shape, height })
         } else {
-            Err(TypeFault::Limit)
+            Err(Refusal::Limit)
         }
     }
 }

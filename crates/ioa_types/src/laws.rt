@@ -6,7 +6,8 @@ ghost use Rattle.ioa_operators.specs.ShapeHeight.{height};
 ghost use Rattle.ioa_source.specs.PlainSort.{PlainSort};
 ghost use Rattle.ioa_source.specs.Sides.{SourceDeclared};
 ghost use Rattle.ioa_sort_rules.specs.DeclaredTypes.{IsDeclared};
-ghost use Rattle.ioa_types.specs.TypeTables.{TypeTable, shape_of_sort, tuple_shape, with_type};
+ghost use Rattle.ioa_types.specs.NameTables.{with_name};
+ghost use Rattle.ioa_types.specs.TypeTables.{TypeTable, shape_of_sort, tuple_shape};
 ghost use Rattle.ioa_types.specs.Meanings.{Means, tuple_types, IsTypeTable};
 ghost use Rattle.ioa_types.specs.declared.height.TheConstants.{SHAPE_LIMIT};
 
@@ -23,7 +24,7 @@ pub fn types_law()
     // types
     ensures none { IsTypeTable [] }
     ensures enumeration { (types more : TypeTable) (w : List ℕ) (from many : ℕ) → IsTypeTable types →
-        with_type types w (constants w from many) ≡ Ok more → IsTypeTable more }
+        with_name types w (constants w from many) ≡ Ok more → IsTypeTable more }
     ensures tuple { (types more : TypeTable) (w : List ℕ) (fields : List SourceDeclared) (s : PlainShape) →
-        IsTypeTable types → tuple_shape types w fields ≡ Ok s → with_type types w s ≡ Ok more → IsTypeTable more }
+        IsTypeTable types → tuple_shape types w fields ≡ Ok s → with_name types w s ≡ Ok more → IsTypeTable more }
 {}

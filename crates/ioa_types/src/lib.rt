@@ -1,12 +1,14 @@
 //! The types that a text declares: from sorts as spelled to their shapes.
 #![tactic(auto)]
 
-mod fault;
 mod height;
 mod laws;
+mod table;
+mod text_types;
 mod types;
 
-pub use fault::TypeFault;
 pub use height::{SHAPE_LIMIT, ShapeWithHeight};
 pub use laws::types_law;
+pub use table::NameTable;
+pub use text_types::TextTypes;
 pub use types::Types;

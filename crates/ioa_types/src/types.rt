@@ -5,10 +5,11 @@ ghost use Rattle.ioa_values.specs.Outcome.{Answers};
 ghost use Rattle.ioa_terms.specs.Sorted.{shape_named};
 ghost use Rattle.ioa_source.specs.SortView.{sort_of};
 ghost use Rattle.ioa_source.specs.TextView.{declared_of};
+ghost use Rattle.ioa_types.specs.NameTables.{with_name};
 ghost use Rattle.ioa_types.specs.TypeTables as spec;
 
-use crate::fault::TypeFault;
 use crate::height::{FieldShapes, ShapeWithHeight};
+use ioa_sort_rules::Refusal;
 use ioa_source::{Declared, Sort};
 use ioa_system::Scope;
 use ioa_terms::{Name, Word};
@@ -52,8 +53,8 @@ impl Types {
     }
 
     /// The shape of a sort. `Unknown` (20) if it names no type that is declared, `Limit` (31) if it is too high.
-    pub fn shape_of(&self, alloc: Global, sort: &Sort) -> Result<ShapeWithHeight, TypeFault>
-        ensures { Answers TypeFault.Memory (λ s. s) result (spec.shape_of_sort self.now (sort_of sort.now)) }
+    pub fn shape_of(&self, alloc: Global, sort: &Sort) -> Result<ShapeWithHeight, Refusal>
+        ensures { Answers Refusal.Memory (λ s. s) result (spec.shape_of_sort self.now (sort_of sort.now)) }
     {
         match sort {
             Sort::Bool => Ok(ShapeWithHeight::truths()),
@@ -77,13 +78,13 @@ impl Types {
     }
 
     /// The shape of a type, by its name.
-    fn shape_named(&self, alloc: Global, name: &Word) -> Result<ShapeWithHeight, TypeFault>
-        ensures { Answers TypeFault.Memory (λ s. s) result
+    fn shape_named(&self, alloc: Global, name: &Word) -> Result<ShapeWithHeight, Refusal>
+        ensures { Answers Refusal.Memory (λ s. s) result
             (spec.known_type (shape_named (Name.Word name.now) self.now)) }
     {
         match self.names.slot_of_word(name) {
             Some(slot) => at_slot(alloc, &self.shapes, slot),
-            None => Err(TypeFault::Unknown),
+            None => Err(Refusal::Unknown),
         }
     }
 
@@ -94,8 +95,8 @@ impl Types {
         alloc: Global,
         name: &Word,
         fields: &Vec<Declared<()>>,
-    ) -> Result<ShapeWithHeight, TypeFault>
-        ensures { Answers TypeFault.Memory (λ s. s) result
+    ) -> Result<ShapeWithHeight, Refusal>
+        ensures { Answers Refusal.Memory (λ s. s) result
             (spec.tuple_shape self.now name.now (map declared_of fields.now.items)) }
     {
         let names = field_names(alloc, fields)?;
@@ -109,8 +110,8 @@ impl Types {
         &self,
         alloc: Global,
         fields: &Vec<Declared<()>>,
-    ) -> Result<FieldShapes, TypeFault>
-        ensures { Answers TypeFault.Memory (λ s. s) result
+    ) -> Result<FieldShapes, Refusal>
+        ensures { Answers Refusal.Memory (λ s. s) result
             (spec.field_shapes self.now (map declared_of fields.now.items)) }
     {
         let mut shapes = FieldShapes::new(alloc);
@@ -122,8 +123,8 @@ impl Types {
     }
 
     /// The types with one more. `Twice` (21) if its name is that of another.
-    pub fn with(self, name: Word, shape: ShapeWithHeight) -> Result<Self, TypeFault>
-        ensures { Answers TypeFault.Memory (λ t. t) result (spec.with_type self name shape) }
+    pub fn with(self, name: Word, shape: ShapeWithHeight) -> Result<Self, Refusal>
+        ensures { Answers Refusal.Memory (λ t. t) result (with_name self name shape) }
     {
         let Types {
             mut names,
@@ -133,7 +134,7 @@ impl Types {
             shapes.push(shape)?;
             Ok(Types { names, shapes })
         } else {
-            Err(TypeFault::Twice)
+            Err(Refusal::Twice)
         }
     }
 }
@@ -143,23 +144,23 @@ fn at_slot(
     alloc: Global,
     shapes: &Vec<ShapeWithHeight>,
     slot: usize,
-) -> Result<ShapeWithHeight, TypeFault>
-    ensures { Answers TypeFault.Memory (λ s. s) result (spec.known_type (slice_get shapes.now.items slot)) }
+) -> Result<ShapeWithHeight, Refusal>
+    ensures { Answers Refusal.Memory (λ s. s) result (spec.known_type (slice_get shapes.now.items slot)) }
 {
     match shapes.get(slot) {
         Some(shape) => Ok(shape.try_copy(alloc)?),
-        None => Err(TypeFault::Unknown),
+        None => Err(Refusal::Unknown),
     }
 }
 
 /// The names of fields, which differ.
-fn field_names(alloc: Global, fields: &Vec<Declared<()>>) -> Result<Vec<Word>, TypeFault>
-    ensures { Answers TypeFault.Memory (λ ns. ns.items) result (spec.field_names (map declared_of fields.now.items)) }
+fn field_names(alloc: Global, fields: &Vec<Declared<()>>) -> Result<Vec<Word>, Refusal>
+    ensures { Answers Refusal.Memory (λ ns. ns.items) result (spec.field_names (map declared_of fields.now.items)) }
 {
     let mut before = Scope::new(alloc);
     for field in fields {
         if !before.declare(field.name.try_copy(alloc)?)? {
-            return Err(TypeFault::Twice);
+            return Err(Refusal::Twice);
         }
     }
     Ok(names_of(alloc, fields)?)
