@@ -1,5 +1,5 @@
 -- The shapes of sorts, against what sorts mean, and tables of types.
-use Rattle.std.proofs.Common.{◌≡◌, ◌<◌, ℕ, Bool, true, false, nat_lt, if◌then◌else◌, IfOk, List, [], ◌∷◌, ◌++◌, Option, Some, None, Result, Ok, Err, refl, sym, ap, subst, ◌∙◌, arith}
+use Rattle.std.proofs.Common.{◌≡◌, ◌<◌, ℕ, Bool, true, false, nat_lt, if◌then◌else◌, IfOk, List, [], ◌∷◌, ◌++◌, Option, Some, None, Result, Ok, Err, refl, sym, ap, subst, ◌∙◌, arith, length}
 use Rattle.std.specs.List.{AllByRecursion}
 use Rattle.std.proofs.lemmas.Bool.{ltb-true, lt-ltb}
 use Rattle.std.proofs.lemmas.Slice.Eq.{bytes_eq-Decides}
@@ -10,18 +10,22 @@ use Rattle.ioa_operators.specs.ShapeHeight.{height}
 use Rattle.ioa_terms.specs.declared.name.Name.{Name}
 use Rattle.ioa_terms.specs.declared.name.Name.TheVariants.{Word}
 use Rattle.ioa_terms.specs.Bindings.{same_name}
-use Rattle.ioa_terms.specs.Sorted.{shape_named}
+use Rattle.ioa_terms.specs.Sorted.{NameShapes, shape_named}
 use Rattle.ioa_source.specs.PlainSort as sort
 use Rattle.ioa_source.specs.PlainSort.{PlainSort}
-use Rattle.ioa_source.specs.Sides.{SourceDeclared}
-use Rattle.ioa_sort_rules.specs.DeclaredTypes.{TupleTypes, IsDeclared, AreDeclared}
+use Rattle.ioa_source.specs.PlainText.{enumeration, tuple_of}
+use Rattle.ioa_source.specs.Sides.{SourceDeclared, SourceForm, SourceType}
+use Rattle.ioa_sort_rules.specs.DeclaredTypes.{TupleTypes, IsDeclared, AreDeclared, AreAllDeclared}
 use Rattle.ioa_sort_rules.specs.declared.refusal.Refusal.{Refusal}
 use Rattle.ioa_sort_rules.specs.declared.refusal.Refusal.TheVariants.{Limit}
 use Rattle.ioa_types.specs.declared.height.TheConstants.{SHAPE_LIMIT}
 use Rattle.ioa_types.specs.NameTables.{named_newly, with_name}
 use Rattle.ioa_types.specs.TypeTables.{TypeTable, limited, known_type, shape_of_sort, field_shapes, field_names, tuple_shape}
-use Rattle.ioa_types.specs.Meanings.{Means, tuple_types, IsTypeTable}
+use Rattle.ioa_types.specs.Meanings.{Means, tuple_types, IsTypeTable, AreTextTypes}
+use Rattle.ioa_types.specs.TextTypes.{PlainTextTypes, text_types, with_constants, with_form}
+use Rattle.ioa_types.specs.TextTypes as text
 use Rattle.ioa_types.proofs.Tables.{table_is}
+use Rattle.ioa_types.proofs.Names.{added_name, first_of}
 
 abbrev pub shape_is : PlainShape → Result PlainShape Refusal
 shape_is s = Ok s
@@ -170,14 +174,6 @@ named_new (t ∷ types) w s h = by_test (named_new types w s) (same_name (Word w
     by_test rest true h = absurd (cc)
     by_test rest false h = rest h
 
--- what declaring a type did
-added : (types more : TypeTable) (w : List ℕ) (s : PlainShape) → with_name types w s ≡ table_is more → (shape_named (Word w) types ≡ None) × (types ++ (Word w, s) ∷ [] ≡ more)
-added types more w s h = by_found (shape_named (Word w) types) refl h
-  where
-    by_found : (o : Option PlainShape) → shape_named (Word w) types ≡ o → named_newly types w s o ≡ table_is more → (shape_named (Word w) types ≡ None) × (types ++ (Word w, s) ∷ [] ≡ more)
-    by_found None e h = let f : types ++ (Word w, s) ∷ [] ≡ more = cc in (e, f)
-    by_found (Some t) e h = absurd (cc)
-
 -- one more type
 extended : (types : TypeTable) (w : List ℕ) (s : PlainShape) → IsTypeTable types → height s < SHAPE_LIMIT → IsDeclared (tuple_types (types ++ (Word w, s) ∷ [])) s → IsTypeTable (types ++ (Word w, s) ∷ [])
 extended types w s t low d =
@@ -192,14 +188,58 @@ no_types = record { declared = tt; low = tt }
 
 pub enumeration_added : (types more : TypeTable) (w : List ℕ) (from many : ℕ) → IsTypeTable types → with_name types w (constants w from many) ≡ table_is more → IsTypeTable more
 enumeration_added types more w from many t h =
-    let a = added types more w (constants w from many) h in
+    let a = added_name types more w (constants w from many) h in
     subst IsTypeTable a.1 (extended types w (constants w from many) t (omega arith) tt)
 
 pub tuple_added : (types more : TypeTable) (w : List ℕ) (fs : List SourceDeclared) (s : PlainShape) → IsTypeTable types → shape_is s ≡ tuple_shape types w fs → with_name types w s ≡ table_is more → IsTypeTable more
 tuple_added types more w fs s t e h =
-    let a = added types more w s h in
+    let a = added_name types more w s h in
     let p : IsTuple types t w s × (height s < SHAPE_LIMIT) = subst (λ r. IfOk r (λ x. IsTuple types t w x × (height x < SHAPE_LIMIT))) (sym e) (tuple_kept types t w fs) in
     let longer = types ++ (Word w, s) ∷ [] in
     let named : tuple_types longer w ≡ Some (tuples w p.0.names p.0.fields) = named_new types w s a.0 ∙ ap Some p.0.same in
     let fields = all_still (tuple_types types) (tuple_types longer) (λ v x g. named_more types ((Word w, s) ∷ []) (Word v) x g) p.0.fields p.0.declared in
     subst IsTypeTable a.1 (extended types w s t p.1 (subst (IsDeclared (tuple_types longer)) (sym p.0.same) (named, fields)))
+
+-- constants with one shape, put behind others
+constants_behind : (types : TupleTypes) (cs : NameShapes) (s : PlainShape) (ws : List (List ℕ)) (ds : NameShapes) → IsDeclared types s → AreAllDeclared types cs → with_constants cs s ws ≡ table_is ds → AreAllDeclared types ds
+constants_behind types cs s [] ds i h e = let same : cs ≡ ds = cc in subst (AreAllDeclared types) same h
+constants_behind types cs s (w ∷ ws) ds i h e =
+    let one = first_of (with_name cs w s) (λ ns. with_constants ns s ws) ds e in
+    let a = added_name cs one.0 w s one.1 in
+    constants_behind types one.0 s ws ds i (subst (AreAllDeclared types) a.1 (all_appended (λ n. IsDeclared types n.1) cs ((Word w, s) ∷ []) h (i, tt))) one.2
+
+-- what is declared stays declared if one more type is
+all_still_named : (types : TypeTable) (w : List ℕ) (s : PlainShape) (cs : NameShapes) → AreAllDeclared (tuple_types types) cs → AreAllDeclared (tuple_types (types ++ (Word w, s) ∷ [])) cs
+all_still_named types w s cs h =
+    let more = types ++ (Word w, s) ∷ [] in
+    weaker (λ n. IsDeclared (tuple_types types) n.1) (λ n. IsDeclared (tuple_types more) n.1) (λ n g. still (tuple_types types) (tuple_types more) (λ v x e. named_more types ((Word w, s) ∷ []) (Word v) x e) n.1 g) cs h
+
+pub no_text_types : AreTextTypes text.no_types
+no_text_types = record { types = no_types; constants = tt }
+
+abbrev text_is : PlainTextTypes → Result PlainTextTypes Refusal
+text_is t = Ok t
+
+pub type_added : (t more : PlainTextTypes) (d : SourceType) → AreTextTypes t → with_form t d.name d.form ≡ text_is more → AreTextTypes more
+type_added t more d h e = by_form d.form e
+  where
+    by_form : (f : SourceForm) → with_form t d.name f ≡ text_is more → AreTextTypes more
+    by_form (enumeration ws) e =
+        let s : PlainShape = constants d.name (length t.constants) (length ws) in
+        let one = first_of (with_constants t.constants s ws) (λ cs. and_then (with_name t.types d.name s) (λ ts. text_is (text_types ts cs))) more e in
+        let two = first_of (with_name t.types d.name s) (λ ts. text_is (text_types ts one.0)) more one.2 in
+        let a = added_name t.types two.0 d.name s two.1 in
+        let same : text_types two.0 one.0 ≡ more = cc in
+        subst AreTextTypes same (record {
+          types = enumeration_added t.types two.0 d.name (length t.constants) (length ws) h.types two.1;
+          constants = constants_behind (tuple_types two.0) t.constants s ws one.0 tt (subst (λ ts. AreAllDeclared (tuple_types ts) t.constants) a.1 (all_still_named t.types d.name s t.constants h.constants)) one.1;
+        })
+    by_form (tuple_of fs) e =
+        let one = first_of (tuple_shape t.types d.name fs) (λ s. and_then (with_name t.types d.name s) (λ ts. text_is (text_types ts t.constants))) more e in
+        let two = first_of (with_name t.types d.name one.0) (λ ts. text_is (text_types ts t.constants)) more one.2 in
+        let a = added_name t.types two.0 d.name one.0 two.1 in
+        let same : text_types two.0 t.constants ≡ more = cc in
+        subst AreTextTypes same (record {
+          types = tuple_added t.types two.0 d.name fs one.0 h.types (sym one.1) two.1;
+          constants = subst (λ ts. AreAllDeclared (tuple_types ts) t.constants) a.1 (all_still_named t.types d.name one.0 t.constants h.constants);
+        })

@@ -9,6 +9,7 @@ use Rattle.ioa_source.specs.PlainSort as sort
 use Rattle.ioa_source.specs.PlainSort.{PlainSort}
 use Rattle.ioa_sort_rules.specs.DeclaredTypes.{TupleTypes, AreAllDeclared}
 use Rattle.ioa_types.specs.TypeTables.{TypeTable}
+use Rattle.ioa_types.specs.TextTypes.{PlainTextTypes}
 use Rattle.ioa_types.specs.declared.height.TheConstants.{SHAPE_LIMIT}
 
 -- a sort means a shape: a named type has its declared shape, and all else is as it is written
@@ -31,3 +32,8 @@ tuple_types types w = shape_named (Word w) types
 pub record IsTypeTable (types : TypeTable) : Type 0 where
   pub declared : AreAllDeclared (tuple_types types) types
   pub low : AllByRecursion (λ t. height t.1 < SHAPE_LIMIT) types
+
+-- types and constants that were declared one after another
+pub record AreTextTypes (t : PlainTextTypes) : Type 0 where
+  pub types : IsTypeTable t.types
+  pub constants : AreAllDeclared (tuple_types t.types) t.constants

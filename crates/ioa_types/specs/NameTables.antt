@@ -1,9 +1,11 @@
 -- Names with their shapes, one after another (profile: names in view differ).
 use Rattle.std.specs.Prelude.{ℕ, List, [], ◌∷◌, ◌++◌, Option, Some, None, Result, Ok, Err, map}
+use Rattle.std.specs.List.{IsDistinct}
 use Rattle.ioa_values.specs.Outcome.{and_then}
 use Rattle.ioa_operators.specs.Shapes.{PlainShape}
 use Rattle.ioa_terms.specs.declared.name.Name.{Name}
 use Rattle.ioa_terms.specs.declared.name.Name.TheVariants.{Word}
+use Rattle.ioa_terms.specs.Bindings.{same_word}
 use Rattle.ioa_terms.specs.Sorted.{NameShapes, shape_named}
 use Rattle.ioa_sort_rules.specs.declared.refusal.Refusal.{Refusal}
 use Rattle.ioa_sort_rules.specs.declared.refusal.Refusal.TheVariants.{Twice}
@@ -27,3 +29,7 @@ word_of (Word w) = w
 
 abbrev pub words : NameShapes → List (List ℕ)
 words names = map (λ n. word_of n.0) names
+
+-- names that differ from each other
+abbrev pub AreDistinct : NameShapes → Type 0
+AreDistinct names = IsDistinct same_word (words names)

@@ -1,14 +1,16 @@
-//! A law of declared types: what a function ensures that does nothing.
+//! Laws of declared types and of names: what functions ensure that do nothing.
 
-ghost use Rattle.std.specs.Prelude.{◌≡◌, ◌<◌, ℕ, List, [], Ok};
+ghost use Rattle.std.specs.Prelude.{◌≡◌, ◌<◌, ◌++◌, ℕ, List, [], Ok};
 ghost use Rattle.ioa_operators.specs.Shapes.{PlainShape, constants};
 ghost use Rattle.ioa_operators.specs.ShapeHeight.{height};
 ghost use Rattle.ioa_source.specs.PlainSort.{PlainSort};
-ghost use Rattle.ioa_source.specs.Sides.{SourceDeclared};
+ghost use Rattle.ioa_source.specs.Sides.{SourceDeclared, SourceType};
+ghost use Rattle.ioa_terms.specs.Sorted.{NameShapes};
 ghost use Rattle.ioa_sort_rules.specs.DeclaredTypes.{IsDeclared};
-ghost use Rattle.ioa_types.specs.NameTables.{with_name};
+ghost use Rattle.ioa_types.specs.NameTables.{AreDistinct, with_name, with_names};
 ghost use Rattle.ioa_types.specs.TypeTables.{TypeTable, shape_of_sort, tuple_shape};
-ghost use Rattle.ioa_types.specs.Meanings.{Means, tuple_types, IsTypeTable};
+ghost use Rattle.ioa_types.specs.Meanings.{Means, tuple_types, IsTypeTable, AreTextTypes};
+ghost use Rattle.ioa_types.specs.TextTypes.{PlainTextTypes, no_types, with_type};
 ghost use Rattle.ioa_types.specs.declared.height.TheConstants.{SHAPE_LIMIT};
 
 /// A sort has a shape exactly if it means one that is not too high. Of a table of types the tuple types in that shape
@@ -27,4 +29,20 @@ pub fn types_law()
         with_name types w (constants w from many) ≡ Ok more → IsTypeTable more }
     ensures tuple { (types more : TypeTable) (w : List ℕ) (fields : List SourceDeclared) (s : PlainShape) →
         IsTypeTable types → tuple_shape types w fields ≡ Ok s → with_name types w s ≡ Ok more → IsTypeTable more }
+{}
+
+/// Types and constants of a text stay such if one more type is declared.
+pub fn text_types_law()
+    ensures none { AreTextTypes no_types }
+    ensures more { (t more : PlainTextTypes) (d : SourceType) → AreTextTypes t → with_type t d ≡ Ok more →
+        AreTextTypes more }
+{}
+
+/// Names are put behind others exactly if they all differ.
+pub fn names_law()
+    ensures behind { (names more all : NameShapes) → with_names names more ≡ Ok all → all ≡ names ++ more }
+    ensures differ { (names more all : NameShapes) → AreDistinct names → with_names names more ≡ Ok all →
+        AreDistinct all }
+    ensures found { (names more : NameShapes) → AreDistinct (names ++ more) →
+        with_names names more ≡ Ok (names ++ more) }
 {}

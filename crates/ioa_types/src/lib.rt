@@ -8,7 +8,7 @@ mod text_types;
 mod types;
 
 pub use height::{SHAPE_LIMIT, ShapeWithHeight};
-pub use laws::types_law;
+pub use laws::{names_law, text_types_law, types_law};
 pub use table::NameTable;
 pub use text_types::TextTypes;
 pub use types::Types;
