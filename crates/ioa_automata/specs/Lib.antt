@@ -1,0 +1,6 @@
+-- what the contracts of this crate and of those above it cite
+pub mod NamesInView
+pub mod Parts
+pub mod Rules
+pub mod Automata
+pub mod SortedView

@@ -1,0 +1,177 @@
+-- The entries of an automaton with their transitions, and its firings, with slots and shapes (profile).
+use Rattle.std.specs.Prelude.{ℕ, Bool, true, false, not, ◌&&◌, ◌||◌, nat_eq, if◌then◌else◌}
+use Rattle.std.specs.Prelude.{List, [], ◌∷◌, Option, Some, None, Result, Ok, Err, map, length, find, slice_get}
+use Rattle.std.specs.List.{list_all, list_any}
+use Rattle.std.specs.Option.{is_some}
+use lib.Pointwise.{pointwise}
+use Rattle.ioa_values.specs.Outcome.{and_then}
+use Rattle.ioa_operators.specs.Shapes.{PlainShape, truths, integers, naturals, constants, tuples, sequences, sets, maps}
+use Rattle.ioa_terms.specs.declared.tree.Kind.{Kind}
+use Rattle.ioa_terms.specs.declared.tree.Kind.TheVariants.{Input, Output}
+use Rattle.ioa_terms.specs.declared.name.Name.TheVariants.{Word}
+use Rattle.ioa_terms.specs.Bindings.{same_word}
+use Rattle.ioa_terms.specs.PlainTerm.{number, truth, name, one, two, call, display, field}
+use Rattle.ioa_terms.specs.SameTerms.{same_kind, same_term}
+use Rattle.ioa_terms.specs.Sorted.{NameShapes, shape_in_terms}
+use Rattle.ioa_actions.specs.ActionParts.{send_name, receive_name}
+use Rattle.ioa_source.specs.PlainText.{const, named}
+use Rattle.ioa_source.specs.Sides.{SourceTerm, SourceParameter, SourceEntry, SourceTransition, SourceFiring}
+use Rattle.ioa_source.specs.Sides.{CheckedTerm, CheckedDeclared, CheckedParameter, CheckedTransition, CheckedVariable}
+use Rattle.ioa_source.specs.Sides.{CheckedFiring}
+use Rattle.ioa_system.specs.Parts.{PlainRule}
+use Rattle.ioa_sort_rules.specs.declared.refusal.Refusal.{Refusal}
+use Rattle.ioa_sort_rules.specs.declared.refusal.Refusal.TheVariants.{Unknown, Twice, Sorts, NoTransition, InputPre}
+use Rattle.ioa_sort_rules.specs.declared.refusal.Refusal.TheVariants.{BadArgument}
+use Rattle.ioa_sorts.specs.Sorting.{fit, sorting}
+use Rattle.ioa_sorts.specs.Statements.{all_ok}
+use Rattle.ioa_types.specs.NameTables.{with_names, words}
+use Rattle.ioa_types.specs.TypeTables.{TypeTable, are_new}
+use Rattle.ioa_automata.specs.NamesInView.{step_scope}
+use Rattle.ioa_automata.specs.Parts.{PlainSortedEntry, entry_at, transition_at}
+
+-- whether an argument of a transition's head repeats a parameter: the same term at a constant, the same name elsewhere
+abbrev pub repeats : SourceParameter → SourceTerm → Bool
+repeats (const t) u = same_term (λ _ _. true) (λ _ _. true) t u
+repeats (named d) (name (Word w) x) = same_word w d.name
+repeats (named d) (number n) = false
+repeats (named d) (truth b) = false
+repeats (named d) (one op a) = false
+repeats (named d) (two op a b) = false
+repeats (named d) (call w ts) = false
+repeats (named d) (display f x ts) = false
+repeats (named d) (field a w x) = false
+
+-- the transition of an entry: the first of its name and kind
+abbrev pub transition_for : SourceEntry → List SourceTransition → Option SourceTransition
+transition_for e ts = find (λ t. same_word t.name e.name && same_kind t.kind e.kind) ts
+
+-- it repeats the entry, and has no guard if it is an input's
+unfoldable pub allowed : SourceEntry → Option SourceTransition → Result SourceTransition Refusal
+allowed e None = Err NoTransition
+allowed e (Some t) =
+    if pointwise repeats e.parameters t.arguments
+    then (if is_some t.pre && same_kind e.kind Input then Err InputPre else Ok t)
+    else Err BadArgument
+
+-- whether a shape is that of `Int` or `Nat`
+abbrev pub is_number : PlainShape → Bool
+is_number truths = false
+is_number integers = true
+is_number naturals = true
+is_number (constants w from many) = false
+is_number (tuples w ns ss) = false
+is_number (sequences s) = false
+is_number (sets s) = false
+is_number (maps k v) = false
+
+-- whether a parameter is there and is a constant
+abbrev pub is_constant : Option CheckedParameter → Bool
+is_constant None = false
+is_constant (Some (const t)) = true
+is_constant (Some (named d)) = false
+
+-- whether there is a shape and it is that of numbers
+abbrev pub is_number_if : Option PlainShape → Bool
+is_number_if None = false
+is_number_if (Some s) = is_number s
+
+-- whether arguments are a message and the numbers of two nodes
+abbrev pub has_message_shapes : List PlainShape → Bool
+has_message_shapes ss =
+    nat_eq (length ss) 3 && (is_number_if (slice_get ss 1) && is_number_if (slice_get ss 2))
+
+-- whether an entry may have its name (profile): `send` is an output whose second argument is constant, and `receive` an
+-- input whose third argument is constant and whose first is not; both have a message and the numbers of two nodes
+abbrev pub is_send : PlainSortedEntry → Bool
+is_send e =
+    same_kind e.entry.kind Output && (has_message_shapes e.shapes && is_constant (slice_get e.entry.parameters 1))
+
+abbrev pub is_receive : PlainSortedEntry → Bool
+is_receive e =
+    same_kind e.entry.kind Input
+    && (has_message_shapes e.shapes
+    && (is_constant (slice_get e.entry.parameters 2) && not (is_constant (slice_get e.entry.parameters 0))))
+
+abbrev pub may_have_name : PlainSortedEntry → Bool
+may_have_name e =
+    (not (same_word e.entry.name send_name) || is_send e) && (not (same_word e.entry.name receive_name) || is_receive e)
+
+unfoldable pub message_at : PlainSortedEntry → Result PlainSortedEntry Refusal
+message_at e = if may_have_name e then Ok e else Err BadArgument
+
+-- an entry with its transition, and the shapes of its arguments
+pub record PlainSortedRule : Type 0 where
+  pub rule : PlainRule
+  pub shapes : List PlainShape
+
+abbrev pub sorted_rule : PlainSortedEntry → CheckedTransition → NameShapes → PlainSortedRule
+sorted_rule e t scope =
+    record { rule = record { entry = e.entry; transition = t; scope = words scope }; shapes = e.shapes }
+
+-- what the entries of an automaton read: the text's constants and types, the automaton's parameters, the names in view
+-- of constants, and the state variables
+pub record PlainSurroundings : Type 0 where
+  pub constants : NameShapes
+  pub types : TypeTable
+  pub parameters : List CheckedDeclared
+  pub names : NameShapes
+  pub variables : List CheckedVariable
+
+-- the transition of a sorted entry
+unfoldable pub rule_of : PlainSurroundings → SourceTransition → PlainSortedEntry → Result PlainSortedRule Refusal
+rule_of s t e = and_then (step_scope s.parameters s.variables e.entry.parameters)
+    (λ scope. and_then (with_names scope s.constants)
+    (λ names. and_then (transition_at names (length s.variables) t) (λ u. Ok (sorted_rule e u scope))))
+
+-- an entry with its transition
+unfoldable pub rule_at : PlainSurroundings → List SourceTransition → SourceEntry → Result PlainSortedRule Refusal
+rule_at s ts e = and_then (allowed e (transition_for e ts))
+    (λ t. and_then (entry_at s.constants s.types s.parameters s.names e)
+    (λ x. and_then (message_at x) (rule_of s t)))
+
+abbrev pub rules_at : PlainSurroundings → List SourceTransition → List SourceEntry
+    → Result (List PlainSortedRule) Refusal
+rules_at s ts es = all_ok (map (rule_at s ts) es)
+
+-- whether a firing is of an entry: it names the entry's actions, and its kind if it has one
+abbrev pub is_of_kind : Option Kind → Kind → Bool
+is_of_kind None k = true
+is_of_kind (Some j) k = same_kind j k
+
+abbrev pub fires : SourceFiring → PlainSortedRule → Bool
+fires f r = same_word r.rule.entry.name f.action && is_of_kind f.kind r.rule.entry.kind
+
+-- a firing of `send` or `receive` names an entry; other actions do not run yet
+abbrev pub is_message : List ℕ → Bool
+is_message w = same_word w send_name || same_word w receive_name
+
+unfoldable pub entry_fired : SourceFiring → Option PlainSortedRule → Result (List PlainShape) Refusal
+entry_fired f None = Err Unknown
+entry_fired f (Some r) = if is_message f.action then Ok r.shapes else Err Unknown
+
+-- arguments, each of the shape at its position
+abbrev pub arguments_at : NameShapes → List PlainShape → List SourceTerm → Result (List CheckedTerm) Refusal
+arguments_at names [] [] = Ok []
+arguments_at names [] (t ∷ ts) = Err Sorts
+arguments_at names (s ∷ ss) [] = Err Sorts
+arguments_at names (s ∷ ss) (t ∷ ts) = and_then (fit (sorting names t) (shape_in_terms s))
+    (λ c. and_then (arguments_at names ss ts) (λ cs. Ok (c ∷ cs)))
+
+unfoldable pub firing_at : NameShapes → List PlainSortedRule → SourceFiring → Result CheckedFiring Refusal
+firing_at names rs f = and_then (entry_fired f (find (fires f) rs))
+    (λ ss. and_then (arguments_at names ss f.arguments)
+    (λ ts. Ok (record { kind = f.kind; action = f.action; arguments = ts })))
+
+abbrev pub firings_at : NameShapes → List PlainSortedRule → List SourceFiring → Result (List CheckedFiring) Refusal
+firings_at names rs fs = all_ok (map (firing_at names rs) fs)
+
+-- whether a transition has an entry of its name and kind
+abbrev pub has_entry : List SourceEntry → SourceTransition → Bool
+has_entry es t = list_any (λ e. same_word e.name t.name && same_kind e.kind t.kind) es
+
+-- the names of entries differ, so do those of transitions, and each transition has an entry
+abbrev pub differ : List (List ℕ) → Result (Unit {0}) Refusal
+differ ws = if are_new [] ws then Ok tt else Err Twice
+
+abbrev pub have_entries : List SourceEntry → List SourceTransition → Result (Unit {0}) Refusal
+have_entries es ts = if list_all (has_entry es) ts then Ok tt else Err Unknown

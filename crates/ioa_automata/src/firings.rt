@@ -1,0 +1,139 @@
+//! The firings of an automaton, with slots and shapes.
+
+ghost use Rattle.std.specs.Prelude.{◌≡◌, map, find};
+ghost use Rattle.std.specs.Option.{option_copied, option_map};
+ghost use Rattle.ioa_values.specs.Outcome.{Answers};
+ghost use Rattle.ioa_terms.specs.View.{firing_of, term_of};
+ghost use Rattle.ioa_automata.specs.Rules as spec;
+ghost use Rattle.ioa_automata.specs.SortedView.{sorted_rule_of};
+
+use crate::rules::SortedRule;
+use ioa_actions::{RECEIVE, SEND};
+use ioa_sort_rules::{Refusal, shape_in_terms};
+use ioa_sorts::{View, fit};
+use ioa_terms::{Checked, Firing, Kind, Shape, Term, Word};
+use std::alloc::Global;
+
+/// Whether a kind is the one that is written, if one is.
+fn is_of_kind(written: Option<Kind>, kind: Kind) -> bool
+    ensures { result ≡ spec.is_of_kind written kind }
+{
+    match written {
+        None => true,
+        Some(other) => other == kind,
+    }
+}
+
+/// Whether a firing is of an entry.
+fn fires(firing: &Firing<(), ()>, rule: &SortedRule) -> bool
+    ensures { result ≡ spec.fires (firing_of firing.now) (sorted_rule_of rule.now) }
+{
+    rule.rule.entry.name == firing.action && is_of_kind(firing.kind, rule.rule.entry.kind)
+}
+
+/// The rule that a firing names, if there is one.
+fn rule_fired<'a>(rules: &'a Vec<SortedRule>, firing: &Firing<(), ()>) -> Option<&'a SortedRule>
+    ensures { option_map sorted_rule_of (option_copied result)
+        ≡ find (spec.fires (firing_of firing.now)) (map sorted_rule_of rules.now.items) }
+{
+    for rule in rules {
+        if fires(firing, rule) {
+            return Some(rule);
+        }
+    }
+    None
+}
+
+/// Whether actions of this name are sends or receives.
+fn is_message(action: &Word) -> bool
+    ensures { result ≡ spec.is_message action.now }
+{
+    action.as_str() == SEND || action.as_str() == RECEIVE
+}
+
+/// The shapes of the arguments that a firing takes. `Unknown` (20) if it names no entry, or an action that does not
+/// run yet.
+#[tactic(auto, unfolding(crate::specs::Rules::entry_fired))]
+fn shapes_fired<'a>(
+    rules: &'a Vec<SortedRule>,
+    firing: &Firing<(), ()>,
+) -> Result<&'a Vec<Shape>, Refusal>
+    ensures { Answers Refusal.Memory (λ ss. ss.now.items) result (spec.entry_fired (firing_of firing.now)
+        (find (spec.fires (firing_of firing.now)) (map sorted_rule_of rules.now.items))) }
+{
+    match rule_fired(rules, firing) {
+        None => Err(Refusal::Unknown),
+        Some(rule) => {
+            if is_message(&firing.action) {
+                Ok(&rule.shapes)
+            } else {
+                Err(Refusal::Unknown)
+            }
+        }
+    }
+}
+
+/// Arguments, each of the shape at its position. `Sorts` (22) if there are more or fewer.
+fn sort_arguments(
+    alloc: Global,
+    view: &View,
+    shapes: &Vec<Shape>,
+    arguments: &Vec<Term>,
+) -> Result<Vec<Checked>, Refusal>
+    ensures { Answers Refusal.Memory (λ ts. map term_of ts.items) result
+        (spec.arguments_at view.now shapes.now.items (map term_of arguments.now.items)) }
+{
+    let mut sorted = Vec::new(alloc);
+    for (position, argument) in arguments.iter().enumerate() {
+        match shapes.get(position) {
+            None => return Err(Refusal::Sorts),
+            Some(shape) => {
+                let found = fit(alloc, view, argument, &shape_in_terms(alloc, shape)?)?;
+                sorted.push(found)?;
+            }
+        }
+    }
+    match shapes.get(arguments.len()) {
+        None => Ok(sorted),
+        Some(_) => Err(Refusal::Sorts),
+    }
+}
+
+/// A firing: its arguments are of the shapes of its entry.
+#[tactic(auto, unfolding(crate::specs::Rules::firing_at))]
+fn sort_firing(
+    alloc: Global,
+    view: &View,
+    rules: &Vec<SortedRule>,
+    firing: &Firing<(), ()>,
+) -> Result<Firing<usize, Shape>, Refusal>
+    ensures { Answers Refusal.Memory firing_of result
+        (spec.firing_at view.now (map sorted_rule_of rules.now.items) (firing_of firing.now)) }
+{
+    let shapes = shapes_fired(rules, firing)?;
+    let arguments = sort_arguments(alloc, view, shapes, &firing.arguments)?;
+    let action = firing.action.try_copy(alloc)?;
+    Ok(Firing {
+        kind: firing.kind,
+        action,
+        arguments,
+    })
+}
+
+/// The firings of a schedule block.
+pub(crate) fn sort_firings(
+    alloc: Global,
+    view: &View,
+    rules: &Vec<SortedRule>,
+    firings: &Vec<Firing<(), ()>>,
+) -> Result<Vec<Firing<usize, Shape>>, Refusal>
+    ensures { Answers Refusal.Memory (λ fs. map firing_of fs.items) result
+        (spec.firings_at view.now (map sorted_rule_of rules.now.items) (map firing_of firings.now.items)) }
+{
+    let mut sorted = Vec::new(alloc);
+    for firing in firings {
+        let found = sort_firing(alloc, view, rules, firing)?;
+        sorted.push(found)?;
+    }
+    Ok(sorted)
+}

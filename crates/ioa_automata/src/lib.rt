@@ -1,0 +1,11 @@
+//! The automata of a text with the slot of each name and the shape of each sort and display.
+#![tactic(auto)]
+
+mod automata;
+mod firings;
+mod names;
+mod parts;
+mod rules;
+
+pub use automata::{SortedAutomaton, sort_automaton};
+pub use rules::SortedRule;

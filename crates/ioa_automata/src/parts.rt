@@ -1,0 +1,301 @@
+//! The declarations of an automaton, with the slot of each name and the shape of each sort and display.
+
+ghost use Rattle.std.specs.Prelude.{◌≡◌, map, take};
+ghost use Rattle.std.specs.Option.{option_map};
+ghost use Rattle.ioa_values.specs.Outcome.{Answers};
+ghost use Rattle.ioa_terms.specs.PlainTerm.{statements_of};
+ghost use Rattle.ioa_terms.specs.View.{statement_of, term_of};
+ghost use Rattle.ioa_source.specs.TextView.{declared_of, parameter_of, entry_of, transition_of, variable_of};
+ghost use Rattle.ioa_sorts.specs.SortingView.{typed_of};
+ghost use Rattle.ioa_automata.specs.Parts as spec;
+ghost use Rattle.ioa_automata.specs.SortedView.{sorted_parameter_of, sorted_parameters_of, sorted_entry_of};
+
+use crate::names::{condition_scope, view_of};
+use ioa_sort_rules::{Refusal, shape_in_terms};
+use ioa_sorts::{Typed, View, fit, infer, sort_statements};
+use ioa_source::{Declared, Entry, Parameter, Transition, Variable};
+use ioa_terms::{Checked, Kind, Shape, ShapeForm, Term};
+use ioa_types::{NameTable, Types};
+use std::alloc::Global;
+
+/// A parameter of an entry, and the shape of the arguments that it takes.
+#[derive(Drop)]
+pub(crate) struct SortedParameter {
+    pub parameter: Parameter<usize, Shape>,
+    pub shape: Shape,
+}
+
+/// The parameters of an entry, and the shapes of its arguments.
+#[derive(Drop)]
+pub(crate) struct SortedParameters {
+    pub parameters: Vec<Parameter<usize, Shape>>,
+    pub shapes: Vec<Shape>,
+}
+
+/// An entry, and the shapes of its arguments.
+#[derive(Drop)]
+pub(crate) struct SortedEntry {
+    pub entry: Entry<usize, Shape>,
+    pub shapes: Vec<Shape>,
+}
+
+/// A declared name with the shape of its sort.
+#[tactic(auto, unfolding(crate::specs::Parts::declared_at))]
+fn sort_declared(
+    alloc: Global,
+    types: &Types,
+    declared: &Declared<()>,
+) -> Result<Declared<Shape>, Refusal>
+    ensures { Answers Refusal.Memory declared_of result
+        (spec.declared_at types.now (declared_of declared.now)) }
+{
+    let shape = types.shape_of(alloc, &declared.sort)?.into_shape();
+    let name = declared.name.try_copy(alloc)?;
+    let sort = declared.sort.try_copy(alloc)?;
+    Ok(Declared { name, sort, shape })
+}
+
+/// Declared names with the shapes of their sorts.
+pub(crate) fn sort_all_declared(
+    alloc: Global,
+    types: &Types,
+    all: &Vec<Declared<()>>,
+) -> Result<Vec<Declared<Shape>>, Refusal>
+    ensures { Answers Refusal.Memory (λ ds. map declared_of ds.items) result
+        (spec.all_declared_at types.now (map declared_of all.now.items)) }
+{
+    let mut sorted = Vec::new(alloc);
+    for declared in all {
+        let found = sort_declared(alloc, types, declared)?;
+        sorted.push(found)?;
+    }
+    Ok(sorted)
+}
+
+/// A term that has a shape of its own. `EmptyOfWhat` (32) if it is a display.
+fn infer_own(alloc: Global, view: &View, term: &Term) -> Result<Typed, Refusal>
+    ensures { Answers Refusal.Memory typed_of result (spec.inferred view.now (term_of term.now)) }
+{
+    known(infer(alloc, view, term)?)
+}
+
+/// What a term has of its own. `EmptyOfWhat` (32) if that is nothing.
+#[tactic(auto, unfolding(crate::specs::Parts::known))]
+fn known(found: Option<Typed>) -> Result<Typed, Refusal>
+    ensures { Answers Refusal.Memory typed_of result (spec.known (option_map typed_of found)) }
+{
+    match found {
+        None => Err(Refusal::EmptyOfWhat),
+        Some(typed) => Ok(typed),
+    }
+}
+
+/// Terms that have shapes of their own.
+fn infer_terms(alloc: Global, view: &View, terms: &Vec<Term>) -> Result<Vec<Checked>, Refusal>
+    ensures { Answers Refusal.Memory (λ ts. map term_of ts.items) result
+        (spec.own_terms view.now (map term_of terms.now.items)) }
+{
+    let mut sorted = Vec::new(alloc);
+    for term in terms {
+        let found = infer_own(alloc, view, term)?;
+        sorted.push(found.tree)?;
+    }
+    Ok(sorted)
+}
+
+/// A condition, if one is written.
+#[tactic(auto, unfolding(crate::specs::Parts::condition_at))]
+fn sort_condition(
+    alloc: Global,
+    view: &View,
+    condition: &Option<Term>,
+) -> Result<Option<Checked>, Refusal>
+    ensures { Answers Refusal.Memory (λ c. option_map term_of c) result
+        (spec.condition_at view.now (option_map term_of condition.now)) }
+{
+    match condition {
+        None => Ok(None),
+        Some(term) => Ok(Some(fit(alloc, view, term, &Shape::of(ShapeForm::Truths))?)),
+    }
+}
+
+/// The initial term of a state variable of a shape. `NoInitial` (23) if there is none.
+#[tactic(auto, unfolding(crate::specs::Parts::initial_at))]
+fn sort_initial(
+    alloc: Global,
+    view: &View,
+    shape: &Shape,
+    initial: &Option<Term>,
+) -> Result<Checked, Refusal>
+    ensures { Answers Refusal.Memory term_of result
+        (spec.initial_at view.now shape.now (option_map term_of initial.now)) }
+{
+    match initial {
+        None => Err(Refusal::NoInitial),
+        Some(term) => fit(alloc, view, term, &shape_in_terms(alloc, shape)?),
+    }
+}
+
+/// A state variable with its initial term.
+#[tactic(auto, unfolding(crate::specs::Parts::variable_at))]
+fn sort_variable(
+    alloc: Global,
+    types: &Types,
+    view: &View,
+    variable: &Variable<(), ()>,
+) -> Result<Variable<usize, Shape>, Refusal>
+    ensures { Answers Refusal.Memory variable_of result
+        (spec.variable_at types.now view.now (variable_of variable.now)) }
+{
+    let declared = sort_declared(alloc, types, &variable.declared)?;
+    let initial = sort_initial(alloc, view, &declared.shape, &variable.initial)?;
+    Ok(Variable {
+        declared,
+        initial: Some(initial),
+    })
+}
+
+/// State variables with their initial terms.
+pub(crate) fn sort_variables(
+    alloc: Global,
+    types: &Types,
+    view: &View,
+    variables: &Vec<Variable<(), ()>>,
+) -> Result<Vec<Variable<usize, Shape>>, Refusal>
+    ensures { Answers Refusal.Memory (λ vs. map variable_of vs.items) result
+        (spec.variables_at types.now view.now (map variable_of variables.now.items)) }
+{
+    let mut sorted = Vec::new(alloc);
+    for variable in variables {
+        let found = sort_variable(alloc, types, view, variable)?;
+        sorted.push(found)?;
+    }
+    Ok(sorted)
+}
+
+/// A parameter of an entry. `EmptyOfWhat` (32) if it is a constant that is a display.
+#[tactic(auto, unfolding(crate::specs::Parts::parameter_at))]
+fn sort_parameter(
+    alloc: Global,
+    types: &Types,
+    view: &View,
+    parameter: &Parameter<(), ()>,
+) -> Result<SortedParameter, Refusal>
+    ensures { Answers Refusal.Memory sorted_parameter_of result
+        (spec.parameter_at types.now view.now (parameter_of parameter.now)) }
+{
+    match parameter {
+        Parameter::Const(term) => {
+            let typed = infer_own(alloc, view, term)?;
+            Ok(SortedParameter {
+                parameter: Parameter::Const(typed.tree),
+                shape: typed.shape,
+            })
+        }
+        Parameter::Declared(declared) => {
+            let declared = sort_declared(alloc, types, declared)?;
+            let shape = declared.shape.try_copy(alloc)?;
+            Ok(SortedParameter {
+                parameter: Parameter::Declared(declared),
+                shape,
+            })
+        }
+    }
+}
+
+/// The parameters of an entry, and the shapes of its arguments.
+fn sort_parameters(
+    alloc: Global,
+    types: &Types,
+    view: &View,
+    parameters: &Vec<Parameter<(), ()>>,
+) -> Result<SortedParameters, Refusal>
+    ensures { Answers Refusal.Memory sorted_parameters_of result
+        (spec.parameters_at types.now view.now (map parameter_of parameters.now.items)) }
+{
+    let mut sorted = Vec::new(alloc);
+    let mut shapes = Vec::new(alloc);
+    for parameter in parameters {
+        let found = sort_parameter(alloc, types, view, parameter)?;
+        sorted.push(found.parameter)?;
+        shapes.push(found.shape)?;
+    }
+    Ok(SortedParameters {
+        parameters: sorted,
+        shapes,
+    })
+}
+
+/// The condition of an entry. `InputWhere` (33) if an input has one.
+#[tactic(auto, unfolding(crate::specs::Parts::where_at))]
+fn sort_where(
+    alloc: Global,
+    view: &View,
+    kind: Kind,
+    condition: &Option<Term>,
+) -> Result<Option<Checked>, Refusal>
+    ensures { Answers Refusal.Memory (λ c. option_map term_of c) result
+        (spec.where_at view.now kind (option_map term_of condition.now)) }
+{
+    match condition {
+        None => Ok(None),
+        Some(_) => match kind {
+            Kind::Input => Err(Refusal::InputWhere),
+            Kind::Output => sort_condition(alloc, view, condition),
+            Kind::Internal => sort_condition(alloc, view, condition),
+        },
+    }
+}
+
+/// An entry of an automaton with these parameters. `view` has the names in view of constants.
+#[tactic(auto, unfolding(crate::specs::Parts::entry_at))]
+pub(crate) fn sort_entry(
+    alloc: Global,
+    constants: &NameTable,
+    types: &Types,
+    given: &Vec<Declared<Shape>>,
+    view: &View,
+    entry: &Entry<(), ()>,
+) -> Result<SortedEntry, Refusal>
+    ensures { Answers Refusal.Memory sorted_entry_of result
+        (spec.entry_at constants.now types.now (map declared_of given.now.items) view.now (entry_of entry.now)) }
+{
+    let sorted = sort_parameters(alloc, types, view, &entry.parameters)?;
+    let scope = condition_scope(alloc, given, &sorted.parameters)?;
+    let view = view_of(alloc, scope, constants)?;
+    let condition = sort_where(alloc, &view, entry.kind, &entry.condition)?;
+    let name = entry.name.try_copy(alloc)?;
+    Ok(SortedEntry {
+        entry: Entry {
+            kind: entry.kind,
+            name,
+            parameters: sorted.parameters,
+            condition,
+        },
+        shapes: sorted.shapes,
+    })
+}
+
+/// A transition, of whose names in view the first `variables` may be assigned.
+#[tactic(auto, unfolding(crate::specs::Parts::transition_at))]
+pub(crate) fn sort_transition(
+    alloc: Global,
+    view: &View,
+    variables: usize,
+    transition: &Transition<(), ()>,
+) -> Result<Transition<usize, Shape>, Refusal>
+    ensures { Answers Refusal.Memory transition_of result
+        (spec.transition_at view.now variables (transition_of transition.now)) }
+{
+    let arguments = infer_terms(alloc, view, &transition.arguments)?;
+    let pre = sort_condition(alloc, view, &transition.pre)?;
+    let effect = sort_statements(alloc, view, &transition.effect, variables)?;
+    let name = transition.name.try_copy(alloc)?;
+    Ok(Transition {
+        kind: transition.kind,
+        name,
+        arguments,
+        pre,
+        effect,
+    })
+}
