@@ -1,2 +1,6 @@
 -- the lemmas of this crate
 pub mod Loops
+pub mod Results
+pub mod Sound
+pub mod SoundRules
+pub mod Complete

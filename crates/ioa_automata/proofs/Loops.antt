@@ -5,7 +5,7 @@ use Rattle.ioa_values.specs.Outcome.{and_then}
 use Rattle.ioa_sort_rules.specs.declared.refusal.Refusal.{Refusal}
 use Rattle.ioa_sorts.specs.Statements.{all_ok}
 
-abbrev results_are : {A : Type 0} → List A → Result (List A) Refusal
+abbrev pub results_are : {A : Type 0} → List A → Result (List A) Refusal
 results_are xs = Ok xs
 
 pushed : {B C : Type 0} (view : C → B) (done : List C) (c : C) (xs : List B) → map view done ++ view c ∷ xs ≡ map view (done ++ c ∷ []) ++ xs

@@ -4,3 +4,4 @@ pub mod Parts
 pub mod Rules
 pub mod Automata
 pub mod SortedView
+pub mod SortedAutomata

@@ -3,9 +3,11 @@
 
 mod automata;
 mod firings;
+mod laws;
 mod names;
 mod parts;
 mod rules;
 
 pub use automata::{SortedAutomaton, sort_automaton};
+pub use laws::automata_law;
 pub use rules::SortedRule;

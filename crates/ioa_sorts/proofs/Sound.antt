@@ -518,6 +518,18 @@ module _ (types : TupleTypes) (names : NameShapes) where
         by_found : IsKnown u (Some (typed t s)) → IsTermOf names u t s
         by_found h = h.1.of
 
+    pub own_declared : (u : SourceTerm) (t : SortedTerm) (s : PlainShape) → own_is t s ≡ infer (sorting names u) → IsDeclared types s
+    own_declared u t s e = by_found (subst (λ r. IfOk r (IsKnown u)) (sym e) (infer_good u (sorting names u) (good u)))
+      where
+        by_found : IsKnown u (Some (typed t s)) → IsDeclared types s
+        by_found h = h.1.declared
+
+    pub own_bare : (u : SourceTerm) (t : SortedTerm) (s : PlainShape) → own_is t s ≡ infer (sorting names u) → is_display u ≡ false
+    own_bare u t s e = by_found (subst (λ r. IfOk r (IsKnown u)) (sym e) (infer_good u (sorting names u) (good u)))
+      where
+        by_found : IsKnown u (Some (typed t s)) → is_display u ≡ false
+        by_found h = h.0
+
     pub fit_sound : (u : SourceTerm) (s : PlainShape) → IsDeclared types s → (t : SortedTerm) → fit_is t ≡ fit (sorting names u) s → IsTermOf names u t s
     fit_sound u s d t e = by_found (subst (λ r. IfOk r (λ x. IsFound types names u x s)) (sym e) (fit_good u (sorting names u) s (good u) d))
       where

@@ -20,6 +20,10 @@ pub fn sorts_law()
     // what the rules find
     ensures own { (types : TupleTypes) (names : NameShapes) → AreAllDeclared types names → (u : SourceTerm)
         (t : SortedTerm) (s : PlainShape) → infer (sorting names u) ≡ Ok (Some (typed t s)) → IsTermOf names u t s }
+    ensures own_declared { (types : TupleTypes) (names : NameShapes) → AreAllDeclared types names → (u : SourceTerm)
+        (t : SortedTerm) (s : PlainShape) → infer (sorting names u) ≡ Ok (Some (typed t s)) → IsDeclared types s }
+    ensures own_bare { (types : TupleTypes) (names : NameShapes) → AreAllDeclared types names → (u : SourceTerm)
+        (t : SortedTerm) (s : PlainShape) → infer (sorting names u) ≡ Ok (Some (typed t s)) → is_display u ≡ false }
     ensures wanted { (types : TupleTypes) (names : NameShapes) → AreAllDeclared types names → (u : SourceTerm)
         (s : PlainShape) → IsDeclared types s →
         (t : SortedTerm) → fit (sorting names u) s ≡ Ok t → IsTermOf names u t s }

@@ -1,0 +1,244 @@
+-- Each automaton with slots and shapes is found.
+use Rattle.std.proofs.Common.{◌≡◌, ◌<◌, ◌&&◌, ℕ, Bool, true, false, List, [], ◌∷◌, ◌++◌, Option, Some, None, Result, Ok, Err, refl, sym, ap, subst, ◌∙◌, map, length, take, if◌then◌else◌}
+use Rattle.std.specs.Prelude.{find}
+use Rattle.std.specs.List.{AllByRecursion, AllZip, IsDistinct, list_all}
+use Rattle.std.specs.Option.{is_some}
+use Rattle.std.proofs.lemmas.List.{append_assoc}
+use lib.Pointwise.{pointwise}
+use Rattle.ioa_values.specs.Outcome.{and_then}
+use Rattle.ioa_operators.specs.Shapes.{PlainShape, truths}
+use Rattle.ioa_terms.specs.declared.tree.Kind.{Kind}
+use Rattle.ioa_terms.specs.declared.tree.Kind.TheVariants.{Input, Output, Internal}
+use Rattle.ioa_terms.specs.PlainTerm.{statements_of}
+use Rattle.ioa_terms.specs.SameTerms.{same_kind}
+use Rattle.ioa_terms.specs.Sorted.{NameShapes, shape_in_terms}
+use Rattle.ioa_source.specs.PlainText.{const, named}
+use Rattle.ioa_source.specs.Sides.{SourceTerm, SourceDeclared, SourceParameter, SourceEntry, SourceVariable, SourceTransition, SourceFiring, SourceStatement, SourceAutomaton, CheckedTerm, CheckedDeclared, CheckedParameter, CheckedVariable, CheckedTransition, CheckedFiring, CheckedStatement}
+use Rattle.ioa_system.specs.InView.{entry_constant, initial_value, entry_condition, guard_or_effect, firing}
+use Rattle.ioa_sort_rules.specs.declared.refusal.Refusal.{Refusal}
+use Rattle.ioa_sorts.specs.Sorting.{PlainTyped, typed, infer, fit, sorting}
+use Rattle.ioa_sorts.specs.Statements.{all_ok, statement_sorting, statement_sortings}
+use Rattle.ioa_sorts.specs.SortedStatements.{IsStatementOf}
+use Rattle.ioa_sorts.proofs.Complete.{fit_complete, infer_complete}
+use Rattle.ioa_sorts.proofs.CompleteStatements.{statement_complete}
+use Rattle.ioa_types.specs.NameTables.{AreDistinct, with_names, words}
+use Rattle.ioa_types.specs.TextTypes.{PlainTextTypes}
+use Rattle.ioa_types.specs.TypeTables.{TypeTable, are_new}
+use Rattle.ioa_types.proofs.Meant.{sort_found}
+use Rattle.ioa_types.proofs.Names.{all_found}
+use Rattle.ioa_automata.specs.NamesInView.{parameter_shapes, variable_shapes, own_shapes, given_scope, condition_scope, step_scope, firing_scope}
+use Rattle.ioa_automata.specs.Parts.{declared_at, all_declared_at, known, inferred, own_term, own_terms, condition_at, initial_at, variable_at, variables_at, sorted_parameter, parameter_at, sorted_parameters, parameters_at, where_at, PlainSortedEntry, names_in_condition, entry_at, transition_at}
+use Rattle.ioa_automata.specs.Rules.{repeats, transition_for, allowed, may_have_name, message_at, PlainSortedRule, PlainSurroundings, rule_of, rule_at, rules_at, fires, is_message, entry_fired, arguments_at, firing_at, firings_at, has_entry, differ, have_entries}
+use Rattle.ioa_automata.specs.Automata.{PlainHeading, heading_at, surroundings, actions_at, PlainSortedAutomaton, automaton_at}
+use Rattle.ioa_automata.specs.SortedAutomata.{IsDeclaredOf, IsOwnTermOf, IsInitialOf, IsVariableOf, IsConditionOf, IsParameterOf, AreParametersOf, IsTransitionOf, IsRuleOf, AreArgumentsOf, IsFiringOf, IsAutomatonOf, names_at}
+use Rattle.ioa_automata.proofs.Loops.{results_are}
+use Rattle.ioa_automata.proofs.Results.{result_is, zip_weaker}
+
+-- results that are all there
+all_ok_all : {A B : Type 0} (f : A → Result B Refusal) (xs : List A) (ys : List B) → AllZip (λ x y. result_is y ≡ f x) xs ys → results_are ys ≡ all_ok (map f xs)
+all_ok_all f [] [] h = refl
+all_ok_all f [] (y ∷ ys) h = absurd h
+all_ok_all f (x ∷ xs) [] h = absurd h
+all_ok_all f (x ∷ xs) (y ∷ ys) h = rw (← h.0, ← all_ok_all f xs ys h.1) refl
+
+-- names that differ still do if some are left away
+first_all : (P : List ℕ → Type 0) (xs ys : NameShapes) → AllByRecursion P (words (xs ++ ys)) → AllByRecursion P (words xs)
+first_all P [] ys h = tt
+first_all P (x ∷ xs) ys h = (h.0, first_all P xs ys h.1)
+
+first_differ : (xs ys : NameShapes) → AreDistinct (xs ++ ys) → AreDistinct xs
+unfolding IsDistinct
+first_differ [] ys d = tt
+first_differ (x ∷ xs) ys d = (first_all _ xs ys d.0, first_differ xs ys d.1)
+
+-- two lists of names, one behind the other
+two_found : (xs ys : NameShapes) → AreDistinct (xs ++ ys) → result_is (xs ++ ys) ≡ and_then (with_names [] xs) (λ n. with_names n ys)
+two_found xs ys d = rw (← all_found [] xs (first_differ xs ys d)) (all_found xs ys d)
+
+-- and three
+three_found : (xs ys zs : NameShapes) → AreDistinct (xs ++ (ys ++ zs)) → result_is (xs ++ (ys ++ zs)) ≡ and_then (with_names [] xs) (λ n. and_then (with_names n ys) (λ m. with_names m zs))
+three_found xs ys zs d =
+    let e : AreDistinct ((xs ++ ys) ++ zs) = subst AreDistinct (sym (append_assoc xs ys zs)) d in
+    let two : AreDistinct (xs ++ ys) = first_differ (xs ++ ys) zs e in
+    rw (← all_found [] xs (first_differ xs ys two), ← all_found xs ys two, ← append_assoc xs ys zs) (all_found (xs ++ ys) zs e)
+
+module _ (types : TypeTable) where
+  declared_found : (d : SourceDeclared) (c : CheckedDeclared) → IsDeclaredOf types d c → result_is c ≡ declared_at types d
+  unfolding declared_at
+  declared_found d c h = rw (← sort_found types d.sort c.shape h.means h.low) (ap result_is (rebuilt d c h))
+    where
+      rebuilt : (d : SourceDeclared) (c : CheckedDeclared) → IsDeclaredOf types d c → c ≡ record { name = d.name; sort = d.sort; shape = c.shape }
+      rebuilt d c h = λ i. record { name = (h.same i).name; sort = (h.same i).sort; shape = c.shape }
+
+  all_declared_found : (ds : List SourceDeclared) (cs : List CheckedDeclared) → AllZip (IsDeclaredOf types) ds cs → results_are cs ≡ all_declared_at types ds
+  all_declared_found ds cs h = all_ok_all (declared_at types) ds cs (zip_weaker (IsDeclaredOf types) (λ d c. result_is c ≡ declared_at types d) declared_found ds cs h)
+
+  module _ (names : NameShapes) where
+    abbrev typed_is : CheckedTerm → PlainShape → Result PlainTyped Refusal
+    typed_is c s = Ok (typed c s)
+
+    inferred_found : (t : SourceTerm) (c : CheckedTerm) (s : PlainShape) → IsOwnTermOf names t c s → typed_is c s ≡ inferred names t
+    unfolding known
+    inferred_found t c s h = rw (← infer_complete names t c s h.term h.own) refl
+
+    own_term_found : (t : SourceTerm) (c : CheckedTerm) → (s : PlainShape) × IsOwnTermOf names t c s → result_is c ≡ own_term names t
+    own_term_found t c h = rw (← inferred_found t c h.0 h.1) refl
+
+    condition_found : (o : Option SourceTerm) (c : Option CheckedTerm) → IsConditionOf names o c → result_is c ≡ condition_at names o
+    unfolding condition_at
+    condition_found None None h = refl
+    condition_found None (Some c) h = absurd h
+    condition_found (Some t) None h = absurd h
+    condition_found (Some t) (Some c) h = rw (← fit_complete names t c truths h) refl
+
+    where_found : (k : Kind) (o : Option SourceTerm) (c : Option CheckedTerm) → IsConditionOf names o c → is_some o && same_kind k Input ≡ false → result_is c ≡ where_at names k o
+    unfolding where_at
+    where_found k None None h n = refl
+    where_found k None (Some c) h n = absurd h
+    where_found k (Some t) None h n = absurd h
+    where_found Input (Some t) (Some c) h n = absurd (cc)
+    where_found Output (Some t) (Some c) h n = condition_found (Some t) (Some c) h
+    where_found Internal (Some t) (Some c) h n = condition_found (Some t) (Some c) h
+
+    initial_found : (s : PlainShape) (o : Option SourceTerm) (c : Option CheckedTerm) → IsInitialOf names s o c → (u : CheckedTerm) × (c ≡ Some u) × (result_is u ≡ initial_at names s o)
+    unfolding initial_at
+    initial_found s None None h = absurd h
+    initial_found s None (Some c) h = absurd h
+    initial_found s (Some t) None h = absurd h
+    initial_found s (Some t) (Some c) h = (c, refl, fit_complete names t c (shape_in_terms s) h)
+
+    variable_found : (v : SourceVariable) (c : CheckedVariable) → IsVariableOf types names v c → result_is c ≡ variable_at types names v
+    unfolding variable_at
+    variable_found v c h =
+        let first = initial_found c.declared.shape v.initial c.initial h.initial in
+        rw (← declared_found v.declared c.declared h.declared, ← first.2) (ap result_is (rebuilt c first.0 first.1))
+      where
+        rebuilt : (c : CheckedVariable) (u : CheckedTerm) → c.initial ≡ Some u → c ≡ record { declared = c.declared; initial = Some u }
+        rebuilt c u e = λ i. record { declared = c.declared; initial = e i }
+
+    variables_found : (vs : List SourceVariable) (cs : List CheckedVariable) → AllZip (IsVariableOf types names) vs cs → results_are cs ≡ variables_at types names vs
+    variables_found vs cs h = all_ok_all (variable_at types names) vs cs (zip_weaker (IsVariableOf types names) (λ v c. result_is c ≡ variable_at types names v) variable_found vs cs h)
+
+    parameter_found : (p : SourceParameter) (c : CheckedParameter) (s : PlainShape) → IsParameterOf types names p c s → result_is (sorted_parameter c s) ≡ parameter_at types names p
+    unfolding parameter_at
+    parameter_found (const t) (const c) s h = rw (← inferred_found t c s h) refl
+    parameter_found (const t) (named c) s h = absurd h
+    parameter_found (named d) (const c) s h = absurd h
+    parameter_found (named d) (named c) s h = rw (← declared_found d c h.0) (ap (λ x. result_is (sorted_parameter (named c) x)) h.1)
+
+    parameters_found : (ps : List SourceParameter) (cs : List CheckedParameter) (ss : List PlainShape) → AreParametersOf types names ps cs ss → result_is (sorted_parameters cs ss) ≡ parameters_at types names ps
+    parameters_found [] [] [] h = refl
+    parameters_found [] [] (s ∷ ss) h = absurd h
+    parameters_found [] (c ∷ cs) ss h = absurd h
+    parameters_found (p ∷ ps) [] ss h = absurd h
+    parameters_found (p ∷ ps) (c ∷ cs) [] h = absurd h
+    parameters_found (p ∷ ps) (c ∷ cs) (s ∷ ss) h = rw (← parameter_found p c s h.0, ← parameters_found ps cs ss h.1) refl
+
+    transition_found : (variables : ℕ) (t : SourceTransition) (c : CheckedTransition) → IsTransitionOf names variables t c → result_is c ≡ transition_at names variables t
+    unfolding transition_at
+    transition_found variables t c h =
+        rw (← all_ok_all (own_term names) t.arguments c.arguments (zip_weaker (λ u d. (s : PlainShape) × IsOwnTermOf names u d s) (λ u d. result_is d ≡ own_term names u) own_term_found t.arguments c.arguments h.arguments), ← condition_found t.pre c.pre h.pre, ← effect_found t.effect c.effect h.effect) (ap result_is (rebuilt t c h))
+      where
+        listed : (ss : List SourceStatement) → statement_sortings (take variables names) names (statements_of ss) ≡ map (statement_sorting (take variables names) names) ss
+        listed [] = refl
+        listed (s ∷ ss) = ap (λ rs. statement_sorting (take variables names) names s ∷ rs) (listed ss)
+
+        effect_found : (ss : List SourceStatement) (cs : List CheckedStatement) → AllZip (IsStatementOf (take variables names) names) ss cs → results_are cs ≡ all_ok (statement_sortings (take variables names) names (statements_of ss))
+        effect_found ss cs h = all_ok_all (statement_sorting (take variables names) names) ss cs (zip_weaker (IsStatementOf (take variables names) names) (λ s c. result_is c ≡ statement_sorting (take variables names) names s) (λ s c g. statement_complete (take variables names) names s c g) ss cs h) ∙ sym (ap all_ok (listed ss))
+
+        rebuilt : (t : SourceTransition) (c : CheckedTransition) → IsTransitionOf names variables t c → c ≡ record { kind = t.kind; name = t.name; arguments = c.arguments; pre = c.pre; effect = c.effect }
+        rebuilt t c h = λ i. record { kind = h.kind i; name = h.name i; arguments = c.arguments; pre = c.pre; effect = c.effect }
+
+module _ (t : PlainTextTypes) (ps : List CheckedDeclared) (vs : List CheckedVariable) where
+  abbrev around : PlainSurroundings
+  around = record { constants = t.constants; types = t.types; parameters = ps; names = parameter_shapes ps ++ t.constants; variables = vs }
+
+  abbrev entry_in : PlainSortedRule → PlainSortedEntry
+  entry_in r = record { entry = r.rule.entry; shapes = r.shapes }
+
+  condition_names_found : (own : List CheckedParameter) → AreDistinct (names_at entry_condition t.constants ps vs own) → result_is (names_at entry_condition t.constants ps vs own) ≡ names_in_condition t.constants ps own
+  condition_names_found own d =
+      rw (← two_found (parameter_shapes ps) (own_shapes own) (first_differ (parameter_shapes ps ++ own_shapes own) t.constants d)) (all_found (parameter_shapes ps ++ own_shapes own) t.constants d)
+
+  entry_found : (ts : List SourceTransition) (e : SourceEntry) (r : PlainSortedRule) → IsRuleOf t ps vs ts e r → result_is (entry_in r) ≡ entry_at t.constants t.types ps (parameter_shapes ps ++ t.constants) e
+  unfolding entry_at
+  entry_found ts e r h =
+      rw (← parameters_found t.types (parameter_shapes ps ++ t.constants) e.parameters r.rule.entry.parameters r.shapes h.parameters, ← condition_names_found r.rule.entry.parameters h.condition_names, ← where_found t.types (names_at entry_condition t.constants ps vs r.rule.entry.parameters) e.kind e.condition r.rule.entry.condition h.condition h.no_condition) (ap result_is (rebuilt h))
+    where
+      rebuilt : IsRuleOf t ps vs ts e r → entry_in r ≡ record { entry = record { kind = e.kind; name = e.name; parameters = r.rule.entry.parameters; condition = r.rule.entry.condition }; shapes = r.shapes }
+      rebuilt h = λ i. record { entry = record { kind = h.kind i; name = h.name i; parameters = r.rule.entry.parameters; condition = r.rule.entry.condition }; shapes = r.shapes }
+
+  allowed_found : (ts : List SourceTransition) (e : SourceEntry) (r : PlainSortedRule) (h : IsRuleOf t ps vs ts e r) → result_is h.written ≡ allowed e (transition_for e ts)
+  unfolding allowed
+  allowed_found ts e r h = rw (h.found, h.head, h.no_guard) refl
+
+  message_found : (x : PlainSortedEntry) → may_have_name x ≡ true → result_is x ≡ message_at x
+  unfolding message_at
+  message_found x h = rw h refl
+
+  rule_found : (ts : List SourceTransition) (e : SourceEntry) (r : PlainSortedRule) → IsRuleOf t ps vs ts e r → result_is r ≡ rule_at around ts e
+  unfolding rule_at rule_of
+  rule_found ts e r h =
+      let own = r.rule.entry.parameters in
+      let scope = variable_shapes vs ++ (parameter_shapes ps ++ own_shapes own) in
+      rw (← allowed_found ts e r h, ← entry_found ts e r h, ← message_found (entry_in r) h.message, ← three_found (variable_shapes vs) (parameter_shapes ps) (own_shapes own) (first_differ scope t.constants h.step_names), ← all_found scope t.constants h.step_names, ← transition_found t.types (scope ++ t.constants) (length vs) h.written r.rule.transition h.transition) (ap result_is (rebuilt h))
+    where
+      rebuilt : IsRuleOf t ps vs ts e r → r ≡ record { rule = record { entry = r.rule.entry; transition = r.rule.transition; scope = words (variable_shapes vs ++ (parameter_shapes ps ++ own_shapes r.rule.entry.parameters)) }; shapes = r.shapes }
+      rebuilt h = λ i. record { rule = record { entry = r.rule.entry; transition = r.rule.transition; scope = h.scope i }; shapes = r.shapes }
+
+  rules_found : (ts : List SourceTransition) (es : List SourceEntry) (rs : List PlainSortedRule) → AllZip (IsRuleOf t ps vs ts) es rs → results_are rs ≡ rules_at around ts es
+  rules_found ts es rs h = all_ok_all (rule_at around ts) es rs (zip_weaker (IsRuleOf t ps vs ts) (λ e r. result_is r ≡ rule_at around ts e) (rule_found ts) es rs h)
+
+module _ (names : NameShapes) (rs : List PlainSortedRule) where
+  arguments_found : (ss : List PlainShape) (us : List SourceTerm) (cs : List CheckedTerm) → AreArgumentsOf names ss us cs → results_are cs ≡ arguments_at names ss us
+  arguments_found [] [] [] h = refl
+  arguments_found [] [] (c ∷ cs) h = absurd h
+  arguments_found [] (u ∷ us) cs h = absurd h
+  arguments_found (s ∷ ss) [] cs h = absurd h
+  arguments_found (s ∷ ss) (u ∷ us) [] h = absurd h
+  arguments_found (s ∷ ss) (u ∷ us) (c ∷ cs) h = rw (← fit_complete names u c (shape_in_terms s) h.0, ← arguments_found ss us cs h.1) refl
+
+  fired_found : (f : SourceFiring) (r : PlainSortedRule) → is_message f.action ≡ true → result_is r.shapes ≡ entry_fired f (Some r)
+  unfolding entry_fired
+  fired_found f r h = rw h refl
+
+  firing_found : (f : SourceFiring) (c : CheckedFiring) → IsFiringOf names rs f c → result_is c ≡ firing_at names rs f
+  unfolding firing_at
+  firing_found f c h = rw (h.found, ← fired_found f h.fired h.message, ← arguments_found h.fired.shapes f.arguments c.arguments h.arguments) (ap result_is (rebuilt h))
+    where
+      rebuilt : IsFiringOf names rs f c → c ≡ record { kind = f.kind; action = f.action; arguments = c.arguments }
+      rebuilt h = λ i. record { kind = h.kind i; action = h.action i; arguments = c.arguments }
+
+  firings_found : (fs : List SourceFiring) (cs : List CheckedFiring) → AllZip (IsFiringOf names rs) fs cs → results_are cs ≡ firings_at names rs fs
+  firings_found fs cs h = all_ok_all (firing_at names rs) fs cs (zip_weaker (IsFiringOf names rs) (λ f c. result_is c ≡ firing_at names rs f) firing_found fs cs h)
+
+abbrev nothing : Result (Unit {0}) Refusal
+nothing = Ok tt
+
+differ_found : (ws : List (List ℕ)) → are_new [] ws ≡ true → nothing ≡ differ ws
+differ_found ws h = rw h refl
+
+entries_found : (es : List SourceEntry) (ts : List SourceTransition) → list_all (has_entry es) ts ≡ true → nothing ≡ have_entries es ts
+entries_found es ts h = rw h refl
+
+module _ (t : PlainTextTypes) (a : SourceAutomaton) (c : PlainSortedAutomaton) (h : IsAutomatonOf t a c) where
+  abbrev heading : PlainHeading
+  heading = record { parameters = c.parameters; names = parameter_shapes c.parameters ++ t.constants; variables = c.variables }
+
+  heading_found : result_is heading ≡ heading_at t a
+  unfolding heading_at
+  heading_found =
+      rw (← all_declared_found t.types a.parameters c.parameters h.parameters, ← all_found [] (parameter_shapes c.parameters) (first_differ (parameter_shapes c.parameters) t.constants h.given_names), ← all_found (parameter_shapes c.parameters) t.constants h.given_names, ← variables_found t.types (parameter_shapes c.parameters ++ t.constants) a.states c.variables h.variables) refl
+
+  actions_found : results_are c.rules ≡ actions_at t heading a
+  unfolding actions_at
+  actions_found =
+      rw (← differ_found (map (λ e. e.name) a.signature) h.entries_differ, ← differ_found (map (λ u. u.name) a.transitions) h.transitions_differ, ← entries_found a.signature a.transitions h.entries) (rules_found t c.parameters c.variables a.transitions a.signature c.rules h.rules)
+
+  pub automaton_found : result_is c ≡ automaton_at t a
+  automaton_found =
+      let scope = parameter_shapes c.parameters ++ variable_shapes c.variables in
+      rw (← heading_found, ← two_found (parameter_shapes c.parameters) (variable_shapes c.variables) (first_differ scope t.constants h.names), ← all_found scope t.constants h.names, ← actions_found, ← firings_found (scope ++ t.constants) c.rules a.schedule c.schedule h.schedule) (ap result_is rebuilt)
+    where
+      rebuilt : c ≡ record { name = a.name; parameters = c.parameters; variables = c.variables; scope = words (parameter_shapes c.parameters ++ variable_shapes c.variables); rules = c.rules; schedule = c.schedule }
+      rebuilt = λ i. record { name = h.name i; parameters = c.parameters; variables = c.variables; scope = h.scope i; rules = c.rules; schedule = c.schedule }

@@ -1,0 +1,157 @@
+-- An automaton of a text with slots and shapes (profile), in words that know nothing of the order of refusals.
+use Rattle.std.specs.Prelude.{◌≡◌, ◌<◌, ℕ, true, false, ◌&&◌, List, [], ◌∷◌, ◌++◌, Option, Some, None}
+use Rattle.std.specs.Prelude.{map, take, length, find}
+use Rattle.std.specs.List.{AllZip, list_all}
+use Rattle.std.specs.Option.{is_some}
+use lib.Pointwise.{pointwise}
+use Rattle.ioa_operators.specs.Shapes.{PlainShape, truths}
+use Rattle.ioa_operators.specs.ShapeHeight.{height}
+use Rattle.ioa_terms.specs.declared.tree.Kind.TheVariants.{Input}
+use Rattle.ioa_terms.specs.SameTerms.{same_kind}
+use Rattle.ioa_terms.specs.Sorted.{NameShapes, shape_in_terms}
+use Rattle.ioa_source.specs.Erasure.{erase_declared}
+use Rattle.ioa_source.specs.PlainText.{const, named}
+use Rattle.ioa_source.specs.Sides.{SourceTerm, SourceDeclared, SourceParameter, SourceEntry, SourceVariable}
+use Rattle.ioa_source.specs.Sides.{SourceTransition, SourceFiring, SourceAutomaton}
+use Rattle.ioa_source.specs.Sides.{CheckedTerm, CheckedDeclared, CheckedParameter, CheckedVariable}
+use Rattle.ioa_source.specs.Sides.{CheckedTransition, CheckedFiring}
+use Rattle.ioa_system.specs.InView.{Site, in_view, entry_constant, initial_value, entry_condition, guard_or_effect}
+use Rattle.ioa_system.specs.InView.{firing}
+use Rattle.ioa_sorts.specs.Determined.{is_display}
+use Rattle.ioa_sorts.specs.SortedTerms.{IsTermOf}
+use Rattle.ioa_sorts.specs.SortedStatements.{IsStatementOf}
+use Rattle.ioa_types.specs.declared.height.TheConstants.{SHAPE_LIMIT}
+use Rattle.ioa_types.specs.Meanings.{Means}
+use Rattle.ioa_types.specs.NameTables.{AreDistinct, words}
+use Rattle.ioa_types.specs.TextTypes.{PlainTextTypes}
+use Rattle.ioa_types.specs.TypeTables.{TypeTable, are_new}
+use Rattle.ioa_automata.specs.NamesInView.{parameter_shapes, variable_shapes, own_shapes}
+use Rattle.ioa_automata.specs.Parts.{PlainSortedEntry}
+use Rattle.ioa_automata.specs.Rules.{PlainSortedRule, repeats, transition_for, may_have_name, fires, is_message}
+use Rattle.ioa_automata.specs.Rules.{has_entry}
+use Rattle.ioa_automata.specs.Automata.{PlainSortedAutomaton}
+
+-- a declared name has the shape that its sort means
+pub record IsDeclaredOf (types : TypeTable) (d : SourceDeclared) (c : CheckedDeclared) : Type 0 where
+  pub same : erase_declared c ≡ d
+  pub means : Means types d.sort c.shape
+  pub low : height c.shape < SHAPE_LIMIT
+
+-- a term that is no display has a shape of its own
+pub record IsOwnTermOf (names : NameShapes) (t : SourceTerm) (c : CheckedTerm) (s : PlainShape) : Type 0 where
+  pub term : IsTermOf names t c s
+  pub own : is_display t ≡ false
+
+-- a state variable has an initial term, which has the variable's shape
+abbrev pub IsInitialOf : NameShapes → PlainShape → Option SourceTerm → Option CheckedTerm → Type 0
+IsInitialOf names s None None = ⊥
+IsInitialOf names s None (Some c) = ⊥
+IsInitialOf names s (Some t) None = ⊥
+IsInitialOf names s (Some t) (Some c) = IsTermOf names t c (shape_in_terms s)
+
+pub record IsVariableOf (types : TypeTable) (names : NameShapes) (v : SourceVariable) (c : CheckedVariable)
+    : Type 0 where
+  pub declared : IsDeclaredOf types v.declared c.declared
+  pub initial : IsInitialOf names c.declared.shape v.initial c.initial
+
+-- a condition, if there is one, is a truth value
+abbrev pub IsConditionOf : NameShapes → Option SourceTerm → Option CheckedTerm → Type 0
+IsConditionOf names None None = Unit {0}
+IsConditionOf names None (Some c) = ⊥
+IsConditionOf names (Some t) None = ⊥
+IsConditionOf names (Some t) (Some c) = IsTermOf names t c truths
+
+-- a parameter of an entry, and the shape of the arguments that it takes
+abbrev pub IsParameterOf : TypeTable → NameShapes → SourceParameter → CheckedParameter → PlainShape → Type 0
+IsParameterOf types names (const t) (const c) s = IsOwnTermOf names t c s
+IsParameterOf types names (const t) (named c) s = ⊥
+IsParameterOf types names (named d) (const c) s = ⊥
+IsParameterOf types names (named d) (named c) s = IsDeclaredOf types d c × (s ≡ c.shape)
+
+abbrev pub AreParametersOf : TypeTable → NameShapes → List SourceParameter → List CheckedParameter
+    → List PlainShape → Type 0
+AreParametersOf types names [] [] [] = Unit {0}
+AreParametersOf types names [] [] (s ∷ ss) = ⊥
+AreParametersOf types names [] (c ∷ cs) ss = ⊥
+AreParametersOf types names (p ∷ ps) [] ss = ⊥
+AreParametersOf types names (p ∷ ps) (c ∷ cs) [] = ⊥
+AreParametersOf types names (p ∷ ps) (c ∷ cs) (s ∷ ss) =
+    IsParameterOf types names p c s × AreParametersOf types names ps cs ss
+
+-- a transition, of whose names in view the first `variables` may be assigned
+pub record IsTransitionOf (names : NameShapes) (variables : ℕ) (t : SourceTransition) (c : CheckedTransition)
+    : Type 0 where
+  pub kind : c.kind ≡ t.kind
+  pub name : c.name ≡ t.name
+  pub arguments : AllZip (λ u d. (s : PlainShape) × IsOwnTermOf names u d s) t.arguments c.arguments
+  pub pre : IsConditionOf names t.pre c.pre
+  pub effect : AllZip (IsStatementOf (take variables names) names) t.effect c.effect
+
+-- what the terms of an automaton read at a site, with shapes: the names in view, and the text's constants behind them
+abbrev pub names_at : Site → (constants : NameShapes) → List CheckedDeclared → List CheckedVariable
+    → List CheckedParameter → NameShapes
+names_at site constants ps vs own =
+    in_view site (parameter_shapes ps) (variable_shapes vs) (own_shapes own) ++ constants
+
+-- an entry with its transition, in an automaton of these parameters and variables
+pub record IsRuleOf (t : PlainTextTypes) (ps : List CheckedDeclared) (vs : List CheckedVariable)
+    (ts : List SourceTransition) (e : SourceEntry) (r : PlainSortedRule) : Type 0 where
+  -- the entry
+  pub kind : r.rule.entry.kind ≡ e.kind
+  pub name : r.rule.entry.name ≡ e.name
+  pub parameters : AreParametersOf t.types (names_at entry_constant t.constants ps vs [])
+      e.parameters r.rule.entry.parameters r.shapes
+  pub condition : IsConditionOf (names_at entry_condition t.constants ps vs r.rule.entry.parameters)
+      e.condition r.rule.entry.condition
+  -- its transition
+  pub written : SourceTransition
+  pub found : transition_for e ts ≡ Some written
+  pub transition : IsTransitionOf (names_at guard_or_effect t.constants ps vs r.rule.entry.parameters) (length vs)
+      written r.rule.transition
+  pub scope : r.rule.scope
+      ≡ words (in_view guard_or_effect (parameter_shapes ps) (variable_shapes vs) (own_shapes r.rule.entry.parameters))
+  -- names in view differ
+  pub condition_names : AreDistinct (names_at entry_condition t.constants ps vs r.rule.entry.parameters)
+  pub step_names : AreDistinct (names_at guard_or_effect t.constants ps vs r.rule.entry.parameters)
+  -- the head repeats the entry, an input has no guard and no condition, and a message's name is used as it has to be
+  pub head : pointwise repeats e.parameters written.arguments ≡ true
+  pub no_guard : is_some written.pre && same_kind e.kind Input ≡ false
+  pub no_condition : is_some e.condition && same_kind e.kind Input ≡ false
+  pub message : may_have_name (record { entry = r.rule.entry; shapes = r.shapes }) ≡ true
+
+-- arguments, each of the shape at its position
+abbrev pub AreArgumentsOf : NameShapes → List PlainShape → List SourceTerm → List CheckedTerm → Type 0
+AreArgumentsOf names [] [] [] = Unit {0}
+AreArgumentsOf names [] [] (c ∷ cs) = ⊥
+AreArgumentsOf names [] (t ∷ ts) cs = ⊥
+AreArgumentsOf names (s ∷ ss) [] cs = ⊥
+AreArgumentsOf names (s ∷ ss) (t ∷ ts) [] = ⊥
+AreArgumentsOf names (s ∷ ss) (t ∷ ts) (c ∷ cs) =
+    IsTermOf names t c (shape_in_terms s) × AreArgumentsOf names ss ts cs
+
+-- a firing of a message: an entry has its name, and its arguments have the shapes of the entry's
+pub record IsFiringOf (names : NameShapes) (rs : List PlainSortedRule) (f : SourceFiring) (c : CheckedFiring)
+    : Type 0 where
+  pub kind : c.kind ≡ f.kind
+  pub action : c.action ≡ f.action
+  pub fired : PlainSortedRule
+  pub found : find (fires f) rs ≡ Some fired
+  pub message : is_message f.action ≡ true
+  pub arguments : AreArgumentsOf names fired.shapes f.arguments c.arguments
+
+-- an automaton
+pub record IsAutomatonOf (t : PlainTextTypes) (a : SourceAutomaton) (c : PlainSortedAutomaton) : Type 0 where
+  pub name : c.name ≡ a.name
+  pub parameters : AllZip (IsDeclaredOf t.types) a.parameters c.parameters
+  pub variables : AllZip (IsVariableOf t.types (names_at initial_value t.constants c.parameters c.variables []))
+      a.states c.variables
+  pub scope : c.scope ≡ words (in_view firing (parameter_shapes c.parameters) (variable_shapes c.variables) [])
+  pub rules : AllZip (IsRuleOf t c.parameters c.variables a.transitions) a.signature c.rules
+  pub schedule : AllZip (IsFiringOf (names_at firing t.constants c.parameters c.variables []) c.rules)
+      a.schedule c.schedule
+  -- what has to differ does, and each transition has an entry
+  pub given_names : AreDistinct (names_at initial_value t.constants c.parameters c.variables [])
+  pub names : AreDistinct (names_at firing t.constants c.parameters c.variables [])
+  pub entries_differ : are_new [] (map (λ e. e.name) a.signature) ≡ true
+  pub transitions_differ : are_new [] (map (λ u. u.name) a.transitions) ≡ true
+  pub entries : list_all (has_entry a.signature) a.transitions ≡ true
