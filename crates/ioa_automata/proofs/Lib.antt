@@ -4,3 +4,4 @@ pub mod Results
 pub mod Sound
 pub mod SoundRules
 pub mod Complete
+pub mod Compiled

@@ -1,0 +1,169 @@
+-- An automaton with slots and shapes is ready to step: each name is resolved to the slot of its value.
+use Rattle.std.proofs.Common.{◌≡◌, ◌<◌, ℕ, zero, suc, List, [], ◌∷◌, ◌++◌, Option, Some, None, refl, sym, ap, subst, ◌∙◌, map, length, take, arith}
+use Rattle.std.specs.List.{All, AllByRecursion, AllZip, slice_index_or}
+use Rattle.std.proofs.lemmas.List.{append_assoc}
+use Rattle.ioa_operators.specs.Shapes.{PlainShape}
+use Rattle.ioa_terms.specs.declared.name.Name.{Name}
+use Rattle.ioa_terms.specs.declared.name.Name.TheVariants.{Word}
+use Rattle.ioa_terms.specs.Resolved.{AreResolved, IsResolvedStatement}
+use Rattle.ioa_terms.specs.Sorted.{NameShapes}
+use Rattle.ioa_source.specs.PlainText.{const, named}
+use Rattle.ioa_source.specs.Sides.{SourceTerm, SourceParameter, SourceEntry, SourceVariable, SourceTransition, SourceFiring, SourceStatement, SourceAutomaton, CheckedTerm, CheckedDeclared, CheckedParameter, CheckedVariable, CheckedFiring, CheckedStatement}
+use Rattle.ioa_system.specs.InView as view
+use Rattle.ioa_system.specs.InView.{Site, in_view, entry_constant, initial_value, entry_condition, guard_or_effect, firing, parameter_names, variable_names, own_names, DeclaredNames, scope_at, words_at}
+use Rattle.ioa_system.specs.Parts.{PlainRule, automaton_parts}
+use Rattle.ioa_system.specs.ResolvedPrograms.{IsResolvedParameter, AreResolvedParameters, IsResolvedGuard, IsResolvedRule, AreResolvedTerms, AreResolvedFirings, AreResolvedVariables, IsCompiled}
+use Rattle.ioa_sorts.specs.SortedStatements.{IsStatementOf}
+use Rattle.ioa_types.specs.NameTables.{words}
+use Rattle.ioa_types.specs.TextTypes.{PlainTextTypes}
+use Rattle.ioa_types.specs.TypeTables.{TypeTable}
+use Rattle.ioa_automata.specs.NamesInView.{parameter_shapes, variable_shapes, own_shapes}
+use Rattle.ioa_automata.specs.Rules.{PlainSortedRule}
+use Rattle.ioa_automata.specs.Automata.{PlainSortedAutomaton}
+use Rattle.ioa_automata.specs.SortedAutomata.{IsVariableOf, IsInitialOf, IsConditionOf, AreParametersOf, IsTransitionOf, IsRuleOf, AreArgumentsOf, IsFiringOf, IsAutomatonOf, names_at}
+
+-- names as words
+keys_are : (names : NameShapes) → map (λ n. n.0) names ≡ map Word (words names)
+keys_are [] = refl
+keys_are ((Word w, s) ∷ names) = ap (λ ns. Word w ∷ ns) (keys_are names)
+
+words_behind : (xs ys : NameShapes) → words (xs ++ ys) ≡ words xs ++ words ys
+words_behind [] ys = refl
+words_behind ((Word w, s) ∷ xs) ys = ap (λ ws. w ∷ ws) (words_behind xs ys)
+
+parameter_words : (ps : List CheckedDeclared) → words (parameter_shapes ps) ≡ parameter_names ps
+parameter_words [] = refl
+parameter_words (p ∷ ps) = ap (λ ws. p.name ∷ ws) (parameter_words ps)
+
+variable_words : (vs : List CheckedVariable) → words (variable_shapes vs) ≡ variable_names vs
+variable_words [] = refl
+variable_words (v ∷ vs) = ap (λ ws. v.declared.name ∷ ws) (variable_words vs)
+
+own_words : (ps : List CheckedParameter) → words (own_shapes ps) ≡ own_names ps
+own_words [] = refl
+own_words (const t ∷ ps) = own_words ps
+own_words (named d ∷ ps) = ap (λ ws. d.name ∷ ws) (own_words ps)
+
+site_words : (site : Site) (ps vs own : NameShapes) → words (in_view site ps vs own) ≡ in_view site (words ps) (words vs) (words own)
+site_words entry_constant ps vs own = refl
+site_words initial_value ps vs own = refl
+site_words entry_condition ps vs own = words_behind ps own
+site_words guard_or_effect ps vs own = words_behind vs (ps ++ own) ∙ ap (λ ws. words vs ++ ws) (words_behind ps own)
+site_words firing ps vs own = words_behind ps vs
+
+-- what holds of all holds at each position
+all_each : {A : Type 0} (P : A → Type 0) (xs : List A) → AllByRecursion P xs → All P xs
+all_each P [] h = λ k d less. absurd (omega (arith, less))
+all_each P (x ∷ xs) h = λ k d less. at (all_each P xs h.1) k d less
+  where
+    at : All P xs → (k : ℕ) (d : _) → k < length (x ∷ xs) → P (slice_index_or (x ∷ xs) k d)
+    at rest zero d less = h.0
+    at rest (suc k) d less = rest k d (omega (arith, less))
+
+first_variables : (ws : List CheckedVariable) (more : NameShapes) → take (length ws) (variable_shapes ws ++ more) ≡ variable_shapes ws
+first_variables [] more = refl
+first_variables (w ∷ ws) more = ap (λ ns. (Word w.declared.name, w.declared.shape) ∷ ns) (first_variables ws more)
+
+module _ (t : PlainTextTypes) (ps : List CheckedDeclared) (vs : List CheckedVariable) where
+  abbrev declared : DeclaredNames
+  declared = record { constants = words t.constants; parameters = parameter_names ps; variables = variable_names vs }
+
+  scope_words : (site : Site) (own : List CheckedParameter) → words (in_view site (parameter_shapes ps) (variable_shapes vs) (own_shapes own)) ≡ scope_at site declared (own_names own)
+  scope_words site own =
+      site_words site (parameter_shapes ps) (variable_shapes vs) (own_shapes own) ∙ (λ i. in_view site (parameter_words ps i) (variable_words vs i) (own_words own i))
+
+  read_names : (site : Site) (own : List CheckedParameter) → map (λ n. n.0) (names_at site t.constants ps vs own) ≡ view.names_at site declared (own_names own)
+  read_names site own =
+      keys_are (names_at site t.constants ps vs own) ∙ ap (map Word) (words_behind (in_view site (parameter_shapes ps) (variable_shapes vs) (own_shapes own)) t.constants ∙ ap (λ ws. ws ++ words t.constants) (scope_words site own))
+
+  -- a condition or a guard, and parameters
+  guard_resolved : (site : Site) (own : List CheckedParameter) (o : Option SourceTerm) (c : Option CheckedTerm) → IsConditionOf (names_at site t.constants ps vs own) o c → IsResolvedGuard c (view.names_at site declared (own_names own))
+  guard_resolved site own None None h = tt
+  guard_resolved site own None (Some c) h = absurd h
+  guard_resolved site own (Some u) None h = absurd h
+  guard_resolved site own (Some u) (Some c) h = subst (λ ns. IsResolvedGuard (Some c) ns) (read_names site own) h.resolved
+
+  parameters_resolved : (us : List SourceParameter) (cs : List CheckedParameter) (ss : List PlainShape) → AreParametersOf t.types (names_at entry_constant t.constants ps vs []) us cs ss → AreResolvedParameters (view.names_at entry_constant declared []) cs
+  parameters_resolved [] [] ss h = tt
+  parameters_resolved [] (c ∷ cs) ss h = absurd h
+  parameters_resolved (u ∷ us) [] ss h = absurd h
+  parameters_resolved (u ∷ us) (c ∷ cs) [] h = absurd h
+  parameters_resolved (const u ∷ us) (const c ∷ cs) (s ∷ ss) h =
+      (subst (λ ns. IsResolvedParameter ns (const c)) (read_names entry_constant []) h.0.term.resolved, parameters_resolved us cs ss h.1)
+  parameters_resolved (const u ∷ us) (named c ∷ cs) (s ∷ ss) h = absurd h.0
+  parameters_resolved (named u ∷ us) (const c ∷ cs) (s ∷ ss) h = absurd h.0
+  parameters_resolved (named u ∷ us) (named c ∷ cs) (s ∷ ss) h = (tt, parameters_resolved us cs ss h.1)
+
+  -- an effect
+  effect_resolved : (own : List CheckedParameter) (us : List SourceStatement) (cs : List CheckedStatement) → AllZip (IsStatementOf (take (length vs) (names_at guard_or_effect t.constants ps vs own)) (names_at guard_or_effect t.constants ps vs own)) us cs → AreResolved cs (map Word (variable_names vs)) (view.names_at guard_or_effect declared (own_names own))
+  effect_resolved own [] [] h = tt
+  effect_resolved own [] (c ∷ cs) h = absurd h
+  effect_resolved own (u ∷ us) [] h = absurd h
+  effect_resolved own (u ∷ us) (c ∷ cs) h =
+      (subst (λ ns. IsResolvedStatement c ns (view.names_at guard_or_effect declared (own_names own))) assigned (subst (λ ns. IsResolvedStatement c (map (λ n. n.0) (take (length vs) (names_at guard_or_effect t.constants ps vs own))) ns) (read_names guard_or_effect own) h.0.resolved), effect_resolved own us cs h.1)
+    where
+      behind : NameShapes
+      behind = (parameter_shapes ps ++ own_shapes own) ++ t.constants
+
+      whole : names_at guard_or_effect t.constants ps vs own ≡ variable_shapes vs ++ behind
+      whole = append_assoc (variable_shapes vs) (parameter_shapes ps ++ own_shapes own) t.constants
+
+      assigned : map (λ n. n.0) (take (length vs) (names_at guard_or_effect t.constants ps vs own)) ≡ map Word (variable_names vs)
+      assigned =
+          ap (λ (ns : NameShapes). map (λ n. n.0) (take (length vs) ns)) whole ∙ ap (λ (ns : NameShapes). map (λ n. n.0) ns) (first_variables vs behind) ∙ keys_are (variable_shapes vs) ∙ ap (map Word) (variable_words vs)
+
+  rule_resolved : (ts : List SourceTransition) (e : SourceEntry) (r : PlainSortedRule) → IsRuleOf t ps vs ts e r → IsResolvedRule declared r.rule
+  rule_resolved ts e r h =
+      let own = r.rule.entry.parameters in
+      record {
+        scope = h.scope ∙ scope_words guard_or_effect own;
+        parameters = parameters_resolved e.parameters own r.shapes h.parameters;
+        condition = guard_resolved entry_condition own e.condition r.rule.entry.condition h.condition;
+        guard = guard_resolved guard_or_effect own h.written.pre r.rule.transition.pre h.transition.pre;
+        effect = effect_resolved own h.written.effect r.rule.transition.effect h.transition.effect;
+      }
+
+  rules_resolved : (ts : List SourceTransition) (es : List SourceEntry) (rs : List PlainSortedRule) → AllZip (IsRuleOf t ps vs ts) es rs → AllByRecursion (IsResolvedRule declared) (map (λ r. r.rule) rs)
+  rules_resolved ts [] [] h = tt
+  rules_resolved ts [] (r ∷ rs) h = absurd h
+  rules_resolved ts (e ∷ es) [] h = absurd h
+  rules_resolved ts (e ∷ es) (r ∷ rs) h = (rule_resolved ts e r h.0, rules_resolved ts es rs h.1)
+
+  -- initial terms
+  initial_resolved : (s : PlainShape) (o : Option SourceTerm) (c : Option CheckedTerm) → IsInitialOf (names_at initial_value t.constants ps vs []) s o c → IsResolvedGuard c (view.names_at initial_value declared [])
+  initial_resolved s None None h = absurd h
+  initial_resolved s None (Some c) h = absurd h
+  initial_resolved s (Some u) None h = absurd h
+  initial_resolved s (Some u) (Some c) h = subst (λ ns. IsResolvedGuard (Some c) ns) (read_names initial_value []) h.resolved
+
+  variables_resolved : (us : List SourceVariable) (cs : List CheckedVariable) → AllZip (IsVariableOf t.types (names_at initial_value t.constants ps vs [])) us cs → AreResolvedVariables (view.names_at initial_value declared []) cs
+  variables_resolved [] [] h = tt
+  variables_resolved [] (c ∷ cs) h = absurd h
+  variables_resolved (u ∷ us) [] h = absurd h
+  variables_resolved (u ∷ us) (c ∷ cs) h = (initial_resolved c.declared.shape u.initial c.initial h.0.initial, variables_resolved us cs h.1)
+
+  -- firings
+  arguments_resolved : (ss : List PlainShape) (us : List SourceTerm) (cs : List CheckedTerm) → AreArgumentsOf (names_at firing t.constants ps vs []) ss us cs → AreResolvedTerms cs (view.names_at firing declared [])
+  arguments_resolved [] [] [] h = tt
+  arguments_resolved [] [] (c ∷ cs) h = absurd h
+  arguments_resolved [] (u ∷ us) cs h = absurd h
+  arguments_resolved (s ∷ ss) [] cs h = absurd h
+  arguments_resolved (s ∷ ss) (u ∷ us) [] h = absurd h
+  arguments_resolved (s ∷ ss) (u ∷ us) (c ∷ cs) h =
+      (subst (λ ns. IsResolvedGuard (Some c) ns) (read_names firing []) h.0.resolved, arguments_resolved ss us cs h.1)
+
+  firings_resolved : (rs : List PlainSortedRule) (fs : List SourceFiring) (cs : List CheckedFiring) → AllZip (IsFiringOf (names_at firing t.constants ps vs []) rs) fs cs → AreResolvedFirings cs (view.names_at firing declared [])
+  firings_resolved rs [] [] h = tt
+  firings_resolved rs [] (c ∷ cs) h = absurd h
+  firings_resolved rs (f ∷ fs) [] h = absurd h
+  firings_resolved rs (f ∷ fs) (c ∷ cs) h = (arguments_resolved h.0.fired.shapes f.arguments c.arguments h.0.arguments, firings_resolved rs fs cs h.1)
+
+pub automaton_compiled : (t : PlainTextTypes) (a : SourceAutomaton) (c : PlainSortedAutomaton) → IsAutomatonOf t a c → IsCompiled c.scope (automaton_parts c.name (words t.constants) c.parameters c.variables (map (λ r. r.rule) c.rules) c.schedule)
+automaton_compiled t a c h = record {
+  names = h.scope ∙ scope_words t c.parameters c.variables firing [];
+  resolved = record {
+    rules = all_each (IsResolvedRule (declared t c.parameters c.variables)) (map (λ r. r.rule) c.rules) (rules_resolved t c.parameters c.variables a.transitions a.signature c.rules h.rules);
+    initials = variables_resolved t c.parameters c.variables a.states c.variables h.variables;
+    schedule = firings_resolved t c.parameters c.variables c.rules a.schedule c.schedule h.schedule;
+  };
+}
