@@ -14,7 +14,8 @@ use ioa_terms::{Shape, Word};
 use std::alloc::Global;
 use std::marker::Model;
 
-/// The types that a text declares, and the constants of its enumerations, each with the shape of its enumeration.
+/// The types that a text declares, and the constants of its enumerations, each with the shape of its enumeration. Its
+/// type guarantees that each was declared behind those that it uses.
 #[derive(Drop)]
 pub struct TextTypes {
     types: Types,
@@ -29,6 +30,10 @@ impl Model for TextTypes {
     ghost coded = { text_types_code };
 
     ghost view = { λ t. text_types t.types t.constants };
+
+    ghost use Rattle.ioa_types.specs.Meanings.{AreTextTypes};
+
+    ghost invariant = { λ t. AreTextTypes (text_types t.types t.constants) };
 }
 
 impl TextTypes {
