@@ -33,6 +33,7 @@ use Rattle.ioa_automata.specs.Automata.{PlainHeading, heading_at, surroundings, 
 use Rattle.ioa_automata.specs.SortedAutomata.{IsDeclaredOf, IsOwnTermOf, IsInitialOf, IsVariableOf, IsConditionOf, IsParameterOf, AreParametersOf, IsTransitionOf, IsRuleOf, AreArgumentsOf, IsFiringOf, IsAutomatonOf, names_at}
 use Rattle.ioa_automata.proofs.Loops.{results_are}
 use Rattle.ioa_automata.proofs.Results.{result_is, zip_weaker}
+use Rattle.ioa_automata.proofs.Heads.{head_is, lacks_input, named_iff}
 
 -- results that are all there
 all_ok_all : {A B : Type 0} (f : A → Result B Refusal) (xs : List A) (ys : List B) → AllZip (λ x y. result_is y ≡ f x) xs ys → results_are ys ≡ all_ok (map f xs)
@@ -163,14 +164,14 @@ module _ (t : PlainTextTypes) (ps : List CheckedDeclared) (vs : List CheckedVari
   entry_found : (ts : List SourceTransition) (e : SourceEntry) (r : PlainSortedRule) → IsRuleOf t ps vs ts e r → result_is (entry_in r) ≡ entry_at t.constants t.types ps (parameter_shapes ps ++ t.constants) e
   unfolding entry_at
   entry_found ts e r h =
-      rw (← parameters_found t.types (parameter_shapes ps ++ t.constants) e.parameters r.rule.entry.parameters r.shapes h.parameters, ← condition_names_found r.rule.entry.parameters h.condition_names, ← where_found t.types (names_at entry_condition t.constants ps vs r.rule.entry.parameters) e.kind e.condition r.rule.entry.condition h.condition h.no_condition) (ap result_is (rebuilt h))
+      rw (← parameters_found t.types (parameter_shapes ps ++ t.constants) e.parameters r.rule.entry.parameters r.shapes h.parameters, ← condition_names_found r.rule.entry.parameters h.condition_names, ← where_found t.types (names_at entry_condition t.constants ps vs r.rule.entry.parameters) e.kind e.condition r.rule.entry.condition h.condition (lacks_input e.condition e.kind h.no_condition)) (ap result_is (rebuilt h))
     where
       rebuilt : IsRuleOf t ps vs ts e r → entry_in r ≡ record { entry = record { kind = e.kind; name = e.name; parameters = r.rule.entry.parameters; condition = r.rule.entry.condition }; shapes = r.shapes }
       rebuilt h = λ i. record { entry = record { kind = h.kind i; name = h.name i; parameters = r.rule.entry.parameters; condition = r.rule.entry.condition }; shapes = r.shapes }
 
   allowed_found : (ts : List SourceTransition) (e : SourceEntry) (r : PlainSortedRule) (h : IsRuleOf t ps vs ts e r) → result_is h.written ≡ allowed e (transition_for e ts)
   unfolding allowed
-  allowed_found ts e r h = rw (h.found, h.head, h.no_guard) refl
+  allowed_found ts e r h = rw (h.found, (head_is e.parameters h.written.arguments).1 h.head, lacks_input h.written.pre e.kind h.no_guard) refl
 
   message_found : (x : PlainSortedEntry) → may_have_name x ≡ true → result_is x ≡ message_at x
   unfolding message_at
@@ -181,7 +182,7 @@ module _ (t : PlainTextTypes) (ps : List CheckedDeclared) (vs : List CheckedVari
   rule_found ts e r h =
       let own = r.rule.entry.parameters in
       let scope = variable_shapes vs ++ (parameter_shapes ps ++ own_shapes own) in
-      rw (← allowed_found ts e r h, ← entry_found ts e r h, ← message_found (entry_in r) h.message, ← three_found (variable_shapes vs) (parameter_shapes ps) (own_shapes own) (first_differ scope t.constants h.step_names), ← all_found scope t.constants h.step_names, ← transition_found t.types (scope ++ t.constants) (length vs) h.written r.rule.transition h.transition) (ap result_is (rebuilt h))
+      rw (← allowed_found ts e r h, ← entry_found ts e r h, ← message_found (entry_in r) ((named_iff (entry_in r)).1 h.message), ← three_found (variable_shapes vs) (parameter_shapes ps) (own_shapes own) (first_differ scope t.constants h.step_names), ← all_found scope t.constants h.step_names, ← transition_found t.types (scope ++ t.constants) (length vs) h.written r.rule.transition h.transition) (ap result_is (rebuilt h))
     where
       rebuilt : IsRuleOf t ps vs ts e r → r ≡ record { rule = record { entry = r.rule.entry; transition = r.rule.transition; scope = words (variable_shapes vs ++ (parameter_shapes ps ++ own_shapes r.rule.entry.parameters)) }; shapes = r.shapes }
       rebuilt h = λ i. record { rule = record { entry = r.rule.entry; transition = r.rule.transition; scope = h.scope i }; shapes = r.shapes }

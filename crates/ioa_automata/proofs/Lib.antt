@@ -1,6 +1,7 @@
 -- the lemmas of this crate
 pub mod Loops
 pub mod Results
+pub mod Heads
 pub mod Sound
 pub mod SoundRules
 pub mod Complete

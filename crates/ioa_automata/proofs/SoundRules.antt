@@ -32,6 +32,7 @@ use Rattle.ioa_automata.specs.Automata.{PlainHeading, heading_at, surroundings, 
 use Rattle.ioa_automata.specs.SortedAutomata.{IsDeclaredOf, IsVariableOf, IsConditionOf, AreParametersOf, IsTransitionOf, IsRuleOf, AreArgumentsOf, IsFiringOf, IsAutomatonOf, names_at}
 use Rattle.ioa_automata.proofs.Loops.{results_are}
 use Rattle.ioa_automata.proofs.Results.{result_is, first_of, all_ok_each, zip_weaker}
+use Rattle.ioa_automata.proofs.Heads.{head_is, input_lacks, named_iff}
 use Rattle.ioa_automata.proofs.Sound.{all_declared_sound, variables_sound, parameters_sound, where_sound, transition_sound}
 
 -- names in view: which they are, and that they differ
@@ -209,10 +210,10 @@ module _ (t : PlainTextTypes) (text : AreTextTypes t) where
             scope = ap words scope.same;
             condition_names = entry.condition_names;
             step_names = subst AreDistinct view.same view.differ;
-            head = right.head;
-            no_guard = right.no_guard;
-            no_condition = entry.no_condition;
-            message = subst (λ x. may_have_name x ≡ true) named_well.0 named_well.1;
+            head = (head_is e.parameters one.0.arguments).0 right.head;
+            no_guard = input_lacks one.0.pre e.kind right.no_guard;
+            no_condition = input_lacks e.condition e.kind entry.no_condition;
+            message = (named_iff three.0).0 (subst (λ x. may_have_name x ≡ true) named_well.0 named_well.1);
           },
           entry.shapes,
         )

@@ -1,12 +1,15 @@
 -- An automaton of a text with slots and shapes (profile), in words that know nothing of the order of refusals.
-use Rattle.std.specs.Prelude.{◌≡◌, ◌<◌, ℕ, true, false, ◌&&◌, List, [], ◌∷◌, ◌++◌, Option, Some, None}
-use Rattle.std.specs.Prelude.{map, take, length, find}
+use Rattle.std.specs.Prelude.{◌≡◌, ◌<◌, ◌⊎◌, ℕ, true, false, ◌&&◌, List, [], ◌∷◌, ◌++◌, Option, Some, None}
+use Rattle.std.specs.Prelude.{map, take, length, find, slice_get}
 use Rattle.std.specs.List.{AllZip, list_all}
 use Rattle.std.specs.Option.{is_some}
 use lib.Pointwise.{pointwise}
-use Rattle.ioa_operators.specs.Shapes.{PlainShape, truths}
+use Rattle.ioa_operators.specs.Shapes.{PlainShape, truths, integers, naturals}
 use Rattle.ioa_operators.specs.ShapeHeight.{height}
-use Rattle.ioa_terms.specs.declared.tree.Kind.TheVariants.{Input}
+use Rattle.ioa_terms.specs.declared.tree.Kind.TheVariants.{Input, Output}
+use Rattle.ioa_terms.specs.declared.name.Name.TheVariants.{Word}
+use Rattle.ioa_terms.specs.PlainTerm.{name}
+use Rattle.ioa_actions.specs.ActionParts.{send_name, receive_name}
 use Rattle.ioa_terms.specs.SameTerms.{same_kind}
 use Rattle.ioa_terms.specs.Sorted.{NameShapes, shape_in_terms}
 use Rattle.ioa_source.specs.Erasure.{erase_declared}
@@ -78,6 +81,45 @@ AreParametersOf types names (p ∷ ps) (c ∷ cs) [] = ⊥
 AreParametersOf types names (p ∷ ps) (c ∷ cs) (s ∷ ss) =
     IsParameterOf types names p c s × AreParametersOf types names ps cs ss
 
+-- an argument of a transition's head repeats a parameter: it is the same term as a constant, and the same name elsewhere
+abbrev pub Repeats : SourceParameter → SourceTerm → Type 0
+Repeats (const t) u = u ≡ t
+Repeats (named d) u = u ≡ name (Word d.name) tt
+
+-- a shape is that of `Int` or `Nat`
+abbrev pub IsNumber : PlainShape → Type 0
+IsNumber s = (s ≡ integers) ⊎ (s ≡ naturals)
+
+-- the arguments are a message and the numbers of two nodes
+pub record AreMessageShapes (ss : List PlainShape) : Type 0 where
+  pub message : PlainShape
+  pub from : PlainShape
+  pub to : PlainShape
+  pub same : ss ≡ message ∷ from ∷ to ∷ []
+  pub numbers : IsNumber from × IsNumber to
+
+-- the parameter at a position is a constant
+abbrev pub IsConstantAt : List CheckedParameter → ℕ → Type 0
+IsConstantAt ps k = (t : CheckedTerm) × (slice_get ps k ≡ Some (const t))
+
+-- how `send` is declared (profile): an output whose second argument is constant
+pub record IsSend (e : PlainSortedEntry) : Type 0 where
+  pub kind : e.entry.kind ≡ Output
+  pub shapes : AreMessageShapes e.shapes
+  pub sender : IsConstantAt e.entry.parameters 1
+
+-- how `receive` is declared (profile): an input whose third argument is constant and whose first is not
+pub record IsReceive (e : PlainSortedEntry) : Type 0 where
+  pub kind : e.entry.kind ≡ Input
+  pub shapes : AreMessageShapes e.shapes
+  pub receiver : IsConstantAt e.entry.parameters 2
+  pub message : IsConstantAt e.entry.parameters 0 → ⊥
+
+-- an entry with its name: only such entries are named `send` and `receive`
+pub record IsWellNamed (e : PlainSortedEntry) : Type 0 where
+  pub send : e.entry.name ≡ send_name → IsSend e
+  pub receive : e.entry.name ≡ receive_name → IsReceive e
+
 -- a transition, of whose names in view the first `variables` may be assigned
 pub record IsTransitionOf (names : NameShapes) (variables : ℕ) (t : SourceTransition) (c : CheckedTransition)
     : Type 0 where
@@ -114,10 +156,10 @@ pub record IsRuleOf (t : PlainTextTypes) (ps : List CheckedDeclared) (vs : List 
   pub condition_names : AreDistinct (names_at entry_condition t.constants ps vs r.rule.entry.parameters)
   pub step_names : AreDistinct (names_at guard_or_effect t.constants ps vs r.rule.entry.parameters)
   -- the head repeats the entry, an input has no guard and no condition, and a message's name is used as it has to be
-  pub head : pointwise repeats e.parameters written.arguments ≡ true
-  pub no_guard : is_some written.pre && same_kind e.kind Input ≡ false
-  pub no_condition : is_some e.condition && same_kind e.kind Input ≡ false
-  pub message : may_have_name (record { entry = r.rule.entry; shapes = r.shapes }) ≡ true
+  pub head : AllZip Repeats e.parameters written.arguments
+  pub no_guard : e.kind ≡ Input → written.pre ≡ None
+  pub no_condition : e.kind ≡ Input → e.condition ≡ None
+  pub message : IsWellNamed (record { entry = r.rule.entry; shapes = r.shapes })
 
 -- arguments, each of the shape at its position
 abbrev pub AreArgumentsOf : NameShapes → List PlainShape → List SourceTerm → List CheckedTerm → Type 0

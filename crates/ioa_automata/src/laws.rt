@@ -1,14 +1,16 @@
-//! A law of automata: what a function ensures that does nothing.
+//! Laws of automata: what functions ensure that do nothing.
 
-ghost use Rattle.std.specs.Prelude.{◌≡◌, Ok, map};
-ghost use Rattle.ioa_source.specs.Sides.{SourceAutomaton};
+ghost use Rattle.std.specs.Prelude.{◌≡◌, ◌↔◌, true, Ok, map};
+ghost use Rattle.ioa_source.specs.Sides.{SourceAutomaton, SourceParameter, SourceTerm};
 ghost use Rattle.ioa_system.specs.Parts.{automaton_parts};
 ghost use Rattle.ioa_system.specs.ResolvedPrograms.{IsCompiled};
 ghost use Rattle.ioa_types.specs.NameTables.{words};
 ghost use Rattle.ioa_types.specs.Meanings.{AreTextTypes};
 ghost use Rattle.ioa_types.specs.TextTypes.{PlainTextTypes};
 ghost use Rattle.ioa_automata.specs.Automata.{PlainSortedAutomaton, automaton_at};
-ghost use Rattle.ioa_automata.specs.SortedAutomata.{IsAutomatonOf};
+ghost use Rattle.ioa_automata.specs.Parts.{PlainSortedEntry};
+ghost use Rattle.ioa_automata.specs.Rules.{repeats, may_have_name};
+ghost use Rattle.ioa_automata.specs.SortedAutomata.{IsAutomatonOf, Repeats, IsWellNamed};
 
 /// What is made of an automaton is the text's automaton with slots and shapes. There is no other such automaton: if
 /// there is one, it is made, so that an automaton is refused only if there is none. It is
@@ -21,4 +23,11 @@ pub fn automata_law()
     ensures compiled { (t : PlainTextTypes) (a : SourceAutomaton) (c : PlainSortedAutomaton) → IsAutomatonOf t a c →
         IsCompiled c.scope (automaton_parts c.name (words t.constants) c.parameters c.variables
         (map (λ r. r.rule) c.rules) c.schedule) }
+{}
+
+/// A head's argument repeats a parameter exactly if it is the constant's term or the name. An entry may have its name
+/// exactly if it is none of `send` and `receive`, or declares a message as these have to.
+pub fn heads_law()
+    ensures repeats { (p : SourceParameter) (u : SourceTerm) → repeats p u ≡ true ↔ Repeats p u }
+    ensures named { (e : PlainSortedEntry) → may_have_name e ≡ true ↔ IsWellNamed e }
 {}

@@ -9,5 +9,5 @@ mod parts;
 mod rules;
 
 pub use automata::{SortedAutomaton, sort_automaton};
-pub use laws::automata_law;
+pub use laws::{automata_law, heads_law};
 pub use rules::SortedRule;
