@@ -1,9 +1,8 @@
 -- An automaton with slots and shapes is ready to step: each name is resolved to the slot of its value.
-use Rattle.std.proofs.Common.{◌≡◌, ◌<◌, ℕ, zero, suc, List, [], ◌∷◌, ◌++◌, Option, Some, None, refl, sym, ap, subst, ◌∙◌, map, length, take, arith}
+use Rattle.std.proofs.Common.{◌≡◌, ◌<◌, ℕ, zero, suc, List, [], ◌∷◌, ◌++◌, Option, Some, None, refl, ap, subst, ◌∙◌, map, length, take, arith}
 use Rattle.std.specs.List.{All, AllByRecursion, AllZip, slice_index_or}
 use Rattle.std.proofs.lemmas.List.{append_assoc}
 use Rattle.ioa_operators.specs.Shapes.{PlainShape}
-use Rattle.ioa_terms.specs.declared.name.Name.{Name}
 use Rattle.ioa_terms.specs.declared.name.Name.TheVariants.{Word}
 use Rattle.ioa_terms.specs.Resolved.{AreResolved, IsResolvedStatement}
 use Rattle.ioa_terms.specs.Sorted.{NameShapes}
@@ -11,16 +10,15 @@ use Rattle.ioa_source.specs.PlainText.{const, named}
 use Rattle.ioa_source.specs.Sides.{SourceTerm, SourceParameter, SourceEntry, SourceVariable, SourceTransition, SourceFiring, SourceStatement, SourceAutomaton, CheckedTerm, CheckedDeclared, CheckedParameter, CheckedVariable, CheckedFiring, CheckedStatement}
 use Rattle.ioa_system.specs.InView as view
 use Rattle.ioa_system.specs.InView.{Site, in_view, entry_constant, initial_value, entry_condition, guard_or_effect, firing, parameter_names, variable_names, own_names, DeclaredNames, scope_at, words_at}
-use Rattle.ioa_system.specs.Parts.{PlainRule, automaton_parts}
+use Rattle.ioa_system.specs.Parts.{automaton_parts}
 use Rattle.ioa_system.specs.ResolvedPrograms.{IsResolvedParameter, AreResolvedParameters, IsResolvedGuard, IsResolvedRule, AreResolvedTerms, AreResolvedFirings, AreResolvedVariables, IsCompiled}
 use Rattle.ioa_sorts.specs.SortedStatements.{IsStatementOf}
 use Rattle.ioa_types.specs.NameTables.{words}
 use Rattle.ioa_types.specs.TextTypes.{PlainTextTypes}
-use Rattle.ioa_types.specs.TypeTables.{TypeTable}
 use Rattle.ioa_automata.specs.NamesInView.{parameter_shapes, variable_shapes, own_shapes}
 use Rattle.ioa_automata.specs.Rules.{PlainSortedRule}
 use Rattle.ioa_automata.specs.Automata.{PlainSortedAutomaton}
-use Rattle.ioa_automata.specs.SortedAutomata.{IsVariableOf, IsInitialOf, IsConditionOf, AreParametersOf, IsTransitionOf, IsRuleOf, AreArgumentsOf, IsFiringOf, IsAutomatonOf, names_at}
+use Rattle.ioa_automata.specs.SortedAutomata.{IsVariableOf, IsInitialOf, IsConditionOf, AreParametersOf, IsRuleOf, AreArgumentsOf, IsFiringOf, IsAutomatonOf, names_at}
 
 -- names as words
 keys_are : (names : NameShapes) → map (λ n. n.0) names ≡ map Word (words names)

@@ -1,10 +1,8 @@
 -- Each automaton with slots and shapes is found.
-use Rattle.std.proofs.Common.{◌≡◌, ◌<◌, ◌&&◌, ℕ, Bool, true, false, List, [], ◌∷◌, ◌++◌, Option, Some, None, Result, Ok, Err, refl, sym, ap, subst, ◌∙◌, map, length, take, if◌then◌else◌}
-use Rattle.std.specs.Prelude.{find}
+use Rattle.std.proofs.Common.{◌≡◌, ◌&&◌, ℕ, true, false, List, [], ◌∷◌, ◌++◌, Option, Some, None, Result, Ok, refl, sym, ap, subst, ◌∙◌, map, length, take}
 use Rattle.std.specs.List.{AllByRecursion, AllZip, IsDistinct, list_all}
 use Rattle.std.specs.Option.{is_some}
 use Rattle.std.proofs.lemmas.List.{append_assoc}
-use lib.Pointwise.{pointwise}
 use Rattle.ioa_values.specs.Outcome.{and_then}
 use Rattle.ioa_operators.specs.Shapes.{PlainShape, truths}
 use Rattle.ioa_terms.specs.declared.tree.Kind.{Kind}
@@ -14,9 +12,9 @@ use Rattle.ioa_terms.specs.SameTerms.{same_kind}
 use Rattle.ioa_terms.specs.Sorted.{NameShapes, shape_in_terms}
 use Rattle.ioa_source.specs.PlainText.{const, named}
 use Rattle.ioa_source.specs.Sides.{SourceTerm, SourceDeclared, SourceParameter, SourceEntry, SourceVariable, SourceTransition, SourceFiring, SourceStatement, SourceAutomaton, CheckedTerm, CheckedDeclared, CheckedParameter, CheckedVariable, CheckedTransition, CheckedFiring, CheckedStatement}
-use Rattle.ioa_system.specs.InView.{entry_constant, initial_value, entry_condition, guard_or_effect, firing}
+use Rattle.ioa_system.specs.InView.{entry_condition}
 use Rattle.ioa_sort_rules.specs.declared.refusal.Refusal.{Refusal}
-use Rattle.ioa_sorts.specs.Sorting.{PlainTyped, typed, infer, fit, sorting}
+use Rattle.ioa_sorts.specs.Sorting.{PlainTyped, typed}
 use Rattle.ioa_sorts.specs.Statements.{all_ok, statement_sorting, statement_sortings}
 use Rattle.ioa_sorts.specs.SortedStatements.{IsStatementOf}
 use Rattle.ioa_sorts.proofs.Complete.{fit_complete, infer_complete}
@@ -26,10 +24,10 @@ use Rattle.ioa_types.specs.TextTypes.{PlainTextTypes}
 use Rattle.ioa_types.specs.TypeTables.{TypeTable, are_new}
 use Rattle.ioa_types.proofs.Meant.{sort_found}
 use Rattle.ioa_types.proofs.Names.{all_found}
-use Rattle.ioa_automata.specs.NamesInView.{parameter_shapes, variable_shapes, own_shapes, given_scope, condition_scope, step_scope, firing_scope}
-use Rattle.ioa_automata.specs.Parts.{declared_at, all_declared_at, known, inferred, own_term, own_terms, condition_at, initial_at, variable_at, variables_at, sorted_parameter, parameter_at, sorted_parameters, parameters_at, where_at, PlainSortedEntry, names_in_condition, entry_at, transition_at}
-use Rattle.ioa_automata.specs.Rules.{repeats, transition_for, allowed, may_have_name, message_at, PlainSortedRule, PlainSurroundings, rule_of, rule_at, rules_at, fires, is_message, entry_fired, arguments_at, firing_at, firings_at, has_entry, differ, have_entries}
-use Rattle.ioa_automata.specs.Automata.{PlainHeading, heading_at, surroundings, actions_at, PlainSortedAutomaton, automaton_at}
+use Rattle.ioa_automata.specs.NamesInView.{parameter_shapes, variable_shapes, own_shapes}
+use Rattle.ioa_automata.specs.Parts.{declared_at, all_declared_at, known, inferred, own_term, condition_at, initial_at, variable_at, variables_at, sorted_parameter, parameter_at, sorted_parameters, parameters_at, where_at, PlainSortedEntry, names_in_condition, entry_at, transition_at}
+use Rattle.ioa_automata.specs.Rules.{transition_for, allowed, may_have_name, message_at, PlainSortedRule, PlainSurroundings, rule_of, rule_at, rules_at, is_message, entry_fired, arguments_at, firing_at, firings_at, has_entry, differ, have_entries}
+use Rattle.ioa_automata.specs.Automata.{PlainHeading, heading_at, actions_at, PlainSortedAutomaton, automaton_at}
 use Rattle.ioa_automata.specs.SortedAutomata.{IsDeclaredOf, IsOwnTermOf, IsInitialOf, IsVariableOf, IsConditionOf, IsParameterOf, AreParametersOf, IsTransitionOf, IsRuleOf, AreArgumentsOf, IsFiringOf, IsAutomatonOf, names_at}
 use Rattle.ioa_automata.proofs.Loops.{results_are}
 use Rattle.ioa_automata.proofs.Results.{result_is, zip_weaker}

@@ -1,5 +1,5 @@
 -- Heads that repeat their entries, and how messages are declared.
-use Rattle.std.proofs.Common.{◌≡◌, ◌↔◌, ◌⊎◌, inl, inr, ◌&&◌, ◌||◌, not, ℕ, Bool, true, false, List, [], ◌∷◌, Option, Some, None, refl, sym, ap, subst, ◌∙◌, length, slice_get, nat_eq, arith}
+use Rattle.std.proofs.Common.{◌≡◌, ◌↔◌, inl, inr, ◌&&◌, ◌||◌, not, ℕ, Bool, true, false, List, [], ◌∷◌, Option, Some, None, refl, sym, ap, length, slice_get, nat_eq, arith}
 use Rattle.std.specs.Bool.{Decides}
 use Rattle.std.specs.List.{AllZip}
 use Rattle.std.specs.Option.{is_some}
@@ -18,7 +18,7 @@ use Rattle.ioa_actions.specs.ActionParts.{send_name, receive_name}
 use Rattle.ioa_source.specs.PlainText.{const, named}
 use Rattle.ioa_source.specs.Sides.{SourceParameter, SourceTerm, CheckedParameter, CheckedTerm}
 use Rattle.ioa_automata.specs.Parts.{PlainSortedEntry}
-use Rattle.ioa_automata.specs.Rules.{repeats, is_number, is_number_if, is_constant, has_message_shapes, is_send, is_receive, may_have_name}
+use Rattle.ioa_automata.specs.Rules.{repeats, is_number, is_constant, has_message_shapes, is_send, is_receive, may_have_name}
 use Rattle.ioa_automata.specs.SortedAutomata.{Repeats, IsNumber, AreMessageShapes, IsConstantAt, IsSend, IsReceive, IsWellNamed}
 
 nothing_is : (x y : Unit {0}) → Decides true (x ≡ y)

@@ -1,5 +1,5 @@
 -- Loops that make a result of each item.
-use Rattle.std.proofs.Common.{◌≡◌, ◌<◌, ◌+◌, ℕ, List, [], ◌∷◌, ◌++◌, Result, Ok, Err, refl, sym, ap, map, drop, length, get_or}
+use Rattle.std.proofs.Common.{◌≡◌, ◌<◌, ◌+◌, ℕ, List, [], ◌∷◌, ◌++◌, Result, Ok, Err, refl, ap, map, drop, length, get_or}
 use Rattle.std.proofs.lemmas.List.{drop_more}
 use Rattle.ioa_values.specs.Outcome.{and_then}
 use Rattle.ioa_sort_rules.specs.declared.refusal.Refusal.{Refusal}

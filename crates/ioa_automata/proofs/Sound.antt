@@ -1,23 +1,19 @@
 -- What is made of the parts of an automaton.
-use Rattle.std.proofs.Common.{◌≡◌, ◌<◌, ◌&&◌, ℕ, Bool, true, false, List, [], ◌∷◌, ◌++◌, Option, Some, None, Result, Ok, Err, refl, sym, ap, subst, ◌∙◌, map, length, take, if◌then◌else◌}
-use Rattle.std.specs.Prelude.{find}
-use Rattle.std.specs.List.{AllByRecursion, AllZip, list_all}
+use Rattle.std.proofs.Common.{◌≡◌, ◌&&◌, ℕ, false, List, [], ◌∷◌, Option, Some, None, refl, sym, ap, subst, ◌∙◌, map, take}
+use Rattle.std.specs.List.{AllByRecursion, AllZip}
 use Rattle.std.specs.Option.{is_some}
 use Rattle.ioa_values.specs.Outcome.{and_then}
-use Rattle.ioa_values.proofs.AllOf.{all_appended}
 use Rattle.ioa_operators.specs.Shapes.{PlainShape, truths}
 use Rattle.ioa_terms.specs.declared.tree.Kind.{Kind}
 use Rattle.ioa_terms.specs.declared.tree.Kind.TheVariants.{Input, Output, Internal}
-use Rattle.ioa_terms.specs.PlainTerm.{PlainStatement, statements_of}
+use Rattle.ioa_terms.specs.PlainTerm.{statements_of}
 use Rattle.ioa_terms.specs.SameTerms.{same_kind}
 use Rattle.ioa_terms.specs.Sorted.{NameShapes, shape_in_terms}
 use Rattle.ioa_source.specs.PlainText.{const, named}
-use Rattle.ioa_source.specs.Sides.{SourceTerm, SourceDeclared, SourceParameter, SourceEntry, SourceVariable, SourceTransition, SourceFiring, SourceStatement, CheckedTerm, CheckedDeclared, CheckedParameter, CheckedVariable, CheckedTransition, CheckedStatement}
+use Rattle.ioa_source.specs.Sides.{SourceTerm, SourceDeclared, SourceParameter, SourceVariable, SourceTransition, SourceStatement, CheckedTerm, CheckedDeclared, CheckedVariable, CheckedTransition, CheckedStatement}
 use Rattle.ioa_sort_rules.specs.DeclaredTypes.{IsDeclared, AreAllDeclared}
-use Rattle.ioa_sort_rules.specs.declared.refusal.Refusal.{Refusal}
 use Rattle.ioa_sorts.specs.Sorting.{PlainTyped, typed, infer, fit, sorting}
 use Rattle.ioa_sorts.specs.Statements.{all_ok, statement_sorting, statement_sortings}
-use Rattle.ioa_sorts.specs.SortedTerms.{IsTermOf}
 use Rattle.ioa_sorts.specs.SortedStatements.{IsStatementOf}
 use Rattle.ioa_sorts.proofs.Types.{in_terms}
 use Rattle.ioa_sorts.proofs.Sound.{own_sound, own_declared, own_bare, fit_sound}
@@ -25,7 +21,6 @@ use Rattle.ioa_sorts.proofs.SoundStatements.{statement_sound}
 use Rattle.ioa_types.specs.TypeTables.{TypeTable, shape_of_sort}
 use Rattle.ioa_types.specs.Meanings.{tuple_types, IsTypeTable}
 use Rattle.ioa_types.proofs.Meant.{sort_means, sort_declared}
-use Rattle.ioa_automata.specs.NamesInView.{shape_declared, parameter_shapes, variable_shapes, own_shapes}
 use Rattle.ioa_automata.specs.Parts.{declared_at, all_declared_at, known, inferred, own_term, own_terms, condition_at, initial_at, variable_at, variables_at, PlainSortedParameter, sorted_parameter, parameter_at, PlainSortedParameters, sorted_parameters, parameters_at, where_at, transition_at}
 use Rattle.ioa_automata.specs.SortedAutomata.{IsDeclaredOf, IsOwnTermOf, IsInitialOf, IsVariableOf, IsConditionOf, IsParameterOf, AreParametersOf, IsTransitionOf}
 use Rattle.ioa_automata.proofs.Loops.{results_are}

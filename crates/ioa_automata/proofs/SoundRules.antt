@@ -1,5 +1,5 @@
 -- What is made of an automaton.
-use Rattle.std.proofs.Common.{◌≡◌, ◌&&◌, ℕ, zero, suc, Bool, true, false, List, [], ◌∷◌, ◌++◌, Option, Some, None, Result, Ok, Err, refl, sym, ap, subst, ◌∙◌, map, length, take, if◌then◌else◌}
+use Rattle.std.proofs.Common.{◌≡◌, ◌&&◌, ℕ, zero, suc, Bool, true, false, List, [], ◌∷◌, ◌++◌, Option, Some, None, Err, refl, sym, ap, subst, ◌∙◌, map, length, take, if◌then◌else◌}
 use Rattle.std.specs.Prelude.{find}
 use Rattle.std.specs.List.{AllByRecursion, AllZip, IsDistinct, list_all}
 use Rattle.std.specs.Option.{is_some}
@@ -12,10 +12,9 @@ use Rattle.ioa_terms.specs.declared.tree.Kind.TheVariants.{Input}
 use Rattle.ioa_terms.specs.SameTerms.{same_kind}
 use Rattle.ioa_terms.specs.Sorted.{NameShapes, shape_in_terms}
 use Rattle.ioa_source.specs.PlainText.{const, named}
-use Rattle.ioa_source.specs.Sides.{SourceTerm, SourceDeclared, SourceParameter, SourceEntry, SourceVariable, SourceTransition, SourceFiring, SourceAutomaton, CheckedTerm, CheckedDeclared, CheckedParameter, CheckedVariable, CheckedTransition, CheckedFiring}
-use Rattle.ioa_system.specs.InView.{entry_constant, initial_value, entry_condition, guard_or_effect, firing}
+use Rattle.ioa_source.specs.Sides.{SourceTerm, SourceDeclared, SourceParameter, SourceEntry, SourceVariable, SourceTransition, SourceFiring, SourceAutomaton, CheckedTerm, CheckedDeclared, CheckedParameter, CheckedVariable, CheckedFiring}
+use Rattle.ioa_system.specs.InView.{entry_constant, entry_condition}
 use Rattle.ioa_sort_rules.specs.DeclaredTypes.{IsDeclared, AreAllDeclared}
-use Rattle.ioa_sort_rules.specs.declared.refusal.Refusal.{Refusal}
 use Rattle.ioa_sort_rules.specs.declared.refusal.Refusal.TheVariants.{Unknown, Twice, InputPre, BadArgument}
 use Rattle.ioa_sorts.specs.Sorting.{fit, sorting}
 use Rattle.ioa_sorts.proofs.Types.{in_terms}
@@ -23,10 +22,10 @@ use Rattle.ioa_sorts.proofs.Sound.{fit_sound}
 use Rattle.ioa_types.specs.Meanings.{tuple_types, AreTextTypes}
 use Rattle.ioa_types.specs.NameTables.{AreDistinct, with_names, words}
 use Rattle.ioa_types.specs.TextTypes.{PlainTextTypes}
-use Rattle.ioa_types.specs.TypeTables.{TypeTable, are_new}
+use Rattle.ioa_types.specs.TypeTables.{are_new}
 use Rattle.ioa_types.proofs.Names.{all_behind, all_differ}
 use Rattle.ioa_automata.specs.NamesInView.{parameter_shapes, variable_shapes, own_shapes, given_scope, condition_scope, step_scope, firing_scope}
-use Rattle.ioa_automata.specs.Parts.{PlainSortedParameters, PlainSortedEntry, sorted_entry, parameters_at, names_in_condition, where_at, entry_at, transition_at, all_declared_at, variables_at}
+use Rattle.ioa_automata.specs.Parts.{PlainSortedEntry, sorted_entry, parameters_at, names_in_condition, where_at, entry_at, transition_at, all_declared_at, variables_at}
 use Rattle.ioa_automata.specs.Rules.{repeats, transition_for, allowed, may_have_name, message_at, PlainSortedRule, sorted_rule, PlainSurroundings, rule_of, rule_at, rules_at, fires, is_message, entry_fired, arguments_at, firing_at, firings_at, has_entry, differ, have_entries}
 use Rattle.ioa_automata.specs.Automata.{PlainHeading, heading_at, surroundings, actions_at, PlainSortedAutomaton, sorted_automaton, automaton_at}
 use Rattle.ioa_automata.specs.SortedAutomata.{IsDeclaredOf, IsVariableOf, IsConditionOf, AreParametersOf, IsTransitionOf, IsRuleOf, AreArgumentsOf, IsFiringOf, IsAutomatonOf, names_at}

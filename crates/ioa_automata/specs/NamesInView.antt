@@ -1,6 +1,6 @@
 -- The names in view at the sites of an automaton, with their shapes (profile: the table of names). In view together
 -- they differ from each other.
-use Rattle.std.specs.Prelude.{ℕ, List, [], ◌∷◌, ◌++◌, Result, map}
+use Rattle.std.specs.Prelude.{List, [], ◌∷◌, ◌++◌, Result, map}
 use Rattle.ioa_values.specs.Outcome.{and_then}
 use Rattle.ioa_operators.specs.Shapes.{PlainShape}
 use Rattle.ioa_terms.specs.declared.name.Name.{Name}

@@ -1,6 +1,6 @@
 -- The declarations of an automaton with the slot of each name and the shape of each sort and display (profile). The
 -- first refusal in the order of the definitions is the whole's.
-use Rattle.std.specs.Prelude.{ℕ, Bool, true, false, if◌then◌else◌, List, [], ◌∷◌, Option, Some, None, Result, Ok, Err}
+use Rattle.std.specs.Prelude.{ℕ, List, [], ◌∷◌, Option, Some, None, Result, Ok, Err}
 use Rattle.std.specs.Prelude.{map, take}
 use Rattle.ioa_values.specs.Outcome.{and_then}
 use Rattle.ioa_operators.specs.Shapes.{PlainShape, truths}
@@ -15,7 +15,7 @@ use Rattle.ioa_source.specs.Sides.{CheckedTerm, CheckedDeclared, CheckedParamete
 use Rattle.ioa_source.specs.Sides.{CheckedTransition}
 use Rattle.ioa_sort_rules.specs.declared.refusal.Refusal.{Refusal}
 use Rattle.ioa_sort_rules.specs.declared.refusal.Refusal.TheVariants.{NoInitial, EmptyOfWhat, InputWhere}
-use Rattle.ioa_sorts.specs.Sorting.{PlainTyped, typed, infer, fit, sorting}
+use Rattle.ioa_sorts.specs.Sorting.{PlainTyped, infer, fit, sorting}
 use Rattle.ioa_sorts.specs.Statements.{all_ok, statement_sortings}
 use Rattle.ioa_types.specs.NameTables.{with_names}
 use Rattle.ioa_types.specs.TypeTables.{TypeTable, shape_of_sort}

@@ -1,16 +1,13 @@
 -- An automaton of a text with slots and shapes (profile), in words that know nothing of the order of refusals.
-use Rattle.std.specs.Prelude.{◌≡◌, ◌<◌, ◌⊎◌, ℕ, true, false, ◌&&◌, List, [], ◌∷◌, ◌++◌, Option, Some, None}
+use Rattle.std.specs.Prelude.{◌≡◌, ◌<◌, ◌⊎◌, ℕ, true, false, List, [], ◌∷◌, ◌++◌, Option, Some, None}
 use Rattle.std.specs.Prelude.{map, take, length, find, slice_get}
 use Rattle.std.specs.List.{AllZip, list_all}
-use Rattle.std.specs.Option.{is_some}
-use lib.Pointwise.{pointwise}
 use Rattle.ioa_operators.specs.Shapes.{PlainShape, truths, integers, naturals}
 use Rattle.ioa_operators.specs.ShapeHeight.{height}
 use Rattle.ioa_terms.specs.declared.tree.Kind.TheVariants.{Input, Output}
 use Rattle.ioa_terms.specs.declared.name.Name.TheVariants.{Word}
 use Rattle.ioa_terms.specs.PlainTerm.{name}
 use Rattle.ioa_actions.specs.ActionParts.{send_name, receive_name}
-use Rattle.ioa_terms.specs.SameTerms.{same_kind}
 use Rattle.ioa_terms.specs.Sorted.{NameShapes, shape_in_terms}
 use Rattle.ioa_source.specs.Erasure.{erase_declared}
 use Rattle.ioa_source.specs.PlainText.{const, named}
@@ -30,7 +27,7 @@ use Rattle.ioa_types.specs.TextTypes.{PlainTextTypes}
 use Rattle.ioa_types.specs.TypeTables.{TypeTable, are_new}
 use Rattle.ioa_automata.specs.NamesInView.{parameter_shapes, variable_shapes, own_shapes}
 use Rattle.ioa_automata.specs.Parts.{PlainSortedEntry}
-use Rattle.ioa_automata.specs.Rules.{PlainSortedRule, repeats, transition_for, may_have_name, fires, is_message}
+use Rattle.ioa_automata.specs.Rules.{PlainSortedRule, transition_for, fires, is_message}
 use Rattle.ioa_automata.specs.Rules.{has_entry}
 use Rattle.ioa_automata.specs.Automata.{PlainSortedAutomaton}
 

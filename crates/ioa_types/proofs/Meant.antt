@@ -19,7 +19,7 @@ use Rattle.ioa_sort_rules.specs.DeclaredTypes.{TupleTypes, IsDeclared, AreDeclar
 use Rattle.ioa_sort_rules.specs.declared.refusal.Refusal.{Refusal}
 use Rattle.ioa_sort_rules.specs.declared.refusal.Refusal.TheVariants.{Limit}
 use Rattle.ioa_types.specs.declared.height.TheConstants.{SHAPE_LIMIT}
-use Rattle.ioa_types.specs.NameTables.{named_newly, with_name}
+use Rattle.ioa_types.specs.NameTables.{with_name}
 use Rattle.ioa_types.specs.TypeTables.{TypeTable, limited, known_type, shape_of_sort, field_shapes, field_names, tuple_shape}
 use Rattle.ioa_types.specs.Meanings.{Means, tuple_types, IsTypeTable, AreTextTypes}
 use Rattle.ioa_types.specs.TextTypes.{PlainTextTypes, text_types, with_constants, with_form}
