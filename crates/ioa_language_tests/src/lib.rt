@@ -2,8 +2,6 @@
 #![tactic(auto)]
 
 #[cfg(test)]
-mod automata;
-#[cfg(test)]
 mod first_form;
 #[cfg(test)]
 mod operators;
