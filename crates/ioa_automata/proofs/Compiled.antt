@@ -1,5 +1,5 @@
 -- An automaton with slots and shapes is ready to step: each name is resolved to the slot of its value.
-use Rattle.std.proofs.Common.{◌≡◌, ◌<◌, ℕ, zero, suc, List, [], ◌∷◌, ◌++◌, Option, Some, None, refl, ap, subst, ◌∙◌, map, length, take, arith}
+use Rattle.std.proofs.Common.{◌≡◌, ◌<◌, ℕ, zero, suc, List, [], ◌∷◌, ◌++◌, Option, Some, None, refl, sym, ap, subst, ◌∙◌, map, length, take, arith}
 use Rattle.std.specs.List.{All, AllByRecursion, AllZip, slice_index_or}
 use Rattle.std.proofs.lemmas.List.{append_assoc}
 use Rattle.ioa_operators.specs.Shapes.{PlainShape}
@@ -10,14 +10,12 @@ use Rattle.ioa_source.specs.PlainText.{const, named}
 use Rattle.ioa_source.specs.Sides.{SourceTerm, SourceParameter, SourceEntry, SourceVariable, SourceTransition, SourceFiring, SourceStatement, SourceAutomaton, CheckedTerm, CheckedDeclared, CheckedParameter, CheckedVariable, CheckedFiring, CheckedStatement}
 use Rattle.ioa_system.specs.InView as view
 use Rattle.ioa_system.specs.InView.{Site, in_view, entry_constant, initial_value, entry_condition, guard_or_effect, firing, parameter_names, variable_names, own_names, DeclaredNames, scope_at, words_at}
-use Rattle.ioa_system.specs.Parts.{automaton_parts}
-use Rattle.ioa_system.specs.ResolvedPrograms.{IsResolvedParameter, AreResolvedParameters, IsResolvedGuard, IsResolvedRule, AreResolvedTerms, AreResolvedFirings, AreResolvedVariables, IsCompiled}
+use Rattle.ioa_system.specs.Parts.{AutomatonParts, PlainRule, automaton_parts}
+use Rattle.ioa_system.specs.ResolvedPrograms.{IsResolvedParameter, AreResolvedParameters, IsResolvedGuard, IsResolvedRule, AreResolvedTerms, AreResolvedFirings, AreResolvedVariables, IsResolvedAutomaton}
 use Rattle.ioa_sorts.specs.SortedStatements.{IsStatementOf}
 use Rattle.ioa_types.specs.NameTables.{words}
 use Rattle.ioa_types.specs.TextTypes.{PlainTextTypes}
 use Rattle.ioa_automata.specs.NamesInView.{parameter_shapes, variable_shapes, own_shapes}
-use Rattle.ioa_automata.specs.Rules.{PlainSortedRule}
-use Rattle.ioa_automata.specs.Automata.{PlainSortedAutomaton}
 use Rattle.ioa_automata.specs.SortedAutomata.{IsVariableOf, IsInitialOf, IsConditionOf, AreParametersOf, IsRuleOf, AreArgumentsOf, IsFiringOf, IsAutomatonOf, names_at}
 
 -- names as words
@@ -66,7 +64,7 @@ module _ (t : PlainTextTypes) (ps : List CheckedDeclared) (vs : List CheckedVari
   abbrev declared : DeclaredNames
   declared = record { constants = words t.constants; parameters = parameter_names ps; variables = variable_names vs }
 
-  scope_words : (site : Site) (own : List CheckedParameter) → words (in_view site (parameter_shapes ps) (variable_shapes vs) (own_shapes own)) ≡ scope_at site declared (own_names own)
+  pub scope_words : (site : Site) (own : List CheckedParameter) → words (in_view site (parameter_shapes ps) (variable_shapes vs) (own_shapes own)) ≡ scope_at site declared (own_names own)
   scope_words site own =
       site_words site (parameter_shapes ps) (variable_shapes vs) (own_shapes own) ∙ (λ i. in_view site (parameter_words ps i) (variable_words vs i) (own_words own i))
 
@@ -110,18 +108,18 @@ module _ (t : PlainTextTypes) (ps : List CheckedDeclared) (vs : List CheckedVari
       assigned =
           ap (λ (ns : NameShapes). map (λ n. n.0) (take (length vs) ns)) whole ∙ ap (λ (ns : NameShapes). map (λ n. n.0) ns) (first_variables vs behind) ∙ keys_are (variable_shapes vs) ∙ ap (map Word) (variable_words vs)
 
-  rule_resolved : (ts : List SourceTransition) (e : SourceEntry) (r : PlainSortedRule) → IsRuleOf t ps vs ts e r → IsResolvedRule declared r.rule
+  rule_resolved : (ts : List SourceTransition) (e : SourceEntry) (r : PlainRule) → IsRuleOf t ps vs ts e r → IsResolvedRule declared r
   rule_resolved ts e r h =
-      let own = r.rule.entry.parameters in
+      let own = r.entry.parameters in
       record {
         scope = h.scope ∙ scope_words guard_or_effect own;
         parameters = parameters_resolved e.parameters own r.shapes h.parameters;
-        condition = guard_resolved entry_condition own e.condition r.rule.entry.condition h.condition;
-        guard = guard_resolved guard_or_effect own h.written.pre r.rule.transition.pre h.transition.pre;
-        effect = effect_resolved own h.written.effect r.rule.transition.effect h.transition.effect;
+        condition = guard_resolved entry_condition own e.condition r.entry.condition h.condition;
+        guard = guard_resolved guard_or_effect own h.written.pre r.transition.pre h.transition.pre;
+        effect = effect_resolved own h.written.effect r.transition.effect h.transition.effect;
       }
 
-  rules_resolved : (ts : List SourceTransition) (es : List SourceEntry) (rs : List PlainSortedRule) → AllZip (IsRuleOf t ps vs ts) es rs → AllByRecursion (IsResolvedRule declared) (map (λ r. r.rule) rs)
+  rules_resolved : (ts : List SourceTransition) (es : List SourceEntry) (rs : List PlainRule) → AllZip (IsRuleOf t ps vs ts) es rs → AllByRecursion (IsResolvedRule declared) rs
   rules_resolved ts [] [] h = tt
   rules_resolved ts [] (r ∷ rs) h = absurd h
   rules_resolved ts (e ∷ es) [] h = absurd h
@@ -150,18 +148,18 @@ module _ (t : PlainTextTypes) (ps : List CheckedDeclared) (vs : List CheckedVari
   arguments_resolved (s ∷ ss) (u ∷ us) (c ∷ cs) h =
       (subst (λ ns. IsResolvedGuard (Some c) ns) (read_names firing []) h.0.resolved, arguments_resolved ss us cs h.1)
 
-  firings_resolved : (rs : List PlainSortedRule) (fs : List SourceFiring) (cs : List CheckedFiring) → AllZip (IsFiringOf (names_at firing t.constants ps vs []) rs) fs cs → AreResolvedFirings cs (view.names_at firing declared [])
+  firings_resolved : (rs : List PlainRule) (fs : List SourceFiring) (cs : List CheckedFiring) → AllZip (IsFiringOf (names_at firing t.constants ps vs []) rs) fs cs → AreResolvedFirings cs (view.names_at firing declared [])
   firings_resolved rs [] [] h = tt
   firings_resolved rs [] (c ∷ cs) h = absurd h
   firings_resolved rs (f ∷ fs) [] h = absurd h
   firings_resolved rs (f ∷ fs) (c ∷ cs) h = (arguments_resolved h.0.fired.shapes f.arguments c.arguments h.0.arguments, firings_resolved rs fs cs h.1)
 
-pub automaton_compiled : (t : PlainTextTypes) (a : SourceAutomaton) (c : PlainSortedAutomaton) → IsAutomatonOf t a c → IsCompiled c.scope (automaton_parts c.name (words t.constants) c.parameters c.variables (map (λ r. r.rule) c.rules) c.schedule)
-automaton_compiled t a c h = record {
-  names = h.scope ∙ scope_words t c.parameters c.variables firing [];
-  resolved = record {
-    rules = all_each (IsResolvedRule (declared t c.parameters c.variables)) (map (λ r. r.rule) c.rules) (rules_resolved t c.parameters c.variables a.transitions a.signature c.rules h.rules);
-    initials = variables_resolved t c.parameters c.variables a.states c.variables h.variables;
-    schedule = firings_resolved t c.parameters c.variables c.rules a.schedule c.schedule h.schedule;
-  };
-}
+pub automaton_compiled : (t : PlainTextTypes) (a : SourceAutomaton) (c : AutomatonParts) → IsAutomatonOf t a c → IsResolvedAutomaton c
+automaton_compiled t a c h = subst IsResolvedAutomaton rebuilt (record {
+  rules = all_each (IsResolvedRule (declared t c.parameters c.variables)) c.rules (rules_resolved t c.parameters c.variables a.transitions a.signature c.rules h.rules);
+  initials = variables_resolved t c.parameters c.variables a.states c.variables h.variables;
+  schedule = firings_resolved t c.parameters c.variables c.rules a.schedule c.schedule h.schedule;
+})
+  where
+    rebuilt : automaton_parts c.name (words t.constants) c.parameters c.variables c.rules c.schedule ≡ c
+    rebuilt = λ i. automaton_parts c.name (sym h.constants i) c.parameters c.variables c.rules c.schedule

@@ -13,6 +13,7 @@ use Rattle.ioa_terms.specs.Sorted.{NameShapes, shape_in_terms}
 use Rattle.ioa_source.specs.PlainText.{const, named}
 use Rattle.ioa_source.specs.Sides.{SourceTerm, SourceDeclared, SourceParameter, SourceEntry, SourceVariable, SourceTransition, SourceFiring, SourceStatement, SourceAutomaton, CheckedTerm, CheckedDeclared, CheckedParameter, CheckedVariable, CheckedTransition, CheckedFiring, CheckedStatement}
 use Rattle.ioa_system.specs.InView.{entry_condition}
+use Rattle.ioa_system.specs.Parts.{AutomatonParts, PlainRule}
 use Rattle.ioa_sort_rules.specs.declared.refusal.Refusal.{Refusal}
 use Rattle.ioa_sorts.specs.Sorting.{PlainTyped, typed}
 use Rattle.ioa_sorts.specs.Statements.{all_ok, statement_sorting, statement_sortings}
@@ -25,9 +26,9 @@ use Rattle.ioa_types.specs.TypeTables.{TypeTable, are_new}
 use Rattle.ioa_types.proofs.Meant.{sort_found}
 use Rattle.ioa_types.proofs.Names.{all_found}
 use Rattle.ioa_automata.specs.NamesInView.{parameter_shapes, variable_shapes, own_shapes}
-use Rattle.ioa_automata.specs.Parts.{declared_at, all_declared_at, known, inferred, own_term, condition_at, initial_at, variable_at, variables_at, sorted_parameter, parameter_at, sorted_parameters, parameters_at, where_at, PlainSortedEntry, names_in_condition, entry_at, transition_at}
-use Rattle.ioa_automata.specs.Rules.{transition_for, allowed, may_have_name, message_at, PlainSortedRule, PlainSurroundings, rule_of, rule_at, rules_at, is_message, entry_fired, arguments_at, firing_at, firings_at, has_entry, differ, have_entries}
-use Rattle.ioa_automata.specs.Automata.{PlainHeading, heading_at, actions_at, PlainSortedAutomaton, automaton_at}
+use Rattle.ioa_automata.specs.Parts.{declared_at, all_declared_at, own_or, infer_own, own_term, condition_at, initial_at, variable_at, variables_at, sorted_parameter, parameter_at, sorted_parameters, parameters_at, where_at, PlainSortedEntry, names_in_condition, entry_at, transition_at}
+use Rattle.ioa_automata.specs.Rules.{transition_for, transition_or, may_have_name, message_at, PlainSurroundings, rule_of, rule_at, rules_at, is_message, entry_fired, arguments_at, firing_at, firings_at, has_entry, differ, have_entries}
+use Rattle.ioa_automata.specs.Automata.{PlainHeading, heading_at, actions_at, automaton_at}
 use Rattle.ioa_automata.specs.SortedAutomata.{IsDeclaredOf, IsOwnTermOf, IsInitialOf, IsVariableOf, IsConditionOf, IsParameterOf, AreParametersOf, IsTransitionOf, IsRuleOf, AreArgumentsOf, IsFiringOf, IsAutomatonOf, names_at}
 use Rattle.ioa_automata.proofs.Loops.{results_are}
 use Rattle.ioa_automata.proofs.Results.{result_is, zip_weaker}
@@ -76,8 +77,8 @@ module _ (types : TypeTable) where
     abbrev typed_is : CheckedTerm → PlainShape → Result PlainTyped Refusal
     typed_is c s = Ok (typed c s)
 
-    inferred_found : (t : SourceTerm) (c : CheckedTerm) (s : PlainShape) → IsOwnTermOf names t c s → typed_is c s ≡ inferred names t
-    unfolding known
+    inferred_found : (t : SourceTerm) (c : CheckedTerm) (s : PlainShape) → IsOwnTermOf names t c s → typed_is c s ≡ infer_own names t
+    unfolding own_or
     inferred_found t c s h = rw (← infer_complete names t c s h.term h.own) refl
 
     own_term_found : (t : SourceTerm) (c : CheckedTerm) → (s : PlainShape) × IsOwnTermOf names t c s → result_is c ≡ own_term names t
@@ -152,43 +153,43 @@ module _ (t : PlainTextTypes) (ps : List CheckedDeclared) (vs : List CheckedVari
   abbrev around : PlainSurroundings
   around = record { constants = t.constants; types = t.types; parameters = ps; names = parameter_shapes ps ++ t.constants; variables = vs }
 
-  abbrev entry_in : PlainSortedRule → PlainSortedEntry
-  entry_in r = record { entry = r.rule.entry; shapes = r.shapes }
+  abbrev entry_in : PlainRule → PlainSortedEntry
+  entry_in r = record { entry = r.entry; shapes = r.shapes }
 
   condition_names_found : (own : List CheckedParameter) → AreDistinct (names_at entry_condition t.constants ps vs own) → result_is (names_at entry_condition t.constants ps vs own) ≡ names_in_condition t.constants ps own
   condition_names_found own d =
       rw (← two_found (parameter_shapes ps) (own_shapes own) (first_differ (parameter_shapes ps ++ own_shapes own) t.constants d)) (all_found (parameter_shapes ps ++ own_shapes own) t.constants d)
 
-  entry_found : (ts : List SourceTransition) (e : SourceEntry) (r : PlainSortedRule) → IsRuleOf t ps vs ts e r → result_is (entry_in r) ≡ entry_at t.constants t.types ps (parameter_shapes ps ++ t.constants) e
+  entry_found : (ts : List SourceTransition) (e : SourceEntry) (r : PlainRule) → IsRuleOf t ps vs ts e r → result_is (entry_in r) ≡ entry_at t.constants t.types ps (parameter_shapes ps ++ t.constants) e
   unfolding entry_at
   entry_found ts e r h =
-      rw (← parameters_found t.types (parameter_shapes ps ++ t.constants) e.parameters r.rule.entry.parameters r.shapes h.parameters, ← condition_names_found r.rule.entry.parameters h.condition_names, ← where_found t.types (names_at entry_condition t.constants ps vs r.rule.entry.parameters) e.kind e.condition r.rule.entry.condition h.condition (lacks_input e.condition e.kind h.no_condition)) (ap result_is (rebuilt h))
+      rw (← parameters_found t.types (parameter_shapes ps ++ t.constants) e.parameters r.entry.parameters r.shapes h.parameters, ← condition_names_found r.entry.parameters h.condition_names, ← where_found t.types (names_at entry_condition t.constants ps vs r.entry.parameters) e.kind e.condition r.entry.condition h.condition (lacks_input e.condition e.kind h.no_condition)) (ap result_is (rebuilt h))
     where
-      rebuilt : IsRuleOf t ps vs ts e r → entry_in r ≡ record { entry = record { kind = e.kind; name = e.name; parameters = r.rule.entry.parameters; condition = r.rule.entry.condition }; shapes = r.shapes }
-      rebuilt h = λ i. record { entry = record { kind = h.kind i; name = h.name i; parameters = r.rule.entry.parameters; condition = r.rule.entry.condition }; shapes = r.shapes }
+      rebuilt : IsRuleOf t ps vs ts e r → entry_in r ≡ record { entry = record { kind = e.kind; name = e.name; parameters = r.entry.parameters; condition = r.entry.condition }; shapes = r.shapes }
+      rebuilt h = λ i. record { entry = record { kind = h.kind i; name = h.name i; parameters = r.entry.parameters; condition = r.entry.condition }; shapes = r.shapes }
 
-  allowed_found : (ts : List SourceTransition) (e : SourceEntry) (r : PlainSortedRule) (h : IsRuleOf t ps vs ts e r) → result_is h.written ≡ allowed e (transition_for e ts)
-  unfolding allowed
+  allowed_found : (ts : List SourceTransition) (e : SourceEntry) (r : PlainRule) (h : IsRuleOf t ps vs ts e r) → result_is h.written ≡ transition_or e (transition_for e ts)
+  unfolding transition_or
   allowed_found ts e r h = rw (h.found, (head_is e.parameters h.written.arguments).1 h.head, lacks_input h.written.pre e.kind h.no_guard) refl
 
   message_found : (x : PlainSortedEntry) → may_have_name x ≡ true → result_is x ≡ message_at x
   unfolding message_at
   message_found x h = rw h refl
 
-  rule_found : (ts : List SourceTransition) (e : SourceEntry) (r : PlainSortedRule) → IsRuleOf t ps vs ts e r → result_is r ≡ rule_at around ts e
+  rule_found : (ts : List SourceTransition) (e : SourceEntry) (r : PlainRule) → IsRuleOf t ps vs ts e r → result_is r ≡ rule_at around ts e
   unfolding rule_at rule_of
   rule_found ts e r h =
-      let own = r.rule.entry.parameters in
+      let own = r.entry.parameters in
       let scope = variable_shapes vs ++ (parameter_shapes ps ++ own_shapes own) in
-      rw (← allowed_found ts e r h, ← entry_found ts e r h, ← message_found (entry_in r) ((named_iff (entry_in r)).1 h.message), ← three_found (variable_shapes vs) (parameter_shapes ps) (own_shapes own) (first_differ scope t.constants h.step_names), ← all_found scope t.constants h.step_names, ← transition_found t.types (scope ++ t.constants) (length vs) h.written r.rule.transition h.transition) (ap result_is (rebuilt h))
+      rw (← allowed_found ts e r h, ← entry_found ts e r h, ← message_found (entry_in r) ((named_iff (entry_in r)).1 h.message), ← three_found (variable_shapes vs) (parameter_shapes ps) (own_shapes own) (first_differ scope t.constants h.step_names), ← all_found scope t.constants h.step_names, ← transition_found t.types (scope ++ t.constants) (length vs) h.written r.transition h.transition) (ap result_is (rebuilt h))
     where
-      rebuilt : IsRuleOf t ps vs ts e r → r ≡ record { rule = record { entry = r.rule.entry; transition = r.rule.transition; scope = words (variable_shapes vs ++ (parameter_shapes ps ++ own_shapes r.rule.entry.parameters)) }; shapes = r.shapes }
-      rebuilt h = λ i. record { rule = record { entry = r.rule.entry; transition = r.rule.transition; scope = h.scope i }; shapes = r.shapes }
+      rebuilt : IsRuleOf t ps vs ts e r → r ≡ record { entry = r.entry; shapes = r.shapes; transition = r.transition; scope = words (variable_shapes vs ++ (parameter_shapes ps ++ own_shapes r.entry.parameters)) }
+      rebuilt h = λ i. record { entry = r.entry; shapes = r.shapes; transition = r.transition; scope = h.scope i }
 
-  rules_found : (ts : List SourceTransition) (es : List SourceEntry) (rs : List PlainSortedRule) → AllZip (IsRuleOf t ps vs ts) es rs → results_are rs ≡ rules_at around ts es
+  rules_found : (ts : List SourceTransition) (es : List SourceEntry) (rs : List PlainRule) → AllZip (IsRuleOf t ps vs ts) es rs → results_are rs ≡ rules_at around ts es
   rules_found ts es rs h = all_ok_all (rule_at around ts) es rs (zip_weaker (IsRuleOf t ps vs ts) (λ e r. result_is r ≡ rule_at around ts e) (rule_found ts) es rs h)
 
-module _ (names : NameShapes) (rs : List PlainSortedRule) where
+module _ (names : NameShapes) (rs : List PlainRule) where
   arguments_found : (ss : List PlainShape) (us : List SourceTerm) (cs : List CheckedTerm) → AreArgumentsOf names ss us cs → results_are cs ≡ arguments_at names ss us
   arguments_found [] [] [] h = refl
   arguments_found [] [] (c ∷ cs) h = absurd h
@@ -197,7 +198,7 @@ module _ (names : NameShapes) (rs : List PlainSortedRule) where
   arguments_found (s ∷ ss) (u ∷ us) [] h = absurd h
   arguments_found (s ∷ ss) (u ∷ us) (c ∷ cs) h = rw (← fit_complete names u c (shape_in_terms s) h.0, ← arguments_found ss us cs h.1) refl
 
-  fired_found : (f : SourceFiring) (r : PlainSortedRule) → is_message f.action ≡ true → result_is r.shapes ≡ entry_fired f (Some r)
+  fired_found : (f : SourceFiring) (r : PlainRule) → is_message f.action ≡ true → result_is r.shapes ≡ entry_fired f (Some r)
   unfolding entry_fired
   fired_found f r h = rw h refl
 
@@ -220,7 +221,7 @@ differ_found ws h = rw h refl
 entries_found : (es : List SourceEntry) (ts : List SourceTransition) → list_all (has_entry es) ts ≡ true → nothing ≡ have_entries es ts
 entries_found es ts h = rw h refl
 
-module _ (t : PlainTextTypes) (a : SourceAutomaton) (c : PlainSortedAutomaton) (h : IsAutomatonOf t a c) where
+module _ (t : PlainTextTypes) (a : SourceAutomaton) (c : AutomatonParts) (h : IsAutomatonOf t a c) where
   abbrev heading : PlainHeading
   heading = record { parameters = c.parameters; names = parameter_shapes c.parameters ++ t.constants; variables = c.variables }
 
@@ -239,5 +240,5 @@ module _ (t : PlainTextTypes) (a : SourceAutomaton) (c : PlainSortedAutomaton) (
       let scope = parameter_shapes c.parameters ++ variable_shapes c.variables in
       rw (← heading_found, ← two_found (parameter_shapes c.parameters) (variable_shapes c.variables) (first_differ scope t.constants h.names), ← all_found scope t.constants h.names, ← actions_found, ← firings_found (scope ++ t.constants) c.rules a.schedule c.schedule h.schedule) (ap result_is rebuilt)
     where
-      rebuilt : c ≡ record { name = a.name; parameters = c.parameters; variables = c.variables; scope = words (parameter_shapes c.parameters ++ variable_shapes c.variables); rules = c.rules; schedule = c.schedule }
-      rebuilt = λ i. record { name = h.name i; parameters = c.parameters; variables = c.variables; scope = h.scope i; rules = c.rules; schedule = c.schedule }
+      rebuilt : c ≡ record { name = a.name; constants = words t.constants; parameters = c.parameters; variables = c.variables; rules = c.rules; schedule = c.schedule }
+      rebuilt = λ i. record { name = h.name i; constants = h.constants i; parameters = c.parameters; variables = c.variables; rules = c.rules; schedule = c.schedule }

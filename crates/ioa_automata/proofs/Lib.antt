@@ -6,3 +6,4 @@ pub mod Sound
 pub mod SoundRules
 pub mod Complete
 pub mod Compiled
+pub mod Ready

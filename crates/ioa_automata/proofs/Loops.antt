@@ -20,3 +20,12 @@ one_more view done c (Err e) = refl
 pub all_ok_more : {A B C D : Type 0} (f : A → Result B Refusal) (source : D → A) (view : C → B) (items : List D) (i : ℕ) (d : D) (done : List C) (c : C) → i < length items → d ≡ get_or items i d → f (source d) ≡ Ok (view c) → and_then (all_ok (map f (map source (drop i items)))) (λ xs. results_are (map view done ++ xs)) ≡ and_then (all_ok (map f (map source (drop (i + 1) items)))) (λ xs. results_are (map view (done ++ c ∷ []) ++ xs))
 all_ok_more f source view items i d done c within at made =
     rw (drop_more items i d within, ← at, made) (one_more view done c (all_ok (map f (map source (drop (i + 1) items)))))
+
+same_items : {B : Type 0} (xs : List B) → map (λ x. x) xs ≡ xs
+same_items [] = refl
+same_items (x ∷ xs) = ap (λ ys. x ∷ ys) (same_items xs)
+
+-- the same if what is made is seen as it is
+pub all_ok_more_same : {A B D : Type 0} (f : A → Result B Refusal) (source : D → A) (items : List D) (i : ℕ) (d : D) (done : List B) (c : B) → i < length items → d ≡ get_or items i d → f (source d) ≡ Ok c → and_then (all_ok (map f (map source (drop i items)))) (λ xs. results_are (done ++ xs)) ≡ and_then (all_ok (map f (map source (drop (i + 1) items)))) (λ xs. results_are ((done ++ c ∷ []) ++ xs))
+all_ok_more_same f source items i d done c within at made =
+    rw (same_items done, same_items (done ++ c ∷ [])) at (all_ok_more f source (λ x. x) items i d done c within at made)

@@ -21,7 +21,7 @@ use Rattle.ioa_sorts.proofs.SoundStatements.{statement_sound}
 use Rattle.ioa_types.specs.TypeTables.{TypeTable, shape_of_sort}
 use Rattle.ioa_types.specs.Meanings.{tuple_types, IsTypeTable}
 use Rattle.ioa_types.proofs.Meant.{sort_means, sort_declared}
-use Rattle.ioa_automata.specs.Parts.{declared_at, all_declared_at, known, inferred, own_term, own_terms, condition_at, initial_at, variable_at, variables_at, PlainSortedParameter, sorted_parameter, parameter_at, PlainSortedParameters, sorted_parameters, parameters_at, where_at, transition_at}
+use Rattle.ioa_automata.specs.Parts.{declared_at, all_declared_at, own_or, infer_own, own_term, own_terms, condition_at, initial_at, variable_at, variables_at, PlainSortedParameter, sorted_parameter, parameter_at, PlainSortedParameters, sorted_parameters, parameters_at, where_at, transition_at}
 use Rattle.ioa_automata.specs.SortedAutomata.{IsDeclaredOf, IsOwnTermOf, IsInitialOf, IsVariableOf, IsConditionOf, IsParameterOf, AreParametersOf, IsTransitionOf}
 use Rattle.ioa_automata.proofs.Loops.{results_are}
 use Rattle.ioa_automata.proofs.Results.{result_is, first_of, all_ok_each, zip_weaker}
@@ -48,11 +48,11 @@ module _ (types : TypeTable) (table : IsTypeTable types) where
     abbrev IsKnown : SourceTerm → PlainTyped → Type 0
     IsKnown t u = IsOwnTermOf names t u.tree u.shape × IsDeclared (tuple_types types) u.shape
 
-    pub inferred_sound : (t : SourceTerm) (u : PlainTyped) → inferred names t ≡ result_is u → IsOwnTermOf names t u.tree u.shape × IsDeclared (tuple_types types) u.shape
-    unfolding known
-    inferred_sound t u h = let one = first_of (infer (sorting names t)) known u h in by_found one.0 one.1 one.2
+    pub inferred_sound : (t : SourceTerm) (u : PlainTyped) → infer_own names t ≡ result_is u → IsOwnTermOf names t u.tree u.shape × IsDeclared (tuple_types types) u.shape
+    unfolding own_or
+    inferred_sound t u h = let one = first_of (infer (sorting names t)) own_or u h in by_found one.0 one.1 one.2
       where
-        by_found : (o : Option PlainTyped) → infer (sorting names t) ≡ result_is o → known o ≡ result_is u → IsKnown t u
+        by_found : (o : Option PlainTyped) → infer (sorting names t) ≡ result_is o → own_or o ≡ result_is u → IsKnown t u
         by_found None e k = absurd (cc)
         by_found (Some v) e k =
             let same : v ≡ u = cc in
@@ -64,7 +64,7 @@ module _ (types : TypeTable) (table : IsTypeTable types) where
 
     own_term_sound : (t : SourceTerm) (c : CheckedTerm) → own_term names t ≡ result_is c → HasOwn t c
     own_term_sound t c h =
-        let one = first_of (inferred names t) (λ u. result_is u.tree) c h in
+        let one = first_of (infer_own names t) (λ u. result_is u.tree) c h in
         let same : one.0.tree ≡ c = cc in
         subst (HasOwn t) same (one.0.shape, (inferred_sound t one.0 one.1).0)
 
@@ -116,7 +116,7 @@ module _ (types : TypeTable) (table : IsTypeTable types) where
     parameter_sound : (p : SourceParameter) (q : PlainSortedParameter) → parameter_at types names p ≡ result_is q → IsSorted p q
     unfolding parameter_at
     parameter_sound (const t) q h =
-        let one = first_of (inferred names t) (λ u. result_is (sorted_parameter (const u.tree) u.shape)) q h in
+        let one = first_of (infer_own names t) (λ u. result_is (sorted_parameter (const u.tree) u.shape)) q h in
         let same : sorted_parameter (const one.0.tree) one.0.shape ≡ q = cc in
         subst (IsSorted (const t)) same (inferred_sound t one.0 one.1)
     parameter_sound (named d) q h =

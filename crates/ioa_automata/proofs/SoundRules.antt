@@ -14,6 +14,7 @@ use Rattle.ioa_terms.specs.Sorted.{NameShapes, shape_in_terms}
 use Rattle.ioa_source.specs.PlainText.{const, named}
 use Rattle.ioa_source.specs.Sides.{SourceTerm, SourceDeclared, SourceParameter, SourceEntry, SourceVariable, SourceTransition, SourceFiring, SourceAutomaton, CheckedTerm, CheckedDeclared, CheckedParameter, CheckedVariable, CheckedFiring}
 use Rattle.ioa_system.specs.InView.{entry_constant, entry_condition}
+use Rattle.ioa_system.specs.Parts.{AutomatonParts, PlainRule}
 use Rattle.ioa_sort_rules.specs.DeclaredTypes.{IsDeclared, AreAllDeclared}
 use Rattle.ioa_sort_rules.specs.declared.refusal.Refusal.TheVariants.{Unknown, Twice, InputPre, BadArgument}
 use Rattle.ioa_sorts.specs.Sorting.{fit, sorting}
@@ -26,8 +27,8 @@ use Rattle.ioa_types.specs.TypeTables.{are_new}
 use Rattle.ioa_types.proofs.Names.{all_behind, all_differ}
 use Rattle.ioa_automata.specs.NamesInView.{parameter_shapes, variable_shapes, own_shapes, given_scope, condition_scope, step_scope, firing_scope}
 use Rattle.ioa_automata.specs.Parts.{PlainSortedEntry, sorted_entry, parameters_at, names_in_condition, where_at, entry_at, transition_at, all_declared_at, variables_at}
-use Rattle.ioa_automata.specs.Rules.{repeats, transition_for, allowed, may_have_name, message_at, PlainSortedRule, sorted_rule, PlainSurroundings, rule_of, rule_at, rules_at, fires, is_message, entry_fired, arguments_at, firing_at, firings_at, has_entry, differ, have_entries}
-use Rattle.ioa_automata.specs.Automata.{PlainHeading, heading_at, surroundings, actions_at, PlainSortedAutomaton, sorted_automaton, automaton_at}
+use Rattle.ioa_automata.specs.Rules.{repeats, transition_for, transition_or, may_have_name, message_at, sorted_rule, PlainSurroundings, rule_of, rule_at, rules_at, fires, is_message, entry_fired, arguments_at, firing_at, firings_at, has_entry, differ, have_entries}
+use Rattle.ioa_automata.specs.Automata.{PlainHeading, heading_at, surroundings, actions_at, sorted_automaton, automaton_at}
 use Rattle.ioa_automata.specs.SortedAutomata.{IsDeclaredOf, IsVariableOf, IsConditionOf, AreParametersOf, IsTransitionOf, IsRuleOf, AreArgumentsOf, IsFiringOf, IsAutomatonOf, names_at}
 use Rattle.ioa_automata.proofs.Loops.{results_are}
 use Rattle.ioa_automata.proofs.Results.{result_is, first_of, all_ok_each, zip_weaker}
@@ -35,9 +36,9 @@ use Rattle.ioa_automata.proofs.Heads.{head_is, input_lacks, named_iff}
 use Rattle.ioa_automata.proofs.Sound.{all_declared_sound, variables_sound, parameters_sound, where_sound, transition_sound}
 
 -- names in view: which they are, and that they differ
-record AreNames (n names : NameShapes) : Type 0 where
-  same : n ≡ names
-  differ : AreDistinct n
+pub record AreNames (n names : NameShapes) : Type 0 where
+  pub same : n ≡ names
+  pub differ : AreDistinct n
 
 first_names : (names n : NameShapes) → with_names [] names ≡ result_is n → AreNames n names
 unfolding IsDistinct
@@ -61,19 +62,19 @@ step_names ps vs own n h =
     let a = more_names (variable_shapes vs) (parameter_shapes ps) one.0 two.0 (first_names (variable_shapes vs) one.0 one.1) two.1 in
     subst (AreNames n) (append_assoc (variable_shapes vs) (parameter_shapes ps) (own_shapes own)) (more_names (variable_shapes vs ++ parameter_shapes ps) (own_shapes own) two.0 n a two.2)
 
-firing_names : (ps : List CheckedDeclared) (vs : List CheckedVariable) (n : NameShapes) → firing_scope ps vs ≡ result_is n → AreNames n (parameter_shapes ps ++ variable_shapes vs)
+pub firing_names : (ps : List CheckedDeclared) (vs : List CheckedVariable) (n : NameShapes) → firing_scope ps vs ≡ result_is n → AreNames n (parameter_shapes ps ++ variable_shapes vs)
 firing_names ps vs n h =
     let one = first_of (given_scope ps) (λ m. with_names m (variable_shapes vs)) n h in
     more_names (parameter_shapes ps) (variable_shapes vs) one.0 n (first_names (parameter_shapes ps) one.0 one.1) one.2
 
--- what is allowed
+-- what is transition_or
 record IsAllowed (e : SourceEntry) (o : Option SourceTransition) (t : SourceTransition) : Type 0 where
   found : o ≡ Some t
   head : pointwise repeats e.parameters t.arguments ≡ true
   no_guard : is_some t.pre && same_kind e.kind Input ≡ false
 
-allowed_sound : (e : SourceEntry) (o : Option SourceTransition) (t : SourceTransition) → allowed e o ≡ result_is t → IsAllowed e o t
-unfolding allowed
+allowed_sound : (e : SourceEntry) (o : Option SourceTransition) (t : SourceTransition) → transition_or e o ≡ result_is t → IsAllowed e o t
+unfolding transition_or
 allowed_sound e None t h = absurd (cc)
 allowed_sound e (Some u) t h = by_head (pointwise repeats e.parameters u.arguments) refl h
   where
@@ -175,14 +176,14 @@ module _ (t : PlainTextTypes) (text : AreTextTypes t) where
         })
 
     -- an entry with its transition
-    abbrev IsWhole : List SourceTransition → SourceEntry → PlainSortedRule → Type 0
+    abbrev IsWhole : List SourceTransition → SourceEntry → PlainRule → Type 0
     IsWhole ts e r = IsRuleOf t ps vs ts e r × AllByRecursion IsKept r.shapes
 
-    rule_sound : (ts : List SourceTransition) (e : SourceEntry) (r : PlainSortedRule) → rule_at (record { constants = t.constants; types = t.types; parameters = ps; names = names; variables = vs }) ts e ≡ result_is r → IsWhole ts e r
+    rule_sound : (ts : List SourceTransition) (e : SourceEntry) (r : PlainRule) → rule_at (record { constants = t.constants; types = t.types; parameters = ps; names = names; variables = vs }) ts e ≡ result_is r → IsWhole ts e r
     unfolding rule_at rule_of
     rule_sound ts e r h =
         let s : PlainSurroundings = record { constants = t.constants; types = t.types; parameters = ps; names = names; variables = vs } in
-        let one = first_of (allowed e (transition_for e ts)) (λ u. and_then (entry_at t.constants t.types ps names e) (λ x. and_then (message_at x) (rule_of s u))) r h in
+        let one = first_of (transition_or e (transition_for e ts)) (λ u. and_then (entry_at t.constants t.types ps names e) (λ x. and_then (message_at x) (rule_of s u))) r h in
         let two = first_of (entry_at t.constants t.types ps names e) (λ x. and_then (message_at x) (rule_of s one.0)) r one.2 in
         let three = first_of (message_at two.0) (rule_of s one.0) r two.2 in
         let named_well = message_sound two.0 three.0 three.1 in
@@ -217,19 +218,19 @@ module _ (t : PlainTextTypes) (text : AreTextTypes t) where
           entry.shapes,
         )
 
-    rules_kept : (ts : List SourceTransition) (es : List SourceEntry) (rs : List PlainSortedRule) → AllZip (IsWhole ts) es rs → AllByRecursion (λ r. AllByRecursion IsKept r.shapes) rs × AllZip (IsRuleOf t ps vs ts) es rs
+    rules_kept : (ts : List SourceTransition) (es : List SourceEntry) (rs : List PlainRule) → AllZip (IsWhole ts) es rs → AllByRecursion (λ r. AllByRecursion IsKept r.shapes) rs × AllZip (IsRuleOf t ps vs ts) es rs
     rules_kept ts [] [] h = (tt, tt)
     rules_kept ts [] (r ∷ rs) h = absurd h
     rules_kept ts (e ∷ es) [] h = absurd h
     rules_kept ts (e ∷ es) (r ∷ rs) h = let rest = rules_kept ts es rs h.1 in ((h.0.1, rest.0), (h.0.0, rest.1))
 
-    pub rules_sound : (ts : List SourceTransition) (es : List SourceEntry) (rs : List PlainSortedRule) → rules_at (record { constants = t.constants; types = t.types; parameters = ps; names = names; variables = vs }) ts es ≡ results_are rs → AllByRecursion (λ r. AllByRecursion (IsDeclared (tuple_types t.types)) r.shapes) rs × AllZip (IsRuleOf t ps vs ts) es rs
+    pub rules_sound : (ts : List SourceTransition) (es : List SourceEntry) (rs : List PlainRule) → rules_at (record { constants = t.constants; types = t.types; parameters = ps; names = names; variables = vs }) ts es ≡ results_are rs → AllByRecursion (λ r. AllByRecursion (IsDeclared (tuple_types t.types)) r.shapes) rs × AllZip (IsRuleOf t ps vs ts) es rs
     rules_sound ts es rs h =
         let s : PlainSurroundings = record { constants = t.constants; types = t.types; parameters = ps; names = names; variables = vs } in
         rules_kept ts es rs (zip_weaker (λ e r. rule_at s ts e ≡ result_is r) (IsWhole ts) (rule_sound ts) es rs (all_ok_each (rule_at s ts) es rs h))
 
   -- firings
-  module _ (names : NameShapes) (all : AreKept names) (rs : List PlainSortedRule) (kept : AllByRecursion (λ r. AllByRecursion IsKept r.shapes) rs) where
+  module _ (names : NameShapes) (all : AreKept names) (rs : List PlainRule) (kept : AllByRecursion (λ r. AllByRecursion IsKept r.shapes) rs) where
     arguments_sound : (ss : List PlainShape) (us : List SourceTerm) (cs : List CheckedTerm) → AllByRecursion IsKept ss → arguments_at names ss us ≡ results_are cs → AreArgumentsOf names ss us cs
     arguments_sound [] [] cs k h = let same : [] ≡ cs = cc in subst (AreArgumentsOf names [] []) same tt
     arguments_sound [] (u ∷ us) cs k h = absurd (cc)
@@ -240,13 +241,13 @@ module _ (t : PlainTextTypes) (text : AreTextTypes t) where
         let same : one.0 ∷ two.0 ≡ cs = cc in
         subst (AreArgumentsOf names (s ∷ ss) (u ∷ us)) same (fit_sound (tuple_types t.types) names all u (shape_in_terms s) (in_terms (tuple_types t.types) s k.0) one.0 (sym one.1), arguments_sound ss us two.0 k.1 two.1)
 
-    record IsFired (f : SourceFiring) (o : Option PlainSortedRule) (ss : List PlainShape) : Type 0 where
-      fired : PlainSortedRule
+    record IsFired (f : SourceFiring) (o : Option PlainRule) (ss : List PlainShape) : Type 0 where
+      fired : PlainRule
       found : o ≡ Some fired
       shapes : fired.shapes ≡ ss
       message : is_message f.action ≡ true
 
-    fired_sound : (f : SourceFiring) (o : Option PlainSortedRule) (ss : List PlainShape) → entry_fired f o ≡ results_are ss → IsFired f o ss
+    fired_sound : (f : SourceFiring) (o : Option PlainRule) (ss : List PlainShape) → entry_fired f o ≡ results_are ss → IsFired f o ss
     unfolding entry_fired
     fired_sound f None ss h = absurd (cc)
     fired_sound f (Some r) ss h = by_name (is_message f.action) refl h
@@ -320,16 +321,16 @@ module _ (t : PlainTextTypes) (text : AreTextTypes t) where
         valued = states.0;
       })
 
-  pub automaton_sound : (a : SourceAutomaton) (c : PlainSortedAutomaton) → automaton_at t a ≡ result_is c → IsAutomatonOf t a c
+  pub automaton_sound : (a : SourceAutomaton) (c : AutomatonParts) → automaton_at t a ≡ result_is c → IsAutomatonOf t a c
   unfolding actions_at
   automaton_sound a c h =
-      let one = first_of (heading_at t a) (λ g. and_then (firing_scope g.parameters g.variables) (λ n. and_then (with_names n t.constants) (λ m. and_then (actions_at t g a) (λ rs. and_then (firings_at m rs a.schedule) (λ fs. result_is (sorted_automaton a.name g n rs fs)))))) c h in
+      let one = first_of (heading_at t a) (λ g. and_then (firing_scope g.parameters g.variables) (λ n. and_then (with_names n t.constants) (λ m. and_then (actions_at t g a) (λ rs. and_then (firings_at m rs a.schedule) (λ fs. result_is (sorted_automaton t a.name g rs fs)))))) c h in
       let g = one.0 in
-      let two = first_of (firing_scope g.parameters g.variables) (λ n. and_then (with_names n t.constants) (λ m. and_then (actions_at t g a) (λ rs. and_then (firings_at m rs a.schedule) (λ fs. result_is (sorted_automaton a.name g n rs fs))))) c one.2 in
-      let three = first_of (with_names two.0 t.constants) (λ m. and_then (actions_at t g a) (λ rs. and_then (firings_at m rs a.schedule) (λ fs. result_is (sorted_automaton a.name g two.0 rs fs)))) c two.2 in
-      let four = first_of (actions_at t g a) (λ rs. and_then (firings_at three.0 rs a.schedule) (λ fs. result_is (sorted_automaton a.name g two.0 rs fs))) c three.2 in
-      let five = first_of (firings_at three.0 four.0 a.schedule) (λ fs. result_is (sorted_automaton a.name g two.0 four.0 fs)) c four.2 in
-      let made : sorted_automaton a.name g two.0 four.0 five.0 ≡ c = cc in
+      let two = first_of (firing_scope g.parameters g.variables) (λ n. and_then (with_names n t.constants) (λ m. and_then (actions_at t g a) (λ rs. and_then (firings_at m rs a.schedule) (λ fs. result_is (sorted_automaton t a.name g rs fs))))) c one.2 in
+      let three = first_of (with_names two.0 t.constants) (λ m. and_then (actions_at t g a) (λ rs. and_then (firings_at m rs a.schedule) (λ fs. result_is (sorted_automaton t a.name g rs fs)))) c two.2 in
+      let four = first_of (actions_at t g a) (λ rs. and_then (firings_at three.0 rs a.schedule) (λ fs. result_is (sorted_automaton t a.name g rs fs))) c three.2 in
+      let five = first_of (firings_at three.0 four.0 a.schedule) (λ fs. result_is (sorted_automaton t a.name g four.0 fs)) c four.2 in
+      let made : sorted_automaton t a.name g four.0 five.0 ≡ c = cc in
       let six = first_of (differ (map (λ e. e.name) a.signature)) (λ x. and_then (differ (map (λ u. u.name) a.transitions)) (λ y. and_then (have_entries a.signature a.transitions) (λ z. rules_at (surroundings t g) a.transitions a.signature))) four.0 four.1 in
       let seven = first_of (differ (map (λ u. u.name) a.transitions)) (λ y. and_then (have_entries a.signature a.transitions) (λ z. rules_at (surroundings t g) a.transitions a.signature)) four.0 six.2 in
       let eight = first_of (have_entries a.signature a.transitions) (λ z. rules_at (surroundings t g) a.transitions a.signature) four.0 seven.2 in
@@ -340,9 +341,9 @@ module _ (t : PlainTextTypes) (text : AreTextTypes t) where
       let all = subst AreKept (sym view.same) (all_appended (λ n. IsKept n.1) (parameter_shapes g.parameters ++ variable_shapes g.variables) t.constants (all_appended (λ n. IsKept n.1) (parameter_shapes g.parameters) (variable_shapes g.variables) heading.kept heading.valued) text.constants) in
       subst (IsAutomatonOf t a) made (record {
         name = refl;
+        constants = refl;
         parameters = heading.parameters;
         variables = heading.variables;
-        scope = ap words scope.same;
         rules = rules.1;
         schedule = subst (λ ns. AllZip (IsFiringOf ns four.0) a.schedule five.0) view.same (firings_sound three.0 all four.0 rules.0 a.schedule five.0 five.1);
         given_names = subst AreDistinct heading.names.same heading.names.differ;

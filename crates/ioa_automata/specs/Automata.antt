@@ -3,12 +3,13 @@ use Rattle.std.specs.Prelude.{ℕ, List, Result, Ok, map}
 use Rattle.ioa_values.specs.Outcome.{and_then}
 use Rattle.ioa_terms.specs.Sorted.{NameShapes}
 use Rattle.ioa_source.specs.Sides.{SourceAutomaton, CheckedDeclared, CheckedFiring, CheckedVariable}
+use Rattle.ioa_system.specs.Parts.{AutomatonParts, PlainRule, automaton_parts}
 use Rattle.ioa_sort_rules.specs.declared.refusal.Refusal.{Refusal}
 use Rattle.ioa_types.specs.NameTables.{with_names, words}
 use Rattle.ioa_types.specs.TextTypes.{PlainTextTypes}
 use Rattle.ioa_automata.specs.NamesInView.{firing_scope, given_scope}
 use Rattle.ioa_automata.specs.Parts.{all_declared_at, variables_at}
-use Rattle.ioa_automata.specs.Rules.{PlainSortedRule, PlainSurroundings, rules_at, firings_at, differ, have_entries}
+use Rattle.ioa_automata.specs.Rules.{PlainSurroundings, rules_at, firings_at, differ, have_entries}
 
 -- the parameters and the state variables of an automaton, and the names in view of the constants of its entries
 pub record PlainHeading : Type 0 where
@@ -34,36 +35,21 @@ surroundings t h = record {
 }
 
 -- its entries with their transitions
-unfoldable pub actions_at : PlainTextTypes → PlainHeading → SourceAutomaton → Result (List PlainSortedRule) Refusal
+unfoldable pub actions_at : PlainTextTypes → PlainHeading → SourceAutomaton → Result (List PlainRule) Refusal
 actions_at t h a = and_then (differ (map (λ e. e.name) a.signature))
     (λ x. and_then (differ (map (λ u. u.name) a.transitions))
     (λ y. and_then (have_entries a.signature a.transitions)
     (λ z. rules_at (surroundings t h) a.transitions a.signature)))
 
--- an automaton with slots and shapes; `scope` has the names that a firing reads besides the text's constants
-pub record PlainSortedAutomaton : Type 0 where
-  pub name : List ℕ
-  pub parameters : List CheckedDeclared
-  pub variables : List CheckedVariable
-  pub scope : List (List ℕ)
-  pub rules : List PlainSortedRule
-  pub schedule : List CheckedFiring
+-- an automaton with slots and shapes
+abbrev pub sorted_automaton : PlainTextTypes → List ℕ → PlainHeading → List PlainRule → List CheckedFiring
+    → AutomatonParts
+sorted_automaton t w h rs fs = automaton_parts w (words t.constants) h.parameters h.variables rs fs
 
-abbrev pub sorted_automaton : List ℕ → PlainHeading → NameShapes → List PlainSortedRule → List CheckedFiring
-    → PlainSortedAutomaton
-sorted_automaton w h scope rs fs = record {
-  name = w;
-  parameters = h.parameters;
-  variables = h.variables;
-  scope = words scope;
-  rules = rs;
-  schedule = fs;
-}
-
-abbrev pub automaton_at : PlainTextTypes → SourceAutomaton → Result PlainSortedAutomaton Refusal
+abbrev pub automaton_at : PlainTextTypes → SourceAutomaton → Result AutomatonParts Refusal
 automaton_at t a = and_then (heading_at t a)
     (λ h. and_then (firing_scope h.parameters h.variables)
     (λ scope. and_then (with_names scope t.constants)
     (λ names. and_then (actions_at t h a)
     (λ rs. and_then (firings_at names rs a.schedule)
-    (λ fs. Ok (sorted_automaton a.name h scope rs fs))))))
+    (λ fs. Ok (sorted_automaton t a.name h rs fs))))))

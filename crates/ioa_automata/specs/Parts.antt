@@ -30,16 +30,16 @@ abbrev pub all_declared_at : TypeTable → List SourceDeclared → Result (List 
 all_declared_at types ds = all_ok (map (declared_at types) ds)
 
 -- a term with its own shape; a display has none
-unfoldable pub known : Option PlainTyped → Result PlainTyped Refusal
-known None = Err EmptyOfWhat
-known (Some t) = Ok t
+unfoldable pub own_or : Option PlainTyped → Result PlainTyped Refusal
+own_or None = Err EmptyOfWhat
+own_or (Some t) = Ok t
 
-abbrev pub inferred : NameShapes → SourceTerm → Result PlainTyped Refusal
-inferred names t = and_then (infer (sorting names t)) known
+abbrev pub infer_own : NameShapes → SourceTerm → Result PlainTyped Refusal
+infer_own names t = and_then (infer (sorting names t)) own_or
 
 -- terms that have shapes of their own
 abbrev pub own_term : NameShapes → SourceTerm → Result CheckedTerm Refusal
-own_term names t = and_then (inferred names t) (λ u. Ok u.tree)
+own_term names t = and_then (infer_own names t) (λ u. Ok u.tree)
 
 abbrev pub own_terms : NameShapes → List SourceTerm → Result (List CheckedTerm) Refusal
 own_terms names ts = all_ok (map (own_term names) ts)
@@ -72,7 +72,7 @@ sorted_parameter p s = record { parameter = p; shape = s }
 
 unfoldable pub parameter_at : TypeTable → NameShapes → SourceParameter → Result PlainSortedParameter Refusal
 parameter_at types names (const t) =
-    and_then (inferred names t) (λ u. Ok (sorted_parameter (const u.tree) u.shape))
+    and_then (infer_own names t) (λ u. Ok (sorted_parameter (const u.tree) u.shape))
 parameter_at types names (named d) =
     and_then (declared_at types d) (λ e. Ok (sorted_parameter (named e) e.shape))
 

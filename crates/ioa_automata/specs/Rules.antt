@@ -46,9 +46,9 @@ abbrev pub transition_for : SourceEntry → List SourceTransition → Option Sou
 transition_for e ts = find (λ t. same_word t.name e.name && same_kind t.kind e.kind) ts
 
 -- it repeats the entry, and has no guard if it is an input's
-unfoldable pub allowed : SourceEntry → Option SourceTransition → Result SourceTransition Refusal
-allowed e None = Err NoTransition
-allowed e (Some t) =
+unfoldable pub transition_or : SourceEntry → Option SourceTransition → Result SourceTransition Refusal
+transition_or e None = Err NoTransition
+transition_or e (Some t) =
     if pointwise repeats e.parameters t.arguments
     then (if is_some t.pre && same_kind e.kind Input then Err InputPre else Ok t)
     else Err BadArgument
@@ -99,14 +99,9 @@ may_have_name e =
 unfoldable pub message_at : PlainSortedEntry → Result PlainSortedEntry Refusal
 message_at e = if may_have_name e then Ok e else Err BadArgument
 
--- an entry with its transition, and the shapes of its arguments
-pub record PlainSortedRule : Type 0 where
-  pub rule : PlainRule
-  pub shapes : List PlainShape
-
-abbrev pub sorted_rule : PlainSortedEntry → CheckedTransition → NameShapes → PlainSortedRule
-sorted_rule e t scope =
-    record { rule = record { entry = e.entry; transition = t; scope = words scope }; shapes = e.shapes }
+-- a sorted entry with its transition
+abbrev pub sorted_rule : PlainSortedEntry → CheckedTransition → NameShapes → PlainRule
+sorted_rule e t scope = record { entry = e.entry; shapes = e.shapes; transition = t; scope = words scope }
 
 -- what the entries of an automaton read: the text's constants and types, the automaton's parameters, the names in view
 -- of constants, and the state variables
@@ -118,19 +113,19 @@ pub record PlainSurroundings : Type 0 where
   pub variables : List CheckedVariable
 
 -- the transition of a sorted entry
-unfoldable pub rule_of : PlainSurroundings → SourceTransition → PlainSortedEntry → Result PlainSortedRule Refusal
+unfoldable pub rule_of : PlainSurroundings → SourceTransition → PlainSortedEntry → Result PlainRule Refusal
 rule_of s t e = and_then (step_scope s.parameters s.variables e.entry.parameters)
     (λ scope. and_then (with_names scope s.constants)
     (λ names. and_then (transition_at names (length s.variables) t) (λ u. Ok (sorted_rule e u scope))))
 
 -- an entry with its transition
-unfoldable pub rule_at : PlainSurroundings → List SourceTransition → SourceEntry → Result PlainSortedRule Refusal
-rule_at s ts e = and_then (allowed e (transition_for e ts))
+unfoldable pub rule_at : PlainSurroundings → List SourceTransition → SourceEntry → Result PlainRule Refusal
+rule_at s ts e = and_then (transition_or e (transition_for e ts))
     (λ t. and_then (entry_at s.constants s.types s.parameters s.names e)
     (λ x. and_then (message_at x) (rule_of s t)))
 
 abbrev pub rules_at : PlainSurroundings → List SourceTransition → List SourceEntry
-    → Result (List PlainSortedRule) Refusal
+    → Result (List PlainRule) Refusal
 rules_at s ts es = all_ok (map (rule_at s ts) es)
 
 -- whether a firing is of an entry: it names the entry's actions, and its kind if it has one
@@ -138,14 +133,14 @@ abbrev pub is_of_kind : Option Kind → Kind → Bool
 is_of_kind None k = true
 is_of_kind (Some j) k = same_kind j k
 
-abbrev pub fires : SourceFiring → PlainSortedRule → Bool
-fires f r = same_word r.rule.entry.name f.action && is_of_kind f.kind r.rule.entry.kind
+abbrev pub fires : SourceFiring → PlainRule → Bool
+fires f r = same_word r.entry.name f.action && is_of_kind f.kind r.entry.kind
 
 -- a firing of `send` or `receive` names an entry; other actions do not run yet
 abbrev pub is_message : List ℕ → Bool
 is_message w = same_word w send_name || same_word w receive_name
 
-unfoldable pub entry_fired : SourceFiring → Option PlainSortedRule → Result (List PlainShape) Refusal
+unfoldable pub entry_fired : SourceFiring → Option PlainRule → Result (List PlainShape) Refusal
 entry_fired f None = Err Unknown
 entry_fired f (Some r) = if is_message f.action then Ok r.shapes else Err Unknown
 
@@ -157,12 +152,12 @@ arguments_at names (s ∷ ss) [] = Err Sorts
 arguments_at names (s ∷ ss) (t ∷ ts) = and_then (fit (sorting names t) (shape_in_terms s))
     (λ c. and_then (arguments_at names ss ts) (λ cs. Ok (c ∷ cs)))
 
-unfoldable pub firing_at : NameShapes → List PlainSortedRule → SourceFiring → Result CheckedFiring Refusal
+unfoldable pub firing_at : NameShapes → List PlainRule → SourceFiring → Result CheckedFiring Refusal
 firing_at names rs f = and_then (entry_fired f (find (fires f) rs))
     (λ ss. and_then (arguments_at names ss f.arguments)
     (λ ts. Ok (record { kind = f.kind; action = f.action; arguments = ts })))
 
-abbrev pub firings_at : NameShapes → List PlainSortedRule → List SourceFiring → Result (List CheckedFiring) Refusal
+abbrev pub firings_at : NameShapes → List PlainRule → List SourceFiring → Result (List CheckedFiring) Refusal
 firings_at names rs fs = all_ok (map (firing_at names rs) fs)
 
 -- whether a transition has an entry of its name and kind

@@ -17,6 +17,7 @@ use Rattle.ioa_source.specs.Sides.{CheckedTerm, CheckedDeclared, CheckedParamete
 use Rattle.ioa_source.specs.Sides.{CheckedTransition, CheckedFiring}
 use Rattle.ioa_system.specs.InView.{Site, in_view, entry_constant, initial_value, entry_condition, guard_or_effect}
 use Rattle.ioa_system.specs.InView.{firing}
+use Rattle.ioa_system.specs.Parts.{AutomatonParts, PlainRule}
 use Rattle.ioa_sorts.specs.Determined.{is_display}
 use Rattle.ioa_sorts.specs.SortedTerms.{IsTermOf}
 use Rattle.ioa_sorts.specs.SortedStatements.{IsStatementOf}
@@ -27,9 +28,7 @@ use Rattle.ioa_types.specs.TextTypes.{PlainTextTypes}
 use Rattle.ioa_types.specs.TypeTables.{TypeTable, are_new}
 use Rattle.ioa_automata.specs.NamesInView.{parameter_shapes, variable_shapes, own_shapes}
 use Rattle.ioa_automata.specs.Parts.{PlainSortedEntry}
-use Rattle.ioa_automata.specs.Rules.{PlainSortedRule, transition_for, fires, is_message}
-use Rattle.ioa_automata.specs.Rules.{has_entry}
-use Rattle.ioa_automata.specs.Automata.{PlainSortedAutomaton}
+use Rattle.ioa_automata.specs.Rules.{transition_for, fires, has_entry, is_message}
 
 -- a declared name has the shape that its sort means
 pub record IsDeclaredOf (types : TypeTable) (d : SourceDeclared) (c : CheckedDeclared) : Type 0 where
@@ -134,29 +133,29 @@ names_at site constants ps vs own =
 
 -- an entry with its transition, in an automaton of these parameters and variables
 pub record IsRuleOf (t : PlainTextTypes) (ps : List CheckedDeclared) (vs : List CheckedVariable)
-    (ts : List SourceTransition) (e : SourceEntry) (r : PlainSortedRule) : Type 0 where
+    (ts : List SourceTransition) (e : SourceEntry) (r : PlainRule) : Type 0 where
   -- the entry
-  pub kind : r.rule.entry.kind ≡ e.kind
-  pub name : r.rule.entry.name ≡ e.name
+  pub kind : r.entry.kind ≡ e.kind
+  pub name : r.entry.name ≡ e.name
   pub parameters : AreParametersOf t.types (names_at entry_constant t.constants ps vs [])
-      e.parameters r.rule.entry.parameters r.shapes
-  pub condition : IsConditionOf (names_at entry_condition t.constants ps vs r.rule.entry.parameters)
-      e.condition r.rule.entry.condition
+      e.parameters r.entry.parameters r.shapes
+  pub condition : IsConditionOf (names_at entry_condition t.constants ps vs r.entry.parameters)
+      e.condition r.entry.condition
   -- its transition
   pub written : SourceTransition
   pub found : transition_for e ts ≡ Some written
-  pub transition : IsTransitionOf (names_at guard_or_effect t.constants ps vs r.rule.entry.parameters) (length vs)
-      written r.rule.transition
-  pub scope : r.rule.scope
-      ≡ words (in_view guard_or_effect (parameter_shapes ps) (variable_shapes vs) (own_shapes r.rule.entry.parameters))
+  pub transition : IsTransitionOf (names_at guard_or_effect t.constants ps vs r.entry.parameters) (length vs)
+      written r.transition
+  pub scope : r.scope
+      ≡ words (in_view guard_or_effect (parameter_shapes ps) (variable_shapes vs) (own_shapes r.entry.parameters))
   -- names in view differ
-  pub condition_names : AreDistinct (names_at entry_condition t.constants ps vs r.rule.entry.parameters)
-  pub step_names : AreDistinct (names_at guard_or_effect t.constants ps vs r.rule.entry.parameters)
+  pub condition_names : AreDistinct (names_at entry_condition t.constants ps vs r.entry.parameters)
+  pub step_names : AreDistinct (names_at guard_or_effect t.constants ps vs r.entry.parameters)
   -- the head repeats the entry, an input has no guard and no condition, and a message's name is used as it has to be
   pub head : AllZip Repeats e.parameters written.arguments
   pub no_guard : e.kind ≡ Input → written.pre ≡ None
   pub no_condition : e.kind ≡ Input → e.condition ≡ None
-  pub message : IsWellNamed (record { entry = r.rule.entry; shapes = r.shapes })
+  pub message : IsWellNamed (record { entry = r.entry; shapes = r.shapes })
 
 -- arguments, each of the shape at its position
 abbrev pub AreArgumentsOf : NameShapes → List PlainShape → List SourceTerm → List CheckedTerm → Type 0
@@ -169,22 +168,22 @@ AreArgumentsOf names (s ∷ ss) (t ∷ ts) (c ∷ cs) =
     IsTermOf names t c (shape_in_terms s) × AreArgumentsOf names ss ts cs
 
 -- a firing of a message: an entry has its name, and its arguments have the shapes of the entry's
-pub record IsFiringOf (names : NameShapes) (rs : List PlainSortedRule) (f : SourceFiring) (c : CheckedFiring)
+pub record IsFiringOf (names : NameShapes) (rs : List PlainRule) (f : SourceFiring) (c : CheckedFiring)
     : Type 0 where
   pub kind : c.kind ≡ f.kind
   pub action : c.action ≡ f.action
-  pub fired : PlainSortedRule
+  pub fired : PlainRule
   pub found : find (fires f) rs ≡ Some fired
   pub message : is_message f.action ≡ true
   pub arguments : AreArgumentsOf names fired.shapes f.arguments c.arguments
 
--- an automaton
-pub record IsAutomatonOf (t : PlainTextTypes) (a : SourceAutomaton) (c : PlainSortedAutomaton) : Type 0 where
+-- an automaton, in a text of these types and constants
+pub record IsAutomatonOf (t : PlainTextTypes) (a : SourceAutomaton) (c : AutomatonParts) : Type 0 where
   pub name : c.name ≡ a.name
+  pub constants : c.constants ≡ words t.constants
   pub parameters : AllZip (IsDeclaredOf t.types) a.parameters c.parameters
   pub variables : AllZip (IsVariableOf t.types (names_at initial_value t.constants c.parameters c.variables []))
       a.states c.variables
-  pub scope : c.scope ≡ words (in_view firing (parameter_shapes c.parameters) (variable_shapes c.variables) [])
   pub rules : AllZip (IsRuleOf t c.parameters c.variables a.transitions) a.signature c.rules
   pub schedule : AllZip (IsFiringOf (names_at firing t.constants c.parameters c.variables []) c.rules)
       a.schedule c.schedule

@@ -1,18 +1,15 @@
 -- What the code of sorted automata means (view).
 use Rattle.std.specs.Prelude.{map}
-use Rattle.ioa_terms.specs.View.{firing_of}
 use Rattle.ioa_source.specs.TextView.{declared_of, parameter_of, entry_of, variable_of}
 use Rattle.ioa_automata.specs.declared.parts.SortedParameter.{SortedParameter}
 use Rattle.ioa_automata.specs.declared.parts.SortedParameters.{SortedParameters}
 use Rattle.ioa_automata.specs.declared.parts.SortedEntry.{SortedEntry}
-use Rattle.ioa_automata.specs.declared.rules.SortedRule.{SortedRule}
 use Rattle.ioa_automata.specs.declared.rules.Surroundings.{Surroundings}
 use Rattle.ioa_automata.specs.declared.automata.Heading.{Heading}
-use Rattle.ioa_automata.specs.declared.automata.SortedAutomaton.{SortedAutomaton}
 use Rattle.ioa_automata.specs.Parts.{PlainSortedParameter, sorted_parameter, PlainSortedParameters, sorted_parameters}
 use Rattle.ioa_automata.specs.Parts.{PlainSortedEntry}
-use Rattle.ioa_automata.specs.Rules.{PlainSortedRule, PlainSurroundings}
-use Rattle.ioa_automata.specs.Automata.{PlainHeading, PlainSortedAutomaton}
+use Rattle.ioa_automata.specs.Rules.{PlainSurroundings}
+use Rattle.ioa_automata.specs.Automata.{PlainHeading}
 
 -- a parameter and its shape
 abbrev pub sorted_parameter_of : SortedParameter → PlainSortedParameter
@@ -25,10 +22,6 @@ sorted_parameters_of p = sorted_parameters (map parameter_of p.parameters.items)
 -- an entry and the shapes of its arguments
 abbrev pub sorted_entry_of : SortedEntry → PlainSortedEntry
 sorted_entry_of e = record { entry = entry_of e.entry; shapes = e.shapes.items }
-
--- an entry with its transition
-abbrev pub sorted_rule_of : SortedRule → PlainSortedRule
-sorted_rule_of r = record { rule = r.rule; shapes = r.shapes.items }
 
 -- what entries read
 abbrev pub surroundings_of : Surroundings → PlainSurroundings
@@ -46,15 +39,4 @@ heading_of h = record {
   parameters = map declared_of h.parameters.items;
   names = h.names;
   variables = map variable_of h.variables.items;
-}
-
--- an automaton
-abbrev pub sorted_automaton_of : SortedAutomaton → PlainSortedAutomaton
-sorted_automaton_of a = record {
-  name = a.name;
-  parameters = map declared_of a.parameters.items;
-  variables = map variable_of a.variables.items;
-  scope = a.scope;
-  rules = map sorted_rule_of a.rules.items;
-  schedule = map firing_of a.schedule.items;
 }

@@ -1,24 +1,26 @@
 //! Automata with slots and shapes.
 
 ghost use Rattle.std.specs.Prelude.{◌≡◌, map};
-ghost use Rattle.std.specs.List.{list_all};
+ghost use Rattle.std.specs.Arc.{arc_value};
 ghost use Rattle.ioa_values.specs.Outcome.{Answers};
 ghost use Rattle.ioa_source.specs.TextView.{automaton_of, entry_of, transition_of};
+ghost use Rattle.ioa_types.specs.NameTables.{words};
 ghost use Rattle.ioa_automata.specs.Automata as spec;
 ghost use Rattle.ioa_automata.specs.Rules.{differ, has_entry, have_entries};
-ghost use Rattle.ioa_automata.specs.SortedView.{heading_of, sorted_automaton_of, sorted_rule_of};
+ghost use Rattle.ioa_automata.specs.SortedView.{heading_of};
 
 use crate::firings::sort_firings;
 use crate::names::{firing_scope, given_scope, view_of};
 use crate::parts::{sort_all_declared, sort_variables};
-use crate::rules::{SortedRule, Surroundings, sort_rules};
+use crate::rules::{Surroundings, sort_rules};
 use ioa_sort_rules::Refusal;
 use ioa_sorts::View;
 use ioa_source::{Automaton, Declared, Entry, Transition, Variable};
-use ioa_system::Scope;
-use ioa_terms::{Firing, Shape, Word};
+use ioa_system::{CompiledAutomaton, Rule, Scope};
+use ioa_terms::{Names, Shape};
 use ioa_types::TextTypes;
 use std::alloc::Global;
+use std::sync::Arc;
 
 /// The parameters and the state variables of an automaton, and the names in view of the constants of its entries.
 #[derive(Drop)]
@@ -26,23 +28,6 @@ pub(crate) struct Heading {
     pub parameters: Vec<Declared<Shape>>,
     pub names: View,
     pub variables: Vec<Variable<usize, Shape>>,
-}
-
-/// An automaton in which each name has its slot, and each sort and each display its shape.
-#[derive(Drop)]
-pub struct SortedAutomaton {
-    /// Its name.
-    pub name: Word,
-    /// Its parameters.
-    pub parameters: Vec<Declared<Shape>>,
-    /// Its state variables.
-    pub variables: Vec<Variable<usize, Shape>>,
-    /// The names that a firing reads besides the text's constants: the parameters, and then the state variables.
-    pub scope: Scope,
-    /// Its entries with their transitions.
-    pub rules: Vec<SortedRule>,
-    /// The firings of its schedule block.
-    pub schedule: Vec<Firing<usize, Shape>>,
 }
 
 /// The parameters and the state variables of an automaton.
@@ -128,8 +113,8 @@ fn sort_actions(
     types: &TextTypes,
     heading: &Heading,
     automaton: &Automaton<(), ()>,
-) -> Result<Vec<SortedRule>, Refusal>
-    ensures { Answers Refusal.Memory (λ rs. map sorted_rule_of rs.items) result
+) -> Result<Vec<Rule>, Refusal>
+    ensures { Answers Refusal.Memory (λ rs. rs.items) result
         (spec.actions_at types.now (heading_of heading.now) (automaton_of automaton.now)) }
 {
     entries_differ(alloc, &automaton.signature)?;
@@ -145,15 +130,18 @@ fn sort_actions(
     sort_rules(alloc, &around, &automaton.transitions, &automaton.signature)
 }
 
-/// The automaton with slots and shapes, in a text that declares these types. Returns `Unknown` (20), `Twice` (21),
-/// `Sorts` (22), `NoInitial` (23), `InputPre` (24), `NoTransition` (25), `Limit` (31), `EmptyOfWhat` (32), `InputWhere`
-/// (33), `BadArgument` (34), each if it applies to the automaton, and `Memory` (3) if no memory is left.
+/// The automaton with slots and shapes, in a text that declares these types, made ready to step. `constants` are the
+/// names of the text's constants. Returns `Unknown` (20), `Twice` (21), `Sorts` (22), `NoInitial` (23), `InputPre` (24),
+/// `NoTransition` (25), `Limit` (31), `EmptyOfWhat` (32), `InputWhere` (33), `BadArgument` (34), each if it applies to
+/// the automaton, and `Memory` (3) if no memory is left.
 pub fn sort_automaton(
     alloc: Global,
     types: &TextTypes,
+    constants: &Arc<Names>,
     automaton: &Automaton<(), ()>,
-) -> Result<SortedAutomaton, Refusal>
-    ensures { Answers Refusal.Memory sorted_automaton_of result
+) -> Result<CompiledAutomaton, Refusal>
+    requires { arc_value constants.now ≡ words types.now.constants }
+    ensures { Answers Refusal.Memory (λ a. a) result
         (spec.automaton_at types.now (automaton_of automaton.now)) }
 {
     let heading = sort_heading(alloc, types, automaton)?;
@@ -163,12 +151,14 @@ pub fn sort_automaton(
     let schedule = sort_firings(alloc, &view, &rules, &automaton.schedule)?;
     let scope = firing_scope(alloc, &heading.parameters, &heading.variables)?;
     let name = automaton.name.try_copy(alloc)?;
-    Ok(SortedAutomaton {
+    let constants = Arc::try_clone(constants)?;
+    Ok(CompiledAutomaton::new(
         name,
-        parameters: heading.parameters,
-        variables: heading.variables,
-        scope: scope.into_names(),
+        constants,
+        heading.parameters,
+        heading.variables,
+        scope.into_names(),
         rules,
         schedule,
-    })
+    ))
 }

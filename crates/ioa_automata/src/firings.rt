@@ -5,12 +5,11 @@ ghost use Rattle.std.specs.Option.{option_copied, option_map};
 ghost use Rattle.ioa_values.specs.Outcome.{Answers};
 ghost use Rattle.ioa_terms.specs.View.{firing_of, term_of};
 ghost use Rattle.ioa_automata.specs.Rules as spec;
-ghost use Rattle.ioa_automata.specs.SortedView.{sorted_rule_of};
 
-use crate::rules::SortedRule;
 use ioa_actions::{RECEIVE, SEND};
 use ioa_sort_rules::{Refusal, shape_in_terms};
 use ioa_sorts::{View, fit};
+use ioa_system::Rule;
 use ioa_terms::{Checked, Firing, Kind, Shape, Term, Word};
 use std::alloc::Global;
 
@@ -25,16 +24,15 @@ fn is_of_kind(written: Option<Kind>, kind: Kind) -> bool
 }
 
 /// Whether a firing is of an entry.
-fn fires(firing: &Firing<(), ()>, rule: &SortedRule) -> bool
-    ensures { result ≡ spec.fires (firing_of firing.now) (sorted_rule_of rule.now) }
+fn fires(firing: &Firing<(), ()>, rule: &Rule) -> bool
+    ensures { result ≡ spec.fires (firing_of firing.now) rule.now }
 {
-    rule.rule.entry.name == firing.action && is_of_kind(firing.kind, rule.rule.entry.kind)
+    rule.entry.name == firing.action && is_of_kind(firing.kind, rule.entry.kind)
 }
 
 /// The rule that a firing names, if there is one.
-fn rule_fired<'a>(rules: &'a Vec<SortedRule>, firing: &Firing<(), ()>) -> Option<&'a SortedRule>
-    ensures { option_map sorted_rule_of (option_copied result)
-        ≡ find (spec.fires (firing_of firing.now)) (map sorted_rule_of rules.now.items) }
+fn rule_fired<'a>(rules: &'a Vec<Rule>, firing: &Firing<(), ()>) -> Option<&'a Rule>
+    ensures { option_copied result ≡ find (spec.fires (firing_of firing.now)) rules.now.items }
 {
     for rule in rules {
         if fires(firing, rule) {
@@ -55,11 +53,11 @@ fn is_message(action: &Word) -> bool
 /// run yet.
 #[tactic(auto, unfolding(crate::specs::Rules::entry_fired))]
 fn shapes_fired<'a>(
-    rules: &'a Vec<SortedRule>,
+    rules: &'a Vec<Rule>,
     firing: &Firing<(), ()>,
 ) -> Result<&'a Vec<Shape>, Refusal>
     ensures { Answers Refusal.Memory (λ ss. ss.now.items) result (spec.entry_fired (firing_of firing.now)
-        (find (spec.fires (firing_of firing.now)) (map sorted_rule_of rules.now.items))) }
+        (find (spec.fires (firing_of firing.now)) rules.now.items)) }
 {
     match rule_fired(rules, firing) {
         None => Err(Refusal::Unknown),
@@ -73,8 +71,8 @@ fn shapes_fired<'a>(
     }
 }
 
-/// Arguments, each of the shape at its position. `Sorts` (22) if there are more or fewer.
-fn sort_arguments(
+/// Arguments of an action or of a node, each of the shape at its position. `Sorts` (22) if there are more or fewer.
+pub fn sort_arguments(
     alloc: Global,
     view: &View,
     shapes: &Vec<Shape>,
@@ -104,11 +102,11 @@ fn sort_arguments(
 fn sort_firing(
     alloc: Global,
     view: &View,
-    rules: &Vec<SortedRule>,
+    rules: &Vec<Rule>,
     firing: &Firing<(), ()>,
 ) -> Result<Firing<usize, Shape>, Refusal>
     ensures { Answers Refusal.Memory firing_of result
-        (spec.firing_at view.now (map sorted_rule_of rules.now.items) (firing_of firing.now)) }
+        (spec.firing_at view.now rules.now.items (firing_of firing.now)) }
 {
     let shapes = shapes_fired(rules, firing)?;
     let arguments = sort_arguments(alloc, view, shapes, &firing.arguments)?;
@@ -124,11 +122,11 @@ fn sort_firing(
 pub(crate) fn sort_firings(
     alloc: Global,
     view: &View,
-    rules: &Vec<SortedRule>,
+    rules: &Vec<Rule>,
     firings: &Vec<Firing<(), ()>>,
 ) -> Result<Vec<Firing<usize, Shape>>, Refusal>
     ensures { Answers Refusal.Memory (λ fs. map firing_of fs.items) result
-        (spec.firings_at view.now (map sorted_rule_of rules.now.items) (map firing_of firings.now.items)) }
+        (spec.firings_at view.now rules.now.items (map firing_of firings.now.items)) }
 {
     let mut sorted = Vec::new(alloc);
     for firing in firings {

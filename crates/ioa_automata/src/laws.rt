@@ -1,28 +1,26 @@
 //! Laws of automata: what functions ensure that do nothing.
 
-ghost use Rattle.std.specs.Prelude.{◌≡◌, ◌↔◌, true, Ok, map};
+ghost use Rattle.std.specs.Prelude.{◌≡◌, ◌↔◌, true, Ok};
 ghost use Rattle.ioa_source.specs.Sides.{SourceAutomaton, SourceParameter, SourceTerm};
-ghost use Rattle.ioa_system.specs.Parts.{automaton_parts};
-ghost use Rattle.ioa_system.specs.ResolvedPrograms.{IsCompiled};
-ghost use Rattle.ioa_types.specs.NameTables.{words};
+ghost use Rattle.ioa_system.specs.Parts.{AutomatonParts};
+ghost use Rattle.ioa_system.specs.ResolvedPrograms.{IsResolvedAutomaton};
 ghost use Rattle.ioa_types.specs.Meanings.{AreTextTypes};
 ghost use Rattle.ioa_types.specs.TextTypes.{PlainTextTypes};
-ghost use Rattle.ioa_automata.specs.Automata.{PlainSortedAutomaton, automaton_at};
+ghost use Rattle.ioa_automata.specs.Automata.{automaton_at};
 ghost use Rattle.ioa_automata.specs.Parts.{PlainSortedEntry};
 ghost use Rattle.ioa_automata.specs.Rules.{repeats, may_have_name};
 ghost use Rattle.ioa_automata.specs.SortedAutomata.{IsAutomatonOf, Repeats, IsWellNamed};
 
 /// What is made of an automaton is the text's automaton with slots and shapes. There is no other such automaton: if
-/// there is one, it is made, so that an automaton is refused only if there is none. It is
-/// ready to step: each name is resolved to the slot of its value.
+/// there is one, it is made, so that an automaton is refused only if there is none. It is ready to step: each name is
+/// resolved to the slot of its value.
 pub fn automata_law()
-    ensures sound { (t : PlainTextTypes) (a : SourceAutomaton) (c : PlainSortedAutomaton) → AreTextTypes t →
+    ensures sound { (t : PlainTextTypes) (a : SourceAutomaton) (c : AutomatonParts) → AreTextTypes t →
         automaton_at t a ≡ Ok c → IsAutomatonOf t a c }
-    ensures found { (t : PlainTextTypes) (a : SourceAutomaton) (c : PlainSortedAutomaton) → IsAutomatonOf t a c →
+    ensures found { (t : PlainTextTypes) (a : SourceAutomaton) (c : AutomatonParts) → IsAutomatonOf t a c →
         automaton_at t a ≡ Ok c }
-    ensures compiled { (t : PlainTextTypes) (a : SourceAutomaton) (c : PlainSortedAutomaton) → IsAutomatonOf t a c →
-        IsCompiled c.scope (automaton_parts c.name (words t.constants) c.parameters c.variables
-        (map (λ r. r.rule) c.rules) c.schedule) }
+    ensures resolved { (t : PlainTextTypes) (a : SourceAutomaton) (c : AutomatonParts) → IsAutomatonOf t a c →
+        IsResolvedAutomaton c }
 {}
 
 /// A head's argument repeats a parameter exactly if it is the constant's term or the name. An entry may have its name

@@ -8,6 +8,7 @@ mod names;
 mod parts;
 mod rules;
 
-pub use automata::{SortedAutomaton, sort_automaton};
+pub use automata::sort_automaton;
+pub use firings::sort_arguments;
 pub use laws::{automata_law, heads_law};
-pub use rules::SortedRule;
+pub use names::view_of;

@@ -130,12 +130,8 @@ pub(crate) fn firing_scope(
     with_variables(alloc, table, variables)
 }
 
-/// What a term reads: names, and the text's constants behind them.
-pub(crate) fn view_of(
-    alloc: Global,
-    scope: NameTable,
-    constants: &NameTable,
-) -> Result<View, Refusal>
+/// What a term reads: names, and the text's constants behind them. `Twice` (21) if a name is a constant's.
+pub fn view_of(alloc: Global, scope: NameTable, constants: &NameTable) -> Result<View, Refusal>
     ensures { Answers Refusal.Memory (λ v. v) result (with_names scope constants.now) }
 {
     let table = scope.with_all(alloc, constants)?;

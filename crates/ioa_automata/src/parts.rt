@@ -74,15 +74,15 @@ pub(crate) fn sort_all_declared(
 
 /// A term that has a shape of its own. `EmptyOfWhat` (32) if it is a display.
 fn infer_own(alloc: Global, view: &View, term: &Term) -> Result<Typed, Refusal>
-    ensures { Answers Refusal.Memory typed_of result (spec.inferred view.now (term_of term.now)) }
+    ensures { Answers Refusal.Memory typed_of result (spec.infer_own view.now (term_of term.now)) }
 {
-    known(infer(alloc, view, term)?)
+    own_or(infer(alloc, view, term)?)
 }
 
 /// What a term has of its own. `EmptyOfWhat` (32) if that is nothing.
-#[tactic(auto, unfolding(crate::specs::Parts::known))]
-fn known(found: Option<Typed>) -> Result<Typed, Refusal>
-    ensures { Answers Refusal.Memory typed_of result (spec.known (option_map typed_of found)) }
+#[tactic(auto, unfolding(crate::specs::Parts::own_or))]
+fn own_or(found: Option<Typed>) -> Result<Typed, Refusal>
+    ensures { Answers Refusal.Memory typed_of result (spec.own_or (option_map typed_of found)) }
 {
     match found {
         None => Err(Refusal::EmptyOfWhat),

@@ -10,7 +10,7 @@ ghost use Rattle.ioa_terms.specs.View.{term_of};
 ghost use Rattle.ioa_source.specs.TextView.{declared_of, parameter_of, entry_of, transition_of, variable_of};
 ghost use Rattle.ioa_automata.specs.Rules as spec;
 ghost use Rattle.ioa_automata.specs.Rules.{PlainSurroundings};
-ghost use Rattle.ioa_automata.specs.SortedView.{sorted_entry_of, sorted_rule_of, surroundings_of};
+ghost use Rattle.ioa_automata.specs.SortedView.{sorted_entry_of, surroundings_of};
 
 use crate::names::{step_scope, view_of};
 use crate::parts::{SortedEntry, sort_entry, sort_transition};
@@ -22,15 +22,6 @@ use ioa_system::{Rule, Scope};
 use ioa_terms::{Checked, Firing, Kind, Name, Shape, ShapeForm, Term, Tree, Word, is_same_term};
 use ioa_types::{NameTable, Types};
 use std::alloc::Global;
-
-/// An entry with its transition, and the shapes of the arguments of its actions: a constant's is its term's own.
-#[derive(Drop)]
-pub struct SortedRule {
-    /// The entry with its transition.
-    pub rule: Rule,
-    /// The shapes of the arguments.
-    pub shapes: Vec<Shape>,
-}
 
 /// What the entries of an automaton read.
 #[derive(Drop)]
@@ -96,12 +87,12 @@ fn transition_for<'a>(
 
 /// The transition of an entry, whose head repeats it. `NoTransition` (25) if there is none, `BadArgument` (34) if its
 /// head does not repeat the entry, `InputPre` (24) if the entry is an input's and the transition has a guard.
-#[tactic(auto, unfolding(crate::specs::Rules::allowed))]
+#[tactic(auto, unfolding(crate::specs::Rules::transition_or))]
 fn transition_of_entry<'a>(
     transitions: &'a Vec<Transition<(), ()>>,
     entry: &Entry<(), ()>,
 ) -> Result<&'a Transition<(), ()>, Refusal>
-    ensures { Answers Refusal.Memory (λ t. transition_of t.now) result (spec.allowed (entry_of entry.now)
+    ensures { Answers Refusal.Memory (λ t. transition_of t.now) result (spec.transition_or (entry_of entry.now)
         (spec.transition_for (entry_of entry.now) (map transition_of transitions.now.items))) }
 {
     let Some(transition) = transition_for(transitions, entry) else {
@@ -212,8 +203,8 @@ fn rule_of(
     around: &Surroundings,
     transition: &Transition<(), ()>,
     sorted: SortedEntry,
-) -> Result<SortedRule, Refusal>
-    ensures { Answers Refusal.Memory sorted_rule_of result
+) -> Result<Rule, Refusal>
+    ensures { Answers Refusal.Memory (λ r. r) result
         (spec.rule_of (surroundings_of around.now) (transition_of transition.now) (sorted_entry_of sorted)) }
 {
     let scope = step_scope(
@@ -230,13 +221,11 @@ fn rule_of(
         around.variables,
         &sorted.entry.parameters,
     )?;
-    Ok(SortedRule {
-        rule: Rule {
-            entry: sorted.entry,
-            transition,
-            scope: scope.into_names(),
-        },
+    Ok(Rule {
+        entry: sorted.entry,
         shapes: sorted.shapes,
+        transition,
+        scope: scope.into_names(),
     })
 }
 
@@ -247,8 +236,8 @@ fn sort_rule(
     around: &Surroundings,
     transitions: &Vec<Transition<(), ()>>,
     entry: &Entry<(), ()>,
-) -> Result<SortedRule, Refusal>
-    ensures { Answers Refusal.Memory sorted_rule_of result
+) -> Result<Rule, Refusal>
+    ensures { Answers Refusal.Memory (λ r. r) result
         (spec.rule_at (surroundings_of around.now) (map transition_of transitions.now.items)
         (entry_of entry.now)) }
 {
@@ -271,8 +260,8 @@ pub(crate) fn sort_rules(
     around: &Surroundings,
     transitions: &Vec<Transition<(), ()>>,
     entries: &Vec<Entry<(), ()>>,
-) -> Result<Vec<SortedRule>, Refusal>
-    ensures { Answers Refusal.Memory (λ rs. map sorted_rule_of rs.items) result
+) -> Result<Vec<Rule>, Refusal>
+    ensures { Answers Refusal.Memory (λ rs. rs.items) result
         (spec.rules_at (surroundings_of around.now) (map transition_of transitions.now.items)
         (map entry_of entries.now.items)) }
 {

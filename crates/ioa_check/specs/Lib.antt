@@ -1,8 +1,9 @@
 -- the definitions that the contracts of this crate and of the crates above it cite
-pub mod FirstForm
-pub mod FirstSorts
-pub mod Correspondence
-pub mod Refusals
-pub mod Rows
-pub mod Standing
-pub mod Resolutions
+pub mod Sections
+pub mod Faults
+pub mod Declarations
+pub mod Nodes
+pub mod Grounds
+pub mod Channels
+pub mod Checking
+pub mod Systems

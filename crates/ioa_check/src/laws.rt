@@ -1,32 +1,16 @@
-//! Laws of checked texts: the contracts of functions that do nothing. They tie the definitions of the
-//! check to one another and to the sorts of terms.
+//! Laws of checked texts: what functions ensure that do nothing.
 
-ghost use Rattle.std.specs.Prelude.{◌≡◌, true, map};
-ghost use Rattle.std.specs.List.{AllByRecursion};
-ghost use Rattle.ioa_operators.specs.Shapes.{integers, truths};
-ghost use Rattle.ioa_terms.specs.Resolved.{IsResolved};
-ghost use Rattle.ioa_terms.specs.Sorted.{NameShapes, HasShape};
-ghost use Rattle.ioa_source.specs.Sides.{CheckedTerm, SourceText};
-ghost use Rattle.ioa_check.specs.declared.refusal.Row.{Row};
-ghost use Rattle.ioa_check.specs.declared.refusal.Row.TheVariants as row;
-ghost use Rattle.ioa_check.specs.FirstSorts.{is_number, is_guard};
-ghost use Rattle.ioa_check.specs.Rows.{HasNoRow};
-ghost use Rattle.ioa_check.specs.Standing.{LacksInitialValue, StandsIn};
+ghost use Rattle.std.specs.Prelude.{◌≡◌, Ok};
+ghost use Rattle.ioa_source.specs.Sides.{SourceText};
+ghost use Rattle.ioa_system.specs.Declarations.{IsWellDeclared};
+ghost use Rattle.ioa_system.specs.Systems.{SystemParts};
+ghost use Rattle.ioa_check.specs.Checking.{system_of};
+ghost use Rattle.ioa_check.specs.Systems.{IsSystemOf};
 
-/// The sorts of the form that runs today are shapes of terms. If the names in view are integers, and
-/// each name that a term reads is resolved to its slot among them, then a number has the shape of
-/// integers, and a guard that of truth values.
-pub fn first_sorts_law()
-    ensures number { (names : NameShapes) → AllByRecursion (λ n. n.1 ≡ integers) names → (t : CheckedTerm) →
-        IsResolved t (map (λ n. n.0) names) → is_number t ≡ true → HasShape names t integers }
-    ensures guard { (names : NameShapes) → AllByRecursion (λ n. n.1 ≡ integers) names → (t : CheckedTerm) →
-        IsResolved t (map (λ n. n.0) names) → is_guard t ≡ true → HasShape names t truths }
-{}
-
-/// If a text has no row of refusal by `HasNoRow`, then no row applies to it by `StandsIn` either, with
-/// one exception: `BadArgument` (34) for an initial term that has no value. `HasNoRow` says nothing of
-/// these: such a term would be a number outside 64 bits.
-pub fn rows_law()
-    ensures { (t : SourceText) → HasNoRow t → (r : Row) → StandsIn t r →
-        (r ≡ row.BadArgument) × LacksInitialValue t }
+/// What is made of a text is the system that the text describes. There is no other such system: if there is one, it is
+/// made, so that a text is refused only if there is none. It declares each thing once.
+pub fn check_law()
+    ensures sound { (x : SourceText) (s : SystemParts) → system_of x ≡ Ok s → IsSystemOf x s }
+    ensures found { (x : SourceText) (s : SystemParts) → IsSystemOf x s → system_of x ≡ Ok s }
+    ensures declared { (x : SourceText) (s : SystemParts) → IsSystemOf x s → IsWellDeclared s }
 {}

@@ -1,13 +1,14 @@
-//! From a source to a system: names resolved, programs made, and the rows of refusal.
+//! From a text to its system: types and automata with sorts, nodes with their values, channels.
 #![tactic(auto)]
 
-mod building;
+mod channels;
 mod checking;
-mod first_form;
+mod declarations;
+mod fault;
 mod laws;
-mod refusal;
-mod resolving;
+mod nodes;
+mod values;
 
 pub use checking::check;
-pub use laws::{first_sorts_law, rows_law};
-pub use refusal::{CheckFault, Row};
+pub use fault::CheckFault;
+pub use laws::check_law;

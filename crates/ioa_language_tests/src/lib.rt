@@ -1,8 +1,6 @@
-//! Tests of what texts mean and of what is not run yet: operators, terms, statements and the check.
+//! Tests of what texts mean: operators, terms, statements, and the sorts of terms.
 #![tactic(auto)]
 
-#[cfg(test)]
-mod first_form;
 #[cfg(test)]
 mod operators;
 #[cfg(test)]

@@ -68,9 +68,9 @@ infer (own r) = and_then r (λ t. Ok (Some t))
 infer (given f) = Ok None
 
 -- the same of a term that is no display
-abbrev pub known : Sorting → Result PlainTyped Refusal
-known (own r) = r
-known (given f) = Err EmptyOfWhat
+abbrev pub own_of : Sorting → Result PlainTyped Refusal
+own_of (own r) = r
+own_of (given f) = Err EmptyOfWhat
 
 -- a term with its own shape, if that is the one asked
 unfoldable pub fit_typed : PlainShape → PlainTyped → Result SortedTerm Refusal

@@ -36,7 +36,7 @@ pub fn infer(alloc: Global, view: &View, term: &Term) -> Result<Option<Typed>, R
 {
     match term {
         Term::Display(_, _, _) => Ok(None),
-        _ => Ok(Some(known(alloc, view, term)?)),
+        _ => Ok(Some(own_of(alloc, view, term)?)),
     }
 }
 
@@ -49,14 +49,14 @@ pub fn fit(alloc: Global, view: &View, term: &Term, want: &Shape) -> Result<Chec
 {
     match term {
         Term::Display(form, _, parts) => display(alloc, view, parts, *form, want),
-        _ => fit_typed(want, known(alloc, view, term)?),
+        _ => fit_typed(want, own_of(alloc, view, term)?),
     }
 }
 
 /// A term that is no display, and the shape of its value.
 #[cycle(sorting)]
-fn known(alloc: Global, view: &View, term: &Term) -> Result<Typed, Refusal>
-    ensures { Answers Refusal.Memory typed_of result (spec.known (spec.sorting view.now (term_of term.now))) }
+fn own_of(alloc: Global, view: &View, term: &Term) -> Result<Typed, Refusal>
+    ensures { Answers Refusal.Memory typed_of result (spec.own_of (spec.sorting view.now (term_of term.now))) }
 {
     match term {
         Term::Number(n) => Ok(Typed {

@@ -4,24 +4,28 @@ use Rattle.std.specs.Coded.{Coded, code_by, coded×, coded_ℕ, coded_ℤ, coded
 use Rattle.ioa_values.specs.Data.{Data}
 use Rattle.ioa_values.specs.DataCode.{data_code}
 use Rattle.ioa_operators.specs.ShapeCode.{shape_code}
+use Rattle.ioa_operators.specs.Shapes.{PlainShape}
 use Rattle.ioa_terms.specs.TermCode.{firing_code}
 use Rattle.ioa_source.specs.Sides.{CheckedDeclared, CheckedEntry, CheckedFiring, CheckedTransition, CheckedVariable}
 use Rattle.ioa_source.specs.TextCode.{declared_code, entry_code, transition_code, variable_code}
 
--- an entry of a signature with its transition (Lynch 8.1), and the names in view in guard and effect
+-- an entry of a signature with its transition (Lynch 8.1), the shapes of the arguments that it takes, and the names in
+-- view in guard and effect
 pub record PlainRule : Type 0 where
   pub entry : CheckedEntry
+  pub shapes : List PlainShape
   pub transition : CheckedTransition
   pub scope : List (List ℕ)
 
 -- the code of a rule: a nest of pairs
 abbrev pub rule_code : Coded PlainRule
 rule_code =
-    code_by (CheckedEntry × (CheckedTransition × List (List ℕ)))
+    code_by (CheckedEntry × (List PlainShape × (CheckedTransition × List (List ℕ))))
     (coded× (entry_code coded_ℕ shape_code)
-    (coded× (transition_code coded_ℕ shape_code) (coded_list (coded_list coded_ℕ))))
-    (λ r. (r.entry, (r.transition, r.scope)))
-    (λ t. record { entry = t.0; transition = t.1.0; scope = t.1.1 })
+    (coded× (coded_list shape_code)
+    (coded× (transition_code coded_ℕ shape_code) (coded_list (coded_list coded_ℕ)))))
+    (λ r. (r.entry, (r.shapes, (r.transition, r.scope))))
+    (λ t. record { entry = t.0; shapes = t.1.0; transition = t.1.1.0; scope = t.1.1.1 })
     (λ _. refl)
 
 -- an automaton: its name, the names of the text's constants, its parameters, its state variables, its rules and the

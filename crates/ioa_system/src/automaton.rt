@@ -22,11 +22,13 @@ use std::marker::Model;
 use std::sync::Arc;
 
 /// An entry of a signature with its transition (Lynch 8.1), and the names in view there: the state
-/// variables, and then the entry's own parameters. A contract sees plain data.
+/// variables, then the automaton's parameters, and then the entry's own. A contract sees plain data.
 #[derive(Drop)]
 pub struct Rule {
     /// The entry.
     pub entry: Entry<usize, Shape>,
+    /// The shapes of the arguments of its actions: a parameter's is that of its sort, a constant's that of its term.
+    pub shapes: Vec<Shape>,
     /// Its transition.
     pub transition: Transition<usize, Shape>,
     /// The names in view in guard and effect. The slot of a name there is its index among these.
@@ -43,7 +45,12 @@ impl Model for Rule {
     ghost use Rattle.ioa_source.specs.TextView.{entry_of, transition_of};
 
     ghost view = { λ r.
-        record { entry = entry_of r.entry; transition = transition_of r.transition; scope = r.scope } };
+        record {
+          entry = entry_of r.entry;
+          shapes = r.shapes.items;
+          transition = transition_of r.transition;
+          scope = r.scope;
+        } };
 }
 
 impl Rule {
@@ -60,8 +67,9 @@ impl Rule {
         ensures { result ≡ same_rule self.now other.now }
     {
         is_same_entry(&self.entry, &other.entry)
-            && (is_same_transition(&self.transition, &other.transition)
-                && self.scope.as_slice() == other.scope.as_slice())
+            && (self.shapes == other.shapes
+                && (is_same_transition(&self.transition, &other.transition)
+                    && self.scope.as_slice() == other.scope.as_slice()))
     }
 }
 

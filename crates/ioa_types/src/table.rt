@@ -105,6 +105,14 @@ impl NameTable {
         (names, shapes)
     }
 
+    /// The names, in order.
+    #[tactic(auto, using(crate::proofs::Tables::words_zip))]
+    pub fn words(&self) -> &[Word]
+        ensures { result.now ≡ spec.words self.now }
+    {
+        self.names.as_slice()
+    }
+
     /// The names.
     #[tactic(auto, using(crate::proofs::Tables::words_zip))]
     pub fn into_names(self) -> Scope

@@ -3,6 +3,7 @@
 ghost use Rattle.std.specs.Prelude.{◌≡◌, map};
 ghost use Rattle.ioa_values.specs.Outcome.{Answers};
 ghost use Rattle.ioa_source.specs.TextView.{declared_of, type_of};
+ghost use Rattle.ioa_types.specs.Meanings.{AreTextTypes};
 ghost use Rattle.ioa_types.specs.TextTypes as spec;
 
 use crate::height::ShapeWithHeight;
@@ -54,9 +55,11 @@ impl TextTypes {
         &self.types
     }
 
-    /// The constants of the enumerations, in the order of their declaration.
+    /// The constants of the enumerations, in the order of their declaration. Types and constants were declared one
+    /// behind the other.
     pub fn constants(&self) -> &NameTable
-        ensures { result.now ≡ self.now.constants }
+        ensures value { result.now ≡ self.now.constants }
+        ensures declared { AreTextTypes self.now }
     {
         &self.constants
     }

@@ -6,12 +6,10 @@ use Rattle.ioa_text_reader.specs.declared.fault.FrontFault.{FrontFault}
 use Rattle.ioa_text_reader.specs.declared.fault.FrontFault.TheVariants as front
 use Rattle.ioa_text_reader.specs.FaultText.{front_fault_text}
 use Rattle.ioa_text_reader.specs.Texts.{TextSpells, StandsInText, is_exact, length_limit}
-use Rattle.ioa_check.specs.declared.refusal.CheckFault.{CheckFault}
-use Rattle.ioa_check.specs.declared.refusal.CheckFault.TheVariants as check
-use Rattle.ioa_check.specs.Correspondence.{IsSystemOf}
-use Rattle.ioa_check.specs.Refusals.{check_fault_text}
-use Rattle.ioa_check.specs.Rows.{HasNoRow}
-use Rattle.ioa_check.specs.Standing as standing
+use Rattle.ioa_check.specs.declared.fault.CheckFault.{CheckFault}
+use Rattle.ioa_check.specs.declared.fault.CheckFault.TheVariants as check
+use Rattle.ioa_check.specs.Faults.{check_fault_text}
+use Rattle.ioa_check.specs.Systems.{IsSystemOf, SaysNoSystem}
 use Rattle.ioa_system.specs.Declarations.{IsWellDeclared}
 use Rattle.ioa_system.specs.Systems.{SystemParts}
 use Rattle.ioa_record.specs.declared.ending.Ending.{Ending}
@@ -25,12 +23,11 @@ use Rattle.ioa_workers.specs.Recorded.{IsRunOf}
 use Rattle.ioa_workers.specs.Solo.{IsSoloRun}
 use Rattle.ioa_source.specs.Sides.{SourceText}
 
--- a system that a text describes: the tokens of the text spell a source that meets no row of refusal, and the system is
--- that source's; so it declares each thing once
+-- a system that a text describes: the tokens of the text spell a source, and the system is that source's; so it declares
+-- each thing once
 pub record IsDescribed (text : List ℕ) (s : SystemParts) : Type 0 where
   pub source : SourceText
   pub spelled : TextSpells source text
-  pub rows : HasNoRow source
   pub system : IsSystemOf source s
   pub declared : IsWellDeclared s
 
@@ -57,14 +54,15 @@ run_fault_of_front front.Memory = Memory
 
 -- a fault of the check as a run's
 abbrev pub run_fault_of_check : CheckFault → RunFault
-run_fault_of_check (check.Refused row index) = Check (check.Refused row index)
+run_fault_of_check (check.Refused refusal index) = Check (check.Refused refusal index)
 run_fault_of_check check.Memory = Memory
 
--- what a fault says of the text: a fault of reading is one of the text, and a fault of the check is one of a source
--- that the text spells; want of memory and a failed write say nothing
+-- what a fault says of the text: a fault of reading is one of the text, and a fault of the check means that no system is
+-- that of a source that the text spells; want of memory and a failed write say nothing
 abbrev pub IsRefusalOf : RunFault → List ℕ → Type 0
 IsRefusalOf (Front f) text = (f ≡ front.Memory → ⊥) × StandsInText f text
-IsRefusalOf (Check f) text = (f ≡ check.Memory → ⊥) × (p : SourceText) × TextSpells p text × standing.StandsInSource f p
+IsRefusalOf (Check f) text =
+    (f ≡ check.Memory → ⊥) × (p : SourceText) × TextSpells p text × SaysNoSystem f p
 IsRefusalOf Memory text = ⊤
 IsRefusalOf Write text = ⊤
 

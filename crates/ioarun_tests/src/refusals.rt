@@ -1,5 +1,5 @@
-//! Texts that are refused: one at least for each refusal that the check can give today, and for each form of the
-//! language that is left out today.
+//! Texts that are refused, one for each refusal that the check can give, and what calls on a checked system return.
+//! More texts for each refusal are in the folder `checks` at the top of the repository.
 
 use ioa_actions::{Action, Component};
 use ioa_check::check;
@@ -9,7 +9,7 @@ use ioa_streams::Over;
 use ioa_system::System;
 use ioa_text_reader::parse;
 use ioa_values::Value;
-use std::alloc::Global;
+use std::alloc::{AllocError, Global};
 use std::test::Fail;
 
 /// The line that the program shows for a text, and its status; no line if it writes a report.
@@ -25,206 +25,111 @@ fn line_of(rt: &HostRuntime, text: &str) -> Result<(u8, String), Fail> {
     }
 }
 
-/// A signature with a send from node 0 to node 1.
-const SENDS: &str = "signature output send(m: Int, const 0, const 1) ";
+/// The two automata of a text in which node 0 sends 7 and 8 to node 1, with the sort of what node 1 takes and keeps, its
+/// initial value, what it takes first, and from whom.
+fn list_of(
+    alloc: Global,
+    sort: &str,
+    initial: &str,
+    first: &str,
+    sender: &str,
+) -> Result<String, AllocError> {
+    format!(in alloc;
+        "automaton Src signature output send(m: Int, const 0, const 1) states n: Int := 7 \
+        transitions output send(m, 0, 1) pre m = n eff n := n + 1 \
+        schedule do fire send(n, 0, 1); fire send(n, 0, 1) od \
+        automaton Dst signature input receive(m: {sort}, const {sender}, const 1) states last: {sort} := {initial} \
+        transitions input receive(m, {sender}, 1) eff last := m \
+        schedule do fire receive({first}, {sender}, 1) od \
+        system node 0: Src node 1: Dst channel 0 -> 1"
+    )
+}
 
-/// A signature with a receive of node 1 from node 0.
-const RECEIVES: &str = "signature input receive(m: Int, const 0, const 1) ";
+/// Texts that are refused for one thing each, with the line that the program shows.
+static REFUSED: [(&str, &str); 15] = [
+    ("automaton A system node 0: B", "20 Unknown in 1"),
+    (
+        "automaton A states x: Int := 1, x: Int := 2 system",
+        "21 Twice in 0",
+    ),
+    ("automaton A states x: Int := true system", "22 Sorts in 0"),
+    ("automaton A states x: Int system", "23 NoInitial in 0"),
+    (
+        "automaton A signature input go transitions input go pre true system",
+        "24 InputPre in 0",
+    ),
+    (
+        "automaton A signature internal t system",
+        "25 NoTransition in 0",
+    ),
+    (
+        "automaton A signature input receive(m: Int, s: Nat, const 0) transitions input receive(m, s, 0) \
+        system node 0: A channel 0 -> 0",
+        "29 SelfChannel in 1",
+    ),
+    ("automaton A system node 1: A", "30 NodeGap in 1"),
+    (
+        "automaton A states x: Bool := {} = {} system",
+        "32 EmptyOfWhat in 0",
+    ),
+    (
+        "automaton A signature input go(v: Int) where v > 0 transitions input go(v) system",
+        "33 InputWhere in 0",
+    ),
+    (
+        "automaton A(n: Nat) system node 0: A(-1)",
+        "34 BadArgument in 1",
+    ),
+    // What does not run yet.
+    (
+        "automaton A signature internal t transitions internal t schedule do fire t od system",
+        "20 Unknown in 0",
+    ),
+    (
+        "automaton A signature input receive(m: Int, s: Nat, const 0) transitions input receive(m, s, 0) \
+        schedule do fire receive(len(inbox(1)), 1, 0) od system",
+        "20 Unknown in 0",
+    ),
+    (
+        "automaton A schedule do while true do od od system",
+        "12 Unexpected at 24",
+    ),
+    ("automaton A system script 0: go", "12 Unexpected at 19"),
+];
+
+/// Whether the program refuses a text with this line and status 1.
+fn is_refused(rt: &HostRuntime, text: &str, refusal: &str) -> Result<bool, Fail> {
+    let (status, line) = line_of(rt, text)?;
+    let expected = format!(in rt.alloc(); "refused {refusal}\n")?;
+    Ok(status == 1 && line.as_str() == expected.as_str())
+}
 
 #[test]
-fn each_row_of_the_check_is_told_with_its_index(rt: HostRuntime) -> Result<(), Fail> {
-    let rows = [
-        ("automaton A system node 0: B", "", "", "20 Unknown in 1"),
-        (
-            "automaton A ",
-            "transitions output send(m, 0, 1) ",
-            "system",
-            "20 Unknown in 0",
-        ),
-        (
-            "automaton A ",
-            SENDS,
-            "transitions input send(m, 0, 1) system",
-            "20 Unknown in 0",
-        ),
-        (
-            "automaton A ",
-            SENDS,
-            "transitions output send(m, 0, 1) pre x = 1 system",
-            "20 Unknown in 0",
-        ),
-        (
-            "automaton A ",
-            SENDS,
-            "states n: Int := 0 transitions output send(m, 0, 1) eff n := x system",
-            "20 Unknown in 0",
-        ),
-        (
-            "automaton A ",
-            SENDS,
-            "transitions output send(m, 0, 1) eff x := 1 system",
-            "20 Unknown in 0",
-        ),
-        (
-            "automaton A ",
-            SENDS,
-            "transitions output send(m, 0, 1) eff m := 1 system",
-            "20 Unknown in 0",
-        ),
-        (
-            "automaton A ",
-            "schedule do fire go od ",
-            "system",
-            "20 Unknown in 0",
-        ),
-        (
-            "automaton A ",
-            SENDS,
-            "transitions output send(m, 0, 1) schedule do fire send(x, 0, 1) od system",
-            "20 Unknown in 0",
-        ),
-        (
-            "automaton A ",
-            RECEIVES,
-            "transitions input receive(m, 0, 1) system channel 0 -> 1",
-            "20 Unknown in 1",
-        ),
-        (
-            "automaton A ",
-            "",
-            "system node 0: A channel 0 -> 1",
-            "20 Unknown in 1",
-        ),
-        (
-            "automaton A ",
-            SENDS,
-            "states n: Int := 0 transitions output send(m, 0, 1) pre (m = 1) = (n = 2) system",
-            "20 Unknown in 0",
-        ),
-        (
-            "automaton A automaton B automaton A ",
-            "",
-            "system",
-            "21 Twice in 2",
-        ),
-        (
-            "automaton A states x: Int := 1, x: Int := 2 ",
-            "",
-            "system",
-            "21 Twice in 0",
-        ),
-        (
-            "automaton A ",
-            SENDS,
-            "states m: Int := 0 transitions output send(m, 0, 1) system",
-            "21 Twice in 0",
-        ),
-        (
-            "automaton A ",
-            SENDS,
-            "output send(m: Int, const 0, const 2) transitions output send(m, 0, 1) system",
-            "21 Twice in 0",
-        ),
-        (
-            "automaton A ",
-            SENDS,
-            "transitions output send(m, 0, 1) output send(m, 0, 1) system",
-            "21 Twice in 0",
-        ),
-        (
-            "automaton A ",
-            "",
-            "system node 0: A node 0: A",
-            "21 Twice in 1",
-        ),
-        (
-            "automaton A automaton B ",
-            RECEIVES,
-            "transitions input receive(m, 0, 1) system node 0: A node 1: B channel 0 -> 1 channel 0 -> 1",
-            "21 Twice in 2",
-        ),
-        (
-            "automaton A ",
-            SENDS,
-            "transitions output send(m, 0, 1) schedule do fire send(1, 0) od system",
-            "22 Sorts in 0",
-        ),
-        (
-            "automaton A ",
-            SENDS,
-            "transitions output send(m, 0, 1) schedule do fire send(1 = 1, 0, 1) od system",
-            "22 Sorts in 0",
-        ),
-        (
-            "automaton A ",
-            SENDS,
-            "transitions output send(m, 0, 1) pre m system",
-            "22 Sorts in 0",
-        ),
-        (
-            "automaton A ",
-            SENDS,
-            "states n: Int := 0 transitions output send(m, 0, 1) eff n := (n = 1) system",
-            "22 Sorts in 0",
-        ),
-        (
-            "automaton A ",
-            RECEIVES,
-            "transitions input receive(m, 0, 1) pre m = 1 system",
-            "24 InputPre in 0",
-        ),
-        ("automaton A ", SENDS, "system", "25 NoTransition in 0"),
-        (
-            "automaton A ",
-            "",
-            "system node 0: A node 1: A channel 0 -> 1",
-            "28 InputMissing in 1",
-        ),
-        (
-            "automaton A ",
-            "",
-            "system node 0: A channel 0 -> 0",
-            "29 SelfChannel in 1",
-        ),
-        ("automaton A ", "", "system node 1: A", "30 NodeGap in 1"),
-        (
-            "automaton A ",
-            SENDS,
-            "transitions output send(m, 0, 2) system",
-            "34 BadArgument in 0",
-        ),
-        (
-            "automaton A ",
-            SENDS,
-            "transitions output send(n, 0, 1) system",
-            "34 BadArgument in 0",
-        ),
-        (
-            "automaton A ",
-            SENDS,
-            "transitions output send(m, 0) system",
-            "34 BadArgument in 0",
-        ),
-        (
-            "automaton A automaton B ",
-            SENDS,
-            "transitions output send(m, 0, 1) system node 0: A node 1: B",
-            "34 BadArgument in 2",
-        ),
-        (
-            "automaton A automaton B ",
-            RECEIVES,
-            "transitions input receive(m, 0, 1) system node 0: B node 1: A",
-            "34 BadArgument in 2",
-        ),
-    ];
-    for (first, second, third, refusal) in rows {
-        let text = format!(in rt.alloc(); "{first}{second}{third}")?;
-        let (status, line) = line_of(&rt, text.as_str())?;
-        let expected = format!(in rt.alloc(); "refused {refusal}\n")?;
-        assert_eq!(rt; line.as_str(), expected.as_str(), "{text}");
-        assert_eq!(rt; status, 1, "{text}");
+fn each_refusal_is_told_with_its_index(rt: HostRuntime) -> Result<(), Fail> {
+    for (text, refusal) in &REFUSED {
+        assert!(rt; is_refused(&rt, text, refusal)?, "{text}");
     }
+    Ok(())
+}
+
+#[test]
+fn channels_are_refused_by_what_they_carry(rt: HostRuntime) -> Result<(), Fail> {
+    let alloc = rt.alloc();
+    let other_sort = list_of(alloc, "Bool", "false", "true", "0")?;
+    assert!(rt; is_refused(&rt, other_sort.as_str(), "27 ChannelSorts in 2")?);
+    let other_sender = list_of(alloc, "Int", "0", "7", "2")?;
+    assert!(rt; is_refused(&rt, other_sender.as_str(), "28 InputMissing in 2")?);
+    Ok(())
+}
+
+#[test]
+fn towers_of_tuples_are_refused_by_their_height(rt: HostRuntime) -> Result<(), Fail> {
+    let mut text = String::from_str(rt.alloc(), "type T0 = tuple of x: Int")?;
+    for number in 1..64 {
+        write!(text, " type T{number} = tuple of x: T{}", number - 1)?;
+    }
+    write!(text, " system")?;
+    assert!(rt; is_refused(&rt, text.as_str(), "31 Limit in 63")?);
     Ok(())
 }
 
@@ -234,133 +139,25 @@ fn more_nodes_or_channels_than_the_limits_are_told(rt: HostRuntime) -> Result<()
     for number in 0..65 {
         write!(nodes, " node {number}: A")?;
     }
-    let (status, line) = line_of(&rt, nodes.as_str())?;
-    assert_eq!(rt; line.as_str(), "refused 31 Limit in 1\n");
-    assert_eq!(rt; status, 1);
+    assert!(rt; is_refused(&rt, nodes.as_str(), "31 Limit in 1")?);
     let mut channels = String::from_str(rt.alloc(), "automaton A system")?;
     for number in 0..257 {
         write!(channels, " channel 0 -> {number}")?;
     }
-    let (status, line) = line_of(&rt, channels.as_str())?;
-    assert_eq!(rt; line.as_str(), "refused 31 Limit in 1\n");
-    assert_eq!(rt; status, 1);
+    assert!(rt; is_refused(&rt, channels.as_str(), "31 Limit in 1")?);
     Ok(())
 }
 
+/// The report of a text in which nothing happens.
 #[test]
-fn later_forms_are_refused(rt: HostRuntime) -> Result<(), Fail> {
-    let rows = [
-        ("type T = enumeration of a system", "20 Unknown in 0"),
-        (
-            "automaton A type T = tuple of a: Int system",
-            "20 Unknown in 1",
-        ),
-        (
-            "automaton A automaton A type T = enumeration of a system",
-            "20 Unknown in 2",
-        ),
-        ("automaton A(i: Nat) system", "20 Unknown in 0"),
-        ("automaton A signature internal t system", "20 Unknown in 0"),
-        (
-            "automaton A signature output go(m: Int, const 0, const 1) system",
-            "20 Unknown in 0",
-        ),
-        (
-            "automaton A signature input send(m: Int, const 0, const 1) system",
-            "20 Unknown in 0",
-        ),
-        (
-            "automaton A signature output send(m: Nat, const 0, const 1) system",
-            "20 Unknown in 0",
-        ),
-        (
-            "automaton A signature output send(m: Int, j: Int, const 1) system",
-            "20 Unknown in 0",
-        ),
-        (
-            "automaton A signature output send(m: Int, const 0, const 1 + 1) system",
-            "20 Unknown in 0",
-        ),
-        (
-            "automaton A signature output send(m: Int, const 0) system",
-            "20 Unknown in 0",
-        ),
-        (
-            "automaton A signature output send(m: Int, const 0, const 1) where true system",
-            "20 Unknown in 0",
-        ),
-        (
-            "automaton A states x: Bool := true system",
-            "20 Unknown in 0",
-        ),
-        (
-            "automaton A states x: Int := 1 + 1 system",
-            "20 Unknown in 0",
-        ),
-        ("automaton A states x: Int system", "23 NoInitial in 0"),
-        (
-            "automaton A transitions internal t system",
-            "20 Unknown in 0",
-        ),
-        (
-            "automaton A signature output send(m: Int, const 0, const 1) transitions output send(m, 0, 1) pre m < 1 system",
-            "20 Unknown in 0",
-        ),
-        (
-            "automaton A signature output send(m: Int, const 0, const 1) transitions output send(m, 0, 1) pre m = 1 - 1 system",
-            "20 Unknown in 0",
-        ),
-        (
-            "automaton A signature output send(m: Int, const 0, const 1) states x: Int := 0 transitions output send(m, 0, 1) eff if true then x := 1 fi system",
-            "20 Unknown in 0",
-        ),
-        (
-            "automaton A signature output send(m: Int, const 0, const 1) states x: Int := 0 transitions output send(m, 0, 1) eff x[1] := 1 system",
-            "20 Unknown in 0",
-        ),
-        (
-            "automaton A signature output send(m: Int, const 0, const 1) states x: Int := 0 transitions output send(m, 0, 1) eff x.f := 1 system",
-            "20 Unknown in 0",
-        ),
-        (
-            "automaton A signature output send(m: Int, const 0, const 1) transitions output send(m, 0, 1) schedule do fire output send(1, 0, 1) od system",
-            "20 Unknown in 0",
-        ),
-        (
-            "automaton A signature output send(m: Int, const 0, const 1) transitions output send(m, 0, 1) schedule do fire send(2 - 1, 0, 1) od system",
-            "20 Unknown in 0",
-        ),
-        ("automaton A system node 0: A(1)", "20 Unknown in 1"),
-        (
-            "automaton A schedule states c: Int := 0 do od system",
-            "12 Unexpected at 21",
-        ),
-        (
-            "automaton A schedule do while true do od od system",
-            "12 Unexpected at 24",
-        ),
-        (
-            "automaton A schedule do x := 1 od system",
-            "12 Unexpected at 24",
-        ),
-        ("automaton A system script 0: go", "12 Unexpected at 19"),
-        (
-            "automaton A system unordered channel 0 -> 1",
-            "12 Unexpected at 19",
-        ),
-        (
-            "automaton A system invariant I: true",
-            "12 Unexpected at 19",
-        ),
-        ("automaton A uses", "16 LeftOut at 12"),
-        ("automaton A choose", "16 LeftOut at 12"),
-    ];
-    for (text, refusal) in rows {
-        let (status, line) = line_of(&rt, text)?;
-        let expected = format!(in rt.alloc(); "refused {refusal}\n")?;
-        assert_eq!(rt; line.as_str(), expected.as_str(), "{text}");
-        assert_eq!(rt; status, 1, "{text}");
-    }
+fn an_automaton_without_nodes_is_a_text(rt: HostRuntime) -> Result<(), Fail> {
+    let mut out = Over::new(Vec::new(rt.alloc()));
+    let mut err = Over::new(Vec::new(rt.alloc()));
+    let mut reader = "automaton A system".as_bytes();
+    let status = command(rt.alloc(), &["ioarun"], &mut reader, &mut out, &mut err);
+    assert_eq!(rt; status, 0);
+    let report = String::from_utf8(out.into_writer())?;
+    assert!(rt; report.as_str() == "schedule 0\nworker 0 commits 0\ntotal 0\n");
     Ok(())
 }
 

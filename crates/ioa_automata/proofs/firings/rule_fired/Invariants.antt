@@ -1,12 +1,11 @@
-use Rattle.std.proofs.Common.{◌≡◌, map, drop}
+use Rattle.std.proofs.Common.{◌≡◌, drop}
 use Rattle.std.specs.Prelude.{find}
 use Rattle.ioa_terms.specs.View.{firing_of}
 use Rattle.ioa_automata.specs.Rules.{fires}
-use Rattle.ioa_automata.specs.SortedView.{sorted_rule_of}
 use Rattle.ioa_automata.proofs.firings.rule_fired.Given as goal
 
 -- none of those so far is fired
 abbrev pub invariant-loop-rule : goal.invariant-loop-rule
 invariant-loop-rule l =
-    find (fires (firing_of l.firing)) (map sorted_rule_of l.rules.items)
-    ≡ find (fires (firing_of l.firing)) (map sorted_rule_of (drop l.rule-index l.rule-items))
+    find (fires (firing_of l.firing)) l.rules.items
+    ≡ find (fires (firing_of l.firing)) (drop l.rule-index l.rule-items)

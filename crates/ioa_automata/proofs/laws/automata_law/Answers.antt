@@ -8,5 +8,5 @@ pub returns : goal.returns
 returns c = record {
   sound = λ t a c text h. automaton_sound t text a c h;
   found = λ t a c h. sym (automaton_found t a c h);
-  compiled = automaton_compiled;
+  resolved = automaton_compiled;
 }

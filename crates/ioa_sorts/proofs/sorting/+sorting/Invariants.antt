@@ -13,8 +13,8 @@ decreases-infer l = 16 * goal.size-infer l + 1
 abbrev pub decreases-fit : goal.decreases-fit
 decreases-fit l = 16 * goal.size-fit l + 1
 
-abbrev pub decreases-known : goal.decreases-known
-decreases-known l = 16 * goal.size-known l
+abbrev pub decreases-own_of : goal.decreases-own_of
+decreases-own_of l = 16 * goal.size-own_of l
 
 abbrev pub decreases-two_parts : goal.decreases-two_parts
 decreases-two_parts l = 16 * max (goal.size-two_parts l) (goal.size-two_parts (record l { a = l.b })) + 3

@@ -1,0 +1,61 @@
+-- Each system that a text describes is found.
+use Rattle.std.proofs.Common.{◌≡◌, ◌≤◌, ℕ, List, [], refl, sym, ap, subst, length}
+use Rattle.std.specs.List.{AllByRecursion, IsDistinct}
+use Rattle.ioa_source.specs.Sides.{SourcePlacement, SourceText}
+use Rattle.ioa_system.specs.Declarations.{same_channel}
+use Rattle.ioa_system.specs.Systems.{SystemParts, system}
+use Rattle.ioa_types.specs.NameTables.{words}
+use Rattle.ioa_types.specs.TextTypes.{no_types}
+use Rattle.ioa_types.proofs.Names.{all_found}
+use Rattle.ioa_automata.proofs.Results.{result_is}
+use Rattle.ioa_check.specs.declared.nodes.TheConstants.{MOST_NODES}
+use Rattle.ioa_check.specs.declared.channels.TheConstants.{MOST_CHANNELS}
+use Rattle.ioa_check.specs.Sections.{nodes_in, channels_in}
+use Rattle.ioa_check.specs.Nodes.{nodes_or, nodes_at, programs_at, programs_from}
+use Rattle.ioa_check.specs.Channels.{channels_or, channels_at, all_channels_at}
+use Rattle.ioa_check.specs.Checking.{system_at, section_at, system_of}
+use Rattle.ioa_check.specs.Systems.{IsChannelOf, IsSystemOf, same_number}
+use Rattle.ioa_check.proofs.Results.{checked_is}
+use Rattle.ioa_check.proofs.CompleteTypes.{types_found, constants_differ, automata_found}
+use Rattle.ioa_check.proofs.CompleteNodes.{passes, nodes_found}
+use Rattle.ioa_check.proofs.CompleteChannels.{channels_found}
+use Rattle.ioa_check.proofs.Tests.{few_found, numbered_anew, channels_anew}
+
+-- the nodes and the channels of a system section
+listed_nodes : (ps : List SourcePlacement) → length (nodes_in ps) ≤ MOST_NODES → IsDistinct same_number (nodes_in ps) → result_is (nodes_in ps) ≡ nodes_at ps
+unfolding nodes_or
+listed_nodes ps few differ = rw (← few_found MOST_NODES (nodes_in ps) few, numbered_anew [] (nodes_in ps) differ) refl
+
+listed_channels : (ps : List SourcePlacement) → length (channels_in ps) ≤ MOST_CHANNELS → IsDistinct same_channel (channels_in ps) → result_is (channels_in ps) ≡ channels_at ps
+unfolding channels_or
+listed_channels ps few differ = rw (← few_found MOST_CHANNELS (channels_in ps) few, channels_anew [] (channels_in ps) differ) refl
+
+module _ (x : SourceText) (s : SystemParts) (h : IsSystemOf x s) where
+  programs_found : result_is s.programs ≡ programs_at h.types.constants h.automata (nodes_in x.system)
+  programs_found =
+      subst (λ (n : ℕ). result_is s.programs ≡ programs_from h.types.constants h.automata (nodes_in x.system) 0 n) h.many (nodes_found h.types.constants h.automata (nodes_in x.system) 0 s.programs h.nodes)
+
+  joined_found : passes ≡ all_channels_at s.programs (channels_in x.system)
+  joined_found = channels_found s.programs (channels_in x.system) (subst (AllByRecursion (IsChannelOf s.programs)) h.channels h.joined)
+
+  placed_found : result_is s ≡ system_at h.types.constants h.automata x.system
+  unfolding system_at
+  placed_found =
+      rw (← listed_nodes x.system h.few_nodes h.nodes_differ, ← listed_channels x.system h.few_channels h.channels_differ, ← programs_found, ← joined_found) (ap result_is rebuilt)
+    where
+      rebuilt : s ≡ system (words h.types.constants) s.programs (channels_in x.system)
+      rebuilt = λ i. system (h.names i) s.programs (h.channels i)
+
+  section_found : result_is s ≡ section_at h.types h.automata x.system
+  unfolding section_at
+  section_found =
+      rw (← all_found [] h.types.constants (constants_differ x.declarations h.types h.declared)) placed_found
+
+  whole_found : checked_is s ≡ system_of x
+  unfolding system_of
+  whole_found =
+      rw (← types_found x.declarations 0 no_types h.types h.declared, ← automata_found h.types 0 [] x.declarations h.automata h.made h.automata_differ, ← section_found) refl
+
+-- the system is found
+pub system_found : (x : SourceText) (s : SystemParts) → IsSystemOf x s → system_of x ≡ checked_is s
+system_found x s h = sym (whole_found x s h)

@@ -1,0 +1,95 @@
+-- The system that is made of a text is the one that the text describes.
+use Rattle.std.proofs.Common.{◌≡◌, ◌≤◌, List, [], refl, sym, ap, subst, ◌∙◌, length}
+use Rattle.std.specs.List.{AllByRecursion, IsDistinct}
+use Rattle.ioa_values.specs.Outcome.{and_then}
+use Rattle.ioa_terms.specs.Sorted.{NameShapes}
+use Rattle.ioa_source.specs.Sides.{SourceNode, SourcePlacement, SourceText}
+use Rattle.ioa_source.specs.declared.declaration.Channel.{Channel}
+use Rattle.ioa_system.specs.Declarations.{same_channel}
+use Rattle.ioa_system.specs.Parts.{AutomatonParts, Parts}
+use Rattle.ioa_system.specs.Systems.{SystemParts, system}
+use Rattle.ioa_types.specs.NameTables.{with_names, words}
+use Rattle.ioa_types.specs.TextTypes.{no_types}
+use Rattle.ioa_types.proofs.Names.{all_behind}
+use Rattle.ioa_types.proofs.Meant.{no_text_types}
+use Rattle.ioa_automata.proofs.Results.{result_is}
+use Rattle.ioa_check.specs.declared.nodes.TheConstants.{MOST_NODES}
+use Rattle.ioa_check.specs.declared.channels.TheConstants.{MOST_CHANNELS}
+use Rattle.ioa_check.specs.Sections.{nodes_in, channels_in}
+use Rattle.ioa_check.specs.Faults.{in_declaration}
+use Rattle.ioa_check.specs.Declarations.{types_at, automata_at}
+use Rattle.ioa_check.specs.Grounds.{AreGrounded}
+use Rattle.ioa_check.specs.Nodes.{nodes_at, programs_at}
+use Rattle.ioa_check.specs.Channels.{channels_at, all_channels_at}
+use Rattle.ioa_check.specs.Checking.{system_at, section_at, system_of}
+use Rattle.ioa_check.specs.Systems.{AreNodesOf, IsChannelOf, same_number, IsSystemOf}
+use Rattle.ioa_check.proofs.Results.{checked_is, first_of, within_declaration, result_same}
+use Rattle.ioa_check.proofs.Grounds.{grounded}
+use Rattle.ioa_check.proofs.SoundDeclarations.{types_sound, automata_sound}
+use Rattle.ioa_check.proofs.SoundNodes.{AreNodesIn, nodes_sound, programs_sound}
+use Rattle.ioa_check.proofs.SoundChannels.{AreChannelsIn, channels_sound, joined_sound}
+
+-- a system section
+record IsSectionOf (names : NameShapes) (automata : List AutomatonParts) (ps : List SourcePlacement) (s : SystemParts) : Type 0 where
+  same_names : s.names ≡ words names
+  few_nodes : length (nodes_in ps) ≤ MOST_NODES
+  few_channels : length (channels_in ps) ≤ MOST_CHANNELS
+  nodes_differ : IsDistinct same_number (nodes_in ps)
+  channels_differ : IsDistinct same_channel (channels_in ps)
+  nodes : AreNodesOf names automata (nodes_in ps) 0 s.programs
+  many : length s.programs ≡ length (nodes_in ps)
+  channels : s.channels ≡ channels_in ps
+  joined : AllByRecursion (IsChannelOf s.programs) s.channels
+
+-- its parts together
+section_made : (names : NameShapes) (automata : List AutomatonParts) (ps : List SourcePlacement) (ns : List SourceNode) (cs : List Channel) (qs : List Parts) → AreNodesIn ps ns → AreChannelsIn ps cs → AreNodesOf names automata ns 0 qs × (length qs ≡ length ns) → AllByRecursion (IsChannelOf qs) cs → IsSectionOf names automata ps (system (words names) qs cs)
+section_made names automata ps ns cs qs nodes channels programs joined = record {
+  same_names = refl;
+  few_nodes = nodes.few;
+  few_channels = channels.few;
+  nodes_differ = nodes.differ;
+  channels_differ = channels.differ;
+  nodes = subst (λ ms. AreNodesOf names automata ms 0 qs) (sym nodes.same) programs.0;
+  many = programs.1 ∙ ap length (sym nodes.same);
+  channels = sym channels.same;
+  joined = joined;
+}
+
+section_sound : (names : NameShapes) (automata : List AutomatonParts) → AreGrounded names automata → (ps : List SourcePlacement) (s : SystemParts) → system_at names automata ps ≡ result_is s → IsSectionOf names automata ps s
+unfolding system_at
+section_sound names automata ground ps s h =
+    let one = first_of (nodes_at ps) (λ ns. and_then (channels_at ps) (λ cs. and_then (programs_at names automata ns) (λ qs. and_then (all_channels_at qs cs) (λ x. result_is (system (words names) qs cs))))) s h in
+    let two = first_of (channels_at ps) (λ cs. and_then (programs_at names automata one.0) (λ qs. and_then (all_channels_at qs cs) (λ x. result_is (system (words names) qs cs)))) s one.2 in
+    let three = first_of (programs_at names automata one.0) (λ qs. and_then (all_channels_at qs two.0) (λ x. result_is (system (words names) qs two.0))) s two.2 in
+    let four = first_of (all_channels_at three.0 two.0) (λ x. result_is (system (words names) three.0 two.0)) s three.2 in
+    let made = section_made names automata ps one.0 two.0 three.0 (nodes_sound ps one.0 one.1) (channels_sound ps two.0 two.1) (programs_sound names automata one.0 ground (length one.0) 0 three.0 three.1) (joined_sound three.0 two.0 four.0 four.1) in
+    subst (IsSectionOf names automata ps) {x = system (words names) three.0 two.0} (result_same (system (words names) three.0 two.0) s four.2) made
+
+pub system_sound : (x : SourceText) (s : SystemParts) → system_of x ≡ checked_is s → IsSystemOf x s
+unfolding system_of section_at
+system_sound x s h =
+    let one = first_of (types_at 0 no_types x.declarations) (λ t. and_then (automata_at t 0 [] x.declarations) (λ automata. in_declaration (length x.declarations) (section_at t automata x.system))) s h in
+    let two = first_of (automata_at one.0 0 [] x.declarations) (λ automata. in_declaration (length x.declarations) (section_at one.0 automata x.system)) s one.2 in
+    let three = within_declaration (length x.declarations) (section_at one.0 two.0 x.system) s two.2 in
+    let four = first_of (with_names [] one.0.constants) (λ names. system_at names two.0 x.system) s three in
+    let names : four.0 ≡ one.0.constants = all_behind [] one.0.constants four.0 four.1 in
+    let types = types_sound x.declarations 0 no_types one.0 no_text_types one.1 in
+    let automata = automata_sound one.0 types.1 x.declarations 0 [] two.0 two.1 in
+    let ground = grounded one.0 types.1 x.declarations 0 [] two.0 two.1 in
+    let section = section_sound one.0.constants two.0 ground x.system s (subst (λ ns. system_at ns two.0 x.system ≡ result_is s) {x = four.0} names four.2) in
+    record {
+      types = one.0;
+      declared = types.0;
+      names = section.same_names;
+      automata = two.0;
+      made = automata.made;
+      automata_differ = automata.differ;
+      few_nodes = section.few_nodes;
+      few_channels = section.few_channels;
+      nodes_differ = section.nodes_differ;
+      channels_differ = section.channels_differ;
+      nodes = section.nodes;
+      many = section.many;
+      channels = section.channels;
+      joined = section.joined;
+    }

@@ -1,0 +1,10 @@
+use Rattle.std.proofs.Common.{◌≡◌, map, drop}
+use Rattle.std.specs.Prelude.{find}
+use Rattle.ioa_check.specs.Sections.{node_at}
+use Rattle.ioa_check.specs.Nodes.{has_number}
+use Rattle.ioa_check.proofs.nodes.node_of_number.Given as goal
+
+-- no node so far has the number
+abbrev pub invariant-loop-node : goal.invariant-loop-node
+invariant-loop-node l =
+    find (has_number l.number) (map node_at l.nodes) ≡ find (has_number l.number) (map node_at (drop l.node-index l.nodes))

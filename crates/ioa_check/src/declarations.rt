@@ -1,0 +1,108 @@
+//! The types and the automata that a text declares.
+
+ghost use Rattle.std.specs.Prelude.{◌≡◌, ◌++◌, ◌∷◌, [], IfOk, OnOk, map};
+ghost use Rattle.std.specs.Arc.{arc_value};
+ghost use Rattle.ioa_values.specs.Outcome.{Answers};
+ghost use Rattle.ioa_source.specs.TextView.{automaton_of, declaration_of};
+ghost use Rattle.ioa_types.specs.NameTables.{words};
+ghost use Rattle.ioa_types.specs.TextTypes.{no_types};
+ghost use Rattle.ioa_check.specs.Declarations as spec;
+
+use crate::fault::{CheckFault, fault_at};
+use ioa_automata::sort_automaton;
+use ioa_sort_rules::Refusal;
+use ioa_source::{Automaton, Declaration};
+use ioa_system::{CompiledAutomaton, Scope};
+use ioa_terms::{Names, Word};
+use ioa_types::TextTypes;
+use std::alloc::{AllocError, Global};
+use std::sync::Arc;
+
+/// The types and the constants of a text.
+pub(crate) fn types_of(
+    alloc: Global,
+    declarations: &Vec<Declaration<(), ()>>,
+) -> Result<TextTypes, CheckFault>
+    ensures { Answers CheckFault.Memory (λ t. t) result
+        (spec.types_at 0 no_types (map declaration_of declarations.now.items)) }
+{
+    let mut types = TextTypes::new(alloc);
+    for (index, declaration) in declarations.iter().enumerate() {
+        match with_declaration(alloc, types, declaration) {
+            Ok(more) => types = more,
+            Err(refusal) => return Err(fault_at(index, refusal)),
+        }
+    }
+    Ok(types)
+}
+
+/// The types with that of a declaration, if it declares one.
+fn with_declaration(
+    alloc: Global,
+    types: TextTypes,
+    declaration: &Declaration<(), ()>,
+) -> Result<TextTypes, Refusal>
+    ensures { Answers Refusal.Memory (λ t. t) result (spec.with_declaration types (declaration_of declaration.now)) }
+{
+    match declaration {
+        Declaration::Type(declared) => types.with(alloc, declared),
+        Declaration::Automaton(_) => Ok(types),
+    }
+}
+
+/// Names with their own memory.
+pub(crate) fn names_of(alloc: Global, words: &[Word]) -> Result<Names, AllocError>
+    ensures { IfOk result (λ ns. ns ≡ words.now) }
+{
+    let mut names = Vec::new(alloc);
+    for word in words {
+        let name = word.try_copy(alloc)?;
+        names.push(name)?;
+    }
+    Ok(Names::new(names))
+}
+
+/// The automata of a text, in the order of their declaration. `constants` are the names of its constants.
+pub(crate) fn automata_of(
+    alloc: Global,
+    types: &TextTypes,
+    constants: &Arc<Names>,
+    declarations: &Vec<Declaration<(), ()>>,
+) -> Result<Vec<Arc<CompiledAutomaton>>, CheckFault>
+    requires { arc_value constants.now ≡ words types.now.constants }
+    ensures { Answers CheckFault.Memory (λ cs. map arc_value cs.items) result
+        (spec.automata_at types.now 0 [] (map declaration_of declarations.now.items)) }
+{
+    let mut names = Scope::new(alloc);
+    let mut automata = Vec::new(alloc);
+    for (index, declaration) in declarations.iter().enumerate() {
+        if let Declaration::Automaton(automaton) = declaration {
+            match new_automaton(alloc, types, constants, &mut names, automaton) {
+                Ok(found) => automata.push(found)?,
+                Err(refusal) => return Err(fault_at(index, refusal)),
+            }
+        }
+    }
+    Ok(automata)
+}
+
+/// An automaton whose name is new, and is put behind the names. Else `Twice` (21).
+#[tactic(auto, unfolding(crate::specs::Declarations::new_automaton_at))]
+fn new_automaton(
+    alloc: Global,
+    types: &TextTypes,
+    constants: &Arc<Names>,
+    names: &mut Scope,
+    automaton: &Automaton<(), ()>,
+) -> Result<Arc<CompiledAutomaton>, Refusal>
+    requires { arc_value constants.now ≡ words types.now.constants }
+    ensures found { Answers Refusal.Memory arc_value result
+        (spec.new_automaton_at types.now names.old (automaton_of automaton.now)) }
+    ensures named { OnOk result (names.new ≡ names.old ++ (automaton_of automaton.now).name ∷ []) }
+{
+    if !names.declare(automaton.name.try_copy(alloc)?)? {
+        return Err(Refusal::Twice);
+    }
+    let found = sort_automaton(alloc, types, constants, automaton)?;
+    Ok(Arc::new(alloc, found)?)
+}

@@ -1,0 +1,390 @@
+//! The programs of nodes.
+
+ghost use Rattle.std.specs.Prelude.{◌≡◌, ◌<◌, ◌^◌, [], IfOk, IfSome, find, length, map, pos, slice_get};
+ghost use Rattle.std.specs.Option.{option_copied, option_map};
+ghost use Rattle.std.specs.Arc.{arc_value};
+ghost use Rattle.std.specs.List.{list_any};
+ghost use Rattle.ioa_values.specs.Outcome.{Answers};
+ghost use Rattle.ioa_terms.specs.View.{term_of};
+ghost use Rattle.ioa_terms.specs.Bindings.{names_of, same_word};
+ghost use Rattle.ioa_source.specs.TextView.{declared_of, node_of, parameter_of, placement_of};
+ghost use Rattle.ioa_system.specs.InView.{given_bindings};
+ghost use Rattle.ioa_system.specs.ResolvedPrograms.{AreResolvedParameters, IsResolvedParameter};
+ghost use Rattle.ioa_types.specs.NameTables.{words};
+ghost use Rattle.ioa_check.specs.Grounds.{AreGrounded, HaveDeclaredShapes};
+ghost use Rattle.ioa_check.specs.Nodes as spec;
+ghost use Rattle.ioa_check.specs.Sections.{node_at, nodes_in};
+
+use crate::values::{argument_values, check_constants, gives_number, variable_values};
+use ioa_actions::{RECEIVE, SEND};
+use ioa_automata::sort_arguments;
+use ioa_sort_rules::Refusal;
+use ioa_sorts::View;
+use ioa_source::{Declared, Node, Parameter, Placement};
+use ioa_system::{CompiledAutomaton, Program, Rule};
+use ioa_terms::{Env, Names, Shape, Term, Value, Word};
+use std::alloc::{AllocError, Global};
+use std::sync::Arc;
+
+/// The greatest number of nodes.
+pub(crate) const MOST_NODES: usize = 64;
+
+/// What the nodes of a system section read.
+#[derive(Drop)]
+pub(crate) struct Ground<'a> {
+    /// The text's constants.
+    pub view: &'a View,
+    /// Their names.
+    pub constants: &'a Arc<Names>,
+    /// The text's automata.
+    pub automata: &'a Vec<Arc<CompiledAutomaton>>,
+}
+
+/// The nodes of a system section, in the order of their declaration. `Limit` (31) if there are more than `MOST_NODES`,
+/// `Twice` (21) if two have one number.
+#[tactic(auto, unfolding(crate::specs::Nodes::at_most, crate::specs::Nodes::nodes_or))]
+pub(crate) fn nodes_of<'a>(
+    alloc: Global,
+    placements: &'a Vec<Placement<(), ()>>,
+) -> Result<Vec<&'a Node<(), ()>>, Refusal>
+    ensures { Answers Refusal.Memory (λ ns. map node_at ns.items) result
+        (spec.nodes_at (map placement_of placements.now.items)) }
+{
+    let nodes = all_nodes(alloc, placements)?;
+    if nodes.len() > MOST_NODES {
+        return Err(Refusal::Limit);
+    }
+    if !are_numbered_anew(&nodes) {
+        return Err(Refusal::Twice);
+    }
+    Ok(nodes)
+}
+
+/// The nodes of a system section, in the order of their declaration.
+fn all_nodes<'a>(
+    alloc: Global,
+    placements: &'a Vec<Placement<(), ()>>,
+) -> Result<Vec<&'a Node<(), ()>>, AllocError>
+    ensures { IfOk result (λ ns. map node_at ns.items ≡ nodes_in (map placement_of placements.now.items)) }
+{
+    let mut nodes: Vec<&'a Node<(), ()>> = Vec::new(alloc);
+    for placement in placements {
+        if let Placement::Node(node) = placement {
+            nodes.push(node)?;
+        }
+    }
+    Ok(nodes)
+}
+
+/// Whether no two nodes have one number.
+fn are_numbered_anew(nodes: &[&Node<(), ()>]) -> bool
+    ensures { result ≡ spec.are_numbered_anew [] (map node_at nodes.now) }
+{
+    for position in 0..nodes.len() {
+        let node = nodes[position];
+        if is_node(&nodes[..position], node.number) {
+            return false;
+        }
+    }
+    true
+}
+
+/// Whether a number is that of a node.
+fn is_node(nodes: &[&Node<(), ()>], number: i64) -> bool
+    ensures { result ≡ list_any (spec.has_number number) (map node_at nodes.now) }
+{
+    nodes.iter().any(|node| node.number == number)
+}
+
+/// The node that has a number.
+fn node_of_number<'a>(nodes: &[&'a Node<(), ()>], number: i64) -> Option<&'a Node<(), ()>>
+    ensures { option_map node_at result ≡ find (spec.has_number number) (map node_at nodes.now) }
+{
+    for node in nodes {
+        if node.number == number {
+            return Some(node);
+        }
+    }
+    None
+}
+
+/// The automaton that has a name.
+fn automaton_of_name<'a>(
+    automata: &'a Vec<Arc<CompiledAutomaton>>,
+    name: &Word,
+) -> Option<&'a Arc<CompiledAutomaton>>
+    ensures { option_map arc_value (option_copied result)
+        ≡ spec.automaton_named name.now (map arc_value automata.now.items) }
+{
+    for automaton in automata {
+        if automaton.name() == name {
+            return Some(automaton);
+        }
+    }
+    None
+}
+
+/// The shapes of parameters.
+fn shapes_of(alloc: Global, parameters: &[Declared<Shape>]) -> Result<Vec<Shape>, AllocError>
+    ensures { IfOk result (λ ss. ss.items ≡ map (λ d. d.shape) (map declared_of parameters.now)) }
+{
+    let mut shapes = Vec::new(alloc);
+    for parameter in parameters {
+        let shape = parameter.shape.try_copy(alloc)?;
+        shapes.push(shape)?;
+    }
+    Ok(shapes)
+}
+
+/// The values of the arguments of a node, each of the shape at its position, in a text of these constants.
+#[tactic(auto, unfolding(crate::specs::Nodes::given_at))]
+fn given_values(
+    alloc: Global,
+    view: &View,
+    constants: &Names,
+    shapes: &Vec<Shape>,
+    arguments: &Vec<Term>,
+) -> Result<Vec<Value>, Refusal>
+    requires named { constants.now ≡ words view.now }
+    requires declared { HaveDeclaredShapes view.now shapes.now.items }
+    ensures values { Answers Refusal.Memory (λ vs. vs.items) result
+        (spec.given_at view.now shapes.now.items (map term_of arguments.now.items)) }
+    ensures many { IfOk result (λ vs. length vs.items ≡ length shapes.now.items) }
+{
+    let terms = sort_arguments(alloc, view, shapes, arguments)?;
+    let env = Env::with_constants(&[], &[], constants.as_slice());
+    argument_values(alloc, &env, shapes, &terms)
+}
+
+/// Whether a parameter is there and is the constant of a number.
+fn is_constant_of(
+    alloc: Global,
+    env: &Env,
+    parameter: Option<&Parameter<usize, Shape>>,
+    number: i64,
+) -> Result<bool, AllocError>
+    requires { IfSome parameter (λ p. IsResolvedParameter (names_of env.now) (parameter_of p.now)) }
+    ensures { IfOk result (λ b. b
+        ≡ spec.is_constant_of env.now number (option_map parameter_of (option_copied parameter.entry))) }
+{
+    match parameter {
+        None => Ok(false),
+        Some(parameter) => match parameter {
+            Parameter::Declared(_) => Ok(false),
+            Parameter::Const(term) => gives_number(alloc, env, term, number),
+        },
+    }
+}
+
+/// Whether a parameter, if its entry has the name that asks for it, is the constant of a number.
+fn is_own(
+    alloc: Global,
+    env: &Env,
+    asked: bool,
+    parameter: Option<&Parameter<usize, Shape>>,
+    number: i64,
+) -> Result<bool, AllocError>
+    requires { IfSome parameter (λ p. IsResolvedParameter (names_of env.now) (parameter_of p.now)) }
+    ensures { IfOk result (λ b. b
+        ≡ spec.is_own env.now number asked (option_map parameter_of (option_copied parameter.entry))) }
+{
+    if asked {
+        is_constant_of(alloc, env, parameter, number)
+    } else {
+        Ok(true)
+    }
+}
+
+/// Whether an entry, if it is `send`, has the number of a node second.
+fn sends_from(alloc: Global, env: &Env, rule: &Rule, number: i64) -> Result<bool, AllocError>
+    requires { AreResolvedParameters (names_of env.now) rule.now.entry.parameters }
+    ensures { IfOk result (λ b. b ≡ spec.is_own env.now number (same_word rule.now.entry.name SEND.now)
+        (slice_get rule.now.entry.parameters 1)) }
+{
+    let is_send = rule.entry.name.as_str() == SEND;
+    is_own(alloc, env, is_send, rule.entry.parameters.get(1), number)
+}
+
+/// Whether an entry, if it is `receive`, has the number of a node third.
+fn receives_at(alloc: Global, env: &Env, rule: &Rule, number: i64) -> Result<bool, AllocError>
+    requires { AreResolvedParameters (names_of env.now) rule.now.entry.parameters }
+    ensures { IfOk result (λ b. b ≡ spec.is_own env.now number (same_word rule.now.entry.name RECEIVE.now)
+        (slice_get rule.now.entry.parameters 2)) }
+{
+    let is_receive = rule.entry.name.as_str() == RECEIVE;
+    is_own(alloc, env, is_receive, rule.entry.parameters.get(2), number)
+}
+
+/// Whether an entry may be on the node of a number.
+fn is_at_home(alloc: Global, env: &Env, rule: &Rule, number: i64) -> Result<bool, AllocError>
+    requires { AreResolvedParameters (names_of env.now) rule.now.entry.parameters }
+    ensures { IfOk result (λ b. b ≡ spec.is_at_home env.now number rule.now) }
+{
+    let sends = sends_from(alloc, env, rule, number)?;
+    let receives = receives_at(alloc, env, rule, number)?;
+    Ok(sends && receives)
+}
+
+/// Passes if an entry may be on the node of a number, and each of its constants has a value. Else `BadArgument` (34).
+#[tactic(auto, unfolding(crate::specs::Nodes::home_at))]
+fn check_entry(alloc: Global, env: &Env, rule: &Rule, number: i64) -> Result<(), Refusal>
+    requires { AreResolvedParameters (names_of env.now) rule.now.entry.parameters }
+    ensures { Answers Refusal.Memory (λ x. x) result (spec.entry_on env.now number rule.now) }
+{
+    check_constants(alloc, env, &rule.entry.parameters)?;
+    if is_at_home(alloc, env, rule, number)? {
+        Ok(())
+    } else {
+        Err(Refusal::BadArgument)
+    }
+}
+
+/// Passes if each entry of an automaton may be on the node of a number, whose parameters have these values.
+fn check_entries(
+    alloc: Global,
+    automaton: &CompiledAutomaton,
+    arguments: &Vec<Value>,
+    number: i64,
+) -> Result<(), Refusal>
+    requires { length arguments.now.items ≡ length automaton.now.parameters }
+    ensures { Answers Refusal.Memory (λ x. x) result
+        (spec.entries_on (given_bindings automaton.now arguments.now.items) number automaton.now.rules) }
+{
+    let env = automaton.given_env(arguments);
+    for rule in automaton.rules() {
+        check_entry(alloc, &env, rule, number)?;
+    }
+    Ok(())
+}
+
+/// The values of the state variables of an automaton in the start state, on the node of a number, whose parameters have
+/// these values.
+#[tactic(auto, unfolding(crate::specs::Nodes::start_values))]
+fn start_values(
+    alloc: Global,
+    automaton: &CompiledAutomaton,
+    arguments: &Vec<Value>,
+    number: i64,
+) -> Result<Vec<Value>, Refusal>
+    requires { length arguments.now.items ≡ length automaton.now.parameters }
+    ensures values { Answers Refusal.Memory (λ vs. vs.items) result
+        (spec.start_values number automaton.now arguments.now.items) }
+    ensures many { IfOk result (λ vs. length vs.items ≡ length automaton.now.variables) }
+{
+    check_entries(alloc, automaton, arguments, number)?;
+    let env = automaton.given_env(arguments);
+    variable_values(alloc, &env, automaton.variables())
+}
+
+/// The program of the node of a number on which an automaton is placed, whose parameters have these values.
+#[tactic(auto, unfolding(crate::specs::Nodes::program_of))]
+fn program_of(
+    alloc: Global,
+    number: i64,
+    automaton: &Arc<CompiledAutomaton>,
+    arguments: Vec<Value>,
+) -> Result<Program, Refusal>
+    requires { length arguments.items ≡ length (arc_value automaton.now).parameters }
+    ensures { Answers Refusal.Memory (λ p. p) result
+        (spec.program_of number (arc_value automaton.now) arguments.items) }
+{
+    let initial = start_values(alloc, automaton, &arguments, number)?;
+    let shared = Arc::try_clone(automaton)?;
+    Ok(Program::new(number, shared, arguments, initial))
+}
+
+/// The program of the node of a number on which an automaton is placed with these arguments.
+#[tactic(auto, unfolding(crate::specs::Nodes::program_with))]
+fn program_with(
+    alloc: Global,
+    ground: &Ground,
+    number: i64,
+    arguments: &Vec<Term>,
+    automaton: &Arc<CompiledAutomaton>,
+) -> Result<Program, Refusal>
+    requires named { arc_value ground.now.constants.now ≡ words ground.now.view.now }
+    requires declared { HaveDeclaredShapes ground.now.view.now (spec.parameter_shapes (arc_value automaton.now)) }
+    ensures { Answers Refusal.Memory (λ p. p) result (spec.program_with ground.now.view.now number
+        (map term_of arguments.now.items) (arc_value automaton.now)) }
+{
+    let shapes = shapes_of(alloc, automaton.parameters())?;
+    let given = given_values(alloc, ground.view, ground.constants, &shapes, arguments)?;
+    program_of(alloc, number, automaton, given)
+}
+
+/// The program of a node, whose number is this one. `Unknown` (20) if its automaton is not declared.
+#[tactic(auto, unfolding(crate::specs::Nodes::automaton_or))]
+fn node_program(
+    alloc: Global,
+    ground: &Ground,
+    number: i64,
+    node: &Node<(), ()>,
+) -> Result<Program, Refusal>
+    requires named { arc_value ground.now.constants.now ≡ words ground.now.view.now }
+    requires grounded { AreGrounded ground.now.view.now (map arc_value ground.now.automata.now.items) }
+    ensures { Answers Refusal.Memory (λ p. p) result (spec.node_program ground.now.view.now
+        (map arc_value ground.now.automata.now.items) number (node_of node.now)) }
+{
+    match automaton_of_name(ground.automata, &node.automaton) {
+        None => Err(Refusal::Unknown),
+        Some(automaton) => program_with(alloc, ground, number, &node.arguments, automaton),
+    }
+}
+
+/// The program of the node of a number. `NodeGap` (30) if there is no such node.
+#[tactic(auto, unfolding(crate::specs::Nodes::program_at))]
+fn program_at(
+    alloc: Global,
+    ground: &Ground,
+    nodes: &[&Node<(), ()>],
+    number: i64,
+) -> Result<Program, Refusal>
+    requires named { arc_value ground.now.constants.now ≡ words ground.now.view.now }
+    requires grounded { AreGrounded ground.now.view.now (map arc_value ground.now.automata.now.items) }
+    ensures { Answers Refusal.Memory (λ p. p) result (spec.program_at ground.now.view.now
+        (map arc_value ground.now.automata.now.items) number (find (spec.has_number number) (map node_at nodes.now))) }
+{
+    match node_of_number(nodes, number) {
+        None => Err(Refusal::NodeGap),
+        Some(node) => node_program(alloc, ground, number, node),
+    }
+}
+
+/// The program of the node whose number is a position.
+fn program_at_position(
+    alloc: Global,
+    ground: &Ground,
+    nodes: &[&Node<(), ()>],
+    position: usize,
+) -> Result<Arc<Program>, Refusal>
+    requires named { arc_value ground.now.constants.now ≡ words ground.now.view.now }
+    requires grounded { AreGrounded ground.now.view.now (map arc_value ground.now.automata.now.items) }
+    requires small { position < 2 ^ 63 }
+    ensures { Answers Refusal.Memory arc_value result (spec.program_at ground.now.view.now
+        (map arc_value ground.now.automata.now.items) (pos position)
+        (find (spec.has_number (pos position)) (map node_at nodes.now))) }
+{
+    let program = program_at(alloc, ground, nodes, position as i64)?;
+    Ok(Arc::new(alloc, program)?)
+}
+
+/// The programs of nodes, node 0 first.
+pub(crate) fn programs_of(
+    alloc: Global,
+    ground: &Ground,
+    nodes: &[&Node<(), ()>],
+) -> Result<Vec<Arc<Program>>, Refusal>
+    requires named { arc_value ground.now.constants.now ≡ words ground.now.view.now }
+    requires grounded { AreGrounded ground.now.view.now (map arc_value ground.now.automata.now.items) }
+    ensures { Answers Refusal.Memory (λ ps. map arc_value ps.items) result (spec.programs_at ground.now.view.now
+        (map arc_value ground.now.automata.now.items) (map node_at nodes.now)) }
+{
+    let mut programs = Vec::new(alloc);
+    for position in 0..nodes.len() {
+        match program_at_position(alloc, ground, nodes, position) {
+            Ok(program) => programs.push(program)?,
+            Err(refusal) => return Err(refusal),
+        }
+    }
+    Ok(programs)
+}
