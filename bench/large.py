@@ -1,0 +1,70 @@
+#!/usr/bin/env python3
+"""Writes a text of about a megabyte of one kind, to measure what its check costs beside its reading.
+
+    bench/large.py variables     10,000 state variables with initial values
+    bench/large.py tuples        60 tuple types, each with fields of the one before, and 8,000 entries of the last
+    bench/large.py display       a set display of 100,000 numbers
+    bench/large.py nodes         64 nodes of one automaton with a long schedule, and 256 channels
+    bench/large.py entries       5,000 entries with their transitions
+
+An argument behind the kind divides the size, so that the growth can be seen: `bench/large.py variables 2`.
+"""
+import sys
+
+
+def variables(part):
+    count = 10_000 // part
+    lines = ["automaton A", "  states"]
+    lines += [f"    state_variable_of_a_long_name_{k}: Map[Int, Seq[Nat]] := {{}}," for k in range(count - 1)]
+    lines += ["    last_of_all: Int := 1 + 2", "system", "  node 0: A"]
+    return lines
+
+
+def tuples(part):
+    lines = ["type T0 = tuple of a_field_of_a_long_name: Int, b: Nat"]
+    lines += [f"type T{k} = tuple of a_field_of_a_long_name: T{k - 1}, b: T{k - 1}" for k in range(1, 60)]
+    lines += ["automaton A(start: T59)", "  signature"]
+    entries = 8_000 // part
+    lines += [f"    internal act{k}(one: T59, two: Set[T59])," for k in range(entries)]
+    lines += ["  transitions"]
+    lines += [f"    internal act{k}(one, two) pre one = start /\\ start \\in two" for k in range(entries)]
+    lines += ["system"]
+    return lines
+
+
+def display(part):
+    numbers = ", ".join(str(k * 7919 % 1_000_003) for k in range(100_000 // part))
+    return ["automaton A", f"  states s: Set[Int] := {{{numbers}}}", "system"]
+
+
+def nodes(part):
+    lines = ["automaton A(me: Nat)", "  signature", "    output send(m: Int, const me, to: Nat)"]
+    lines += ["    input receive(m: Int, from: Nat, const me)", "  states n: Int := 0", "  transitions"]
+    lines += ["    output send(m, me, to) pre m = n eff n := n + 1", "    input receive(m, from, me) eff n := n + m"]
+    fires = "; ".join(["fire send(n + 1000, me, 64)"] * (35_000 // part))
+    lines += [f"  schedule do {fires} od", "system"]
+    lines += [f"  node {k}: A({k})" for k in range(64)]
+    lines += [f"  channel {k // 4} -> {(k // 4 + k % 4 + 1) % 64}" for k in range(256)]
+    return lines
+
+
+def entries(part):
+    count = 5_000 // part
+    lines = ["automaton A(limit: Int)", "  signature"]
+    lines += [f"    internal an_action_with_a_name_{k}(value: Int, key: Nat)," for k in range(count)]
+    lines += ["  states total: Int := 0", "  transitions"]
+    lines += [
+        f"    internal an_action_with_a_name_{k}(value, key) pre value < limit eff total := total + value * key"
+        for k in range(count)
+    ]
+    lines += ["system", "  node 0: A(7)"]
+    return lines
+
+
+def main():
+    kind, part = sys.argv[1], int(sys.argv[2]) if len(sys.argv) > 2 else 1
+    kinds = {"variables": variables, "tuples": tuples, "display": display, "nodes": nodes, "entries": entries}
+    print("\n".join(kinds[kind](part)))
+
+
+main()
