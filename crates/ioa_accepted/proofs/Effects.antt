@@ -1,0 +1,94 @@
+-- What statements leave has the shapes of the names in view.
+use Rattle.std.proofs.Common.{◌≡◌, ℕ, zero, suc, Bool, true, false, List, [], ◌∷◌, Option, Some, None, refl, take, if◌then◌else◌}
+use Rattle.std.specs.List.{AllZip}
+use Rattle.std.specs.Option.{IfSome, option_and_then, option_map}
+use Rattle.ioa_values.specs.Data.{Data}
+use Rattle.ioa_operators.specs.Shapes.{PlainShape, has_shape}
+use Rattle.ioa_operators.specs.declared.shape.Shape.{Shape}
+use Rattle.ioa_operators.proofs.Holding.{map_holds, and_then_holds, and_then_holds_any, test_holds}
+use Rattle.ioa_terms.specs.declared.name.Name.{Name}
+use Rattle.ioa_terms.specs.SameNames.{same_name_is}
+use Rattle.ioa_terms.specs.Bindings.{Bindings, same_name, lookup, put}
+use Rattle.ioa_terms.specs.PlainTerm.{PlainTarget, variable, at_key, at_field, PlainStatement, PlainStatements, PlainArms, assign, branch, no_statements, statement, no_arms, arm, statements_of}
+use Rattle.ioa_terms.specs.Performance.{target_name, target_shape, assignment_value, fitting_value, test_value, by_test, after_one, after_choice, after_all, after}
+use Rattle.ioa_terms.specs.Sorted.{NameShapes, shape_named, IsShaped}
+use Rattle.ioa_terms.proofs.Assigned.{assigned_value}
+use Rattle.ioa_source.specs.Sides.{SourceStatement, CheckedStatement}
+use Rattle.ioa_sorts.specs.SortedStatements.{HoldsShape, IsSorted, AreSorted, AreArmsSorted, IsStatementOf}
+
+-- a name that is found among the first names is found among all
+pub found_in_front : (x : Name) (n : ℕ) (names : NameShapes) (s : PlainShape) → shape_named x (take n names) ≡ Some s → shape_named x names ≡ Some s
+found_in_front x zero names s h = absurd (cc)
+found_in_front x (suc n) [] s h = h
+found_in_front x (suc n) (m ∷ names) s h = by_same (same_name x m.0) h (found_in_front x n names s)
+  where
+    by_same : (b : Bool) → (if b then Some m.1 else shape_named x (take n names)) ≡ Some s → (shape_named x (take n names) ≡ Some s → shape_named x names ≡ Some s) → (if b then Some m.1 else shape_named x names) ≡ Some s
+    by_same true h further = h
+    by_same false h further = further h
+
+-- a value of its shape for a name
+put_shaped : (names : NameShapes) (e : Bindings) (x : Name) (s : PlainShape) (v : Data) → IsShaped names e → shape_named x names ≡ Some s → has_shape s v ≡ true → IsShaped names (put x v e)
+put_shaped names e x s v g declared h = λ y t u named found. by_same y t u (same_name y x) refl named (rw (assigned_value x y v e) at found)
+  where
+    of_old : (u : Data) (o : Option Data) → option_map (λ (w : Data). v) o ≡ Some u → v ≡ u
+    of_old u None k = absurd (cc)
+    of_old u (Some w) k = cc
+
+    by_same : (y : Name) (t : PlainShape) (u : Data) (b : Bool) → same_name y x ≡ b → shape_named y names ≡ Some t → (if b then option_map (λ (w : Data). v) (lookup x e) else lookup y e) ≡ Some u → has_shape t u ≡ true
+    by_same y t u true q named k =
+        let one : y ≡ x = (same_name_is y x).0 q in
+        let both : shape_named x names ≡ Some t = rw one at named in
+        let shape : s ≡ t = cc in
+        let same : v ≡ u = of_old u (lookup x e) k in
+        rw (← shape, ← same) h
+    by_same y t u false q named k = g y t u named k
+
+-- the annotation of a target is its variable's declared shape
+target_declared : (variables names : NameShapes) (p : PlainTarget ℕ Shape) (s : PlainShape) → HoldsShape variables names p s → shape_named (target_name p) variables ≡ Some (target_shape p)
+target_declared variables names (variable x at d) s h = h.0
+target_declared variables names (at_key x at d k) s h = h.1
+target_declared variables names (at_field x at d f) s h = h.0
+
+-- what comes after a test
+after_test : {A : Type 0} (P : A → Type 0) (o : Option Bool) (x y z : A) → P x → P y → P z → P (by_test o x y z)
+after_test P None x y z h k l = h
+after_test P (Some true) x y z h k l = k
+after_test P (Some false) x y z h k l = l
+
+module _ (variables names : NameShapes) (declared : (x : Name) (s : PlainShape) → shape_named x variables ≡ Some s → shape_named x names ≡ Some s) where
+  assigned_shaped : (p : PlainTarget ℕ Shape) (s : PlainShape) (e : Bindings) (o : Option Data) → HoldsShape variables names p s → IsShaped names e →
+      IfSome (option_map (λ v. put (target_name p) v e) (option_and_then (fitting_value (target_shape p)) o)) (IsShaped names)
+  assigned_shaped p s e o h g =
+      map_holds Fits (IsShaped names) (λ v. put (target_name p) v e) (option_and_then (fitting_value (target_shape p)) o)
+      (and_then_holds_any Fits (fitting_value (target_shape p)) o (λ v. test_holds Fits (has_shape (target_shape p) v) v (λ k. k)))
+      (λ v k. put_shaped names e (target_name p) (target_shape p) v g (declared (target_name p) (target_shape p) (target_declared variables names p s h)) k)
+    where
+      Fits : Data → Type 0
+      Fits v = has_shape (target_shape p) v ≡ true
+
+  mutual
+    pub statement_shaped : (s : PlainStatement ℕ Shape) (e : Bindings) → IsSorted variables names s → IsShaped names e → IfSome (after_one s e) (IsShaped names)
+    statement_shaped (assign p t) e h g = assigned_shaped p h.0 e (assignment_value p t e) h.1 g
+    statement_shaped (branch arms rest) e h g = choice_shaped arms (after_all rest e) e h.0 g (statements_shaped rest e h.1 g)
+
+    choice_shaped : (arms : PlainArms ℕ Shape) (rest : Option Bindings) (e : Bindings) → AreArmsSorted variables names arms → IsShaped names e → IfSome rest (IsShaped names) → IfSome (after_choice arms rest e) (IsShaped names)
+    choice_shaped no_arms rest e h g k = k
+    choice_shaped (arm t body more) rest e h g k =
+        after_test (λ (o : Option Bindings). IfSome o (IsShaped names)) (test_value t e) None (after_all body e) (after_choice more rest e)
+        tt (statements_shaped body e h.1 g) (choice_shaped more rest e h.2 g k)
+
+    pub statements_shaped : (ss : PlainStatements ℕ Shape) (e : Bindings) → AreSorted variables names ss → IsShaped names e → IfSome (after_all ss e) (IsShaped names)
+    statements_shaped no_statements e h g = g
+    statements_shaped (statement s more) e h g =
+        and_then_holds (IsShaped names) (IsShaped names) (after_all more) (after_one s e) (statement_shaped s e h.0 g) (λ f k. statements_shaped more f h.1 k)
+
+  -- the statements of an effect are sorted
+  pub effect_sorted : (us : List SourceStatement) (ss : List CheckedStatement) → AllZip (IsStatementOf variables names) us ss → AreSorted variables names (statements_of ss)
+  effect_sorted [] [] h = tt
+  effect_sorted [] (s ∷ ss) h = absurd h
+  effect_sorted (u ∷ us) [] h = absurd h
+  effect_sorted (u ∷ us) (s ∷ ss) h = (h.0.sorted, effect_sorted us ss h.1)
+
+  -- what an effect leaves
+  pub effect_shaped : (us : List SourceStatement) (ss : List CheckedStatement) (e left : Bindings) → AllZip (IsStatementOf variables names) us ss → IsShaped names e → after ss e ≡ Some left → IsShaped names left
+  effect_shaped us ss e left h g k = rw k at (statements_shaped (statements_of ss) e (effect_sorted us ss h) g)

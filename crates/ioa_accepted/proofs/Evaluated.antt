@@ -1,0 +1,138 @@
+-- What the terms of an accepted system give has their shapes.
+use Rattle.std.proofs.Common.{◌≡◌, ℤ, ℕ, List, [], ◌∷◌, Option, Some, None, sym, ◌∙◌, take, length}
+use Rattle.std.specs.List.{AllByRecursion, AllZip, Contains}
+use Rattle.std.specs.Option.{IfSome}
+use Rattle.std.proofs.lemmas.Bool.{and_parts}
+use Rattle.std.proofs.lemmas.Slice.Eq.{bytes_eq-Decides}
+use Rattle.ioa_operators.specs.Shapes.{PlainShape, truths}
+use Rattle.ioa_operators.specs.declared.shape.Shape.{Shape}
+use Rattle.ioa_terms.specs.declared.name.Name.{Name}
+use Rattle.ioa_terms.specs.declared.name.Name.TheVariants.{Word}
+use Rattle.ioa_terms.specs.Bindings.{Bindings, same_word}
+use Rattle.ioa_terms.specs.Meaning.{value}
+use Rattle.ioa_terms.specs.Performance.{after_one}
+use Rattle.ioa_terms.specs.PlainTerm.{PlainStatement, PlainStatements, PlainArms, assign, branch, no_statements, statement, no_arms, arm, statements_of}
+use Rattle.ioa_terms.specs.Sorted.{NameShapes, shape_named, shape_in_terms, IsShaped}
+use Rattle.ioa_actions.specs.ActionParts.{action_arguments}
+use Rattle.ioa_actions.specs.declared.action.Action.{Action}
+use Rattle.ioa_source.specs.Sides.{SourceFiring, SourceTerm, SourceText, CheckedFiring, CheckedTerm}
+use Rattle.ioa_system.specs.InView.{entry_condition, guard_or_effect, firing, firing_bindings, given_bindings}
+use Rattle.ioa_system.specs.Parts.{PlainRule}
+use Rattle.ioa_system.specs.Systems.{SystemParts}
+use Rattle.ioa_sorts.specs.SortedStatements.{IsSorted, AreSorted, AreArmsSorted}
+use Rattle.ioa_automata.specs.Rules.{fires, is_of_kind}
+use Rattle.ioa_automata.specs.SortedAutomata.{AreArgumentsOf, IsConditionOf, IsFiringOf, names_at}
+use Rattle.ioa_automata.proofs.Compiled.{automaton_compiled}
+use Rattle.ioa_check.specs.Systems.{IsEntryOn, IsSystemOf}
+use Rattle.ioa_compose.specs.NodeState.{NodeState}
+use Rattle.ioa_compose.specs.NodeStep.{IsOfSort, rule_bindings}
+use Rattle.ioa_compose.specs.declared.configuration.Conf.{Conf}
+use Rattle.ioa_compose.specs.declared.configuration.Conf.TheVariants.{Node, Queue}
+use Rattle.ioa_accepted.specs.Shaped.{IsShapedNode, AreShaped}
+use Rattle.ioa_accepted.specs.WellSorted.{IsOfShape, IsTruthValued, IsWellSorted, AreArmsWellSorted, AreWellSorted, AreConstantsValued, IsRuleWellSorted, IsFiringWellSorted, IsNodeWellSorted, AreConfsWellSorted}
+use Rattle.ioa_accepted.proofs.Accepted.{IsAcceptedProgram, found_contained, is_accepted, system_numbered}
+use Rattle.ioa_accepted.proofs.Assigned.{term_has, assigned_has}
+use Rattle.ioa_accepted.proofs.Effects.{found_in_front, statement_shaped, effect_sorted}
+use Rattle.ioa_accepted.proofs.Environments.{bindings_shaped, bindings_names, given_names}
+use Rattle.ioa_accepted.proofs.NodeSteps.{is_rule, rule_names, rule_shaped}
+
+-- a guard or a condition
+guard_truth : (names : NameShapes) (e : Bindings) → IsShaped names e → (o : Option SourceTerm) (c : Option CheckedTerm) → IsConditionOf names o c → IsTruthValued c e
+guard_truth names e g None None h = tt
+guard_truth names e g None (Some c) h = absurd h
+guard_truth names e g (Some u) None h = absurd h
+guard_truth names e g (Some u) (Some c) h = term_has names e g c truths h.has_shape
+
+further : (P Q : Bindings → Type 0) (o : Option Bindings) → IfSome o P → ((f : Bindings) → P f → Q f) → IfSome o Q
+further P Q None h g = tt
+further P Q (Some f) h g = g f h
+
+-- statements
+module _ (variables names : NameShapes) (declared : (x : Name) (s : PlainShape) → shape_named x variables ≡ Some s → shape_named x names ≡ Some s) where
+  mutual
+    statement_sorted : (s : PlainStatement ℕ Shape) (e : Bindings) → IsSorted variables names s → IsShaped names e → IsWellSorted s e
+    statement_sorted (assign p t) e h g = assigned_has names e g variables (λ x d k. declared (Word x) d k) p t h.0 h.1 h.2
+    statement_sorted (branch arms rest) e h g = (arms_sorted arms e h.0 g, statements_sorted rest e h.1 g)
+
+    arms_sorted : (arms : PlainArms ℕ Shape) (e : Bindings) → AreArmsSorted variables names arms → IsShaped names e → AreArmsWellSorted arms e
+    arms_sorted no_arms e h g = tt
+    arms_sorted (arm t body more) e h g = (term_has names e g t truths h.0, statements_sorted body e h.1 g, arms_sorted more e h.2 g)
+
+    statements_sorted : (ss : PlainStatements ℕ Shape) (e : Bindings) → AreSorted variables names ss → IsShaped names e → AreWellSorted ss e
+    statements_sorted no_statements e h g = tt
+    statements_sorted (statement s more) e h g = (
+      statement_sorted s e h.0 g,
+      further (IsShaped names) (AreWellSorted more) (after_one s e) (statement_shaped variables names declared s e h.0 g) (λ f k. statements_sorted more f h.1 k),
+    )
+
+-- the arguments of a firing
+arguments_sorted : (names : NameShapes) (e : Bindings) → IsShaped names e → (ss : List PlainShape) (us : List SourceTerm) (ts : List CheckedTerm) → AreArgumentsOf names ss us ts → AllZip (λ s t. IsOfShape (shape_in_terms s) (value t e)) ss ts
+arguments_sorted names e g [] [] [] h = tt
+arguments_sorted names e g [] [] (t ∷ ts) h = absurd h
+arguments_sorted names e g [] (u ∷ us) ts h = absurd h
+arguments_sorted names e g (s ∷ ss) [] ts h = absurd h
+arguments_sorted names e g (s ∷ ss) (u ∷ us) [] h = absurd h
+arguments_sorted names e g (s ∷ ss) (u ∷ us) (t ∷ ts) h = (term_has names e g t (shape_in_terms s) h.0.has_shape, arguments_sorted names e g ss us ts h.1)
+
+module _ (c : NodeState) (names : NameShapes) (g : IsShaped names (firing_bindings c.program.automaton c.program.arguments c.variables)) where
+  firing_sorted : (u : SourceFiring) (f : CheckedFiring) → IsFiringOf names c.program.automaton.rules u f → IsFiringWellSorted c f
+  firing_sorted u f h =
+      let found = found_contained (fires u) c.program.automaton.rules h.fired h.found in
+      let both = and_parts (same_word h.fired.entry.name u.action) (is_of_kind u.kind h.fired.entry.kind) found.1 in
+      record {
+        rule = h.fired;
+        present = found.0;
+        name = (bytes_eq-Decides h.fired.entry.name u.action).0 both.0 ∙ sym h.action;
+        arguments = arguments_sorted names (firing_bindings c.program.automaton c.program.arguments c.variables) g h.fired.shapes u.arguments f.arguments h.arguments;
+      }
+
+  firings_sorted : (us : List SourceFiring) (fs : List CheckedFiring) → AllZip (IsFiringOf names c.program.automaton.rules) us fs → AllByRecursion (IsFiringWellSorted c) fs
+  firings_sorted [] [] h = tt
+  firings_sorted [] (f ∷ fs) h = absurd h
+  firings_sorted (u ∷ us) [] h = absurd h
+  firings_sorted (u ∷ us) (f ∷ fs) h = (firing_sorted u f h.0, firings_sorted us fs h.1)
+
+-- the constants of entries
+constants_valued : (k : ℤ) (e : Bindings) (rs : List PlainRule) → AllByRecursion (IsEntryOn e k) rs → AllByRecursion (AreConstantsValued e) rs
+constants_valued k e [] h = tt
+constants_valued k e (r ∷ rs) h = (h.0.constants, constants_valued k e rs h.1)
+
+-- a node with its declared shapes
+module _ (x : SourceText) (s : SystemParts) (h : IsSystemOf x s) (c : NodeState) (shaped : IsShapedNode s c) where
+  accepted : IsAcceptedProgram h.types c.program
+  accepted = is_accepted x s h c.program shaped.program
+
+  rule_sorted : (a : Action) (r : PlainRule) → Contains c.program.automaton.rules r → AllZip IsOfSort r.entry.parameters (action_arguments a) → IsRuleWellSorted c a r
+  rule_sorted a r present sorts =
+      let made = is_rule h.types c.program accepted r present in
+      let b = c.program.automaton in
+      let names = names_at guard_or_effect h.types.constants b.parameters b.variables r.entry.parameters in
+      let variables = take (length b.variables) names in
+      let declared = λ (y : Name) (t : PlainShape) (found : shape_named y variables ≡ Some t). found_in_front y (length b.variables) names t found in
+      let g = rule_shaped x s h c shaped guard_or_effect r a sorts in
+      record {
+        names = λ site. rule_names x s h c shaped site r a sorts;
+        condition = guard_truth (names_at entry_condition h.types.constants b.parameters b.variables r.entry.parameters) (rule_bindings entry_condition r a c) (rule_shaped x s h c shaped entry_condition r a sorts) made.0.condition r.entry.condition made.1.condition;
+        guard = guard_truth names (rule_bindings guard_or_effect r a c) g made.1.written.pre r.transition.pre made.1.transition.pre;
+        effect = statements_sorted variables names declared (statements_of r.transition.effect) (rule_bindings guard_or_effect r a c) (effect_sorted variables names declared made.1.written.effect r.transition.effect made.1.transition.effect) g;
+      }
+
+  pub node_sorted : IsNodeWellSorted c
+  node_sorted =
+      let b = c.program.automaton in
+      record {
+        slots = automaton_compiled h.types accepted.source b accepted.automaton;
+        given_names = given_names h.types b accepted.automaton.constants (system_numbered x s h) c.program.arguments shaped.arguments;
+        constants = constants_valued c.program.node (given_bindings b c.program.arguments) b.rules accepted.program.entries;
+        rules = rule_sorted;
+        firing_names = bindings_names h.types b accepted.automaton.constants (system_numbered x s h) firing [] c.program.arguments c.variables [] shaped.arguments shaped.variables tt;
+        firings = firings_sorted c (names_at firing h.types.constants b.parameters b.variables [])
+            (bindings_shaped h.types b accepted.automaton.constants (system_numbered x s h) firing [] c.program.arguments c.variables [] shaped.arguments shaped.variables tt)
+            accepted.source.schedule b.schedule accepted.automaton.schedule;
+      }
+
+-- configurations with their declared shapes
+pub confs_sorted : (x : SourceText) (s : SystemParts) (cs : List Conf) → IsSystemOf x s → AreShaped s cs → AreConfsWellSorted cs
+confs_sorted x s [] h g = tt
+confs_sorted x s (Node c ∷ cs) h g = (node_sorted x s h c g.0, confs_sorted x s cs h g.1)
+confs_sorted x s (Queue q ∷ cs) h g = (tt, confs_sorted x s cs h g.1)

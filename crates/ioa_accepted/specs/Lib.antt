@@ -1,0 +1,4 @@
+-- what the contracts of this crate cite
+pub mod Shaped
+pub mod WellSorted
+pub mod Awaited

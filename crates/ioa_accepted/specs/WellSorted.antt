@@ -1,0 +1,100 @@
+-- What the terms of a node may give (profile): no value of a wrong sort. A negative number where the sort says Nat is
+-- no wrong sort: an assignment of it, or an argument, is no step.
+use Rattle.std.specs.Prelude.{◌≡◌, ℕ, true, List, [], Option, Some, None}
+use Rattle.std.specs.List.{AllByRecursion, AllZip, Contains}
+use Rattle.std.specs.Option.{IfSome}
+use Rattle.ioa_values.specs.Data.{Data}
+use Rattle.ioa_operators.specs.Shapes.{PlainShape, truths, has_shape, wide_shape}
+use Rattle.ioa_operators.specs.declared.shape.Shape.{Shape}
+use Rattle.ioa_terms.specs.Bindings.{Bindings, names_of}
+use Rattle.ioa_terms.specs.Meaning.{value}
+use Rattle.ioa_terms.specs.Performance.{after_one, assignment_value, target_shape}
+use Rattle.ioa_terms.specs.PlainTerm.{PlainStatement, PlainStatements, PlainArms, assign, branch}
+use Rattle.ioa_terms.specs.PlainTerm.{no_statements, statement, no_arms, arm, statements_of}
+use Rattle.ioa_terms.specs.Sorted.{shape_in_terms}
+use Rattle.ioa_actions.specs.ActionParts.{action_arguments}
+use Rattle.ioa_actions.specs.declared.action.Action.{Action}
+use Rattle.ioa_source.specs.Sides.{CheckedFiring, CheckedTerm}
+use Rattle.ioa_system.specs.InView.{Site, entry_constant, entry_condition, guard_or_effect, firing}
+use Rattle.ioa_system.specs.InView.{declared_names, firing_bindings, given_bindings, names_at, own_names}
+use Rattle.ioa_system.specs.Parts.{PlainRule}
+use Rattle.ioa_system.specs.ResolvedPrograms.{IsResolvedAutomaton}
+use Rattle.ioa_check.specs.Systems.{HasValue}
+use Rattle.ioa_compose.specs.NodeState.{NodeState}
+use Rattle.ioa_compose.specs.NodeStep.{IsOfSort, rule_bindings}
+use Rattle.ioa_compose.specs.declared.configuration.Conf.{Conf}
+use Rattle.ioa_compose.specs.declared.configuration.Conf.TheVariants.{Node, Queue}
+
+-- a value, if there is one, has a shape
+abbrev pub IsOfShape : PlainShape → Option Data → Type 0
+IsOfShape s o = IfSome o (λ v. has_shape s v ≡ true)
+
+-- a guard or a condition, if it is written and has a value, has a truth value
+abbrev pub IsTruthValued : Option CheckedTerm → Bindings → Type 0
+IsTruthValued None e = Unit {0}
+IsTruthValued (Some t) e = IsOfShape truths (value t e)
+
+abbrev mutual
+  -- what a statement gives its variable, if anything, has the variable's shape, but for negative numbers
+  pub IsWellSorted : PlainStatement ℕ Shape → Bindings → Type 0
+  IsWellSorted (assign p t) e = IsOfShape (wide_shape (target_shape p)) (assignment_value p t e)
+  IsWellSorted (branch arms rest) e = AreArmsWellSorted arms e × AreWellSorted rest e
+
+  -- what an arm tests is a truth value, and its statements are well sorted
+  pub AreArmsWellSorted : PlainArms ℕ Shape → Bindings → Type 0
+  AreArmsWellSorted no_arms e = Unit {0}
+  AreArmsWellSorted (arm t body more) e =
+      IsOfShape truths (value t e) × AreWellSorted body e × AreArmsWellSorted more e
+
+  -- statements in order, each in what the one before left
+  pub AreWellSorted : PlainStatements ℕ Shape → Bindings → Type 0
+  AreWellSorted no_statements e = Unit {0}
+  AreWellSorted (statement s more) e = IsWellSorted s e × IfSome (after_one s e) (AreWellSorted more)
+
+-- what a rule evaluates when a node takes an action: it reads the names in view at each site, each with its value; the
+-- entry's condition, the guard and the effect are well sorted
+pub record IsRuleWellSorted (c : NodeState) (a : Action) (r : PlainRule) : Type 0 where
+  pub names : (site : Site) → names_of (rule_bindings site r a c)
+      ≡ names_at site (declared_names c.program.automaton) (own_names r.entry.parameters)
+  pub condition : IsTruthValued r.entry.condition (rule_bindings entry_condition r a c)
+  pub guard : IsTruthValued r.transition.pre (rule_bindings guard_or_effect r a c)
+  pub effect : AreWellSorted (statements_of r.transition.effect) (rule_bindings guard_or_effect r a c)
+
+-- a firing is of an entry, and has an argument for each of the entry's; its value, if it has one, has the shape of the
+-- entry's argument, in which naturals count as integers
+pub record IsFiringWellSorted (c : NodeState) (f : CheckedFiring) : Type 0 where
+  pub rule : PlainRule
+  pub present : Contains c.program.automaton.rules rule
+  pub name : rule.entry.name ≡ f.action
+  pub arguments : AllZip
+      (λ s t. IsOfShape (shape_in_terms s)
+      (value t (firing_bindings c.program.automaton c.program.arguments c.variables)))
+      rule.shapes f.arguments
+
+-- each constant of an entry has a value, among bindings that it reads
+abbrev pub AreConstantsValued : Bindings → PlainRule → Type 0
+AreConstantsValued e r = AllByRecursion (HasValue e) r.entry.parameters
+
+-- a node meets no name without a slot, and no value of a wrong sort: each name of its automaton has its slot among the
+-- names in view, which is what is read there; the constants of entries have values; and what is evaluated by an action
+-- whose arguments are of their sorts, or by a firing, is well sorted
+pub record IsNodeWellSorted (c : NodeState) : Type 0 where
+  pub slots : IsResolvedAutomaton c.program.automaton
+  pub given_names : names_of (given_bindings c.program.automaton c.program.arguments)
+      ≡ names_at entry_constant (declared_names c.program.automaton) []
+  pub constants : AllByRecursion
+      (AreConstantsValued (given_bindings c.program.automaton c.program.arguments))
+      c.program.automaton.rules
+  pub rules : (a : Action) (r : PlainRule) → Contains c.program.automaton.rules r
+      → AllZip IsOfSort r.entry.parameters (action_arguments a) → IsRuleWellSorted c a r
+  pub firing_names : names_of (firing_bindings c.program.automaton c.program.arguments c.variables)
+      ≡ names_at firing (declared_names c.program.automaton) []
+  pub firings : AllByRecursion (IsFiringWellSorted c) c.program.automaton.schedule
+
+-- the same of each node among configurations
+abbrev pub IsConfWellSorted : Conf → Type 0
+IsConfWellSorted (Node c) = IsNodeWellSorted c
+IsConfWellSorted (Queue q) = Unit {0}
+
+abbrev pub AreConfsWellSorted : List Conf → Type 0
+AreConfsWellSorted cs = AllByRecursion IsConfWellSorted cs

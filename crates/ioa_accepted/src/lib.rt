@@ -1,0 +1,6 @@
+//! Laws of accepted systems: no value of a wrong sort is met, and no unknown slot.
+#![tactic(auto)]
+
+mod laws;
+
+pub use laws::{receive_law, shapes_kept_law, well_sorted_law};
