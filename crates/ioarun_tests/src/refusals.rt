@@ -125,8 +125,10 @@ fn channels_are_refused_by_what_they_carry(rt: HostRuntime) -> Result<(), Fail> 
 #[test]
 fn towers_of_tuples_are_refused_by_their_height(rt: HostRuntime) -> Result<(), Fail> {
     let mut text = String::from_str(rt.alloc(), "type T0 = tuple of x: Int")?;
+    let mut before = 0;
     for number in 1..64 {
-        write!(text, " type T{number} = tuple of x: T{}", number - 1)?;
+        write!(text, " type T{number} = tuple of x: T{before}")?;
+        before = number;
     }
     write!(text, " system")?;
     assert!(rt; is_refused(&rt, text.as_str(), "31 Limit in 63")?);
