@@ -6,6 +6,7 @@
     bench/large.py display       a set display of 100,000 numbers
     bench/large.py nodes         64 nodes of one automaton with a long schedule, and 256 channels
     bench/large.py entries       5,000 entries with their transitions
+    bench/large.py many          2,500 entries with their transitions, 5,000 state variables, and 5,000 fires
 
 An argument behind the kind divides the size, so that the growth can be seen: `bench/large.py variables 2`.
 """
@@ -61,10 +62,29 @@ def entries(part):
     return lines
 
 
+def many(part):
+    entries, variables, fires = 2_500 // part, 5_000 // part, 5_000 // part
+    lines = ["automaton A(limit: Int)", "  signature"]
+    lines += ["    output send(m: Int, const 0, const 1),", "    input receive(m: Int, const 1, const 0),"]
+    lines += [f"    internal an_action_with_a_name_{k}(value: Int, key: Nat)," for k in range(entries)]
+    lines += ["  states"]
+    lines += [f"    a_state_variable_with_a_name_{k}: Int := 0," for k in range(variables - 1)]
+    lines += ["    total: Int := 0", "  transitions"]
+    lines += ["    output send(m, 0, 1) pre m = total eff total := total + 1"]
+    lines += ["    input receive(m, 1, 0) eff total := m"]
+    lines += [
+        f"    internal an_action_with_a_name_{k}(value, key) pre value < limit eff total := total + value * key"
+        for k in range(entries)
+    ]
+    schedule = "; ".join(["fire send(total, 0, 1)"] * fires)
+    lines += [f"  schedule do {schedule} od", "system"]
+    return lines
+
+
 def main():
     kind, part = sys.argv[1], int(sys.argv[2]) if len(sys.argv) > 2 else 1
-    kinds = {"variables": variables, "tuples": tuples, "display": display, "nodes": nodes, "entries": entries}
-    print("\n".join(kinds[kind](part)))
+    kinds = [variables, tuples, display, nodes, entries, many]
+    print("\n".join({made.__name__: made for made in kinds}[kind](part)))
 
 
 main()

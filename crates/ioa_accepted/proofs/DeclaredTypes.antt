@@ -13,6 +13,7 @@ use Rattle.ioa_sorts.proofs.Sound.{own_declared}
 use Rattle.ioa_types.specs.Meanings.{AreTextTypes, tuple_types}
 use Rattle.ioa_types.specs.TextTypes.{PlainTextTypes, no_types}
 use Rattle.ioa_types.proofs.Meant.{no_text_types, sort_declared, sort_found, type_added}
+use Rattle.ioa_types.proofs.TypeDeclarations.{type_found}
 use Rattle.ioa_automata.specs.NamesInView.{parameter_shapes}
 use Rattle.ioa_automata.specs.SortedAutomata.{AreParametersOf, IsDeclaredOf, names_at}
 use Rattle.ioa_check.specs.Systems.{AreTypesOf}
@@ -21,7 +22,7 @@ use Rattle.ioa_accepted.proofs.Accepted.{IsAcceptedProgram}
 -- the types of declarations
 types_of : (ds : List SourceDeclaration) (t u : PlainTextTypes) → AreTextTypes t → AreTypesOf ds t u → AreTextTypes u
 types_of [] t u types h = subst AreTextTypes (sym h) types
-types_of (type_named d ∷ more) t u types h = types_of more h.0 u (type_added t h.0 d types h.1) h.2
+types_of (type_named d ∷ more) t u types h = types_of more h.0 u (type_added t h.0 d types (type_found t h.0 d h.1)) h.2
 types_of (automaton a ∷ more) t u types h = types_of more t u types h
 
 pub text_types_of : (ds : List SourceDeclaration) (t : PlainTextTypes) → AreTypesOf ds no_types t → AreTextTypes t

@@ -12,7 +12,7 @@ use Rattle.ioa_source.specs.Sides.{CheckedDeclared, CheckedParameter, CheckedVar
 use Rattle.ioa_system.specs.InView as view
 use Rattle.ioa_system.specs.InView.{Site, in_view, entry_constant, initial_value, entry_condition, guard_or_effect, firing, bindings_at, declared_names, given_bindings, own_names}
 use Rattle.ioa_system.specs.Parts.{AutomatonParts}
-use Rattle.ioa_types.specs.NameTables.{words}
+use Rattle.ioa_names.specs.NameTables.{words}
 use Rattle.ioa_types.specs.TextTypes.{PlainTextTypes}
 use Rattle.ioa_automata.specs.NamesInView.{parameter_shapes, variable_shapes, own_shapes}
 use Rattle.ioa_automata.specs.SortedAutomata.{names_at}
@@ -40,7 +40,7 @@ fit_in_view entry_constant ps vs own gs ds os f g h = f
 fit_in_view initial_value ps vs own gs ds os f g h = f
 fit_in_view entry_condition ps vs own gs ds os f g h = fit_behind ps own gs os f h
 fit_in_view guard_or_effect ps vs own gs ds os f g h = fit_behind vs (ps ++ own) ds (gs ++ os) g (fit_behind ps own gs os f h)
-fit_in_view firing ps vs own gs ds os f g h = fit_behind ps vs gs ds f g
+fit_in_view firing ps vs own gs ds os f g h = fit_behind vs ps ds gs g f
 
 parameters_fit : (ps : List CheckedDeclared) (vs : List Data) → AllZip FitsParameter ps vs → Fit (parameter_shapes ps) vs
 parameters_fit [] [] h = tt

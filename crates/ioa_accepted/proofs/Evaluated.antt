@@ -2,13 +2,11 @@
 use Rattle.std.proofs.Common.{◌≡◌, ℤ, ℕ, List, [], ◌∷◌, Option, Some, None, sym, ◌∙◌, take, length}
 use Rattle.std.specs.List.{AllByRecursion, AllZip, Contains}
 use Rattle.std.specs.Option.{IfSome}
-use Rattle.std.proofs.lemmas.Bool.{and_parts}
-use Rattle.std.proofs.lemmas.Slice.Eq.{bytes_eq-Decides}
 use Rattle.ioa_operators.specs.Shapes.{PlainShape, truths}
 use Rattle.ioa_operators.specs.declared.shape.Shape.{Shape}
 use Rattle.ioa_terms.specs.declared.name.Name.{Name}
 use Rattle.ioa_terms.specs.declared.name.Name.TheVariants.{Word}
-use Rattle.ioa_terms.specs.Bindings.{Bindings, same_word}
+use Rattle.ioa_terms.specs.Bindings.{Bindings}
 use Rattle.ioa_terms.specs.Meaning.{value}
 use Rattle.ioa_terms.specs.Performance.{after_one}
 use Rattle.ioa_terms.specs.PlainTerm.{PlainStatement, PlainStatements, PlainArms, assign, branch, no_statements, statement, no_arms, arm, statements_of}
@@ -20,7 +18,6 @@ use Rattle.ioa_system.specs.InView.{entry_condition, guard_or_effect, firing, fi
 use Rattle.ioa_system.specs.Parts.{PlainRule}
 use Rattle.ioa_system.specs.Systems.{SystemParts}
 use Rattle.ioa_sorts.specs.SortedStatements.{IsSorted, AreSorted, AreArmsSorted}
-use Rattle.ioa_automata.specs.Rules.{fires, is_of_kind}
 use Rattle.ioa_automata.specs.SortedAutomata.{AreArgumentsOf, IsConditionOf, IsFiringOf, names_at}
 use Rattle.ioa_automata.proofs.Compiled.{automaton_compiled}
 use Rattle.ioa_check.specs.Systems.{IsEntryOn, IsSystemOf}
@@ -30,7 +27,7 @@ use Rattle.ioa_compose.specs.declared.configuration.Conf.{Conf}
 use Rattle.ioa_compose.specs.declared.configuration.Conf.TheVariants.{Node, Queue}
 use Rattle.ioa_accepted.specs.Shaped.{IsShapedNode, AreShaped}
 use Rattle.ioa_accepted.specs.WellSorted.{IsOfShape, IsTruthValued, IsWellSorted, AreArmsWellSorted, AreWellSorted, AreConstantsValued, IsRuleWellSorted, IsFiringWellSorted, IsNodeWellSorted, AreConfsWellSorted}
-use Rattle.ioa_accepted.proofs.Accepted.{IsAcceptedProgram, found_contained, is_accepted, system_numbered}
+use Rattle.ioa_accepted.proofs.Accepted.{IsAcceptedProgram, is_accepted, system_numbered}
 use Rattle.ioa_accepted.proofs.Assigned.{term_has, assigned_has}
 use Rattle.ioa_accepted.proofs.Effects.{found_in_front, statement_shaped, effect_sorted}
 use Rattle.ioa_accepted.proofs.Environments.{bindings_shaped, bindings_names, given_names}
@@ -76,15 +73,12 @@ arguments_sorted names e g (s ∷ ss) (u ∷ us) (t ∷ ts) h = (term_has names 
 
 module _ (c : NodeState) (names : NameShapes) (g : IsShaped names (firing_bindings c.program.automaton c.program.arguments c.variables)) where
   firing_sorted : (u : SourceFiring) (f : CheckedFiring) → IsFiringOf names c.program.automaton.rules u f → IsFiringWellSorted c f
-  firing_sorted u f h =
-      let found = found_contained (fires u) c.program.automaton.rules h.fired h.found in
-      let both = and_parts (same_word h.fired.entry.name u.action) (is_of_kind u.kind h.fired.entry.kind) found.1 in
-      record {
-        rule = h.fired;
-        present = found.0;
-        name = (bytes_eq-Decides h.fired.entry.name u.action).0 both.0 ∙ sym h.action;
-        arguments = arguments_sorted names (firing_bindings c.program.automaton c.program.arguments c.variables) g h.fired.shapes u.arguments f.arguments h.arguments;
-      }
+  firing_sorted u f h = record {
+    rule = h.fired;
+    present = h.present;
+    name = h.same_name ∙ sym h.action;
+    arguments = arguments_sorted names (firing_bindings c.program.automaton c.program.arguments c.variables) g h.fired.shapes u.arguments f.arguments h.arguments;
+  }
 
   firings_sorted : (us : List SourceFiring) (fs : List CheckedFiring) → AllZip (IsFiringOf names c.program.automaton.rules) us fs → AllByRecursion (IsFiringWellSorted c) fs
   firings_sorted [] [] h = tt

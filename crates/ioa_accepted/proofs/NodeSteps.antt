@@ -12,10 +12,10 @@ use Rattle.ioa_actions.specs.ActionParts.{action_arguments}
 use Rattle.ioa_actions.specs.declared.action.Action.{Action}
 use Rattle.ioa_source.specs.Sides.{SourceEntry, SourceText, CheckedParameter, CheckedVariable}
 use Rattle.ioa_system.specs.InView as view
-use Rattle.ioa_system.specs.InView.{Site, in_view, guard_or_effect, variable_names, declared_names, own_names}
+use Rattle.ioa_system.specs.InView.{Site, guard_or_effect, variable_names, declared_names, own_names}
 use Rattle.ioa_system.specs.Parts.{AutomatonParts, Parts, PlainRule}
 use Rattle.ioa_system.specs.Systems.{SystemParts}
-use Rattle.ioa_types.specs.NameTables.{AreDistinct, words}
+use Rattle.ioa_names.specs.NameTables.{AreDistinct, words}
 use Rattle.ioa_types.specs.TextTypes.{PlainTextTypes}
 use Rattle.ioa_automata.specs.NamesInView.{parameter_shapes, variable_shapes, own_shapes}
 use Rattle.ioa_automata.specs.SortedAutomata.{IsRuleOf, names_at}
@@ -25,7 +25,8 @@ use Rattle.ioa_compose.specs.NodeStep.{IsOfSort, IsNodeStep, own_values, rule_bi
 use Rattle.ioa_accepted.specs.Shaped.{FitsVariable, IsShapedNode}
 use Rattle.ioa_accepted.proofs.Environments.{bindings_shaped, bindings_names, own_fit}
 use Rattle.ioa_accepted.proofs.Effects.{found_in_front, effect_shaped}
-use Rattle.ioa_accepted.proofs.Accepted.{IsAcceptedProgram, contained_has, each_related, is_accepted, system_numbered}
+use Rattle.ioa_automata.proofs.Lookups.{contained_has}
+use Rattle.ioa_accepted.proofs.Accepted.{IsAcceptedProgram, each_related, is_accepted, system_numbered}
 
 -- a state variable has its declared shape among names
 abbrev IsNamed : NameShapes → CheckedVariable → Type 0

@@ -41,7 +41,8 @@ use Rattle.ioa_compose.proofs.NodeSignatures.{range_check_parts}
 use Rattle.ioa_compose.proofs.NodeSteps.{names_left}
 use Rattle.ioa_accepted.specs.Shaped.{FitsVariable, IsShapedNode, IsMessageTo, IsItemTo, IsShapedChannel, IsShapedQueue, IsShapedConf, AreShaped}
 use Rattle.ioa_accepted.specs.Awaited.{IsAwaited, AreMessagesAwaited}
-use Rattle.ioa_accepted.proofs.Accepted.{IsAcceptedProgram, contained_found, contained_has, found_contained, found_has, is_accepted}
+use Rattle.ioa_automata.proofs.Lookups.{contained_found, contained_has, found_contained, found_has}
+use Rattle.ioa_accepted.proofs.Accepted.{IsAcceptedProgram, is_accepted}
 use Rattle.ioa_accepted.proofs.Assigned.{widened}
 use Rattle.ioa_accepted.proofs.NodeSteps.{is_rule}
 

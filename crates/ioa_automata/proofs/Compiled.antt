@@ -9,11 +9,11 @@ use Rattle.ioa_terms.specs.Sorted.{NameShapes}
 use Rattle.ioa_source.specs.PlainText.{const, named}
 use Rattle.ioa_source.specs.Sides.{SourceTerm, SourceParameter, SourceEntry, SourceVariable, SourceTransition, SourceFiring, SourceStatement, SourceAutomaton, CheckedTerm, CheckedDeclared, CheckedParameter, CheckedVariable, CheckedFiring, CheckedStatement}
 use Rattle.ioa_system.specs.InView as view
-use Rattle.ioa_system.specs.InView.{Site, in_view, entry_constant, initial_value, entry_condition, guard_or_effect, firing, parameter_names, variable_names, own_names, DeclaredNames, scope_at, words_at}
+use Rattle.ioa_system.specs.InView.{Site, in_view, entry_constant, initial_value, entry_condition, guard_or_effect, firing, parameter_names, variable_names, own_names, DeclaredNames, scope_at}
 use Rattle.ioa_system.specs.Parts.{AutomatonParts, PlainRule, automaton_parts}
 use Rattle.ioa_system.specs.ResolvedPrograms.{IsResolvedParameter, AreResolvedParameters, IsResolvedGuard, IsResolvedRule, AreResolvedTerms, AreResolvedFirings, AreResolvedVariables, IsResolvedAutomaton}
 use Rattle.ioa_sorts.specs.SortedStatements.{IsStatementOf}
-use Rattle.ioa_types.specs.NameTables.{words}
+use Rattle.ioa_names.specs.NameTables.{words}
 use Rattle.ioa_types.specs.TextTypes.{PlainTextTypes}
 use Rattle.ioa_automata.specs.NamesInView.{parameter_shapes, variable_shapes, own_shapes}
 use Rattle.ioa_automata.specs.SortedAutomata.{IsVariableOf, IsInitialOf, IsConditionOf, AreParametersOf, IsRuleOf, AreArgumentsOf, IsFiringOf, IsAutomatonOf, names_at}
@@ -31,7 +31,7 @@ parameter_words : (ps : List CheckedDeclared) → words (parameter_shapes ps) �
 parameter_words [] = refl
 parameter_words (p ∷ ps) = ap (λ ws. p.name ∷ ws) (parameter_words ps)
 
-variable_words : (vs : List CheckedVariable) → words (variable_shapes vs) ≡ variable_names vs
+pub variable_words : (vs : List CheckedVariable) → words (variable_shapes vs) ≡ variable_names vs
 variable_words [] = refl
 variable_words (v ∷ vs) = ap (λ ws. v.declared.name ∷ ws) (variable_words vs)
 
@@ -45,7 +45,7 @@ site_words entry_constant ps vs own = refl
 site_words initial_value ps vs own = refl
 site_words entry_condition ps vs own = words_behind ps own
 site_words guard_or_effect ps vs own = words_behind vs (ps ++ own) ∙ ap (λ ws. words vs ++ ws) (words_behind ps own)
-site_words firing ps vs own = words_behind ps vs
+site_words firing ps vs own = words_behind vs ps
 
 -- what holds of all holds at each position
 all_each : {A : Type 0} (P : A → Type 0) (xs : List A) → AllByRecursion P xs → All P xs
@@ -112,7 +112,7 @@ module _ (t : PlainTextTypes) (ps : List CheckedDeclared) (vs : List CheckedVari
   rule_resolved ts e r h =
       let own = r.entry.parameters in
       record {
-        scope = h.scope ∙ scope_words guard_or_effect own;
+        own = h.own;
         parameters = parameters_resolved e.parameters own r.shapes h.parameters;
         condition = guard_resolved entry_condition own e.condition r.entry.condition h.condition;
         guard = guard_resolved guard_or_effect own h.written.pre r.transition.pre h.transition.pre;

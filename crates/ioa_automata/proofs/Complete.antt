@@ -1,18 +1,21 @@
 -- Each automaton with slots and shapes is found.
-use Rattle.std.proofs.Common.{◌≡◌, ◌&&◌, ℕ, true, false, List, [], ◌∷◌, ◌++◌, Option, Some, None, Result, Ok, refl, sym, ap, subst, ◌∙◌, map, length, take}
+use Rattle.std.proofs.Common.{◌≡◌, ◌&&◌, ◌||◌, ℕ, Bool, true, false, List, [], ◌∷◌, ◌++◌, Option, Some, None, Result, Ok, refl, sym, ap, subst, ◌∙◌, find, map, length, take, inl, inr}
 use Rattle.std.specs.List.{AllByRecursion, AllZip, IsDistinct, list_all}
 use Rattle.std.specs.Option.{is_some}
 use Rattle.std.proofs.lemmas.List.{append_assoc}
-use Rattle.ioa_values.specs.Outcome.{and_then}
+use Rattle.std.proofs.lemmas.Slice.Eq.{bytes_eq-Decides}
 use Rattle.ioa_operators.specs.Shapes.{PlainShape, truths}
 use Rattle.ioa_terms.specs.declared.tree.Kind.{Kind}
 use Rattle.ioa_terms.specs.declared.tree.Kind.TheVariants.{Input, Output, Internal}
+use Rattle.ioa_terms.specs.Bindings.{same_word}
 use Rattle.ioa_terms.specs.PlainTerm.{statements_of}
+use Rattle.ioa_terms.proofs.SameTerms.{kind_is}
+use Rattle.ioa_actions.specs.ActionParts.{send_name, receive_name}
 use Rattle.ioa_terms.specs.SameTerms.{same_kind}
 use Rattle.ioa_terms.specs.Sorted.{NameShapes, shape_in_terms}
 use Rattle.ioa_source.specs.PlainText.{const, named}
 use Rattle.ioa_source.specs.Sides.{SourceTerm, SourceDeclared, SourceParameter, SourceEntry, SourceVariable, SourceTransition, SourceFiring, SourceStatement, SourceAutomaton, CheckedTerm, CheckedDeclared, CheckedParameter, CheckedVariable, CheckedTransition, CheckedFiring, CheckedStatement}
-use Rattle.ioa_system.specs.InView.{entry_condition}
+use Rattle.ioa_system.specs.InView.{entry_condition, guard_or_effect, own_names}
 use Rattle.ioa_system.specs.Parts.{AutomatonParts, PlainRule}
 use Rattle.ioa_sort_rules.specs.declared.refusal.Refusal.{Refusal}
 use Rattle.ioa_sorts.specs.Sorting.{PlainTyped, typed}
@@ -20,17 +23,20 @@ use Rattle.ioa_sorts.specs.Statements.{all_ok, statement_sorting, statement_sort
 use Rattle.ioa_sorts.specs.SortedStatements.{IsStatementOf}
 use Rattle.ioa_sorts.proofs.Complete.{fit_complete, infer_complete}
 use Rattle.ioa_sorts.proofs.CompleteStatements.{statement_complete}
-use Rattle.ioa_types.specs.NameTables.{AreDistinct, with_names, words}
+use Rattle.ioa_names.specs.NameTables.{AreDistinct, words}
 use Rattle.ioa_types.specs.TextTypes.{PlainTextTypes}
-use Rattle.ioa_types.specs.TypeTables.{TypeTable, are_new}
+use Rattle.ioa_types.specs.TypeTables.{TypeTable}
+use Rattle.ioa_types.proofs.TypeDeclarations.{differ_new}
 use Rattle.ioa_types.proofs.Meant.{sort_found}
-use Rattle.ioa_types.proofs.Names.{all_found}
-use Rattle.ioa_automata.specs.NamesInView.{parameter_shapes, variable_shapes, own_shapes}
-use Rattle.ioa_automata.specs.Parts.{declared_at, all_declared_at, own_or, infer_own, own_term, condition_at, initial_at, variable_at, variables_at, sorted_parameter, parameter_at, sorted_parameters, parameters_at, where_at, PlainSortedEntry, names_in_condition, entry_at, transition_at}
-use Rattle.ioa_automata.specs.Rules.{transition_for, transition_or, may_have_name, message_at, PlainSurroundings, rule_of, rule_at, rules_at, is_message, entry_fired, arguments_at, firing_at, firings_at, has_entry, differ, have_entries}
+use Rattle.ioa_names.proofs.Names.{all_found, first_differ, new_found, second_differ}
+use Rattle.ioa_automata.specs.NamesInView.{parameter_shapes, variable_shapes, own_shapes, given_names_or, outer_names_or, own_names_or}
+use Rattle.ioa_automata.specs.Parts.{declared_at, all_declared_at, own_or, infer_own, own_term, condition_at, initial_at, variable_at, variables_at, sorted_parameter, parameter_at, sorted_parameters, parameters_at, where_at, PlainSortedEntry, entry_at, transition_at}
+use Rattle.ioa_automata.specs.Rules.{transition_for, transition_or, may_have_name, message_at, PlainSurroundings, rule_of, rule_at, rules_at, is_of_kind, fires, is_message, entry_fired, arguments_at, firing_at, firings_at, has_entry, names_or, have_entries}
 use Rattle.ioa_automata.specs.Automata.{PlainHeading, heading_at, actions_at, automaton_at}
-use Rattle.ioa_automata.specs.SortedAutomata.{IsDeclaredOf, IsOwnTermOf, IsInitialOf, IsVariableOf, IsConditionOf, IsParameterOf, AreParametersOf, IsTransitionOf, IsRuleOf, AreArgumentsOf, IsFiringOf, IsAutomatonOf, names_at}
+use Rattle.ioa_automata.specs.SortedAutomata.{IsDeclaredOf, IsOwnTermOf, IsInitialOf, IsVariableOf, IsConditionOf, IsParameterOf, AreParametersOf, IsTransitionOf, IsRuleOf, AreArgumentsOf, NamesKind, IsMessage, IsFiringOf, HasItsEntry, IsAutomatonOf, names_at}
 use Rattle.ioa_automata.proofs.Loops.{results_are}
+use Rattle.ioa_automata.proofs.Lookups.{present_found}
+use Rattle.ioa_automata.proofs.SoundRules.{step_view}
 use Rattle.ioa_automata.proofs.Results.{result_is, zip_weaker}
 use Rattle.ioa_automata.proofs.Heads.{head_is, lacks_input, named_iff}
 
@@ -41,26 +47,19 @@ all_ok_all f [] (y ∷ ys) h = absurd h
 all_ok_all f (x ∷ xs) [] h = absurd h
 all_ok_all f (x ∷ xs) (y ∷ ys) h = rw (← h.0, ← all_ok_all f xs ys h.1) refl
 
--- names that differ still do if some are left away
-first_all : (P : List ℕ → Type 0) (xs ys : NameShapes) → AllByRecursion P (words (xs ++ ys)) → AllByRecursion P (words xs)
-first_all P [] ys h = tt
-first_all P (x ∷ xs) ys h = (h.0, first_all P xs ys h.1)
+-- names that differ, in front of constants
+given_found : (constants : NameShapes) (ps : List CheckedDeclared) → AreDistinct (parameter_shapes ps ++ constants) → result_is (parameter_shapes ps) ≡ given_names_or constants ps
+given_found constants ps d = rw (← all_found [] (parameter_shapes ps) (first_differ (parameter_shapes ps) constants d)) (new_found [] constants (parameter_shapes ps) d)
 
-first_differ : (xs ys : NameShapes) → AreDistinct (xs ++ ys) → AreDistinct xs
-unfolding IsDistinct
-first_differ [] ys d = tt
-first_differ (x ∷ xs) ys d = (first_all _ xs ys d.0, first_differ xs ys d.1)
+outer_found : (constants : NameShapes) (ps : List CheckedDeclared) (vs : List CheckedVariable) → AreDistinct ((variable_shapes vs ++ parameter_shapes ps) ++ constants) → result_is (variable_shapes vs ++ parameter_shapes ps) ≡ outer_names_or constants ps vs
+outer_found constants ps vs d =
+    let names = variable_shapes vs ++ parameter_shapes ps in
+    let both = first_differ names constants d in
+    rw (← all_found [] (variable_shapes vs) (first_differ (variable_shapes vs) (parameter_shapes ps) both), ← all_found (variable_shapes vs) (parameter_shapes ps) both) (new_found [] constants names d)
 
--- two lists of names, one behind the other
-two_found : (xs ys : NameShapes) → AreDistinct (xs ++ ys) → result_is (xs ++ ys) ≡ and_then (with_names [] xs) (λ n. with_names n ys)
-two_found xs ys d = rw (← all_found [] xs (first_differ xs ys d)) (all_found xs ys d)
-
--- and three
-three_found : (xs ys zs : NameShapes) → AreDistinct (xs ++ (ys ++ zs)) → result_is (xs ++ (ys ++ zs)) ≡ and_then (with_names [] xs) (λ n. and_then (with_names n ys) (λ m. with_names m zs))
-three_found xs ys zs d =
-    let e : AreDistinct ((xs ++ ys) ++ zs) = subst AreDistinct (sym (append_assoc xs ys zs)) d in
-    let two : AreDistinct (xs ++ ys) = first_differ (xs ++ ys) zs e in
-    rw (← all_found [] xs (first_differ xs ys two), ← all_found xs ys two, ← append_assoc xs ys zs) (all_found (xs ++ ys) zs e)
+own_found : (outer constants : NameShapes) (own : List CheckedParameter) → AreDistinct (outer ++ (own_shapes own ++ constants)) → result_is (own_shapes own) ≡ own_names_or outer constants own
+own_found outer constants own d =
+    rw (← all_found [] (own_shapes own) (first_differ (own_shapes own) constants (second_differ outer (own_shapes own ++ constants) d))) (new_found outer constants (own_shapes own) d)
 
 module _ (types : TypeTable) where
   declared_found : (d : SourceDeclared) (c : CheckedDeclared) → IsDeclaredOf types d c → result_is c ≡ declared_at types d
@@ -150,46 +149,65 @@ module _ (types : TypeTable) where
         rebuilt t c h = λ i. record { kind = h.kind i; name = h.name i; arguments = c.arguments; pre = c.pre; effect = c.effect }
 
 module _ (t : PlainTextTypes) (ps : List CheckedDeclared) (vs : List CheckedVariable) where
+  abbrev given : NameShapes
+  given = parameter_shapes ps
+
+  abbrev outer : NameShapes
+  outer = variable_shapes vs ++ parameter_shapes ps
+
   abbrev around : PlainSurroundings
-  around = record { constants = t.constants; types = t.types; parameters = ps; names = parameter_shapes ps ++ t.constants; variables = vs }
+  around = record { constants = t.constants; types = t.types; given = given; outer = outer; variables = length vs }
 
   abbrev entry_in : PlainRule → PlainSortedEntry
   entry_in r = record { entry = r.entry; shapes = r.shapes }
 
-  condition_names_found : (own : List CheckedParameter) → AreDistinct (names_at entry_condition t.constants ps vs own) → result_is (names_at entry_condition t.constants ps vs own) ≡ names_in_condition t.constants ps own
-  condition_names_found own d =
-      rw (← two_found (parameter_shapes ps) (own_shapes own) (first_differ (parameter_shapes ps ++ own_shapes own) t.constants d)) (all_found (parameter_shapes ps ++ own_shapes own) t.constants d)
+  condition_view : (own : List CheckedParameter) → names_at entry_condition t.constants ps vs own ≡ given ++ (own_shapes own ++ t.constants)
+  condition_view own = append_assoc given (own_shapes own) t.constants
 
-  entry_found : (ts : List SourceTransition) (e : SourceEntry) (r : PlainRule) → IsRuleOf t ps vs ts e r → result_is (entry_in r) ≡ entry_at t.constants t.types ps (parameter_shapes ps ++ t.constants) e
+  guard_view : (own : List CheckedParameter) → names_at guard_or_effect t.constants ps vs own ≡ outer ++ (own_shapes own ++ t.constants)
+  guard_view own = sym (step_view (variable_shapes vs) given (own_shapes own) t.constants)
+
+  own_new : (e : SourceEntry) (ts : List SourceTransition) (r : PlainRule) → IsRuleOf t ps vs ts e r → result_is (own_shapes r.entry.parameters) ≡ own_names_or outer t.constants r.entry.parameters
+  own_new e ts r h = own_found outer t.constants r.entry.parameters (subst AreDistinct (guard_view r.entry.parameters) h.step_names)
+
+  entry_found : (ts : List SourceTransition) (e : SourceEntry) (r : PlainRule) → IsRuleOf t ps vs ts e r → result_is (entry_in r) ≡ entry_at (given ++ (own_shapes r.entry.parameters ++ t.constants)) e (sorted_parameters r.entry.parameters r.shapes)
   unfolding entry_at
   entry_found ts e r h =
-      rw (← parameters_found t.types (parameter_shapes ps ++ t.constants) e.parameters r.entry.parameters r.shapes h.parameters, ← condition_names_found r.entry.parameters h.condition_names, ← where_found t.types (names_at entry_condition t.constants ps vs r.entry.parameters) e.kind e.condition r.entry.condition h.condition (lacks_input e.condition e.kind h.no_condition)) (ap result_is (rebuilt h))
+      let names = given ++ (own_shapes r.entry.parameters ++ t.constants) in
+      let condition : IsConditionOf names e.condition r.entry.condition = subst (λ ns. IsConditionOf ns e.condition r.entry.condition) (condition_view r.entry.parameters) h.condition in
+      rw (← where_found t.types names e.kind e.condition r.entry.condition condition (lacks_input e.condition e.kind h.no_condition)) (ap result_is (rebuilt h))
     where
       rebuilt : IsRuleOf t ps vs ts e r → entry_in r ≡ record { entry = record { kind = e.kind; name = e.name; parameters = r.entry.parameters; condition = r.entry.condition }; shapes = r.shapes }
       rebuilt h = λ i. record { entry = record { kind = h.kind i; name = h.name i; parameters = r.entry.parameters; condition = r.entry.condition }; shapes = r.shapes }
 
-  allowed_found : (ts : List SourceTransition) (e : SourceEntry) (r : PlainRule) (h : IsRuleOf t ps vs ts e r) → result_is h.written ≡ transition_or e (transition_for e ts)
-  unfolding transition_or
-  allowed_found ts e r h = rw (h.found, (head_is e.parameters h.written.arguments).1 h.head, lacks_input h.written.pre e.kind h.no_guard) refl
+  module _ (ts : List SourceTransition) (transitions_differ : IsDistinct same_word (map (λ u. u.name) ts)) where
+    written_found : (e : SourceEntry) (r : PlainRule) (h : IsRuleOf t ps vs ts e r) → Some h.written ≡ transition_for e ts
+    written_found e r h =
+        present_found (λ (u : SourceTransition). u.name) (λ (u : SourceTransition). same_kind u.kind e.kind) e.name ts transitions_differ h.written h.present h.same_name ((kind_is h.written.kind e.kind).1 h.same_kind)
 
-  message_found : (x : PlainSortedEntry) → may_have_name x ≡ true → result_is x ≡ message_at x
-  unfolding message_at
-  message_found x h = rw h refl
+    allowed_found : (e : SourceEntry) (r : PlainRule) (h : IsRuleOf t ps vs ts e r) → result_is h.written ≡ transition_or e (transition_for e ts)
+    unfolding transition_or
+    allowed_found e r h = rw (← written_found e r h, (head_is e.parameters h.written.arguments).1 h.head, lacks_input h.written.pre e.kind h.no_guard) refl
 
-  rule_found : (ts : List SourceTransition) (e : SourceEntry) (r : PlainRule) → IsRuleOf t ps vs ts e r → result_is r ≡ rule_at around ts e
-  unfolding rule_at rule_of
-  rule_found ts e r h =
-      let own = r.entry.parameters in
-      let scope = variable_shapes vs ++ (parameter_shapes ps ++ own_shapes own) in
-      rw (← allowed_found ts e r h, ← entry_found ts e r h, ← message_found (entry_in r) ((named_iff (entry_in r)).1 h.message), ← three_found (variable_shapes vs) (parameter_shapes ps) (own_shapes own) (first_differ scope t.constants h.step_names), ← all_found scope t.constants h.step_names, ← transition_found t.types (scope ++ t.constants) (length vs) h.written r.transition h.transition) (ap result_is (rebuilt h))
-    where
-      rebuilt : IsRuleOf t ps vs ts e r → r ≡ record { entry = r.entry; shapes = r.shapes; transition = r.transition; scope = words (variable_shapes vs ++ (parameter_shapes ps ++ own_shapes r.entry.parameters)) }
-      rebuilt h = λ i. record { entry = r.entry; shapes = r.shapes; transition = r.transition; scope = h.scope i }
+    message_found : (x : PlainSortedEntry) → may_have_name x ≡ true → result_is x ≡ message_at x
+    unfolding message_at
+    message_found x h = rw h refl
 
-  rules_found : (ts : List SourceTransition) (es : List SourceEntry) (rs : List PlainRule) → AllZip (IsRuleOf t ps vs ts) es rs → results_are rs ≡ rules_at around ts es
-  rules_found ts es rs h = all_ok_all (rule_at around ts) es rs (zip_weaker (IsRuleOf t ps vs ts) (λ e r. result_is r ≡ rule_at around ts e) (rule_found ts) es rs h)
+    rule_found : (e : SourceEntry) (r : PlainRule) → IsRuleOf t ps vs ts e r → result_is r ≡ rule_at around ts e
+    unfolding rule_at rule_of
+    rule_found e r h =
+        let own = r.entry.parameters in
+        let names = outer ++ (own_shapes own ++ t.constants) in
+        let transition = subst (λ ns. IsTransitionOf ns (length vs) h.written r.transition) (guard_view own) h.transition in
+        rw (← allowed_found e r h, ← parameters_found t.types (given ++ t.constants) e.parameters own r.shapes h.parameters, ← own_new e ts r h, ← entry_found ts e r h, ← message_found (entry_in r) ((named_iff (entry_in r)).1 h.message), ← transition_found t.types names (length vs) h.written r.transition transition) (ap result_is (rebuilt h))
+      where
+        rebuilt : IsRuleOf t ps vs ts e r → r ≡ record { entry = r.entry; shapes = r.shapes; transition = r.transition; own = own_names r.entry.parameters }
+        rebuilt h = λ i. record { entry = r.entry; shapes = r.shapes; transition = r.transition; own = h.own i }
 
-module _ (names : NameShapes) (rs : List PlainRule) where
+    rules_found : (es : List SourceEntry) (rs : List PlainRule) → AllZip (IsRuleOf t ps vs ts) es rs → results_are rs ≡ rules_at around ts es
+    rules_found es rs h = all_ok_all (rule_at around ts) es rs (zip_weaker (IsRuleOf t ps vs ts) (λ e r. result_is r ≡ rule_at around ts e) rule_found es rs h)
+
+module _ (names : NameShapes) (rs : List PlainRule) (rules_differ : IsDistinct same_word (map (λ r. r.entry.name) rs)) where
   arguments_found : (ss : List PlainShape) (us : List SourceTerm) (cs : List CheckedTerm) → AreArgumentsOf names ss us cs → results_are cs ≡ arguments_at names ss us
   arguments_found [] [] [] h = refl
   arguments_found [] [] (c ∷ cs) h = absurd h
@@ -198,13 +216,29 @@ module _ (names : NameShapes) (rs : List PlainRule) where
   arguments_found (s ∷ ss) (u ∷ us) [] h = absurd h
   arguments_found (s ∷ ss) (u ∷ us) (c ∷ cs) h = rw (← fit_complete names u c (shape_in_terms s) h.0, ← arguments_found ss us cs h.1) refl
 
+  message_is : (w : List ℕ) → IsMessage w → is_message w ≡ true
+  message_is w (inl e) = rw ((bytes_eq-Decides w send_name).1 e) refl
+  message_is w (inr e) = by_first (same_word w send_name) ((bytes_eq-Decides w receive_name).1 e)
+    where
+      by_first : (b : Bool) → same_word w receive_name ≡ true → b || same_word w receive_name ≡ true
+      by_first true e = refl
+      by_first false e = e
+
+  kind_named : (o : Option Kind) (k : Kind) → NamesKind o k → is_of_kind o k ≡ true
+  kind_named None k h = refl
+  kind_named (Some j) k h = (kind_is j k).1 h
+
+  rule_fired : (f : SourceFiring) (c : CheckedFiring) (h : IsFiringOf names rs f c) → Some h.fired ≡ find (fires f) rs
+  rule_fired f c h =
+      present_found (λ (r : PlainRule). r.entry.name) (λ (r : PlainRule). is_of_kind f.kind r.entry.kind) f.action rs rules_differ h.fired h.present h.same_name (kind_named f.kind h.fired.entry.kind h.of_kind)
+
   fired_found : (f : SourceFiring) (r : PlainRule) → is_message f.action ≡ true → result_is r.shapes ≡ entry_fired f (Some r)
   unfolding entry_fired
   fired_found f r h = rw h refl
 
   firing_found : (f : SourceFiring) (c : CheckedFiring) → IsFiringOf names rs f c → result_is c ≡ firing_at names rs f
   unfolding firing_at
-  firing_found f c h = rw (h.found, ← fired_found f h.fired h.message, ← arguments_found h.fired.shapes f.arguments c.arguments h.arguments) (ap result_is (rebuilt h))
+  firing_found f c h = rw (← rule_fired f c h, ← fired_found f h.fired (message_is f.action h.message), ← arguments_found h.fired.shapes f.arguments c.arguments h.arguments) (ap result_is (rebuilt h))
     where
       rebuilt : IsFiringOf names rs f c → c ≡ record { kind = f.kind; action = f.action; arguments = c.arguments }
       rebuilt h = λ i. record { kind = h.kind i; action = h.action i; arguments = c.arguments }
@@ -215,30 +249,53 @@ module _ (names : NameShapes) (rs : List PlainRule) where
 abbrev nothing : Result (Unit {0}) Refusal
 nothing = Ok tt
 
-differ_found : (ws : List (List ℕ)) → are_new [] ws ≡ true → nothing ≡ differ ws
-differ_found ws h = rw h refl
+differ_found : (ws : List (List ℕ)) → IsDistinct same_word ws → result_is ws ≡ names_or ws
+differ_found ws d = rw (differ_new ws d) refl
 
-entries_found : (es : List SourceEntry) (ts : List SourceTransition) → list_all (has_entry es) ts ≡ true → nothing ≡ have_entries es ts
-entries_found es ts h = rw h refl
+entries_found : (es : List SourceEntry) (ts : List SourceTransition) → IsDistinct same_word (map (λ e. e.name) es) → AllByRecursion (HasItsEntry es) ts → nothing ≡ have_entries es ts
+entries_found es ts d h = rw (all_have ts h) refl
+  where
+    entry_found : (u : SourceTransition) → HasItsEntry es u → has_entry es u ≡ true
+    entry_found u x =
+        rw (← present_found (λ (e : SourceEntry). e.name) (λ (e : SourceEntry). same_kind e.kind u.kind) u.name es d x.entry x.present x.same_name ((kind_is x.entry.kind u.kind).1 x.same_kind)) refl
+
+    all_have : (us : List SourceTransition) → AllByRecursion (HasItsEntry es) us → list_all (has_entry es) us ≡ true
+    all_have [] h = refl
+    all_have (u ∷ us) h = rw (entry_found u h.0, all_have us h.1) refl
+
+-- the names of entries are those of the text
+pub rule_words : (t : PlainTextTypes) (ps : List CheckedDeclared) (vs : List CheckedVariable) (ts : List SourceTransition) (es : List SourceEntry) (rs : List PlainRule) → AllZip (IsRuleOf t ps vs ts) es rs → map (λ e. e.name) es ≡ map (λ r. r.entry.name) rs
+rule_words t ps vs ts [] [] h = refl
+rule_words t ps vs ts [] (r ∷ rs) h = absurd h
+rule_words t ps vs ts (e ∷ es) [] h = absurd h
+rule_words t ps vs ts (e ∷ es) (r ∷ rs) h = λ i. sym h.0.name i ∷ rule_words t ps vs ts es rs h.1 i
 
 module _ (t : PlainTextTypes) (a : SourceAutomaton) (c : AutomatonParts) (h : IsAutomatonOf t a c) where
   abbrev heading : PlainHeading
-  heading = record { parameters = c.parameters; names = parameter_shapes c.parameters ++ t.constants; variables = c.variables }
+  heading = record {
+    parameters = c.parameters;
+    variables = c.variables;
+    given = parameter_shapes c.parameters;
+    outer = variable_shapes c.variables ++ parameter_shapes c.parameters;
+  }
 
   heading_found : result_is heading ≡ heading_at t a
   unfolding heading_at
   heading_found =
-      rw (← all_declared_found t.types a.parameters c.parameters h.parameters, ← all_found [] (parameter_shapes c.parameters) (first_differ (parameter_shapes c.parameters) t.constants h.given_names), ← all_found (parameter_shapes c.parameters) t.constants h.given_names, ← variables_found t.types (parameter_shapes c.parameters ++ t.constants) a.states c.variables h.variables) refl
+      rw (← all_declared_found t.types a.parameters c.parameters h.parameters, ← given_found t.constants c.parameters h.given_names, ← variables_found t.types (parameter_shapes c.parameters ++ t.constants) a.states c.variables h.variables, ← outer_found t.constants c.parameters c.variables h.names) refl
 
   actions_found : results_are c.rules ≡ actions_at t heading a
   unfolding actions_at
   actions_found =
-      rw (← differ_found (map (λ e. e.name) a.signature) h.entries_differ, ← differ_found (map (λ u. u.name) a.transitions) h.transitions_differ, ← entries_found a.signature a.transitions h.entries) (rules_found t c.parameters c.variables a.transitions a.signature c.rules h.rules)
+      rw (← differ_found (map (λ e. e.name) a.signature) h.entries_differ, ← differ_found (map (λ u. u.name) a.transitions) h.transitions_differ, ← entries_found a.signature a.transitions h.entries_differ h.entries) (rules_found t c.parameters c.variables a.transitions h.transitions_differ a.signature c.rules h.rules)
+
+  rules_differ : IsDistinct same_word (map (λ r. r.entry.name) c.rules)
+  rules_differ = subst (IsDistinct same_word) (rule_words t c.parameters c.variables a.transitions a.signature c.rules h.rules) h.entries_differ
 
   pub automaton_found : result_is c ≡ automaton_at t a
   automaton_found =
-      let scope = parameter_shapes c.parameters ++ variable_shapes c.variables in
-      rw (← heading_found, ← two_found (parameter_shapes c.parameters) (variable_shapes c.variables) (first_differ scope t.constants h.names), ← all_found scope t.constants h.names, ← actions_found, ← firings_found (scope ++ t.constants) c.rules a.schedule c.schedule h.schedule) (ap result_is rebuilt)
+      let names = (variable_shapes c.variables ++ parameter_shapes c.parameters) ++ t.constants in
+      rw (← heading_found, ← actions_found, ← firings_found names c.rules rules_differ a.schedule c.schedule h.schedule) (ap result_is rebuilt)
     where
       rebuilt : c ≡ record { name = a.name; constants = words t.constants; parameters = c.parameters; variables = c.variables; rules = c.rules; schedule = c.schedule }
       rebuilt = λ i. record { name = h.name i; constants = h.constants i; parameters = c.parameters; variables = c.variables; rules = c.rules; schedule = c.schedule }

@@ -1,6 +1,8 @@
 -- the lemmas of this crate
 pub mod Loops
+pub mod Lookups
 pub mod Results
+pub mod RuleNames
 pub mod Heads
 pub mod Sound
 pub mod SoundRules

@@ -1,37 +1,43 @@
 -- What is made of an automaton.
-use Rattle.std.proofs.Common.{◌≡◌, ◌&&◌, ℕ, zero, suc, Bool, true, false, List, [], ◌∷◌, ◌++◌, Option, Some, None, Err, refl, sym, ap, subst, ◌∙◌, map, length, take, if◌then◌else◌}
-use Rattle.std.specs.Prelude.{find}
+use Rattle.std.proofs.Common.{◌≡◌, ◌&&◌, ℕ, zero, suc, Bool, true, false, List, [], ◌∷◌, ◌++◌, Option, Some, None, Err, refl, sym, ap, subst, ◌∙◌, map, length, take, inl, inr, if◌then◌else◌}
+use Rattle.std.specs.Prelude.{find, ◌||◌}
 use Rattle.std.specs.List.{AllByRecursion, AllZip, IsDistinct, list_all}
 use Rattle.std.specs.Option.{is_some}
 use Rattle.std.proofs.lemmas.List.{append_assoc}
+use Rattle.std.proofs.lemmas.Slice.Eq.{bytes_eq-Decides}
 use lib.Pointwise.{pointwise}
 use Rattle.ioa_values.specs.Outcome.{and_then}
 use Rattle.ioa_values.proofs.AllOf.{all_appended}
 use Rattle.ioa_operators.specs.Shapes.{PlainShape}
+use Rattle.ioa_terms.specs.declared.tree.Kind.{Kind}
 use Rattle.ioa_terms.specs.declared.tree.Kind.TheVariants.{Input}
+use Rattle.ioa_terms.specs.Bindings.{same_word}
+use Rattle.ioa_terms.proofs.SameTerms.{kind_is}
+use Rattle.ioa_actions.specs.ActionParts.{send_name, receive_name}
 use Rattle.ioa_terms.specs.SameTerms.{same_kind}
 use Rattle.ioa_terms.specs.Sorted.{NameShapes, shape_in_terms}
 use Rattle.ioa_source.specs.PlainText.{const, named}
 use Rattle.ioa_source.specs.Sides.{SourceTerm, SourceDeclared, SourceParameter, SourceEntry, SourceVariable, SourceTransition, SourceFiring, SourceAutomaton, CheckedTerm, CheckedDeclared, CheckedParameter, CheckedVariable, CheckedFiring}
-use Rattle.ioa_system.specs.InView.{entry_constant, entry_condition}
+use Rattle.ioa_system.specs.InView.{entry_condition, guard_or_effect}
 use Rattle.ioa_system.specs.Parts.{AutomatonParts, PlainRule}
 use Rattle.ioa_sort_rules.specs.DeclaredTypes.{IsDeclared, AreAllDeclared}
-use Rattle.ioa_sort_rules.specs.declared.refusal.Refusal.TheVariants.{Unknown, Twice, InputPre, BadArgument}
+use Rattle.ioa_sort_rules.specs.declared.refusal.Refusal.TheVariants.{Unknown, InputPre, BadArgument}
 use Rattle.ioa_sorts.specs.Sorting.{fit, sorting}
 use Rattle.ioa_sorts.proofs.Types.{in_terms}
 use Rattle.ioa_sorts.proofs.Sound.{fit_sound}
 use Rattle.ioa_types.specs.Meanings.{tuple_types, AreTextTypes}
-use Rattle.ioa_types.specs.NameTables.{AreDistinct, with_names, words}
+use Rattle.ioa_names.specs.NameTables.{AreDistinct, new_or, with_names}
 use Rattle.ioa_types.specs.TextTypes.{PlainTextTypes}
-use Rattle.ioa_types.specs.TypeTables.{are_new}
-use Rattle.ioa_types.proofs.Names.{all_behind, all_differ}
-use Rattle.ioa_automata.specs.NamesInView.{parameter_shapes, variable_shapes, own_shapes, given_scope, condition_scope, step_scope, firing_scope}
-use Rattle.ioa_automata.specs.Parts.{PlainSortedEntry, sorted_entry, parameters_at, names_in_condition, where_at, entry_at, transition_at, all_declared_at, variables_at}
-use Rattle.ioa_automata.specs.Rules.{repeats, transition_for, transition_or, may_have_name, message_at, sorted_rule, PlainSurroundings, rule_of, rule_at, rules_at, fires, is_message, entry_fired, arguments_at, firing_at, firings_at, has_entry, differ, have_entries}
-use Rattle.ioa_automata.specs.Automata.{PlainHeading, heading_at, surroundings, actions_at, sorted_automaton, automaton_at}
-use Rattle.ioa_automata.specs.SortedAutomata.{IsDeclaredOf, IsVariableOf, IsConditionOf, AreParametersOf, IsTransitionOf, IsRuleOf, AreArgumentsOf, IsFiringOf, IsAutomatonOf, names_at}
+use Rattle.ioa_names.proofs.Names.{all_behind, all_differ, new_differ_between, second_differ}
+use Rattle.ioa_automata.specs.NamesInView.{parameter_shapes, variable_shapes, own_shapes, given_names_or, outer_names_or, own_names_or}
+use Rattle.ioa_automata.specs.Parts.{PlainSortedEntry, sorted_entry, parameters_at, where_at, entry_at, transition_at, all_declared_at, variables_at}
+use Rattle.ioa_automata.specs.Rules.{repeats, transition_for, transition_or, may_have_name, message_at, sorted_rule, PlainSurroundings, rule_of, rule_at, rules_at, is_of_kind, fires, is_message, entry_fired, arguments_at, firing_at, firings_at, names_or, entry_for, has_entry, have_entries}
+use Rattle.ioa_automata.specs.Automata.{PlainBody, PlainHeading, heading_at, surroundings, actions_at, body_at, sorted_automaton, automaton_at}
+use Rattle.ioa_automata.specs.SortedAutomata.{IsDeclaredOf, IsVariableOf, IsConditionOf, AreParametersOf, IsTransitionOf, IsRuleOf, AreArgumentsOf, NamesKind, IsMessage, IsFiringOf, HasItsEntry, IsAutomatonOf, names_at}
 use Rattle.ioa_automata.proofs.Loops.{results_are}
+use Rattle.ioa_automata.proofs.Lookups.{found_has, found_is}
 use Rattle.ioa_automata.proofs.Results.{result_is, first_of, all_ok_each, zip_weaker}
+use Rattle.ioa_automata.proofs.RuleNames.{message_same, names_are}
 use Rattle.ioa_automata.proofs.Heads.{head_is, input_lacks, named_iff}
 use Rattle.ioa_automata.proofs.Sound.{all_declared_sound, variables_sound, parameters_sound, where_sound, transition_sound}
 
@@ -50,22 +56,37 @@ first_names names n h = record { same = all_behind [] names n h; differ = all_di
 more_names : (names more n m : NameShapes) → AreNames n names → with_names n more ≡ result_is m → AreNames m (names ++ more)
 more_names names more n m a h = record { same = all_behind n more m h ∙ ap (λ ns. ns ++ more) a.same; differ = all_differ n more m a.differ h }
 
-condition_names : (ps : List CheckedDeclared) (own : List CheckedParameter) (n : NameShapes) → condition_scope ps own ≡ result_is n → AreNames n (parameter_shapes ps ++ own_shapes own)
-condition_names ps own n h =
-    let one = first_of (given_scope ps) (λ m. with_names m (own_shapes own)) n h in
-    more_names (parameter_shapes ps) (own_shapes own) one.0 n (first_names (parameter_shapes ps) one.0 one.1) one.2
+-- names that are put between those outside and the constants, which differ
+record AreBetween (outer constants n names : NameShapes) : Type 0 where
+  same : n ≡ names
+  differ : AreDistinct (outer ++ (names ++ constants))
 
-step_names : (ps : List CheckedDeclared) (vs : List CheckedVariable) (own : List CheckedParameter) (n : NameShapes) → step_scope ps vs own ≡ result_is n → AreNames n (variable_shapes vs ++ (parameter_shapes ps ++ own_shapes own))
-step_names ps vs own n h =
-    let one = first_of (with_names [] (variable_shapes vs)) (λ m. and_then (with_names m (parameter_shapes ps)) (λ l. with_names l (own_shapes own))) n h in
-    let two = first_of (with_names one.0 (parameter_shapes ps)) (λ l. with_names l (own_shapes own)) n one.2 in
-    let a = more_names (variable_shapes vs) (parameter_shapes ps) one.0 two.0 (first_names (variable_shapes vs) one.0 one.1) two.1 in
-    subst (AreNames n) (append_assoc (variable_shapes vs) (parameter_shapes ps) (own_shapes own)) (more_names (variable_shapes vs ++ parameter_shapes ps) (own_shapes own) two.0 n a two.2)
+between_names : (outer constants names m n : NameShapes) → AreNames m names → new_or outer constants m ≡ result_is n → AreDistinct (outer ++ constants) → AreBetween outer constants n names
+between_names outer constants names m n a h d =
+    let b = new_differ_between outer constants m n h d a.differ in
+    record { same = sym b.0 ∙ a.same; differ = subst (λ ns. AreDistinct (outer ++ (ns ++ constants))) a.same b.1 }
 
-pub firing_names : (ps : List CheckedDeclared) (vs : List CheckedVariable) (n : NameShapes) → firing_scope ps vs ≡ result_is n → AreNames n (parameter_shapes ps ++ variable_shapes vs)
-firing_names ps vs n h =
-    let one = first_of (given_scope ps) (λ m. with_names m (variable_shapes vs)) n h in
-    more_names (parameter_shapes ps) (variable_shapes vs) one.0 n (first_names (parameter_shapes ps) one.0 one.1) one.2
+given_sound : (constants : NameShapes) → AreDistinct constants → (ps : List CheckedDeclared) (n : NameShapes) → given_names_or constants ps ≡ result_is n → AreBetween [] constants n (parameter_shapes ps)
+given_sound constants d ps n h =
+    let one = first_of (with_names [] (parameter_shapes ps)) (new_or [] constants) n h in
+    between_names [] constants (parameter_shapes ps) one.0 n (first_names (parameter_shapes ps) one.0 one.1) one.2 d
+
+outer_sound : (constants : NameShapes) → AreDistinct constants → (ps : List CheckedDeclared) (vs : List CheckedVariable) (n : NameShapes) → outer_names_or constants ps vs ≡ result_is n → AreBetween [] constants n (variable_shapes vs ++ parameter_shapes ps)
+outer_sound constants d ps vs n h =
+    let one = first_of (and_then (with_names [] (variable_shapes vs)) (λ m. with_names m (parameter_shapes ps))) (new_or [] constants) n h in
+    let two = first_of (with_names [] (variable_shapes vs)) (λ m. with_names m (parameter_shapes ps)) one.0 one.1 in
+    let names = more_names (variable_shapes vs) (parameter_shapes ps) two.0 one.0 (first_names (variable_shapes vs) two.0 two.1) two.2 in
+    between_names [] constants (variable_shapes vs ++ parameter_shapes ps) one.0 n names one.2 d
+
+own_sound : (outer constants : NameShapes) → AreDistinct (outer ++ constants) → (own : List CheckedParameter) (n : NameShapes) → own_names_or outer constants own ≡ result_is n → AreBetween outer constants n (own_shapes own)
+own_sound outer constants d own n h =
+    let one = first_of (with_names [] (own_shapes own)) (new_or outer constants) n h in
+    between_names outer constants (own_shapes own) one.0 n (first_names (own_shapes own) one.0 one.1) one.2 d
+
+-- what the terms of an entry read, in the order of the slots
+pub step_view : (vs ps own constants : NameShapes) → (vs ++ ps) ++ (own ++ constants) ≡ (vs ++ (ps ++ own)) ++ constants
+step_view vs ps own constants =
+    append_assoc vs ps (own ++ constants) ∙ ap (λ ns. vs ++ ns) (sym (append_assoc ps own constants)) ∙ sym (append_assoc vs (ps ++ own) constants)
 
 -- what is transition_or
 record IsAllowed (e : SourceEntry) (o : Option SourceTransition) (t : SourceTransition) : Type 0 where
@@ -86,26 +107,10 @@ allowed_sound e (Some u) t h = by_head (pointwise repeats e.parameters u.argumen
     by_head true p h = by_guard p (is_some u.pre && same_kind e.kind Input) refl h
     by_head false p h = absurd (cc)
 
-message_sound : (x y : PlainSortedEntry) → message_at x ≡ result_is y → (x ≡ y) × (may_have_name x ≡ true)
-unfolding message_at
-message_sound x y h = by_name (may_have_name x) refl h
-  where
-    by_name : (b : Bool) → may_have_name x ≡ b → (if b then result_is x else Err BadArgument) ≡ result_is y → (x ≡ y) × (may_have_name x ≡ true)
-    by_name true m h = let same : x ≡ y = cc in (same, m)
-    by_name false m h = absurd (cc)
-
 all_taken : {A : Type 0} (P : A → Type 0) (k : ℕ) (xs : List A) → AllByRecursion P xs → AllByRecursion P (take k xs)
 all_taken P zero xs h = tt
 all_taken P (suc k) [] h = tt
 all_taken P (suc k) (x ∷ xs) h = (h.0, all_taken P k xs h.1)
-
-found_has : {A : Type 0} (P : A → Type 0) (test : A → Bool) (xs : List A) (x : A) → AllByRecursion P xs → find test xs ≡ Some x → P x
-found_has P test [] x all h = absurd (cc)
-found_has P test (y ∷ ys) x all h = by_test (test y) h (found_has P test ys x all.1)
-  where
-    by_test : (b : Bool) → (if b then Some y else find test ys) ≡ Some x → (find test ys ≡ Some x → P x) → P x
-    by_test true h further = let this : y ≡ x = cc in subst P this all.0
-    by_test false h further = further h
 
 module _ (t : PlainTextTypes) (text : AreTextTypes t) where
   abbrev IsKept : PlainShape → Type 0
@@ -136,87 +141,101 @@ module _ (t : PlainTextTypes) (text : AreTextTypes t) where
   own_kept names (named d ∷ ps) (const c ∷ cs) (s ∷ ss) h k = absurd h.0
   own_kept names (named d ∷ ps) (named c ∷ cs) (s ∷ ss) h k = (subst IsKept h.0.1 k.0, own_kept names ps cs ss h.1 k.1)
 
-  module _ (ps : List CheckedDeclared) (vs : List CheckedVariable) (kept : AreKept (parameter_shapes ps)) (valued : AreKept (variable_shapes vs)) (names : NameShapes) (same : names ≡ parameter_shapes ps ++ t.constants) where
-    names_kept : AreKept names
-    names_kept = subst AreKept (sym same) (all_appended (λ n. IsKept n.1) (parameter_shapes ps) t.constants kept text.constants)
+  -- what the entries of an automaton of these parameters and state variables read
+  abbrev pub around : List CheckedDeclared → List CheckedVariable → PlainSurroundings
+  around ps vs = record {
+    constants = t.constants;
+    types = t.types;
+    given = parameter_shapes ps;
+    outer = variable_shapes vs ++ parameter_shapes ps;
+    variables = length vs;
+  }
 
-    -- an entry
-    record IsEntryOf (e : SourceEntry) (x : PlainSortedEntry) : Type 0 where
-      kind : x.entry.kind ≡ e.kind
-      name : x.entry.name ≡ e.name
-      parameters : AreParametersOf t.types (names_at entry_constant t.constants ps vs []) e.parameters x.entry.parameters x.shapes
-      condition : IsConditionOf (names_at entry_condition t.constants ps vs x.entry.parameters) e.condition x.entry.condition
-      condition_names : AreDistinct (names_at entry_condition t.constants ps vs x.entry.parameters)
-      no_condition : is_some e.condition && same_kind e.kind Input ≡ false
-      shapes : AllByRecursion IsKept x.shapes
-      own : AreKept (own_shapes x.entry.parameters)
+  module _ (ps : List CheckedDeclared) (vs : List CheckedVariable) (kept : AreKept (parameter_shapes ps)) (valued : AreKept (variable_shapes vs)) (differ : AreDistinct ((variable_shapes vs ++ parameter_shapes ps) ++ t.constants)) where
+    abbrev given : NameShapes
+    given = parameter_shapes ps
 
-    entry_sound : (e : SourceEntry) (x : PlainSortedEntry) → entry_at t.constants t.types ps names e ≡ result_is x → IsEntryOf e x
-    unfolding entry_at
-    entry_sound e x h =
-        let one = first_of (parameters_at t.types names e.parameters) (λ qs. and_then (names_in_condition t.constants ps qs.parameters) (λ n. and_then (where_at n e.kind e.condition) (λ c. result_is (sorted_entry e qs c)))) x h in
-        let two = first_of (names_in_condition t.constants ps one.0.parameters) (λ n. and_then (where_at n e.kind e.condition) (λ c. result_is (sorted_entry e one.0 c))) x one.2 in
-        let three = first_of (where_at two.0 e.kind e.condition) (λ c. result_is (sorted_entry e one.0 c)) x two.2 in
-        let made : sorted_entry e one.0 three.0 ≡ x = cc in
-        let scope = first_of (condition_scope ps one.0.parameters) (λ n. with_names n t.constants) two.0 two.1 in
-        let found = parameters_sound t.types text.types names names_kept e.parameters one.0 one.1 in
-        let own = own_kept names e.parameters one.0.parameters one.0.shapes found.0 found.1 in
-        let view = more_names (parameter_shapes ps ++ own_shapes one.0.parameters) t.constants scope.0 two.0 (condition_names ps one.0.parameters scope.0 scope.1) scope.2 in
-        let all = subst AreKept (sym view.same) (all_appended (λ n. IsKept n.1) (parameter_shapes ps ++ own_shapes one.0.parameters) t.constants (all_appended (λ n. IsKept n.1) (parameter_shapes ps) (own_shapes one.0.parameters) kept own) text.constants) in
-        let condition = where_sound t.types text.types two.0 all e.kind e.condition three.0 three.1 in
-        subst (IsEntryOf e) made (record {
-          kind = refl;
-          name = refl;
-          parameters = subst (λ ns. AreParametersOf t.types ns e.parameters one.0.parameters one.0.shapes) same found.0;
-          condition = subst (λ ns. IsConditionOf ns e.condition three.0) view.same condition.0;
-          condition_names = subst AreDistinct view.same view.differ;
-          no_condition = condition.1;
-          shapes = found.1;
-          own = own;
-        })
+    abbrev variables : NameShapes
+    variables = variable_shapes vs
+
+    given_kept : AreKept (given ++ t.constants)
+    given_kept = all_appended (λ n. IsKept n.1) given t.constants kept text.constants
+
+    -- the names that an entry declares itself
+    record IsOwn (own : List CheckedParameter) (n : NameShapes) : Type 0 where
+      condition : given ++ (n ++ t.constants) ≡ names_at entry_condition t.constants ps vs own
+      step : (variables ++ given) ++ (n ++ t.constants) ≡ names_at guard_or_effect t.constants ps vs own
+      condition_names : AreDistinct (names_at entry_condition t.constants ps vs own)
+      step_names : AreDistinct (names_at guard_or_effect t.constants ps vs own)
+      condition_kept : AreKept (given ++ (n ++ t.constants))
+      step_kept : AreKept ((variables ++ given) ++ (n ++ t.constants))
+
+    own_is : (own : List CheckedParameter) (n : NameShapes) → own_names_or (variables ++ given) t.constants own ≡ result_is n → AreKept (own_shapes own) → IsOwn own n
+    own_is own n h k =
+        let b = own_sound (variables ++ given) t.constants differ own n h in
+        let shapes = own_shapes own in
+        let behind : AreDistinct (given ++ (shapes ++ t.constants)) =
+        second_differ variables (given ++ (shapes ++ t.constants)) (subst AreDistinct (append_assoc variables given (shapes ++ t.constants)) b.differ) in
+        let tail : AreKept (n ++ t.constants) = all_appended (λ m. IsKept m.1) n t.constants (subst AreKept (sym b.same) k) text.constants in
+        record {
+          condition = ap (λ ns. given ++ (ns ++ t.constants)) b.same ∙ sym (append_assoc given shapes t.constants);
+          step = ap (λ ns. (variables ++ given) ++ (ns ++ t.constants)) b.same ∙ step_view variables given shapes t.constants;
+          condition_names = subst AreDistinct (sym (append_assoc given shapes t.constants)) behind;
+          step_names = subst AreDistinct (step_view variables given shapes t.constants) b.differ;
+          condition_kept = all_appended (λ m. IsKept m.1) given (n ++ t.constants) kept tail;
+          step_kept = all_appended (λ m. IsKept m.1) (variables ++ given) (n ++ t.constants) (all_appended (λ m. IsKept m.1) variables given valued kept) tail;
+        }
 
     -- an entry with its transition
     abbrev IsWhole : List SourceTransition → SourceEntry → PlainRule → Type 0
     IsWhole ts e r = IsRuleOf t ps vs ts e r × AllByRecursion IsKept r.shapes
 
-    rule_sound : (ts : List SourceTransition) (e : SourceEntry) (r : PlainRule) → rule_at (record { constants = t.constants; types = t.types; parameters = ps; names = names; variables = vs }) ts e ≡ result_is r → IsWhole ts e r
-    unfolding rule_at rule_of
+    rule_sound : (ts : List SourceTransition) (e : SourceEntry) (r : PlainRule) → rule_at (around ps vs) ts e ≡ result_is r → IsWhole ts e r
+    unfolding rule_at rule_of entry_at
     rule_sound ts e r h =
-        let s : PlainSurroundings = record { constants = t.constants; types = t.types; parameters = ps; names = names; variables = vs } in
-        let one = first_of (transition_or e (transition_for e ts)) (λ u. and_then (entry_at t.constants t.types ps names e) (λ x. and_then (message_at x) (rule_of s u))) r h in
-        let two = first_of (entry_at t.constants t.types ps names e) (λ x. and_then (message_at x) (rule_of s one.0)) r one.2 in
-        let three = first_of (message_at two.0) (rule_of s one.0) r two.2 in
-        let named_well = message_sound two.0 three.0 three.1 in
-        let entry : IsEntryOf e three.0 = subst (IsEntryOf e) named_well.0 (entry_sound e two.0 two.1) in
-        let four = first_of (step_scope ps vs three.0.entry.parameters) (λ n. and_then (with_names n t.constants) (λ m. and_then (transition_at m (length vs) one.0) (λ u. result_is (sorted_rule three.0 u n)))) r three.2 in
-        let five = first_of (with_names four.0 t.constants) (λ m. and_then (transition_at m (length vs) one.0) (λ u. result_is (sorted_rule three.0 u four.0))) r four.2 in
-        let six = first_of (transition_at five.0 (length vs) one.0) (λ u. result_is (sorted_rule three.0 u four.0)) r five.2 in
-        let made : sorted_rule three.0 six.0 four.0 ≡ r = cc in
-        let own = own_shapes three.0.entry.parameters in
-        let scope = step_names ps vs three.0.entry.parameters four.0 four.1 in
-        let view = more_names (variable_shapes vs ++ (parameter_shapes ps ++ own)) t.constants four.0 five.0 scope five.1 in
-        let all = subst AreKept (sym view.same) (all_appended (λ n. IsKept n.1) (variable_shapes vs ++ (parameter_shapes ps ++ own)) t.constants (all_appended (λ n. IsKept n.1) (variable_shapes vs) (parameter_shapes ps ++ own) valued (all_appended (λ n. IsKept n.1) (parameter_shapes ps) own kept entry.own)) text.constants) in
-        let right = allowed_sound e (transition_for e ts) one.0 one.1 in
-        let sound = transition_sound t.types text.types five.0 all (length vs) (all_taken (λ n. IsKept n.1) (length vs) five.0 all) one.0 six.0 six.1 in
-        subst (IsWhole ts e) made (
+        let s = around ps vs in
+        let one = first_of (transition_or e (transition_for e ts)) (λ u. and_then (parameters_at t.types (given ++ t.constants) e.parameters) (λ qs. and_then (own_names_or s.outer t.constants qs.parameters) (λ own. and_then (entry_at (given ++ (own ++ t.constants)) e qs) (λ x. and_then (message_at x) (rule_of s own u))))) r h in
+        let written = one.0 in
+        let two = first_of (parameters_at t.types (given ++ t.constants) e.parameters) (λ qs. and_then (own_names_or s.outer t.constants qs.parameters) (λ own. and_then (entry_at (given ++ (own ++ t.constants)) e qs) (λ x. and_then (message_at x) (rule_of s own written)))) r one.2 in
+        let qs = two.0 in
+        let three = first_of (own_names_or s.outer t.constants qs.parameters) (λ own. and_then (entry_at (given ++ (own ++ t.constants)) e qs) (λ x. and_then (message_at x) (rule_of s own written))) r two.2 in
+        let n = three.0 in
+        let four = first_of (entry_at (given ++ (n ++ t.constants)) e qs) (λ x. and_then (message_at x) (rule_of s n written)) r three.2 in
+        let five = first_of (message_at four.0) (rule_of s n written) r four.2 in
+        let x = five.0 in
+        let six = first_of (transition_at (s.outer ++ (n ++ t.constants)) (length vs) written) (λ u. result_is (sorted_rule x u)) r five.2 in
+        let made : sorted_rule x six.0 ≡ r = cc in
+        let seven = first_of (where_at (given ++ (n ++ t.constants)) e.kind e.condition) (λ c. result_is (sorted_entry e qs c)) four.0 four.1 in
+        let named_well = message_same four.0 x five.1 in
+        let entry : sorted_entry e qs seven.0 ≡ four.0 = cc in
+        let whole : sorted_entry e qs seven.0 ≡ x = entry ∙ named_well.0 in
+        let found = parameters_sound t.types text.types (given ++ t.constants) given_kept e.parameters qs two.1 in
+        let own = own_is qs.parameters n three.1 (own_kept (given ++ t.constants) e.parameters qs.parameters qs.shapes found.0 found.1) in
+        let condition = where_sound t.types text.types (given ++ (n ++ t.constants)) own.condition_kept e.kind e.condition seven.0 seven.1 in
+        let right = allowed_sound e (transition_for e ts) written one.1 in
+        let is = found_is (λ (u : SourceTransition). u.name) (λ (u : SourceTransition). same_kind u.kind e.kind) e.name ts written right.found in
+        let sound = transition_sound t.types text.types (s.outer ++ (n ++ t.constants)) own.step_kept (length vs) (all_taken (λ m. IsKept m.1) (length vs) (s.outer ++ (n ++ t.constants)) own.step_kept) written six.0 six.1 in
+        subst (IsWhole ts e) made (subst (λ (y : PlainSortedEntry). IsWhole ts e (sorted_rule y six.0)) whole (
           record {
-            kind = entry.kind;
-            name = entry.name;
-            parameters = entry.parameters;
-            condition = entry.condition;
-            written = one.0;
-            found = right.found;
-            transition = subst (λ ns. IsTransitionOf ns (length vs) one.0 six.0) view.same sound;
-            scope = ap words scope.same;
-            condition_names = entry.condition_names;
-            step_names = subst AreDistinct view.same view.differ;
-            head = (head_is e.parameters one.0.arguments).0 right.head;
-            no_guard = input_lacks one.0.pre e.kind right.no_guard;
-            no_condition = input_lacks e.condition e.kind entry.no_condition;
-            message = (named_iff three.0).0 (subst (λ x. may_have_name x ≡ true) named_well.0 named_well.1);
+            kind = refl;
+            name = refl;
+            parameters = found.0;
+            condition = subst (λ ns. IsConditionOf ns e.condition seven.0) own.condition condition.0;
+            written = written;
+            present = is.0;
+            same_kind = (kind_is written.kind e.kind).0 is.2;
+            same_name = is.1;
+            transition = subst (λ ns. IsTransitionOf ns (length vs) written six.0) own.step sound;
+            own = refl;
+            condition_names = own.condition_names;
+            step_names = own.step_names;
+            head = (head_is e.parameters written.arguments).0 right.head;
+            no_guard = input_lacks written.pre e.kind right.no_guard;
+            no_condition = input_lacks e.condition e.kind condition.1;
+            message = (named_iff (sorted_entry e qs seven.0)).0 (subst (λ y. may_have_name y ≡ true) (sym entry) named_well.1);
           },
-          entry.shapes,
-        )
+          found.1,
+        ))
 
     rules_kept : (ts : List SourceTransition) (es : List SourceEntry) (rs : List PlainRule) → AllZip (IsWhole ts) es rs → AllByRecursion (λ r. AllByRecursion IsKept r.shapes) rs × AllZip (IsRuleOf t ps vs ts) es rs
     rules_kept ts [] [] h = (tt, tt)
@@ -224,10 +243,9 @@ module _ (t : PlainTextTypes) (text : AreTextTypes t) where
     rules_kept ts (e ∷ es) [] h = absurd h
     rules_kept ts (e ∷ es) (r ∷ rs) h = let rest = rules_kept ts es rs h.1 in ((h.0.1, rest.0), (h.0.0, rest.1))
 
-    pub rules_sound : (ts : List SourceTransition) (es : List SourceEntry) (rs : List PlainRule) → rules_at (record { constants = t.constants; types = t.types; parameters = ps; names = names; variables = vs }) ts es ≡ results_are rs → AllByRecursion (λ r. AllByRecursion (IsDeclared (tuple_types t.types)) r.shapes) rs × AllZip (IsRuleOf t ps vs ts) es rs
+    pub rules_sound : (ts : List SourceTransition) (es : List SourceEntry) (rs : List PlainRule) → rules_at (around ps vs) ts es ≡ results_are rs → AllByRecursion (λ r. AllByRecursion (IsDeclared (tuple_types t.types)) r.shapes) rs × AllZip (IsRuleOf t ps vs ts) es rs
     rules_sound ts es rs h =
-        let s : PlainSurroundings = record { constants = t.constants; types = t.types; parameters = ps; names = names; variables = vs } in
-        rules_kept ts es rs (zip_weaker (λ e r. rule_at s ts e ≡ result_is r) (IsWhole ts) (rule_sound ts) es rs (all_ok_each (rule_at s ts) es rs h))
+        rules_kept ts es rs (zip_weaker (λ e r. rule_at (around ps vs) ts e ≡ result_is r) (IsWhole ts) (rule_sound ts) es rs (all_ok_each (rule_at (around ps vs) ts) es rs h))
 
   -- firings
   module _ (names : NameShapes) (all : AreKept names) (rs : List PlainRule) (kept : AllByRecursion (λ r. AllByRecursion IsKept r.shapes) rs) where
@@ -247,6 +265,17 @@ module _ (t : PlainTextTypes) (text : AreTextTypes t) where
       shapes : fired.shapes ≡ ss
       message : is_message f.action ≡ true
 
+    message_is : (w : List ℕ) → is_message w ≡ true → IsMessage w
+    message_is w h = by_test (same_word w send_name) refl h
+      where
+        by_test : (b : Bool) → same_word w send_name ≡ b → b || same_word w receive_name ≡ true → IsMessage w
+        by_test true e h = inl ((bytes_eq-Decides w send_name).0 e)
+        by_test false e h = inr ((bytes_eq-Decides w receive_name).0 h)
+
+    kind_names : (o : Option Kind) (k : Kind) → is_of_kind o k ≡ true → NamesKind o k
+    kind_names None k h = tt
+    kind_names (Some j) k h = (kind_is j k).0 h
+
     fired_sound : (f : SourceFiring) (o : Option PlainRule) (ss : List PlainShape) → entry_fired f o ≡ results_are ss → IsFired f o ss
     unfolding entry_fired
     fired_sound f None ss h = absurd (cc)
@@ -265,12 +294,15 @@ module _ (t : PlainTextTypes) (text : AreTextTypes t) where
         let same : made ≡ c = cc in
         let fired = fired_sound f (find (fires f) rs) one.0 one.1 in
         let declared = found_has (λ r. AllByRecursion IsKept r.shapes) (fires f) rs fired.fired kept fired.found in
+        let is = found_is (λ (r : PlainRule). r.entry.name) (λ (r : PlainRule). is_of_kind f.kind r.entry.kind) f.action rs fired.fired fired.found in
         subst (IsFiringOf names rs f) same (record {
           kind = refl;
           action = refl;
           fired = fired.fired;
-          found = fired.found;
-          message = fired.message;
+          present = is.0;
+          same_name = is.1;
+          of_kind = kind_names f.kind fired.fired.entry.kind is.2;
+          message = message_is f.action fired.message;
           arguments = subst (λ ss. AreArgumentsOf names ss f.arguments two.0) (sym fired.shapes) (arguments_sound one.0 f.arguments two.0 (subst (AllByRecursion IsKept) fired.shapes declared) two.1);
         })
 
@@ -278,23 +310,34 @@ module _ (t : PlainTextTypes) (text : AreTextTypes t) where
     firings_sound fs cs h = zip_weaker (λ f c. firing_at names rs f ≡ result_is c) (IsFiringOf names rs) firing_sound fs cs (all_ok_each (firing_at names rs) fs cs h)
 
   -- the tests of an automaton's actions
-  differ_sound : (ws : List (List ℕ)) (x : Unit {0}) → differ ws ≡ result_is x → are_new [] ws ≡ true
-  differ_sound ws x h = by_test (are_new [] ws) refl h
+  entry_is : (es : List SourceEntry) (u : SourceTransition) → has_entry es u ≡ true → HasItsEntry es u
+  entry_is es u h = by_found (entry_for u es) refl h
     where
-      by_test : (b : Bool) → are_new [] ws ≡ b → (if b then result_is tt else Err Twice) ≡ result_is x → are_new [] ws ≡ true
-      by_test true e h = e
-      by_test false e h = absurd (cc)
+      by_found : (o : Option SourceEntry) → entry_for u es ≡ o → is_some o ≡ true → HasItsEntry es u
+      by_found None e h = absurd (cc)
+      by_found (Some x) e h =
+          let is = found_is (λ (y : SourceEntry). y.name) (λ (y : SourceEntry). same_kind y.kind u.kind) u.name es x e in
+          record { entry = x; present = is.0; same_kind = (kind_is x.kind u.kind).0 is.2; same_name = is.1 }
 
-  entries_sound : (es : List SourceEntry) (ts : List SourceTransition) (x : Unit {0}) → have_entries es ts ≡ result_is x → list_all (has_entry es) ts ≡ true
+  entries_are : (es : List SourceEntry) (ts : List SourceTransition) → list_all (has_entry es) ts ≡ true → AllByRecursion (HasItsEntry es) ts
+  entries_are es [] h = tt
+  entries_are es (u ∷ ts) h = by_first (has_entry es u) refl h (entries_are es ts)
+    where
+      by_first : (b : Bool) → has_entry es u ≡ b → b && list_all (has_entry es) ts ≡ true → (list_all (has_entry es) ts ≡ true → AllByRecursion (HasItsEntry es) ts) → AllByRecursion (HasItsEntry es) (u ∷ ts)
+      by_first true e h more = (entry_is es u e, more h)
+      by_first false e h more = absurd (cc)
+
+  entries_sound : (es : List SourceEntry) (ts : List SourceTransition) (x : Unit {0}) → have_entries es ts ≡ result_is x → AllByRecursion (HasItsEntry es) ts
   entries_sound es ts x h = by_test (list_all (has_entry es) ts) refl h
     where
-      by_test : (b : Bool) → list_all (has_entry es) ts ≡ b → (if b then result_is tt else Err Unknown) ≡ result_is x → list_all (has_entry es) ts ≡ true
-      by_test true e h = e
+      by_test : (b : Bool) → list_all (has_entry es) ts ≡ b → (if b then result_is tt else Err Unknown) ≡ result_is x → AllByRecursion (HasItsEntry es) ts
+      by_test true e h = entries_are es ts e
       by_test false e h = absurd (cc)
 
   -- the parameters and the state variables of an automaton
   record IsHeadingOf (a : SourceAutomaton) (h : PlainHeading) : Type 0 where
-    names : AreNames h.names (parameter_shapes h.parameters ++ t.constants)
+    given : AreBetween [] t.constants h.given (parameter_shapes h.parameters)
+    outer : AreBetween [] t.constants h.outer (variable_shapes h.variables ++ parameter_shapes h.parameters)
     parameters : AllZip (IsDeclaredOf t.types) a.parameters h.parameters
     variables : AllZip (IsVariableOf t.types (parameter_shapes h.parameters ++ t.constants)) a.states h.variables
     kept : AreKept (parameter_shapes h.parameters)
@@ -303,52 +346,66 @@ module _ (t : PlainTextTypes) (text : AreTextTypes t) where
   heading_sound : (a : SourceAutomaton) (c : PlainHeading) → heading_at t a ≡ result_is c → IsHeadingOf a c
   unfolding heading_at
   heading_sound a c h =
-      let one = first_of (all_declared_at t.types a.parameters) (λ ps. and_then (given_scope ps) (λ n. and_then (with_names n t.constants) (λ m. and_then (variables_at t.types m a.states) (λ vs. result_is (record { parameters = ps; names = m; variables = vs }))))) c h in
-      let two = first_of (given_scope one.0) (λ n. and_then (with_names n t.constants) (λ m. and_then (variables_at t.types m a.states) (λ vs. result_is (record { parameters = one.0; names = m; variables = vs })))) c one.2 in
-      let three = first_of (with_names two.0 t.constants) (λ m. and_then (variables_at t.types m a.states) (λ vs. result_is (record { parameters = one.0; names = m; variables = vs }))) c two.2 in
-      let four = first_of (variables_at t.types three.0 a.states) (λ vs. result_is (record { parameters = one.0; names = three.0; variables = vs })) c three.2 in
-      let made : PlainHeading = record { parameters = one.0; names = three.0; variables = four.0 } in
+      let one = first_of (all_declared_at t.types a.parameters) (λ ps. and_then (given_names_or t.constants ps) (λ n. and_then (variables_at t.types (n ++ t.constants) a.states) (λ vs. and_then (outer_names_or t.constants ps vs) (λ m. result_is (record { parameters = ps; variables = vs; given = n; outer = m }))))) c h in
+      let two = first_of (given_names_or t.constants one.0) (λ n. and_then (variables_at t.types (n ++ t.constants) a.states) (λ vs. and_then (outer_names_or t.constants one.0 vs) (λ m. result_is (record { parameters = one.0; variables = vs; given = n; outer = m })))) c one.2 in
+      let three = first_of (variables_at t.types (two.0 ++ t.constants) a.states) (λ vs. and_then (outer_names_or t.constants one.0 vs) (λ m. result_is (record { parameters = one.0; variables = vs; given = two.0; outer = m }))) c two.2 in
+      let four = first_of (outer_names_or t.constants one.0 three.0) (λ m. result_is (record { parameters = one.0; variables = three.0; given = two.0; outer = m })) c three.2 in
+      let made : PlainHeading = record { parameters = one.0; variables = three.0; given = two.0; outer = four.0 } in
       let same : made ≡ c = cc in
-      let given = parameters_kept a.parameters one.0 (all_declared_sound t.types text.types a.parameters one.0 one.1) in
-      let view = more_names (parameter_shapes one.0) t.constants two.0 three.0 (first_names (parameter_shapes one.0) two.0 two.1) three.1 in
-      let all = subst AreKept (sym view.same) (all_appended (λ n. IsKept n.1) (parameter_shapes one.0) t.constants given.0 text.constants) in
-      let states = variables_kept three.0 a.states four.0 (variables_sound t.types text.types three.0 all a.states four.0 four.1) in
+      let declared = parameters_kept a.parameters one.0 (all_declared_sound t.types text.types a.parameters one.0 one.1) in
+      let given = given_sound t.constants text.differ one.0 two.0 two.1 in
+      let view : two.0 ++ t.constants ≡ parameter_shapes one.0 ++ t.constants = ap (λ ns. ns ++ t.constants) given.same in
+      let all = subst AreKept (sym view) (all_appended (λ n. IsKept n.1) (parameter_shapes one.0) t.constants declared.0 text.constants) in
+      let states = variables_kept (two.0 ++ t.constants) a.states three.0 (variables_sound t.types text.types (two.0 ++ t.constants) all a.states three.0 three.1) in
       subst (IsHeadingOf a) same (record {
-        names = view;
-        parameters = given.1;
-        variables = subst (λ ns. AllZip (IsVariableOf t.types ns) a.states four.0) view.same states.1;
-        kept = given.0;
+        given = given;
+        outer = outer_sound t.constants text.differ one.0 three.0 four.0 four.1;
+        parameters = declared.1;
+        variables = subst (λ ns. AllZip (IsVariableOf t.types ns) a.states three.0) view states.1;
+        kept = declared.0;
         valued = states.0;
       })
+
+  pub heading_outer : (a : SourceAutomaton) (h : PlainHeading) → heading_at t a ≡ result_is h → h.outer ≡ variable_shapes h.variables ++ parameter_shapes h.parameters
+  heading_outer a h e = (heading_sound a h e).outer.same
+
+  abbrev body_is : List PlainRule → List CheckedFiring → PlainBody
+  body_is rs fs = record { rules = rs; schedule = fs }
+
+  result_same : (x y : AutomatonParts) → result_is x ≡ result_is y → x ≡ y
+  result_same x y h = cc
 
   pub automaton_sound : (a : SourceAutomaton) (c : AutomatonParts) → automaton_at t a ≡ result_is c → IsAutomatonOf t a c
   unfolding actions_at
   automaton_sound a c h =
-      let one = first_of (heading_at t a) (λ g. and_then (firing_scope g.parameters g.variables) (λ n. and_then (with_names n t.constants) (λ m. and_then (actions_at t g a) (λ rs. and_then (firings_at m rs a.schedule) (λ fs. result_is (sorted_automaton t a.name g rs fs)))))) c h in
+      let one = first_of (heading_at t a) (λ g. and_then (body_at t g a) (λ b. result_is (sorted_automaton t a.name g b))) c h in
       let g = one.0 in
-      let two = first_of (firing_scope g.parameters g.variables) (λ n. and_then (with_names n t.constants) (λ m. and_then (actions_at t g a) (λ rs. and_then (firings_at m rs a.schedule) (λ fs. result_is (sorted_automaton t a.name g rs fs))))) c one.2 in
-      let three = first_of (with_names two.0 t.constants) (λ m. and_then (actions_at t g a) (λ rs. and_then (firings_at m rs a.schedule) (λ fs. result_is (sorted_automaton t a.name g rs fs)))) c two.2 in
-      let four = first_of (actions_at t g a) (λ rs. and_then (firings_at three.0 rs a.schedule) (λ fs. result_is (sorted_automaton t a.name g rs fs))) c three.2 in
-      let five = first_of (firings_at three.0 four.0 a.schedule) (λ fs. result_is (sorted_automaton t a.name g four.0 fs)) c four.2 in
-      let made : sorted_automaton t a.name g four.0 five.0 ≡ c = cc in
-      let six = first_of (differ (map (λ e. e.name) a.signature)) (λ x. and_then (differ (map (λ u. u.name) a.transitions)) (λ y. and_then (have_entries a.signature a.transitions) (λ z. rules_at (surroundings t g) a.transitions a.signature))) four.0 four.1 in
-      let seven = first_of (differ (map (λ u. u.name) a.transitions)) (λ y. and_then (have_entries a.signature a.transitions) (λ z. rules_at (surroundings t g) a.transitions a.signature)) four.0 six.2 in
-      let eight = first_of (have_entries a.signature a.transitions) (λ z. rules_at (surroundings t g) a.transitions a.signature) four.0 seven.2 in
+      let body = first_of (body_at t g a) (λ b. result_is (sorted_automaton t a.name g b)) c one.2 in
+      let two = first_of (actions_at t g a) (λ rs. and_then (firings_at (g.outer ++ t.constants) rs a.schedule) (λ fs. result_is (body_is rs fs))) body.0 body.1 in
+      let rs = two.0 in
+      let three = first_of (firings_at (g.outer ++ t.constants) rs a.schedule) (λ fs. result_is (body_is rs fs)) body.0 two.2 in
+      let fs = three.0 in
+      let whole : body_is rs fs ≡ body.0 = cc in
+      let made : sorted_automaton t a.name g (body_is rs fs) ≡ c = ap (sorted_automaton t a.name g) whole ∙ (result_same (sorted_automaton t a.name g body.0) c body.2) in
+      let four = first_of (names_or (map (λ e. e.name) a.signature)) (λ x. and_then (names_or (map (λ u. u.name) a.transitions)) (λ y. and_then (have_entries a.signature a.transitions) (λ z. rules_at (surroundings t g) a.transitions a.signature))) rs two.1 in
+      let five = first_of (names_or (map (λ u. u.name) a.transitions)) (λ y. and_then (have_entries a.signature a.transitions) (λ z. rules_at (surroundings t g) a.transitions a.signature)) rs four.2 in
+      let six = first_of (have_entries a.signature a.transitions) (λ z. rules_at (surroundings t g) a.transitions a.signature) rs five.2 in
       let heading = heading_sound a g one.1 in
-      let rules = rules_sound g.parameters g.variables heading.kept heading.valued g.names heading.names.same a.transitions a.signature four.0 eight.2 in
-      let scope = firing_names g.parameters g.variables two.0 two.1 in
-      let view = more_names (parameter_shapes g.parameters ++ variable_shapes g.variables) t.constants two.0 three.0 scope three.1 in
-      let all = subst AreKept (sym view.same) (all_appended (λ n. IsKept n.1) (parameter_shapes g.parameters ++ variable_shapes g.variables) t.constants (all_appended (λ n. IsKept n.1) (parameter_shapes g.parameters) (variable_shapes g.variables) heading.kept heading.valued) text.constants) in
+      let outer = variable_shapes g.variables ++ parameter_shapes g.parameters in
+      let same : surroundings t g ≡ around g.parameters g.variables =
+      λ i. record { constants = t.constants; types = t.types; given = heading.given.same i; outer = heading.outer.same i; variables = length g.variables } in
+      let rules = rules_sound g.parameters g.variables heading.kept heading.valued heading.outer.differ a.transitions a.signature rs (subst (λ (s : PlainSurroundings). rules_at s a.transitions a.signature ≡ results_are rs) same six.2) in
+      let all = all_appended (λ n. IsKept n.1) outer t.constants (all_appended (λ n. IsKept n.1) (variable_shapes g.variables) (parameter_shapes g.parameters) heading.valued heading.kept) text.constants in
       subst (IsAutomatonOf t a) made (record {
         name = refl;
         constants = refl;
         parameters = heading.parameters;
         variables = heading.variables;
         rules = rules.1;
-        schedule = subst (λ ns. AllZip (IsFiringOf ns four.0) a.schedule five.0) view.same (firings_sound three.0 all four.0 rules.0 a.schedule five.0 five.1);
-        given_names = subst AreDistinct heading.names.same heading.names.differ;
-        names = subst AreDistinct view.same view.differ;
-        entries_differ = differ_sound (map (λ e. e.name) a.signature) six.0 six.1;
-        transitions_differ = differ_sound (map (λ u. u.name) a.transitions) seven.0 seven.1;
-        entries = entries_sound a.signature a.transitions eight.0 eight.1;
+        schedule = firings_sound (outer ++ t.constants) all rs rules.0 a.schedule fs (subst (λ ns. firings_at (ns ++ t.constants) rs a.schedule ≡ results_are fs) heading.outer.same three.1);
+        given_names = heading.given.differ;
+        names = heading.outer.differ;
+        entries_differ = (names_are (map (λ e. e.name) a.signature) four.0 four.1).1;
+        transitions_differ = (names_are (map (λ u. u.name) a.transitions) five.0 five.1).1;
+        entries = entries_sound a.signature a.transitions six.0 six.1;
       })

@@ -1,4 +1,5 @@
 -- what the contracts of this crate and of those above it cite
+pub mod Indexes
 pub mod NamesInView
 pub mod Parts
 pub mod Rules

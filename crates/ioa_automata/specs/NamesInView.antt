@@ -9,7 +9,7 @@ use Rattle.ioa_terms.specs.Sorted.{NameShapes}
 use Rattle.ioa_source.specs.PlainText.{const, named}
 use Rattle.ioa_source.specs.Sides.{CheckedDeclared, CheckedParameter, CheckedVariable}
 use Rattle.ioa_sort_rules.specs.declared.refusal.Refusal.{Refusal}
-use Rattle.ioa_types.specs.NameTables.{with_name, with_names}
+use Rattle.ioa_names.specs.NameTables.{new_or, with_name, with_names}
 
 -- a declared name with its shape
 abbrev pub shape_declared : CheckedDeclared → Name × PlainShape
@@ -35,20 +35,18 @@ abbrev pub own_shapes : List CheckedParameter → NameShapes
 own_shapes [] = []
 own_shapes (p ∷ more) = own_shape p ++ own_shapes more
 
--- the names in view of constants of entries and of initial values: the automaton's parameters
-abbrev pub given_scope : List CheckedDeclared → Result NameShapes Refusal
-given_scope ps = with_names [] (parameter_shapes ps)
+-- the parameters of an automaton, which constants of entries and initial values read: they differ from each other and
+-- from the text's constants
+abbrev pub given_names_or : (constants : NameShapes) → List CheckedDeclared → Result NameShapes Refusal
+given_names_or constants ps = and_then (with_names [] (parameter_shapes ps)) (new_or [] constants)
 
--- of an entry's condition: the entry's own parameters too
-abbrev pub condition_scope : List CheckedDeclared → List CheckedParameter → Result NameShapes Refusal
-condition_scope ps own = and_then (given_scope ps) (λ n. with_names n (own_shapes own))
-
--- of a guard and an effect: the state variables first
-abbrev pub step_scope : List CheckedDeclared → List CheckedVariable → List CheckedParameter
+-- its state variables and its parameters, which the other terms read too
+abbrev pub outer_names_or : (constants : NameShapes) → List CheckedDeclared → List CheckedVariable
     → Result NameShapes Refusal
-step_scope ps vs own = and_then (with_names [] (variable_shapes vs))
-    (λ n. and_then (with_names n (parameter_shapes ps)) (λ m. with_names m (own_shapes own)))
+outer_names_or constants ps vs =
+    and_then (and_then (with_names [] (variable_shapes vs)) (λ n. with_names n (parameter_shapes ps)))
+    (new_or [] constants)
 
--- of a firing: the parameters and the state variables
-abbrev pub firing_scope : List CheckedDeclared → List CheckedVariable → Result NameShapes Refusal
-firing_scope ps vs = and_then (given_scope ps) (λ n. with_names n (variable_shapes vs))
+-- an entry's own parameters: they differ from each other, from the names outside and from the text's constants
+abbrev pub own_names_or : (outer constants : NameShapes) → List CheckedParameter → Result NameShapes Refusal
+own_names_or outer constants own = and_then (with_names [] (own_shapes own)) (new_or outer constants)

@@ -17,9 +17,7 @@ use Rattle.ioa_sort_rules.specs.declared.refusal.Refusal.{Refusal}
 use Rattle.ioa_sort_rules.specs.declared.refusal.Refusal.TheVariants.{NoInitial, EmptyOfWhat, InputWhere}
 use Rattle.ioa_sorts.specs.Sorting.{PlainTyped, infer, fit, sorting}
 use Rattle.ioa_sorts.specs.Statements.{all_ok, statement_sortings}
-use Rattle.ioa_types.specs.NameTables.{with_names}
 use Rattle.ioa_types.specs.TypeTables.{TypeTable, shape_of_sort}
-use Rattle.ioa_automata.specs.NamesInView.{condition_scope}
 
 -- a declared name with the shape of its sort
 unfoldable pub declared_at : TypeTable → SourceDeclared → Result CheckedDeclared Refusal
@@ -108,17 +106,9 @@ sorted_entry e ps c = record {
   shapes = ps.shapes;
 }
 
--- the names in view of an entry's condition, with the text's constants
-abbrev pub names_in_condition : (constants : NameShapes) → List CheckedDeclared → List CheckedParameter
-    → Result NameShapes Refusal
-names_in_condition constants given own = and_then (condition_scope given own) (λ n. with_names n constants)
-
--- an entry of an automaton with these constants, types and parameters; `names` are in view in its constants
-unfoldable pub entry_at : (constants : NameShapes) → TypeTable → List CheckedDeclared → NameShapes → SourceEntry
-    → Result PlainSortedEntry Refusal
-entry_at constants types given names e = and_then (parameters_at types names e.parameters)
-    (λ ps. and_then (names_in_condition constants given ps.parameters)
-    (λ n. and_then (where_at n e.kind e.condition) (λ c. Ok (sorted_entry e ps c))))
+-- an entry of these parameters, whose condition reads these names
+unfoldable pub entry_at : NameShapes → SourceEntry → PlainSortedParameters → Result PlainSortedEntry Refusal
+entry_at names e ps = and_then (where_at names e.kind e.condition) (λ c. Ok (sorted_entry e ps c))
 
 -- a transition, of whose names in view the first `variables` may be assigned
 unfoldable pub transition_at : NameShapes → (variables : ℕ) → SourceTransition → Result CheckedTransition Refusal

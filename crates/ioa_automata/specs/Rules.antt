@@ -1,7 +1,7 @@
 -- The entries of an automaton with their transitions, and its firings, with slots and shapes (profile).
-use Rattle.std.specs.Prelude.{ℕ, Bool, true, false, not, ◌&&◌, ◌||◌, nat_eq, if◌then◌else◌}
+use Rattle.std.specs.Prelude.{ℕ, Bool, true, false, not, ◌&&◌, ◌||◌, ◌++◌, nat_eq, if◌then◌else◌}
 use Rattle.std.specs.Prelude.{List, [], ◌∷◌, Option, Some, None, Result, Ok, Err, map, length, find, slice_get}
-use Rattle.std.specs.List.{list_all, list_any}
+use Rattle.std.specs.List.{list_all}
 use Rattle.std.specs.Option.{is_some}
 use lib.Pointwise.{pointwise}
 use Rattle.ioa_values.specs.Outcome.{and_then}
@@ -16,18 +16,18 @@ use Rattle.ioa_terms.specs.Sorted.{NameShapes, shape_in_terms}
 use Rattle.ioa_actions.specs.ActionParts.{send_name, receive_name}
 use Rattle.ioa_source.specs.PlainText.{const, named}
 use Rattle.ioa_source.specs.Sides.{SourceTerm, SourceParameter, SourceEntry, SourceTransition, SourceFiring}
-use Rattle.ioa_source.specs.Sides.{CheckedTerm, CheckedDeclared, CheckedParameter, CheckedTransition, CheckedVariable}
+use Rattle.ioa_source.specs.Sides.{CheckedTerm, CheckedParameter, CheckedTransition}
 use Rattle.ioa_source.specs.Sides.{CheckedFiring}
+use Rattle.ioa_system.specs.InView.{own_names}
 use Rattle.ioa_system.specs.Parts.{PlainRule}
 use Rattle.ioa_sort_rules.specs.declared.refusal.Refusal.{Refusal}
 use Rattle.ioa_sort_rules.specs.declared.refusal.Refusal.TheVariants.{Unknown, Twice, Sorts, NoTransition, InputPre}
 use Rattle.ioa_sort_rules.specs.declared.refusal.Refusal.TheVariants.{BadArgument}
 use Rattle.ioa_sorts.specs.Sorting.{fit, sorting}
 use Rattle.ioa_sorts.specs.Statements.{all_ok}
-use Rattle.ioa_types.specs.NameTables.{with_names, words}
 use Rattle.ioa_types.specs.TypeTables.{TypeTable, are_new}
-use Rattle.ioa_automata.specs.NamesInView.{step_scope}
-use Rattle.ioa_automata.specs.Parts.{PlainSortedEntry, entry_at, transition_at}
+use Rattle.ioa_automata.specs.NamesInView.{own_names_or}
+use Rattle.ioa_automata.specs.Parts.{PlainSortedEntry, entry_at, parameters_at, transition_at}
 
 -- whether an argument of a transition's head repeats a parameter: the same term at a constant, the same name elsewhere
 abbrev pub repeats : SourceParameter → SourceTerm → Bool
@@ -100,29 +100,30 @@ unfoldable pub message_at : PlainSortedEntry → Result PlainSortedEntry Refusal
 message_at e = if may_have_name e then Ok e else Err BadArgument
 
 -- a sorted entry with its transition
-abbrev pub sorted_rule : PlainSortedEntry → CheckedTransition → NameShapes → PlainRule
-sorted_rule e t scope = record { entry = e.entry; shapes = e.shapes; transition = t; scope = words scope }
+abbrev pub sorted_rule : PlainSortedEntry → CheckedTransition → PlainRule
+sorted_rule e t =
+    record { entry = e.entry; shapes = e.shapes; transition = t; own = own_names e.entry.parameters }
 
--- what the entries of an automaton read: the text's constants and types, the automaton's parameters, the names in view
--- of constants, and the state variables
+-- what the entries of an automaton read: the text's constants and types, the names of the automaton's parameters, and
+-- those of its state variables and parameters, of which so many are variables
 pub record PlainSurroundings : Type 0 where
   pub constants : NameShapes
   pub types : TypeTable
-  pub parameters : List CheckedDeclared
-  pub names : NameShapes
-  pub variables : List CheckedVariable
+  pub given : NameShapes
+  pub outer : NameShapes
+  pub variables : ℕ
 
--- the transition of a sorted entry
-unfoldable pub rule_of : PlainSurroundings → SourceTransition → PlainSortedEntry → Result PlainRule Refusal
-rule_of s t e = and_then (step_scope s.parameters s.variables e.entry.parameters)
-    (λ scope. and_then (with_names scope s.constants)
-    (λ names. and_then (transition_at names (length s.variables) t) (λ u. Ok (sorted_rule e u scope))))
+-- the transition of a sorted entry, whose own parameters have these names
+unfoldable pub rule_of : PlainSurroundings → NameShapes → SourceTransition → PlainSortedEntry → Result PlainRule Refusal
+rule_of s own t e = and_then (transition_at (s.outer ++ (own ++ s.constants)) s.variables t) (λ u. Ok (sorted_rule e u))
 
 -- an entry with its transition
 unfoldable pub rule_at : PlainSurroundings → List SourceTransition → SourceEntry → Result PlainRule Refusal
 rule_at s ts e = and_then (transition_or e (transition_for e ts))
-    (λ t. and_then (entry_at s.constants s.types s.parameters s.names e)
-    (λ x. and_then (message_at x) (rule_of s t)))
+    (λ t. and_then (parameters_at s.types (s.given ++ s.constants) e.parameters)
+    (λ ps. and_then (own_names_or s.outer s.constants ps.parameters)
+    (λ own. and_then (entry_at (s.given ++ (own ++ s.constants)) e ps)
+    (λ x. and_then (message_at x) (rule_of s own t)))))
 
 abbrev pub rules_at : PlainSurroundings → List SourceTransition → List SourceEntry
     → Result (List PlainRule) Refusal
@@ -160,13 +161,18 @@ firing_at names rs f = and_then (entry_fired f (find (fires f) rs))
 abbrev pub firings_at : NameShapes → List PlainRule → List SourceFiring → Result (List CheckedFiring) Refusal
 firings_at names rs fs = all_ok (map (firing_at names rs) fs)
 
--- whether a transition has an entry of its name and kind
+-- names, if they differ from each other
+abbrev pub names_or : List (List ℕ) → Result (List (List ℕ)) Refusal
+names_or ws = if are_new [] ws then Ok ws else Err Twice
+
+-- the entry of a transition: the first of its name and kind
+abbrev pub entry_for : SourceTransition → List SourceEntry → Option SourceEntry
+entry_for t es = find (λ e. same_word e.name t.name && same_kind e.kind t.kind) es
+
+-- whether a transition has one
 abbrev pub has_entry : List SourceEntry → SourceTransition → Bool
-has_entry es t = list_any (λ e. same_word e.name t.name && same_kind e.kind t.kind) es
+has_entry es t = is_some (entry_for t es)
 
--- the names of entries differ, so do those of transitions, and each transition has an entry
-abbrev pub differ : List (List ℕ) → Result (Unit {0}) Refusal
-differ ws = if are_new [] ws then Ok tt else Err Twice
-
+-- each transition has an entry
 abbrev pub have_entries : List SourceEntry → List SourceTransition → Result (Unit {0}) Refusal
 have_entries es ts = if list_all (has_entry es) ts then Ok tt else Err Unknown

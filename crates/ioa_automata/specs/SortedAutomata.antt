@@ -1,10 +1,12 @@
 -- An automaton of a text with slots and shapes (profile), in words that know nothing of the order of refusals.
-use Rattle.std.specs.Prelude.{◌≡◌, ◌<◌, ◌⊎◌, ℕ, true, false, List, [], ◌∷◌, ◌++◌, Option, Some, None}
-use Rattle.std.specs.Prelude.{map, take, length, find, slice_get}
-use Rattle.std.specs.List.{AllZip, list_all}
+use Rattle.std.specs.Prelude.{◌≡◌, ◌<◌, ◌⊎◌, ℕ, false, List, [], ◌∷◌, ◌++◌, Option, Some, None}
+use Rattle.std.specs.Prelude.{map, take, length, slice_get}
+use Rattle.std.specs.List.{AllByRecursion, AllZip, Contains, IsDistinct}
 use Rattle.ioa_operators.specs.Shapes.{PlainShape, truths, integers, naturals}
 use Rattle.ioa_operators.specs.ShapeHeight.{height}
+use Rattle.ioa_terms.specs.declared.tree.Kind.{Kind}
 use Rattle.ioa_terms.specs.declared.tree.Kind.TheVariants.{Input, Output}
+use Rattle.ioa_terms.specs.Bindings.{same_word}
 use Rattle.ioa_terms.specs.declared.name.Name.TheVariants.{Word}
 use Rattle.ioa_terms.specs.PlainTerm.{name}
 use Rattle.ioa_actions.specs.ActionParts.{send_name, receive_name}
@@ -16,19 +18,18 @@ use Rattle.ioa_source.specs.Sides.{SourceTransition, SourceFiring, SourceAutomat
 use Rattle.ioa_source.specs.Sides.{CheckedTerm, CheckedDeclared, CheckedParameter, CheckedVariable}
 use Rattle.ioa_source.specs.Sides.{CheckedTransition, CheckedFiring}
 use Rattle.ioa_system.specs.InView.{Site, in_view, entry_constant, initial_value, entry_condition, guard_or_effect}
-use Rattle.ioa_system.specs.InView.{firing}
+use Rattle.ioa_system.specs.InView.{firing, own_names}
 use Rattle.ioa_system.specs.Parts.{AutomatonParts, PlainRule}
 use Rattle.ioa_sorts.specs.Determined.{is_display}
 use Rattle.ioa_sorts.specs.SortedTerms.{IsTermOf}
 use Rattle.ioa_sorts.specs.SortedStatements.{IsStatementOf}
 use Rattle.ioa_types.specs.declared.height.TheConstants.{SHAPE_LIMIT}
 use Rattle.ioa_types.specs.Meanings.{Means}
-use Rattle.ioa_types.specs.NameTables.{AreDistinct, words}
+use Rattle.ioa_names.specs.NameTables.{AreDistinct, words}
 use Rattle.ioa_types.specs.TextTypes.{PlainTextTypes}
-use Rattle.ioa_types.specs.TypeTables.{TypeTable, are_new}
+use Rattle.ioa_types.specs.TypeTables.{TypeTable}
 use Rattle.ioa_automata.specs.NamesInView.{parameter_shapes, variable_shapes, own_shapes}
 use Rattle.ioa_automata.specs.Parts.{PlainSortedEntry}
-use Rattle.ioa_automata.specs.Rules.{transition_for, fires, has_entry, is_message}
 
 -- a declared name has the shape that its sort means
 pub record IsDeclaredOf (types : TypeTable) (d : SourceDeclared) (c : CheckedDeclared) : Type 0 where
@@ -143,11 +144,12 @@ pub record IsRuleOf (t : PlainTextTypes) (ps : List CheckedDeclared) (vs : List 
       e.condition r.entry.condition
   -- its transition
   pub written : SourceTransition
-  pub found : transition_for e ts ≡ Some written
+  pub present : Contains ts written
+  pub same_kind : written.kind ≡ e.kind
+  pub same_name : written.name ≡ e.name
   pub transition : IsTransitionOf (names_at guard_or_effect t.constants ps vs r.entry.parameters) (length vs)
       written r.transition
-  pub scope : r.scope
-      ≡ words (in_view guard_or_effect (parameter_shapes ps) (variable_shapes vs) (own_shapes r.entry.parameters))
+  pub own : r.own ≡ own_names r.entry.parameters
   -- names in view differ
   pub condition_names : AreDistinct (names_at entry_condition t.constants ps vs r.entry.parameters)
   pub step_names : AreDistinct (names_at guard_or_effect t.constants ps vs r.entry.parameters)
@@ -167,15 +169,33 @@ AreArgumentsOf names (s ∷ ss) (t ∷ ts) [] = ⊥
 AreArgumentsOf names (s ∷ ss) (t ∷ ts) (c ∷ cs) =
     IsTermOf names t c (shape_in_terms s) × AreArgumentsOf names ss ts cs
 
--- a firing of a message: an entry has its name, and its arguments have the shapes of the entry's
+-- a firing's kind, if it is written, is that of an entry
+abbrev pub NamesKind : Option Kind → Kind → Type 0
+NamesKind None k = Unit {0}
+NamesKind (Some j) k = j ≡ k
+
+-- actions of this name are sends or receives
+abbrev pub IsMessage : List ℕ → Type 0
+IsMessage w = (w ≡ send_name) ⊎ (w ≡ receive_name)
+
+-- a firing of a message: it is of an entry of its name and kind, and its arguments have the shapes of the entry's
 pub record IsFiringOf (names : NameShapes) (rs : List PlainRule) (f : SourceFiring) (c : CheckedFiring)
     : Type 0 where
   pub kind : c.kind ≡ f.kind
   pub action : c.action ≡ f.action
   pub fired : PlainRule
-  pub found : find (fires f) rs ≡ Some fired
-  pub message : is_message f.action ≡ true
+  pub present : Contains rs fired
+  pub same_name : fired.entry.name ≡ f.action
+  pub of_kind : NamesKind f.kind fired.entry.kind
+  pub message : IsMessage f.action
   pub arguments : AreArgumentsOf names fired.shapes f.arguments c.arguments
+
+-- a transition has an entry of its name and kind
+pub record HasItsEntry (es : List SourceEntry) (t : SourceTransition) : Type 0 where
+  pub entry : SourceEntry
+  pub present : Contains es entry
+  pub same_kind : entry.kind ≡ t.kind
+  pub same_name : entry.name ≡ t.name
 
 -- an automaton, in a text of these types and constants
 pub record IsAutomatonOf (t : PlainTextTypes) (a : SourceAutomaton) (c : AutomatonParts) : Type 0 where
@@ -190,6 +210,6 @@ pub record IsAutomatonOf (t : PlainTextTypes) (a : SourceAutomaton) (c : Automat
   -- what has to differ does, and each transition has an entry
   pub given_names : AreDistinct (names_at initial_value t.constants c.parameters c.variables [])
   pub names : AreDistinct (names_at firing t.constants c.parameters c.variables [])
-  pub entries_differ : are_new [] (map (λ e. e.name) a.signature) ≡ true
-  pub transitions_differ : are_new [] (map (λ u. u.name) a.transitions) ≡ true
-  pub entries : list_all (has_entry a.signature) a.transitions ≡ true
+  pub entries_differ : IsDistinct same_word (map (λ e. e.name) a.signature)
+  pub transitions_differ : IsDistinct same_word (map (λ u. u.name) a.transitions)
+  pub entries : AllByRecursion (HasItsEntry a.signature) a.transitions

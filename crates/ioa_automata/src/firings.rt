@@ -1,15 +1,17 @@
 //! The firings of an automaton, with slots and shapes.
 
 ghost use Rattle.std.specs.Prelude.{◌≡◌, map, find};
-ghost use Rattle.std.specs.Option.{option_copied, option_map};
+ghost use Rattle.std.specs.Option.{option_copied};
 ghost use Rattle.ioa_values.specs.Outcome.{Answers};
 ghost use Rattle.ioa_terms.specs.View.{firing_of, term_of};
+ghost use Rattle.ioa_automata.specs.Indexes.{AreIndexed};
 ghost use Rattle.ioa_automata.specs.Rules as spec;
 
 use ioa_actions::{RECEIVE, SEND};
+use ioa_names::View;
 use ioa_sort_rules::{Refusal, shape_in_terms};
-use ioa_sorts::{View, fit};
-use ioa_system::Rule;
+use ioa_sorts::fit;
+use ioa_system::{Rule, Scope};
 use ioa_terms::{Checked, Firing, Kind, Shape, Term, Word};
 use std::alloc::Global;
 
@@ -23,23 +25,18 @@ fn is_of_kind(written: Option<Kind>, kind: Kind) -> bool
     }
 }
 
-/// Whether a firing is of an entry.
-fn fires(firing: &Firing<(), ()>, rule: &Rule) -> bool
-    ensures { result ≡ spec.fires (firing_of firing.now) rule.now }
-{
-    rule.entry.name == firing.action && is_of_kind(firing.kind, rule.entry.kind)
-}
-
-/// The rule that a firing names, if there is one.
-fn rule_fired<'a>(rules: &'a Vec<Rule>, firing: &Firing<(), ()>) -> Option<&'a Rule>
+/// The rule that a firing names, if there is one. `names` are those of the rules.
+fn rule_fired<'a>(rules: &'a Vec<Rule>, names: &Scope, firing: &Firing<(), ()>) -> Option<&'a Rule>
+    requires { AreIndexed names.now (map (λ r. r.entry.name) rules.now.items) }
     ensures { option_copied result ≡ find (spec.fires (firing_of firing.now)) rules.now.items }
 {
-    for rule in rules {
-        if fires(firing, rule) {
-            return Some(rule);
-        }
+    let slot = names.slot_of_word(&firing.action)?;
+    let rule = rules.get(slot)?;
+    if is_of_kind(firing.kind, rule.entry.kind) {
+        Some(rule)
+    } else {
+        None
     }
-    None
 }
 
 /// Whether actions of this name are sends or receives.
@@ -49,17 +46,19 @@ fn is_message(action: &Word) -> bool
     action.as_str() == SEND || action.as_str() == RECEIVE
 }
 
-/// The shapes of the arguments that a firing takes. `Unknown` (20) if it names no entry, or an action that does not
-/// run yet.
+/// The shapes of the arguments that a firing takes. `Unknown` (20) if it names no entry, or an action that does not run
+/// yet.
 #[tactic(auto, unfolding(crate::specs::Rules::entry_fired))]
 fn shapes_fired<'a>(
     rules: &'a Vec<Rule>,
+    names: &Scope,
     firing: &Firing<(), ()>,
 ) -> Result<&'a Vec<Shape>, Refusal>
+    requires { AreIndexed names.now (map (λ r. r.entry.name) rules.now.items) }
     ensures { Answers Refusal.Memory (λ ss. ss.now.items) result (spec.entry_fired (firing_of firing.now)
         (find (spec.fires (firing_of firing.now)) rules.now.items)) }
 {
-    match rule_fired(rules, firing) {
+    match rule_fired(rules, names, firing) {
         None => Err(Refusal::Unknown),
         Some(rule) => {
             if is_message(&firing.action) {
@@ -103,12 +102,14 @@ fn sort_firing(
     alloc: Global,
     view: &View,
     rules: &Vec<Rule>,
+    names: &Scope,
     firing: &Firing<(), ()>,
 ) -> Result<Firing<usize, Shape>, Refusal>
+    requires { AreIndexed names.now (map (λ r. r.entry.name) rules.now.items) }
     ensures { Answers Refusal.Memory firing_of result
         (spec.firing_at view.now rules.now.items (firing_of firing.now)) }
 {
-    let shapes = shapes_fired(rules, firing)?;
+    let shapes = shapes_fired(rules, names, firing)?;
     let arguments = sort_arguments(alloc, view, shapes, &firing.arguments)?;
     let action = firing.action.try_copy(alloc)?;
     Ok(Firing {
@@ -118,19 +119,21 @@ fn sort_firing(
     })
 }
 
-/// The firings of a schedule block.
+/// The firings of a schedule block. `names` are those of the rules.
 pub(crate) fn sort_firings(
     alloc: Global,
     view: &View,
     rules: &Vec<Rule>,
+    names: &Scope,
     firings: &Vec<Firing<(), ()>>,
 ) -> Result<Vec<Firing<usize, Shape>>, Refusal>
+    requires { AreIndexed names.now (map (λ r. r.entry.name) rules.now.items) }
     ensures { Answers Refusal.Memory (λ fs. map firing_of fs.items) result
         (spec.firings_at view.now rules.now.items (map firing_of firings.now.items)) }
 {
     let mut sorted = Vec::new(alloc);
     for firing in firings {
-        let found = sort_firing(alloc, view, rules, firing)?;
+        let found = sort_firing(alloc, view, rules, names, firing)?;
         sorted.push(found)?;
     }
     Ok(sorted)

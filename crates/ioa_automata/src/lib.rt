@@ -11,4 +11,3 @@ mod rules;
 pub use automata::sort_automaton;
 pub use firings::sort_arguments;
 pub use laws::{automata_law, heads_law};
-pub use names::view_of;

@@ -1,16 +1,15 @@
 //! The names in view at the sites of an automaton.
 
-ghost use Rattle.std.specs.Prelude.{◌≡◌, IfOk, map};
+ghost use Rattle.std.specs.Prelude.{map};
 ghost use Rattle.ioa_values.specs.Outcome.{Answers};
 ghost use Rattle.ioa_source.specs.TextView.{declared_of, parameter_of, variable_of};
-ghost use Rattle.ioa_types.specs.NameTables.{with_names};
+ghost use Rattle.ioa_names.specs.NameTables.{with_names};
 ghost use Rattle.ioa_automata.specs.NamesInView as spec;
 
+use ioa_names::NameTable;
 use ioa_sort_rules::Refusal;
-use ioa_sorts::View;
 use ioa_source::{Declared, Parameter, Variable};
 use ioa_terms::Shape;
-use ioa_types::NameTable;
 use std::alloc::Global;
 
 /// A table with one more declared name. `Twice` (21) if it is in the table.
@@ -24,7 +23,7 @@ fn with_declared(
 {
     let name = declared.name.try_copy(alloc)?;
     let shape = declared.shape.try_copy(alloc)?;
-    table.with(name, shape)
+    table.with(alloc, name, shape)
 }
 
 /// A table with the names of an automaton's parameters behind it.
@@ -77,64 +76,48 @@ fn with_own(
     Ok(table)
 }
 
-/// The names in view of constants of entries and of initial values, besides the text's constants.
-pub(crate) fn given_scope(
+/// The names of an automaton's parameters, which constants of entries and initial values read. `Twice` (21) if two of
+/// them are the same, or one is a constant's.
+pub(crate) fn given_names(
     alloc: Global,
+    constants: &NameTable,
     parameters: &Vec<Declared<Shape>>,
 ) -> Result<NameTable, Refusal>
     ensures { Answers Refusal.Memory (λ t. t) result
-        (spec.given_scope (map declared_of parameters.now.items)) }
+        (spec.given_names_or constants.now (map declared_of parameters.now.items)) }
 {
-    with_parameters(alloc, NameTable::new(alloc), parameters)
+    let table = with_parameters(alloc, NameTable::new(alloc), parameters)?;
+    table.pass_new(&NameTable::new(alloc), constants)
 }
 
-/// The names in view of an entry's condition, besides the text's constants.
-pub(crate) fn condition_scope(
+/// The names of an automaton's state variables and parameters, which its guards, effects and firings read. `Twice` (21)
+/// if two of them are the same, or one is a constant's.
+pub(crate) fn outer_names(
     alloc: Global,
-    parameters: &Vec<Declared<Shape>>,
-    own: &Vec<Parameter<usize, Shape>>,
-) -> Result<NameTable, Refusal>
-    ensures { Answers Refusal.Memory (λ t. t) result
-        (spec.condition_scope (map declared_of parameters.now.items) (map parameter_of own.now.items)) }
-{
-    let table = given_scope(alloc, parameters)?;
-    with_own(alloc, table, own)
-}
-
-/// The names in view of guards and effects, besides the text's constants.
-pub(crate) fn step_scope(
-    alloc: Global,
+    constants: &NameTable,
     parameters: &Vec<Declared<Shape>>,
     variables: &Vec<Variable<usize, Shape>>,
-    own: &Vec<Parameter<usize, Shape>>,
 ) -> Result<NameTable, Refusal>
     ensures { Answers Refusal.Memory (λ t. t) result
-        (spec.step_scope (map declared_of parameters.now.items) (map variable_of variables.now.items)
-        (map parameter_of own.now.items)) }
+        (spec.outer_names_or constants.now (map declared_of parameters.now.items)
+        (map variable_of variables.now.items)) }
 {
     let table = with_variables(alloc, NameTable::new(alloc), variables)?;
     let table = with_parameters(alloc, table, parameters)?;
-    with_own(alloc, table, own)
+    table.pass_new(&NameTable::new(alloc), constants)
 }
 
-/// The names in view of firings, besides the text's constants.
-pub(crate) fn firing_scope(
+/// The names of an entry's own parameters. `Twice` (21) if two of them are the same, or one is a name outside or a
+/// constant's.
+pub(crate) fn own_names(
     alloc: Global,
-    parameters: &Vec<Declared<Shape>>,
-    variables: &Vec<Variable<usize, Shape>>,
+    outer: &NameTable,
+    constants: &NameTable,
+    own: &Vec<Parameter<usize, Shape>>,
 ) -> Result<NameTable, Refusal>
     ensures { Answers Refusal.Memory (λ t. t) result
-        (spec.firing_scope (map declared_of parameters.now.items) (map variable_of variables.now.items)) }
+        (spec.own_names_or outer.now constants.now (map parameter_of own.now.items)) }
 {
-    let table = given_scope(alloc, parameters)?;
-    with_variables(alloc, table, variables)
-}
-
-/// What a term reads: names, and the text's constants behind them. `Twice` (21) if a name is a constant's.
-pub fn view_of(alloc: Global, scope: NameTable, constants: &NameTable) -> Result<View, Refusal>
-    ensures { Answers Refusal.Memory (λ v. v) result (with_names scope constants.now) }
-{
-    let table = scope.with_all(alloc, constants)?;
-    let (names, shapes) = table.into_parts();
-    Ok(View::new(alloc, names, shapes)?)
+    let table = with_own(alloc, NameTable::new(alloc), own)?;
+    table.pass_new(outer, constants)
 }

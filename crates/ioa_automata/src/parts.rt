@@ -3,19 +3,18 @@
 ghost use Rattle.std.specs.Prelude.{◌≡◌, map, take};
 ghost use Rattle.std.specs.Option.{option_map};
 ghost use Rattle.ioa_values.specs.Outcome.{Answers};
-ghost use Rattle.ioa_terms.specs.PlainTerm.{statements_of};
-ghost use Rattle.ioa_terms.specs.View.{statement_of, term_of};
+ghost use Rattle.ioa_terms.specs.View.{term_of};
 ghost use Rattle.ioa_source.specs.TextView.{declared_of, parameter_of, entry_of, transition_of, variable_of};
 ghost use Rattle.ioa_sorts.specs.SortingView.{typed_of};
 ghost use Rattle.ioa_automata.specs.Parts as spec;
 ghost use Rattle.ioa_automata.specs.SortedView.{sorted_parameter_of, sorted_parameters_of, sorted_entry_of};
 
-use crate::names::{condition_scope, view_of};
+use ioa_names::View;
 use ioa_sort_rules::{Refusal, shape_in_terms};
-use ioa_sorts::{Typed, View, fit, infer, sort_statements};
+use ioa_sorts::{Typed, fit, infer, sort_statements};
 use ioa_source::{Declared, Entry, Parameter, Transition, Variable};
 use ioa_terms::{Checked, Kind, Shape, ShapeForm, Term};
-use ioa_types::{NameTable, Types};
+use ioa_types::Types;
 use std::alloc::Global;
 
 /// A parameter of an entry, and the shape of the arguments that it takes.
@@ -204,7 +203,7 @@ fn sort_parameter(
 }
 
 /// The parameters of an entry, and the shapes of its arguments.
-fn sort_parameters(
+pub(crate) fn sort_parameters(
     alloc: Global,
     types: &Types,
     view: &View,
@@ -247,23 +246,18 @@ fn sort_where(
     }
 }
 
-/// An entry of an automaton with these parameters. `view` has the names in view of constants.
+/// An entry of these parameters, whose condition reads these names.
 #[tactic(auto, unfolding(crate::specs::Parts::entry_at))]
 pub(crate) fn sort_entry(
     alloc: Global,
-    constants: &NameTable,
-    types: &Types,
-    given: &Vec<Declared<Shape>>,
     view: &View,
     entry: &Entry<(), ()>,
+    sorted: SortedParameters,
 ) -> Result<SortedEntry, Refusal>
     ensures { Answers Refusal.Memory sorted_entry_of result
-        (spec.entry_at constants.now types.now (map declared_of given.now.items) view.now (entry_of entry.now)) }
+        (spec.entry_at view.now (entry_of entry.now) (sorted_parameters_of sorted)) }
 {
-    let sorted = sort_parameters(alloc, types, view, &entry.parameters)?;
-    let scope = condition_scope(alloc, given, &sorted.parameters)?;
-    let view = view_of(alloc, scope, constants)?;
-    let condition = sort_where(alloc, &view, entry.kind, &entry.condition)?;
+    let condition = sort_where(alloc, view, entry.kind, &entry.condition)?;
     let name = entry.name.try_copy(alloc)?;
     Ok(SortedEntry {
         entry: Entry {

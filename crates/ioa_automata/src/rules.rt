@@ -1,27 +1,27 @@
 //! The entries of an automaton with their transitions, and its firings, with slots and shapes.
 
-ghost use Rattle.std.specs.Prelude.{◌≡◌, ◌&&◌, map, find, slice_get};
+ghost use Rattle.std.specs.Prelude.{◌≡◌, ◌&&◌, ◌++◌, IfOk, map, slice_get};
 ghost use Rattle.std.specs.Option.{option_copied, option_map, is_some};
 ghost use lib.Pointwise.{pointwise};
 ghost use Rattle.ioa_values.specs.Outcome.{Answers};
-ghost use Rattle.ioa_terms.specs.Bindings.{same_word};
 ghost use Rattle.ioa_terms.specs.SameTerms.{same_kind};
 ghost use Rattle.ioa_terms.specs.View.{term_of};
-ghost use Rattle.ioa_source.specs.TextView.{declared_of, parameter_of, entry_of, transition_of, variable_of};
+ghost use Rattle.ioa_source.specs.TextView.{parameter_of, entry_of, transition_of};
+ghost use Rattle.ioa_system.specs.InView.{own_names};
 ghost use Rattle.ioa_automata.specs.Rules as spec;
-ghost use Rattle.ioa_automata.specs.Rules.{PlainSurroundings};
-ghost use Rattle.ioa_automata.specs.SortedView.{sorted_entry_of, surroundings_of};
+ghost use Rattle.ioa_automata.specs.Indexes.{AreIndexed};
+ghost use Rattle.ioa_automata.specs.SortedView.{sorted_entry_of, surroundings_of, transitions_of};
 
-use crate::names::{step_scope, view_of};
-use crate::parts::{SortedEntry, sort_entry, sort_transition};
+use crate::names::own_names;
+use crate::parts::{SortedEntry, sort_entry, sort_parameters, sort_transition};
 use ioa_actions::{RECEIVE, SEND};
-use ioa_sort_rules::{Refusal, shape_in_terms};
-use ioa_sorts::{View, fit};
-use ioa_source::{Automaton, Declared, Entry, Parameter, Transition, Variable};
+use ioa_names::{NameTable, View};
+use ioa_sort_rules::Refusal;
+use ioa_source::{Entry, Parameter, Transition};
 use ioa_system::{Rule, Scope};
-use ioa_terms::{Checked, Firing, Kind, Name, Shape, ShapeForm, Term, Tree, Word, is_same_term};
-use ioa_types::{NameTable, Types};
-use std::alloc::Global;
+use ioa_terms::{Kind, Name, Shape, ShapeForm, Term, Tree, Word, is_same_term};
+use ioa_types::Types;
+use std::alloc::{AllocError, Global};
 
 /// What the entries of an automaton read.
 #[derive(Drop)]
@@ -30,12 +30,19 @@ pub(crate) struct Surroundings<'a> {
     pub constants: &'a NameTable,
     /// The text's types.
     pub types: &'a Types,
-    /// The automaton's parameters.
-    pub parameters: &'a Vec<Declared<Shape>>,
-    /// The names in view of constants of entries.
-    pub view: &'a View,
-    /// The state variables.
-    pub variables: &'a Vec<Variable<usize, Shape>>,
+    /// The names of the automaton's parameters.
+    pub given: &'a NameTable,
+    /// The names of its state variables and of its parameters.
+    pub outer: &'a NameTable,
+    /// How many state variables there are.
+    pub variables: usize,
+}
+
+/// Transitions, with an index of their names.
+#[derive(Drop)]
+pub(crate) struct Transitions<'a> {
+    pub items: &'a Vec<Transition<(), ()>>,
+    pub names: &'a Scope,
 }
 
 /// Whether an argument of a transition's head repeats a parameter.
@@ -71,29 +78,32 @@ fn head_repeats(parameters: &Vec<Parameter<(), ()>>, arguments: &Vec<Term>) -> b
 
 /// The transition that has the name and kind of an entry.
 fn transition_for<'a>(
-    transitions: &'a Vec<Transition<(), ()>>,
+    transitions: &Transitions<'a>,
     entry: &Entry<(), ()>,
 ) -> Option<&'a Transition<(), ()>>
+    requires { AreIndexed transitions.now.names.now (map (λ t. t.name) (transitions_of transitions.now)) }
     ensures { option_map transition_of (option_copied result)
-        ≡ spec.transition_for (entry_of entry.now) (map transition_of transitions.now.items) }
+        ≡ spec.transition_for (entry_of entry.now) (transitions_of transitions.now) }
 {
-    for transition in transitions {
-        if transition.name == entry.name && transition.kind == entry.kind {
-            return Some(transition);
-        }
+    let slot = transitions.names.slot_of_word(&entry.name)?;
+    let transition = transitions.items.get(slot)?;
+    if transition.kind == entry.kind {
+        Some(transition)
+    } else {
+        None
     }
-    None
 }
 
 /// The transition of an entry, whose head repeats it. `NoTransition` (25) if there is none, `BadArgument` (34) if its
 /// head does not repeat the entry, `InputPre` (24) if the entry is an input's and the transition has a guard.
 #[tactic(auto, unfolding(crate::specs::Rules::transition_or))]
 fn transition_of_entry<'a>(
-    transitions: &'a Vec<Transition<(), ()>>,
+    transitions: &Transitions<'a>,
     entry: &Entry<(), ()>,
 ) -> Result<&'a Transition<(), ()>, Refusal>
+    requires { AreIndexed transitions.now.names.now (map (λ t. t.name) (transitions_of transitions.now)) }
     ensures { Answers Refusal.Memory (λ t. transition_of t.now) result (spec.transition_or (entry_of entry.now)
-        (spec.transition_for (entry_of entry.now) (map transition_of transitions.now.items))) }
+        (spec.transition_for (entry_of entry.now) (transitions_of transitions.now))) }
 {
     let Some(transition) = transition_for(transitions, entry) else {
         return Err(Refusal::NoTransition);
@@ -196,78 +206,85 @@ fn pass_name(sorted: SortedEntry) -> Result<SortedEntry, Refusal>
     }
 }
 
-/// A sorted entry with its transition.
+/// A sorted entry with its transition. Its own parameters have these names.
 #[tactic(auto, unfolding(crate::specs::Rules::rule_of))]
 fn rule_of(
     alloc: Global,
     around: &Surroundings,
+    own: &NameTable,
     transition: &Transition<(), ()>,
     sorted: SortedEntry,
 ) -> Result<Rule, Refusal>
     ensures { Answers Refusal.Memory (λ r. r) result
-        (spec.rule_of (surroundings_of around.now) (transition_of transition.now) (sorted_entry_of sorted)) }
+        (spec.rule_of (surroundings_of around.now) own.now (transition_of transition.now) (sorted_entry_of sorted)) }
 {
-    let scope = step_scope(
-        alloc,
-        around.parameters,
-        around.variables,
-        &sorted.entry.parameters,
-    )?;
-    let view = view_of(alloc, scope, around.constants)?;
-    let transition = sort_transition(alloc, &view, around.variables.len(), transition)?;
-    let scope = step_scope(
-        alloc,
-        around.parameters,
-        around.variables,
-        &sorted.entry.parameters,
-    )?;
+    let view = View::new(around.outer, own, around.constants)?;
+    let transition = sort_transition(alloc, &view, around.variables, transition)?;
+    let own = own_words(alloc, &sorted.entry.parameters)?;
     Ok(Rule {
         entry: sorted.entry,
         shapes: sorted.shapes,
         transition,
-        scope: scope.into_names(),
+        own,
     })
 }
 
-/// An entry with its transition.
+/// The names of an entry's own parameters, with their own memory.
+fn own_words(
+    alloc: Global,
+    parameters: &Vec<Parameter<usize, Shape>>,
+) -> Result<Vec<Word>, AllocError>
+    ensures { IfOk result (λ ws. ws.items ≡ own_names (map parameter_of parameters.now.items)) }
+{
+    let mut names = Vec::new(alloc);
+    for parameter in parameters {
+        if let Parameter::Declared(declared) = parameter {
+            names.push(declared.name.try_copy(alloc)?)?;
+        }
+    }
+    Ok(names)
+}
+
+/// An entry with its transition. `view` has the names in view of its constants.
 #[tactic(auto, unfolding(crate::specs::Rules::rule_at))]
 fn sort_rule(
     alloc: Global,
     around: &Surroundings,
-    transitions: &Vec<Transition<(), ()>>,
+    view: &View,
+    transitions: &Transitions,
     entry: &Entry<(), ()>,
 ) -> Result<Rule, Refusal>
+    requires constants { view.now ≡ around.now.given.now ++ around.now.constants.now }
+    requires transitions { AreIndexed transitions.now.names.now (map (λ t. t.name) (transitions_of transitions.now)) }
     ensures { Answers Refusal.Memory (λ r. r) result
-        (spec.rule_at (surroundings_of around.now) (map transition_of transitions.now.items)
-        (entry_of entry.now)) }
+        (spec.rule_at (surroundings_of around.now) (transitions_of transitions.now) (entry_of entry.now)) }
 {
     let transition = transition_of_entry(transitions, entry)?;
-    let sorted = sort_entry(
-        alloc,
-        around.constants,
-        around.types,
-        around.parameters,
-        around.view,
-        entry,
-    )?;
+    let sorted = sort_parameters(alloc, around.types, view, &entry.parameters)?;
+    let own = own_names(alloc, around.outer, around.constants, &sorted.parameters)?;
+    let view = View::new(around.given, &own, around.constants)?;
+    let sorted = sort_entry(alloc, &view, entry, sorted)?;
     let sorted = pass_name(sorted)?;
-    rule_of(alloc, around, transition, sorted)
+    rule_of(alloc, around, &own, transition, sorted)
 }
 
 /// The entries of an automaton with their transitions.
 pub(crate) fn sort_rules(
     alloc: Global,
     around: &Surroundings,
-    transitions: &Vec<Transition<(), ()>>,
+    transitions: &Transitions,
     entries: &Vec<Entry<(), ()>>,
 ) -> Result<Vec<Rule>, Refusal>
+    requires { AreIndexed transitions.now.names.now (map (λ t. t.name) (transitions_of transitions.now)) }
     ensures { Answers Refusal.Memory (λ rs. rs.items) result
-        (spec.rules_at (surroundings_of around.now) (map transition_of transitions.now.items)
+        (spec.rules_at (surroundings_of around.now) (transitions_of transitions.now)
         (map entry_of entries.now.items)) }
 {
+    let none = NameTable::new(alloc);
+    let view = View::new(around.given, &none, around.constants)?;
     let mut rules = Vec::new(alloc);
     for entry in entries {
-        let rule = sort_rule(alloc, around, transitions, entry)?;
+        let rule = sort_rule(alloc, around, &view, transitions, entry)?;
         rules.push(rule)?;
     }
     Ok(rules)

@@ -4,19 +4,18 @@ use Rattle.std.specs.List.{AllByRecursion, IsDistinct}
 use Rattle.ioa_source.specs.Sides.{SourcePlacement, SourceText}
 use Rattle.ioa_system.specs.Declarations.{same_channel}
 use Rattle.ioa_system.specs.Systems.{SystemParts, system}
-use Rattle.ioa_types.specs.NameTables.{words}
+use Rattle.ioa_names.specs.NameTables.{words}
 use Rattle.ioa_types.specs.TextTypes.{no_types}
-use Rattle.ioa_types.proofs.Names.{all_found}
 use Rattle.ioa_automata.proofs.Results.{result_is}
 use Rattle.ioa_check.specs.declared.nodes.TheConstants.{MOST_NODES}
 use Rattle.ioa_check.specs.declared.channels.TheConstants.{MOST_CHANNELS}
 use Rattle.ioa_check.specs.Sections.{nodes_in, channels_in}
 use Rattle.ioa_check.specs.Nodes.{nodes_or, nodes_at, programs_at, programs_from}
 use Rattle.ioa_check.specs.Channels.{channels_or, channels_at, all_channels_at}
-use Rattle.ioa_check.specs.Checking.{system_at, section_at, system_of}
+use Rattle.ioa_check.specs.Checking.{system_at, system_of}
 use Rattle.ioa_check.specs.Systems.{IsChannelOf, IsSystemOf, same_number}
 use Rattle.ioa_check.proofs.Results.{checked_is}
-use Rattle.ioa_check.proofs.CompleteTypes.{types_found, constants_differ, automata_found}
+use Rattle.ioa_check.proofs.CompleteTypes.{types_found, automata_found}
 use Rattle.ioa_check.proofs.CompleteNodes.{passes, nodes_found}
 use Rattle.ioa_check.proofs.CompleteChannels.{channels_found}
 use Rattle.ioa_check.proofs.Tests.{few_found, numbered_anew, channels_anew}
@@ -46,15 +45,10 @@ module _ (x : SourceText) (s : SystemParts) (h : IsSystemOf x s) where
       rebuilt : s ≡ system (words h.types.constants) s.programs (channels_in x.system)
       rebuilt = λ i. system (h.names i) s.programs (h.channels i)
 
-  section_found : result_is s ≡ section_at h.types h.automata x.system
-  unfolding section_at
-  section_found =
-      rw (← all_found [] h.types.constants (constants_differ x.declarations h.types h.declared)) placed_found
-
   whole_found : checked_is s ≡ system_of x
   unfolding system_of
   whole_found =
-      rw (← types_found x.declarations 0 no_types h.types h.declared, ← automata_found h.types 0 [] x.declarations h.automata h.made h.automata_differ, ← section_found) refl
+      rw (← types_found x.declarations 0 no_types h.types h.declared, ← automata_found h.types 0 [] x.declarations h.automata h.made h.automata_differ, ← placed_found) refl
 
 -- the system is found
 pub system_found : (x : SourceText) (s : SystemParts) → IsSystemOf x s → system_of x ≡ checked_is s

@@ -1,26 +1,27 @@
 -- The system of a text declares each thing once.
-use Rattle.std.proofs.Common.{◌≡◌, ℕ, ℤ, ◌+◌, ◌<◌, pos, Bool, true, false, not, ◌&&◌, ◌||◌, List, [], ◌∷◌, ◌++◌, Some, refl, sym, ap, subst, map, length, arith, append_assoc}
-use Rattle.std.specs.List.{AllByRecursion, AllZip, IsDistinct, list_any}
+use Rattle.std.proofs.Common.{◌≡◌, ℕ, ℤ, ◌+◌, ◌<◌, pos, false, List, [], ◌∷◌, ◌++◌, refl, sym, subst, map, length, arith}
+use Rattle.std.specs.List.{AllByRecursion, AllZip, IsDistinct}
 use Rattle.std.specs.Ordering.{int_eq}
 use Rattle.ioa_values.specs.Data.{Data}
 use Rattle.ioa_terms.specs.Bindings.{Bindings, same_word}
 use Rattle.ioa_terms.specs.Sorted.{NameShapes}
 use Rattle.ioa_source.specs.declared.declaration.Channel.{Channel}
-use Rattle.ioa_source.specs.Sides.{SourceAutomaton, SourceEntry, SourceNode, SourceText, SourceTransition}
-use Rattle.ioa_source.specs.Sides.{CheckedDeclared, CheckedVariable}
+use Rattle.ioa_source.specs.Sides.{SourceAutomaton, SourceNode, SourceText}
+use Rattle.ioa_source.specs.Sides.{CheckedVariable}
 use Rattle.ioa_system.specs.Declarations.{DeclaresOnce, IsWellDeclared, same_channel}
-use Rattle.ioa_system.specs.InView.{given_bindings, variable_names}
-use Rattle.ioa_system.specs.Parts.{AutomatonParts, Parts, PlainRule}
+use Rattle.ioa_system.specs.InView.{given_bindings}
+use Rattle.ioa_system.specs.Parts.{AutomatonParts, Parts}
 use Rattle.ioa_system.specs.Systems.{SystemParts}
-use Rattle.ioa_types.specs.NameTables.{AreDistinct, words}
 use Rattle.ioa_types.specs.TextTypes.{PlainTextTypes}
-use Rattle.ioa_types.specs.TypeTables.{are_new}
 use Rattle.ioa_automata.specs.NamesInView.{parameter_shapes, variable_shapes}
-use Rattle.ioa_automata.specs.SortedAutomata.{IsAutomatonOf, IsRuleOf}
+use Rattle.ioa_automata.specs.SortedAutomata.{IsAutomatonOf}
 use Rattle.ioa_check.specs.Sections.{automata_in, nodes_in}
 use Rattle.ioa_check.specs.Systems.{AreNodesOf, IsInitialValue, IsNodeOf, IsSystemOf}
-use Rattle.ioa_check.proofs.SoundNodes.{found_has}
-use Rattle.ioa_check.proofs.Tests.{numbers_apart, word_turned}
+use Rattle.ioa_names.proofs.Names.{first_differ}
+use Rattle.ioa_automata.proofs.Compiled.{variable_words}
+use Rattle.ioa_automata.proofs.Complete.{rule_words}
+use Rattle.ioa_automata.proofs.Lookups.{found_has}
+use Rattle.ioa_check.proofs.Tests.{numbers_apart}
 
 -- the nodes from a number on have other numbers than one below it
 others_apart : (names : NameShapes) (automata : List AutomatonParts) (ns : List SourceNode) (m k : ℕ) → m < k → (ps : List Parts) → AreNodesOf names automata ns k ps → AllByRecursion (λ y. int_eq (pos m) y ≡ false) (map (λ p. p.node) ps)
@@ -37,70 +38,6 @@ unfolding IsDistinct
 nodes_differ names automata ns k [] nodes = tt
 nodes_differ names automata ns k (p ∷ more) nodes =
     (subst (λ (i : ℤ). AllByRecursion (λ y. int_eq i y ≡ false) (map (λ (q : Parts). q.node) more)) (sym nodes.0.number) (others_apart names automata ns k (k + 1) (omega arith) more nodes.1), nodes_differ names automata ns (k + 1) more nodes.1)
-
--- words that are new one after another differ
-neither : (a b : Bool) → a || b ≡ false → (a ≡ false) × (b ≡ false)
-neither true b h = absurd (cc)
-neither false b h = (refl, h)
-
-first_false : (a b : Bool) → not a && b ≡ true → (a ≡ false) × (b ≡ true)
-first_false true b h = absurd (cc)
-first_false false b h = (refl, h)
-
-none_is : (w : List ℕ) (xs : List (List ℕ)) → list_any (same_word w) xs ≡ false → AllByRecursion (λ x. same_word x w ≡ false) xs
-none_is w [] h = tt
-none_is w (x ∷ xs) h =
-    let both = neither (same_word w x) (list_any (same_word w) xs) h in
-    (word_turned w x both.0, none_is w xs both.1)
-
-nothing_behind : {A : Type 0} (xs : List A) → xs ≡ xs ++ []
-nothing_behind [] = refl
-nothing_behind (x ∷ xs) = ap (λ ys. x ∷ ys) (nothing_behind xs)
-
-all_pushed : {A : Type 0} (P : A → Type 0) (xs : List A) (y : A) → AllByRecursion P xs → P y → AllByRecursion P (xs ++ y ∷ [])
-all_pushed P [] y h p = (p, tt)
-all_pushed P (x ∷ xs) y h p = (h.0, all_pushed P xs y h.1 p)
-
-distinct_pushed : {A : Type 0} (e : A → A → Bool) (xs : List A) (y : A) → IsDistinct e xs → AllByRecursion (λ x. e x y ≡ false) xs → IsDistinct e (xs ++ y ∷ [])
-unfolding IsDistinct
-distinct_pushed e [] y d h = (tt, tt)
-distinct_pushed e (x ∷ xs) y d h = (all_pushed (λ z. e x z ≡ false) xs y d.0 h.0, distinct_pushed e xs y d.1 h.1)
-
-words_differ : (before ws : List (List ℕ)) → IsDistinct same_word before → are_new before ws ≡ true → IsDistinct same_word (before ++ ws)
-words_differ before [] d h = subst (IsDistinct same_word) (nothing_behind before) d
-words_differ before (w ∷ ws) d h =
-    let both = first_false (list_any (same_word w) before) (are_new (before ++ w ∷ []) ws) h in
-    subst (IsDistinct same_word) (append_assoc before (w ∷ []) ws) (words_differ (before ++ w ∷ []) ws (distinct_pushed same_word before w d (none_is w before both.0)) both.1)
-
-new_differ : (ws : List (List ℕ)) → are_new [] ws ≡ true → IsDistinct same_word ws
-unfolding IsDistinct
-new_differ ws h = words_differ [] ws tt h
-
--- names that differ still do if some are left away, in front or behind
-left_all : (P : List ℕ → Type 0) (xs ys : NameShapes) → AllByRecursion P (words (xs ++ ys)) → AllByRecursion P (words xs)
-left_all P [] ys h = tt
-left_all P (x ∷ xs) ys h = (h.0, left_all P xs ys h.1)
-
-left_differ : (xs ys : NameShapes) → AreDistinct (xs ++ ys) → AreDistinct xs
-unfolding IsDistinct
-left_differ [] ys d = tt
-left_differ (x ∷ xs) ys d = (left_all _ xs ys d.0, left_differ xs ys d.1)
-
-right_differ : (xs ys : NameShapes) → AreDistinct (xs ++ ys) → AreDistinct ys
-unfolding IsDistinct
-right_differ [] ys d = d
-right_differ (x ∷ xs) ys d = right_differ xs ys d.1
-
-variable_words : (vs : List CheckedVariable) → words (variable_shapes vs) ≡ variable_names vs
-variable_words [] = refl
-variable_words (v ∷ vs) = ap (λ ws. v.declared.name ∷ ws) (variable_words vs)
-
--- the names of entries are those of the text
-rule_words : (t : PlainTextTypes) (ps : List CheckedDeclared) (vs : List CheckedVariable) (ts : List SourceTransition) (es : List SourceEntry) (rs : List PlainRule) → AllZip (IsRuleOf t ps vs ts) es rs → map (λ e. e.name) es ≡ map (λ r. r.entry.name) rs
-rule_words t ps vs ts [] [] h = refl
-rule_words t ps vs ts [] (r ∷ rs) h = absurd h
-rule_words t ps vs ts (e ∷ es) [] h = absurd h
-rule_words t ps vs ts (e ∷ es) (r ∷ rs) h = λ i. sym h.0.name i ∷ rule_words t ps vs ts es rs h.1 i
 
 -- as many values as variables
 as_many : (e : Bindings) (vs : List CheckedVariable) (ds : List Data) → AllZip (IsInitialValue e) vs ds → length ds ≡ length vs
@@ -124,10 +61,11 @@ program_once : (t : PlainTextTypes) (names : NameShapes) (automata : List Automa
 program_once t names automata ns k p made n =
     let c = p.automaton in
     let a : IsMade t p.automaton = found_has (IsMade t) (λ (b : AutomatonParts). same_word b.name n.node.automaton) automata p.automaton made n.automaton in
-    let scope = parameter_shapes c.parameters ++ variable_shapes c.variables in
+    let variables = variable_shapes c.variables in
+    let given = parameter_shapes c.parameters in
     record {
-      entries = subst (λ (ws : List (List ℕ)). IsDistinct same_word ws) (rule_words t c.parameters c.variables a.0.transitions a.0.signature c.rules a.1.rules) (new_differ (map (λ (e : SourceEntry). e.name) a.0.signature) a.1.entries_differ);
-      variables = subst (λ (ws : List (List ℕ)). IsDistinct same_word ws) (variable_words c.variables) (right_differ (parameter_shapes c.parameters) (variable_shapes c.variables) (left_differ scope t.constants a.1.names));
+      entries = subst (λ (ws : List (List ℕ)). IsDistinct same_word ws) (rule_words t c.parameters c.variables a.0.transitions a.0.signature c.rules a.1.rules) a.1.entries_differ;
+      variables = subst (λ (ws : List (List ℕ)). IsDistinct same_word ws) (variable_words c.variables) (first_differ variables given (first_differ (variables ++ given) t.constants a.1.names));
       valued = as_many (given_bindings c p.arguments) c.variables p.initial n.program.initial;
     }
 

@@ -19,7 +19,7 @@ use Rattle.ioa_sorts.specs.Statements.{all_ok}
 use Rattle.ioa_sorts.proofs.Types.{in_terms}
 use Rattle.ioa_sorts.proofs.Sound.{fit_sound}
 use Rattle.ioa_types.specs.Meanings.{tuple_types, AreTextTypes}
-use Rattle.ioa_types.specs.NameTables.{words}
+use Rattle.ioa_names.specs.NameTables.{words}
 use Rattle.ioa_types.specs.TextTypes.{PlainTextTypes}
 use Rattle.ioa_types.proofs.Meant.{sort_found, sort_declared}
 use Rattle.ioa_automata.specs.Rules.{arguments_at}

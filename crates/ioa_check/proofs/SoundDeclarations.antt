@@ -6,9 +6,11 @@ use Rattle.ioa_terms.specs.Bindings.{same_word}
 use Rattle.ioa_source.specs.PlainText.{type_named, automaton}
 use Rattle.ioa_source.specs.Sides.{SourceDeclaration}
 use Rattle.ioa_system.specs.Parts.{AutomatonParts}
+use Rattle.ioa_names.specs.NameTables.{AreDistinct}
 use Rattle.ioa_types.specs.Meanings.{AreTextTypes}
-use Rattle.ioa_types.specs.TextTypes.{PlainTextTypes, with_type}
-use Rattle.ioa_types.proofs.Meant.{type_added}
+use Rattle.ioa_types.specs.TextTypes.{PlainTextTypes, no_types, with_type}
+use Rattle.ioa_types.proofs.Meant.{no_text_types, type_added}
+use Rattle.ioa_types.proofs.TypeDeclarations.{type_sound}
 use Rattle.ioa_automata.specs.SortedAutomata.{IsAutomatonOf}
 use Rattle.ioa_automata.proofs.SoundRules.{automaton_sound}
 use Rattle.ioa_check.specs.Sections.{automata_in}
@@ -21,14 +23,19 @@ use Rattle.ioa_check.proofs.Grounds.{automaton_new}
 use Rattle.ioa_check.proofs.Tests.{words_turned}
 
 -- types
-pub types_sound : (ds : List SourceDeclaration) (index : ℕ) (t u : PlainTextTypes) → AreTextTypes t → types_at index t ds ≡ checked_is u → AreTypesOf ds t u × AreTextTypes u
-types_sound [] index t u text h = let same : t ≡ u = cc in (sym same, subst AreTextTypes same text)
-types_sound (type_named d ∷ more) index t u text h =
+types_sound : (ds : List SourceDeclaration) (index : ℕ) (t u : PlainTextTypes) → AreTextTypes t → AreDistinct t.types → types_at index t ds ≡ checked_is u → AreTypesOf ds t u × AreTextTypes u
+types_sound [] index t u text differ h = let same : t ≡ u = cc in (sym same, subst AreTextTypes same text)
+types_sound (type_named d ∷ more) index t u text differ h =
     let one = first_of (in_declaration index (with_type t d)) (λ v. types_at (index + 1) v more) u h in
     let made = within_declaration index (with_type t d) one.0 one.1 in
-    let rest = types_sound more (index + 1) one.0 u (type_added t one.0 d text made) one.2 in
-    ((one.0, made, rest.0), rest.1)
-types_sound (automaton a ∷ more) index t u text h = types_sound more (index + 1) t u text h
+    let declares = type_sound t one.0 d text differ made in
+    let rest = types_sound more (index + 1) one.0 u (type_added t one.0 d text made) declares.types_differ one.2 in
+    ((one.0, declares, rest.0), rest.1)
+types_sound (automaton a ∷ more) index t u text differ h = types_sound more (index + 1) t u text differ h
+
+pub text_types_sound : (ds : List SourceDeclaration) (u : PlainTextTypes) → types_at 0 no_types ds ≡ checked_is u → AreTypesOf ds no_types u × AreTextTypes u
+unfolding IsDistinct
+text_types_sound ds u h = types_sound ds 0 no_types u no_text_types tt h
 
 -- automata
 abbrev names_in : List SourceDeclaration → List (List ℕ)

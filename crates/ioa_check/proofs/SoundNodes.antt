@@ -1,5 +1,5 @@
 -- The programs of the nodes of a text.
-use Rattle.std.proofs.Common.{◌≡◌, ◌≤◌, ℕ, zero, suc, ◌+◌, pos, ℤ, Bool, true, false, not, ◌&&◌, ◌||◌, nat_le, if◌then◌else◌, List, [], ◌∷◌, ◌++◌, Option, Some, None, Result, Ok, Err, refl, sym, ap, subst, ◌∙◌, find, length, slice_get, leb-true, arith}
+use Rattle.std.proofs.Common.{◌≡◌, ◌≤◌, ℕ, zero, suc, ◌+◌, pos, ℤ, Bool, true, false, not, ◌&&◌, ◌||◌, nat_le, List, [], ◌∷◌, ◌++◌, Option, Some, None, Result, Ok, Err, refl, sym, ap, subst, ◌∙◌, find, length, slice_get, leb-true, arith}
 use Rattle.std.specs.List.{AllByRecursion, AllZip, IsDistinct, list_any}
 use Rattle.std.proofs.lemmas.Bool.{and_parts}
 use Rattle.std.proofs.lemmas.Bool.Decides.{Decides-int_eq}
@@ -20,6 +20,7 @@ use Rattle.ioa_sort_rules.specs.declared.refusal.Refusal.TheVariants.{Twice, Lim
 use Rattle.ioa_automata.specs.Rules.{arguments_at}
 use Rattle.ioa_automata.proofs.Loops.{results_are}
 use Rattle.ioa_automata.proofs.Results.{result_is, all_ok_each, zip_weaker}
+use Rattle.ioa_automata.proofs.Lookups.{found_has}
 use Rattle.ioa_check.specs.declared.nodes.TheConstants.{MOST_NODES}
 use Rattle.ioa_check.specs.Sections.{nodes_in}
 use Rattle.ioa_check.specs.Grounds.{HaveDeclaredShapes, AreGrounded}
@@ -28,15 +29,6 @@ use Rattle.ioa_check.specs.Systems.{IsValueFor, AreValuesFor, IsInitialValue, Ha
 use Rattle.ioa_check.proofs.Results.{first_of, is_passed, result_same}
 use Rattle.ioa_check.proofs.Apart.{differ_from, new_differ}
 use Rattle.ioa_check.proofs.Grounds.{arguments_meant, as_many_arguments}
-
--- what is found among items of which something holds
-pub found_has : {A : Type 0} (P : A → Type 0) (test : A → Bool) (xs : List A) (x : A) → AllByRecursion P xs → find test xs ≡ Some x → P x
-found_has P test [] x all h = absurd (cc)
-found_has P test (y ∷ ys) x all h = by_test (test y) h (found_has P test ys x all.1)
-  where
-    by_test : (b : Bool) → (if b then Some y else find test ys) ≡ Some x → (find test ys ≡ Some x → P x) → P x
-    by_test true h further = let this : y ≡ x = cc in subst P this all.0
-    by_test false h further = further h
 
 -- lists that are not too long
 pub few_sound : {A : Type 0} (most : ℕ) (xs ys : List A) → at_most most xs ≡ result_is ys → (xs ≡ ys) × (length xs ≤ most)

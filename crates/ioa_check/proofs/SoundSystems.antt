@@ -8,10 +8,8 @@ use Rattle.ioa_source.specs.declared.declaration.Channel.{Channel}
 use Rattle.ioa_system.specs.Declarations.{same_channel}
 use Rattle.ioa_system.specs.Parts.{AutomatonParts, Parts}
 use Rattle.ioa_system.specs.Systems.{SystemParts, system}
-use Rattle.ioa_types.specs.NameTables.{with_names, words}
+use Rattle.ioa_names.specs.NameTables.{words}
 use Rattle.ioa_types.specs.TextTypes.{no_types}
-use Rattle.ioa_types.proofs.Names.{all_behind}
-use Rattle.ioa_types.proofs.Meant.{no_text_types}
 use Rattle.ioa_automata.proofs.Results.{result_is}
 use Rattle.ioa_check.specs.declared.nodes.TheConstants.{MOST_NODES}
 use Rattle.ioa_check.specs.declared.channels.TheConstants.{MOST_CHANNELS}
@@ -21,11 +19,11 @@ use Rattle.ioa_check.specs.Declarations.{types_at, automata_at}
 use Rattle.ioa_check.specs.Grounds.{AreGrounded}
 use Rattle.ioa_check.specs.Nodes.{nodes_at, programs_at}
 use Rattle.ioa_check.specs.Channels.{channels_at, all_channels_at}
-use Rattle.ioa_check.specs.Checking.{system_at, section_at, system_of}
+use Rattle.ioa_check.specs.Checking.{system_at, system_of}
 use Rattle.ioa_check.specs.Systems.{AreNodesOf, IsChannelOf, same_number, IsSystemOf}
 use Rattle.ioa_check.proofs.Results.{checked_is, first_of, within_declaration, result_same}
 use Rattle.ioa_check.proofs.Grounds.{grounded}
-use Rattle.ioa_check.proofs.SoundDeclarations.{types_sound, automata_sound}
+use Rattle.ioa_check.proofs.SoundDeclarations.{text_types_sound, automata_sound}
 use Rattle.ioa_check.proofs.SoundNodes.{AreNodesIn, nodes_sound, programs_sound}
 use Rattle.ioa_check.proofs.SoundChannels.{AreChannelsIn, channels_sound, joined_sound}
 
@@ -66,17 +64,15 @@ section_sound names automata ground ps s h =
     subst (IsSectionOf names automata ps) {x = system (words names) three.0 two.0} (result_same (system (words names) three.0 two.0) s four.2) made
 
 pub system_sound : (x : SourceText) (s : SystemParts) → system_of x ≡ checked_is s → IsSystemOf x s
-unfolding system_of section_at
+unfolding system_of
 system_sound x s h =
-    let one = first_of (types_at 0 no_types x.declarations) (λ t. and_then (automata_at t 0 [] x.declarations) (λ automata. in_declaration (length x.declarations) (section_at t automata x.system))) s h in
-    let two = first_of (automata_at one.0 0 [] x.declarations) (λ automata. in_declaration (length x.declarations) (section_at one.0 automata x.system)) s one.2 in
-    let three = within_declaration (length x.declarations) (section_at one.0 two.0 x.system) s two.2 in
-    let four = first_of (with_names [] one.0.constants) (λ names. system_at names two.0 x.system) s three in
-    let names : four.0 ≡ one.0.constants = all_behind [] one.0.constants four.0 four.1 in
-    let types = types_sound x.declarations 0 no_types one.0 no_text_types one.1 in
+    let one = first_of (types_at 0 no_types x.declarations) (λ t. and_then (automata_at t 0 [] x.declarations) (λ automata. in_declaration (length x.declarations) (system_at t.constants automata x.system))) s h in
+    let two = first_of (automata_at one.0 0 [] x.declarations) (λ automata. in_declaration (length x.declarations) (system_at one.0.constants automata x.system)) s one.2 in
+    let three = within_declaration (length x.declarations) (system_at one.0.constants two.0 x.system) s two.2 in
+    let types = text_types_sound x.declarations one.0 one.1 in
     let automata = automata_sound one.0 types.1 x.declarations 0 [] two.0 two.1 in
     let ground = grounded one.0 types.1 x.declarations 0 [] two.0 two.1 in
-    let section = section_sound one.0.constants two.0 ground x.system s (subst (λ ns. system_at ns two.0 x.system ≡ result_is s) {x = four.0} names four.2) in
+    let section = section_sound one.0.constants two.0 ground x.system s three in
     record {
       types = one.0;
       declared = types.0;

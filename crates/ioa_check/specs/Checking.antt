@@ -6,8 +6,8 @@ use Rattle.ioa_source.specs.Sides.{SourcePlacement, SourceText}
 use Rattle.ioa_system.specs.Parts.{AutomatonParts}
 use Rattle.ioa_system.specs.Systems.{SystemParts, system}
 use Rattle.ioa_sort_rules.specs.declared.refusal.Refusal.{Refusal}
-use Rattle.ioa_types.specs.NameTables.{with_names, words}
-use Rattle.ioa_types.specs.TextTypes.{PlainTextTypes, no_types}
+use Rattle.ioa_names.specs.NameTables.{words}
+use Rattle.ioa_types.specs.TextTypes.{no_types}
 use Rattle.ioa_check.specs.declared.fault.CheckFault.{CheckFault}
 use Rattle.ioa_check.specs.Faults.{in_declaration}
 use Rattle.ioa_check.specs.Declarations.{types_at, automata_at}
@@ -21,12 +21,8 @@ system_at names automata ps = and_then (nodes_at ps)
     (λ cs. and_then (programs_at names automata ns)
     (λ qs. and_then (all_channels_at qs cs) (λ x. Ok (system (words names) qs cs)))))
 
--- the same, in a text of these types and automata
-unfoldable pub section_at : PlainTextTypes → List AutomatonParts → List SourcePlacement → Result SystemParts Refusal
-section_at t automata ps = and_then (with_names [] t.constants) (λ names. system_at names automata ps)
-
 -- the system of a text
 unfoldable pub system_of : SourceText → Result SystemParts CheckFault
 system_of x = and_then (types_at 0 no_types x.declarations)
     (λ t. and_then (automata_at t 0 [] x.declarations)
-    (λ automata. in_declaration (length x.declarations) (section_at t automata x.system)))
+    (λ automata. in_declaration (length x.declarations) (system_at t.constants automata x.system)))

@@ -21,7 +21,7 @@ use Rattle.ioa_sort_rules.specs.declared.refusal.Refusal.{Refusal}
 use Rattle.ioa_sort_rules.specs.declared.refusal.Refusal.TheVariants.{Unknown, Twice, NoInitial, NodeGap, Limit}
 use Rattle.ioa_sort_rules.specs.declared.refusal.Refusal.TheVariants.{BadArgument}
 use Rattle.ioa_sorts.specs.Statements.{all_ok}
-use Rattle.ioa_types.specs.NameTables.{words}
+use Rattle.ioa_names.specs.NameTables.{words}
 use Rattle.ioa_automata.specs.Rules.{arguments_at}
 use Rattle.ioa_check.specs.declared.nodes.TheConstants.{MOST_NODES}
 use Rattle.ioa_check.specs.Sections.{nodes_in}

@@ -19,8 +19,9 @@ use Rattle.ioa_system.specs.InView.{given_bindings}
 use Rattle.ioa_system.specs.Parts.{AutomatonParts, Parts, PlainRule}
 use Rattle.ioa_system.specs.Systems.{SystemParts}
 use Rattle.ioa_sort_rules.specs.SameSorts.{same_sort}
-use Rattle.ioa_types.specs.NameTables.{words}
-use Rattle.ioa_types.specs.TextTypes.{PlainTextTypes, no_types, with_type}
+use Rattle.ioa_names.specs.NameTables.{words}
+use Rattle.ioa_types.specs.TextTypes.{PlainTextTypes, no_types}
+use Rattle.ioa_types.specs.TypeDeclarations.{DeclaresType}
 use Rattle.ioa_automata.specs.SortedAutomata.{AreArgumentsOf, IsAutomatonOf}
 use Rattle.ioa_check.specs.declared.fault.CheckFault.{CheckFault}
 use Rattle.ioa_check.specs.declared.fault.CheckFault.TheVariants.{Refused, Memory}
@@ -34,7 +35,7 @@ use Rattle.ioa_check.specs.Channels.{program_numbered, rule_named}
 abbrev pub AreTypesOf : List SourceDeclaration → PlainTextTypes → PlainTextTypes → Type 0
 AreTypesOf [] before t = t ≡ before
 AreTypesOf (type_named d ∷ more) before t =
-    (u : PlainTextTypes) × (with_type before d ≡ Ok u) × AreTypesOf more u t
+    (u : PlainTextTypes) × DeclaresType before d u × AreTypesOf more u t
 AreTypesOf (automaton a ∷ more) before t = AreTypesOf more before t
 
 -- a term has this value for a place of a shape: no number outside 64 bits is met, and a natural is not negative

@@ -1,6 +1,6 @@
 //! The channels between nodes.
 
-ghost use Rattle.std.specs.Prelude.{◌≡◌, [], IfOk, IfSome, map};
+ghost use Rattle.std.specs.Prelude.{◌≡◌, [], IfOk, IfSome, map, slice_get};
 ghost use Rattle.std.specs.Option.{option_copied, option_map};
 ghost use Rattle.std.specs.Arc.{arc_value};
 ghost use Rattle.std.specs.List.{list_any};
@@ -151,7 +151,15 @@ fn takes_from(
     ensures { IfOk result (λ b. b ≡ spec.takes_from program.now number rule.now) }
 {
     let env = program.automaton().given_env(program.arguments());
-    takes_number(alloc, &env, rule.entry.parameters.get(1), number)
+    takes_second(alloc, &env, rule, number)
+}
+
+/// Whether the second parameter of a rule is there and takes a number.
+fn takes_second(alloc: Global, env: &Env, rule: &Rule, number: i64) -> Result<bool, AllocError>
+    requires { AreResolvedParameters (names_of env.now) rule.now.entry.parameters }
+    ensures { IfOk result (λ b. b ≡ spec.takes_number env.now number (slice_get rule.now.entry.parameters 1)) }
+{
+    takes_number(alloc, env, rule.entry.parameters.get(1), number)
 }
 
 /// The `receive` of a program, if it takes messages from the node of a number. Else `InputMissing` (28).

@@ -5,7 +5,7 @@ ghost use Rattle.std.specs.Arc.{arc_value};
 ghost use Rattle.ioa_values.specs.Outcome.{Answers};
 ghost use Rattle.ioa_source.specs.TextView.{placement_of, text_of};
 ghost use Rattle.ioa_system.specs.Declarations.{IsWellDeclared};
-ghost use Rattle.ioa_types.specs.NameTables.{words};
+ghost use Rattle.ioa_names.specs.NameTables.{words};
 ghost use Rattle.ioa_check.specs.Checking as spec;
 ghost use Rattle.ioa_check.specs.Faults.{in_declaration};
 ghost use Rattle.ioa_check.specs.Grounds.{AreGrounded};
@@ -15,19 +15,19 @@ use crate::channels::{channels_of, check_channels};
 use crate::declarations::{automata_of, names_of, types_of};
 use crate::fault::{CheckFault, fault_at};
 use crate::nodes::{Ground, nodes_of, programs_of};
-use ioa_automata::view_of;
+use ioa_names::{NameTable, View};
 use ioa_sort_rules::Refusal;
 use ioa_source::{Placement, Text};
 use ioa_system::{CompiledAutomaton, System};
 use ioa_terms::Names;
-use ioa_types::{NameTable, TextTypes};
+use ioa_types::TextTypes;
 use std::alloc::Global;
 use std::sync::Arc;
 
 /// Makes the system that the tree of a source describes. If the source describes none, one of the refusals that apply
 /// is returned, with the index of its declaration. The tree is lent, so it is there after a refusal too. Costs time in
-/// proportion to the text, to what sorts and names in view take, and to the evaluation of constants, arguments and
-/// initial values.
+/// proportion to the text, but for what the look-ups of names and the sorts cost, and to the evaluation of constants,
+/// arguments and initial values.
 pub fn check(alloc: Global, text: &Text<(), ()>) -> Result<System, CheckFault>
     ensures exact { Answers CheckFault.Memory (λ s. s) result (spec.system_of (text_of text.now)) }
     ensures system { IfOk result (IsSystemOf (text_of text.now)) }
@@ -60,7 +60,6 @@ fn in_declaration(index: usize, found: Result<System, Refusal>) -> Result<System
 }
 
 /// The system of a system section, in a text of these types and automata.
-#[tactic(auto, unfolding(crate::specs::Checking::section_at))]
 fn check_section(
     alloc: Global,
     types: &TextTypes,
@@ -70,10 +69,11 @@ fn check_section(
 ) -> Result<System, Refusal>
     requires named { arc_value constants.now ≡ words types.now.constants }
     requires grounded { AreGrounded types.now.constants (map arc_value automata.now.items) }
-    ensures { Answers Refusal.Memory (λ s. s) result (spec.section_at types.now
+    ensures { Answers Refusal.Memory (λ s. s) result (spec.system_at types.now.constants
         (map arc_value automata.now.items) (map placement_of placements.now.items)) }
 {
-    let view = view_of(alloc, NameTable::new(alloc), types.constants())?;
+    let none = NameTable::new(alloc);
+    let view = View::new(&none, &none, types.constants())?;
     let ground = Ground {
         view: &view,
         constants,

@@ -4,7 +4,7 @@ ghost use Rattle.std.specs.Prelude.{◌≡◌, ◌++◌, ◌∷◌, [], IfOk, On
 ghost use Rattle.std.specs.Arc.{arc_value};
 ghost use Rattle.ioa_values.specs.Outcome.{Answers};
 ghost use Rattle.ioa_source.specs.TextView.{automaton_of, declaration_of};
-ghost use Rattle.ioa_types.specs.NameTables.{words};
+ghost use Rattle.ioa_names.specs.NameTables.{words};
 ghost use Rattle.ioa_types.specs.TextTypes.{no_types};
 ghost use Rattle.ioa_check.specs.Declarations as spec;
 

@@ -10,7 +10,7 @@ ghost use Rattle.ioa_terms.specs.Bindings.{names_of, same_word};
 ghost use Rattle.ioa_source.specs.TextView.{declared_of, node_of, parameter_of, placement_of};
 ghost use Rattle.ioa_system.specs.InView.{given_bindings};
 ghost use Rattle.ioa_system.specs.ResolvedPrograms.{AreResolvedParameters, IsResolvedParameter};
-ghost use Rattle.ioa_types.specs.NameTables.{words};
+ghost use Rattle.ioa_names.specs.NameTables.{words};
 ghost use Rattle.ioa_check.specs.Grounds.{AreGrounded, HaveDeclaredShapes};
 ghost use Rattle.ioa_check.specs.Nodes as spec;
 ghost use Rattle.ioa_check.specs.Sections.{node_at, nodes_in};
@@ -18,11 +18,11 @@ ghost use Rattle.ioa_check.specs.Sections.{node_at, nodes_in};
 use crate::values::{argument_values, check_constants, gives_number, variable_values};
 use ioa_actions::{RECEIVE, SEND};
 use ioa_automata::sort_arguments;
+use ioa_names::View;
 use ioa_sort_rules::Refusal;
-use ioa_sorts::View;
 use ioa_source::{Declared, Node, Parameter, Placement};
 use ioa_system::{CompiledAutomaton, Program, Rule};
-use ioa_terms::{Env, Names, Shape, Term, Value, Word};
+use ioa_terms::{Env, NameLists, Names, Shape, Term, Value, Word};
 use std::alloc::{AllocError, Global};
 use std::sync::Arc;
 
@@ -33,7 +33,7 @@ pub(crate) const MOST_NODES: usize = 64;
 #[derive(Drop)]
 pub(crate) struct Ground<'a> {
     /// The text's constants.
-    pub view: &'a View,
+    pub view: &'a View<'a>,
     /// Their names.
     pub constants: &'a Arc<Names>,
     /// The text's automata.
@@ -152,7 +152,7 @@ fn given_values(
     ensures many { IfOk result (λ vs. length vs.items ≡ length shapes.now.items) }
 {
     let terms = sort_arguments(alloc, view, shapes, arguments)?;
-    let env = Env::with_constants(&[], &[], constants.as_slice());
+    let env = Env::with_constants(NameLists::one(&[]), &[], constants.as_slice());
     argument_values(alloc, &env, shapes, &terms)
 }
 

@@ -1,5 +1,5 @@
 -- Arguments beside parameters, one after another, and what the terms of a rule read.
-use Rattle.std.proofs.Common.{◌≡◌, ◌≢◌, ℕ, zero, suc, ◌+◌, ◌≤◌, Bool, true, false, List, [], ◌∷◌, ◌++◌, refl, sym, ap, ◌∙◌, length, drop, arith, min, map, take, Ok, length-append}
+use Rattle.std.proofs.Common.{◌≡◌, ◌≢◌, ℕ, zero, suc, ◌+◌, ◌≤◌, Bool, true, false, List, [], ◌∷◌, ◌++◌, refl, sym, ap, ◌∙◌, subst, length, drop, arith, min, map, take, Ok, length-append}
 use Rattle.std.specs.Prelude.{◌&&◌}
 use Rattle.std.specs.List.{zip}
 use Rattle.std.proofs.lemmas.List.{length-map, map-append, take-append-le}
@@ -9,11 +9,13 @@ use Rattle.ioa_values.specs.Data.{Data}
 use Rattle.ioa_terms.specs.declared.name.Name.{Name}
 use Rattle.ioa_terms.specs.declared.name.Name.TheVariants.{Word}
 use Rattle.ioa_terms.specs.Bindings.{Bindings, same_word, environment, constants_from}
+use Rattle.ioa_terms.specs.Resolved.{AreResolved}
+use Rattle.ioa_terms.proofs.Slots.{resolved_widely}
 use Rattle.ioa_actions.specs.declared.action.Action.{Action}
 use Rattle.ioa_actions.specs.ActionParts.{action_name, action_arguments}
 use Rattle.ioa_source.specs.PlainText.{const, named}
-use Rattle.ioa_source.specs.Sides.{CheckedDeclared, CheckedEntry, CheckedParameter, CheckedVariable}
-use Rattle.ioa_system.specs.InView.{declared_names, own_names, parameter_names, variable_names, scope_at}
+use Rattle.ioa_source.specs.Sides.{CheckedDeclared, CheckedEntry, CheckedParameter, CheckedStatement, CheckedVariable}
+use Rattle.ioa_system.specs.InView.{declared_names, names_at, own_names, parameter_names, variable_names, scope_at}
 use Rattle.ioa_system.specs.InView.{entry_condition, guard_or_effect}
 use Rattle.ioa_system.specs.Parts.{AutomatonParts}
 use Rattle.ioa_compose.specs.NodeAnswers.{effect_answer, arguments_agree, parameter_agrees, are_natural, entry_agrees, kind_agrees}
@@ -74,28 +76,35 @@ agreeing_arguments b a e h =
     second_true (kind_agrees a e.kind) (arguments_agree b e.parameters (action_arguments a))
     (second_true (same_word e.name (action_name a)) (kind_agrees a e.kind && arguments_agree b e.parameters (action_arguments a)) h)
 
--- so many names are in view in the guard and the effect of an entry whose action is taken: those of the variables, of
--- the automaton's parameters, and of the arguments that have names of their own
-pub named_scope : (b : Bindings) (a : Action) (e : CheckedEntry) (p : AutomatonParts) → entry_agrees b a e ≡ true →
-    length (scope_at guard_or_effect (declared_names p) (own_names e.parameters)) ≡ length p.variables + (length p.parameters + length (own_values e.parameters (action_arguments a)))
-named_scope b a e p h =
-    let own = own_values_named b e.parameters (action_arguments a) (agreeing_arguments b a e h) in
-    let outer = length-append (variable_names p.variables) (parameter_names p.parameters ++ own_names e.parameters) in
-    let inner = length-append (parameter_names p.parameters) (own_names e.parameters) in
-    let variables = length-map p.variables (λ (v : CheckedVariable). v.declared.name) in
+-- the own parameters of an entry whose action is taken have as many names as values
+pub own_named : (b : Bindings) (a : Action) (e : CheckedEntry) → entry_agrees b a e ≡ true → length (own_names e.parameters) ≡ length (own_values e.parameters (action_arguments a))
+own_named b a e h = sym (own_values_named b e.parameters (action_arguments a) (agreeing_arguments b a e h))
+
+-- so many names are in view in the condition of an entry: one for each value of the automaton's and of its own parameters
+pub condition_named : (p : AutomatonParts) (own : List (List ℕ)) (given values : List Data) → length given ≡ length p.parameters → length own ≡ length values →
+    length (scope_at entry_condition (declared_names p) own) ≡ length (given ++ values)
+condition_named p own given values g h =
+    let names = length-append (parameter_names p.parameters) own in
+    let values_many = length-append given values in
     let parameters = length-map p.parameters (λ (d : CheckedDeclared). d.name) in
     omega arith
 
--- behind the first items
-pub drop_first : {A : Type 0} (n : ℕ) (xs ys : List A) → n ≡ length xs → drop n (xs ++ ys) ≡ ys
-drop_first zero [] ys h = refl
-drop_first zero (x ∷ xs) ys h = absurd (omega arith)
-drop_first (suc n) [] ys h = absurd (omega arith)
-drop_first (suc n) (x ∷ xs) ys h = drop_first n xs ys (omega arith)
+-- and so many in the guard and the effect: those of the state variables too
+pub step_named : (p : AutomatonParts) (own : List (List ℕ)) (variables given values : List Data) → length variables ≡ length p.variables → length given ≡ length p.parameters → length own ≡ length values →
+    length (scope_at guard_or_effect (declared_names p) own) ≡ length (variables ++ (given ++ values))
+step_named p own variables given values v g h =
+    let inner = condition_named p own given values g h in
+    let names = length-append (variable_names p.variables) (parameter_names p.parameters ++ own) in
+    let values_many = length-append variables (given ++ values) in
+    let named = length-map p.variables (λ (x : CheckedVariable). x.declared.name) in
+    omega arith
 
--- behind the variables are the names that the entry's condition reads
-pub condition_scope : (n : ℕ) (p : AutomatonParts) (own : List (List ℕ)) → n ≡ length p.variables →
-    drop n (scope_at guard_or_effect (declared_names p) own) ≡ scope_at entry_condition (declared_names p) own
-condition_scope n p own h =
-    let many = length-map p.variables (λ (v : CheckedVariable). v.declared.name) in
-    drop_first n (variable_names p.variables) (parameter_names p.parameters ++ own) (omega arith)
+-- the variables are the first of the names in view
+pub effect_in_view : (effect : List CheckedStatement) (p : AutomatonParts) (own : List (List ℕ)) →
+    AreResolved effect (map Word (variable_names p.variables)) (names_at guard_or_effect (declared_names p) own) →
+    AreResolved effect (map Word (scope_at guard_or_effect (declared_names p) own)) (names_at guard_or_effect (declared_names p) own)
+effect_in_view effect p own h =
+    let given = parameter_names p.parameters ++ own in
+    let names = names_at guard_or_effect (declared_names p) own in
+    subst (λ (xs : List Name). AreResolved effect xs names) (sym (map-append Word (variable_names p.variables) given))
+    (resolved_widely effect (map Word (variable_names p.variables)) (map Word given) names h)

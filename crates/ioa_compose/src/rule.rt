@@ -1,12 +1,13 @@
 //! The rule of a program that an action takes, and the values that the rule leaves.
 
-ghost use Rattle.std.specs.Prelude.{◌≡◌, ◌+◌, ◌++◌, ◌≤◌, IfOk, OnOk, IfSome, true, map, length, drop};
+ghost use Rattle.std.specs.Prelude.{◌≡◌, ◌++◌, ◌≤◌, IfOk, OnOk, IfSome, true, map, length};
 ghost use Rattle.std.specs.Option.{option_copied, option_map};
 ghost use Rattle.ioa_source.specs.TextView.{entry_of, parameter_of};
 ghost use Rattle.ioa_terms.specs.View.{term_of};
 ghost use Rattle.ioa_values.specs.Outcome.{Answers};
 ghost use Rattle.ioa_actions.specs.ActionParts.{action_arguments};
-ghost use Rattle.ioa_system.specs.InView.{declared_names, given_bindings};
+ghost use Rattle.ioa_system.specs.InView.{declared_names, environment_at, given_bindings, names_at, scope_at};
+ghost use Rattle.ioa_system.specs.InView.{entry_condition, guard_or_effect};
 ghost use Rattle.ioa_system.specs.ResolvedPrograms.{IsResolvedRule, IsResolvedGuard};
 ghost use Rattle.ioa_system.specs.ResolvedPrograms.{IsResolvedParameter, AreResolvedParameters};
 ghost use Rattle.ioa_compose.specs.NodeState.{node_state};
@@ -20,7 +21,7 @@ ghost use Rattle.ioa_terms.specs.Bindings.{names_of, environment};
 use crate::fault::StepFault;
 use ioa_actions::{Action, RECEIVE, SEND};
 use ioa_source::{Entry, Parameter};
-use ioa_system::{Program, Rule};
+use ioa_system::{CompiledAutomaton, Program, Rule};
 use ioa_terms::{Checked, Env, Kind, Name, Shape, TermFault, Value, Word, eval, perform};
 use ioa_values::copies;
 use std::alloc::{AllocError, Global};
@@ -200,52 +201,44 @@ fn take_transition(
     variables: &[Value],
 ) -> Result<Vec<Value>, StepFault>
     // the names in the rule are resolved, and each has a value
-    requires condition { IsResolvedGuard rule.now.entry.condition
-        (map Name.Word (drop (length variables.now) rule.now.scope ++ program.now.automaton.constants)) }
-    requires guard { IsResolvedGuard rule.now.transition.pre
-        (map Name.Word (rule.now.scope ++ program.now.automaton.constants)) }
-    requires effect { AreResolved rule.now.transition.effect (map Name.Word rule.now.scope)
-        (map Name.Word (rule.now.scope ++ program.now.automaton.constants)) }
-    requires named { length rule.now.scope ≡ length variables.now
-        + (length program.now.automaton.parameters
-        + length (own_values rule.now.entry.parameters arguments.now)) }
+    requires resolved { IsResolvedRule (declared_names program.now.automaton) rule.now }
+    requires valued { length variables.now ≡ length program.now.automaton.variables }
+    requires own { length rule.now.own ≡ length (own_values rule.now.entry.parameters arguments.now) }
     // the new values, one for each variable
     ensures after { Answers StepFault.Memory (λ v. v.items) result
         (spec.step_answer (length variables.now) rule.now arguments.now
-        (environment (map Name.Word (drop (length variables.now) rule.now.scope))
-        (program.now.arguments ++ own_values rule.now.entry.parameters arguments.now)
-        program.now.automaton.constants)
-        (environment (map Name.Word rule.now.scope)
-        (variables.now ++ (program.now.arguments ++ own_values rule.now.entry.parameters arguments.now))
-        program.now.automaton.constants)) }
+        (environment_at entry_condition (declared_names program.now.automaton) rule.now.own
+        program.now.arguments variables.now (own_values rule.now.entry.parameters arguments.now))
+        (environment_at guard_or_effect (declared_names program.now.automaton) rule.now.own
+        program.now.arguments variables.now (own_values rule.now.entry.parameters arguments.now))) }
     ensures valued { IfOk result (λ v. length v.items ≡ length variables.now) }
 {
     pass_naturals(&rule.entry.parameters, arguments)?;
-    let constants = program.automaton().constants();
+    let automaton = program.automaton();
     let fixed_values = fixed_values(alloc, program.arguments(), &rule.entry, arguments)?;
-    pass_condition(alloc, rule, constants, &fixed_values, variables.len())?;
-    pass_transition_guard(alloc, rule, constants, variables, &fixed_values)?;
+    pass_condition(alloc, automaton, rule, &fixed_values)?;
+    pass_transition_guard(alloc, automaton, rule, variables, &fixed_values)?;
     let values = all_values(alloc, variables, fixed_values)?;
-    take_effect(alloc, rule, constants, values, variables.len())
+    take_effect(alloc, automaton, rule, values, variables.len())
 }
 
-/// Passes if the condition of a rule's entry is true or missing; else `NotEnabled` (40). It reads no state variable:
-/// their names are the first `count` ones, and these are the values of the others.
+/// Passes if the condition of a rule's entry is true or missing; else `NotEnabled` (40). It reads no state variable.
 fn pass_condition(
     alloc: Global,
+    automaton: &CompiledAutomaton,
     rule: &Rule,
-    constants: &[Word],
     fixed_values: &[Value],
-    count: usize,
 ) -> Result<(), StepFault>
     requires resolved { IsResolvedGuard rule.now.entry.condition
-        (map Name.Word (drop count rule.now.scope ++ constants.now)) }
-    requires named { length rule.now.scope ≡ count + length fixed_values.now }
+        (names_at entry_condition (declared_names automaton.now) rule.now.own) }
+    requires named { length (scope_at entry_condition (declared_names automaton.now) rule.now.own)
+        ≡ length fixed_values.now }
     ensures { Answers StepFault.Memory (λ _. tt) result (spec.guard_answer rule.now.entry.condition
-        (environment (map Name.Word (drop count rule.now.scope)) fixed_values.now constants.now)) }
+        (environment (map Name.Word (scope_at entry_condition (declared_names automaton.now) rule.now.own))
+        fixed_values.now automaton.now.constants)) }
 {
-    let scope = &rule.scope.as_slice()[count..];
-    let env = Env::with_constants(scope, fixed_values, constants);
+    let names = automaton.condition_names(rule);
+    let env = Env::with_constants(names, fixed_values, automaton.constants());
     pass_guard(alloc, &rule.entry.condition, &env)
 }
 
@@ -253,17 +246,21 @@ fn pass_condition(
 /// and then the values that no effect changes.
 fn pass_transition_guard(
     alloc: Global,
+    automaton: &CompiledAutomaton,
     rule: &Rule,
-    constants: &[Word],
     variables: &[Value],
     fixed_values: &[Value],
 ) -> Result<(), StepFault>
-    requires resolved { IsResolvedGuard rule.now.transition.pre (map Name.Word (rule.now.scope ++ constants.now)) }
-    requires named { length rule.now.scope ≡ length (variables.now ++ fixed_values.now) }
+    requires resolved { IsResolvedGuard rule.now.transition.pre
+        (names_at guard_or_effect (declared_names automaton.now) rule.now.own) }
+    requires named { length (scope_at guard_or_effect (declared_names automaton.now) rule.now.own)
+        ≡ length (variables.now ++ fixed_values.now) }
     ensures { Answers StepFault.Memory (λ _. tt) result (spec.guard_answer rule.now.transition.pre
-        (environment (map Name.Word rule.now.scope) (variables.now ++ fixed_values.now) constants.now)) }
+        (environment (map Name.Word (scope_at guard_or_effect (declared_names automaton.now) rule.now.own))
+        (variables.now ++ fixed_values.now) automaton.now.constants)) }
 {
-    let env = Env::with_given(rule.scope.as_slice(), variables, fixed_values, constants);
+    let names = automaton.step_names(rule);
+    let env = Env::with_given(names, variables, fixed_values, automaton.constants());
     pass_guard(alloc, &rule.transition.pre, &env)
 }
 
@@ -271,24 +268,28 @@ fn pass_transition_guard(
 #[tactic(auto, using(crate::proofs::Arguments::effect_answer_environment))]
 fn take_effect(
     alloc: Global,
+    automaton: &CompiledAutomaton,
     rule: &Rule,
-    constants: &[Word],
     values: Vec<Value>,
     count: usize,
 ) -> Result<Vec<Value>, StepFault>
     // the names in the effect are resolved, and each name in view has a value
-    requires resolved { AreResolved rule.now.transition.effect (map Name.Word rule.now.scope)
-        (map Name.Word (rule.now.scope ++ constants.now)) }
-    requires named { length rule.now.scope ≡ length values.items }
+    requires resolved { AreResolved rule.now.transition.effect
+        (map Name.Word (scope_at guard_or_effect (declared_names automaton.now) rule.now.own))
+        (names_at guard_or_effect (declared_names automaton.now) rule.now.own) }
+    requires named { length (scope_at guard_or_effect (declared_names automaton.now) rule.now.own)
+        ≡ length values.items }
     requires within { count ≤ length values.items }
     // `count` new values
     ensures after { Answers StepFault.Memory (λ v. v.items) result (spec.effect_answer count
         (answer_by rule.now.transition.effect
-        (environment (map Name.Word rule.now.scope) values.items constants.now))) }
+        (environment (map Name.Word (scope_at guard_or_effect (declared_names automaton.now) rule.now.own))
+        values.items automaton.now.constants))) }
     ensures valued { IfOk result (λ v. length v.items ≡ count) }
 {
     let effect = &rule.transition.effect;
-    let mut left = perform(alloc, effect, rule.scope.as_slice(), constants, values)?;
+    let names = automaton.step_names(rule);
+    let mut left = perform(alloc, effect, &names, automaton.constants(), values)?;
     left.truncate(count);
     Ok(left)
 }

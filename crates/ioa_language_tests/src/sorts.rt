@@ -4,9 +4,9 @@
 use crate::terms::word;
 use ioa_actions::push_listed;
 use ioa_cursor::Tokens;
+use ioa_names::{NameTable, View};
 use ioa_sort_rules::{Refusal, map_of};
-use ioa_sorts::{View, fit, infer};
-use ioa_system::Scope;
+use ioa_sorts::{fit, infer};
 use ioa_term_reader::{BRACKET_LIMIT, infix_mark, prefix_mark, term};
 use ioa_terms::{BinaryOperator, Checked, DisplayForm, Name, Shape, ShapeForm, Term};
 use ioa_tokens::tokens;
@@ -15,16 +15,20 @@ use std::process::Abort;
 use std::sync::Arc;
 use std::test::Fail;
 
-/// The names in view, each with its sort.
-static VIEW: [(&str, &str); 11] = [
+/// The names that stand outside, each with its sort.
+static OUTER: [(&str, &str); 5] = [
     ("n", "Int"),
     ("k", "Nat"),
     ("b", "Bool"),
     ("s", "Seq[Int]"),
     ("t", "Seq[Nat]"),
-    ("u", "Set[Int]"),
-    ("m", "Map[Int, Bool]"),
-    ("p", "Pair"),
+];
+
+/// The names behind them, where those of an entry's own parameters are.
+static OWN: [(&str, &str); 3] = [("u", "Set[Int]"), ("m", "Map[Int, Bool]"), ("p", "Pair")];
+
+/// The last names, where the text's constants are.
+static LAST: [(&str, &str); 3] = [
     ("c", "Color"),
     ("q", "Seq[Set[Int]]"),
     ("w", "Map[Color, Pair]"),
@@ -444,15 +448,39 @@ fn shape_of(alloc: Global, sort: &str) -> Result<Shape, Fail> {
     }
 }
 
-/// The names of the tests with their shapes.
-fn view(alloc: Global) -> Result<View, Fail> {
-    let mut names = Scope::new(alloc);
-    let mut declared = Vec::new(alloc);
-    for (name, sort) in &VIEW {
-        names.declare(word(alloc, name)?)?;
-        declared.push(shape_of(alloc, sort)?)?;
+/// Names with their shapes.
+fn table(alloc: Global, rows: &[(&str, &str)]) -> Result<NameTable, Fail> {
+    let mut table = NameTable::new(alloc);
+    for (name, sort) in rows {
+        let name = word(alloc, name)?;
+        let shape = shape_of(alloc, sort)?;
+        table = table.with(alloc, name, shape)?;
     }
-    Ok(View::new(alloc, names, declared)?)
+    Ok(table)
+}
+
+/// The names of the tests with their shapes.
+#[derive(Drop)]
+struct Tables {
+    outer: NameTable,
+    own: NameTable,
+    last: NameTable,
+}
+
+impl Tables {
+    /// The names of the tests.
+    fn new(alloc: Global) -> Result<Self, Fail> {
+        Ok(Tables {
+            outer: table(alloc, &OUTER)?,
+            own: table(alloc, &OWN)?,
+            last: table(alloc, &LAST)?,
+        })
+    }
+
+    /// The names in view.
+    fn view(&self) -> Result<View<'_>, AllocError> {
+        View::new(&self.outer, &self.own, &self.last)
+    }
 }
 
 /// The term that a whole text is, if it is one.
@@ -586,7 +614,8 @@ fn at_sort(
 
 /// Each row's term has the sort of its own, or the refusal, that the row wants.
 fn each_own(rt: &impl Abort, alloc: Global, rows: &[(&str, &str)]) -> Result<(), Fail> {
-    let view = view(alloc)?;
+    let tables = Tables::new(alloc)?;
+    let view = tables.view()?;
     for (text, wanted) in rows {
         let found = own(alloc, &view, text)?;
         assert_eq!(rt; found.as_str(), *wanted, "{text}");
@@ -622,7 +651,8 @@ fn displays_without_a_sort(rt: HostRuntime) -> Result<(), Fail> {
 #[test]
 fn wanted_sorts(rt: HostRuntime) -> Result<(), Fail> {
     let alloc = rt.alloc();
-    let view = view(alloc)?;
+    let tables = Tables::new(alloc)?;
+    let view = tables.view()?;
     for (text, sort, wanted) in &WANTED {
         let found = match at_sort(alloc, &view, text, sort)? {
             Ok(_) => String::from_str(alloc, "ok")?,
@@ -636,7 +666,8 @@ fn wanted_sorts(rt: HostRuntime) -> Result<(), Fail> {
 #[test]
 fn checked_terms(rt: HostRuntime) -> Result<(), Fail> {
     let alloc = rt.alloc();
-    let view = view(alloc)?;
+    let tables = Tables::new(alloc)?;
+    let view = tables.view()?;
     for (text, sort, wanted) in &CHECKED {
         let found = match at_sort(alloc, &view, text, sort)? {
             Ok(term) => term_text(alloc, &term)?,

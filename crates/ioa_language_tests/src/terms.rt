@@ -10,8 +10,8 @@ ghost use Rattle.ioa_terms.specs.View.{term_of, target_of, statement_of, arm_of}
 
 use ioa_actions::{Action, NodeAction, Values, push_listed, show_action, show_node_action};
 use ioa_terms::{
-    Arm, BinaryOperator, Checked, DisplayForm, Env, Name, Names, Shape, ShapeForm, Statement,
-    Target, TermFault, UnaryOperator, Value, Word, eval, perform, show,
+    Arm, BinaryOperator, Checked, DisplayForm, Env, Name, NameLists, Names, Shape, ShapeForm,
+    Statement, Target, TermFault, UnaryOperator, Value, Word, eval, perform, show,
 };
 use std::alloc::{AllocError, Global};
 use std::sync::Arc;
@@ -381,7 +381,8 @@ fn answer(
     requires within { length values.now ≤ length view.now }
 {
     let (variables, behind) = view.split_at(values.len());
-    match eval(alloc, term, &Env::with_constants(variables, values, behind)) {
+    let env = Env::with_constants(NameLists::one(variables), values, behind);
+    match eval(alloc, term, &env) {
         Ok(value) => show(alloc, constants, &value),
         Err(TermFault::Undefined) => String::from_str(alloc, "Undefined"),
         Err(TermFault::Range) => String::from_str(alloc, "Range"),
@@ -536,7 +537,7 @@ fn effect_text(
         (map Name.Word names.now) (map Name.Word names.now) }
     requires named { length names.now ≡ length values.items }
 {
-    match perform(alloc, statements, names, &[], values) {
+    match perform(alloc, statements, &NameLists::one(names), &[], values) {
         Ok(values) => {
             let constants = Names::none(alloc);
             let mut text = String::new(alloc);

@@ -1,5 +1,4 @@
 -- the lemmas of this crate
-pub mod Named
 pub mod Calls
 pub mod Chains
 pub mod Types

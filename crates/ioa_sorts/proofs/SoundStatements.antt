@@ -10,7 +10,8 @@ use Rattle.ioa_source.specs.Erasure.{erase_target, erase_statements, erase_arms}
 use Rattle.ioa_source.specs.Sides.{SourceTarget, SourceTerm, SourceStatement, SourceStatements, SourceArms}
 use Rattle.ioa_sort_rules.specs.declared.refusal.Refusal.{Refusal}
 use Rattle.ioa_sort_rules.specs.Rows.{entry_of, value_of_field}
-use Rattle.ioa_sorts.specs.Sorting.{SortedTerm, fit, declared_at, sorting}
+use Rattle.ioa_sorts.specs.Sorting.{SortedTerm, fit, sorting}
+use Rattle.ioa_names.specs.Views.{declared_at}
 use Rattle.ioa_sorts.specs.Statements.{SortedStatement, SortedStatements, PlainTypedTarget, typed_target, all_ok, whole_target, key_target, field_target, target_sorting, assignment_sorting, statement_sorting, statement_sortings, arm_sortings}
 use Rattle.ioa_sorts.specs.SortedStatements.{HoldsShape, AreArmsSorted, AreSorted, IsDeterminedTarget, AreArmsDetermined, AreStatementsDetermined, IsStatementOf}
 use Rattle.ioa_sort_rules.specs.DeclaredTypes.{TupleTypes, IsDeclared, AreAllDeclared}

@@ -8,7 +8,8 @@ use Rattle.ioa_terms.specs.Sorted.{NameShapes, shape_in_terms}
 use Rattle.ioa_source.specs.Sides.{SourceTarget, SourceTerm, SourceStatement, SourceStatements, SourceArms}
 use Rattle.ioa_sort_rules.specs.declared.refusal.Refusal.TheVariants.{EmptyOfWhat}
 use Rattle.ioa_sort_rules.specs.Rows.{entry_of, value_of_field}
-use Rattle.ioa_sorts.specs.Sorting.{fit, declared_at, sorting}
+use Rattle.ioa_sorts.specs.Sorting.{fit, sorting}
+use Rattle.ioa_names.specs.Views.{declared_at}
 use Rattle.ioa_sorts.specs.Statements.{typed_target, all_ok, whole_target, key_target, field_target, target_sorting, statement_sorting, statement_sortings, arm_sortings}
 use Rattle.ioa_sorts.specs.SortedStatements.{IsDeterminedTarget, IsDeterminedStatement, AreArmsDetermined, AreStatementsDetermined}
 use Rattle.ioa_sorts.specs.Determined.{IsDetermined}

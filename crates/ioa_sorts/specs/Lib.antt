@@ -1,7 +1,6 @@
 -- what the contracts of this crate and of those above it cite
 pub mod Sorting
 pub mod SortingView
-pub mod Views
 pub mod Determined
 pub mod SortedTerms
 pub mod Statements

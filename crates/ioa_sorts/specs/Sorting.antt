@@ -1,7 +1,6 @@
 -- The sorts of terms (profile): each term has a shape of its own, or is a display and takes the shape that is asked
 -- of it. What a term becomes has the slot of each name and the shape of each display.
-use Rattle.std.specs.Prelude.{ℕ, ◌+◌, if◌then◌else◌, List, [], ◌∷◌, Option, Some, None, Result, Ok, Err, map}
-use Rattle.std.specs.Option.{option_map}
+use Rattle.std.specs.Prelude.{ℕ, if◌then◌else◌, List, [], ◌∷◌, Option, Some, None, Result, Ok, Err, map}
 use Rattle.ioa_values.specs.Outcome.{and_then}
 use Rattle.ioa_operators.specs.Operators.{function_named}
 use Rattle.ioa_operators.specs.Shapes.{PlainShape, truths, integers, tuples, sequences, sets, maps}
@@ -10,7 +9,6 @@ use Rattle.ioa_operators.specs.declared.shape.DisplayForm.{DisplayForm}
 use Rattle.ioa_operators.specs.declared.shape.DisplayForm.TheVariants.{Braces, Brackets}
 use Rattle.ioa_operators.specs.declared.shape.Shape.{Shape}
 use Rattle.ioa_terms.specs.declared.name.Name.{Name}
-use Rattle.ioa_terms.specs.Bindings.{same_name}
 use Rattle.ioa_terms.specs.PlainTerm.{PlainTerm, number, truth, name, one, two, call, display, field}
 use Rattle.ioa_terms.specs.PlainTerm.{no_terms, term, terms_of}
 use Rattle.ioa_terms.specs.Sorted.{NameShapes, shape_in_terms, listed_shapes}
@@ -25,6 +23,7 @@ use Rattle.ioa_sort_rules.specs.Kinds.{single_of, pairing_of, arity_of}
 use Rattle.ioa_sort_rules.specs.Rows.{PlainSides, value_of_one, other_of_left, other_of_right, entry_of}
 use Rattle.ioa_sort_rules.specs.Rows.{value_of_field, undetermined, undetermined_alone}
 use Rattle.ioa_sort_rules.specs.SameSorts.{same_sort}
+use Rattle.ioa_names.specs.Views.{named}
 
 -- a term with the slot of each name and the shape of each display
 abbrev pub SortedTerm : Type 0
@@ -196,16 +195,6 @@ display_at form fs s = and_then (display_parts form fs s) (λ ts. Ok (display fo
 unfoldable pub field_known : List ℕ → Option PlainTyped → Result PlainTyped Refusal
 field_known w None = Err EmptyOfWhat
 field_known w (Some t) = and_then (value_of_field w t.shape) (λ s. Ok (typed (field t.tree w t.shape) s))
-
--- the slot of a name, and its declared shape
-abbrev pub declared_at : Name → NameShapes → Option (ℕ × PlainShape)
-declared_at x [] = None
-declared_at x (n ∷ names) =
-    if same_name x n.0 then Some (0, n.1) else option_map (λ p. (p.0 + 1, p.1)) (declared_at x names)
-
--- the slot of a name, and its shape in a term
-abbrev pub named : Name → NameShapes → Option (ℕ × PlainShape)
-named x names = option_map (λ p. (p.0, shape_in_terms p.1)) (declared_at x names)
 
 abbrev pub name_known : Name → Option (ℕ × PlainShape) → Result PlainTyped Refusal
 name_known x None = Err Unknown

@@ -12,7 +12,8 @@ use Rattle.ioa_source.specs.Sides.{SourceTarget, SourceTerm, SourceStatement, So
 use Rattle.ioa_sort_rules.specs.declared.refusal.Refusal.{Refusal}
 use Rattle.ioa_sort_rules.specs.declared.refusal.Refusal.TheVariants.{Unknown}
 use Rattle.ioa_sort_rules.specs.Rows.{entry_of, value_of_field}
-use Rattle.ioa_sorts.specs.Sorting.{SortedTerm, fit, declared_at, sorting}
+use Rattle.ioa_sorts.specs.Sorting.{SortedTerm, fit, sorting}
+use Rattle.ioa_names.specs.Views.{declared_at}
 
 -- a target with the slot and the declared shape of its variable
 abbrev pub SortedTarget : Type 0

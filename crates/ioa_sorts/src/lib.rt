@@ -5,10 +5,8 @@ mod laws;
 mod parts;
 mod sorting;
 mod statements;
-mod view;
 
 pub use laws::{sorts_law, statements_law};
 pub use parts::Typed;
 pub use sorting::{fit, infer};
 pub use statements::sort_statements;
-pub use view::View;

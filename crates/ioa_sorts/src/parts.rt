@@ -6,10 +6,11 @@ ghost use Rattle.ioa_values.specs.Outcome.{Answers};
 ghost use Rattle.ioa_terms.specs.PlainTerm as plain;
 ghost use Rattle.ioa_terms.specs.PlainTerm.{terms_of};
 ghost use Rattle.ioa_terms.specs.View.{term_of};
+ghost use Rattle.ioa_names.specs.Views.{named};
 ghost use Rattle.ioa_sorts.specs.Sorting as spec;
 ghost use Rattle.ioa_sorts.specs.SortingView.{typed_of};
 
-use crate::view::View;
+use ioa_names::View;
 use ioa_sort_rules::{
     Refusal, Single, is_same_sort, undetermined_alone, value_of_field, value_of_one,
 };
@@ -44,7 +45,7 @@ pub(crate) struct Update {
 
 /// The term that a name is.
 pub(crate) fn name_known(alloc: Global, view: &View, name: &Name) -> Result<Typed, Refusal>
-    ensures { Answers Refusal.Memory typed_of result (spec.name_known name.now (spec.named name.now view.now)) }
+    ensures { Answers Refusal.Memory typed_of result (spec.name_known name.now (named name.now view.now)) }
 {
     match view.find(name) {
         Some((slot, shape)) => {

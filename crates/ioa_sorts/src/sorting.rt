@@ -16,7 +16,7 @@ use crate::parts::{
     Pair, Typed, Update, call_of_pair, call_of_part, call_of_update, display_term, field_known,
     fit_typed, name_known, one_term, part_known, two_term,
 };
-use crate::view::View;
+use ioa_names::View;
 use ioa_sort_rules::{
     Arity, Pairing, Refusal, Single, arity_of, entry_of, map_of, other_of_left, other_of_right,
     pairing_of, shape_in_terms, single_of, undetermined,

@@ -5,12 +5,12 @@ ghost use Rattle.ioa_values.specs.Outcome.{Answers};
 ghost use Rattle.ioa_terms.specs.PlainTerm as plain;
 ghost use Rattle.ioa_terms.specs.PlainTerm.{arms_of, statements_of};
 ghost use Rattle.ioa_terms.specs.View.{term_of, target_of, statement_of, arm_of};
-ghost use Rattle.ioa_sorts.specs.Sorting.{declared_at};
+ghost use Rattle.ioa_names.specs.Views.{declared_at};
 ghost use Rattle.ioa_sorts.specs.SortingView.{typed_target_of};
 ghost use Rattle.ioa_sorts.specs.Statements as spec;
 
 use crate::sorting::fit;
-use crate::view::View;
+use ioa_names::View;
 use ioa_sort_rules::{Refusal, entry_of, shape_in_terms, value_of_field};
 use ioa_terms::{Arm, Name, Shape, ShapeForm, Statement, Target, Term, Word};
 use std::alloc::Global;

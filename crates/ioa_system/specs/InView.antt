@@ -24,7 +24,7 @@ in_view entry_constant parameters variables own = parameters
 in_view initial_value parameters variables own = parameters
 in_view entry_condition parameters variables own = parameters ++ own
 in_view guard_or_effect parameters variables own = variables ++ (parameters ++ own)
-in_view firing parameters variables own = parameters ++ variables
+in_view firing parameters variables own = variables ++ parameters
 
 -- the names of an automaton's parameters
 abbrev pub parameter_names : {D : Type 0} → List (PlainDeclared D) → List (List ℕ)

@@ -9,13 +9,13 @@ use Rattle.ioa_terms.specs.TermCode.{firing_code}
 use Rattle.ioa_source.specs.Sides.{CheckedDeclared, CheckedEntry, CheckedFiring, CheckedTransition, CheckedVariable}
 use Rattle.ioa_source.specs.TextCode.{declared_code, entry_code, transition_code, variable_code}
 
--- an entry of a signature with its transition (Lynch 8.1), the shapes of the arguments that it takes, and the names in
--- view in guard and effect
+-- an entry of a signature with its transition (Lynch 8.1), the shapes of the arguments that it takes, and the names of
+-- its own parameters
 pub record PlainRule : Type 0 where
   pub entry : CheckedEntry
   pub shapes : List PlainShape
   pub transition : CheckedTransition
-  pub scope : List (List ℕ)
+  pub own : List (List ℕ)
 
 -- the code of a rule: a nest of pairs
 abbrev pub rule_code : Coded PlainRule
@@ -24,8 +24,8 @@ rule_code =
     (coded× (entry_code coded_ℕ shape_code)
     (coded× (coded_list shape_code)
     (coded× (transition_code coded_ℕ shape_code) (coded_list (coded_list coded_ℕ)))))
-    (λ r. (r.entry, (r.shapes, (r.transition, r.scope))))
-    (λ t. record { entry = t.0; shapes = t.1.0; transition = t.1.1.0; scope = t.1.1.1 })
+    (λ r. (r.entry, (r.shapes, (r.transition, r.own))))
+    (λ t. record { entry = t.0; shapes = t.1.0; transition = t.1.1.0; own = t.1.1.1 })
     (λ _. refl)
 
 -- an automaton: its name, the names of the text's constants, its parameters, its state variables, its rules and the

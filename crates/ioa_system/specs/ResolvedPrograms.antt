@@ -27,7 +27,7 @@ IsResolvedGuard (Some t) names = IsResolved t names
 -- a rule in which the names that its step reads or assigns are resolved: those of constant parameters, of the entry's
 -- condition, of guard and of effect. The effect assigns state variables alone. No step reads the arguments of the head.
 pub record IsResolvedRule (d : DeclaredNames) (r : PlainRule) : Type 0 where
-  pub scope : r.scope ≡ scope_at guard_or_effect d (own_names r.entry.parameters)
+  pub own : r.own ≡ own_names r.entry.parameters
   pub parameters : AreResolvedParameters (names_at entry_constant d []) r.entry.parameters
   pub condition : IsResolvedGuard r.entry.condition (names_at entry_condition d (own_names r.entry.parameters))
   pub guard : IsResolvedGuard r.transition.pre (names_at guard_or_effect d (own_names r.entry.parameters))

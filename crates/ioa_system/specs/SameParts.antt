@@ -18,13 +18,14 @@ use Rattle.ioa_source.specs.SameTexts.{same_declared, same_entry, same_variable,
 use Rattle.ioa_source.proofs.SameTexts.{same_declared_is, same_entry_is, same_variable_is, same_transition_is}
 use Rattle.ioa_system.specs.Parts.{AutomatonParts, Parts, PlainRule}
 
--- two rules are the same if their entries, the shapes of their arguments, their transitions and the names in view are
+-- two rules are the same if their entries, the shapes of their arguments, their transitions and the names of their own
+-- are
 abbrev pub same_rule : PlainRule → PlainRule → Bool
 same_rule a b =
     same_entry nat_eq same_shape a.entry b.entry
     && (pointwise same_shape a.shapes b.shapes
     && (same_transition nat_eq same_shape a.transition b.transition
-    && pointwise (pointwise nat_eq) a.scope b.scope))
+    && pointwise (pointwise nat_eq) a.own b.own))
 
 -- whether two lists have the same state variables
 abbrev pub same_variables : List CheckedVariable → List CheckedVariable → Bool
@@ -55,18 +56,18 @@ same_program a b =
 pub same_rule_is : (a b : PlainRule) → Decides (same_rule a b) (a ≡ b)
 same_rule_is a b =
     Decides-like _
-    (λ p i. record { entry = p.0 i; shapes = p.1.0 i; transition = p.1.1.0 i; scope = p.1.1.1 i })
+    (λ p i. record { entry = p.0 i; shapes = p.1.0 i; transition = p.1.1.0 i; own = p.1.1.1 i })
     (λ e. (
       ap (λ (r : PlainRule). r.entry) e,
       (
         ap (λ (r : PlainRule). r.shapes) e,
-        (ap (λ (r : PlainRule). r.transition) e, ap (λ (r : PlainRule). r.scope) e),
+        (ap (λ (r : PlainRule). r.transition) e, ap (λ (r : PlainRule). r.own) e),
       ),
     ))
     (Decides-and _ _ (same_entry_is Decides-eqb same_shape_is a.entry b.entry)
     (Decides-and _ _ (slice_eq-Decides same_shape_is a.shapes b.shapes _ refl)
     (Decides-and _ _ (same_transition_is Decides-eqb same_shape_is a.transition b.transition)
-    (slice_eq-Decides bytes_eq-Decides a.scope b.scope _ refl))))
+    (slice_eq-Decides bytes_eq-Decides a.own b.own _ refl))))
 
 pub same_rule_partial : IsPartialEquivalence same_rule
 same_rule_partial = partial_equiv_from_equiv (decided same_rule same_rule_is)

@@ -6,7 +6,8 @@ ghost use Rattle.ioa_terms.specs.Bindings.{names_of};
 ghost use Rattle.ioa_terms.specs.View.{firing_of};
 ghost use Rattle.ioa_source.specs.TextView.{declared_of, variable_of};
 ghost use Rattle.ioa_system.specs.InView.{declared_names, names_at, scope_at, given_bindings, firing_bindings};
-ghost use Rattle.ioa_system.specs.InView.{entry_constant, initial_value, firing};
+ghost use Rattle.ioa_system.specs.InView.{entry_constant, initial_value, entry_condition, guard_or_effect, firing};
+ghost use Rattle.ioa_system.specs.InView.{parameter_names, variable_names};
 ghost use Rattle.ioa_system.specs.Parts.{automaton_parts};
 ghost use Rattle.ioa_system.specs.ResolvedPrograms.{IsCompiled, IsResolvedRule};
 ghost use Rattle.ioa_system.specs.ResolvedPrograms.{AreResolvedFirings, AreResolvedVariables};
@@ -17,12 +18,12 @@ use ioa_source::{
     Declared, Entry, Transition, Variable, is_same_declared, is_same_entry, is_same_transition,
     is_same_variable,
 };
-use ioa_terms::{Env, Firing, Names, Shape, Value, Word, are_same_firings};
+use ioa_terms::{Env, Firing, NameLists, Names, Shape, Value, Word, are_same_firings};
 use std::marker::Model;
 use std::sync::Arc;
 
-/// An entry of a signature with its transition (Lynch 8.1), and the names in view there: the state
-/// variables, then the automaton's parameters, and then the entry's own. A contract sees plain data.
+/// An entry of a signature with its transition (Lynch 8.1), and the names that only its terms read. A contract sees
+/// plain data.
 #[derive(Drop)]
 pub struct Rule {
     /// The entry.
@@ -31,8 +32,8 @@ pub struct Rule {
     pub shapes: Vec<Shape>,
     /// Its transition.
     pub transition: Transition<usize, Shape>,
-    /// The names in view in guard and effect. The slot of a name there is its index among these.
-    pub scope: Scope,
+    /// The names of the entry's own parameters, behind those that the automaton declares.
+    pub own: Vec<Word>,
 }
 
 impl Model for Rule {
@@ -49,7 +50,7 @@ impl Model for Rule {
           entry = entry_of r.entry;
           shapes = r.shapes.items;
           transition = transition_of r.transition;
-          scope = r.scope;
+          own = r.own.items;
         } };
 }
 
@@ -69,7 +70,7 @@ impl Rule {
         is_same_entry(&self.entry, &other.entry)
             && (self.shapes == other.shapes
                 && (is_same_transition(&self.transition, &other.transition)
-                    && self.scope.as_slice() == other.scope.as_slice()))
+                    && self.own == other.own))
     }
 }
 
@@ -94,7 +95,7 @@ pub struct CompiledAutomaton {
     constants: Arc<Names>,
     parameters: Vec<Declared<Shape>>,
     variables: Vec<Variable<usize, Shape>>,
-    /// The names of the parameters, and then those of the state variables.
+    /// The names of the state variables, and then those of the parameters.
     scope: Scope,
     rules: Vec<Rule>,
     schedule: Vec<Firing<usize, Shape>>,
@@ -204,8 +205,11 @@ impl CompiledAutomaton {
         ensures value { result ≡ given_bindings self.now arguments.now }
         ensures names { names_of result ≡ names_at entry_constant (declared_names self.now) [] }
     {
-        let names = &self.scope.as_slice()[..self.parameters.len()];
-        Env::with_constants(names, arguments, self.constants.as_slice())
+        Env::with_constants(
+            NameLists::one(self.parameter_names()),
+            arguments,
+            self.constants.as_slice(),
+        )
     }
 
     /// What a firing reads, if a node gives the parameters and the state variables these values.
@@ -215,8 +219,40 @@ impl CompiledAutomaton {
         ensures value { result ≡ firing_bindings self.now arguments.now variables.now }
         ensures names { names_of result ≡ names_at firing (declared_names self.now) [] }
     {
-        let names = self.scope.as_slice();
-        Env::with_given(names, arguments, variables, self.constants.as_slice())
+        let names = NameLists::one(self.scope.as_slice());
+        Env::with_given(names, variables, arguments, self.constants.as_slice())
+    }
+
+    /// The names in view in the condition of a rule's entry.
+    pub fn condition_names<'a>(&'a self, rule: &'a Rule) -> NameLists<'a>
+        ensures { result ≡ scope_at entry_condition (declared_names self.now) rule.now.own }
+    {
+        NameLists::new(self.parameter_names(), rule.own.as_slice(), &[])
+    }
+
+    /// The names in view in the guard and the effect of a rule.
+    pub fn step_names<'a>(&'a self, rule: &'a Rule) -> NameLists<'a>
+        ensures { result ≡ scope_at guard_or_effect (declared_names self.now) rule.now.own }
+    {
+        NameLists::new(
+            self.variable_names(),
+            self.parameter_names(),
+            rule.own.as_slice(),
+        )
+    }
+
+    /// The names of the parameters.
+    fn parameter_names(&self) -> &[Word]
+        ensures { result.now ≡ parameter_names self.now.parameters }
+    {
+        &self.scope.as_slice()[self.variables.len()..]
+    }
+
+    /// The names of the state variables.
+    fn variable_names(&self) -> &[Word]
+        ensures { result.now ≡ variable_names self.now.variables }
+    {
+        &self.scope.as_slice()[..self.variables.len()]
     }
 
     /// Whether two automata are the same, whatever memory they are kept in. Costs time in proportion to

@@ -104,7 +104,7 @@ put_environment (n ∷ names) (u ∷ vs) cs x p v many h =
     ]
 
 -- the names of pairs
-pub names_zip : (names : List (List ℕ)) (vs : List Data) → length names ≡ length vs → names_of (zip (map Word names) vs) ≡ map Word names
+names_zip : (names : List (List ℕ)) (vs : List Data) → length names ≡ length vs → names_of (zip (map Word names) vs) ≡ map Word names
 names_zip names vs h = firsts-zip (map Word names) vs (sym (length-map names Word ∙ h))
 
 constant_names : (k : ℕ) (cs : List (List ℕ)) → names_of (constants_from k cs) ≡ map Word cs
@@ -115,16 +115,13 @@ constant_names k (c ∷ cs) = ap (λ (ws : List Name). Word c ∷ ws) (constant_
 pub names_environment : (names : List (List ℕ)) (vs : List Data) (cs : List (List ℕ)) → length names ≡ length vs → names_of (environment (map Word names) vs cs) ≡ map Word (names ++ cs)
 names_environment names vs cs h = rw (map-append Word names cs, map-append (λ (b : Name × Data). b.0) (zip (map Word names) vs) (constants_from 0 cs), names_zip names vs h, constant_names 0 cs) refl
 
--- without constants an environment has the variables alone
-pub no_constants : (names : List Name) (vs : List Data) → environment names vs [] ≡ zip names vs
-no_constants names vs = append-nil (zip names vs)
-
 -- if no value is given besides, an environment has the first values alone
 pub none_given : (names : List Name) (vs : List Data) (cs : List (List ℕ)) → environment names (vs ++ []) cs ≡ environment names vs cs
 none_given names vs cs = ap (λ (ds : List Data). environment names ds cs) (append-nil vs)
 
-pub values_alone : (names : List Name) (vs : List Data) → environment names (vs ++ []) [] ≡ zip names vs
-values_alone names vs = none_given names vs [] ∙ no_constants names vs
+-- the names of one owner
+pub one_list : (names : List (List ℕ)) → names ++ ([] ++ []) ≡ names
+one_list names = append-nil names
 
 -- the slot of a name that is among the first variables
 pub slot_among_first : (names : List (List ℕ)) (x : Name) (p count : ℕ) → slot_in x (map Word names) ≡ Some p → p < count → slot_in x (map Word (take count names)) ≡ Some p

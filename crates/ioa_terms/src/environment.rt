@@ -2,7 +2,6 @@
 
 ghost use Rattle.std.specs.Prelude.{◌≡◌, ◌++◌, slice_get, length, map};
 ghost use Rattle.std.specs.Option.{option_map};
-ghost use Rattle.std.specs.List.{zip};
 ghost use Rattle.ioa_terms.specs.Bindings.{names_of, environment};
 ghost use Rattle.ioa_terms.specs.Slots.{slot_value};
 
@@ -10,19 +9,64 @@ use crate::name::Name;
 use ioa_values::{Value, Word};
 use std::marker::Model;
 
+/// Names that up to three owners keep, read as one list, so that none of them needs to be copied. A contract sees the
+/// list: the first owner's names, then the second's, and then the third's.
+#[derive(Drop)]
+pub struct NameLists<'a> {
+    first: &'a [Word],
+    second: &'a [Word],
+    third: &'a [Word],
+}
+
+impl<'a> Model for NameLists<'a> {
+    ghost use Rattle.std.specs.Prelude.{◌++◌, ℕ, List};
+
+    ghost Value = { List (List ℕ) };
+
+    ghost view = { λ n. n.first.now ++ (n.second.now ++ n.third.now) };
+}
+
+impl<'a> NameLists<'a> {
+    /// The names of three owners.
+    pub fn new(first: &'a [Word], second: &'a [Word], third: &'a [Word]) -> Self
+        ensures { result ≡ first.now ++ (second.now ++ third.now) }
+    {
+        NameLists {
+            first,
+            second,
+            third,
+        }
+    }
+
+    /// The names of one owner.
+    #[tactic(auto, using(crate::proofs::Slots::one_list))]
+    pub fn one(names: &'a [Word]) -> Self
+        ensures { result ≡ names.now }
+    {
+        NameLists::new(names, &[], &[])
+    }
+
+    /// The same names of the same owners.
+    pub fn reborrow(&self) -> NameLists<'a>
+        ensures { result ≡ self.now }
+    {
+        NameLists::new(self.first, self.second, self.third)
+    }
+}
+
 /// The values that a term may read, each at its slot, with their names: those of variables first, then
 /// those that are given besides, and the constants behind them. A contract sees the pairs of names and
 /// values; the first pair of a name is the one that counts.
 #[derive(Drop)]
 pub struct Env<'a> {
-    names: &'a [Word],
+    names: NameLists<'a>,
     values: &'a [Value],
     given: &'a [Value],
     constants: &'a [Word],
 }
 
 impl<'a> Model for Env<'a> {
-    ghost use Rattle.std.specs.Prelude.{◌++◌, map};
+    ghost use Rattle.std.specs.Prelude.{◌≡◌, ◌++◌, length, map};
     ghost use Rattle.ioa_terms.specs.Bindings.{Bindings, environment};
     ghost use Rattle.ioa_terms.specs.declared.name.Name.TheVariants.{Word};
     ghost use Rattle.ioa_terms.specs.contracts.name.Name as called;
@@ -33,7 +77,9 @@ impl<'a> Model for Env<'a> {
 
     ghost coded = { coded_list (coded× called.the_row.coded data_code) };
 
-    ghost view = { λ e. environment (map Word e.names.now) (e.values.now ++ e.given.now) e.constants.now };
+    ghost view = { λ e. environment (map Word e.names) (e.values.now ++ e.given.now) e.constants.now };
+
+    ghost invariant = { λ e. length e.names ≡ length (e.values.now ++ e.given.now) };
 }
 
 /// What is at a slot of an environment.
@@ -46,49 +92,28 @@ pub enum Slot<'a> {
 }
 
 impl<'a> Env<'a> {
-    /// The environment of variables with these names and values, the first value under the first name. If
-    /// there are more names than values, or more values than names, the last ones are ignored. It has no
-    /// constants.
-    #[tactic(auto, using(crate::proofs::Slots::names_zip, crate::proofs::Slots::values_alone))]
-    pub fn new(names: &'a [Word], values: &'a [Value]) -> Self
-        ensures value { result ≡ zip (map Name.Word names.now) values.now }
-        ensures names { length names.now ≡ length values.now → names_of result ≡ map Name.Word names.now }
-    {
-        Env {
-            names,
-            values,
-            given: &[],
-            constants: &[],
-        }
-    }
-
     /// The environment of these names and values, and of the text's constants behind them.
-    #[tactic(auto, using(crate::proofs::Slots::names_environment, crate::proofs::Slots::none_given))]
-    pub fn with_constants(names: &'a [Word], values: &'a [Value], constants: &'a [Word]) -> Self
-        ensures value { result ≡ environment (map Name.Word names.now) values.now constants.now }
-        ensures names { length names.now ≡ length values.now
-            → names_of result ≡ map Name.Word (names.now ++ constants.now) }
+    #[tactic(auto, using(crate::proofs::Slots::none_given))]
+    pub fn with_constants(names: NameLists<'a>, values: &'a [Value], constants: &'a [Word]) -> Self
+        requires { length names ≡ length values.now }
+        ensures value { result ≡ environment (map Name.Word names.entry) values.now constants.now }
+        ensures names { names_of result ≡ map Name.Word (names.entry ++ constants.now) }
     {
-        Env {
-            names,
-            values,
-            given: &[],
-            constants,
-        }
+        Env::with_given(names, values, &[], constants)
     }
 
     /// The environment of these names, whose values are in two slices, and of the text's constants behind
     /// them: so the values that two owners keep need not be copied.
     #[tactic(auto, using(crate::proofs::Slots::names_environment))]
     pub fn with_given(
-        names: &'a [Word],
+        names: NameLists<'a>,
         values: &'a [Value],
         given: &'a [Value],
         constants: &'a [Word],
     ) -> Self
-        ensures value { result ≡ environment (map Name.Word names.now) (values.now ++ given.now) constants.now }
-        ensures names { length names.now ≡ length (values.now ++ given.now)
-            → names_of result ≡ map Name.Word (names.now ++ constants.now) }
+        requires { length names ≡ length (values.now ++ given.now) }
+        ensures value { result ≡ environment (map Name.Word names.entry) (values.now ++ given.now) constants.now }
+        ensures names { names_of result ≡ map Name.Word (names.entry ++ constants.now) }
     {
         Env {
             names,
@@ -102,15 +127,14 @@ impl<'a> Env<'a> {
     pub fn get(&self, slot: usize) -> Option<Slot<'a>>
         ensures { option_map slot_value result ≡ option_map (λ b. b.1) (slice_get self.now slot) }
     {
-        let values = self.names.len().min(self.values.len());
-        if slot < values {
+        if slot < self.values.len() {
             return Some(Slot::Variable(&self.values[slot]));
         }
-        let given = (self.names.len() - values).min(self.given.len());
-        if slot - values < given {
-            return Some(Slot::Variable(&self.given[slot - values]));
+        let behind = slot - self.values.len();
+        if behind < self.given.len() {
+            return Some(Slot::Variable(&self.given[behind]));
         }
-        let constant = slot - values - given;
+        let constant = behind - self.given.len();
         if constant < self.constants.len() {
             Some(Slot::Constant(constant))
         } else {

@@ -9,7 +9,7 @@ mod performance;
 mod same;
 mod tree;
 
-pub use environment::{Env, Slot};
+pub use environment::{Env, NameLists, Slot};
 pub use evaluation::eval;
 pub use ioa_operators::{
     BinaryOperator, DisplayForm, Function, Shape, ShapeForm, TermFault, UnaryOperator,

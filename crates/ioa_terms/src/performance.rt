@@ -14,7 +14,7 @@ ghost use Rattle.ioa_terms.specs.Stepwise.{stepwise_assignment, put_fitting_valu
 ghost use Rattle.ioa_terms.specs.PlainTerm.{assign, statements_of};
 ghost use Rattle.ioa_terms.specs.View.{statement_of, target_of, term_of};
 
-use crate::environment::Env;
+use crate::environment::{Env, NameLists};
 use crate::evaluation::{evaluate_stepwise, read};
 use crate::name::Name;
 use crate::tree::{Checked, Statement, Target};
@@ -33,7 +33,7 @@ use std::mem;
 pub fn perform(
     alloc: Global,
     statements: &[Statement<usize, Shape>],
-    names: &[Word],
+    names: &NameLists,
     constants: &[Word],
     values: Vec<Value>,
 ) -> Result<Vec<Value>, TermFault>
@@ -53,7 +53,7 @@ pub fn perform(
 fn perform_all(
     alloc: Global,
     statements: &[Statement<usize, Shape>],
-    names: &[Word],
+    names: &NameLists,
     constants: &[Word],
     mut values: Vec<Value>,
 ) -> Result<Vec<Value>, TermFault>
@@ -76,7 +76,7 @@ fn perform_all(
 fn perform_one(
     alloc: Global,
     statement: &Statement<usize, Shape>,
-    names: &[Word],
+    names: &NameLists,
     constants: &[Word],
     values: Vec<Value>,
 ) -> Result<Vec<Value>, TermFault>
@@ -104,7 +104,7 @@ fn perform_one(
 fn holds(
     alloc: Global,
     test: &Checked,
-    names: &[Word],
+    names: &NameLists,
     constants: &[Word],
     values: &[Value],
 ) -> Result<bool, TermFault>
@@ -113,7 +113,11 @@ fn holds(
     ensures { Answers TermFault.Memory (λ b. b) result
         (stepwise_test (term_of test.now) (environment (map Name.Word names.now) values.now constants.now)) }
 {
-    let value = evaluate_stepwise(alloc, test, &Env::with_constants(names, values, constants))?;
+    let value = evaluate_stepwise(
+        alloc,
+        test,
+        &Env::with_constants(names.reborrow(), values, constants),
+    )?;
     match value.as_truth() {
         Some(truth) => Ok(truth),
         None => Err(TermFault::Undefined),
@@ -126,7 +130,7 @@ fn assign(
     alloc: Global,
     target: &Target<usize, Shape>,
     term: &Checked,
-    names: &[Word],
+    names: &NameLists,
     constants: &[Word],
     values: Vec<Value>,
 ) -> Result<Vec<Value>, TermFault>
@@ -142,7 +146,7 @@ fn assign(
         alloc,
         target,
         term,
-        &Env::with_constants(names, &values, constants),
+        &Env::with_constants(names.reborrow(), &values, constants),
     )?;
     match target {
         Target::Variable(name, at, shape) => put(name, *at, shape, value, names, constants, values),
@@ -242,7 +246,7 @@ fn put(
     at: usize,
     shape: &Shape,
     value: Value,
-    names: &[Word],
+    names: &NameLists,
     constants: &[Word],
     mut values: Vec<Value>,
 ) -> Result<Vec<Value>, TermFault>

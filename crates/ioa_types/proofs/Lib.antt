@@ -1,5 +1,4 @@
 -- the lemmas of this crate
 pub mod Heights
-pub mod Tables
-pub mod Names
 pub mod Meant
+pub mod TypeDeclarations

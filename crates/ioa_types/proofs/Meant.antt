@@ -1,6 +1,6 @@
 -- The shapes of sorts, against what sorts mean, and tables of types.
 use Rattle.std.proofs.Common.{◌≡◌, ◌<◌, ℕ, Bool, true, false, nat_lt, if◌then◌else◌, IfOk, List, [], ◌∷◌, ◌++◌, Option, Some, None, Result, Ok, Err, refl, sym, ap, subst, ◌∙◌, arith, length}
-use Rattle.std.specs.List.{AllByRecursion}
+use Rattle.std.specs.List.{AllByRecursion, IsDistinct}
 use Rattle.std.proofs.lemmas.Bool.{ltb-true, lt-ltb}
 use Rattle.std.proofs.lemmas.Slice.Eq.{bytes_eq-Decides}
 use Rattle.ioa_values.specs.Outcome.{and_then}
@@ -19,13 +19,13 @@ use Rattle.ioa_sort_rules.specs.DeclaredTypes.{TupleTypes, IsDeclared, AreDeclar
 use Rattle.ioa_sort_rules.specs.declared.refusal.Refusal.{Refusal}
 use Rattle.ioa_sort_rules.specs.declared.refusal.Refusal.TheVariants.{Limit}
 use Rattle.ioa_types.specs.declared.height.TheConstants.{SHAPE_LIMIT}
-use Rattle.ioa_types.specs.NameTables.{with_name}
+use Rattle.ioa_names.specs.NameTables.{AreDistinct, with_name}
 use Rattle.ioa_types.specs.TypeTables.{TypeTable, limited, known_type, shape_of_sort, field_shapes, field_names, tuple_shape}
 use Rattle.ioa_types.specs.Meanings.{Means, tuple_types, IsTypeTable, AreTextTypes}
 use Rattle.ioa_types.specs.TextTypes.{PlainTextTypes, text_types, with_constants, with_form}
 use Rattle.ioa_types.specs.TextTypes as text
-use Rattle.ioa_types.proofs.Tables.{table_is}
-use Rattle.ioa_types.proofs.Names.{added_name, first_of}
+use Rattle.ioa_names.proofs.Tables.{table_is}
+use Rattle.ioa_names.proofs.Names.{added_name, first_of, name_differs}
 
 abbrev pub shape_is : PlainShape → Result PlainShape Refusal
 shape_is s = Ok s
@@ -208,6 +208,12 @@ constants_behind types cs s (w ∷ ws) ds i h e =
     let a = added_name cs one.0 w s one.1 in
     constants_behind types one.0 s ws ds i (subst (AreAllDeclared types) a.1 (all_appended (λ n. IsDeclared types n.1) cs ((Word w, s) ∷ []) h (i, tt))) one.2
 
+constants_differ : (cs : NameShapes) (s : PlainShape) (ws : List (List ℕ)) (ds : NameShapes) → AreDistinct cs → with_constants cs s ws ≡ table_is ds → AreDistinct ds
+constants_differ cs s [] ds d e = let same : cs ≡ ds = cc in subst AreDistinct same d
+constants_differ cs s (w ∷ ws) ds d e =
+    let one = first_of (with_name cs w s) (λ ns. with_constants ns s ws) ds e in
+    constants_differ one.0 s ws ds (name_differs cs one.0 w s d one.1) one.2
+
 -- what is declared stays declared if one more type is
 all_still_named : (types : TypeTable) (w : List ℕ) (s : PlainShape) (cs : NameShapes) → AreAllDeclared (tuple_types types) cs → AreAllDeclared (tuple_types (types ++ (Word w, s) ∷ [])) cs
 all_still_named types w s cs h =
@@ -215,7 +221,8 @@ all_still_named types w s cs h =
     weaker (λ n. IsDeclared (tuple_types types) n.1) (λ n. IsDeclared (tuple_types more) n.1) (λ n g. still (tuple_types types) (tuple_types more) (λ v x e. named_more types ((Word w, s) ∷ []) (Word v) x e) n.1 g) cs h
 
 pub no_text_types : AreTextTypes text.no_types
-no_text_types = record { types = no_types; constants = tt }
+unfolding IsDistinct
+no_text_types = record { types = no_types; constants = tt; differ = tt }
 
 abbrev text_is : PlainTextTypes → Result PlainTextTypes Refusal
 text_is t = Ok t
@@ -233,6 +240,7 @@ type_added t more d h e = by_form d.form e
         subst AreTextTypes same (record {
           types = enumeration_added t.types two.0 d.name (length t.constants) (length ws) h.types two.1;
           constants = constants_behind (tuple_types two.0) t.constants s ws one.0 tt (subst (λ ts. AreAllDeclared (tuple_types ts) t.constants) a.1 (all_still_named t.types d.name s t.constants h.constants)) one.1;
+          differ = constants_differ t.constants s ws one.0 h.differ one.1;
         })
     by_form (tuple_of fs) e =
         let one = first_of (tuple_shape t.types d.name fs) (λ s. and_then (with_name t.types d.name s) (λ ts. text_is (text_types ts t.constants))) more e in
@@ -242,4 +250,5 @@ type_added t more d h e = by_form d.form e
         subst AreTextTypes same (record {
           types = tuple_added t.types two.0 d.name fs one.0 h.types (sym one.1) two.1;
           constants = subst (λ ts. AreAllDeclared (tuple_types ts) t.constants) a.1 (all_still_named t.types d.name one.0 t.constants h.constants);
+          differ = h.differ;
         })

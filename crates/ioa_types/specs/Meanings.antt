@@ -8,6 +8,7 @@ use Rattle.ioa_terms.specs.Sorted.{shape_named}
 use Rattle.ioa_source.specs.PlainSort as sort
 use Rattle.ioa_source.specs.PlainSort.{PlainSort}
 use Rattle.ioa_sort_rules.specs.DeclaredTypes.{TupleTypes, AreAllDeclared}
+use Rattle.ioa_names.specs.NameTables.{AreDistinct}
 use Rattle.ioa_types.specs.TypeTables.{TypeTable}
 use Rattle.ioa_types.specs.TextTypes.{PlainTextTypes}
 use Rattle.ioa_types.specs.declared.height.TheConstants.{SHAPE_LIMIT}
@@ -27,13 +28,14 @@ Means types (sort.named_type w) x = shape_named (Word w) types ≡ Some x
 abbrev pub tuple_types : TypeTable → TupleTypes
 tuple_types types w = shape_named (Word w) types
 
--- types that were declared one after another: each has only types before it, each name is declared once, and none is
--- too high
+-- types that were declared one after another: each tuple type in them is the declared one of its name, and none is too
+-- high
 pub record IsTypeTable (types : TypeTable) : Type 0 where
   pub declared : AreAllDeclared (tuple_types types) types
   pub low : AllByRecursion (λ t. height t.1 < SHAPE_LIMIT) types
 
--- types and constants that were declared one after another
+-- types and constants that were declared one after another; no constant is declared twice
 pub record AreTextTypes (t : PlainTextTypes) : Type 0 where
   pub types : IsTypeTable t.types
   pub constants : AreAllDeclared (tuple_types t.types) t.constants
+  pub differ : AreDistinct t.constants

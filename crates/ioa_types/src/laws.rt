@@ -1,16 +1,16 @@
-//! Laws of declared types and of names: what functions ensure that do nothing.
+//! Laws of declared types: what functions ensure that do nothing.
 
-ghost use Rattle.std.specs.Prelude.{◌≡◌, ◌<◌, ◌++◌, ℕ, List, [], Ok};
+ghost use Rattle.std.specs.Prelude.{◌≡◌, ◌<◌, ℕ, List, [], Ok};
 ghost use Rattle.ioa_operators.specs.Shapes.{PlainShape, constants};
 ghost use Rattle.ioa_operators.specs.ShapeHeight.{height};
 ghost use Rattle.ioa_source.specs.PlainSort.{PlainSort};
 ghost use Rattle.ioa_source.specs.Sides.{SourceDeclared, SourceType};
-ghost use Rattle.ioa_terms.specs.Sorted.{NameShapes};
 ghost use Rattle.ioa_sort_rules.specs.DeclaredTypes.{IsDeclared};
-ghost use Rattle.ioa_types.specs.NameTables.{AreDistinct, with_name, with_names};
+ghost use Rattle.ioa_names.specs.NameTables.{AreDistinct, with_name};
 ghost use Rattle.ioa_types.specs.TypeTables.{TypeTable, shape_of_sort, tuple_shape};
 ghost use Rattle.ioa_types.specs.Meanings.{Means, tuple_types, IsTypeTable, AreTextTypes};
 ghost use Rattle.ioa_types.specs.TextTypes.{PlainTextTypes, no_types, with_type};
+ghost use Rattle.ioa_types.specs.TypeDeclarations.{DeclaresType};
 ghost use Rattle.ioa_types.specs.declared.height.TheConstants.{SHAPE_LIMIT};
 
 /// A sort has a shape exactly if it means one that is not too high. Of a table of types the tuple types in that shape
@@ -38,11 +38,10 @@ pub fn text_types_law()
         AreTextTypes more }
 {}
 
-/// Names are put behind others exactly if they all differ.
-pub fn names_law()
-    ensures behind { (names more all : NameShapes) → with_names names more ≡ Ok all → all ≡ names ++ more }
-    ensures differ { (names more all : NameShapes) → AreDistinct names → with_names names more ≡ Ok all →
-        AreDistinct all }
-    ensures found { (names more : NameShapes) → AreDistinct (names ++ more) →
-        with_names names more ≡ Ok (names ++ more) }
+/// The types and constants with those of a declaration are the ones that it declares. There are no others: if there are
+/// such, they are found, so that a declaration is refused only if there are none.
+pub fn declarations_law()
+    ensures sound { (t u : PlainTextTypes) (d : SourceType) → AreTextTypes t → AreDistinct t.types →
+        with_type t d ≡ Ok u → DeclaresType t d u }
+    ensures found { (t u : PlainTextTypes) (d : SourceType) → DeclaresType t d u → with_type t d ≡ Ok u }
 {}

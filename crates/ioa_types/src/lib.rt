@@ -3,12 +3,10 @@
 
 mod height;
 mod laws;
-mod table;
 mod text_types;
 mod types;
 
 pub use height::{SHAPE_LIMIT, ShapeWithHeight};
-pub use laws::{names_law, text_types_law, types_law};
-pub use table::NameTable;
+pub use laws::{declarations_law, text_types_law, types_law};
 pub use text_types::TextTypes;
 pub use types::Types;

@@ -7,8 +7,8 @@ ghost use Rattle.ioa_types.specs.Meanings.{AreTextTypes};
 ghost use Rattle.ioa_types.specs.TextTypes as spec;
 
 use crate::height::ShapeWithHeight;
-use crate::table::NameTable;
 use crate::types::Types;
+use ioa_names::NameTable;
 use ioa_sort_rules::Refusal;
 use ioa_source::{Declared, TypeDeclaration, TypeForm};
 use ioa_terms::{Shape, Word};
@@ -132,7 +132,7 @@ fn with_constants(
     for constant in constants {
         let name = constant.try_copy(alloc)?;
         let shape = shape.try_copy(alloc)?;
-        table = table.with(name, shape)?;
+        table = table.with(alloc, name, shape)?;
     }
     Ok(table)
 }

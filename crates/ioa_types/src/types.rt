@@ -5,7 +5,7 @@ ghost use Rattle.ioa_values.specs.Outcome.{Answers};
 ghost use Rattle.ioa_terms.specs.Sorted.{shape_named};
 ghost use Rattle.ioa_source.specs.SortView.{sort_of};
 ghost use Rattle.ioa_source.specs.TextView.{declared_of};
-ghost use Rattle.ioa_types.specs.NameTables.{with_name};
+ghost use Rattle.ioa_names.specs.NameTables.{with_name};
 ghost use Rattle.ioa_types.specs.TypeTables as spec;
 
 use crate::height::{FieldShapes, ShapeWithHeight};

@@ -1,6 +1,6 @@
 use Rattle.std.proofs.Common.{◌≡◌, map, drop}
 use Rattle.ioa_source.specs.TextView.{parameter_of}
-use Rattle.ioa_types.specs.NameTables.{with_names}
+use Rattle.ioa_names.specs.NameTables.{with_names}
 use Rattle.ioa_automata.specs.NamesInView.{own_shapes}
 use Rattle.ioa_automata.proofs.names.with_own.Given as goal
 

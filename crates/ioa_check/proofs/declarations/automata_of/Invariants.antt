@@ -2,7 +2,7 @@ use Rattle.std.proofs.Common.{◌≡◌, ◌++◌, [], Ok, map, drop}
 use Rattle.ioa_values.specs.Outcome.{and_then}
 use Rattle.std.specs.Arc.{arc_value}
 use Rattle.ioa_source.specs.TextView.{declaration_of}
-use Rattle.ioa_types.specs.NameTables.{words}
+use Rattle.ioa_names.specs.NameTables.{words}
 use Rattle.ioa_check.specs.Declarations.{automata_at}
 use Rattle.ioa_check.proofs.declarations.automata_of.Given as goal
 

@@ -1,4 +1,4 @@
-use Rattle.std.proofs.Common.{refl, map}
+use Rattle.std.proofs.Common.{map}
 use Rattle.ioa_terms.specs.View.{term_of}
 use Rattle.ioa_check.proofs.Grounds.{arguments_resolved, as_many_arguments}
 use Rattle.ioa_check.proofs.Programs.{many_given}
@@ -6,7 +6,7 @@ use Rattle.ioa_check.proofs.nodes.given_values.Goals as goal
 
 pub argument_values-requires : goal.argument_values-requires
 argument_values-requires c =
-    rw (c.with_constants-env.ensures.names refl, c.as_slice.ensures, c.requires.named)
+    rw (c.with_constants-env.ensures.names, c.one.ensures, c.as_slice.ensures, c.requires.named)
     (arguments_resolved c.args.view.now c.args.shapes.now.items (map term_of c.args.arguments.now.items) (map term_of c.in_ok-terms.terms.items) c.requires.declared c.in_ok-terms.ensures)
 
 pub returns-clause-many : goal.returns-clause-many

@@ -5,7 +5,7 @@ use Rattle.ioa_source.specs.TextView.{node_of}
 use Rattle.ioa_system.specs.Parts.{AutomatonParts}
 use Rattle.ioa_check.specs.Grounds.{HaveDeclaredShapes}
 use Rattle.ioa_check.specs.Nodes.{parameter_shapes}
-use Rattle.ioa_check.proofs.SoundNodes.{found_has}
+use Rattle.ioa_automata.proofs.Lookups.{found_has}
 use Rattle.ioa_check.proofs.nodes.node_program.Goals as goal
 
 pub program_with-requires-clause-declared : goal.program_with-requires-clause-declared

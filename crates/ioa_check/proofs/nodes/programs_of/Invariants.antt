@@ -1,7 +1,7 @@
 use Rattle.std.proofs.Common.{◌≡◌, ◌++◌, ◌-◌, Ok, map, length}
 use Rattle.ioa_values.specs.Outcome.{and_then}
 use Rattle.std.specs.Arc.{arc_value}
-use Rattle.ioa_types.specs.NameTables.{words}
+use Rattle.ioa_names.specs.NameTables.{words}
 use Rattle.ioa_check.specs.Sections.{node_at}
 use Rattle.ioa_check.specs.Grounds.{AreGrounded}
 use Rattle.ioa_check.specs.Nodes.{programs_at, programs_from}

@@ -6,4 +6,4 @@ use Rattle.ioa_language_tests.proofs.terms.effect_text.Goals as goal
 
 pub perform-requires-clause-resolved : goal.perform-requires-clause-resolved
 perform-requires-clause-resolved c =
-    rw (append-nil c.args.names.now) (resolved_all (map statement_of c.args.statements.now) (map Word c.args.names.now) (map Word c.args.names.now) c.requires.resolved)
+    rw (c.one.ensures, append-nil c.args.names.now) (resolved_all (map statement_of c.args.statements.now) (map Word c.args.names.now) (map Word c.args.names.now) c.requires.resolved)

@@ -1,6 +1,6 @@
 use Rattle.std.proofs.Common.{inr, map, refl}
 use Rattle.ioa_terms.specs.declared.name.Name.TheVariants.{Word}
-use Rattle.ioa_types.proofs.Tables.{named_zip}
+use Rattle.ioa_names.proofs.Tables.{named_zip}
 use Rattle.ioa_types.proofs.types.Types.shape_named.Goals as goal
 
 pub returns-in-Some : goal.returns-in-Some

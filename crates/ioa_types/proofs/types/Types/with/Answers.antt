@@ -1,5 +1,5 @@
 use Rattle.std.proofs.Common.{inr}
-use Rattle.ioa_types.proofs.Tables.{with_new, with_old}
+use Rattle.ioa_names.proofs.Tables.{with_new, with_old}
 use Rattle.ioa_types.proofs.types.Types.with.Goals as goal
 
 pub returns-in_ok-push : goal.returns-in_ok-push

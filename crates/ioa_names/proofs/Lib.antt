@@ -1,0 +1,4 @@
+-- the lemmas of this crate
+pub mod Tables
+pub mod Names
+pub mod Named

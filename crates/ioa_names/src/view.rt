@@ -1,0 +1,101 @@
+//! Names in view.
+
+ghost use Rattle.std.specs.Prelude.{◌≡◌, ◌++◌, IfOk, take};
+ghost use Rattle.std.specs.Option.{option_map};
+ghost use Rattle.ioa_names.specs.Views.{declared_at, named};
+
+use crate::table::{DeclaredShape, NameTable};
+use ioa_terms::{Name, Shape, Word};
+use std::alloc::AllocError;
+use std::marker::Model;
+
+/// The names that a term may read, with their declared shapes: those that stand outside, then those that an entry
+/// declares itself, and then the text's constants. The slot of a name is its index among them. A contract sees the
+/// pairs of names and declared shapes.
+#[derive(Drop)]
+pub struct View<'a> {
+    outer: &'a NameTable,
+    own: &'a NameTable,
+    constants: &'a NameTable,
+    own_offset: usize,
+    constants_offset: usize,
+}
+
+impl<'a> Model for View<'a> {
+    ghost use Rattle.std.specs.Prelude.{◌++◌};
+    ghost use Rattle.std.specs.Coded.{coded×, coded_list};
+    ghost use Rattle.ioa_operators.specs.ShapeCode.{shape_code};
+    ghost use Rattle.ioa_terms.specs.contracts.name.Name as called;
+    ghost use Rattle.ioa_terms.specs.Sorted.{NameShapes};
+    ghost use Rattle.ioa_names.specs.Views.{AreOffsets};
+
+    ghost Value = { NameShapes };
+
+    ghost coded = { coded_list (coded× called.the_row.coded shape_code) };
+
+    ghost view = { λ v. v.outer.now ++ (v.own.now ++ v.constants.now) };
+
+    ghost invariant = { λ v. AreOffsets v.outer.now v.own.now v.constants.now v.own_offset v.constants_offset };
+}
+
+impl<'a> View<'a> {
+    /// The names of these tables. Memory if there are more than a machine can count.
+    pub fn new(
+        outer: &'a NameTable,
+        own: &'a NameTable,
+        constants: &'a NameTable,
+    ) -> Result<Self, AllocError>
+        ensures { IfOk result (λ v. v ≡ outer.now ++ (own.now ++ constants.now)) }
+    {
+        let own_offset = outer.len();
+        let constants_offset = own_offset.checked_add(own.len()).ok_or(AllocError)?;
+        let _whole = constants_offset
+            .checked_add(constants.len())
+            .ok_or(AllocError)?;
+        Ok(View {
+            outer,
+            own,
+            constants,
+            own_offset,
+            constants_offset,
+        })
+    }
+
+    /// The slot of a name, and its shape in a term, if it is in view.
+    pub fn find(&self, name: &Name) -> Option<(usize, &Shape)>
+        ensures { option_map (λ p. (p.0, p.1.now)) result ≡ named name.now self.now }
+    {
+        let Name::Word(word) = name;
+        let (slot, shape) = self.look_up(word)?;
+        Some((slot, shape.in_terms()))
+    }
+
+    /// The slot of a name, and its declared shape, if it is one of the first names in view, as many as are variables.
+    #[tactic(auto, using(crate::proofs::Named::first_slots))]
+    pub fn find_variable(&self, name: &Word, variables: usize) -> Option<(usize, &Shape)>
+        ensures { option_map (λ p. (p.0, p.1.now)) result ≡ declared_at (Name.Word name.now) (take variables self.now) }
+    {
+        let (slot, shape) = self.look_up(name)?;
+        if slot < variables {
+            Some((slot, shape.as_declared()))
+        } else {
+            None
+        }
+    }
+
+    /// The slot of a name, and its shape, if it is in view.
+    #[tactic(auto, using(crate::proofs::Named::in_three))]
+    fn look_up(&self, word: &Word) -> Option<(usize, &DeclaredShape)>
+        ensures { option_map (λ p. (p.0, p.1.now)) result ≡ declared_at (Name.Word word.now) self.now }
+    {
+        let found = self.outer.look_up(word);
+        if found.is_some() {
+            return found;
+        }
+        let found = self.own.look_up_behind(word, self.own_offset);
+        if found.is_some() {
+            return found;
+        }
+        self.constants.look_up_behind(word, self.constants_offset)
+    }
+}
