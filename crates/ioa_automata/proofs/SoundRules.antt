@@ -1,6 +1,6 @@
 -- What is made of an automaton.
-use Rattle.std.proofs.Common.{◌≡◌, ◌&&◌, ℕ, zero, suc, Bool, true, false, List, [], ◌∷◌, ◌++◌, Option, Some, None, Err, refl, sym, ap, subst, ◌∙◌, map, length, take, inl, inr, if◌then◌else◌}
-use Rattle.std.specs.Prelude.{find, ◌||◌}
+use Rattle.std.proofs.Common.{◌≡◌, ◌&&◌, ℕ, zero, suc, Bool, true, false, List, [], ◌∷◌, ◌++◌, Option, Some, None, Err, refl, sym, ap, subst, ◌∙◌, map, length, take, if◌then◌else◌}
+use Rattle.std.specs.Prelude.{find, not, ◌||◌}
 use Rattle.std.specs.List.{AllByRecursion, AllZip, IsDistinct, list_all}
 use Rattle.std.specs.Option.{is_some}
 use Rattle.std.proofs.lemmas.List.{append_assoc}
@@ -13,7 +13,7 @@ use Rattle.ioa_terms.specs.declared.tree.Kind.{Kind}
 use Rattle.ioa_terms.specs.declared.tree.Kind.TheVariants.{Input}
 use Rattle.ioa_terms.specs.Bindings.{same_word}
 use Rattle.ioa_terms.proofs.SameTerms.{kind_is}
-use Rattle.ioa_actions.specs.ActionParts.{send_name, receive_name}
+use Rattle.ioa_actions.specs.ActionParts.{receive_name}
 use Rattle.ioa_terms.specs.SameTerms.{same_kind}
 use Rattle.ioa_terms.specs.Sorted.{NameShapes, shape_in_terms}
 use Rattle.ioa_source.specs.PlainText.{const, named}
@@ -31,9 +31,9 @@ use Rattle.ioa_types.specs.TextTypes.{PlainTextTypes}
 use Rattle.ioa_names.proofs.Names.{all_behind, all_differ, new_differ_between, second_differ}
 use Rattle.ioa_automata.specs.NamesInView.{parameter_shapes, variable_shapes, own_shapes, given_names_or, outer_names_or, own_names_or}
 use Rattle.ioa_automata.specs.Parts.{PlainSortedEntry, sorted_entry, parameters_at, where_at, entry_at, transition_at, all_declared_at, variables_at}
-use Rattle.ioa_automata.specs.Rules.{repeats, transition_for, transition_or, may_have_name, message_at, sorted_rule, PlainSurroundings, rule_of, rule_at, rules_at, is_of_kind, fires, is_message, entry_fired, arguments_at, firing_at, firings_at, names_or, entry_for, has_entry, have_entries}
+use Rattle.ioa_automata.specs.Rules.{repeats, transition_for, transition_or, may_have_name, message_at, sorted_rule, PlainSurroundings, rule_of, rule_at, rules_at, is_of_kind, fires, may_fire, entry_fired, arguments_at, firing_at, firings_at, names_or, entry_for, has_entry, have_entries}
 use Rattle.ioa_automata.specs.Automata.{PlainBody, PlainHeading, heading_at, surroundings, actions_at, body_at, sorted_automaton, automaton_at}
-use Rattle.ioa_automata.specs.SortedAutomata.{IsDeclaredOf, IsVariableOf, IsConditionOf, AreParametersOf, IsTransitionOf, IsRuleOf, AreArgumentsOf, NamesKind, IsMessage, IsFiringOf, HasItsEntry, IsAutomatonOf, names_at}
+use Rattle.ioa_automata.specs.SortedAutomata.{IsDeclaredOf, IsVariableOf, IsConditionOf, AreParametersOf, IsTransitionOf, IsRuleOf, AreArgumentsOf, NamesKind, IsFiringOf, HasItsEntry, IsAutomatonOf, names_at}
 use Rattle.ioa_automata.proofs.Loops.{results_are}
 use Rattle.ioa_automata.proofs.Lookups.{found_has, found_is}
 use Rattle.ioa_automata.proofs.Results.{result_is, first_of, all_ok_each, zip_weaker}
@@ -263,14 +263,14 @@ module _ (t : PlainTextTypes) (text : AreTextTypes t) where
       fired : PlainRule
       found : o ≡ Some fired
       shapes : fired.shapes ≡ ss
-      message : is_message f.action ≡ true
+      runs : may_fire fired.entry.kind f.action ≡ true
 
-    message_is : (w : List ℕ) → is_message w ≡ true → IsMessage w
-    message_is w h = by_test (same_word w send_name) refl h
+    no_stimulus_is : (k : Kind) (w : List ℕ) → may_fire k w ≡ true → k ≡ Input → w ≡ receive_name
+    no_stimulus_is k w h e = by_kind (same_kind k Input) ((kind_is k Input).1 e) h
       where
-        by_test : (b : Bool) → same_word w send_name ≡ b → b || same_word w receive_name ≡ true → IsMessage w
-        by_test true e h = inl ((bytes_eq-Decides w send_name).0 e)
-        by_test false e h = inr ((bytes_eq-Decides w receive_name).0 h)
+        by_kind : (b : Bool) → b ≡ true → not b || same_word w receive_name ≡ true → w ≡ receive_name
+        by_kind true s h = (bytes_eq-Decides w receive_name).0 h
+        by_kind false s h = absurd (cc)
 
     kind_names : (o : Option Kind) (k : Kind) → is_of_kind o k ≡ true → NamesKind o k
     kind_names None k h = tt
@@ -279,10 +279,10 @@ module _ (t : PlainTextTypes) (text : AreTextTypes t) where
     fired_sound : (f : SourceFiring) (o : Option PlainRule) (ss : List PlainShape) → entry_fired f o ≡ results_are ss → IsFired f o ss
     unfolding entry_fired
     fired_sound f None ss h = absurd (cc)
-    fired_sound f (Some r) ss h = by_name (is_message f.action) refl h
+    fired_sound f (Some r) ss h = by_name (may_fire r.entry.kind f.action) refl h
       where
-        by_name : (b : Bool) → is_message f.action ≡ b → (if b then results_are r.shapes else Err Unknown) ≡ results_are ss → IsFired f (Some r) ss
-        by_name true m h = let same : r.shapes ≡ ss = cc in record { fired = r; found = refl; shapes = same; message = m }
+        by_name : (b : Bool) → may_fire r.entry.kind f.action ≡ b → (if b then results_are r.shapes else Err Unknown) ≡ results_are ss → IsFired f (Some r) ss
+        by_name true m h = let same : r.shapes ≡ ss = cc in record { fired = r; found = refl; shapes = same; runs = m }
         by_name false m h = absurd (cc)
 
     firing_sound : (f : SourceFiring) (c : CheckedFiring) → firing_at names rs f ≡ result_is c → IsFiringOf names rs f c
@@ -302,7 +302,7 @@ module _ (t : PlainTextTypes) (text : AreTextTypes t) where
           present = is.0;
           same_name = is.1;
           of_kind = kind_names f.kind fired.fired.entry.kind is.2;
-          message = message_is f.action fired.message;
+          no_stimulus = no_stimulus_is fired.fired.entry.kind f.action fired.runs;
           arguments = subst (λ ss. AreArgumentsOf names ss f.arguments two.0) (sym fired.shapes) (arguments_sound one.0 f.arguments two.0 (subst (AllByRecursion IsKept) fired.shapes declared) two.1);
         })
 

@@ -137,13 +137,14 @@ is_of_kind (Some j) k = same_kind j k
 abbrev pub fires : SourceFiring → PlainRule → Bool
 fires f r = same_word r.entry.name f.action && is_of_kind f.kind r.entry.kind
 
--- a firing of `send` or `receive` names an entry; other actions do not run yet
-abbrev pub is_message : List ℕ → Bool
-is_message w = same_word w send_name || same_word w receive_name
+-- whether firings of an entry of this kind and name run: stimuli, which are the inputs other than `receive`, do not yet
+abbrev pub may_fire : Kind → List ℕ → Bool
+may_fire k w = not (same_kind k Input) || same_word w receive_name
 
+-- the shapes of the arguments that a firing takes: it names an entry, and runs
 unfoldable pub entry_fired : SourceFiring → Option PlainRule → Result (List PlainShape) Refusal
 entry_fired f None = Err Unknown
-entry_fired f (Some r) = if is_message f.action then Ok r.shapes else Err Unknown
+entry_fired f (Some r) = if may_fire r.entry.kind f.action then Ok r.shapes else Err Unknown
 
 -- arguments, each of the shape at its position
 abbrev pub arguments_at : NameShapes → List PlainShape → List SourceTerm → Result (List CheckedTerm) Refusal

@@ -7,7 +7,7 @@ ghost use Rattle.ioa_terms.specs.View.{firing_of, term_of};
 ghost use Rattle.ioa_automata.specs.Indexes.{AreIndexed};
 ghost use Rattle.ioa_automata.specs.Rules as spec;
 
-use ioa_actions::{RECEIVE, SEND};
+use ioa_actions::RECEIVE;
 use ioa_names::View;
 use ioa_sort_rules::{Refusal, shape_in_terms};
 use ioa_sorts::fit;
@@ -39,11 +39,12 @@ fn rule_fired<'a>(rules: &'a Vec<Rule>, names: &Scope, firing: &Firing<(), ()>) 
     }
 }
 
-/// Whether actions of this name are sends or receives.
-fn is_message(action: &Word) -> bool
-    ensures { result ≡ spec.is_message action.now }
+/// Whether firings of an entry of this kind and name run. Stimuli, which are the inputs other than `receive`, do not
+/// yet.
+fn may_fire(kind: Kind, action: &Word) -> bool
+    ensures { result ≡ spec.may_fire kind action.now }
 {
-    action.as_str() == SEND || action.as_str() == RECEIVE
+    kind != Kind::Input || action.as_str() == RECEIVE
 }
 
 /// The shapes of the arguments that a firing takes. `Unknown` (20) if it names no entry, or an action that does not run
@@ -61,7 +62,7 @@ fn shapes_fired<'a>(
     match rule_fired(rules, names, firing) {
         None => Err(Refusal::Unknown),
         Some(rule) => {
-            if is_message(&firing.action) {
+            if may_fire(rule.entry.kind, &firing.action) {
                 Ok(&rule.shapes)
             } else {
                 Err(Refusal::Unknown)

@@ -208,6 +208,48 @@ fn texts_give_their_reports_or_refusals(rt: HostRuntime) -> Result<(), Fail> {
     Ok(())
 }
 
+/// A text whose run has local actions, and its report.
+static LOCAL: [(&str, &str); 5] = [
+    (
+        "automaton A signature internal up states n: Int := 9223372036854775807
+        transitions internal up eff n := n + 1 schedule do fire internal up od system node 0: A",
+        "schedule 0\nnode 0 n = 9223372036854775807\nending 0 fault Range\nworker 0 commits 0\ntotal 0\n",
+    ),
+    (
+        "automaton A signature internal down states n: Nat := 0
+        transitions internal down eff n := n - 1 schedule do fire internal down od system node 0: A",
+        "schedule 0\nnode 0 n = 0\nending 0 fault Undefined\nworker 0 commits 0\ntotal 0\n",
+    ),
+    (
+        "automaton A signature internal move states x: Int := 1, y: Int := 2
+        transitions internal move eff x := y; y := x schedule do fire move od system node 0: A",
+        "schedule 1\n0 move@0\nnode 0 x = 2\nnode 0 y = 2\nending 0 done\nworker 0 commits 1\ntotal 1\n",
+    ),
+    (
+        "automaton A signature output show(v: Int, b: Bool) states n: Int := 3
+        transitions output show(v, b) pre v = n eff n := n + 1
+        schedule do fire show(n, true); fire output show(7, false); fire show(n, n = 4) od system node 0: A",
+        "schedule 2\n0 show(3, true)@0\n1 show(4, true)@0\nnode 0 n = 5\nending 0 done\nworker 0 commits 2\ntotal 2\n",
+    ),
+    (
+        "automaton Tick signature internal tick states n: Int := 0 transitions internal tick eff n := n + 1
+        schedule do fire tick; fire tick od system node 0: Tick node 1: Tick",
+        "schedule 4\n0 tick@0\n1 tick@1\n2 tick@0\n3 tick@1\nnode 0 n = 2\nnode 1 n = 2\nending 0 done\nending 1 done\nworker 0 commits 4\ntotal 4\n",
+    ),
+];
+
+#[test]
+fn local_actions_are_taken(rt: HostRuntime) -> Result<(), Fail> {
+    for (text, report) in &LOCAL {
+        let mut reader = text.as_bytes();
+        let (status, out, err) = run_on(&rt, &["ioarun"], &mut reader)?;
+        assert_eq!(rt; out.as_str(), *report);
+        assert_eq!(rt; err.as_str(), "");
+        assert_eq!(rt; status, 0);
+    }
+    Ok(())
+}
+
 #[test]
 fn lengths_are_limited(rt: HostRuntime) -> Result<(), Fail> {
     let room = 1_048_576 - ONE_STATE.len() as u64;

@@ -82,7 +82,7 @@ static REFUSED: [(&str, &str); 15] = [
     ),
     // What does not run yet.
     (
-        "automaton A signature internal t transitions internal t schedule do fire t od system",
+        "automaton A signature input t transitions input t schedule do fire t od system",
         "20 Unknown in 0",
     ),
     (
