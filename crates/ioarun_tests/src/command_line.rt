@@ -234,7 +234,8 @@ static LOCAL: [(&str, &str); 5] = [
     (
         "automaton Tick signature internal tick states n: Int := 0 transitions internal tick eff n := n + 1
         schedule do fire tick; fire tick od system node 0: Tick node 1: Tick",
-        "schedule 4\n0 tick@0\n1 tick@1\n2 tick@0\n3 tick@1\nnode 0 n = 2\nnode 1 n = 2\nending 0 done\nending 1 done\nworker 0 commits 4\ntotal 4\n",
+        "schedule 4\n0 tick@0\n1 tick@1\n2 tick@0\n3 tick@1\nnode 0 n = 2\nnode 1 n = 2\n\
+        ending 0 done\nending 1 done\nworker 0 commits 4\ntotal 4\n",
     ),
 ];
 
