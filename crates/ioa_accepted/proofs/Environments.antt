@@ -17,7 +17,7 @@ use Rattle.ioa_types.specs.TextTypes.{PlainTextTypes}
 use Rattle.ioa_automata.specs.NamesInView.{parameter_shapes, variable_shapes, own_shapes}
 use Rattle.ioa_automata.specs.SortedAutomata.{names_at}
 use Rattle.ioa_automata.proofs.Compiled.{scope_words}
-use Rattle.ioa_compose.specs.NodeStep.{IsOfSort, own_values}
+use Rattle.ioa_transitions.specs.NodeStep.{IsOfSort, own_values}
 use Rattle.ioa_accepted.specs.Shaped.{FitsParameter, FitsVariable}
 use Rattle.ioa_accepted.proofs.Numbered.{AreNumbered, shaped_more, constants_shaped}
 

@@ -21,8 +21,8 @@ use Rattle.ioa_sorts.specs.SortedStatements.{IsSorted, AreSorted, AreArmsSorted}
 use Rattle.ioa_automata.specs.SortedAutomata.{AreArgumentsOf, IsConditionOf, IsFiringOf, names_at}
 use Rattle.ioa_automata.proofs.Compiled.{automaton_compiled}
 use Rattle.ioa_check.specs.Systems.{IsEntryOn, IsSystemOf}
-use Rattle.ioa_compose.specs.NodeState.{NodeState}
-use Rattle.ioa_compose.specs.NodeStep.{IsOfSort, rule_bindings}
+use Rattle.ioa_transitions.specs.NodeState.{NodeState}
+use Rattle.ioa_transitions.specs.NodeStep.{IsOfSort, rule_bindings}
 use Rattle.ioa_compose.specs.declared.configuration.Conf.{Conf}
 use Rattle.ioa_compose.specs.declared.configuration.Conf.TheVariants.{Node, Queue}
 use Rattle.ioa_accepted.specs.Shaped.{IsShapedNode, AreShaped}

@@ -26,16 +26,17 @@ use Rattle.ioa_sorts.proofs.Types.{same_is}
 use Rattle.ioa_types.specs.Meanings.{tuple_types}
 use Rattle.ioa_types.specs.TypeTables.{TypeTable}
 use Rattle.ioa_automata.specs.SortedAutomata.{AreParametersOf, IsConstantAt, IsReceive, IsRuleOf, names_at}
-use Rattle.ioa_check.specs.Channels.{program_numbered, rule_named}
+use Rattle.ioa_check.specs.Channels.{program_numbered}
+use Rattle.ioa_system.specs.Parts.{rule_named}
 use Rattle.ioa_check.specs.Systems.{HaveOneMessage, IsChannelOf, IsSystemOf}
 use Rattle.ioa_check.proofs.Declared.{declared_once}
-use Rattle.ioa_compose.specs.NodeState.{NodeState}
-use Rattle.ioa_compose.specs.NodeStep.{IsOfSort, IsNodeStep, TakesArgument}
+use Rattle.ioa_transitions.specs.NodeState.{NodeState}
+use Rattle.ioa_transitions.specs.NodeStep.{IsOfSort, IsNodeStep, TakesArgument}
 use Rattle.ioa_compose.specs.Participants.{takes_part}
-use Rattle.ioa_compose.specs.Queues.{QueueState}
-use Rattle.ioa_compose.specs.Steps.{IsQueueStep}
-use Rattle.ioa_compose.specs.declared.queue.Item.{Item}
-use Rattle.ioa_compose.specs.declared.queue.Item.TheVariants.{Message, Stimulus}
+use Rattle.ioa_channels.specs.Queues.{QueueState}
+use Rattle.ioa_channels.specs.QueueSteps.{IsQueueStep}
+use Rattle.ioa_channels.specs.declared.queue.Item.{Item}
+use Rattle.ioa_channels.specs.declared.queue.Item.TheVariants.{Message, Stimulus}
 use Rattle.ioa_accepted.specs.Shaped.{IsShapedNode, IsMessageTo, IsItemTo, IsShapedQueue}
 use Rattle.ioa_automata.proofs.Lookups.{contained_found, contained_has, found_contained}
 use Rattle.ioa_accepted.proofs.Accepted.{IsAcceptedProgram, is_accepted, system_numbered}
@@ -146,8 +147,8 @@ message_fits x s h m i j c present from to n d shaped mine step = record {
     same =
         let types = text_types_of x.declarations h.types h.declared in
         same_is (tuple_types h.types.types) one.0 one.1
-        (message_declared h.types types n.program sender_accepted sent_by.0.parameters rule.entry.parameters rule.shapes one.0 sent_by.1.parameters one.2)
-        (message_declared h.types types joined.receiver receiver_accepted taken_by.0.parameters joined.input.entry.parameters joined.input.shapes one.1 taken_by.1.parameters one.3)
+        (message_declared h.types types n.program sender_accepted rule step.mine.present one.0 one.2)
+        (message_declared h.types types joined.receiver receiver_accepted joined.input input_found.0 one.1 one.3)
         one.4
 
 -- a step of a queue

@@ -20,8 +20,8 @@ use Rattle.ioa_types.specs.TextTypes.{PlainTextTypes}
 use Rattle.ioa_automata.specs.NamesInView.{parameter_shapes, variable_shapes, own_shapes}
 use Rattle.ioa_automata.specs.SortedAutomata.{IsRuleOf, names_at}
 use Rattle.ioa_check.specs.Systems.{IsSystemOf}
-use Rattle.ioa_compose.specs.NodeState.{NodeState, node_state}
-use Rattle.ioa_compose.specs.NodeStep.{IsOfSort, IsNodeStep, own_values, rule_bindings}
+use Rattle.ioa_transitions.specs.NodeState.{NodeState, node_state}
+use Rattle.ioa_transitions.specs.NodeStep.{IsOfSort, IsNodeStep, own_values, rule_bindings}
 use Rattle.ioa_accepted.specs.Shaped.{FitsVariable, IsShapedNode}
 use Rattle.ioa_accepted.proofs.Environments.{bindings_shaped, bindings_names, own_fit}
 use Rattle.ioa_accepted.proofs.Effects.{found_in_front, effect_shaped}

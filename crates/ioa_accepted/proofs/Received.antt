@@ -25,20 +25,21 @@ use Rattle.ioa_system.specs.Systems.{SystemParts}
 use Rattle.ioa_types.specs.TextTypes.{PlainTextTypes}
 use Rattle.ioa_types.specs.TypeTables.{TypeTable}
 use Rattle.ioa_automata.specs.SortedAutomata.{AreMessageShapes, AreParametersOf, IsConditionOf, IsNumber, IsParameterOf, IsReceive, IsRuleOf, names_at}
-use Rattle.ioa_check.specs.Channels.{program_numbered, rule_named}
+use Rattle.ioa_check.specs.Channels.{program_numbered}
+use Rattle.ioa_system.specs.Parts.{rule_named}
 use Rattle.ioa_check.specs.Systems.{IsChannelOf, IsConstantOf, IsEntryOn, IsSystemOf, TakesNumber}
 use Rattle.ioa_check.proofs.Declared.{declared_once}
 use Rattle.ioa_compose.specs.Composition.{component_of, find_conf}
-use Rattle.ioa_compose.specs.NodeState.{NodeState, node_state}
-use Rattle.ioa_compose.specs.NodeStep.{GuardHolds, HasRule, IsNodeStep, IsOfSort, IsState, TakesArgument, rule_bindings}
-use Rattle.ioa_compose.specs.Participants.{same_component}
-use Rattle.ioa_compose.specs.Queues.{QueueState}
+use Rattle.ioa_transitions.specs.NodeState.{NodeState, node_state}
+use Rattle.ioa_transitions.specs.NodeStep.{GuardHolds, HasRule, IsNodeStep, IsOfSort, IsState, TakesArgument, rule_bindings}
+use Rattle.ioa_actions.specs.ComponentOrder.{same_component}
+use Rattle.ioa_channels.specs.Queues.{QueueState}
 use Rattle.ioa_compose.specs.declared.configuration.Conf.{Conf}
 use Rattle.ioa_compose.specs.declared.configuration.Conf.TheVariants.{Node, Queue}
-use Rattle.ioa_compose.specs.declared.queue.Item.TheVariants.{Message}
+use Rattle.ioa_channels.specs.declared.queue.Item.TheVariants.{Message}
 use Rattle.ioa_compose.proofs.Components.{component_of-find_conf}
-use Rattle.ioa_compose.proofs.NodeSignatures.{range_check_parts}
-use Rattle.ioa_compose.proofs.NodeSteps.{names_left}
+use Rattle.ioa_transitions.proofs.NodeSignatures.{range_check_parts}
+use Rattle.ioa_transitions.proofs.NodeSteps.{names_left}
 use Rattle.ioa_accepted.specs.Shaped.{FitsVariable, IsShapedNode, IsMessageTo, IsItemTo, IsShapedChannel, IsShapedQueue, IsShapedConf, AreShaped}
 use Rattle.ioa_accepted.specs.Awaited.{IsAwaited, AreMessagesAwaited}
 use Rattle.ioa_automata.proofs.Lookups.{contained_found, contained_has, found_contained, found_has}

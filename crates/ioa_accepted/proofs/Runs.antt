@@ -16,12 +16,14 @@ use Rattle.ioa_compose.specs.Automata.{IsExecution}
 use Rattle.ioa_compose.specs.Composition.{component_of, component_names, find_conf}
 use Rattle.ioa_compose.specs.Executions.{replay}
 use Rattle.ioa_compose.specs.JointStep.{IsJointState, IsJointStep, TakesStep}
-use Rattle.ioa_compose.specs.Participants.{same_component, takes_part}
+use Rattle.ioa_compose.specs.Participants.{takes_part}
+use Rattle.ioa_actions.specs.ComponentOrder.{same_component}
 use Rattle.ioa_compose.specs.Start.{start}
 use Rattle.ioa_compose.specs.Steps.{IsStep}
 use Rattle.ioa_compose.specs.declared.configuration.Conf.{Conf}
 use Rattle.ioa_compose.specs.declared.configuration.Conf.TheVariants.{Node, Queue}
-use Rattle.ioa_compose.proofs.Components.{Decides-same_component, same_component-itself, component_of-find_conf}
+use Rattle.ioa_compose.proofs.Components.{component_of-find_conf}
+use Rattle.ioa_actions.proofs.SameComponents.{Decides-same_component, same_component-itself}
 use Rattle.ioa_compose.proofs.Compositions.{joint_state_after}
 use Rattle.ioa_compose.proofs.Projections.{replays}
 use Rattle.ioa_compose.proofs.Starts.{start_state}

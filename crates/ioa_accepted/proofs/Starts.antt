@@ -10,7 +10,7 @@ use Rattle.ioa_system.specs.Parts.{Parts}
 use Rattle.ioa_system.specs.Systems.{SystemParts}
 use Rattle.ioa_check.specs.Nodes.{constant_bindings}
 use Rattle.ioa_check.specs.Systems.{AreValuesFor, IsInitialValue, IsSystemOf}
-use Rattle.ioa_compose.specs.NodeState.{node_state}
+use Rattle.ioa_transitions.specs.NodeState.{node_state}
 use Rattle.ioa_compose.specs.Start.{node_start, channel_start, script_start, start}
 use Rattle.ioa_compose.specs.declared.configuration.Conf.{Conf}
 use Rattle.ioa_accepted.specs.Shaped.{FitsParameter, FitsVariable, IsShapedNode, IsShapedConf, AreShaped}
@@ -64,13 +64,13 @@ module _ (s : SystemParts) where
   channels_shaped [] h = tt
   channels_shaped (c ∷ cs) h = (h.0, channels_shaped cs h.1)
 
-  scripts_shaped : (ps : List Parts) → AreShaped s (map script_start ps)
+  scripts_shaped : (ps : List Parts) → AreShaped s (map (script_start s.scripts) ps)
   scripts_shaped [] = tt
   scripts_shaped (p ∷ ps) = (tt, scripts_shaped ps)
 
 pub start_shaped : (x : SourceText) (s : SystemParts) → IsSystemOf x s → AreShaped s (start s)
 start_shaped x s h =
-    shaped_behind s (map node_start s.programs ++ map channel_start s.channels) (map script_start s.programs)
+    shaped_behind s (map node_start s.programs ++ map channel_start s.channels) (map (script_start s.scripts) s.programs)
     (shaped_behind s (map node_start s.programs) (map channel_start s.channels)
     (nodes_shaped s s.programs (all_contained (λ p. IsShapedNode s (node_state p p.initial)) s.programs (node_shaped x s h)))
     (channels_shaped s s.channels (all_contained (λ c. IsShapedConf s (channel_start c)) s.channels (empty_shaped s))))

@@ -10,12 +10,12 @@ use Rattle.ioa_actions.specs.declared.component.Component.TheVariants as compone
 use Rattle.ioa_system.specs.InView.{guard_or_effect}
 use Rattle.ioa_system.specs.Parts.{PlainRule}
 use Rattle.ioa_compose.specs.Composition.{find_conf}
-use Rattle.ioa_compose.specs.NodeState.{NodeState}
-use Rattle.ioa_compose.specs.NodeStep.{HasRule, IsNodeStep, IsOfSort, rule_bindings}
-use Rattle.ioa_compose.specs.Queues.{QueueState}
+use Rattle.ioa_transitions.specs.NodeState.{NodeState}
+use Rattle.ioa_transitions.specs.NodeStep.{HasRule, IsNodeStep, IsOfSort, rule_bindings}
+use Rattle.ioa_channels.specs.Queues.{QueueState}
 use Rattle.ioa_compose.specs.declared.configuration.Conf.{Conf}
 use Rattle.ioa_compose.specs.declared.configuration.Conf.TheVariants.{Node, Queue}
-use Rattle.ioa_compose.specs.declared.queue.Item.TheVariants.{Message}
+use Rattle.ioa_channels.specs.declared.queue.Item.TheVariants.{Message}
 
 -- a rule of the node's program has the receipt of a message on channel i -> j; its arguments are of their sorts, and
 -- there is neither a condition nor a guard (profile). So it is a step of the node if the effect leaves values

@@ -12,10 +12,11 @@ use Rattle.ioa_source.specs.Sides.{CheckedDeclared, CheckedVariable}
 use Rattle.ioa_source.specs.declared.declaration.Channel as declaration
 use Rattle.ioa_system.specs.Parts.{Parts, PlainRule}
 use Rattle.ioa_system.specs.Systems.{SystemParts}
-use Rattle.ioa_check.specs.Channels.{program_numbered, rule_named}
-use Rattle.ioa_compose.specs.NodeState.{NodeState}
-use Rattle.ioa_compose.specs.declared.queue.Item.{Item}
-use Rattle.ioa_compose.specs.declared.queue.Item.TheVariants.{Message, Stimulus}
+use Rattle.ioa_check.specs.Channels.{program_numbered}
+use Rattle.ioa_system.specs.Parts.{rule_named}
+use Rattle.ioa_transitions.specs.NodeState.{NodeState}
+use Rattle.ioa_channels.specs.declared.queue.Item.{Item}
+use Rattle.ioa_channels.specs.declared.queue.Item.TheVariants.{Message, Stimulus}
 use Rattle.ioa_compose.specs.declared.configuration.Conf.{Conf}
 use Rattle.ioa_compose.specs.declared.configuration.Conf.TheVariants.{Node, Queue}
 

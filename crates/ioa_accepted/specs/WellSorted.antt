@@ -20,8 +20,8 @@ use Rattle.ioa_system.specs.InView.{declared_names, firing_bindings, given_bindi
 use Rattle.ioa_system.specs.Parts.{PlainRule}
 use Rattle.ioa_system.specs.ResolvedPrograms.{IsResolvedAutomaton}
 use Rattle.ioa_check.specs.Systems.{HasValue}
-use Rattle.ioa_compose.specs.NodeState.{NodeState}
-use Rattle.ioa_compose.specs.NodeStep.{IsOfSort, rule_bindings}
+use Rattle.ioa_transitions.specs.NodeState.{NodeState}
+use Rattle.ioa_transitions.specs.NodeStep.{IsOfSort, rule_bindings}
 use Rattle.ioa_compose.specs.declared.configuration.Conf.{Conf}
 use Rattle.ioa_compose.specs.declared.configuration.Conf.TheVariants.{Node, Queue}
 

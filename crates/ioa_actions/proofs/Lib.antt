@@ -1,3 +1,4 @@
 -- the lemmas of this crate
 pub mod Parts
 pub mod SameActions
+pub mod SameComponents

@@ -1,10 +1,11 @@
--- What an action has: its name, its node, its arguments and its message (Lynch 8.1 and 14.1); and the action that a
--- name and arguments give at a node (profile).
+-- What an action has: its name, its node, its arguments and its message (Lynch 8.1 and 14.1); and the input, and the
+-- output or internal action, that a name and arguments give at a node (profile).
 use Rattle.std.specs.Prelude.{ℕ, ℤ, if◌then◌else◌, List, [], ◌∷◌, Option, Some, None, nat_eq}
 use Rattle.std.specs.Option.{option_and_then, option_map}
 use lib.Pointwise.{pointwise}
 use Rattle.ioa_values.specs.Data.{Data, number, as_number}
 use Rattle.ioa_actions.specs.declared.action.TheConstants.{SEND, RECEIVE}
+use Rattle.ioa_actions.specs.declared.action.NodeAction.{NodeAction}
 use Rattle.ioa_actions.specs.declared.action.Action.{Action}
 use Rattle.ioa_actions.specs.declared.action.Action.TheVariants.{Send, Receive, Local, Stimulus}
 
@@ -49,14 +50,27 @@ message_and_ends (m ∷ x ∷ y ∷ []) =
     option_and_then (λ i. option_map (λ j. (m, i, j)) (as_number y)) (as_number x)
 message_and_ends _ = None
 
--- the action of node k with this name and these arguments, which are a message and its ends, or are not
-abbrev pub action_by : ℤ → List ℕ → List Data → Option (Data × ℤ × ℤ) → Action
-action_by k name vs None = Local (record { node = k; name = name; arguments = vs })
-action_by k name vs (Some (m, i, j)) =
-    if pointwise nat_eq name send_name then Send m i j
-    else (if pointwise nat_eq name receive_name then Receive m i j
-    else Local (record { node = k; name = name; arguments = vs }))
+-- the action of node k with this name and these arguments
+abbrev pub node_action : ℤ → List ℕ → List Data → NodeAction
+node_action k name vs = record { node = k; name = name; arguments = vs }
 
--- the action that a name and arguments give at node k: a send, a receive, or another action of the node
-abbrev pub action_at : ℤ → List ℕ → List Data → Action
-action_at k name vs = action_by k name vs (message_and_ends vs)
+-- the input of node k with this name and these arguments, which are a message and its ends, or are not
+abbrev pub input_by : ℤ → List ℕ → List Data → Option (Data × ℤ × ℤ) → Action
+input_by k name vs None = Stimulus (node_action k name vs)
+input_by k name vs (Some (m, i, j)) =
+    if pointwise nat_eq name receive_name then Receive m i j else Stimulus (node_action k name vs)
+
+-- the input that a name and arguments give at node k: a receive, or else a stimulus
+abbrev pub input_at : ℤ → List ℕ → List Data → Action
+input_at k name vs = input_by k name vs (message_and_ends vs)
+
+-- the output or internal action of node k with this name and these arguments, which are a message and its ends, or are
+-- not
+abbrev pub locally_controlled_by : ℤ → List ℕ → List Data → Option (Data × ℤ × ℤ) → Action
+locally_controlled_by k name vs None = Local (node_action k name vs)
+locally_controlled_by k name vs (Some (m, i, j)) =
+    if pointwise nat_eq name send_name then Send m i j else Local (node_action k name vs)
+
+-- the output or internal action that a name and arguments give at node k: a send, or else a local action
+abbrev pub locally_controlled_at : ℤ → List ℕ → List Data → Action
+locally_controlled_at k name vs = locally_controlled_by k name vs (message_and_ends vs)

@@ -4,4 +4,5 @@ pub mod ActionParts
 pub mod ActionText
 pub mod ComponentOrder
 pub mod ComponentText
+pub mod StepFaults
 pub mod ValuesOrder

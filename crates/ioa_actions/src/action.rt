@@ -146,6 +146,22 @@ pub enum Action {
 }
 
 impl NodeAction {
+    /// The action of a node with this name and these arguments.
+    pub fn new(
+        alloc: Global,
+        node: i64,
+        name: &Word,
+        arguments: Vec<Value>,
+    ) -> Result<Self, AllocError>
+        ensures { IfOk result (λ a. a ≡ parts.node_action node name.now arguments.items) }
+    {
+        Ok(NodeAction {
+            node,
+            name: name.try_copy(alloc)?,
+            arguments: Values::from_vec(arguments),
+        })
+    }
+
     /// Whether two actions are the same.
     #[tactic(auto, using(crate::proofs::SameActions::same_node_action_is))]
     pub fn equals(&self, other: &Self) -> bool
@@ -177,31 +193,42 @@ impl NodeAction {
 }
 
 impl Action {
-    /// The action that a name and arguments give at a node (profile): a send or a receive if they are its name, a
-    /// message and two numbers, and else another action of that node.
-    pub fn at_node(
+    /// The input of a node with this name and these arguments: a receive if they are its name, a message and two
+    /// numbers, and else a stimulus (Lynch 8.1 and 14.1, and profile for stimuli).
+    pub fn input_at(
         alloc: Global,
         node: i64,
         name: &Word,
         arguments: Vec<Value>,
     ) -> Result<Self, AllocError>
-        ensures { IfOk result (λ a. a ≡ parts.action_at node name.now arguments.items) }
+        ensures { IfOk result (λ a. a ≡ parts.input_at node name.now arguments.items) }
+    {
+        if let Some((message, from, to)) = message_and_ends(&arguments) {
+            if name.as_str() == RECEIVE {
+                let message = message.try_copy(alloc)?;
+                return Ok(Action::Receive { message, from, to });
+            }
+        }
+        Ok(Action::Stimulus(NodeAction::new(alloc, node, name, arguments)?))
+    }
+
+    /// The output or internal action of a node with this name and these arguments, which the node itself controls: a
+    /// send if they are its name, a message and two numbers, and else a local action (Lynch 8.1 and 14.1).
+    pub fn locally_controlled_at(
+        alloc: Global,
+        node: i64,
+        name: &Word,
+        arguments: Vec<Value>,
+    ) -> Result<Self, AllocError>
+        ensures { IfOk result (λ a. a ≡ parts.locally_controlled_at node name.now arguments.items) }
     {
         if let Some((message, from, to)) = message_and_ends(&arguments) {
             if name.as_str() == SEND {
                 let message = message.try_copy(alloc)?;
                 return Ok(Action::Send { message, from, to });
             }
-            if name.as_str() == RECEIVE {
-                let message = message.try_copy(alloc)?;
-                return Ok(Action::Receive { message, from, to });
-            }
         }
-        Ok(Action::Local(NodeAction {
-            node,
-            name: name.try_copy(alloc)?,
-            arguments: Values::from_vec(arguments),
-        }))
+        Ok(Action::Local(NodeAction::new(alloc, node, name, arguments)?))
     }
 
     /// The node of the action: the sender of a send, and the receiver of a receive.

@@ -1,17 +1,14 @@
 -- Each automaton with slots and shapes is found.
-use Rattle.std.proofs.Common.{◌≡◌, ◌&&◌, ◌||◌, ℕ, Bool, true, false, List, [], ◌∷◌, ◌++◌, Option, Some, None, Result, Ok, refl, sym, ap, subst, ◌∙◌, find, map, length, take}
-use Rattle.std.specs.Prelude.{not}
+use Rattle.std.proofs.Common.{◌≡◌, ◌&&◌, ℕ, true, false, List, [], ◌∷◌, ◌++◌, Option, Some, None, Result, Ok, refl, sym, ap, subst, ◌∙◌, find, map, length, take}
 use Rattle.std.specs.List.{AllByRecursion, AllZip, IsDistinct, list_all}
 use Rattle.std.specs.Option.{is_some}
 use Rattle.std.proofs.lemmas.List.{append_assoc}
-use Rattle.std.proofs.lemmas.Slice.Eq.{bytes_eq-Decides}
 use Rattle.ioa_operators.specs.Shapes.{PlainShape, truths}
 use Rattle.ioa_terms.specs.declared.tree.Kind.{Kind}
 use Rattle.ioa_terms.specs.declared.tree.Kind.TheVariants.{Input, Output, Internal}
 use Rattle.ioa_terms.specs.Bindings.{same_word}
 use Rattle.ioa_terms.specs.PlainTerm.{statements_of}
 use Rattle.ioa_terms.proofs.SameTerms.{kind_is}
-use Rattle.ioa_actions.specs.ActionParts.{receive_name}
 use Rattle.ioa_terms.specs.SameTerms.{same_kind}
 use Rattle.ioa_terms.specs.Sorted.{NameShapes, shape_in_terms}
 use Rattle.ioa_source.specs.PlainText.{const, named}
@@ -32,7 +29,7 @@ use Rattle.ioa_types.proofs.Meant.{sort_found}
 use Rattle.ioa_names.proofs.Names.{all_found, first_differ, new_found, second_differ}
 use Rattle.ioa_automata.specs.NamesInView.{parameter_shapes, variable_shapes, own_shapes, given_names_or, outer_names_or, own_names_or}
 use Rattle.ioa_automata.specs.Parts.{declared_at, all_declared_at, own_or, infer_own, own_term, condition_at, initial_at, variable_at, variables_at, sorted_parameter, parameter_at, sorted_parameters, parameters_at, where_at, PlainSortedEntry, entry_at, transition_at}
-use Rattle.ioa_automata.specs.Rules.{transition_for, transition_or, may_have_name, message_at, PlainSurroundings, rule_of, rule_at, rules_at, is_of_kind, fires, may_fire, entry_fired, arguments_at, firing_at, firings_at, has_entry, names_or, have_entries}
+use Rattle.ioa_automata.specs.Rules.{transition_for, transition_or, may_have_name, message_at, PlainSurroundings, rule_of, rule_at, rules_at, is_of_kind, fires, entry_fired, arguments_at, firing_at, firings_at, has_entry, names_or, have_entries}
 use Rattle.ioa_automata.specs.Automata.{PlainHeading, heading_at, actions_at, automaton_at}
 use Rattle.ioa_automata.specs.SortedAutomata.{IsDeclaredOf, IsOwnTermOf, IsInitialOf, IsVariableOf, IsConditionOf, IsParameterOf, AreParametersOf, IsTransitionOf, IsRuleOf, AreArgumentsOf, NamesKind, IsFiringOf, HasItsEntry, IsAutomatonOf, names_at}
 use Rattle.ioa_automata.proofs.Loops.{results_are}
@@ -217,13 +214,6 @@ module _ (names : NameShapes) (rs : List PlainRule) (rules_differ : IsDistinct s
   arguments_found (s ∷ ss) (u ∷ us) [] h = absurd h
   arguments_found (s ∷ ss) (u ∷ us) (c ∷ cs) h = rw (← fit_complete names u c (shape_in_terms s) h.0, ← arguments_found ss us cs h.1) refl
 
-  runs : (k : Kind) (w : List ℕ) → (k ≡ Input → w ≡ receive_name) → may_fire k w ≡ true
-  runs k w h = by_kind (same_kind k Input) refl
-    where
-      by_kind : (b : Bool) → same_kind k Input ≡ b → not b || same_word w receive_name ≡ true
-      by_kind true e = (bytes_eq-Decides w receive_name).1 (h ((kind_is k Input).0 e))
-      by_kind false e = refl
-
   kind_named : (o : Option Kind) (k : Kind) → NamesKind o k → is_of_kind o k ≡ true
   kind_named None k h = refl
   kind_named (Some j) k h = (kind_is j k).1 h
@@ -232,13 +222,13 @@ module _ (names : NameShapes) (rs : List PlainRule) (rules_differ : IsDistinct s
   rule_fired f c h =
       present_found (λ (r : PlainRule). r.entry.name) (λ (r : PlainRule). is_of_kind f.kind r.entry.kind) f.action rs rules_differ h.fired h.present h.same_name (kind_named f.kind h.fired.entry.kind h.of_kind)
 
-  fired_found : (f : SourceFiring) (r : PlainRule) → may_fire r.entry.kind f.action ≡ true → result_is r.shapes ≡ entry_fired f (Some r)
+  fired_found : (r : PlainRule) → result_is r.shapes ≡ entry_fired (Some r)
   unfolding entry_fired
-  fired_found f r h = rw h refl
+  fired_found r = refl
 
   firing_found : (f : SourceFiring) (c : CheckedFiring) → IsFiringOf names rs f c → result_is c ≡ firing_at names rs f
   unfolding firing_at
-  firing_found f c h = rw (← rule_fired f c h, ← fired_found f h.fired (runs h.fired.entry.kind f.action h.no_stimulus), ← arguments_found h.fired.shapes f.arguments c.arguments h.arguments) (ap result_is (rebuilt h))
+  firing_found f c h = rw (← rule_fired f c h, ← fired_found h.fired, ← arguments_found h.fired.shapes f.arguments c.arguments h.arguments) (ap result_is (rebuilt h))
     where
       rebuilt : IsFiringOf names rs f c → c ≡ record { kind = f.kind; action = f.action; arguments = c.arguments }
       rebuilt h = λ i. record { kind = h.kind i; action = h.action i; arguments = c.arguments }

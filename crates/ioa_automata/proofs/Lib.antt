@@ -8,4 +8,5 @@ pub mod Sound
 pub mod SoundRules
 pub mod Complete
 pub mod Compiled
+pub mod DeclaredShapes
 pub mod Ready

@@ -1,19 +1,16 @@
 -- What is made of an automaton.
 use Rattle.std.proofs.Common.{◌≡◌, ◌&&◌, ℕ, zero, suc, Bool, true, false, List, [], ◌∷◌, ◌++◌, Option, Some, None, Err, refl, sym, ap, subst, ◌∙◌, map, length, take, if◌then◌else◌}
-use Rattle.std.specs.Prelude.{find, not, ◌||◌}
+use Rattle.std.specs.Prelude.{find}
 use Rattle.std.specs.List.{AllByRecursion, AllZip, IsDistinct, list_all}
 use Rattle.std.specs.Option.{is_some}
 use Rattle.std.proofs.lemmas.List.{append_assoc}
-use Rattle.std.proofs.lemmas.Slice.Eq.{bytes_eq-Decides}
 use lib.Pointwise.{pointwise}
 use Rattle.ioa_values.specs.Outcome.{and_then}
 use Rattle.ioa_values.proofs.AllOf.{all_appended}
 use Rattle.ioa_operators.specs.Shapes.{PlainShape}
 use Rattle.ioa_terms.specs.declared.tree.Kind.{Kind}
 use Rattle.ioa_terms.specs.declared.tree.Kind.TheVariants.{Input}
-use Rattle.ioa_terms.specs.Bindings.{same_word}
 use Rattle.ioa_terms.proofs.SameTerms.{kind_is}
-use Rattle.ioa_actions.specs.ActionParts.{receive_name}
 use Rattle.ioa_terms.specs.SameTerms.{same_kind}
 use Rattle.ioa_terms.specs.Sorted.{NameShapes, shape_in_terms}
 use Rattle.ioa_source.specs.PlainText.{const, named}
@@ -31,7 +28,7 @@ use Rattle.ioa_types.specs.TextTypes.{PlainTextTypes}
 use Rattle.ioa_names.proofs.Names.{all_behind, all_differ, new_differ_between, second_differ}
 use Rattle.ioa_automata.specs.NamesInView.{parameter_shapes, variable_shapes, own_shapes, given_names_or, outer_names_or, own_names_or}
 use Rattle.ioa_automata.specs.Parts.{PlainSortedEntry, sorted_entry, parameters_at, where_at, entry_at, transition_at, all_declared_at, variables_at}
-use Rattle.ioa_automata.specs.Rules.{repeats, transition_for, transition_or, may_have_name, message_at, sorted_rule, PlainSurroundings, rule_of, rule_at, rules_at, is_of_kind, fires, may_fire, entry_fired, arguments_at, firing_at, firings_at, names_or, entry_for, has_entry, have_entries}
+use Rattle.ioa_automata.specs.Rules.{repeats, transition_for, transition_or, may_have_name, message_at, sorted_rule, PlainSurroundings, rule_of, rule_at, rules_at, is_of_kind, fires, entry_fired, arguments_at, firing_at, firings_at, names_or, entry_for, has_entry, have_entries}
 use Rattle.ioa_automata.specs.Automata.{PlainBody, PlainHeading, heading_at, surroundings, actions_at, body_at, sorted_automaton, automaton_at}
 use Rattle.ioa_automata.specs.SortedAutomata.{IsDeclaredOf, IsVariableOf, IsConditionOf, AreParametersOf, IsTransitionOf, IsRuleOf, AreArgumentsOf, NamesKind, IsFiringOf, HasItsEntry, IsAutomatonOf, names_at}
 use Rattle.ioa_automata.proofs.Loops.{results_are}
@@ -259,40 +256,28 @@ module _ (t : PlainTextTypes) (text : AreTextTypes t) where
         let same : one.0 ∷ two.0 ≡ cs = cc in
         subst (AreArgumentsOf names (s ∷ ss) (u ∷ us)) same (fit_sound (tuple_types t.types) names all u (shape_in_terms s) (in_terms (tuple_types t.types) s k.0) one.0 (sym one.1), arguments_sound ss us two.0 k.1 two.1)
 
-    record IsFired (f : SourceFiring) (o : Option PlainRule) (ss : List PlainShape) : Type 0 where
+    record IsFired (o : Option PlainRule) (ss : List PlainShape) : Type 0 where
       fired : PlainRule
       found : o ≡ Some fired
       shapes : fired.shapes ≡ ss
-      runs : may_fire fired.entry.kind f.action ≡ true
-
-    no_stimulus_is : (k : Kind) (w : List ℕ) → may_fire k w ≡ true → k ≡ Input → w ≡ receive_name
-    no_stimulus_is k w h e = by_kind (same_kind k Input) ((kind_is k Input).1 e) h
-      where
-        by_kind : (b : Bool) → b ≡ true → not b || same_word w receive_name ≡ true → w ≡ receive_name
-        by_kind true s h = (bytes_eq-Decides w receive_name).0 h
-        by_kind false s h = absurd (cc)
 
     kind_names : (o : Option Kind) (k : Kind) → is_of_kind o k ≡ true → NamesKind o k
     kind_names None k h = tt
     kind_names (Some j) k h = (kind_is j k).0 h
 
-    fired_sound : (f : SourceFiring) (o : Option PlainRule) (ss : List PlainShape) → entry_fired f o ≡ results_are ss → IsFired f o ss
+    fired_sound : (o : Option PlainRule) (ss : List PlainShape) → entry_fired o ≡ results_are ss → IsFired o ss
     unfolding entry_fired
-    fired_sound f None ss h = absurd (cc)
-    fired_sound f (Some r) ss h = by_name (may_fire r.entry.kind f.action) refl h
-      where
-        by_name : (b : Bool) → may_fire r.entry.kind f.action ≡ b → (if b then results_are r.shapes else Err Unknown) ≡ results_are ss → IsFired f (Some r) ss
-        by_name true m h = let same : r.shapes ≡ ss = cc in record { fired = r; found = refl; shapes = same; runs = m }
-        by_name false m h = absurd (cc)
+    fired_sound None ss h = absurd (cc)
+    fired_sound (Some r) ss h = let same : r.shapes ≡ ss = cc in record { fired = r; found = refl; shapes = same }
 
     firing_sound : (f : SourceFiring) (c : CheckedFiring) → firing_at names rs f ≡ result_is c → IsFiringOf names rs f c
     unfolding firing_at
     firing_sound f c h =
-        let one = first_of (entry_fired f (find (fires f) rs)) (λ ss. and_then (arguments_at names ss f.arguments) (λ us. result_is (record { kind = f.kind; action = f.action; arguments = us }))) c h in
+        let one = first_of (entry_fired (find (fires f) rs)) (λ ss. and_then (arguments_at names ss f.arguments) (λ us. result_is (record { kind = f.kind; action = f.action; arguments = us }))) c h in
         let two = first_of (arguments_at names one.0 f.arguments) (λ us. result_is (record { kind = f.kind; action = f.action; arguments = us })) c one.2 in
         let made : CheckedFiring = record { kind = f.kind; action = f.action; arguments = two.0 } in
         let same : made ≡ c = cc in
-        let fired = fired_sound f (find (fires f) rs) one.0 one.1 in
+        let fired = fired_sound (find (fires f) rs) one.0 one.1 in
         let declared = found_has (λ r. AllByRecursion IsKept r.shapes) (fires f) rs fired.fired kept fired.found in
         let is = found_is (λ (r : PlainRule). r.entry.name) (λ (r : PlainRule). is_of_kind f.kind r.entry.kind) f.action rs fired.fired fired.found in
         subst (IsFiringOf names rs f) same (record {
@@ -302,7 +287,6 @@ module _ (t : PlainTextTypes) (text : AreTextTypes t) where
           present = is.0;
           same_name = is.1;
           of_kind = kind_names f.kind fired.fired.entry.kind is.2;
-          no_stimulus = no_stimulus_is fired.fired.entry.kind f.action fired.runs;
           arguments = subst (λ ss. AreArgumentsOf names ss f.arguments two.0) (sym fired.shapes) (arguments_sound one.0 f.arguments two.0 (subst (AllByRecursion IsKept) fired.shapes declared) two.1);
         })
 

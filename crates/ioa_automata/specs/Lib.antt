@@ -6,3 +6,4 @@ pub mod Rules
 pub mod Automata
 pub mod SortedView
 pub mod SortedAutomata
+pub mod DeclaredShapes

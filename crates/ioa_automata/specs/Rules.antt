@@ -137,14 +137,10 @@ is_of_kind (Some j) k = same_kind j k
 abbrev pub fires : SourceFiring → PlainRule → Bool
 fires f r = same_word r.entry.name f.action && is_of_kind f.kind r.entry.kind
 
--- whether firings of an entry of this kind and name run: stimuli, which are the inputs other than `receive`, do not yet
-abbrev pub may_fire : Kind → List ℕ → Bool
-may_fire k w = not (same_kind k Input) || same_word w receive_name
-
--- the shapes of the arguments that a firing takes: it names an entry, and runs
-unfoldable pub entry_fired : SourceFiring → Option PlainRule → Result (List PlainShape) Refusal
-entry_fired f None = Err Unknown
-entry_fired f (Some r) = if may_fire r.entry.kind f.action then Ok r.shapes else Err Unknown
+-- the shapes of the arguments that a firing takes, if it names an entry
+unfoldable pub entry_fired : Option PlainRule → Result (List PlainShape) Refusal
+entry_fired None = Err Unknown
+entry_fired (Some r) = Ok r.shapes
 
 -- arguments, each of the shape at its position
 abbrev pub arguments_at : NameShapes → List PlainShape → List SourceTerm → Result (List CheckedTerm) Refusal
@@ -155,7 +151,7 @@ arguments_at names (s ∷ ss) (t ∷ ts) = and_then (fit (sorting names t) (shap
     (λ c. and_then (arguments_at names ss ts) (λ cs. Ok (c ∷ cs)))
 
 unfoldable pub firing_at : NameShapes → List PlainRule → SourceFiring → Result CheckedFiring Refusal
-firing_at names rs f = and_then (entry_fired f (find (fires f) rs))
+firing_at names rs f = and_then (entry_fired (find (fires f) rs))
     (λ ss. and_then (arguments_at names ss f.arguments)
     (λ ts. Ok (record { kind = f.kind; action = f.action; arguments = ts })))
 

@@ -174,8 +174,7 @@ abbrev pub NamesKind : Option Kind → Kind → Type 0
 NamesKind None k = Unit {0}
 NamesKind (Some j) k = j ≡ k
 
--- a firing: it is of an entry of its name and kind, which is no stimulus, and its arguments have the shapes of the
--- entry's
+-- a firing: it is of an entry of its name and kind, and its arguments have the shapes of the entry's
 pub record IsFiringOf (names : NameShapes) (rs : List PlainRule) (f : SourceFiring) (c : CheckedFiring)
     : Type 0 where
   pub kind : c.kind ≡ f.kind
@@ -184,7 +183,6 @@ pub record IsFiringOf (names : NameShapes) (rs : List PlainRule) (f : SourceFiri
   pub present : Contains rs fired
   pub same_name : fired.entry.name ≡ f.action
   pub of_kind : NamesKind f.kind fired.entry.kind
-  pub no_stimulus : fired.entry.kind ≡ Input → f.action ≡ receive_name
   pub arguments : AreArgumentsOf names fired.shapes f.arguments c.arguments
 
 -- a transition has an entry of its name and kind

@@ -7,12 +7,11 @@ ghost use Rattle.ioa_terms.specs.View.{firing_of, term_of};
 ghost use Rattle.ioa_automata.specs.Indexes.{AreIndexed};
 ghost use Rattle.ioa_automata.specs.Rules as spec;
 
-use ioa_actions::RECEIVE;
 use ioa_names::View;
 use ioa_sort_rules::{Refusal, shape_in_terms};
 use ioa_sorts::fit;
 use ioa_system::{Rule, Scope};
-use ioa_terms::{Checked, Firing, Kind, Shape, Term, Word};
+use ioa_terms::{Checked, Firing, Kind, Shape, Term};
 use std::alloc::Global;
 
 /// Whether a kind is the one that is written, if one is.
@@ -39,16 +38,7 @@ fn rule_fired<'a>(rules: &'a Vec<Rule>, names: &Scope, firing: &Firing<(), ()>) 
     }
 }
 
-/// Whether firings of an entry of this kind and name run. Stimuli, which are the inputs other than `receive`, do not
-/// yet.
-fn may_fire(kind: Kind, action: &Word) -> bool
-    ensures { result ≡ spec.may_fire kind action.now }
-{
-    kind != Kind::Input || action.as_str() == RECEIVE
-}
-
-/// The shapes of the arguments that a firing takes. `Unknown` (20) if it names no entry, or an action that does not run
-/// yet.
+/// The shapes of the arguments that a firing takes. `Unknown` (20) if it names no entry.
 #[tactic(auto, unfolding(crate::specs::Rules::entry_fired))]
 fn shapes_fired<'a>(
     rules: &'a Vec<Rule>,
@@ -56,18 +46,12 @@ fn shapes_fired<'a>(
     firing: &Firing<(), ()>,
 ) -> Result<&'a Vec<Shape>, Refusal>
     requires { AreIndexed names.now (map (λ r. r.entry.name) rules.now.items) }
-    ensures { Answers Refusal.Memory (λ ss. ss.now.items) result (spec.entry_fired (firing_of firing.now)
+    ensures { Answers Refusal.Memory (λ ss. ss.now.items) result (spec.entry_fired
         (find (spec.fires (firing_of firing.now)) rules.now.items)) }
 {
     match rule_fired(rules, names, firing) {
         None => Err(Refusal::Unknown),
-        Some(rule) => {
-            if may_fire(rule.entry.kind, &firing.action) {
-                Ok(&rule.shapes)
-            } else {
-                Err(Refusal::Unknown)
-            }
-        }
+        Some(rule) => Ok(&rule.shapes),
     }
 }
 

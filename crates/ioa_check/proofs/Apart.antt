@@ -1,18 +1,14 @@
 -- Items that were tested one after another differ from each other.
-use Rattle.std.proofs.Common.{◌≡◌, Bool, true, false, not, ◌&&◌, List, [], ◌∷◌, ◌++◌, refl}
+use Rattle.std.proofs.Common.{◌≡◌, Bool, true, false, not, List, [], ◌∷◌, ◌++◌, refl}
 use Rattle.std.specs.List.{AllByRecursion, IsDistinct, list_any}
 use Rattle.std.proofs.lemmas.Bool.{and_parts, or_parts, or_from}
+use Rattle.ioa_check.specs.Distinct.{differ_from}
 
 not_true : (b : Bool) → not b ≡ true → b ≡ false
 not_true true h = absurd (cc)
 not_true false h = refl
 
 module _ {A : Type 0} (same : A → A → Bool) where
-  -- whether items differ from each other, and from those before
-  abbrev pub differ_from : List A → List A → Bool
-  differ_from before [] = true
-  differ_from before (x ∷ xs) = not (list_any (λ d. same d x) before) && differ_from (before ++ x ∷ []) xs
-
   -- no item is the same as one before
   abbrev pub AreNew : List A → List A → Type 0
   AreNew before xs = AllByRecursion (λ x. list_any (λ d. same d x) before ≡ false) xs
@@ -32,11 +28,11 @@ module _ {A : Type 0} (same : A → A → Bool) where
       let rest = all_apart before x ys h.1 in
       ((one.0, rest.0), (one.1, rest.1))
 
-  pub new_differ : (before xs : List A) → differ_from before xs ≡ true → AreNew before xs × IsDistinct same xs
+  pub new_differ : (before xs : List A) → differ_from same before xs ≡ true → AreNew before xs × IsDistinct same xs
   unfolding IsDistinct
   new_differ before [] h = (tt, tt)
   new_differ before (x ∷ xs) h =
-      let tests = and_parts (not (list_any (λ d. same d x) before)) (differ_from (before ++ x ∷ []) xs) h in
+      let tests = and_parts (not (list_any (λ d. same d x) before)) (differ_from same (before ++ x ∷ []) xs) h in
       let rest = new_differ (before ++ x ∷ []) xs tests.1 in
       let apart = all_apart before x xs rest.0 in
       ((not_true (list_any (λ d. same d x) before) tests.0, apart.0), (apart.1, rest.1))

@@ -10,24 +10,25 @@ use Rattle.ioa_automata.proofs.Results.{result_is}
 use Rattle.ioa_check.specs.declared.nodes.TheConstants.{MOST_NODES}
 use Rattle.ioa_check.specs.declared.channels.TheConstants.{MOST_CHANNELS}
 use Rattle.ioa_check.specs.Sections.{nodes_in, channels_in}
-use Rattle.ioa_check.specs.Nodes.{nodes_or, nodes_at, programs_at, programs_from}
+use Rattle.ioa_check.specs.Nodes.{nodes_or, nodes_at, programs_at, programs_from, same_number}
 use Rattle.ioa_check.specs.Channels.{channels_or, channels_at, all_channels_at}
 use Rattle.ioa_check.specs.Checking.{system_at, system_of}
-use Rattle.ioa_check.specs.Systems.{IsChannelOf, IsSystemOf, same_number}
+use Rattle.ioa_check.specs.Systems.{IsChannelOf, IsSystemOf}
 use Rattle.ioa_check.proofs.Results.{checked_is}
 use Rattle.ioa_check.proofs.CompleteTypes.{types_found, automata_found}
 use Rattle.ioa_check.proofs.CompleteNodes.{passes, nodes_found}
 use Rattle.ioa_check.proofs.CompleteChannels.{channels_found}
-use Rattle.ioa_check.proofs.Tests.{few_found, numbered_anew, channels_anew}
+use Rattle.ioa_check.proofs.CompleteScripts.{scripts_found}
+use Rattle.ioa_check.proofs.Tests.{few_found, differ_anew}
 
 -- the nodes and the channels of a system section
 listed_nodes : (ps : List SourcePlacement) → length (nodes_in ps) ≤ MOST_NODES → IsDistinct same_number (nodes_in ps) → result_is (nodes_in ps) ≡ nodes_at ps
 unfolding nodes_or
-listed_nodes ps few differ = rw (← few_found MOST_NODES (nodes_in ps) few, numbered_anew [] (nodes_in ps) differ) refl
+listed_nodes ps few differ = rw (← few_found MOST_NODES (nodes_in ps) few, differ_anew same_number [] (nodes_in ps) differ) refl
 
 listed_channels : (ps : List SourcePlacement) → length (channels_in ps) ≤ MOST_CHANNELS → IsDistinct same_channel (channels_in ps) → result_is (channels_in ps) ≡ channels_at ps
 unfolding channels_or
-listed_channels ps few differ = rw (← few_found MOST_CHANNELS (channels_in ps) few, channels_anew [] (channels_in ps) differ) refl
+listed_channels ps few differ = rw (← few_found MOST_CHANNELS (channels_in ps) few, differ_anew same_channel [] (channels_in ps) differ) refl
 
 module _ (x : SourceText) (s : SystemParts) (h : IsSystemOf x s) where
   programs_found : result_is s.programs ≡ programs_at h.types.constants h.automata (nodes_in x.system)
@@ -40,10 +41,10 @@ module _ (x : SourceText) (s : SystemParts) (h : IsSystemOf x s) where
   placed_found : result_is s ≡ system_at h.types.constants h.automata x.system
   unfolding system_at
   placed_found =
-      rw (← listed_nodes x.system h.few_nodes h.nodes_differ, ← listed_channels x.system h.few_channels h.channels_differ, ← programs_found, ← joined_found) (ap result_is rebuilt)
+      rw (← listed_nodes x.system h.few_nodes h.nodes_differ, ← listed_channels x.system h.few_channels h.channels_differ, ← programs_found, ← joined_found, ← scripts_found h.types.constants s.programs x.system s.scripts h.scripts_differ h.scripts) (ap result_is rebuilt)
     where
-      rebuilt : s ≡ system (words h.types.constants) s.programs (channels_in x.system)
-      rebuilt = λ i. system (h.names i) s.programs (h.channels i)
+      rebuilt : s ≡ system (words h.types.constants) s.programs (channels_in x.system) s.scripts
+      rebuilt = λ i. system (h.names i) s.programs (h.channels i) s.scripts
 
   whole_found : checked_is s ≡ system_of x
   unfolding system_of

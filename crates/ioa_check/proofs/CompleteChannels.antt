@@ -4,9 +4,9 @@ use Rattle.std.specs.List.{AllByRecursion}
 use Rattle.ioa_source.specs.declared.declaration.Channel.{Channel}
 use Rattle.ioa_actions.specs.ActionParts.{send_name}
 use Rattle.ioa_system.specs.InView.{given_bindings}
-use Rattle.ioa_system.specs.Parts.{Parts, PlainRule}
+use Rattle.ioa_system.specs.Parts.{Parts, PlainRule, rule_named}
 use Rattle.ioa_automata.proofs.Results.{result_is}
-use Rattle.ioa_check.specs.Channels.{program_or, rule_named, input_or, output_at, channel_to, channel_between, channel_at, all_channels_at}
+use Rattle.ioa_check.specs.Channels.{program_or, input_or, output_at, channel_to, channel_between, channel_at, all_channels_at}
 use Rattle.ioa_check.specs.Systems.{TakesNumber, HaveOneMessage, IsChannelOf}
 use Rattle.ioa_check.proofs.CompleteNodes.{passes}
 use Rattle.ioa_check.proofs.Tests.{numbers_apart, takes_back, message_back}

@@ -25,7 +25,7 @@ abbrev pub passes : Result (Unit {0}) Refusal
 passes = Ok tt
 
 -- results that are all there
-all_are : {A B : Type 0} (f : A → Result B Refusal) (xs : List A) (ys : List B) → AllZip (λ x y. result_is y ≡ f x) xs ys → result_is ys ≡ all_ok (map f xs)
+pub all_are : {A B : Type 0} (f : A → Result B Refusal) (xs : List A) (ys : List B) → AllZip (λ x y. result_is y ≡ f x) xs ys → result_is ys ≡ all_ok (map f xs)
 all_are f [] [] h = refl
 all_are f [] (y ∷ ys) h = absurd h
 all_are f (x ∷ xs) [] h = absurd h
@@ -53,7 +53,7 @@ values_found e (s ∷ ss) [] vs h = absurd h
 values_found e (s ∷ ss) (t ∷ ts) [] h = absurd h
 values_found e (s ∷ ss) (t ∷ ts) (v ∷ vs) h = rw (← value_found e s t v h.0, ← values_found e ss ts vs h.1) refl
 
-given_found : (names : NameShapes) (ss : List PlainShape) (us : List SourceTerm) (cs : List CheckedTerm) (vs : List Data) → AreArgumentsOf names ss us cs → AreValuesFor (constant_bindings names) ss cs vs → result_is vs ≡ given_at names ss us
+pub given_found : (names : NameShapes) (ss : List PlainShape) (us : List SourceTerm) (cs : List CheckedTerm) (vs : List Data) → AreArgumentsOf names ss us cs → AreValuesFor (constant_bindings names) ss cs vs → result_is vs ≡ given_at names ss us
 unfolding given_at
 given_found names ss us cs vs sorted given = rw (← terms_found names ss us cs sorted) (values_found (constant_bindings names) ss cs vs given)
 

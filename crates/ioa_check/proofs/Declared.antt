@@ -1,22 +1,23 @@
 -- The system of a text declares each thing once.
-use Rattle.std.proofs.Common.{◌≡◌, ℕ, ℤ, ◌+◌, ◌<◌, pos, false, List, [], ◌∷◌, ◌++◌, refl, sym, subst, map, length, arith}
-use Rattle.std.specs.List.{AllByRecursion, AllZip, IsDistinct}
+use Rattle.std.proofs.Common.{◌≡◌, ℕ, ℤ, ◌+◌, ◌<◌, pos, Bool, true, false, ◌||◌, List, [], ◌∷◌, ◌++◌, Some, find, if◌then◌else◌, refl, sym, subst, map, length, arith}
+use Rattle.std.specs.List.{AllByRecursion, AllZip, IsDistinct, list_any}
 use Rattle.std.specs.Ordering.{int_eq}
 use Rattle.ioa_values.specs.Data.{Data}
 use Rattle.ioa_terms.specs.Bindings.{Bindings, same_word}
 use Rattle.ioa_terms.specs.Sorted.{NameShapes}
 use Rattle.ioa_source.specs.declared.declaration.Channel.{Channel}
-use Rattle.ioa_source.specs.Sides.{SourceAutomaton, SourceNode, SourceText}
+use Rattle.ioa_source.specs.Sides.{SourceAutomaton, SourceNode, SourceScript, SourceText}
 use Rattle.ioa_source.specs.Sides.{CheckedVariable}
-use Rattle.ioa_system.specs.Declarations.{DeclaresOnce, IsWellDeclared, same_channel}
+use Rattle.ioa_system.specs.Declarations.{DeclaresOnce, IsWellDeclared, has_node, same_channel}
 use Rattle.ioa_system.specs.InView.{given_bindings}
 use Rattle.ioa_system.specs.Parts.{AutomatonParts, Parts}
-use Rattle.ioa_system.specs.Systems.{SystemParts}
+use Rattle.ioa_system.specs.Systems.{ScriptParts, SystemParts}
 use Rattle.ioa_types.specs.TextTypes.{PlainTextTypes}
 use Rattle.ioa_automata.specs.NamesInView.{parameter_shapes, variable_shapes}
 use Rattle.ioa_automata.specs.SortedAutomata.{IsAutomatonOf}
-use Rattle.ioa_check.specs.Sections.{automata_in, nodes_in}
-use Rattle.ioa_check.specs.Systems.{AreNodesOf, IsInitialValue, IsNodeOf, IsSystemOf}
+use Rattle.ioa_check.specs.Sections.{automata_in, nodes_in, scripts_in}
+use Rattle.ioa_check.specs.Scripts.{same_node}
+use Rattle.ioa_check.specs.Systems.{AreNodesOf, IsInitialValue, IsNodeOf, IsScriptOf, IsSystemOf}
 use Rattle.ioa_names.proofs.Names.{first_differ}
 use Rattle.ioa_automata.proofs.Compiled.{variable_words}
 use Rattle.ioa_automata.proofs.Complete.{rule_words}
@@ -74,10 +75,43 @@ programs_once t names automata ns k [] made nodes = tt
 programs_once t names automata ns k (p ∷ more) made nodes =
     (program_once t names automata ns k p made nodes.0, programs_once t names automata ns (k + 1) more made nodes.1)
 
+-- the nodes of scripts differ
+script_apart : (names : NameShapes) (ps : List Parts) (s : SourceScript) (k : ℤ) → s.node ≡ k → (ss : List SourceScript) (cs : List ScriptParts) → AllZip (IsScriptOf names ps) ss cs → AllByRecursion (λ t. same_node s t ≡ false) ss → AllByRecursion (λ i. int_eq k i ≡ false) (map (λ c. c.node) cs)
+script_apart names ps s k e [] [] h d = tt
+script_apart names ps s k e [] (c ∷ cs) h d = absurd h
+script_apart names ps s k e (t ∷ ts) [] h d = absurd h
+script_apart names ps s k e (t ∷ ts) (c ∷ cs) h d =
+    (rw (h.0.node, ← e) d.0, script_apart names ps s k e ts cs h.1 d.1)
+
+scripts_differ : (names : NameShapes) (ps : List Parts) (ss : List SourceScript) (cs : List ScriptParts) → AllZip (IsScriptOf names ps) ss cs → IsDistinct same_node ss → IsDistinct int_eq (map (λ c. c.node) cs)
+unfolding IsDistinct
+scripts_differ names ps [] [] h d = tt
+scripts_differ names ps [] (c ∷ cs) h d = absurd h
+scripts_differ names ps (s ∷ ss) [] h d = absurd h
+scripts_differ names ps (s ∷ ss) (c ∷ cs) h d = (script_apart names ps s c.node (sym h.0.node) ss cs h.1 d.0, scripts_differ names ps ss cs h.1 d.1)
+
+-- and are nodes of the system
+found_any : {A : Type 0} (test : A → Bool) (xs : List A) (x : A) → find test xs ≡ Some x → list_any test xs ≡ true
+found_any test [] x h = absurd (cc)
+found_any test (y ∷ ys) x h = by_test (test y) h (found_any test ys x)
+  where
+    by_test : (b : Bool) → (if b then Some y else find test ys) ≡ Some x → (find test ys ≡ Some x → list_any test ys ≡ true) → (b || list_any test ys) ≡ true
+    by_test true h later = refl
+    by_test false h later = later h
+
+scripts_of_nodes : (names : NameShapes) (ps : List Parts) (ss : List SourceScript) (cs : List ScriptParts) → AllZip (IsScriptOf names ps) ss cs → AllByRecursion (λ c. has_node ps c.node ≡ true) cs
+scripts_of_nodes names ps [] [] h = tt
+scripts_of_nodes names ps [] (c ∷ cs) h = absurd h
+scripts_of_nodes names ps (s ∷ ss) [] h = absurd h
+scripts_of_nodes names ps (s ∷ ss) (c ∷ cs) h =
+    (rw h.0.node (found_any (λ (p : Parts). int_eq p.node s.node) ps h.0.program h.0.of_node), scripts_of_nodes names ps ss cs h.1)
+
 -- the system declares each thing once
 pub declared_once : (x : SourceText) (s : SystemParts) → IsSystemOf x s → IsWellDeclared s
 declared_once x s h = record {
   nodes = nodes_differ h.types.constants h.automata (nodes_in x.system) 0 s.programs h.nodes;
   channels = subst (λ (cs : List Channel). IsDistinct same_channel cs) (sym h.channels) h.channels_differ;
+  scripts = scripts_differ h.types.constants s.programs (scripts_in x.system) s.scripts h.scripts h.scripts_differ;
+  of_nodes = scripts_of_nodes h.types.constants s.programs (scripts_in x.system) s.scripts h.scripts;
   programs = programs_once h.types h.types.constants h.automata (nodes_in x.system) 0 s.programs (all_made h.types (automata_in x.declarations) h.automata h.made) h.nodes;
 }

@@ -1,6 +1,6 @@
 -- Terms, values and automata that were made have what their readers ask for.
-use Rattle.std.proofs.Common.{◌≡◌, ℕ, suc, ◌+◌, false, List, [], ◌∷◌, ◌++◌, refl, sym, ap, subst, ◌∙◌, map, length, arith}
-use Rattle.std.specs.List.{AllByRecursion, AllZip, list_any}
+use Rattle.std.proofs.Common.{◌≡◌, ℕ, suc, ◌+◌, false, List, [], ◌∷◌, ◌++◌, Some, refl, sym, ap, subst, ◌∙◌, map, length, arith}
+use Rattle.std.specs.List.{AllByRecursion, list_any}
 use Rattle.ioa_values.specs.Data.{Data}
 use Rattle.ioa_values.specs.Outcome.{and_then}
 use Rattle.ioa_operators.specs.Shapes.{PlainShape}
@@ -9,8 +9,8 @@ use Rattle.ioa_terms.specs.declared.name.Name.TheVariants.{Word}
 use Rattle.ioa_terms.specs.Resolved.{IsResolved}
 use Rattle.ioa_terms.specs.Sorted.{NameShapes, shape_in_terms}
 use Rattle.ioa_source.specs.PlainText.{type_named, automaton}
-use Rattle.ioa_source.specs.Sides.{SourceTerm, SourceDeclared, SourceAutomaton, SourceDeclaration, CheckedTerm, CheckedDeclared, CheckedVariable}
-use Rattle.ioa_system.specs.Parts.{AutomatonParts}
+use Rattle.ioa_source.specs.Sides.{SourceTerm, SourceAutomaton, SourceDeclaration, SourceNode, CheckedTerm, CheckedVariable}
+use Rattle.ioa_system.specs.Parts.{AutomatonParts, Parts, PlainRule, rule_named}
 use Rattle.ioa_system.specs.ResolvedPrograms.{AreResolvedTerms}
 use Rattle.ioa_sort_rules.specs.DeclaredTypes.{TupleTypes, IsDeclared, AreAllDeclared}
 use Rattle.ioa_sort_rules.specs.declared.refusal.Refusal.TheVariants.{Twice}
@@ -21,17 +21,19 @@ use Rattle.ioa_sorts.proofs.Sound.{fit_sound}
 use Rattle.ioa_types.specs.Meanings.{tuple_types, AreTextTypes}
 use Rattle.ioa_names.specs.NameTables.{words}
 use Rattle.ioa_types.specs.TextTypes.{PlainTextTypes}
-use Rattle.ioa_types.proofs.Meant.{sort_found, sort_declared}
 use Rattle.ioa_automata.specs.Rules.{arguments_at}
 use Rattle.ioa_automata.specs.Automata.{automaton_at}
-use Rattle.ioa_automata.specs.SortedAutomata.{IsDeclaredOf, AreArgumentsOf}
+use Rattle.ioa_automata.specs.SortedAutomata.{AreArgumentsOf}
 use Rattle.ioa_automata.proofs.Loops.{results_are}
 use Rattle.ioa_automata.proofs.Results.{result_is}
+use Rattle.ioa_automata.proofs.DeclaredShapes.{automaton_declared}
+use Rattle.ioa_automata.proofs.Lookups.{found_has}
 use Rattle.ioa_automata.proofs.SoundRules.{automaton_sound}
 use Rattle.ioa_check.specs.Declarations.{new_automaton_at, automata_at}
 use Rattle.ioa_check.specs.Faults.{in_declaration}
-use Rattle.ioa_check.specs.Grounds.{HaveDeclaredShapes, AreGrounded}
+use Rattle.ioa_check.specs.Grounds.{HaveDeclaredShapes, IsGrounded, AreGrounded, AreGroundedPrograms}
 use Rattle.ioa_check.specs.Nodes.{argument_values, parameter_shapes, value_for, variable_value, variable_values}
+use Rattle.ioa_check.specs.Systems.{AreNodesOf}
 use Rattle.ioa_check.proofs.Results.{checked_is, first_of, within_declaration, is_not_met}
 
 -- an automaton that was made has a new name
@@ -39,20 +41,31 @@ pub automaton_new : (t : PlainTextTypes) (names : List (List ℕ)) (a : SourceAu
 unfolding new_automaton_at
 automaton_new t names a c h = is_not_met (list_any (same_word a.name) names) (automaton_at t a) Twice c h
 
--- the shapes of parameters are declared ones
-parameters_grounded : (t : PlainTextTypes) → AreTextTypes t → (ds : List SourceDeclared) (cs : List CheckedDeclared) → AllZip (IsDeclaredOf t.types) ds cs → AllByRecursion (IsDeclared (tuple_types t.types)) (map (λ c. c.shape) cs)
-parameters_grounded t text [] [] h = tt
-parameters_grounded t text [] (c ∷ cs) h = absurd h
-parameters_grounded t text (d ∷ ds) [] h = absurd h
-parameters_grounded t text (d ∷ ds) (c ∷ cs) h =
-    (sort_declared t.types text.types d.sort c.shape (sort_found t.types d.sort c.shape h.0.means h.0.low), parameters_grounded t text ds cs h.1)
-
-automaton_grounded : (t : PlainTextTypes) → AreTextTypes t → (a : SourceAutomaton) (c : AutomatonParts) → automaton_at t a ≡ result_is c → HaveDeclaredShapes t.constants (parameter_shapes c)
+-- the shapes of an automaton that was made are declared ones
+automaton_grounded : (t : PlainTextTypes) → AreTextTypes t → (a : SourceAutomaton) (c : AutomatonParts) → automaton_at t a ≡ result_is c → IsGrounded t.constants c
 automaton_grounded t text a c h = record {
   types = tuple_types t.types;
   names_declared = text.constants;
-  shapes_declared = parameters_grounded t text a.parameters c.parameters (automaton_sound t text a c h).parameters;
+  shapes_declared = automaton_declared t text a c (automaton_sound t text a c h);
 }
+
+-- those of its parameters
+pub parameters_grounded : (names : NameShapes) (a : AutomatonParts) → IsGrounded names a → HaveDeclaredShapes names (parameter_shapes a)
+parameters_grounded names a g = record { types = g.types; names_declared = g.names_declared; shapes_declared = g.shapes_declared.parameters }
+
+-- and those of the arguments of a rule that is found
+pub rule_grounded : (names : NameShapes) (a : AutomatonParts) → IsGrounded names a → (w : List ℕ) (r : PlainRule) → rule_named w a.rules ≡ Some r → HaveDeclaredShapes names r.shapes
+rule_grounded names a g w r found = record {
+  types = g.types;
+  names_declared = g.names_declared;
+  shapes_declared = found_has (λ (q : PlainRule). AllByRecursion (IsDeclared g.types) q.shapes) (λ (q : PlainRule). same_word q.entry.name w) a.rules r g.shapes_declared.arguments found;
+}
+
+-- the automaton of each program is one of these
+pub programs_grounded : (names : NameShapes) (cs : List AutomatonParts) (ns : List SourceNode) → AreGrounded names cs → (k : ℕ) (ps : List Parts) → AreNodesOf names cs ns k ps → AreGroundedPrograms names ps
+programs_grounded names cs ns ground k [] h = tt
+programs_grounded names cs ns ground k (p ∷ ps) h =
+    (found_has (IsGrounded names) (λ (c : AutomatonParts). same_word c.name h.0.node.automaton) cs p.automaton ground h.0.automaton, programs_grounded names cs ns ground (k + 1) ps h.1)
 
 pub grounded : (t : PlainTextTypes) → AreTextTypes t → (ds : List SourceDeclaration) (index : ℕ) (names : List (List ℕ)) (cs : List AutomatonParts) → automata_at t index names ds ≡ checked_is cs → AreGrounded t.constants cs
 grounded t text [] index names cs h = let same : [] ≡ cs = cc in subst (AreGrounded t.constants) same tt

@@ -8,10 +8,12 @@ pub mod Grounds
 pub mod SoundDeclarations
 pub mod SoundNodes
 pub mod SoundChannels
+pub mod SoundScripts
 pub mod SoundSystems
 pub mod CompleteTypes
 pub mod CompleteNodes
 pub mod CompleteChannels
+pub mod CompleteScripts
 pub mod Complete
 pub mod Declared
 pub mod Promises

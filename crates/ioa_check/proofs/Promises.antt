@@ -1,5 +1,5 @@
 -- What a check promises of its result.
-use Rattle.std.proofs.Common.{◌≡◌, ◌⊎◌, inl, inr, ℕ, Result, Ok, Err, ap, sym, ◌∙◌}
+use Rattle.std.proofs.Common.{◌≡◌, inl, inr, ℕ, Result, Ok, Err, ap, sym, ◌∙◌}
 use Rattle.std.specs.Prelude.{IfOk, IfErr}
 use Rattle.ioa_values.specs.Outcome.{Answers}
 use Rattle.ioa_source.specs.Sides.{SourceText}

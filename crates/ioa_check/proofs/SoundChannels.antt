@@ -1,6 +1,6 @@
 -- The channels of a text.
-use Rattle.std.proofs.Common.{◌≡◌, ◌≤◌, ℤ, true, not, ◌&&◌, List, [], ◌∷◌, ◌++◌, Option, Some, None, refl, sym, ap, subst, ◌∙◌, length, slice_get, int_eq}
-use Rattle.std.specs.List.{AllByRecursion, IsDistinct, list_any}
+use Rattle.std.proofs.Common.{◌≡◌, ◌≤◌, ℤ, true, List, [], ◌∷◌, Option, Some, None, refl, sym, ap, subst, ◌∙◌, length, slice_get, int_eq}
+use Rattle.std.specs.List.{AllByRecursion, IsDistinct}
 use Rattle.std.proofs.lemmas.Bool.Decides.{Decides-int_eq, not_from_Decides}
 use Rattle.ioa_values.specs.Outcome.{and_then}
 use Rattle.ioa_operators.specs.Shapes.{PlainShape}
@@ -12,28 +12,25 @@ use Rattle.ioa_source.specs.Sides.{SourcePlacement, CheckedParameter}
 use Rattle.ioa_source.specs.declared.declaration.Channel.{Channel}
 use Rattle.ioa_system.specs.Declarations.{same_channel}
 use Rattle.ioa_system.specs.InView.{given_bindings}
-use Rattle.ioa_system.specs.Parts.{Parts, PlainRule}
+use Rattle.ioa_system.specs.Parts.{Parts, PlainRule, rule_named}
 use Rattle.ioa_sort_rules.specs.declared.refusal.Refusal.TheVariants.{Twice, ChannelSorts, InputMissing, SelfChannel}
 use Rattle.ioa_automata.proofs.Results.{result_is}
 use Rattle.ioa_check.specs.declared.channels.TheConstants.{MOST_CHANNELS}
+use Rattle.ioa_check.specs.Distinct.{differ_from}
 use Rattle.ioa_check.specs.Sections.{channels_in}
 use Rattle.ioa_check.specs.Nodes.{at_most}
-use Rattle.ioa_check.specs.Channels.{are_new_channels, channels_or, channels_at, program_numbered, program_or, rule_named, takes_number, takes_from, input_or, same_message, output_at, channel_to, channel_between, channel_at, all_channels_at}
+use Rattle.ioa_check.specs.Channels.{channels_or, channels_at, program_numbered, program_or, takes_number, takes_from, input_or, same_message, output_at, channel_to, channel_between, channel_at, all_channels_at}
 use Rattle.ioa_check.specs.Systems.{TakesNumber, HaveOneMessage, IsChannelOf}
 use Rattle.ioa_check.proofs.Results.{first_of, is_passed, is_not_met, result_same}
-use Rattle.ioa_check.proofs.Apart.{differ_from, new_differ}
+use Rattle.ioa_check.proofs.Apart.{new_differ}
 use Rattle.ioa_check.proofs.SoundNodes.{few_sound, number_given}
 
 -- which channels there are
-apart : (before cs : List Channel) → are_new_channels before cs ≡ differ_from same_channel before cs
-apart before [] = refl
-apart before (c ∷ cs) = ap (λ b. not (list_any (λ d. same_channel d c) before) && b) (apart (before ++ c ∷ []) cs)
-
 differ_sound : (cs ds : List Channel) → channels_or cs ≡ result_is ds → (cs ≡ ds) × IsDistinct same_channel cs
 unfolding channels_or
 differ_sound cs ds h =
-    let test = is_passed (are_new_channels [] cs) (result_is cs) Twice ds h in
-    (result_same cs ds test.1, (new_differ same_channel [] cs (sym (apart [] cs) ∙ test.0)).1)
+    let test = is_passed (differ_from same_channel [] cs) (result_is cs) Twice ds h in
+    (result_same cs ds test.1, (new_differ same_channel [] cs test.0).1)
 
 pub record AreChannelsIn (ps : List SourcePlacement) (cs : List Channel) : Type 0 where
   pub same : channels_in ps ≡ cs
@@ -48,7 +45,7 @@ channels_sound ps cs h =
     record { same = few.0 ∙ differ.0; few = few.1; differ = subst (IsDistinct same_channel) (sym few.0) differ.1 }
 
 -- what a receiver takes
-program_found : (o : Option Parts) (p : Parts) → program_or o ≡ result_is p → o ≡ Some p
+pub program_found : (o : Option Parts) (p : Parts) → program_or o ≡ result_is p → o ≡ Some p
 unfolding program_or
 program_found None p h = absurd (cc)
 program_found (Some q) p h = ap Some (result_same q p h)

@@ -1,6 +1,6 @@
 -- The programs of the nodes of a text.
-use Rattle.std.proofs.Common.{◌≡◌, ◌≤◌, ℕ, zero, suc, ◌+◌, pos, ℤ, Bool, true, false, not, ◌&&◌, ◌||◌, nat_le, List, [], ◌∷◌, ◌++◌, Option, Some, None, Result, Ok, Err, refl, sym, ap, subst, ◌∙◌, find, length, slice_get, leb-true, arith}
-use Rattle.std.specs.List.{AllByRecursion, AllZip, IsDistinct, list_any}
+use Rattle.std.proofs.Common.{◌≡◌, ◌≤◌, ℕ, zero, suc, ◌+◌, pos, ℤ, Bool, true, false, not, ◌||◌, nat_le, List, [], ◌∷◌, Option, Some, None, Result, Ok, Err, refl, sym, ap, subst, ◌∙◌, find, length, slice_get, leb-true, arith}
+use Rattle.std.specs.List.{AllByRecursion, AllZip, IsDistinct}
 use Rattle.std.proofs.lemmas.Bool.{and_parts}
 use Rattle.std.proofs.lemmas.Bool.Decides.{Decides-int_eq}
 use Rattle.std.proofs.lemmas.Slice.Eq.{bytes_eq-Decides}
@@ -22,13 +22,14 @@ use Rattle.ioa_automata.proofs.Loops.{results_are}
 use Rattle.ioa_automata.proofs.Results.{result_is, all_ok_each, zip_weaker}
 use Rattle.ioa_automata.proofs.Lookups.{found_has}
 use Rattle.ioa_check.specs.declared.nodes.TheConstants.{MOST_NODES}
+use Rattle.ioa_check.specs.Distinct.{differ_from}
 use Rattle.ioa_check.specs.Sections.{nodes_in}
-use Rattle.ioa_check.specs.Grounds.{HaveDeclaredShapes, AreGrounded}
-use Rattle.ioa_check.specs.Nodes.{at_most, has_number, are_numbered_anew, nodes_or, nodes_at, automaton_named, automaton_or, value_or, fitting_or, value_for, constant_bindings, argument_values, given_at, initial_value, variable_value, variable_values, constant_at, constants_at, is_number_of, gives_number, is_constant_of, is_at_home, home_at, entry_on, entries_on, start_values, program_of, parameter_shapes, program_with, node_program, program_at, programs_from}
-use Rattle.ioa_check.specs.Systems.{IsValueFor, AreValuesFor, IsInitialValue, HasValue, IsConstantOf, IsEntryOn, IsProgramOf, IsNodeOf, AreNodesOf, same_number}
+use Rattle.ioa_check.specs.Grounds.{HaveDeclaredShapes, IsGrounded, AreGrounded}
+use Rattle.ioa_check.specs.Nodes.{at_most, has_number, same_number, nodes_or, nodes_at, automaton_named, automaton_or, value_or, fitting_or, value_for, constant_bindings, argument_values, given_at, initial_value, variable_value, variable_values, constant_at, constants_at, is_number_of, gives_number, is_constant_of, is_at_home, home_at, entry_on, entries_on, start_values, program_of, parameter_shapes, program_with, node_program, program_at, programs_from}
+use Rattle.ioa_check.specs.Systems.{IsValueFor, AreValuesFor, IsInitialValue, HasValue, IsConstantOf, IsEntryOn, IsProgramOf, IsNodeOf, AreNodesOf}
 use Rattle.ioa_check.proofs.Results.{first_of, is_passed, result_same}
-use Rattle.ioa_check.proofs.Apart.{differ_from, new_differ}
-use Rattle.ioa_check.proofs.Grounds.{arguments_meant, as_many_arguments}
+use Rattle.ioa_check.proofs.Apart.{new_differ}
+use Rattle.ioa_check.proofs.Grounds.{arguments_meant, as_many_arguments, parameters_grounded}
 
 -- lists that are not too long
 pub few_sound : {A : Type 0} (most : ℕ) (xs ys : List A) → at_most most xs ≡ result_is ys → (xs ≡ ys) × (length xs ≤ most)
@@ -38,15 +39,11 @@ few_sound most xs ys h =
     (result_same xs ys test.1, leb-true (length xs) most test.0)
 
 -- nodes
-numbered : (before ns : List SourceNode) → are_numbered_anew before ns ≡ differ_from same_number before ns
-numbered before [] = refl
-numbered before (n ∷ ns) = ap (λ b. not (list_any (has_number n.number) before) && b) (numbered (before ++ n ∷ []) ns)
-
 numbers_sound : (ns ms : List SourceNode) → nodes_or ns ≡ result_is ms → (ns ≡ ms) × IsDistinct same_number ns
 unfolding nodes_or
 numbers_sound ns ms h =
-    let test = is_passed (are_numbered_anew [] ns) (result_is ns) Twice ms h in
-    (result_same ns ms test.1, (new_differ same_number [] ns (sym (numbered [] ns) ∙ test.0)).1)
+    let test = is_passed (differ_from same_number [] ns) (result_is ns) Twice ms h in
+    (result_same ns ms test.1, (new_differ same_number [] ns test.0).1)
 
 pub record AreNodesIn (ps : List SourcePlacement) (ns : List SourceNode) : Type 0 where
   pub same : nodes_in ps ≡ ns
@@ -80,7 +77,7 @@ value_sound e s t v h =
     let fits = fitting_sound s one.0 v one.2 in
     record { value = value_found (answer t e) one.0 one.1 ∙ ap answer_is fits.0; shape = subst (λ w. has_shape s w ≡ true) fits.0 fits.1 }
 
-values_sound : (e : Bindings) (ss : List PlainShape) (ts : List CheckedTerm) (vs : List Data) → length ts ≡ length ss → argument_values e ss ts ≡ results_are vs → AreValuesFor e ss ts vs
+pub values_sound : (e : Bindings) (ss : List PlainShape) (ts : List CheckedTerm) (vs : List Data) → length ts ≡ length ss → argument_values e ss ts ≡ results_are vs → AreValuesFor e ss ts vs
 values_sound e [] [] vs many h = let same : [] ≡ vs = cc in subst (AreValuesFor e [] []) same tt
 values_sound e [] (t ∷ ts) vs many h = absurd (omega (arith, many))
 values_sound e (s ∷ ss) [] vs many h = absurd (omega (arith, many))
@@ -204,7 +201,7 @@ node_sound names cs ns k p ground h =
     let one = node_found names cs (pos k) (find (has_number (pos k)) ns) p h in
     let two = first_of (automaton_or (automaton_named one.0.automaton cs)) (program_with names (pos k) one.0.arguments) p one.2 in
     let called = automaton_found (automaton_named one.0.automaton cs) two.0 two.1 in
-    let declared = found_has (λ a. HaveDeclaredShapes names (parameter_shapes a)) (λ c. same_word c.name one.0.automaton) cs two.0 ground called in
+    let declared = parameters_grounded names two.0 (found_has (IsGrounded names) (λ c. same_word c.name one.0.automaton) cs two.0 ground called) in
     let made = program_sound names (pos k) one.0.arguments two.0 p declared two.2 in
     record {
       node = one.0;

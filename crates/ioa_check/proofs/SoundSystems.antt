@@ -7,7 +7,7 @@ use Rattle.ioa_source.specs.Sides.{SourceNode, SourcePlacement, SourceText}
 use Rattle.ioa_source.specs.declared.declaration.Channel.{Channel}
 use Rattle.ioa_system.specs.Declarations.{same_channel}
 use Rattle.ioa_system.specs.Parts.{AutomatonParts, Parts}
-use Rattle.ioa_system.specs.Systems.{SystemParts, system}
+use Rattle.ioa_system.specs.Systems.{ScriptParts, SystemParts, system}
 use Rattle.ioa_names.specs.NameTables.{words}
 use Rattle.ioa_types.specs.TextTypes.{no_types}
 use Rattle.ioa_automata.proofs.Results.{result_is}
@@ -17,15 +17,17 @@ use Rattle.ioa_check.specs.Sections.{nodes_in, channels_in}
 use Rattle.ioa_check.specs.Faults.{in_declaration}
 use Rattle.ioa_check.specs.Declarations.{types_at, automata_at}
 use Rattle.ioa_check.specs.Grounds.{AreGrounded}
-use Rattle.ioa_check.specs.Nodes.{nodes_at, programs_at}
+use Rattle.ioa_check.specs.Nodes.{nodes_at, programs_at, same_number}
 use Rattle.ioa_check.specs.Channels.{channels_at, all_channels_at}
+use Rattle.ioa_check.specs.Scripts.{scripts_at}
 use Rattle.ioa_check.specs.Checking.{system_at, system_of}
-use Rattle.ioa_check.specs.Systems.{AreNodesOf, IsChannelOf, same_number, IsSystemOf}
+use Rattle.ioa_check.specs.Systems.{AreNodesOf, IsChannelOf, IsSystemOf}
 use Rattle.ioa_check.proofs.Results.{checked_is, first_of, within_declaration, result_same}
-use Rattle.ioa_check.proofs.Grounds.{grounded}
+use Rattle.ioa_check.proofs.Grounds.{grounded, programs_grounded}
 use Rattle.ioa_check.proofs.SoundDeclarations.{text_types_sound, automata_sound}
 use Rattle.ioa_check.proofs.SoundNodes.{AreNodesIn, nodes_sound, programs_sound}
 use Rattle.ioa_check.proofs.SoundChannels.{AreChannelsIn, channels_sound, joined_sound}
+use Rattle.ioa_check.proofs.SoundScripts.{AreScriptsIn, scripts_sound}
 
 -- a system section
 record IsSectionOf (names : NameShapes) (automata : List AutomatonParts) (ps : List SourcePlacement) (s : SystemParts) : Type 0 where
@@ -38,10 +40,11 @@ record IsSectionOf (names : NameShapes) (automata : List AutomatonParts) (ps : L
   many : length s.programs ≡ length (nodes_in ps)
   channels : s.channels ≡ channels_in ps
   joined : AllByRecursion (IsChannelOf s.programs) s.channels
+  scripts : AreScriptsIn names s.programs ps s.scripts
 
 -- its parts together
-section_made : (names : NameShapes) (automata : List AutomatonParts) (ps : List SourcePlacement) (ns : List SourceNode) (cs : List Channel) (qs : List Parts) → AreNodesIn ps ns → AreChannelsIn ps cs → AreNodesOf names automata ns 0 qs × (length qs ≡ length ns) → AllByRecursion (IsChannelOf qs) cs → IsSectionOf names automata ps (system (words names) qs cs)
-section_made names automata ps ns cs qs nodes channels programs joined = record {
+section_made : (names : NameShapes) (automata : List AutomatonParts) (ps : List SourcePlacement) (ns : List SourceNode) (cs : List Channel) (qs : List Parts) (xs : List ScriptParts) → AreNodesIn ps ns → AreChannelsIn ps cs → AreNodesOf names automata ns 0 qs × (length qs ≡ length ns) → AllByRecursion (IsChannelOf qs) cs → AreScriptsIn names qs ps xs → IsSectionOf names automata ps (system (words names) qs cs xs)
+section_made names automata ps ns cs qs xs nodes channels programs joined scripts = record {
   same_names = refl;
   few_nodes = nodes.few;
   few_channels = channels.few;
@@ -51,17 +54,23 @@ section_made names automata ps ns cs qs nodes channels programs joined = record 
   many = programs.1 ∙ ap length (sym nodes.same);
   channels = sym channels.same;
   joined = joined;
+  scripts = scripts;
 }
 
 section_sound : (names : NameShapes) (automata : List AutomatonParts) → AreGrounded names automata → (ps : List SourcePlacement) (s : SystemParts) → system_at names automata ps ≡ result_is s → IsSectionOf names automata ps s
 unfolding system_at
 section_sound names automata ground ps s h =
-    let one = first_of (nodes_at ps) (λ ns. and_then (channels_at ps) (λ cs. and_then (programs_at names automata ns) (λ qs. and_then (all_channels_at qs cs) (λ x. result_is (system (words names) qs cs))))) s h in
-    let two = first_of (channels_at ps) (λ cs. and_then (programs_at names automata one.0) (λ qs. and_then (all_channels_at qs cs) (λ x. result_is (system (words names) qs cs)))) s one.2 in
-    let three = first_of (programs_at names automata one.0) (λ qs. and_then (all_channels_at qs two.0) (λ x. result_is (system (words names) qs two.0))) s two.2 in
-    let four = first_of (all_channels_at three.0 two.0) (λ x. result_is (system (words names) three.0 two.0)) s three.2 in
-    let made = section_made names automata ps one.0 two.0 three.0 (nodes_sound ps one.0 one.1) (channels_sound ps two.0 two.1) (programs_sound names automata one.0 ground (length one.0) 0 three.0 three.1) (joined_sound three.0 two.0 four.0 four.1) in
-    subst (IsSectionOf names automata ps) {x = system (words names) three.0 two.0} (result_same (system (words names) three.0 two.0) s four.2) made
+    let with_scripts = λ (qs : List Parts) (cs : List Channel). and_then (scripts_at names qs ps) (λ xs. result_is (system (words names) qs cs xs)) in
+    let joined = λ (qs : List Parts) (cs : List Channel). and_then (all_channels_at qs cs) (λ x. with_scripts qs cs) in
+    let one = first_of (nodes_at ps) (λ ns. and_then (channels_at ps) (λ cs. and_then (programs_at names automata ns) (λ qs. joined qs cs))) s h in
+    let two = first_of (channels_at ps) (λ cs. and_then (programs_at names automata one.0) (λ qs. joined qs cs)) s one.2 in
+    let three = first_of (programs_at names automata one.0) (λ qs. joined qs two.0) s two.2 in
+    let four = first_of (all_channels_at three.0 two.0) (λ x. with_scripts three.0 two.0) s three.2 in
+    let five = first_of (scripts_at names three.0 ps) (λ xs. result_is (system (words names) three.0 two.0 xs)) s four.2 in
+    let nodes = programs_sound names automata one.0 ground (length one.0) 0 three.0 three.1 in
+    let scripts = scripts_sound names three.0 (programs_grounded names automata one.0 ground 0 three.0 nodes.0) ps five.0 five.1 in
+    let made = section_made names automata ps one.0 two.0 three.0 five.0 (nodes_sound ps one.0 one.1) (channels_sound ps two.0 two.1) nodes (joined_sound three.0 two.0 four.0 four.1) scripts in
+    subst (IsSectionOf names automata ps) {x = system (words names) three.0 two.0 five.0} (result_same (system (words names) three.0 two.0 five.0) s five.2) made
 
 pub system_sound : (x : SourceText) (s : SystemParts) → system_of x ≡ checked_is s → IsSystemOf x s
 unfolding system_of
@@ -88,4 +97,6 @@ system_sound x s h =
       many = section.many;
       channels = section.channels;
       joined = section.joined;
+      scripts_differ = section.scripts.differ;
+      scripts = section.scripts.made;
     }

@@ -10,14 +10,13 @@ use Rattle.ioa_sort_rules.specs.SameSorts.{same_sort}
 use Rattle.ioa_terms.specs.Bindings.{Bindings, same_word}
 use Rattle.ioa_actions.specs.ActionParts.{send_name, receive_name}
 use Rattle.ioa_source.specs.PlainText.{const, named}
-use Rattle.ioa_source.specs.declared.declaration.Channel.{Channel}
-use Rattle.ioa_source.specs.Sides.{SourceNode, CheckedParameter}
-use Rattle.ioa_system.specs.Declarations.{same_channel}
+use Rattle.ioa_source.specs.Sides.{CheckedParameter}
 use Rattle.ioa_system.specs.Parts.{PlainRule}
 use Rattle.ioa_automata.proofs.Results.{result_is}
-use Rattle.ioa_check.specs.Nodes.{at_most, has_number, are_numbered_anew, is_constant_of, is_at_home}
-use Rattle.ioa_check.specs.Channels.{are_new_channels, takes_number, same_message}
-use Rattle.ioa_check.specs.Systems.{IsConstantOf, IsEntryOn, TakesNumber, HaveOneMessage, same_number}
+use Rattle.ioa_check.specs.Distinct.{differ_from}
+use Rattle.ioa_check.specs.Nodes.{at_most, is_constant_of, is_at_home}
+use Rattle.ioa_check.specs.Channels.{takes_number, same_message}
+use Rattle.ioa_check.specs.Systems.{IsConstantOf, IsEntryOn, TakesNumber, HaveOneMessage}
 
 -- of elements none of which passes
 pub none_passes : {A : Type 0} (test : A → Bool) (xs : List A) → AllByRecursion (λ x. test x ≡ false) xs → list_any test xs ≡ false
@@ -58,17 +57,11 @@ pub new_word : (before : List (List ℕ)) (w : List ℕ) (ws : List (List ℕ)) 
 new_word before w ws d =
     (none_passes (same_word w) before (words_turned w before (new_behind same_word before w ws d)), one_further same_word before w ws d)
 
--- numbers of nodes that differ
-pub numbered_anew : (before ns : List SourceNode) → IsDistinct same_number (before ++ ns) → are_numbered_anew before ns ≡ true
-numbered_anew before [] d = refl
-numbered_anew before (n ∷ ns) d =
-    rw (none_passes (has_number n.number) before (new_behind same_number before n ns d)) (numbered_anew (before ++ n ∷ []) ns (one_further same_number before n ns d))
-
--- channels that differ
-pub channels_anew : (before cs : List Channel) → IsDistinct same_channel (before ++ cs) → are_new_channels before cs ≡ true
-channels_anew before [] d = refl
-channels_anew before (c ∷ cs) d =
-    rw (none_passes (λ b. same_channel b c) before (new_behind same_channel before c cs d)) (channels_anew (before ++ c ∷ []) cs (one_further same_channel before c cs d))
+-- things that differ
+pub differ_anew : {A : Type 0} (same : A → A → Bool) (before xs : List A) → IsDistinct same (before ++ xs) → differ_from same before xs ≡ true
+differ_anew same before [] d = refl
+differ_anew same before (x ∷ xs) d =
+    rw (none_passes (λ b. same b x) before (new_behind same before x xs d)) (differ_anew same (before ++ x ∷ []) xs (one_further same before x xs d))
 
 -- a list that is not too long
 pub few_found : {A : Type 0} (most : ℕ) (xs : List A) → length xs ≤ most → result_is xs ≡ at_most most xs

@@ -1,11 +1,10 @@
 -- The channels between nodes (profile).
-use Rattle.std.specs.Prelude.{ℤ, Bool, true, false, not, ◌&&◌, if◌then◌else◌, List, [], ◌∷◌, ◌++◌, ℕ}
+use Rattle.std.specs.Prelude.{ℤ, Bool, true, false, if◌then◌else◌, List, [], ◌∷◌}
 use Rattle.std.specs.Prelude.{Option, Some, None, Result, Ok, Err, find, slice_get}
-use Rattle.std.specs.List.{list_any}
 use Rattle.std.specs.Ordering.{int_eq}
 use Rattle.ioa_values.specs.Outcome.{and_then}
 use Rattle.ioa_operators.specs.Shapes.{PlainShape}
-use Rattle.ioa_terms.specs.Bindings.{Bindings, same_word}
+use Rattle.ioa_terms.specs.Bindings.{Bindings}
 use Rattle.ioa_terms.specs.Meaning.{answer}
 use Rattle.ioa_actions.specs.ActionParts.{send_name, receive_name}
 use Rattle.ioa_source.specs.PlainText.{const, named}
@@ -13,24 +12,19 @@ use Rattle.ioa_source.specs.Sides.{CheckedParameter, SourcePlacement}
 use Rattle.ioa_source.specs.declared.declaration.Channel.{Channel}
 use Rattle.ioa_system.specs.Declarations.{same_channel}
 use Rattle.ioa_system.specs.InView.{given_bindings}
-use Rattle.ioa_system.specs.Parts.{Parts, PlainRule}
+use Rattle.ioa_system.specs.Parts.{Parts, PlainRule, rule_named}
 use Rattle.ioa_sort_rules.specs.SameSorts.{same_sort}
 use Rattle.ioa_sort_rules.specs.declared.refusal.Refusal.{Refusal}
 use Rattle.ioa_sort_rules.specs.declared.refusal.Refusal.TheVariants.{Unknown, Twice, ChannelSorts, InputMissing}
 use Rattle.ioa_sort_rules.specs.declared.refusal.Refusal.TheVariants.{SelfChannel}
 use Rattle.ioa_check.specs.declared.channels.TheConstants.{MOST_CHANNELS}
+use Rattle.ioa_check.specs.Distinct.{differ_from}
 use Rattle.ioa_check.specs.Sections.{channels_in}
 use Rattle.ioa_check.specs.Nodes.{at_most, gives_number}
 
--- whether channels differ from each other, and from those before
-abbrev pub are_new_channels : List Channel → List Channel → Bool
-are_new_channels before [] = true
-are_new_channels before (c ∷ cs) =
-    not (list_any (λ d. same_channel d c) before) && are_new_channels (before ++ c ∷ []) cs
-
 -- channels, if they differ
 unfoldable pub channels_or : List Channel → Result (List Channel) Refusal
-channels_or cs = if are_new_channels [] cs then Ok cs else Err Twice
+channels_or cs = if differ_from same_channel [] cs then Ok cs else Err Twice
 
 -- the channels of a system section: not too many, and different ones
 abbrev pub channels_at : List SourcePlacement → Result (List Channel) Refusal
@@ -43,10 +37,6 @@ program_numbered k ps = find (λ p. int_eq p.node k) ps
 unfoldable pub program_or : Option Parts → Result Parts Refusal
 program_or None = Err Unknown
 program_or (Some p) = Ok p
-
--- the rule of a program for actions of a name
-abbrev pub rule_named : List ℕ → List PlainRule → Option PlainRule
-rule_named w rs = find (λ r. same_word r.entry.name w) rs
 
 -- whether a parameter is there and takes a number: a constant takes its own value alone
 abbrev pub takes_number : Bindings → ℤ → Option CheckedParameter → Bool

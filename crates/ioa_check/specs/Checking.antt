@@ -13,13 +13,15 @@ use Rattle.ioa_check.specs.Faults.{in_declaration}
 use Rattle.ioa_check.specs.Declarations.{types_at, automata_at}
 use Rattle.ioa_check.specs.Nodes.{nodes_at, programs_at}
 use Rattle.ioa_check.specs.Channels.{channels_at, all_channels_at}
+use Rattle.ioa_check.specs.Scripts.{scripts_at}
 
 -- the system of a system section, in a text of these constants and automata
 unfoldable pub system_at : NameShapes → List AutomatonParts → List SourcePlacement → Result SystemParts Refusal
 system_at names automata ps = and_then (nodes_at ps)
     (λ ns. and_then (channels_at ps)
     (λ cs. and_then (programs_at names automata ns)
-    (λ qs. and_then (all_channels_at qs cs) (λ x. Ok (system (words names) qs cs)))))
+    (λ qs. and_then (all_channels_at qs cs)
+    (λ x. and_then (scripts_at names qs ps) (λ xs. Ok (system (words names) qs cs xs))))))
 
 -- the system of a text
 unfoldable pub system_of : SourceText → Result SystemParts CheckFault

@@ -1,8 +1,7 @@
 -- The programs of nodes (profile): the automaton of each, the values of its parameters, and those of its state variables
 -- in the start state.
-use Rattle.std.specs.Prelude.{◌+◌, ℕ, suc, zero, pos, ℤ, Bool, true, false, not, ◌&&◌, ◌||◌, nat_le, if◌then◌else◌}
-use Rattle.std.specs.Prelude.{List, [], ◌∷◌, ◌++◌, Option, Some, None, Result, Ok, Err, find, length, map, slice_get}
-use Rattle.std.specs.List.{list_any}
+use Rattle.std.specs.Prelude.{◌+◌, ℕ, suc, zero, pos, ℤ, Bool, false, not, ◌&&◌, ◌||◌, nat_le, if◌then◌else◌}
+use Rattle.std.specs.Prelude.{List, [], ◌∷◌, Option, Some, None, Result, Ok, Err, find, length, map, slice_get}
 use Rattle.std.specs.Ordering.{int_eq}
 use Rattle.ioa_values.specs.Data.{Data, as_number}
 use Rattle.ioa_values.specs.Outcome.{and_then}
@@ -24,6 +23,7 @@ use Rattle.ioa_sorts.specs.Statements.{all_ok}
 use Rattle.ioa_names.specs.NameTables.{words}
 use Rattle.ioa_automata.specs.Rules.{arguments_at}
 use Rattle.ioa_check.specs.declared.nodes.TheConstants.{MOST_NODES}
+use Rattle.ioa_check.specs.Distinct.{differ_from}
 use Rattle.ioa_check.specs.Sections.{nodes_in}
 
 -- a list, if it is not too long
@@ -34,15 +34,13 @@ at_most most xs = if nat_le (length xs) most then Ok xs else Err Limit
 abbrev pub has_number : ℤ → SourceNode → Bool
 has_number k n = int_eq n.number k
 
--- whether the numbers of nodes differ from each other, and from those before
-abbrev pub are_numbered_anew : List SourceNode → List SourceNode → Bool
-are_numbered_anew before [] = true
-are_numbered_anew before (n ∷ ns) =
-    not (list_any (has_number n.number) before) && are_numbered_anew (before ++ n ∷ []) ns
+-- whether two nodes have one number
+abbrev pub same_number : SourceNode → SourceNode → Bool
+same_number m n = int_eq m.number n.number
 
 -- nodes, if their numbers differ
 unfoldable pub nodes_or : List SourceNode → Result (List SourceNode) Refusal
-nodes_or ns = if are_numbered_anew [] ns then Ok ns else Err Twice
+nodes_or ns = if differ_from same_number [] ns then Ok ns else Err Twice
 
 -- the nodes of a system section: not too many, and with numbers that differ
 abbrev pub nodes_at : List SourcePlacement → Result (List SourceNode) Refusal
@@ -69,11 +67,11 @@ fitting_or s v = if has_shape s v then Ok v else Err BadArgument
 abbrev pub value_for : Bindings → PlainShape → CheckedTerm → Result Data Refusal
 value_for e s t = and_then (value_or (answer t e)) (fitting_or s)
 
--- what the arguments of a node read: the text's constants
+-- what the arguments of a node or of a script's call read: the text's constants
 abbrev pub constant_bindings : NameShapes → Bindings
 constant_bindings names = environment [] [] (words names)
 
--- the values of the arguments of a node, each for the parameter at its position
+-- the values of arguments, each for the parameter at its position
 abbrev pub argument_values : Bindings → List PlainShape → List CheckedTerm → Result (List Data) Refusal
 argument_values e ss [] = Ok []
 argument_values e [] (t ∷ ts) = Ok []

@@ -1,23 +1,24 @@
 -- When a system is the one that a text describes (profile), in words that know nothing of the order of refusals. A number
 -- before a field is that of the refusals of a text for which the field cannot hold.
-use Rattle.std.specs.Prelude.{◌≡◌, ◌≤◌, ◌+◌, ℕ, ℤ, pos, List, [], ◌∷◌, Option, Some, None, Ok, find, length, map, slice_get}
+use Rattle.std.specs.Prelude.{◌≡◌, ◌≢◌, ◌≤◌, ◌+◌, ℕ, ℤ, pos, List, [], ◌∷◌, Option, Some, None, Ok, find, length, map, slice_get}
 use Rattle.std.specs.List.{AllByRecursion, AllZip, IsDistinct}
-use Rattle.std.specs.Ordering.{int_eq}
-use Rattle.std.specs.Prelude.{Bool, true}
+use Rattle.std.specs.Prelude.{true}
 use Rattle.ioa_values.specs.Data.{Data, number}
 use Rattle.ioa_operators.specs.Shapes.{PlainShape, has_shape}
 use Rattle.ioa_terms.specs.Bindings.{Bindings, same_word}
 use Rattle.ioa_terms.specs.Meaning.{answer}
 use Rattle.ioa_terms.specs.Sorted.{NameShapes}
+use Rattle.ioa_terms.specs.declared.tree.Kind.TheVariants.{Input}
 use Rattle.ioa_actions.specs.ActionParts.{send_name, receive_name}
+use Rattle.ioa_actions.specs.declared.action.NodeAction.{NodeAction}
 use Rattle.ioa_source.specs.PlainText.{const, named, type_named, automaton}
 use Rattle.ioa_source.specs.declared.declaration.Channel.{Channel}
-use Rattle.ioa_source.specs.Sides.{SourceDeclaration, SourceNode, SourceTerm, SourceText}
+use Rattle.ioa_source.specs.Sides.{SourceCall, SourceDeclaration, SourceNode, SourceScript, SourceTerm, SourceText}
 use Rattle.ioa_source.specs.Sides.{CheckedParameter, CheckedTerm, CheckedVariable}
 use Rattle.ioa_system.specs.Declarations.{same_channel}
 use Rattle.ioa_system.specs.InView.{given_bindings}
-use Rattle.ioa_system.specs.Parts.{AutomatonParts, Parts, PlainRule}
-use Rattle.ioa_system.specs.Systems.{SystemParts}
+use Rattle.ioa_system.specs.Parts.{AutomatonParts, Parts, PlainRule, rule_named}
+use Rattle.ioa_system.specs.Systems.{ScriptParts, SystemParts}
 use Rattle.ioa_sort_rules.specs.SameSorts.{same_sort}
 use Rattle.ioa_names.specs.NameTables.{words}
 use Rattle.ioa_types.specs.TextTypes.{PlainTextTypes, no_types}
@@ -27,9 +28,10 @@ use Rattle.ioa_check.specs.declared.fault.CheckFault.{CheckFault}
 use Rattle.ioa_check.specs.declared.fault.CheckFault.TheVariants.{Refused, Memory}
 use Rattle.ioa_check.specs.declared.nodes.TheConstants.{MOST_NODES}
 use Rattle.ioa_check.specs.declared.channels.TheConstants.{MOST_CHANNELS}
-use Rattle.ioa_check.specs.Sections.{automata_in, nodes_in, channels_in}
-use Rattle.ioa_check.specs.Nodes.{automaton_named, constant_bindings, has_number, parameter_shapes}
-use Rattle.ioa_check.specs.Channels.{program_numbered, rule_named}
+use Rattle.ioa_check.specs.Sections.{automata_in, nodes_in, channels_in, scripts_in}
+use Rattle.ioa_check.specs.Nodes.{automaton_named, constant_bindings, has_number, parameter_shapes, same_number}
+use Rattle.ioa_check.specs.Channels.{program_numbered}
+use Rattle.ioa_check.specs.Scripts.{same_node}
 
 -- the types of declarations, one behind the other, and behind these
 abbrev pub AreTypesOf : List SourceDeclaration → PlainTextTypes → PlainTextTypes → Type 0
@@ -129,11 +131,34 @@ pub record IsChannelOf (ps : List Parts) (c : Channel) : Type 0 where
   pub sorts : (r : PlainRule) → rule_named send_name sender.automaton.rules ≡ Some r →
       HaveOneMessage r.shapes input.shapes
 
--- two nodes of one number
-abbrev pub same_number : SourceNode → SourceNode → Bool
-same_number m n = int_eq m.number n.number
+-- the stimulus of a call at node k, on which this automaton is placed, in a text of these constants
+pub record IsStimulusOf (names : NameShapes) (k : ℤ) (a : AutomatonParts) (c : SourceCall) (x : NodeAction)
+    : Type 0 where
+  pub node : x.node ≡ k
+  pub name : x.name ≡ c.name
+  -- 34: it is no message
+  pub no_send : c.name ≢ send_name
+  pub no_receive : c.name ≢ receive_name
+  -- 20: it is an input of the automaton
+  pub input : PlainRule
+  pub found : rule_named c.name a.rules ≡ Some input
+  pub kind : input.entry.kind ≡ Input
+  -- 20, 22, 32: the terms have the sorts of its parameters
+  pub arguments : List CheckedTerm
+  pub sorted : AreArgumentsOf names input.shapes c.arguments arguments
+  -- 34: they have values
+  pub given : AreValuesFor (constant_bindings names) input.shapes arguments x.arguments
 
--- the system of a text: one program for each of its nodes, node 0 first, and its channels
+-- a script, whose node has one of these programs
+pub record IsScriptOf (names : NameShapes) (ps : List Parts) (s : SourceScript) (c : ScriptParts) : Type 0 where
+  pub node : c.node ≡ s.node
+  -- 20: the node is declared
+  pub program : Parts
+  pub of_node : program_numbered s.node ps ≡ Some program
+  -- 20, 22, 32, 34: the stimuli
+  pub stimuli : AllZip (IsStimulusOf names s.node program.automaton) s.calls c.stimuli
+
+-- the system of a text: one program for each of its nodes, node 0 first, its channels and its scripts
 pub record IsSystemOf (x : SourceText) (s : SystemParts) : Type 0 where
   -- 20, 21, 31: its types
   pub types : PlainTextTypes
@@ -156,6 +181,10 @@ pub record IsSystemOf (x : SourceText) (s : SystemParts) : Type 0 where
   -- 20, 27, 28, 29: the channels
   pub channels : s.channels ≡ channels_in x.system
   pub joined : AllByRecursion (IsChannelOf s.programs) s.channels
+  -- 21: the nodes of the scripts differ
+  pub scripts_differ : IsDistinct same_node (scripts_in x.system)
+  -- 20, 22, 32, 34: the scripts
+  pub scripts : AllZip (IsScriptOf types.constants s.programs) (scripts_in x.system) s.scripts
 
 -- what a fault of the check says of a text: a refusal, that no system is the text's; want of memory says nothing
 abbrev pub SaysNoSystem : CheckFault → SourceText → Type 0

@@ -9,8 +9,10 @@ ghost use Rattle.ioa_terms.specs.Bindings.{names_of};
 ghost use Rattle.ioa_source.specs.TextView.{parameter_of, placement_of};
 ghost use Rattle.ioa_system.specs.Declarations.{same_channel};
 ghost use Rattle.ioa_system.specs.InView.{declared_names, entry_constant, names_at};
+ghost use Rattle.ioa_system.specs.Parts.{rule_named};
 ghost use Rattle.ioa_system.specs.ResolvedPrograms.{AreResolvedParameters, IsResolvedParameter};
 ghost use Rattle.ioa_check.specs.Channels as spec;
+ghost use Rattle.ioa_check.specs.Distinct.{differ_from};
 ghost use Rattle.ioa_check.specs.Sections.{channels_in};
 
 use crate::values::gives_number;
@@ -63,7 +65,7 @@ fn all_channels(
 
 /// Whether no two channels are between the same nodes in the same direction.
 fn are_new_channels(channels: &[Channel]) -> bool
-    ensures { result ≡ spec.are_new_channels [] channels.now }
+    ensures { result ≡ differ_from same_channel [] channels.now }
 {
     for (position, channel) in channels.iter().enumerate() {
         if is_channel(&channels[..position], channel) {
@@ -95,7 +97,10 @@ fn program_numbered(programs: &Vec<Arc<Program>>, number: i64) -> Option<&Arc<Pr
 
 /// The program of the node that has a number. `Unknown` (20) if there is no such node.
 #[tactic(auto, unfolding(crate::specs::Channels::program_or))]
-fn program_or(programs: &Vec<Arc<Program>>, number: i64) -> Result<&Arc<Program>, Refusal>
+pub(crate) fn program_or(
+    programs: &Vec<Arc<Program>>,
+    number: i64,
+) -> Result<&Arc<Program>, Refusal>
     ensures { Answers Refusal.Memory (λ p. arc_value p.now) result
         (spec.program_or (spec.program_numbered number (map arc_value programs.now.items))) }
 {
@@ -103,20 +108,6 @@ fn program_or(programs: &Vec<Arc<Program>>, number: i64) -> Result<&Arc<Program>
         None => Err(Refusal::Unknown),
         Some(program) => Ok(program),
     }
-}
-
-/// The rule of a program for actions of a name.
-fn rule_named<'a>(program: &'a Program, name: &str) -> Option<&'a Rule>
-    ensures found { option_copied result ≡ spec.rule_named name.now program.now.automaton.rules }
-    ensures resolved { IfSome result (λ r. AreResolvedParameters
-        (names_at entry_constant (declared_names program.now.automaton) []) r.now.entry.parameters) }
-{
-    for rule in program.automaton().rules() {
-        if rule.entry.name.as_str() == name {
-            return Some(rule);
-        }
-    }
-    None
 }
 
 /// Whether a parameter is there and takes a number: a constant takes its own value alone.
@@ -166,9 +157,9 @@ fn takes_second(alloc: Global, env: &Env, rule: &Rule, number: i64) -> Result<bo
 #[tactic(auto, unfolding(crate::specs::Channels::input_or))]
 fn input_or<'a>(alloc: Global, program: &'a Program, number: i64) -> Result<&'a Rule, Refusal>
     ensures { Answers Refusal.Memory (λ r. r.now) result
-        (spec.input_or program.now number (spec.rule_named RECEIVE.now program.now.automaton.rules)) }
+        (spec.input_or program.now number (rule_named RECEIVE.now program.now.automaton.rules)) }
 {
-    match rule_named(program, RECEIVE) {
+    match program.automaton().rule_named(RECEIVE) {
         None => Err(Refusal::InputMissing),
         Some(rule) => {
             if takes_from(alloc, program, rule, number)? {
@@ -221,7 +212,7 @@ fn check_receiver(
     ensures { Answers Refusal.Memory (λ x. x) result (spec.channel_to sender.now receiver.now number) }
 {
     let input = input_or(alloc, receiver, number)?;
-    check_output(input, rule_named(sender, SEND))
+    check_output(input, sender.automaton().rule_named(SEND))
 }
 
 /// Passes if the ends of a channel are nodes of these programs, and the receiver takes what the sender sends.

@@ -15,6 +15,7 @@ use crate::channels::{channels_of, check_channels};
 use crate::declarations::{automata_of, names_of, types_of};
 use crate::fault::{CheckFault, fault_at};
 use crate::nodes::{Ground, nodes_of, programs_of};
+use crate::scripts::scripts_of;
 use ioa_names::{NameTable, View};
 use ioa_sort_rules::Refusal;
 use ioa_source::{Placement, Text};
@@ -98,6 +99,7 @@ fn check_placements(
     let channels = channels_of(alloc, placements)?;
     let programs = programs_of(alloc, ground, &nodes)?;
     check_channels(alloc, &programs, &channels)?;
+    let scripts = scripts_of(alloc, ground, &programs, placements)?;
     let constants = Arc::try_clone(ground.constants)?;
-    Ok(System::new(constants, programs, channels))
+    Ok(System::new(constants, programs, channels, scripts))
 }

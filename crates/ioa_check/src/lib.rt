@@ -1,4 +1,4 @@
-//! From a text to its system: types and automata with sorts, nodes with their values, channels.
+//! From a text to its system: types and automata with sorts, nodes with their values, channels and scripts.
 #![tactic(auto)]
 
 mod channels;
@@ -7,6 +7,7 @@ mod declarations;
 mod fault;
 mod laws;
 mod nodes;
+mod scripts;
 mod values;
 
 pub use checking::check;

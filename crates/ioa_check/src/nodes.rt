@@ -11,6 +11,7 @@ ghost use Rattle.ioa_source.specs.TextView.{declared_of, node_of, parameter_of, 
 ghost use Rattle.ioa_system.specs.InView.{given_bindings};
 ghost use Rattle.ioa_system.specs.ResolvedPrograms.{AreResolvedParameters, IsResolvedParameter};
 ghost use Rattle.ioa_names.specs.NameTables.{words};
+ghost use Rattle.ioa_check.specs.Distinct.{differ_from};
 ghost use Rattle.ioa_check.specs.Grounds.{AreGrounded, HaveDeclaredShapes};
 ghost use Rattle.ioa_check.specs.Nodes as spec;
 ghost use Rattle.ioa_check.specs.Sections.{node_at, nodes_in};
@@ -29,7 +30,7 @@ use std::sync::Arc;
 /// The greatest number of nodes.
 pub(crate) const MOST_NODES: usize = 64;
 
-/// What the nodes of a system section read.
+/// What the nodes and scripts of a system section read.
 #[derive(Drop)]
 pub(crate) struct Ground<'a> {
     /// The text's constants.
@@ -78,7 +79,7 @@ fn all_nodes<'a>(
 
 /// Whether no two nodes have one number.
 fn are_numbered_anew(nodes: &[&Node<(), ()>]) -> bool
-    ensures { result ≡ spec.are_numbered_anew [] (map node_at nodes.now) }
+    ensures { result ≡ differ_from spec.same_number [] (map node_at nodes.now) }
 {
     for position in 0..nodes.len() {
         let node = nodes[position];
@@ -136,9 +137,10 @@ fn shapes_of(alloc: Global, parameters: &[Declared<Shape>]) -> Result<Vec<Shape>
     Ok(shapes)
 }
 
-/// The values of the arguments of a node, each of the shape at its position, in a text of these constants.
+/// The values of the arguments of a node or of a script's call, each of the shape at its position, in a text of these
+/// constants.
 #[tactic(auto, unfolding(crate::specs::Nodes::given_at))]
-fn given_values(
+pub(crate) fn given_values(
     alloc: Global,
     view: &View,
     constants: &Names,

@@ -1,11 +1,8 @@
 -- Names of components, and the configurations that bear them.
 use Rattle.std.proofs.Common.{◌≡◌, Bool, true, false, ◌||◌, List, [], ◌∷◌, Some, Result, Ok, Err, refl, ap, sym, ◌∙◌, map, if◌then◌else◌}
-use Rattle.std.specs.Bool.{Decides}
 use Rattle.std.specs.Prelude.{◌&&◌}
 use Rattle.std.specs.Ordering.{int_eq}
 use Rattle.std.specs.List.{list_any}
-use Rattle.std.proofs.lemmas.Bool.Decides.{Decides-int_eq, Decides-and, Decides-like}
-use Rattle.ioa_values.specs.Data.{Data}
 use Rattle.ioa_values.specs.Outcome.{and_then}
 use Rattle.ioa_actions.specs.declared.component.Component.{Component}
 use Rattle.ioa_actions.specs.declared.component.Component.TheVariants.{Node, Channel, Script}
@@ -13,32 +10,17 @@ use Rattle.ioa_actions.specs.declared.action.Action.{Action}
 use Rattle.ioa_actions.specs.declared.action.Action.TheVariants.{Send, Receive, Local, Stimulus}
 use Rattle.ioa_compose.specs.declared.configuration.Conf.{Conf}
 use Rattle.ioa_compose.specs.declared.configuration.Conf.TheVariants as conf
-use Rattle.ioa_compose.specs.declared.fault.StepFault.{StepFault}
-use Rattle.ioa_compose.specs.declared.queue.Item.{Item}
-use Rattle.ioa_compose.specs.declared.queue.Item.TheVariants as item
+use Rattle.ioa_actions.specs.declared.fault.StepFault.{StepFault}
 use Rattle.ioa_system.specs.Parts.{Parts}
-use Rattle.ioa_compose.specs.NodeState.{NodeState, node_state}
-use Rattle.ioa_compose.specs.NodeAnswers.{node_answer, values_answer}
-use Rattle.ioa_compose.specs.Queues.{QueueState, queue_state, queue_answer, items_behind, with_last, without_first}
-use Rattle.ioa_compose.specs.Participants.{same_component, participants_of, takes_part}
+use Rattle.ioa_transitions.specs.NodeState.{NodeState}
+use Rattle.ioa_transitions.specs.NodeAnswers.{node_answer}
+use Rattle.ioa_channels.specs.Queues.{QueueState, queue_answer}
+use Rattle.ioa_actions.proofs.SameComponents.{Decides-same_component, same_component-itself}
+use Rattle.ioa_transitions.proofs.NodeSteps.{program-node_answer}
+use Rattle.ioa_channels.proofs.Names.{component-queue_answer}
+use Rattle.ioa_compose.specs.Participants.{participants_of, takes_part}
+use Rattle.ioa_actions.specs.ComponentOrder.{same_component}
 use Rattle.ioa_compose.specs.Composition.{component_of, component_names, conf_answer, find_conf, put_conf, put_confs}
-
--- the test says that two names are those of one component exactly if they are equal
-pub Decides-same_component : (k l : Component) → Decides (same_component k l) (k ≡ l)
-Decides-same_component (Node i) (Node j) = Decides-like _ (λ e. ap Node e) (λ e. cc) (Decides-int_eq i j)
-Decides-same_component (Node i) (Channel j l) = (λ h. absurd (cc), λ e. absurd (cc))
-Decides-same_component (Node i) (Script j) = (λ h. absurd (cc), λ e. absurd (cc))
-Decides-same_component (Channel i j) (Node l) = (λ h. absurd (cc), λ e. absurd (cc))
-Decides-same_component (Channel i j) (Channel k l) =
-    Decides-like _ (λ p. λ t. Channel (p.0 t) (p.1 t)) (λ e. (cc, cc)) (Decides-and _ _ (Decides-int_eq i k) (Decides-int_eq j l))
-Decides-same_component (Channel i j) (Script l) = (λ h. absurd (cc), λ e. absurd (cc))
-Decides-same_component (Script i) (Node j) = (λ h. absurd (cc), λ e. absurd (cc))
-Decides-same_component (Script i) (Channel j l) = (λ h. absurd (cc), λ e. absurd (cc))
-Decides-same_component (Script i) (Script j) = Decides-like _ (λ e. ap Script e) (λ e. cc) (Decides-int_eq i j)
-
--- a name is that of its own component
-pub same_component-itself : (k : Component) → same_component k k ≡ true
-same_component-itself k = (Decides-same_component k k).1 refl
 
 or_false : (b : Bool) → (b || false) ≡ b
 or_false true = refl
@@ -58,31 +40,6 @@ takes_part-is (Script k) (Send m from to) = refl
 takes_part-is (Script k) (Receive m from to) = refl
 takes_part-is (Script k) (Local a) = refl
 takes_part-is (Script k) (Stimulus a) = sym (or_false (int_eq k a.node))
-
--- a node's step keeps its program
-program-node_answer : (c : NodeState) (a : Action) (d : NodeState) → node_answer c a ≡ Ok d → d.program ≡ c.program
-unfolding node_answer
-program-node_answer c a d h = kept (values_answer c a) h
-  where
-    kept : (r : Result (List Data) StepFault) → and_then r (λ vs. Ok (node_state c.program vs)) ≡ Ok d → d.program ≡ c.program
-    kept (Ok vs) e = let same_state : node_state c.program vs ≡ d = cc in ap (λ (s : NodeState). s.program) (sym same_state)
-    kept (Err f) e = absurd (cc)
-
--- what comes out of a queue leaves its name
-component-without_first : (x : Item) (q r : QueueState) → without_first x q ≡ Ok r → r.component ≡ q.component
-component-without_first x q r h = kept (items_behind x q.items) h
-  where
-    kept : (s : Result (List Item) StepFault) → and_then s (λ items. Ok (queue_state q.component items)) ≡ Ok r → r.component ≡ q.component
-    kept (Ok items) e = let same_state : queue_state q.component items ≡ r = cc in ap (λ (s : QueueState). s.component) (sym same_state)
-    kept (Err f) e = absurd (cc)
-
--- a queue's step keeps its name
-component-queue_answer : (q : QueueState) (a : Action) (r : QueueState) → queue_answer q a ≡ Ok r → r.component ≡ q.component
-component-queue_answer q (Send m i j) r h =
-    let same_state : with_last (item.Message m) q ≡ r = cc in ap (λ (s : QueueState). s.component) (sym same_state)
-component-queue_answer q (Receive m i j) r h = component-without_first (item.Message m) q r h
-component-queue_answer q (Local a) r h = absurd (cc)
-component-queue_answer q (Stimulus a) r h = component-without_first (item.Stimulus a) q r h
 
 -- a component's step keeps its name
 pub component_of-conf_answer : (a : Action) (c d : Conf) → conf_answer a c ≡ Ok d → component_of d ≡ component_of c

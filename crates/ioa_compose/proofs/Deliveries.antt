@@ -1,73 +1,75 @@
--- What channels hand out in executions.
+-- What channels and scripts hand out in executions.
 use Rattle.std.proofs.Common.{◌≡◌, ℤ, Bool, true, false, List, [], ◌∷◌, ◌++◌, Some, None, ap, sym, ◌∙◌, map, append_assoc, if◌then◌else◌}
 use Rattle.std.specs.List.{cons_option}
 use Rattle.std.proofs.lemmas.List.{append-nil}
-use Rattle.ioa_values.specs.Data.{Data}
-use Rattle.ioa_actions.specs.declared.component.Component.TheVariants.{Channel}
+use Rattle.std.specs.Ordering.{int_eq}
+use Rattle.ioa_actions.specs.declared.component.Component.TheVariants.{Channel, Script}
 use Rattle.ioa_actions.specs.declared.action.Action.{Action}
 use Rattle.ioa_actions.specs.declared.action.Action.TheVariants.{Send, Receive, Local, Stimulus}
-use Rattle.ioa_compose.specs.declared.queue.Item.{Item}
-use Rattle.ioa_compose.specs.declared.queue.Item.TheVariants.{Message}
+use Rattle.ioa_channels.specs.declared.queue.Item.{Item}
+use Rattle.ioa_channels.specs.declared.queue.Item.TheVariants.{Message}
+use Rattle.ioa_channels.specs.declared.queue.Item.TheVariants as item
 use Rattle.ioa_compose.specs.declared.configuration.Conf.{Conf}
 use Rattle.ioa_compose.specs.declared.configuration.Conf.TheVariants.{Node, Queue}
-use Rattle.ioa_compose.specs.Queues.{QueueState, queue_state}
-use Rattle.ioa_compose.specs.Participants.{same_component}
+use Rattle.ioa_channels.specs.Queues.{QueueState, queue_state}
+use Rattle.ioa_actions.specs.ComponentOrder.{same_component}
 use Rattle.ioa_compose.specs.Executions.{projection_of}
 use Rattle.ioa_compose.specs.Automata.{IsExecution}
 use Rattle.ioa_compose.specs.JointStep.{IsJointStep}
 use Rattle.ioa_compose.specs.Steps.{IsStep}
 use Rattle.ioa_compose.specs.Channels.{messages_sent, messages_received, HandsOutInOrder, HandsOutPrefix}
+use Rattle.ioa_compose.specs.Scripts.{stimuli_taken, TakesInOrder}
 use Rattle.ioa_compose.proofs.Projections.{projects}
 
--- a queue that takes messages in and hands messages out, in order
-record HandsOut (q : QueueState) (ins outs : List Data) (d : Conf) : Type 0 where
+-- a queue that takes items in and hands items out, in order
+record HandsOut (q : QueueState) (ins outs : List Item) (d : Conf) : Type 0 where
   rest : QueueState
   held : d ≡ Queue rest
-  order : q.items ++ map Message ins ≡ map Message outs ++ rest.items
+  order : q.items ++ ins ≡ outs ++ rest.items
 
--- a queue that takes a message in
-taken_in : (m : Data) (ins outs : List Data) (q r : QueueState) (d : Conf) → r ≡ queue_state q.component (q.items ++ Message m ∷ []) → HandsOut r ins outs d → HandsOut q (m ∷ ins) outs d
-taken_in m ins outs q r d e p = record {
+-- a queue that takes an item in
+taken_in : (x : Item) (ins outs : List Item) (q r : QueueState) (d : Conf) → r ≡ queue_state q.component (q.items ++ x ∷ []) → HandsOut r ins outs d → HandsOut q (x ∷ ins) outs d
+taken_in x ins outs q r d e p = record {
   rest = p.rest;
   held = p.held;
-  order = sym (append_assoc q.items (Message m ∷ []) (map Message ins)) ∙ ap (λ (s : QueueState). s.items ++ map Message ins) (sym e) ∙ p.order;
+  order = sym (append_assoc q.items (x ∷ []) ins) ∙ ap (λ (s : QueueState). s.items ++ ins) (sym e) ∙ p.order;
 }
 
--- a queue that hands a message out
-handed_out : (m : Data) (ins outs : List Data) (q r : QueueState) (d : Conf) → q ≡ queue_state r.component (Message m ∷ r.items) → HandsOut r ins outs d → HandsOut q ins (m ∷ outs) d
-handed_out m ins outs q r d e p = record {
+-- a queue that hands an item out
+handed_out : (x : Item) (ins outs : List Item) (q r : QueueState) (d : Conf) → q ≡ queue_state r.component (x ∷ r.items) → HandsOut r ins outs d → HandsOut q ins (x ∷ outs) d
+handed_out x ins outs q r d e p = record {
   rest = p.rest;
   held = p.held;
-  order = ap (λ (s : QueueState). s.items ++ map Message ins) e ∙ ap (λ (items : List Item). Message m ∷ items) p.order;
+  order = ap (λ (s : QueueState). s.items ++ ins) e ∙ ap (λ (items : List Item). x ∷ items) p.order;
 }
 
 -- a channel's own execution hands out what it takes in, in order
-hands_out : (i j : ℤ) (actions : List Action) (q : QueueState) (d : Conf) → IsExecution IsStep (Queue q) (projection_of (Channel i j) actions) d → HandsOut q (messages_sent i j actions) (messages_received i j actions) d
+hands_out : (i j : ℤ) (actions : List Action) (q : QueueState) (d : Conf) → IsExecution IsStep (Queue q) (projection_of (Channel i j) actions) d → HandsOut q (map Message (messages_sent i j actions)) (map Message (messages_received i j actions)) d
 hands_out i j [] q d h = record { rest = q; held = sym h; order = append-nil q.items }
 hands_out i j (Send m from to ∷ more) q d h = by_test (same_component (Channel i j) (Channel from to)) h (λ r e. hands_out i j more r d e)
   where
     Further : Type 0
-    Further = (r : QueueState) → IsExecution IsStep (Queue r) (projection_of (Channel i j) more) d → HandsOut r (messages_sent i j more) (messages_received i j more) d
+    Further = (r : QueueState) → IsExecution IsStep (Queue r) (projection_of (Channel i j) more) d → HandsOut r (map Message (messages_sent i j more)) (map Message (messages_received i j more)) d
 
-    sends : (mid : Conf) → IsStep (Send m from to) (Queue q) mid → IsExecution IsStep mid (projection_of (Channel i j) more) d → Further → HandsOut q (m ∷ messages_sent i j more) (messages_received i j more) d
+    sends : (mid : Conf) → IsStep (Send m from to) (Queue q) mid → IsExecution IsStep mid (projection_of (Channel i j) more) d → Further → HandsOut q (Message m ∷ map Message (messages_sent i j more)) (map Message (messages_received i j more)) d
     sends (Node c) step rest further = absurd step
-    sends (Queue r) step rest further = taken_in m (messages_sent i j more) (messages_received i j more) q r d step (further r rest)
+    sends (Queue r) step rest further = taken_in (Message m) (map Message (messages_sent i j more)) (map Message (messages_received i j more)) q r d step (further r rest)
 
     by_test : (t : Bool) → IsExecution IsStep (Queue q) (if t then Send m from to ∷ projection_of (Channel i j) more else projection_of (Channel i j) more) d → Further →
-        HandsOut q (cons_option (if t then Some m else None) (messages_sent i j more)) (messages_received i j more) d
+        HandsOut q (map Message (cons_option (if t then Some m else None) (messages_sent i j more))) (map Message (messages_received i j more)) d
     by_test true h further = sends h.0 h.1 h.2 further
     by_test false h further = further q h
 hands_out i j (Receive m from to ∷ more) q d h = by_test (same_component (Channel i j) (Channel from to)) h (λ r e. hands_out i j more r d e)
   where
     Further : Type 0
-    Further = (r : QueueState) → IsExecution IsStep (Queue r) (projection_of (Channel i j) more) d → HandsOut r (messages_sent i j more) (messages_received i j more) d
+    Further = (r : QueueState) → IsExecution IsStep (Queue r) (projection_of (Channel i j) more) d → HandsOut r (map Message (messages_sent i j more)) (map Message (messages_received i j more)) d
 
-    receives : (mid : Conf) → IsStep (Receive m from to) (Queue q) mid → IsExecution IsStep mid (projection_of (Channel i j) more) d → Further → HandsOut q (messages_sent i j more) (m ∷ messages_received i j more) d
+    receives : (mid : Conf) → IsStep (Receive m from to) (Queue q) mid → IsExecution IsStep mid (projection_of (Channel i j) more) d → Further → HandsOut q (map Message (messages_sent i j more)) (Message m ∷ map Message (messages_received i j more)) d
     receives (Node c) step rest further = absurd step
-    receives (Queue r) step rest further = handed_out m (messages_sent i j more) (messages_received i j more) q r d step (further r rest)
+    receives (Queue r) step rest further = handed_out (Message m) (map Message (messages_sent i j more)) (map Message (messages_received i j more)) q r d step (further r rest)
 
     by_test : (t : Bool) → IsExecution IsStep (Queue q) (if t then Receive m from to ∷ projection_of (Channel i j) more else projection_of (Channel i j) more) d → Further →
-        HandsOut q (messages_sent i j more) (cons_option (if t then Some m else None) (messages_received i j more)) d
+        HandsOut q (map Message (messages_sent i j more)) (map Message (cons_option (if t then Some m else None) (messages_received i j more))) d
     by_test true h further = receives h.0 h.1 h.2 further
     by_test false h further = further q h
 hands_out i j (Local a ∷ more) q d h = hands_out i j more q d h
@@ -77,7 +79,7 @@ hands_out i j (Stimulus a ∷ more) q d h = hands_out i j more q d h
 pub hands_out_in_order : (actions : List Action) (start confs : List Conf) → IsExecution (IsJointStep IsStep) start actions confs → HandsOutInOrder start actions confs
 hands_out_in_order actions start confs h i j q found =
     let end = projects IsStep actions start confs h (Channel i j) (Queue q) found in
-    let p : HandsOut q (messages_sent i j actions) (messages_received i j actions) end.0 = hands_out i j actions q end.0 end.2 in
+    let p : HandsOut q (map Message (messages_sent i j actions)) (map Message (messages_received i j actions)) end.0 = hands_out i j actions q end.0 end.2 in
     (p.rest, end.1 ∙ ap Some p.held, p.order)
 
 -- in an execution each channel that was empty hands out a prefix of what is sent on it
@@ -86,3 +88,30 @@ hands_out_prefix actions start confs h i j q found empty =
     let end = hands_out_in_order actions start confs h i j q found in
     let messages = map Message (messages_sent i j actions) in
     (end.0, end.1, sym (ap (λ (items : List Item). items ++ messages) empty) ∙ end.2)
+
+-- a script's own execution hands out what it holds, in order
+gives_out : (k : ℤ) (actions : List Action) (q : QueueState) (d : Conf) → IsExecution IsStep (Queue q) (projection_of (Script k) actions) d → HandsOut q [] (map item.Stimulus (stimuli_taken k actions)) d
+gives_out k [] q d h = record { rest = q; held = sym h; order = append-nil q.items }
+gives_out k (Send m from to ∷ more) q d h = gives_out k more q d h
+gives_out k (Receive m from to ∷ more) q d h = gives_out k more q d h
+gives_out k (Local a ∷ more) q d h = gives_out k more q d h
+gives_out k (Stimulus a ∷ more) q d h = by_test (int_eq k a.node) h (λ r e. gives_out k more r d e)
+  where
+    Further : Type 0
+    Further = (r : QueueState) → IsExecution IsStep (Queue r) (projection_of (Script k) more) d → HandsOut r [] (map item.Stimulus (stimuli_taken k more)) d
+
+    takes : (mid : Conf) → IsStep (Stimulus a) (Queue q) mid → IsExecution IsStep mid (projection_of (Script k) more) d → Further → HandsOut q [] (item.Stimulus a ∷ map item.Stimulus (stimuli_taken k more)) d
+    takes (Node c) step rest further = absurd step
+    takes (Queue r) step rest further = handed_out (item.Stimulus a) [] (map item.Stimulus (stimuli_taken k more)) q r d step (further r rest)
+
+    by_test : (t : Bool) → IsExecution IsStep (Queue q) (if t then Stimulus a ∷ projection_of (Script k) more else projection_of (Script k) more) d → Further →
+        HandsOut q [] (map item.Stimulus (cons_option (if t then Some a else None) (stimuli_taken k more))) d
+    by_test true h further = takes h.0 h.1 h.2 further
+    by_test false h further = further q h
+
+-- in an execution each script hands out what was in it, in order
+pub takes_in_order : (actions : List Action) (start confs : List Conf) → IsExecution (IsJointStep IsStep) start actions confs → TakesInOrder start actions confs
+takes_in_order actions start confs h k q found =
+    let end = projects IsStep actions start confs h (Script k) (Queue q) found in
+    let p : HandsOut q [] (map item.Stimulus (stimuli_taken k actions)) end.0 = gives_out k actions q end.0 end.2 in
+    (p.rest, end.1 ∙ ap Some p.held, sym (append-nil q.items) ∙ p.order)

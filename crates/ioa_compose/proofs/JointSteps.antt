@@ -6,12 +6,14 @@ use Rattle.ioa_values.specs.Outcome.{and_then}
 use Rattle.ioa_actions.specs.declared.component.Component.{Component}
 use Rattle.ioa_actions.specs.declared.action.Action.{Action}
 use Rattle.ioa_compose.specs.declared.configuration.Conf.{Conf}
-use Rattle.ioa_compose.specs.declared.fault.StepFault.{StepFault}
-use Rattle.ioa_compose.specs.declared.fault.StepFault.TheVariants.{NoChannel}
-use Rattle.ioa_compose.specs.Participants.{same_component, participants_of, takes_part}
+use Rattle.ioa_actions.specs.declared.fault.StepFault.{StepFault}
+use Rattle.ioa_actions.specs.declared.fault.StepFault.TheVariants.{NoChannel}
+use Rattle.ioa_compose.specs.Participants.{participants_of, takes_part}
+use Rattle.ioa_actions.specs.ComponentOrder.{same_component}
 use Rattle.ioa_compose.specs.Composition.{component_of, component_names, conf_answer, find_conf, put_conf, put_confs, find_confs, own_steps, changes_of, joint_answer}
 use Rattle.ioa_compose.specs.JointStep.{HasStep, TakesStep, IsJointStep, AllHaveSteps, HasAnswer}
-use Rattle.ioa_compose.proofs.Components.{Decides-same_component, takes_part-is, same_component-itself, component_names-put_confs, component_of-conf_answer, component_of-find_conf, find_conf-put_conf_same, find_conf-put_conf_other, find_conf-put_confs_other}
+use Rattle.ioa_compose.proofs.Components.{takes_part-is, component_names-put_confs, component_of-conf_answer, component_of-find_conf, find_conf-put_conf_same, find_conf-put_conf_other, find_conf-put_confs_other}
+use Rattle.ioa_actions.proofs.SameComponents.{Decides-same_component, same_component-itself}
 
 -- what own steps are made of: the first component's, and the others'
 record StepParts (a : Action) (k : Component) (ks : List Component) (cs ds : List Conf) : Type 0 where

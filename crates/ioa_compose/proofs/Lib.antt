@@ -1,13 +1,8 @@
 -- the lemmas of this crate
-pub mod Arguments
 pub mod Components
 pub mod Compositions
 pub mod Deliveries
-pub mod Items
 pub mod JointSteps
-pub mod NodeSignatures
-pub mod NodeSteps
-pub mod NodeVariables
 pub mod Positions
 pub mod Projections
 pub mod Replays

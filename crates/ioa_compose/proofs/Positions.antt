@@ -3,7 +3,7 @@ use Rattle.std.proofs.Common.{◌≡◌, ℕ, suc, ◌+◌, ◌-◌, ◌<◌, �
 use Rattle.std.specs.List.{position_from}
 use Rattle.ioa_actions.specs.declared.component.Component.{Component}
 use Rattle.ioa_compose.specs.declared.configuration.Conf.{Conf}
-use Rattle.ioa_compose.specs.Participants.{same_component}
+use Rattle.ioa_actions.specs.ComponentOrder.{same_component}
 use Rattle.ioa_compose.specs.Composition.{component_of, put_conf, put_confs}
 
 -- the first configuration of a name is `m - n` positions on

@@ -3,8 +3,8 @@ use Rattle.std.proofs.Common.{◌≡◌, ℕ, zero, suc, ◌+◌, ◌∙◌, Lis
 use Rattle.std.specs.Result.{IfErr}
 use Rattle.ioa_actions.specs.declared.action.Action.{Action}
 use Rattle.ioa_compose.specs.declared.configuration.Conf.{Conf}
-use Rattle.ioa_compose.specs.declared.fault.StepFault.{StepFault}
-use Rattle.ioa_compose.specs.declared.fault.StepFault.TheVariants.{Memory}
+use Rattle.ioa_actions.specs.declared.fault.StepFault.{StepFault}
+use Rattle.ioa_actions.specs.declared.fault.StepFault.TheVariants.{Memory}
 use Rattle.ioa_compose.specs.declared.replaying.ReplayFault.{ReplayFault}
 use Rattle.ioa_compose.specs.Composition.{joint_answer}
 use Rattle.ioa_compose.specs.Executions.{after_step, replay, IsFaultOf, StopsAt}

@@ -1,5 +1,5 @@
 -- The start of a system in which each thing is declared once.
-use Rattle.std.proofs.Common.{◌≡◌, ℤ, Bool, true, false, ◌||◌, List, [], ◌∷◌, ◌++◌, Some, refl, sym, ap, subst, ◌∙◌, map}
+use Rattle.std.proofs.Common.{◌≡◌, ℤ, Bool, true, false, ◌||◌, List, [], ◌∷◌, ◌++◌, Option, Some, None, refl, sym, ap, subst, ◌∙◌, map}
 use Rattle.std.specs.Prelude.{◌&&◌, if◌then◌else◌}
 use Rattle.std.specs.List.{AllByRecursion, IsDistinct, list_all, list_any}
 use Rattle.std.specs.Ordering.{int_eq}
@@ -9,18 +9,20 @@ use Rattle.std.proofs.lemmas.Bool.Decides.{Decides-int_eq}
 use Rattle.ioa_actions.specs.declared.component.Component.{Component}
 use Rattle.ioa_actions.specs.declared.component.Component.TheVariants as component
 use Rattle.ioa_source.specs.declared.declaration.Channel.{Channel}
-use Rattle.ioa_system.specs.Declarations.{IsWellDeclared, same_channel}
+use Rattle.ioa_system.specs.Declarations.{IsWellDeclared, has_node, same_channel}
 use Rattle.ioa_system.specs.Parts.{Parts}
-use Rattle.ioa_system.specs.Systems.{SystemParts}
+use Rattle.ioa_system.specs.Systems.{ScriptParts, SystemParts, script_of}
 use Rattle.ioa_compose.specs.declared.configuration.Conf.{Conf}
-use Rattle.ioa_compose.specs.declared.configuration.Conf.TheVariants.{Node}
+use Rattle.ioa_compose.specs.declared.configuration.Conf.TheVariants.{Node, Queue}
+use Rattle.ioa_channels.specs.declared.queue.Item.TheVariants.{Stimulus}
+use Rattle.ioa_channels.specs.Queues.{queue_state}
 use Rattle.ioa_compose.specs.JointStep.{IsJointState}
 use Rattle.ioa_compose.proofs.Compositions.{IsStateOf}
-use Rattle.ioa_compose.specs.Participants.{same_component}
+use Rattle.ioa_actions.specs.ComponentOrder.{same_component}
 use Rattle.ioa_compose.specs.Composition.{component_of, component_names, find_conf}
-use Rattle.ioa_compose.specs.Start.{start, node_start, channel_start, script_start}
-use Rattle.ioa_compose.specs.IsStart.{IsStart, is_component_of}
-use Rattle.ioa_compose.proofs.Components.{Decides-same_component, same_component-itself}
+use Rattle.ioa_compose.specs.Start.{start, node_start, channel_start, script_start, stimuli_in}
+use Rattle.ioa_compose.specs.IsStart.{IsStart, StartsScripted, StartsUnscripted, is_component_of}
+use Rattle.ioa_actions.proofs.SameComponents.{Decides-same_component, same_component-itself}
 
 -- what holds of each element of two lists holds of each of both
 all_join : {A : Type 0} (P : A → Type 0) (xs ys : List A) → AllByRecursion P xs → AllByRecursion P ys → AllByRecursion P (xs ++ ys)
@@ -98,12 +100,12 @@ start_names : (s : SystemParts) → component_names (start s) ≡ (map node_name
 start_names s =
     let nodes = map node_start s.programs in
     let channels = map channel_start s.channels in
-    let scripts = map script_start s.programs in
+    let scripts = map (script_start s.scripts) s.programs in
     map-append component_of (nodes ++ channels) scripts
     ∙ ap (λ ks. ks ++ component_names scripts) (map-append component_of nodes channels)
     ∙ ap (λ ks. (ks ++ component_names channels) ++ component_names scripts) (names_map node_start node_name (λ p. refl) s.programs)
     ∙ ap (λ ks. (map node_name s.programs ++ ks) ++ component_names scripts) (names_map channel_start channel_name (λ c. refl) s.channels)
-    ∙ ap (λ ks. (map node_name s.programs ++ map channel_name s.channels) ++ ks) (names_map script_start script_name (λ p. refl) s.programs)
+    ∙ ap (λ ks. (map node_name s.programs ++ map channel_name s.channels) ++ ks) (names_map (script_start s.scripts) script_name (λ p. refl) s.programs)
 
 -- no component is there twice
 start_once : (s : SystemParts) → IsWellDeclared s → IsDistinct same_component (component_names (start s))
@@ -167,20 +169,68 @@ start_no_other s =
     ∙ rw (scripts, list_all-append (is_component_of s) (map node_name s.programs) (map channel_name s.channels), nodes, channels) refl in
     rw (start_names s) all
 
+-- if the nodes of scripts differ, each script is found by its node
+own_script : (scripts : List ScriptParts) → IsDistinct int_eq (map (λ c. c.node) scripts) → AllByRecursion (λ c. script_of c.node scripts ≡ Some c) scripts
+unfolding IsDistinct
+own_script [] d = tt
+own_script (c ∷ cs) d = (rw (int_itself c.node) refl, all_both later cs (all_unmap (λ k. int_eq c.node k ≡ false) (λ (e : ScriptParts). e.node) cs d.0) (own_script cs d.1))
+  where
+    later : (e : ScriptParts) → int_eq c.node e.node ≡ false → script_of e.node cs ≡ Some e → script_of e.node (c ∷ cs) ≡ Some e
+    later e apart found = rw apart found
+
+-- no script is found of a node that has none
+no_script : (k : ℤ) (scripts : List ScriptParts) → list_any (λ c. int_eq c.node k) scripts ≡ false → script_of k scripts ≡ None
+no_script k [] h = refl
+no_script k (c ∷ cs) h = by_test (int_eq c.node k) h (no_script k cs)
+  where
+    by_test : (t : Bool) → (t || list_any (λ e. int_eq e.node k) cs) ≡ false → (list_any (λ e. int_eq e.node k) cs ≡ false → script_of k cs ≡ None) → (if t then Some c else script_of k cs) ≡ None
+    by_test true h later = absurd (cc)
+    by_test false h later = later h
+
+-- an element that passes a test, and what holds of it as of each
+at_any : {A : Type 0} (P : A → Type 0) (test : A → Bool) (xs : List A) → AllByRecursion P xs → list_any test xs ≡ true → (x : A) × P x × (test x ≡ true)
+at_any P test [] each h = absurd (cc)
+at_any P test (x ∷ xs) each h = by_test (test x) refl h (at_any P test xs each.1)
+  where
+    by_test : (t : Bool) → test x ≡ t → (t || list_any test xs) ≡ true → (list_any test xs ≡ true → (y : _) × P y × (test y ≡ true)) → (y : _) × P y × (test y ≡ true)
+    by_test true e h later = (x, each.0, e)
+    by_test false e h later = later h
+
+-- the scripts of a start in which each node's script is found by its name
+module _ (s : SystemParts) where
+  abbrev script_at : ℤ → Conf
+  script_at k = Queue (queue_state (component.Script k) (map Stimulus (stimuli_in (script_of k s.scripts))))
+
+  abbrev IsScriptAt : ℤ → Type 0
+  IsScriptAt k = find_conf (component.Script k) (start s) ≡ Some (script_at k)
+
+  -- a declared script has its stimuli
+  scripted : AllByRecursion (λ p. IsScriptAt p.node) s.programs → (c : ScriptParts) → script_of c.node s.scripts ≡ Some c → has_node s.programs c.node ≡ true → StartsScripted (start s) c
+  scripted each c own declared =
+      let found = at_any (λ (p : Parts). IsScriptAt p.node) (λ (p : Parts). int_eq p.node c.node) s.programs each declared in
+      let same : found.0.node ≡ c.node = (Decides-int_eq found.0.node c.node).0 found.2 in
+      subst IsScriptAt same found.1 ∙ ap (λ (o : Option ScriptParts). Some (Queue (queue_state (component.Script c.node) (map Stimulus (stimuli_in o))))) own
+
+  -- and that of another node is empty
+  unscripted : (p : Parts) → IsScriptAt p.node → StartsUnscripted s.scripts (start s) p
+  unscripted p found none = found ∙ ap (λ (o : Option ScriptParts). Some (Queue (queue_state (component.Script p.node) (map Stimulus (stimuli_in o))))) (no_script p.node s.scripts none)
+
 -- the start of a system that declares each thing once
 pub is_start : (s : SystemParts) → IsWellDeclared s → IsStart s (start s)
 is_start s w =
     let nodes = map node_start s.programs in
     let channels = map channel_start s.channels in
-    let scripts = map script_start s.programs in
+    let scripts = map (script_start s.scripts) s.programs in
     let once = start_once s w in
     let each = found_each (start s) once in
     let first = all_first Found (nodes ++ channels) scripts each in
+    let last = all_unmap Found (script_start s.scripts) s.programs (all_second Found (nodes ++ channels) scripts each) in
     record {
       once = once;
       nodes = all_unmap Found node_start s.programs (all_first Found nodes channels first);
       channels = all_unmap Found channel_start s.channels (all_second Found nodes channels first);
-      scripts = all_unmap Found script_start s.programs (all_second Found (nodes ++ channels) scripts each);
+      scripts = all_both (scripted s last) s.scripts (own_script s.scripts w.scripts) w.of_nodes;
+      no_scripts = all_weaken (unscripted s) s.programs last;
       no_other = start_no_other s;
     }
   where
@@ -205,8 +255,8 @@ pub start_state : (s : SystemParts) → IsWellDeclared s → IsJointState (start
 start_state s w =
     let nodes : AllByRecursion IsStateOf (map node_start s.programs) = all_map IsStateOf node_start s.programs (all_weaken (λ p once. record { program = once; valued = once.valued }) s.programs w.programs) in
     let channels : AllByRecursion IsStateOf (map channel_start s.channels) = all_map IsStateOf channel_start s.channels (every (λ c. tt) s.channels) in
-    let scripts : AllByRecursion IsStateOf (map script_start s.programs) = all_map IsStateOf script_start s.programs (every (λ p. tt) s.programs) in
-    let all = all_join IsStateOf (map node_start s.programs ++ map channel_start s.channels) (map script_start s.programs) (all_join IsStateOf (map node_start s.programs) (map channel_start s.channels) nodes channels) scripts in
+    let scripts : AllByRecursion IsStateOf (map (script_start s.scripts) s.programs) = all_map IsStateOf (script_start s.scripts) s.programs (every (λ p. tt) s.programs) in
+    let all = all_join IsStateOf (map node_start s.programs ++ map channel_start s.channels) (map (script_start s.scripts) s.programs) (all_join IsStateOf (map node_start s.programs) (map channel_start s.channels) nodes channels) scripts in
     record { once = start_once s w; nodes = λ k c found. of_found IsStateOf (start s) all k (Node c) found }
   where
     every : {A : Type 0} {P : A → Type 0} → ((x : A) → P x) → (xs : List A) → AllByRecursion P xs

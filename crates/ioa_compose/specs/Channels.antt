@@ -6,11 +6,11 @@ use Rattle.ioa_actions.specs.declared.component.Component.TheVariants.{Channel}
 use Rattle.ioa_actions.specs.declared.action.Action.{Action}
 use Rattle.ioa_actions.specs.declared.action.Action.TheVariants.{Send, Receive, Local, Stimulus}
 use Rattle.ioa_source.specs.declared.declaration.Channel as declaration
-use Rattle.ioa_compose.specs.declared.queue.Item.TheVariants.{Message}
+use Rattle.ioa_channels.specs.declared.queue.Item.TheVariants.{Message}
 use Rattle.ioa_compose.specs.declared.configuration.Conf.{Conf}
 use Rattle.ioa_compose.specs.declared.configuration.Conf.TheVariants.{Queue}
-use Rattle.ioa_compose.specs.Queues.{QueueState}
-use Rattle.ioa_compose.specs.Participants.{same_component}
+use Rattle.ioa_channels.specs.Queues.{QueueState}
+use Rattle.ioa_actions.specs.ComponentOrder.{same_component}
 use Rattle.ioa_compose.specs.Composition.{find_conf}
 
 -- the message that an action sends on channel i -> j

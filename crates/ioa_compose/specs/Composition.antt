@@ -9,11 +9,12 @@ use Rattle.ioa_actions.specs.declared.component.Component.TheVariants as compone
 use Rattle.ioa_actions.specs.declared.action.Action.{Action}
 use Rattle.ioa_compose.specs.declared.configuration.Conf.{Conf}
 use Rattle.ioa_compose.specs.declared.configuration.Conf.TheVariants.{Node, Queue}
-use Rattle.ioa_compose.specs.declared.fault.StepFault.{StepFault}
-use Rattle.ioa_compose.specs.declared.fault.StepFault.TheVariants.{NoChannel}
-use Rattle.ioa_compose.specs.NodeAnswers.{node_answer}
-use Rattle.ioa_compose.specs.Queues.{queue_answer}
-use Rattle.ioa_compose.specs.Participants.{same_component, participants_of}
+use Rattle.ioa_actions.specs.declared.fault.StepFault.{StepFault}
+use Rattle.ioa_actions.specs.declared.fault.StepFault.TheVariants.{NoChannel}
+use Rattle.ioa_transitions.specs.NodeAnswers.{node_answer}
+use Rattle.ioa_channels.specs.Queues.{queue_answer}
+use Rattle.ioa_compose.specs.Participants.{participants_of}
+use Rattle.ioa_actions.specs.ComponentOrder.{same_component}
 
 -- the name of a configuration's component
 abbrev pub component_of : Conf → Component

@@ -5,10 +5,10 @@ use Rattle.std.specs.Fmt.{decimal}
 use Rattle.ioa_actions.specs.declared.component.Component.{Component}
 use Rattle.ioa_actions.specs.declared.action.Action.{Action}
 use Rattle.ioa_compose.specs.declared.configuration.Conf.{Conf}
-use Rattle.ioa_compose.specs.declared.fault.StepFault.{StepFault}
-use Rattle.ioa_compose.specs.declared.fault.StepFault.TheVariants.{Memory}
+use Rattle.ioa_actions.specs.declared.fault.StepFault.{StepFault}
+use Rattle.ioa_actions.specs.declared.fault.StepFault.TheVariants.{Memory}
 use Rattle.ioa_compose.specs.declared.replaying.ReplayFault.{ReplayFault}
-use Rattle.ioa_compose.specs.StepFaults.{step_fault_text}
+use Rattle.ioa_actions.specs.StepFaults.{step_fault_text}
 use Rattle.ioa_compose.specs.Participants.{takes_part}
 use Rattle.ioa_compose.specs.Composition.{joint_answer}
 

@@ -6,10 +6,11 @@ use Rattle.ioa_actions.specs.declared.component.Component.{Component}
 use Rattle.ioa_actions.specs.declared.action.Action.{Action}
 use Rattle.ioa_compose.specs.declared.configuration.Conf.{Conf}
 use Rattle.ioa_compose.specs.declared.configuration.Conf.TheVariants.{Node}
-use Rattle.ioa_compose.specs.NodeState.{NodeState}
-use Rattle.ioa_compose.specs.NodeStep.{IsState}
+use Rattle.ioa_transitions.specs.NodeState.{NodeState}
+use Rattle.ioa_transitions.specs.NodeStep.{IsState}
 use Rattle.ioa_compose.specs.Composition.{component_names, conf_answer, find_conf}
-use Rattle.ioa_compose.specs.Participants.{same_component, takes_part}
+use Rattle.ioa_compose.specs.Participants.{takes_part}
+use Rattle.ioa_actions.specs.ComponentOrder.{same_component}
 use Rattle.ioa_compose.specs.Steps.{FitsStep}
 
 -- a state of the composition (Lynch 8.2): no component is there twice, and each node is in a state of its own

@@ -5,13 +5,8 @@ pub mod Composition
 pub mod Executions
 pub mod IsStart
 pub mod JointStep
-pub mod NodeState
-pub mod NodeAnswers
-pub mod NodeStep
 pub mod Participants
-pub mod Queues
 pub mod SameConfs
-pub mod SameItems
+pub mod Scripts
 pub mod Start
-pub mod StepFaults
 pub mod Steps

@@ -21,18 +21,6 @@ abbrev pub participant_list : Parties → List Component
 participant_list (One k) = k ∷ []
 participant_list (Two k l) = k ∷ l ∷ []
 
--- whether two names are those of one component
-abbrev pub same_component : Component → Component → Bool
-same_component (Node i) (Node j) = int_eq i j
-same_component (Node i) (Channel j l) = false
-same_component (Node i) (Script j) = false
-same_component (Channel i j) (Node l) = false
-same_component (Channel i j) (Channel k l) = int_eq i k && int_eq j l
-same_component (Channel i j) (Script l) = false
-same_component (Script i) (Node j) = false
-same_component (Script i) (Channel j l) = false
-same_component (Script i) (Script j) = int_eq i j
-
 -- whether a component has an action in its signature (Lynch 8.2): a node the actions of its own, a channel the sends
 -- and the receives between its two ends (Lynch 14.1), and a script the stimuli of its node (profile)
 abbrev pub takes_part : Component → Action → Bool

@@ -4,14 +4,14 @@ ghost use Rattle.std.specs.Prelude.{◌≡◌, IfOk};
 ghost use Rattle.std.specs.List.{position_from};
 ghost use Rattle.std.specs.Option.{option_copied};
 ghost use Rattle.ioa_values.specs.Outcome.{Answers};
-ghost use Rattle.ioa_compose.specs.Participants.{participants_of, same_component};
+ghost use Rattle.ioa_compose.specs.Participants.{participants_of};
+ghost use Rattle.ioa_actions.specs.ComponentOrder.{same_component};
 ghost use Rattle.ioa_compose.specs.Composition.{component_of, find_conf, put_conf, put_confs};
 ghost use Rattle.ioa_compose.specs.Composition.{find_confs, changes_of, joint_answer};
 
 use crate::configuration::Conf;
-use crate::fault::StepFault;
 use crate::parties::{Parties, participants};
-use ioa_actions::{Action, Component};
+use ioa_actions::{Action, Component, StepFault};
 use std::alloc::{AllocError, Global};
 
 /// The configuration of a component; the first one if several bear its name.

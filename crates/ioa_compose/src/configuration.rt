@@ -5,10 +5,9 @@ ghost use Rattle.ioa_values.specs.Outcome.{Answers};
 ghost use Rattle.ioa_compose.specs.Composition.{component_of, conf_answer};
 ghost use Rattle.ioa_compose.specs.SameConfs.{same_conf};
 
-use crate::fault::StepFault;
-use crate::node::NodeConf;
-use crate::queue::Queue;
-use ioa_actions::{Action, Component};
+use ioa_actions::{Action, Component, StepFault};
+use ioa_channels::Queue;
+use ioa_transitions::NodeConf;
 use std::alloc::{AllocError, Global};
 
 /// The configuration of a component, which bears the component's name.
@@ -44,8 +43,8 @@ impl Conf {
         ensures { result ≡ same_conf self.now other.now }
     {
         match (self, other) {
-            (Conf::Node(node), Conf::Node(second)) => node.is_same(second),
-            (Conf::Queue(queue), Conf::Queue(second)) => queue.is_same(second),
+            (Conf::Node(node), Conf::Node(second)) => node.equals(second),
+            (Conf::Queue(queue), Conf::Queue(second)) => queue.equals(second),
             _ => false,
         }
     }

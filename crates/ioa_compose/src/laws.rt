@@ -7,12 +7,14 @@ ghost use Rattle.ioa_actions.specs.ActionParts.{node_of};
 ghost use Rattle.ioa_actions.specs.declared.component.Component.{Component};
 ghost use Rattle.ioa_actions.specs.declared.action.Action.{Action};
 ghost use Rattle.ioa_compose.specs.declared.configuration.Conf.{Conf};
-ghost use Rattle.ioa_compose.specs.NodeState.{NodeState};
-ghost use Rattle.ioa_compose.specs.NodeAnswers.{node_answer};
-ghost use Rattle.ioa_compose.specs.NodeStep.{IsState, HasRule, IsNodeStep, FitsNodeStep};
-ghost use Rattle.ioa_compose.specs.Queues.{QueueState, queue_answer};
-ghost use Rattle.ioa_compose.specs.Participants.{same_component, participants_of, takes_part};
-ghost use Rattle.ioa_compose.specs.Steps.{IsStep, IsQueueStep};
+ghost use Rattle.ioa_transitions.specs.NodeState.{NodeState};
+ghost use Rattle.ioa_transitions.specs.NodeAnswers.{node_answer};
+ghost use Rattle.ioa_transitions.specs.NodeStep.{IsState, HasRule, IsNodeStep, FitsNodeStep};
+ghost use Rattle.ioa_channels.specs.Queues.{QueueState, queue_answer};
+ghost use Rattle.ioa_compose.specs.Participants.{participants_of, takes_part};
+ghost use Rattle.ioa_actions.specs.ComponentOrder.{same_component};
+ghost use Rattle.ioa_compose.specs.Steps.{IsStep};
+ghost use Rattle.ioa_channels.specs.QueueSteps.{IsQueueStep};
 ghost use Rattle.ioa_compose.specs.JointStep.{IsJointState, IsJointStep, FitsJointStep, AllHaveSteps, HasAnswer};
 ghost use Rattle.ioa_compose.specs.Composition.{component_names, joint_answer};
 ghost use Rattle.ioa_compose.specs.Executions.{replay};
@@ -23,25 +25,7 @@ ghost use Rattle.ioa_compose.specs.Start.{start};
 ghost use Rattle.ioa_compose.specs.IsStart.{IsStart};
 ghost use Rattle.ioa_compose.specs.Automata.{IsExecution, ProjectsOnEach};
 ghost use Rattle.ioa_compose.specs.Channels.{HandsOutInOrder, HandsOutPrefix, message_sent, message_received};
-
-/// From a state of a node the code gives a new configuration exactly if a step of the node leads there (Lynch 8.1) and
-/// every number that this step meets lies within 64 bits. One rule of the program has an action at most, there is one
-/// step by it at most, and this leads to a state of the node again.
-pub fn node_step_law()
-    ensures step { (c : NodeState) (a : Action) (d : NodeState) → IsState c → node_answer c a ≡ Ok d
-        → IsNodeStep a c d × FitsNodeStep a c }
-    ensures answer { (c : NodeState) (a : Action) (d : NodeState) → IsState c → IsNodeStep a c d → FitsNodeStep a c
-        → node_answer c a ≡ Ok d }
-    ensures one_rule { (p : Parts) (a : Action) (r s : PlainRule) → DeclaresOnce p → HasRule p a r → HasRule p a s
-        → r ≡ s }
-    ensures one_step { (a : Action) (c d e : NodeState) → IsState c → IsNodeStep a c d → IsNodeStep a c e → d ≡ e }
-    ensures state { (a : Action) (c d : NodeState) → IsState c → IsNodeStep a c d → IsState d }
-{}
-
-/// The code gives a queue's new state exactly if a step of the queue leads to it (Lynch 14.1).
-pub fn queue_step_law()
-    ensures { (q : QueueState) (a : Action) (r : QueueState) → (queue_answer q a ≡ Ok r) ↔ IsQueueStep a q r }
-{}
+ghost use Rattle.ioa_compose.specs.Scripts.{TakesInOrder, stimulus_taken};
 
 /// From a state of the composition the code gives a list of configurations exactly if a joint step leads there and
 /// every number that the participants meet lies within 64 bits. In a joint step each component that has the action takes
@@ -61,18 +45,21 @@ pub fn joint_step_law()
 {}
 
 /// The components that have an action in their signature are its participants (Lynch 8.2). An action is its own node's
-/// and no other node's, and a channel has exactly what is sent and what is received on it (Lynch 14.1).
+/// and no other node's, a channel has exactly what is sent and what is received on it (Lynch 14.1), and a script what is
+/// taken out of it.
 pub fn signature_law()
     ensures participants { (k : Component) (action : Action) →
         takes_part k action ≡ list_any (same_component k) (participants_of action) }
     ensures nodes { (k : ℤ) (action : Action) → (takes_part (Component.Node k) action ≡ true) ↔ (k ≡ node_of action) }
     ensures channels { (i j : ℤ) (action : Action) → takes_part (Component.Channel i j) action
         ≡ (is_some (message_sent i j action) || is_some (message_received i j action)) }
+    ensures scripts { (k : ℤ) (action : Action) →
+        takes_part (Component.Script k) action ≡ is_some (stimulus_taken k action) }
 {}
 
 /// The start of a system that declares each thing once has each component of the system once and no other: each node
-/// with its program and its initial values, each declared channel and each script with an empty queue (Lynch 8.1 and
-/// 14.1). It is a state of the composition.
+/// with its program and its initial values, each declared channel with an empty queue, and each declared script with its
+/// stimuli (Lynch 8.1 and 14.1, and profile for scripts). It is a state of the composition.
 pub fn start_law()
     ensures start { (s : SystemParts) → IsWellDeclared s → IsStart s (start s) }
     ensures state { (s : SystemParts) → IsWellDeclared s → IsJointState (start s) }
@@ -98,10 +85,12 @@ pub fn projection_law()
 {}
 
 /// In an execution each channel hands out its messages in the order in which they were sent, and keeps the rest: the
-/// messages received are a prefix of the messages sent (Lynch 14.1).
+/// messages received are a prefix of the messages sent (Lynch 14.1). So does each script with its stimuli (profile).
 pub fn prefix_law()
     ensures queued { (actions : List Action) (start confs : List Conf) →
         IsExecution (IsJointStep IsStep) start actions confs → HandsOutInOrder start actions confs }
     ensures from_empty { (actions : List Action) (start confs : List Conf) →
         IsExecution (IsJointStep IsStep) start actions confs → HandsOutPrefix start actions confs }
+    ensures scripts { (actions : List Action) (start confs : List Conf) →
+        IsExecution (IsJointStep IsStep) start actions confs → TakesInOrder start actions confs }
 {}

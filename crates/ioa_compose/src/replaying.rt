@@ -6,9 +6,8 @@ ghost use Rattle.ioa_compose.specs.Executions.{replay, StopsAt};
 
 use crate::composition::joint_step;
 use crate::configuration::Conf;
-use crate::fault::StepFault;
 use crate::starting::start;
-use ioa_actions::Action;
+use ioa_actions::{Action, StepFault};
 use ioa_system::System;
 use std::alloc::Global;
 use std::fmt;

@@ -2,14 +2,16 @@
 
 ghost use Rattle.std.specs.Prelude.{◌≡◌, ◌++◌, IfOk, OnOk, map};
 ghost use Rattle.std.specs.Arc.{arc_value};
-ghost use Rattle.ioa_compose.specs.Start.{start, node_start, channel_start, script_start};
+ghost use Rattle.ioa_system.specs.Systems.{script_of};
+ghost use Rattle.ioa_channels.specs.Queues.{queue_state};
+ghost use Rattle.ioa_compose.specs.Start.{start, node_start, channel_start, script_start, stimuli_in};
 
 use crate::configuration::Conf;
-use crate::node::NodeConf;
-use crate::queue::Queue;
-use ioa_actions::Component;
+use ioa_actions::{Component, NodeAction};
+use ioa_channels::{Item, Queue};
 use ioa_source::Channel;
 use ioa_system::{Program, System};
+use ioa_transitions::NodeConf;
 use std::alloc::{AllocError, Global};
 use std::sync::Arc;
 
@@ -21,7 +23,7 @@ pub fn start(alloc: Global, system: &System) -> Result<Vec<Conf>, AllocError>
     let mut confs = Vec::new(alloc);
     start_nodes(alloc, &mut confs, system.programs())?;
     start_channels(alloc, &mut confs, system.channels())?;
-    start_scripts(alloc, &mut confs, system.programs())?;
+    start_scripts(alloc, &mut confs, system)?;
     Ok(confs)
 }
 
@@ -57,17 +59,38 @@ fn start_channels(
     Ok(())
 }
 
-/// Adds the empty scripts of nodes at the end.
-fn start_scripts(
-    alloc: Global,
-    confs: &mut Vec<Conf>,
-    programs: &[Arc<Program>],
-) -> Result<(), AllocError>
-    ensures { OnOk result (confs.new.items ≡ confs.old.items ++ map script_start (map arc_value programs.now)) }
+/// Adds the scripts of the nodes at the end.
+fn start_scripts(alloc: Global, confs: &mut Vec<Conf>, system: &System) -> Result<(), AllocError>
+    ensures { OnOk result
+        (confs.new.items ≡ confs.old.items ++ map (script_start system.now.scripts) system.now.programs) }
 {
-    for program in programs {
-        let component = Component::Script(program.node());
-        confs.push(Conf::Queue(Queue::empty(alloc, component)))?;
+    for program in system.programs() {
+        let script = start_script(alloc, system, program.node())?;
+        confs.push(script)?;
     }
     Ok(())
+}
+
+/// The script of a node, with the stimuli that are declared for the node.
+fn start_script(alloc: Global, system: &System, node: i64) -> Result<Conf, AllocError>
+    ensures { IfOk result (λ c. c ≡ Conf.Queue (queue_state (Component.Script node)
+        (map Item.Stimulus (stimuli_in (script_of node system.now.scripts))))) }
+{
+    let items = match system.script_of(node) {
+        None => Vec::new(alloc),
+        Some(script) => stimuli(alloc, script.stimuli())?,
+    };
+    Ok(Conf::Queue(Queue::new(Component::Script(node), items)))
+}
+
+/// Stimuli as the items of a queue.
+fn stimuli(alloc: Global, actions: &[NodeAction]) -> Result<Vec<Item>, AllocError>
+    ensures { IfOk result (λ v. v.items ≡ map Item.Stimulus actions.now) }
+{
+    let mut items = Vec::new(alloc);
+    for action in actions {
+        let stimulus = action.try_copy(alloc)?;
+        items.push(Item::Stimulus(stimulus))?;
+    }
+    Ok(items)
 }

@@ -9,7 +9,7 @@ use Rattle.ioa_terms.specs.declared.tree.Kind.{Kind}
 use Rattle.ioa_terms.specs.declared.tree.Kind.TheVariants as kind
 use Rattle.ioa_source.specs.PlainSort.{PlainSort}
 use Rattle.ioa_source.specs.PlainText as plain
-use Rattle.ioa_source.specs.Sides.{SourceTerm as Term, SourceDeclared as Declared, SourceParameter as Parameter, SourceEntry as Entry}
+use Rattle.ioa_source.specs.Sides.{SourceTerm as Term, SourceDeclared as Declared, SourceParameter as Parameter, SourceEntry as Entry, SourceCall as Call}
 use Rattle.ioa_cursor.specs.Lists.{SeparatedBy, ListsSeparatedBy, SeveralLists}
 use Rattle.ioa_cursor.specs.Lists as lists
 use Rattle.ioa_source.specs.Heights.{height_limit}
@@ -18,8 +18,8 @@ use Rattle.ioa_term_reader.specs.Spelling.{spelling}
 use Rattle.ioa_term_reader.proofs.Printed.{term_printed}
 use Rattle.ioa_term_reader.proofs.PrintedGood.{tokens_joined, term_good}
 use Rattle.ioa_text_reader.specs.Grammar as grammar
-use Rattle.ioa_text_reader.specs.Grammar.{inner_limit, SpellsSort, SpellsWord, declare, SpellsDeclared, SpellsParameters, InBrackets, Call, SpellsCall, SpellsKind, SpellsEntry, SpellsGroup}
-use Rattle.ioa_front.specs.Spelling.{separated_spelling, joined_spelling, bracketed_spelling, optional_spelling, word_spelling, sort_spelling, declared_spelling, parameter_spelling, kind_mark, call_spelling, entry_spelling}
+use Rattle.ioa_text_reader.specs.Grammar.{inner_limit, SpellsSort, SpellsWord, declare, SpellsDeclared, SpellsParameters, InBrackets, SpellsCall, SpellsKind, SpellsEntry, SpellsGroup}
+use Rattle.ioa_front.specs.Spelling.{separated_spelling, joined_spelling, bracketed_spelling, optional_spelling, word_spelling, sort_spelling, declared_spelling, parameter_spelling, kind_mark, one_call_spelling, entry_spelling}
 use Rattle.ioa_front.proofs.PrintedLists.{Prints, separated_prints, optional_prints, bracketed_prints}
 use Rattle.ioa_front.proofs.PrintedGroups.{Alone, IsAgain, IsFilled, mapped_filled, all_mapped, PrintsEach, ended_each, groups_prints, gathered_prints}
 
@@ -129,7 +129,7 @@ parameters_prints ps xs ys d = gathered_prints (SpellsParameters inner_limit) pa
 terms_print : (ts : List Term) (xs ys : List Token) → SeparatedBy mark.Comma (SpellsTerm inner_limit) ts xs ys → Prints (SeparatedBy mark.Comma (SpellsTerm inner_limit)) (separated_spelling mark.Comma spelling) ts xs ys
 terms_print ts xs ys d = separated_prints (SpellsTerm inner_limit) spelling inner_term mark.Comma d
 
-pub call_prints : {c : Call} {xs ys : List Token} → SpellsCall c xs ys → Prints SpellsCall (λ (c : Call). call_spelling c.name c.arguments) c xs ys
+pub call_prints : {c : Call} {xs ys : List Token} → SpellsCall c xs ys → Prints SpellsCall one_call_spelling c xs ys
 call_prints (grammar.called d) =
     let p = bracketed_prints (SeparatedBy mark.Comma (SpellsTerm inner_limit)) spelling terms_print d in
     record { again = λ zs. grammar.called (p.again zs); good = λ h. let g = p.good h.1 in ((h.0, g.0), g.1) }

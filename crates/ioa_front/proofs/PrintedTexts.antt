@@ -5,14 +5,14 @@ use Rattle.ioa_tokens.specs.declared.token.Token.{Token}
 use Rattle.ioa_tokens.specs.declared.token.Token.TheVariants as token
 use Rattle.ioa_tokens.specs.declared.mark.Mark.TheVariants as mark
 use Rattle.ioa_tokens.specs.Written.{AreTokens}
-use Rattle.ioa_source.specs.Sides.{SourceTerm as Term, SourceDeclared as Declared, SourceVariable as Variable, SourceTransition as Transition, SourceForm as Form, SourceDeclaration as Declaration, SourcePlacement as Placement, SourceText}
+use Rattle.ioa_source.specs.Sides.{SourceTerm as Term, SourceDeclared as Declared, SourceVariable as Variable, SourceTransition as Transition, SourceForm as Form, SourceDeclaration as Declaration, SourceCall as Call, SourcePlacement as Placement, SourceText}
 use Rattle.ioa_cursor.specs.Lists.{Several, SeparatedBy, SeveralLists}
 use Rattle.ioa_term_reader.specs.Grammar.{bracket_limit, SpellsTerm}
 use Rattle.ioa_term_reader.specs.Spelling.{spelling}
 use Rattle.ioa_term_reader.proofs.PrintedGood.{tokens_joined}
 use Rattle.ioa_text_reader.specs.Grammar as grammar
-use Rattle.ioa_text_reader.specs.Grammar.{SpellsWord, SpellsVariable, SpellsGuard, SpellsEffect, SpellsTransition, SpellsGroup, SpellsBlock, SpellsHead, SpellsForm, SpellsDeclaration, SpellsPlacement, Spells}
-use Rattle.ioa_front.specs.Spelling.{separated_spelling, joined_spelling, bracketed_spelling, section_spelling, optional_spelling, word_spelling, sort_spelling, declared_spelling, call_spelling, entry_spelling, variable_spelling, transition_spelling, effect_spelling, block_spelling, form_spelling, declaration_spelling, placement_spelling, text_spelling}
+use Rattle.ioa_text_reader.specs.Grammar.{SpellsWord, SpellsVariable, SpellsCall, SpellsGuard, SpellsEffect, SpellsTransition, SpellsGroup, SpellsBlock, SpellsHead, SpellsForm, SpellsDeclaration, SpellsPlacement, Spells}
+use Rattle.ioa_front.specs.Spelling.{separated_spelling, joined_spelling, bracketed_spelling, section_spelling, optional_spelling, word_spelling, sort_spelling, declared_spelling, call_spelling, one_call_spelling, calls_spelling, entry_spelling, variable_spelling, transition_spelling, effect_spelling, block_spelling, form_spelling, declaration_spelling, placement_spelling, text_spelling}
 use Rattle.ioa_front.proofs.PrintedLists.{Prints, several_prints, separated_prints, optional_prints, section_prints, brackets_good}
 use Rattle.ioa_front.proofs.PrintedDeclared.{outer_term, sort_prints, word_prints, declared_prints, call_prints, kind_again, kind_good, entries_print}
 use Rattle.ioa_front.proofs.PrintedStatements.{effect_prints, block_prints}
@@ -110,12 +110,18 @@ declaration_prints _ xs ys (grammar.automaton_parts {head = head} {entries = ent
           ((tt, (h.1.0, tokens_joined ps (qs ++ (rs ++ (ss ++ ts))) gp.0 parts)), gt.1);
     }
 
+calls_print : {cs : List Call} {xs ys : List Token} → SeparatedBy mark.Comma SpellsCall cs xs ys → Prints (SeparatedBy mark.Comma SpellsCall) calls_spelling cs xs ys
+calls_print d = separated_prints SpellsCall one_call_spelling (λ c xs ys e. call_prints e) mark.Comma d
+
 placement_prints : (p : Placement) (xs ys : List Token) → SpellsPlacement p xs ys → Prints SpellsPlacement placement_spelling p xs ys
 placement_prints _ xs ys (grammar.node {call = c} d) =
     let p = call_prints d in
     record { again = λ zs. grammar.node {call = c} (p.again zs); good = λ h. let g = p.good h.1.1.1 in ((tt, (h.1.0, (tt, g.0))), g.1) }
 placement_prints _ xs ys grammar.channel =
     record { again = λ zs. grammar.channel; good = λ h. ((tt, (h.1.0, (tt, (h.1.1.1.0, tt)))), h.1.1.1.1) }
+placement_prints _ xs ys (grammar.script d) =
+    let p = calls_print d in
+    record { again = λ zs. grammar.script (p.again zs); good = λ h. let g = p.good h.1.1.1 in ((tt, (h.1.0, (tt, g.0))), g.1) }
 
 declarations_print : {ds : List Declaration} {xs ys : List Token} → Several SpellsDeclaration ds xs ys → Prints (Several SpellsDeclaration) (joined_spelling declaration_spelling) ds xs ys
 declarations_print d = several_prints SpellsDeclaration declaration_spelling declaration_prints d

@@ -10,13 +10,14 @@ use Rattle.ioa_terms.specs.declared.tree.Kind.TheVariants as kind
 use Rattle.ioa_terms.specs.PlainTerm.{variable, at_key, at_field, assign, branch}
 use Rattle.ioa_terms.specs.PlainTerm.{no_statements, statement, statements_of, no_arms, arm}
 use Rattle.ioa_source.specs.PlainSort.{PlainSort, booleans, integers, naturals, sequences, sets, maps, named_type}
-use Rattle.ioa_source.specs.PlainText.{const, named, enumeration, tuple_of, type_named, automaton, node, channel}
+use Rattle.ioa_source.specs.PlainText.{const, named, enumeration, tuple_of, type_named, automaton}
+use Rattle.ioa_source.specs.PlainText.{node, channel, script}
 use Rattle.ioa_source.specs.Sides.{SourceTerm as Term, SourceTarget as Target, SourceStatement as Statement}
 use Rattle.ioa_source.specs.Sides.{SourceStatements as Statements, SourceArms as Arms, SourceFiring as Firing}
 use Rattle.ioa_source.specs.Sides.{SourceDeclared as Declared}
 use Rattle.ioa_source.specs.Sides.{SourceParameter as Parameter, SourceEntry as Entry, SourceVariable as Variable}
 use Rattle.ioa_source.specs.Sides.{SourceTransition as Transition, SourceForm as Form, SourceDeclaration as Declaration}
-use Rattle.ioa_source.specs.Sides.{SourcePlacement as Placement, SourceText}
+use Rattle.ioa_source.specs.Sides.{SourceCall as Call, SourcePlacement as Placement, SourceText}
 use Rattle.ioa_term_reader.specs.Spelling.{spelling}
 
 -- items, each after a mark
@@ -86,6 +87,14 @@ kind_mark kind.Internal = mark.Internal
 -- Word [ ( Term {, Term} ) ]
 abbrev pub call_spelling : List ℕ → List Term → List Token
 call_spelling w ts = token.Word w ∷ bracketed_spelling spelling ts
+
+-- Call, as one value
+abbrev pub one_call_spelling : Call → List Token
+one_call_spelling c = call_spelling c.name c.arguments
+
+-- Call {, Call}
+abbrev pub calls_spelling : List Call → List Token
+calls_spelling cs = separated_spelling mark.Comma one_call_spelling cs
 
 -- [ ( Param {, Param} ) ]
 abbrev pub parameters_spelling : List Parameter → List Token
@@ -218,12 +227,14 @@ declaration_spelling (automaton a) =
     ++ (transitions_spelling a.transitions
     ++ schedule_spelling a.schedule))))
 
--- node Number : Call, or channel Number -> Number
+-- node Number : Call, channel Number -> Number, or script Number : Call {, Call}
 abbrev pub placement_spelling : Placement → List Token
 placement_spelling (node n) =
     token.Mark mark.Node ∷ token.Number n.number ∷ token.Mark mark.Colon ∷ call_spelling n.automaton n.arguments
 placement_spelling (channel c) =
     token.Mark mark.Channel ∷ token.Number c.from ∷ token.Mark mark.Arrow ∷ token.Number c.to ∷ []
+placement_spelling (script s) =
+    token.Mark mark.Script ∷ token.Number s.node ∷ token.Mark mark.Colon ∷ calls_spelling s.calls
 
 -- a whole text
 abbrev pub text_spelling : SourceText → List Token

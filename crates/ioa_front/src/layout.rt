@@ -10,7 +10,7 @@ ghost use Rattle.ioa_front.specs.Touching as spec;
 use crate::piece::Piece;
 use ioa_tokens::{Gap, Mark};
 
-/// How far the parts of a declaration and the nodes and channels of the system are indented.
+/// How far the parts of a declaration and the nodes, channels and scripts of the system are indented.
 const PART: usize = 2;
 
 /// How far entries, variables, transitions and a block are indented.
@@ -137,7 +137,7 @@ impl Layout {
             Piece::Mark(Mark::Signature | Mark::States | Mark::Transitions | Mark::Schedule) => {
                 Some(PART)
             }
-            Piece::Mark(Mark::Node | Mark::Channel) => Some(PART),
+            Piece::Mark(Mark::Node | Mark::Channel | Mark::Script) => Some(PART),
             Piece::Mark(Mark::Input | Mark::Output | Mark::Internal) if !is_fire(before) => {
                 Some(ITEM)
             }

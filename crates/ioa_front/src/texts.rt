@@ -1,18 +1,31 @@
 //! The pieces of a whole text.
 
 ghost use Rattle.std.specs.Prelude.{◌≡◌, IfOk, map};
-ghost use Rattle.ioa_source.specs.TextView.{placement_of, text_of};
+ghost use Rattle.ioa_source.specs.TextView.{call_of, placement_of, text_of};
 ghost use Rattle.ioa_front.specs.Pieces.{Puts};
 ghost use Rattle.ioa_front.specs.Spelling as spec;
 
 use crate::declarations::put_declarations;
 use crate::piece::Pieces;
 use crate::statements::put_call;
-use ioa_source::{Placement, Text};
+use ioa_source::{Call, Placement, Text};
 use ioa_tokens::Mark;
 use std::alloc::{AllocError, Global};
 
-/// Puts a node or a channel.
+/// Puts calls with commas between.
+fn put_calls<'a>(out: &mut Pieces<'a>, calls: &'a [Call<(), ()>]) -> Result<(), AllocError>
+    ensures { Puts (spec.calls_spelling (map call_of calls.now)) result out.old out.new }
+{
+    let mut first = true;
+    for call in calls {
+        out.put_between(Mark::Comma, first)?;
+        put_call(out, &call.name, &call.arguments)?;
+        first = false;
+    }
+    Ok(())
+}
+
+/// Puts a node, a channel or a script.
 fn put_placement<'a>(
     out: &mut Pieces<'a>,
     placement: &'a Placement<(), ()>,
@@ -32,10 +45,16 @@ fn put_placement<'a>(
             out.put_mark(Mark::Arrow)?;
             out.put_number(channel.to)
         }
+        Placement::Script(script) => {
+            out.put_mark(Mark::Script)?;
+            out.put_number(script.node)?;
+            out.put_mark(Mark::Colon)?;
+            put_calls(out, &script.calls)
+        }
     }
 }
 
-/// Puts nodes and channels.
+/// Puts nodes, channels and scripts.
 fn put_placements<'a>(
     out: &mut Pieces<'a>,
     placements: &'a [Placement<(), ()>],

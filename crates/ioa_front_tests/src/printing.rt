@@ -34,10 +34,11 @@ automaton Src(i: Nat, j: Nat)
 system
   node 0: Src(0, 1)
   channel 0 -> 1
+  script 0: go(4), stop
 ";
 
 /// Texts, and what they are printed as.
-static TEXTS: [(&str, &str); 12] = [
+static TEXTS: [(&str, &str); 13] = [
     ("system", "system\n"),
     ("% nothing\n  system % here", "system\n"),
     (
@@ -135,6 +136,14 @@ system
   node 1: A
   node 0: B(1, x)
   channel 0 -> 1
+",
+    ),
+    (
+        "system script 1 : go( 4 ),go(a+b, {}),reset() node 1: A script 0: stop",
+        "system
+  script 1: go(4), go(a + b, {}), reset
+  node 1: A
+  script 0: stop
 ",
     ),
 ];

@@ -6,12 +6,20 @@ use std::alloc::{AllocError, Global};
 use std::test::Fail;
 
 /// A text, and its tree in short.
-static READ: [(&str, &str); 26] = [
+static READ: [(&str, &str); 28] = [
     ("system", ""),
     ("  system % the end", ""),
     (
         "system node 0: A node 1: B() channel 0 -> 1 node 9223372036854775807: C(1, x)",
         "node 0 A()\nnode 1 B()\nchannel 0 1\nnode 9223372036854775807 C(1, x)\n",
+    ),
+    (
+        "system script 0: go(4), go(5), reset script 1: stop() node 0: A",
+        "script 0 go(4), go(5), reset()\nscript 1 stop()\nnode 0 A()\n",
+    ),
+    (
+        "system node 0: A script 0: a(x, {1} + y), b script 0: a channel 0 -> 1",
+        "node 0 A()\nscript 0 a(x, (Braces(1) Plus y)), b()\nscript 0 a()\nchannel 0 1\n",
     ),
     ("type T = enumeration of red system", "type T of red\n"),
     (
@@ -165,6 +173,27 @@ node 1 Dst()
 channel 0 1
 ";
 
+/// A node with two fires and a script of three calls.
+const SCRIPTED: &str = "automaton A
+  signature input go(v: Int)
+  states s: Int := 0
+  transitions input go(v) eff s := s + v
+  schedule do fire go(4); fire go(5) od
+system
+  node 0: A
+  script 0: go(4), go(5), go(6)
+";
+
+/// These in short.
+const SHORT_SCRIPTED: &str = "automaton A()
+Input go(v: Int)
+state s: Int := 0
+on Input go(v) eff s := (s Plus v)
+do fire go(4); fire go(5)
+node 0 A()
+script 0 go(4), go(5), go(6)
+";
+
 /// A text's tree in short, or its refusal.
 fn answer(alloc: Global, text: &str) -> Result<String, AllocError> {
     match parse(alloc, text) {
@@ -188,6 +217,7 @@ fn whole_texts(rt: HostRuntime) -> Result<(), Fail> {
     let alloc = rt.alloc();
     assert_eq!(rt; answer(alloc, LIST)?.as_str(), SHORT_LIST);
     assert_eq!(rt; answer(alloc, PING)?.as_str(), SHORT_PING);
+    assert_eq!(rt; answer(alloc, SCRIPTED)?.as_str(), SHORT_SCRIPTED);
     Ok(())
 }
 

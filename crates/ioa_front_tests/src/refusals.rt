@@ -28,7 +28,7 @@ static LEFT_OUT: [&str; 19] = [
 ];
 
 /// Texts in which a word that the profile leaves out is refused as `LeftOut` (16) if it comes next.
-static BEFORE_LEFT_OUT: [&str; 36] = [
+static BEFORE_LEFT_OUT: [&str; 40] = [
     "",
     "automaton ",
     "automaton A ",
@@ -60,6 +60,10 @@ static BEFORE_LEFT_OUT: [&str; 36] = [
     "system node 0: ",
     "system node ",
     "system channel 0 -> ",
+    "system script ",
+    "system script 0: ",
+    "system script 0: go(",
+    "system script 0: go, ",
     "type ",
     "type T = ",
     "type T = enumeration of ",
@@ -68,7 +72,7 @@ static BEFORE_LEFT_OUT: [&str; 36] = [
 ];
 
 /// Texts with other refusals, and the numbers and offsets of these.
-static OTHERS: [(&str, u32, usize); 13] = [
+static OTHERS: [(&str, u32, usize); 14] = [
     ("", 10, 0),
     (" \t\r\n", 10, 0),
     ("% nothing but é", 10, 0),
@@ -80,6 +84,7 @@ static OTHERS: [(&str, u32, usize); 13] = [
     ("9223372036854775808 $", 13, 0),
     ("$ 9223372036854775808", 11, 0),
     ("system node 0: A 9223372036854775808 B", 13, 17),
+    ("system script 9223372036854775808: go", 13, 14),
     ("choose $", 11, 7),
     ("system node 0: A choose", 16, 17),
 ];

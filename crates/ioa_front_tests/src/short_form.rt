@@ -1,7 +1,7 @@
 //! Trees of texts in a short form, for the tests.
 
 use ioa_source::{
-    Automaton, Declaration, Declared, Entry, Parameter, Placement, Sort, Text, Transition,
+    Automaton, Call, Declaration, Declared, Entry, Parameter, Placement, Sort, Text, Transition,
     TypeForm, Variable,
 };
 use ioa_terms::{Arm, Firing, Kind, Name, Statement, Target, Term, Tree, Word};
@@ -295,7 +295,19 @@ fn declaration(alloc: Global, tree: &Declaration<(), ()>) -> Result<String, Allo
     }
 }
 
-/// A node or a channel.
+/// The calls of a script, with commas between.
+fn calls(alloc: Global, trees: &Vec<Call<(), ()>>) -> Result<String, AllocError> {
+    let mut list = String::new(alloc);
+    for position in 0..trees.len() {
+        let name = &trees[position].name;
+        let arguments = terms(alloc, &trees[position].arguments)?;
+        let piece = format!(in alloc; "{name}({arguments})")?;
+        push_listed(&mut list, position, ", ", piece.as_str())?;
+    }
+    Ok(list)
+}
+
+/// A node, a channel or a script.
 fn placement(alloc: Global, tree: &Placement<(), ()>) -> Result<String, AllocError> {
     match tree {
         Placement::Node(node) => {
@@ -307,10 +319,15 @@ fn placement(alloc: Global, tree: &Placement<(), ()>) -> Result<String, AllocErr
             let (from, to) = (channel.from, channel.to);
             format!(in alloc; "channel {from} {to}\n")
         }
+        Placement::Script(script) => {
+            let node = script.node;
+            let calls = calls(alloc, &script.calls)?;
+            format!(in alloc; "script {node} {calls}\n")
+        }
     }
 }
 
-/// A whole text: each declaration, node and channel on lines of its own.
+/// A whole text: each declaration, node, channel and script on lines of its own.
 pub(crate) fn short_form(alloc: Global, text: &Text<(), ()>) -> Result<String, AllocError> {
     let mut lines = String::new(alloc);
     for tree in &text.declarations {

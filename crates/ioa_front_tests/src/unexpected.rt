@@ -4,7 +4,7 @@ use crate::refusals::two_part_answer;
 use std::test::Fail;
 
 /// Texts in two parts: each is refused as `Unexpected` (12) at the first byte of the second part.
-static REFUSED: [(&str, &str); 103] = [
+static REFUSED: [(&str, &str); 119] = [
     ("", "A"),
     ("", "node 0: A"),
     ("", "( "),
@@ -41,7 +41,23 @@ static REFUSED: [(&str, &str); 103] = [
     ("system node 0: A(1) ", "(1)"),
     ("system node 0: A", ", node 1: A"),
     ("system ", "invariant I: true"),
-    ("system ", "script 0: go(1)"),
+    ("system script", ""),
+    ("system script ", "go"),
+    ("system script ", "-1: go"),
+    ("system script 0", ""),
+    ("system script 0 ", "go(4)"),
+    ("system script 0:", ""),
+    ("system script 0: ", "5"),
+    ("system script 0: ", "node 0: A"),
+    ("system script 0: ", ", go"),
+    ("system script 0: go(4),", ""),
+    ("system script 0: go(4), ", "script 1: go"),
+    ("system script 0: go(4), ", ", go"),
+    ("system script 0: go(4) ", "go(5)"),
+    ("system script 0: go(4)", "; go(5)"),
+    ("system script 0: go(4", ""),
+    ("system script 0: go() ", "(4)"),
+    ("system script 0: go(", "const 4)"),
     ("system ", "unordered channel 0 -> 1"),
     ("system channel 0 -> 1 ", "unordered"),
     ("", "invariant I: true system"),
@@ -305,20 +321,6 @@ system
   node 1: Tick(5)
 ";
 
-/// A node with two fires: the text before its script.
-const SCRIPT_BEFORE: &str = "automaton A
-  signature input go(v: Int)
-  states s: Int := 0
-  transitions input go(v) eff s := s + v
-  schedule do fire go(4); fire go(5) od
-system
-  node 0: A
-  ";
-
-/// The text after it.
-const SCRIPT_AFTER: &str = "script 0: go(4), go(5), go(6)
-";
-
 #[test]
 fn declarations(rt: HostRuntime) -> Result<(), Fail> {
     let alloc = rt.alloc();
@@ -346,7 +348,5 @@ fn whole_texts(rt: HostRuntime) -> Result<(), Fail> {
     assert_eq!(rt; relay, (12, RELAY_BEFORE.len()));
     let tick = two_part_answer(alloc, TICK_BEFORE, TICK_AFTER)?;
     assert_eq!(rt; tick, (12, TICK_BEFORE.len()));
-    let script = two_part_answer(alloc, SCRIPT_BEFORE, SCRIPT_AFTER)?;
-    assert_eq!(rt; script, (12, SCRIPT_BEFORE.len()));
     Ok(())
 }

@@ -2,9 +2,9 @@
 use Rattle.std.proofs.Common.{◌≡◌, List, [], ◌∷◌, Option, Some, None, map, refl, ap}
 use Rattle.std.specs.Option.{option_map}
 use Rattle.ioa_terms.specs.PlainTerm.{number, truth, name, one, two, call, display, field, no_terms, term, variable, at_key, at_field, assign, branch, firing, no_statements, statement, no_arms, arm}
-use Rattle.ioa_source.specs.PlainText.{const, named, enumeration, tuple_of, type_named, automaton, node, channel}
-use Rattle.ioa_source.specs.Sides.{SourceTerm, SourceTerms, SourceTarget, SourceStatement, SourceFiring, SourceStatements, SourceArms, SourceDeclared, SourceParameter, SourceEntry, SourceVariable, SourceTransition, SourceAutomaton, SourceForm, SourceType, SourceDeclaration, SourceNode, SourcePlacement, SourceText}
-use Rattle.ioa_source.specs.Erasure.{erase_term, erase_terms, erase_target, erase_statement, erase_firing, erase_statements, erase_arms, erase_declared, erase_parameter, erase_entry, erase_variable, erase_transition, erase_automaton, erase_form, erase_type, erase_declaration, erase_node, erase_placement, erase}
+use Rattle.ioa_source.specs.PlainText.{const, named, enumeration, tuple_of, type_named, automaton, node, channel, script}
+use Rattle.ioa_source.specs.Sides.{SourceTerm, SourceTerms, SourceTarget, SourceStatement, SourceFiring, SourceStatements, SourceArms, SourceDeclared, SourceParameter, SourceEntry, SourceVariable, SourceTransition, SourceAutomaton, SourceForm, SourceType, SourceDeclaration, SourceNode, SourceCall, SourceScript, SourcePlacement, SourceText}
+use Rattle.ioa_source.specs.Erasure.{erase_term, erase_terms, erase_target, erase_statement, erase_firing, erase_statements, erase_arms, erase_declared, erase_parameter, erase_entry, erase_variable, erase_transition, erase_automaton, erase_form, erase_type, erase_declaration, erase_node, erase_call, erase_script, erase_placement, erase}
 
 -- a function that changes no item changes no list, and no option
 each : {A : Type 0} (f : A → A) → ((x : A) → f x ≡ x) → (xs : List A) → map f xs ≡ xs
@@ -102,9 +102,16 @@ declaration_erased (automaton a) = ap automaton (automaton_erased a)
 node_erased : (n : SourceNode) → erase_node n ≡ n
 node_erased n = λ i. record { number = n.number; automaton = n.automaton; arguments = each erase_term term_erased n.arguments i }
 
+call_erased : (c : SourceCall) → erase_call c ≡ c
+call_erased c = λ i. record { name = c.name; arguments = each erase_term term_erased c.arguments i }
+
+script_erased : (s : SourceScript) → erase_script s ≡ s
+script_erased s = λ i. record { node = s.node; calls = each erase_call call_erased s.calls i }
+
 placement_erased : (p : SourcePlacement) → erase_placement p ≡ p
 placement_erased (node n) = ap node (node_erased n)
 placement_erased (channel c) = refl
+placement_erased (script s) = ap script (script_erased s)
 
 -- whole texts
 pub text_erased : (t : SourceText) → erase t ≡ t

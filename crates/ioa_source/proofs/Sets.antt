@@ -18,7 +18,7 @@ use Rattle.ioa_terms.specs.contracts.tree.Kind as kind
 use Rattle.ioa_terms.specs.PlainTerm.{PlainTerm-set, PlainTarget-set, PlainStatement-set, PlainFiring-set}
 use Rattle.ioa_source.specs.contracts.declaration.Channel as channel
 use Rattle.ioa_source.specs.PlainSort.{PlainSort-set}
-use Rattle.ioa_source.specs.PlainText.{PlainDeclared-set, PlainParameter-set, PlainEntry-set, PlainVariable-set, PlainTransition-set, PlainAutomaton-set, PlainForm-set, PlainType-set, PlainDeclaration-set, PlainNode-set, PlainPlacement-set, PlainText-set}
+use Rattle.ioa_source.specs.PlainText.{PlainDeclared-set, PlainParameter-set, PlainEntry-set, PlainVariable-set, PlainTransition-set, PlainAutomaton-set, PlainForm-set, PlainType-set, PlainDeclaration-set, PlainNode-set, PlainCall-set, PlainScript-set, PlainPlacement-set, PlainText-set}
 use Rattle.ioa_source.specs.Sides.{SourceTerm, SourceTarget, SourceStatement, SourceFiring, SourceDeclared, SourceEntry, SourceVariable, SourceTransition, SourceAutomaton, SourceDeclaration, SourcePlacement, SourceText}
 
 word_set : IsSet (List ℕ)
@@ -82,7 +82,9 @@ declaration_set : IsSet SourceDeclaration
 declaration_set = PlainDeclaration-set (PlainType-set word_set (PlainForm-set (List-set word_set) (List-set declared_set))) automaton_set
 
 placement_set : IsSet SourcePlacement
-placement_set = PlainPlacement-set (PlainNode-set ℤ_set word_set (List-set term_set)) (Coded-set channel.the_row.coded)
+placement_set =
+    PlainPlacement-set (PlainNode-set ℤ_set word_set (List-set term_set)) (Coded-set channel.the_row.coded)
+    (PlainScript-set ℤ_set (List-set (PlainCall-set word_set (List-set term_set))))
 
 -- whole texts
 pub text_set : IsSet SourceText

@@ -8,13 +8,13 @@ use Rattle.ioa_terms.specs.PlainTerm.{variable, at_key, at_field, assign, branch
 use Rattle.ioa_terms.specs.PlainTerm.{no_statements, statement, no_arms, arm}
 use Rattle.ioa_source.specs.PlainText.{PlainDeclared, PlainParameter, PlainEntry, PlainVariable, PlainTransition}
 use Rattle.ioa_source.specs.PlainText.{PlainAutomaton, PlainForm, PlainType, PlainDeclaration}
-use Rattle.ioa_source.specs.PlainText.{PlainNode, PlainPlacement, PlainText}
-use Rattle.ioa_source.specs.PlainText.{const, named, enumeration, tuple_of, type_named, automaton, node, channel}
+use Rattle.ioa_source.specs.PlainText.{PlainNode, PlainCall, PlainScript, PlainPlacement, PlainText}
+use Rattle.ioa_source.specs.PlainText.{const, named, enumeration, tuple_of, type_named, automaton, node, channel, script}
 use Rattle.ioa_source.specs.Sides.{SourceTerm, SourceTerms, SourceTarget, SourceStatement, SourceStatements, SourceArms}
 use Rattle.ioa_source.specs.Sides.{SourceFiring}
 use Rattle.ioa_source.specs.Sides.{SourceDeclared, SourceParameter, SourceEntry, SourceVariable, SourceTransition}
 use Rattle.ioa_source.specs.Sides.{SourceAutomaton, SourceForm, SourceType, SourceDeclaration}
-use Rattle.ioa_source.specs.Sides.{SourceNode, SourcePlacement, SourceText}
+use Rattle.ioa_source.specs.Sides.{SourceNode, SourceCall, SourceScript, SourcePlacement, SourceText}
 
 abbrev mutual
   -- a term without annotations
@@ -105,9 +105,16 @@ erase_declaration (automaton a) = automaton (erase_automaton a)
 abbrev pub erase_node : {N D : Type 0} → PlainNode N D → SourceNode
 erase_node n = record { number = n.number; automaton = n.automaton; arguments = map erase_term n.arguments }
 
+abbrev pub erase_call : {N D : Type 0} → PlainCall N D → SourceCall
+erase_call c = record { name = c.name; arguments = map erase_term c.arguments }
+
+abbrev pub erase_script : {N D : Type 0} → PlainScript N D → SourceScript
+erase_script s = record { node = s.node; calls = map erase_call s.calls }
+
 abbrev pub erase_placement : {N D : Type 0} → PlainPlacement N D → SourcePlacement
 erase_placement (node n) = node (erase_node n)
 erase_placement (channel c) = channel c
+erase_placement (script s) = script (erase_script s)
 
 abbrev pub erase : {N D : Type 0} → PlainText N D → SourceText
 erase t = record { declarations = map erase_declaration t.declarations; system = map erase_placement t.system }

@@ -77,10 +77,23 @@ pub record PlainNode (N D : Type 0) : Type 0 where
   pub arguments : List (PlainTerm N D)
   deriving IsSet as PlainNode-set
 
+-- an action's name with the terms of its arguments, in a script
+pub record PlainCall (N D : Type 0) : Type 0 where
+  pub name : List ℕ
+  pub arguments : List (PlainTerm N D)
+  deriving IsSet as PlainCall-set
+
+-- the inputs that the environment gives a node, in order
+pub record PlainScript (N D : Type 0) : Type 0 where
+  pub node : ℤ
+  pub calls : List (PlainCall N D)
+  deriving IsSet as PlainScript-set
+
 -- an item of the system section
 pub data PlainPlacement (N D : Type 0) : Type 0 where
   node : PlainNode N D → PlainPlacement N D
   channel : Channel → PlainPlacement N D
+  script : PlainScript N D → PlainPlacement N D
   deriving IsSet as PlainPlacement-set
 
 -- a whole text

@@ -7,7 +7,7 @@ use Rattle.ioa_terms.specs.PlainTerm.{PlainTerm, PlainTerms, PlainTarget, PlainS
 use Rattle.ioa_terms.specs.PlainTerm.{PlainFiring}
 use Rattle.ioa_source.specs.PlainText.{PlainDeclared, PlainParameter, PlainEntry, PlainVariable, PlainTransition}
 use Rattle.ioa_source.specs.PlainText.{PlainAutomaton, PlainForm, PlainType, PlainDeclaration}
-use Rattle.ioa_source.specs.PlainText.{PlainNode, PlainPlacement, PlainText}
+use Rattle.ioa_source.specs.PlainText.{PlainNode, PlainCall, PlainScript, PlainPlacement, PlainText}
 
 -- the trees of a text as it is spelled
 abbrev pub SourceTerm : Type 0
@@ -60,6 +60,12 @@ SourceDeclaration = PlainDeclaration (Unit {0}) (Unit {0})
 
 abbrev pub SourceNode : Type 0
 SourceNode = PlainNode (Unit {0}) (Unit {0})
+
+abbrev pub SourceCall : Type 0
+SourceCall = PlainCall (Unit {0}) (Unit {0})
+
+abbrev pub SourceScript : Type 0
+SourceScript = PlainScript (Unit {0}) (Unit {0})
 
 abbrev pub SourcePlacement : Type 0
 SourcePlacement = PlainPlacement (Unit {0}) (Unit {0})

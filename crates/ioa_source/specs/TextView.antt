@@ -5,8 +5,8 @@ use Rattle.ioa_terms.specs.View.{term_of, statement_of, firing_of}
 use Rattle.ioa_source.specs.SortView.{sort_of}
 use Rattle.ioa_source.specs.PlainText.{PlainDeclared, PlainParameter, PlainEntry, PlainVariable, PlainTransition}
 use Rattle.ioa_source.specs.PlainText.{PlainAutomaton, PlainForm, PlainType, PlainDeclaration}
-use Rattle.ioa_source.specs.PlainText.{PlainNode, PlainPlacement, PlainText}
-use Rattle.ioa_source.specs.PlainText.{const, named, enumeration, tuple_of, type_named, automaton, node, channel}
+use Rattle.ioa_source.specs.PlainText.{PlainNode, PlainCall, PlainScript, PlainPlacement, PlainText}
+use Rattle.ioa_source.specs.PlainText.{const, named, enumeration, tuple_of, type_named, automaton, node, channel, script}
 use Rattle.ioa_source.specs.declared.declaration.Declared.{Declared}
 use Rattle.ioa_source.specs.declared.declaration.Parameter.{Parameter}
 use Rattle.ioa_source.specs.declared.declaration.Parameter.TheVariants as parameter
@@ -20,6 +20,8 @@ use Rattle.ioa_source.specs.declared.declaration.TypeDeclaration.{TypeDeclaratio
 use Rattle.ioa_source.specs.declared.declaration.Declaration.{Declaration}
 use Rattle.ioa_source.specs.declared.declaration.Declaration.TheVariants as declaration
 use Rattle.ioa_source.specs.declared.declaration.Node.{Node}
+use Rattle.ioa_source.specs.declared.declaration.Call.{Call}
+use Rattle.ioa_source.specs.declared.declaration.ScriptDeclaration.{ScriptDeclaration}
 use Rattle.ioa_source.specs.declared.declaration.Placement.{Placement}
 use Rattle.ioa_source.specs.declared.declaration.Placement.TheVariants as placement
 use Rattle.ioa_source.specs.declared.declaration.Text.{Text}
@@ -75,9 +77,16 @@ declaration_of (declaration.Automaton a) = automaton (automaton_of a)
 abbrev pub node_of : {N D : Type 0} → Node N D → PlainNode N D
 node_of n = record { number = n.number; automaton = n.automaton; arguments = map term_of n.arguments.items }
 
+abbrev pub call_of : {N D : Type 0} → Call N D → PlainCall N D
+call_of c = record { name = c.name; arguments = map term_of c.arguments.items }
+
+abbrev pub script_of : {N D : Type 0} → ScriptDeclaration N D → PlainScript N D
+script_of s = record { node = s.node; calls = map call_of s.calls.items }
+
 abbrev pub placement_of : {N D : Type 0} → Placement N D → PlainPlacement N D
 placement_of (placement.Node n) = node (node_of n)
 placement_of (placement.Channel c) = channel c
+placement_of (placement.Script s) = script (script_of s)
 
 abbrev pub text_of : {N D : Type 0} → Text N D → PlainText N D
 text_of t = record { declarations = map declaration_of t.declarations.items; system = map placement_of t.system.items }

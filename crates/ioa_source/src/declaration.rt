@@ -127,6 +127,24 @@ pub struct Channel {
     pub to: i64,
 }
 
+/// `a(t, u)`: an action's name with its arguments, in a script (profile).
+#[derive(Drop)]
+pub struct Call<N, D> {
+    /// The action's name.
+    pub name: Word,
+    /// The terms of its arguments.
+    pub arguments: Vec<Tree<N, D>>,
+}
+
+/// `script k: a(t, u), b`: what the environment does to a node, in order (profile).
+#[derive(Drop)]
+pub struct ScriptDeclaration<N, D> {
+    /// The node's number.
+    pub node: i64,
+    /// The inputs of the node, first to last.
+    pub calls: Vec<Call<N, D>>,
+}
+
 /// An item of the system section (profile).
 #[derive(Drop)]
 pub enum Placement<N, D> {
@@ -134,6 +152,8 @@ pub enum Placement<N, D> {
     Node(Node<N, D>),
     /// A channel.
     Channel(Channel),
+    /// A script.
+    Script(ScriptDeclaration<N, D>),
 }
 
 /// A whole text (profile).
@@ -141,6 +161,6 @@ pub enum Placement<N, D> {
 pub struct Text<N, D> {
     /// The declarations before the system section, in order.
     pub declarations: Vec<Declaration<N, D>>,
-    /// The nodes and channels of the system section, in order.
+    /// The nodes, channels and scripts of the system section, in order.
     pub system: Vec<Placement<N, D>>,
 }

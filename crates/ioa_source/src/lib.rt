@@ -8,8 +8,8 @@ mod same;
 mod sort;
 
 pub use declaration::{
-    Automaton, Channel, Declaration, Declared, Entry, Node, Parameter, Placement, Text, Transition,
-    TypeDeclaration, TypeForm, Variable,
+    Automaton, Call, Channel, Declaration, Declared, Entry, Node, Parameter, Placement,
+    ScriptDeclaration, Text, Transition, TypeDeclaration, TypeForm, Variable,
 };
 pub use height::{HEIGHT_LIMIT, HasHeight};
 pub use laws::erasure_law;

@@ -1,10 +1,11 @@
 -- The parts of an automaton that was made ready to step, and of a node's program, as plain data (view).
-use Rattle.std.specs.Prelude.{ℕ, ℤ, List, refl}
+use Rattle.std.specs.Prelude.{ℕ, ℤ, List, Option, find, refl}
 use Rattle.std.specs.Coded.{Coded, code_by, coded×, coded_ℕ, coded_ℤ, coded_list}
 use Rattle.ioa_values.specs.Data.{Data}
 use Rattle.ioa_values.specs.DataCode.{data_code}
 use Rattle.ioa_operators.specs.ShapeCode.{shape_code}
 use Rattle.ioa_operators.specs.Shapes.{PlainShape}
+use Rattle.ioa_terms.specs.Bindings.{same_word}
 use Rattle.ioa_terms.specs.TermCode.{firing_code}
 use Rattle.ioa_source.specs.Sides.{CheckedDeclared, CheckedEntry, CheckedFiring, CheckedTransition, CheckedVariable}
 use Rattle.ioa_source.specs.TextCode.{declared_code, entry_code, transition_code, variable_code}
@@ -27,6 +28,10 @@ rule_code =
     (λ r. (r.entry, (r.shapes, (r.transition, r.own))))
     (λ t. record { entry = t.0; shapes = t.1.0; transition = t.1.1.0; own = t.1.1.1 })
     (λ _. refl)
+
+-- the rule for actions of a name, the first one if there are several
+abbrev pub rule_named : List ℕ → List PlainRule → Option PlainRule
+rule_named w rs = find (λ r. same_word r.entry.name w) rs
 
 -- an automaton: its name, the names of the text's constants, its parameters, its state variables, its rules and the
 -- firings of its schedule block

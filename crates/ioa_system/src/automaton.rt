@@ -1,6 +1,7 @@
 //! An automaton of a text, made ready to step.
 
-ghost use Rattle.std.specs.Prelude.{◌≡◌, ◌↔◌, ◌++◌, [], IsTrue, All, map, length};
+ghost use Rattle.std.specs.Prelude.{◌≡◌, ◌↔◌, ◌++◌, [], IsTrue, IfSome, All, map, length};
+ghost use Rattle.std.specs.Option.{option_copied};
 ghost use Rattle.std.specs.Arc.{arc_value};
 ghost use Rattle.ioa_terms.specs.Bindings.{names_of};
 ghost use Rattle.ioa_terms.specs.View.{firing_of};
@@ -8,7 +9,7 @@ ghost use Rattle.ioa_source.specs.TextView.{declared_of, variable_of};
 ghost use Rattle.ioa_system.specs.InView.{declared_names, names_at, scope_at, given_bindings, firing_bindings};
 ghost use Rattle.ioa_system.specs.InView.{entry_constant, initial_value, entry_condition, guard_or_effect, firing};
 ghost use Rattle.ioa_system.specs.InView.{parameter_names, variable_names};
-ghost use Rattle.ioa_system.specs.Parts.{automaton_parts};
+ghost use Rattle.ioa_system.specs.Parts.{automaton_parts, rule_named};
 ghost use Rattle.ioa_system.specs.ResolvedPrograms.{IsCompiled, IsResolvedRule};
 ghost use Rattle.ioa_system.specs.ResolvedPrograms.{AreResolvedFirings, AreResolvedVariables};
 ghost use Rattle.ioa_system.specs.SameParts.{same_rule, same_parameters, same_variables, same_automaton};
@@ -188,6 +189,19 @@ impl CompiledAutomaton {
         ensures resolved { All (IsResolvedRule (declared_names self.now)) result.now }
     {
         self.rules.as_slice()
+    }
+
+    /// The rule of the actions that have a name, if there is one. Costs time in proportion to the number of rules.
+    pub fn rule_named(&self, name: &str) -> Option<&Rule>
+        ensures found { option_copied result ≡ rule_named name.now self.now.rules }
+        ensures resolved { IfSome result (λ r. IsResolvedRule (declared_names self.now) r.now) }
+    {
+        for rule in self.rules() {
+            if rule.entry.name.as_str() == name {
+                return Some(rule);
+            }
+        }
+        None
     }
 
     /// The firings of the schedule block.

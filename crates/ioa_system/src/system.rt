@@ -2,20 +2,23 @@
 
 ghost use Rattle.std.specs.Prelude.{◌≡◌, map};
 ghost use Rattle.std.specs.Arc.{arc_value};
-ghost use Rattle.ioa_system.specs.Systems.{system};
+ghost use Rattle.std.specs.Option.{option_copied};
+ghost use Rattle.ioa_system.specs.Systems.{script_of, system};
 
 use crate::program::Program;
+use crate::script::Script;
 use ioa_source::Channel;
 use ioa_terms::Names;
 use std::marker::Model;
 use std::sync::Arc;
 
-/// A system: the programs of its nodes, node 0 first, and its channels as declared.
+/// A system: the programs of its nodes, node 0 first, and its channels and scripts as declared.
 #[derive(Drop)]
 pub struct System {
     names: Arc<Names>,
     programs: Vec<Arc<Program>>,
     channels: Vec<Channel>,
+    scripts: Vec<Script>,
 }
 
 impl Model for System {
@@ -29,18 +32,24 @@ impl Model for System {
     ghost use Rattle.std.specs.Prelude.{map};
     ghost use Rattle.ioa_system.specs.Systems.{system};
 
-    ghost view = { λ s. system (arc_value s.names) (map arc_value s.programs.items) s.channels.items };
+    ghost view = { λ s. system (arc_value s.names) (map arc_value s.programs.items) s.channels.items s.scripts.items };
 }
 
 impl System {
-    /// The system of these constants, programs and channels. Nothing is checked of them here.
-    pub fn new(names: Arc<Names>, programs: Vec<Arc<Program>>, channels: Vec<Channel>) -> Self
-        ensures { result ≡ system (arc_value names) (map arc_value programs.items) channels.items }
+    /// The system of these constants, programs, channels and scripts. Nothing is checked of them here.
+    pub fn new(
+        names: Arc<Names>,
+        programs: Vec<Arc<Program>>,
+        channels: Vec<Channel>,
+        scripts: Vec<Script>,
+    ) -> Self
+        ensures { result ≡ system (arc_value names) (map arc_value programs.items) channels.items scripts.items }
     {
         System {
             names,
             programs,
             channels,
+            scripts,
         }
     }
 
@@ -63,5 +72,19 @@ impl System {
         ensures { result.now ≡ self.now.channels }
     {
         self.channels.as_slice()
+    }
+
+    /// The scripts, as declared.
+    pub fn scripts(&self) -> &[Script]
+        ensures { result.now ≡ self.now.scripts }
+    {
+        self.scripts.as_slice()
+    }
+
+    /// The script of a node, if one is declared; the first one if there are several.
+    pub fn script_of(&self, node: i64) -> Option<&Script>
+        ensures { option_copied result ≡ script_of node self.now.scripts }
+    {
+        self.scripts.iter().find(|script| script.node() == node)
     }
 }

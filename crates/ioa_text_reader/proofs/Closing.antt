@@ -33,6 +33,7 @@ mark_level mark.Type = 3
 mark_level mark.Automaton = 3
 mark_level mark.Node = 3
 mark_level mark.Channel = 3
+mark_level mark.Script = 3
 mark_level m = if nat_eq (mark_binds m) 0 then 0 else 14
 
 -- the level of the first token
@@ -108,7 +109,7 @@ at_declaration_below xs h = rw (at_below mark.Type xs h, at_below mark.Automaton
 
 pub at_placement_below : (xs : List Token) → level xs < 3 → at_placement xs ≡ false
 unfolding at_placement
-at_placement_below xs h = rw (at_below mark.Node xs h, at_below mark.Channel xs h) refl
+at_placement_below xs h = rw (at_below mark.Node xs h, at_below mark.Channel xs h, at_below mark.Script xs h) refl
 
 -- where a word comes first, no mark does
 pub at_word_no_mark : (m : Mark) (xs : List Token) → at_word xs ≡ true → at m xs ≡ false

@@ -4,7 +4,7 @@ use Rattle.ioa_tokens.specs.declared.token.Token.{Token}
 use Rattle.ioa_tokens.specs.declared.token.Token.TheVariants as token
 use Rattle.ioa_tokens.specs.declared.mark.Mark.TheVariants as mark
 use Rattle.ioa_terms.specs.declared.tree.Kind.{Kind}
-use Rattle.ioa_source.specs.Sides.{SourceTerm as Term, SourceParameter as Parameter, SourceEntry as Entry}
+use Rattle.ioa_source.specs.Sides.{SourceTerm as Term, SourceParameter as Parameter, SourceEntry as Entry, SourceCall as Call}
 use Rattle.ioa_cursor.specs.Lists.{SeparatedBy, SeparatedOrEndedBy, Optional, ListsSeparatedBy, SeveralLists, Section}
 use Rattle.ioa_cursor.specs.Reading.{bind, choose, skip, expect, word, at, at_word, peek_mark, advance}
 use Rattle.ioa_cursor.proofs.Steps.{read_next, stays}
@@ -16,11 +16,11 @@ use Rattle.ioa_term_reader.proofs.Begins.{term_begins, not_mark_first}
 use Rattle.ioa_term_reader.proofs.Shorter.{term_shorter}
 use Rattle.ioa_term_reader.proofs.CompleteTerms.{term_complete}
 use Rattle.ioa_text_reader.specs.Grammar as grammar
-use Rattle.ioa_text_reader.specs.Grammar.{inner_limit, Call, InBrackets, SpellsParameters, SpellsCall, SpellsKind, SpellsEntry, SpellsGroup}
+use Rattle.ioa_text_reader.specs.Grammar.{inner_limit, InBrackets, SpellsParameters, SpellsCall, SpellsKind, SpellsEntry, SpellsGroup}
 use Rattle.ioa_text_reader.specs.Reading as reading
 use Rattle.ioa_text_reader.specs.Reading.{kind_first, at_kind}
 use Rattle.ioa_text_reader.proofs.Closing.{Below, level, closes, at_below, at_word_below, at_kind_below}
-use Rattle.ioa_text_reader.proofs.Shorter.{entry_shorter, group_shorter}
+use Rattle.ioa_text_reader.proofs.Shorter.{call_shorter, entry_shorter, group_shorter}
 use Rattle.ioa_text_reader.proofs.CompleteSorts.{all_parameters_complete, all_parameters_not_close}
 
 -- trees of their parts
@@ -87,6 +87,11 @@ call_read w ts xs ys e = rw e refl
 
 pub call_complete : (c : Call) (xs ys : List Token) → SpellsCall c xs ys → level ys < 14 → reading.call xs ≡ read_next c ys
 call_complete _ _ ys (grammar.called {w = w} {ts = ts} {xs = xs} d) h = call_read w ts xs ys (arguments_complete ts xs ys d h)
+
+pub calls_complete : (cs : List Call) (xs ys : List Token) → SeparatedBy mark.Comma SpellsCall cs xs ys → level ys < 11 → reading.calls xs ≡ read_next cs ys
+unfolding reading.calls
+calls_complete cs xs ys d h =
+    separated_complete (Below 14) SpellsCall reading.call call_complete call_shorter mark.Comma (λ zs. omega arith) cs xs ys d (omega arith) (at_below mark.Comma ys h)
 
 -- kinds
 

@@ -7,7 +7,7 @@ use Rattle.ioa_terms.specs.declared.tree.Kind.{Kind}
 use Rattle.ioa_terms.specs.PlainTerm as plain
 use Rattle.ioa_source.specs.PlainSort.{PlainSort}
 use Rattle.ioa_source.specs.PlainText as declarations
-use Rattle.ioa_source.specs.Sides.{SourceTerm as Term, SourceStatement as Statement, SourceFiring as Firing, SourceDeclared as Declared, SourceEntry as Entry, SourceVariable as Variable, SourceTransition as Transition, SourceForm as Form, SourceType as TypeOf, SourceAutomaton as Automaton, SourceDeclaration as Declaration, SourceNode as Node, SourcePlacement as Placement, SourceText}
+use Rattle.ioa_source.specs.Sides.{SourceTerm as Term, SourceStatement as Statement, SourceFiring as Firing, SourceDeclared as Declared, SourceEntry as Entry, SourceVariable as Variable, SourceTransition as Transition, SourceForm as Form, SourceType as TypeOf, SourceAutomaton as Automaton, SourceDeclaration as Declaration, SourceNode as Node, SourceCall as Call, SourceScript as Script, SourcePlacement as Placement, SourceText}
 use Rattle.ioa_cursor.specs.Lists.{Several, SeparatedBy, SeparatedOrEndedBy, Section, Optional, SeveralLists}
 use Rattle.ioa_cursor.specs.Reading.{bind, choose, skip, expect, word, number, at, peek_mark, end}
 use Rattle.ioa_cursor.proofs.Steps.{read_next, stays}
@@ -16,13 +16,13 @@ use Rattle.ioa_cursor.proofs.CompleteLists.{several_complete, separated_complete
 use Rattle.ioa_term_reader.specs.Grammar.{bracket_limit, SpellsTerm}
 use Rattle.ioa_term_reader.specs.Reading.{term}
 use Rattle.ioa_text_reader.specs.Grammar as grammar
-use Rattle.ioa_text_reader.specs.Grammar.{inner_limit, Call, SpellsCall, SpellsGroup, SpellsVariable, SpellsEffect, SpellsGuard, SpellsTransition, SpellsFire, SpellsBlock, SpellsHead, SpellsForm, SpellsDeclaration, SpellsPlacement, Spells}
+use Rattle.ioa_text_reader.specs.Grammar.{inner_limit, SpellsCall, SpellsGroup, SpellsVariable, SpellsEffect, SpellsGuard, SpellsTransition, SpellsFire, SpellsBlock, SpellsHead, SpellsForm, SpellsDeclaration, SpellsPlacement, Spells}
 use Rattle.ioa_text_reader.specs.Reading as reading
 use Rattle.ioa_text_reader.specs.Reading.{kind_first, at_kind, at_declaration, at_placement}
 use Rattle.ioa_text_reader.proofs.Closing.{Below, level, at_below, skip_below, at_kind_below, at_declaration_below, at_placement_below}
 use Rattle.ioa_text_reader.proofs.Shorter.{variable_shorter, transition_shorter, firing_shorter, declaration_shorter, placement_shorter}
 use Rattle.ioa_text_reader.proofs.CompleteSorts.{sort_complete, words_complete, declared_names_complete}
-use Rattle.ioa_text_reader.proofs.CompleteSignatures.{whole_term, call_complete, kind_complete, kind_begins, kind_level, signature_complete}
+use Rattle.ioa_text_reader.proofs.CompleteSignatures.{whole_term, call_complete, calls_complete, kind_complete, kind_begins, kind_level, signature_complete}
 use Rattle.ioa_text_reader.proofs.CompleteStatements.{effect_complete}
 
 -- trees of their parts
@@ -41,6 +41,9 @@ type_with w f = record { name = w; form = f }
 
 abbrev node_with : ℤ → Call → Node
 node_with n c = record { number = n; automaton = c.name; arguments = c.arguments }
+
+abbrev script_with : ℤ → List Call → Script
+script_with n cs = record { node = n; calls = cs }
 
 abbrev text_with : List Declaration → List Placement → SourceText
 text_with ds ps = record { declarations = ds; system = ps }
@@ -249,26 +252,34 @@ node_read n c xs ys e = rw e refl
 
 channel_read : (i j : ℤ) (xs : List Token) → reading.placement (token.Mark mark.Channel ∷ token.Number i ∷ token.Mark mark.Arrow ∷ token.Number j ∷ xs)
     ≡ read_next (declarations.channel (record { from = i; to = j })) xs
-unfolding reading.placement number expect skip bind choose
+unfolding reading.placement reading.channel number expect skip bind choose
 channel_read i j xs = refl
 
-placement_complete : (x : Placement) (xs ys : List Token) → SpellsPlacement x xs ys → level ys < 14 → reading.placement xs ≡ read_next x ys
-placement_complete _ _ ys (grammar.node {n = n} {call = c} {xs = xs} d) h = node_read n c xs ys (call_complete c xs ys d h)
+script_read : (n : ℤ) (cs : List Call) (xs ys : List Token) → reading.calls xs ≡ read_next cs ys →
+    reading.placement (token.Mark mark.Script ∷ token.Number n ∷ token.Mark mark.Colon ∷ xs) ≡ read_next (declarations.script (script_with n cs)) ys
+unfolding reading.placement reading.script number expect skip bind choose
+script_read n cs xs ys e = rw e refl
+
+placement_complete : (x : Placement) (xs ys : List Token) → SpellsPlacement x xs ys → level ys < 4 → reading.placement xs ≡ read_next x ys
+placement_complete _ _ ys (grammar.node {n = n} {call = c} {xs = xs} d) h = node_read n c xs ys (call_complete c xs ys d (omega arith))
 placement_complete _ _ ys (grammar.channel {i = i} {j = j}) h = channel_read i j ys
+placement_complete _ _ ys (grammar.script {n = n} {calls = cs} {xs = xs} d) h = script_read n cs xs ys (calls_complete cs xs ys d (omega arith))
 
 placement_begins : (x : Placement) (xs ys : List Token) → SpellsPlacement x xs ys → at_placement xs ≡ true
 unfolding at_placement at
 placement_begins _ _ _ (grammar.node d) = refl
 placement_begins _ _ _ grammar.channel = refl
+placement_begins _ _ _ (grammar.script d) = refl
 
-placement_level : (x : Placement) (xs ys : List Token) → SpellsPlacement x xs ys → level xs < 14
+placement_level : (x : Placement) (xs ys : List Token) → SpellsPlacement x xs ys → level xs < 4
 placement_level _ _ _ (grammar.node d) = omega arith
 placement_level _ _ _ grammar.channel = omega arith
+placement_level _ _ _ (grammar.script d) = omega arith
 
 placed_complete : (ps : List Placement) (xs : List Token) → Several SpellsPlacement ps xs [] → reading.all_placements xs ≡ read_next ps []
 unfolding reading.all_placements
 placed_complete ps xs d =
-    several_complete (Below 14) SpellsPlacement reading.placement placement_complete placement_shorter at_placement placement_begins placement_level ps xs [] d (omega arith)
+    several_complete (Below 4) SpellsPlacement reading.placement placement_complete placement_shorter at_placement placement_begins placement_level ps xs [] d (omega arith)
     (at_placement_below [] (omega arith))
 
 text_read : (ds : List Declaration) (ps : List Placement) (xs ys : List Token) → reading.all_declarations xs ≡ read_next ds (token.Mark mark.System ∷ ys) → reading.all_placements ys ≡ read_next ps [] →

@@ -4,13 +4,13 @@ use Rattle.ioa_tokens.specs.declared.token.Token.{Token}
 use Rattle.ioa_tokens.specs.declared.mark.Mark.TheVariants as mark
 use Rattle.ioa_terms.specs.declared.tree.Kind.{Kind}
 use Rattle.ioa_source.specs.PlainSort.{PlainSort}
-use Rattle.ioa_source.specs.Sides.{SourceTerm as Term, SourceTarget as Target, SourceStatement as Statement, SourceStatements as Statements, SourceArms as Arms, SourceFiring as Firing, SourceDeclared as Declared, SourceParameter as Parameter, SourceEntry as Entry, SourceVariable as Variable, SourceTransition as Transition, SourceForm as Form, SourceDeclaration as Declaration, SourcePlacement as Placement}
+use Rattle.ioa_source.specs.Sides.{SourceTerm as Term, SourceTarget as Target, SourceStatement as Statement, SourceStatements as Statements, SourceArms as Arms, SourceFiring as Firing, SourceDeclared as Declared, SourceParameter as Parameter, SourceEntry as Entry, SourceVariable as Variable, SourceTransition as Transition, SourceForm as Form, SourceDeclaration as Declaration, SourceCall as Call, SourcePlacement as Placement}
 use Rattle.ioa_cursor.specs.Lists.{Several, SeparatedBy, ListsSeparatedBy, SeveralLists}
 use Rattle.ioa_cursor.proofs.Shorter.{several_shorter, separated_shorter, ended_shorter, gathered_shorter, gathered_several_shorter, section_shorter, optional_shorter}
 use Rattle.ioa_term_reader.specs.Grammar.{SpellsTerm, bracket_limit}
 use Rattle.ioa_term_reader.proofs.Shorter.{term_shorter}
 use Rattle.ioa_text_reader.specs.Grammar as grammar
-use Rattle.ioa_text_reader.specs.Grammar.{inner_limit, Call, SpellsSort, SpellsWord, SpellsDeclared, SpellsParameters, InBrackets, SpellsCall, SpellsKind, SpellsEntry, SpellsGroup, SpellsVariable, SpellsTarget, SpellsStatement, SpellsArms, SpellsRest, SpellsStatements, SpellsEffect, SpellsGuard, SpellsTransition, SpellsFire, SpellsBlock, SpellsHead, SpellsForm, SpellsDeclaration, SpellsPlacement}
+use Rattle.ioa_text_reader.specs.Grammar.{inner_limit, SpellsSort, SpellsWord, SpellsDeclared, SpellsParameters, InBrackets, SpellsCall, SpellsKind, SpellsEntry, SpellsGroup, SpellsVariable, SpellsTarget, SpellsStatement, SpellsArms, SpellsRest, SpellsStatements, SpellsEffect, SpellsGuard, SpellsTransition, SpellsFire, SpellsBlock, SpellsHead, SpellsForm, SpellsDeclaration, SpellsPlacement}
 
 pub sort_shorter : (room : ℕ) (s : PlainSort) (xs ys : List Token) → SpellsSort room s xs ys → length ys < length xs
 sort_shorter _ _ _ _ grammar.bool = omega arith
@@ -155,3 +155,4 @@ declaration_shorter _ _ _ (grammar.automaton_parts h s v t b) =
 pub placement_shorter : (p : Placement) (xs ys : List Token) → SpellsPlacement p xs ys → length ys < length xs
 placement_shorter _ _ _ (grammar.node d) = let a = call_shorter _ _ _ d in omega arith
 placement_shorter _ _ _ grammar.channel = omega arith
+placement_shorter _ _ _ (grammar.script d) = let a = separated_shorter SpellsCall call_shorter d in omega arith

@@ -1,9 +1,9 @@
--- What is read of declared names, of parameters and of a call is spelled.
+-- What is read of declared names, of parameters and of calls is spelled.
 use Rattle.std.proofs.Common.{◌≡◌, ℕ, List, Option}
 use Rattle.std.proofs.lemmas.Option.{some_pair_parts}
 use Rattle.ioa_tokens.specs.declared.token.Token.{Token}
 use Rattle.ioa_tokens.specs.declared.mark.Mark.TheVariants as mark
-use Rattle.ioa_source.specs.Sides.{SourceTerm as Term, SourceDeclared as Declared, SourceParameter as Parameter}
+use Rattle.ioa_source.specs.Sides.{SourceTerm as Term, SourceDeclared as Declared, SourceParameter as Parameter, SourceCall as Call}
 use Rattle.ioa_cursor.specs.Lists.{SeparatedBy, ListsSeparatedBy}
 use Rattle.ioa_cursor.specs.Reading.{word}
 use Rattle.ioa_cursor.proofs.Steps.{read_next, choose_cases, bind_cases, skip_taken, skip_left, expected_taken, word_taken}
@@ -11,7 +11,7 @@ use Rattle.ioa_cursor.proofs.SoundLists.{separated_sound, gathered_sound}
 use Rattle.ioa_term_reader.specs.Grammar.{SpellsTerm}
 use Rattle.ioa_term_reader.specs.Reading.{term}
 use Rattle.ioa_text_reader.specs.Grammar as grammar
-use Rattle.ioa_text_reader.specs.Grammar.{SpellsWord, SpellsDeclared, SpellsParameters, InBrackets, Call, SpellsCall, inner_limit}
+use Rattle.ioa_text_reader.specs.Grammar.{SpellsWord, SpellsDeclared, SpellsParameters, InBrackets, SpellsCall, inner_limit}
 use Rattle.ioa_text_reader.specs.Reading as reading
 use Rattle.ioa_term_reader.proofs.Sound.{term_sound}
 use Rattle.ioa_text_reader.proofs.SoundSorts.{sort_sound}
@@ -98,3 +98,7 @@ call_sound xs ys c e =
     bind_cases P e (λ w w_is more. bind_cases P more (λ ts ts_is done.
     let p = some_pair_parts _ _ _ _ done in
     rw (word_taken xs w w_is, ← p.0, ← p.1) (grammar.called (arguments_sound w.1 ts.1 ts.0 ts_is))))
+
+pub calls_sound : (xs ys : List Token) (cs : List Call) → reading.calls xs ≡ read_next cs ys → SeparatedBy mark.Comma SpellsCall cs xs ys
+unfolding reading.calls
+calls_sound xs ys cs e = separated_sound SpellsCall reading.call call_sound mark.Comma xs ys cs e

@@ -4,8 +4,9 @@ use Rattle.std.proofs.lemmas.Option.{some_pair_parts}
 use Rattle.ioa_tokens.specs.declared.token.Token.{Token}
 use Rattle.ioa_tokens.specs.declared.token.Token.TheVariants as token
 use Rattle.ioa_tokens.specs.declared.mark.Mark.TheVariants as mark
-use Rattle.ioa_source.specs.PlainText.{type_named, automaton, node}
-use Rattle.ioa_source.specs.Sides.{SourceTerm as Term, SourceStatement as Statement, SourceFiring as Firing, SourceDeclared as Declared, SourceTransition as Transition, SourceForm as Form, SourceType as TypeOf, SourceAutomaton as Automaton, SourceDeclaration as Declaration, SourceNode as Node, SourcePlacement as Placement, SourceText}
+use Rattle.ioa_source.specs.PlainText.{type_named, automaton, node, channel, script}
+use Rattle.ioa_source.specs.Sides.{SourceTerm as Term, SourceStatement as Statement, SourceFiring as Firing, SourceDeclared as Declared, SourceTransition as Transition, SourceForm as Form, SourceType as TypeOf, SourceAutomaton as Automaton, SourceDeclaration as Declaration, SourceNode as Node, SourceScript as Script, SourcePlacement as Placement, SourceText}
+use Rattle.ioa_source.specs.declared.declaration.Channel.{Channel}
 use Rattle.ioa_cursor.specs.Lists.{Several, SeparatedOrEndedBy, Section, Optional}
 use Rattle.ioa_cursor.specs.Reading.{skip, at, end}
 use Rattle.ioa_cursor.proofs.Steps.{read_next, choose_cases, bind_cases, skip_taken, skip_left, expected_taken, word_taken, number_taken}
@@ -15,7 +16,7 @@ use Rattle.ioa_text_reader.specs.Grammar as grammar
 use Rattle.ioa_text_reader.specs.Grammar.{SpellsGuard, SpellsEffect, SpellsTransition, SpellsFire, SpellsBlock, SpellsHead, SpellsForm, SpellsDeclaration, SpellsPlacement, Spells, inner_limit}
 use Rattle.ioa_text_reader.specs.Reading as reading
 use Rattle.ioa_term_reader.proofs.Sound.{term_sound}
-use Rattle.ioa_text_reader.proofs.SoundDeclared.{words_sound, declared_names_sound, call_sound}
+use Rattle.ioa_text_reader.proofs.SoundDeclared.{words_sound, declared_names_sound, call_sound, calls_sound}
 use Rattle.ioa_text_reader.proofs.SoundParts.{kind_sound, signature_sound, states_sound}
 use Rattle.ioa_text_reader.proofs.SoundStatements.{statements_sound}
 
@@ -177,6 +178,22 @@ node_sound xs ys x e =
     let p = some_pair_parts _ _ _ _ done in
     rw (number_taken xs n n_is, expected_taken mark.Colon n.1 c c_is, ← p.0, ← p.1) (grammar.node (call_sound c.1 a.1 a.0 a_is)))))
 
+channel_sound : (xs ys : List Token) (x : Channel) → reading.channel xs ≡ read_next x ys → SpellsPlacement (channel x) (token.Mark mark.Channel ∷ xs) ys
+unfolding reading.channel
+channel_sound xs ys x e =
+    let P : Type 0 = SpellsPlacement (channel x) (token.Mark mark.Channel ∷ xs) ys in
+    bind_cases P e (λ i i_is e1. bind_cases P e1 (λ a a_is e2. bind_cases P e2 (λ j j_is done.
+    let p = some_pair_parts _ _ _ _ done in
+    rw (number_taken xs i i_is, expected_taken mark.Arrow i.1 a a_is, number_taken a.1 j j_is, ← p.0, ← p.1) grammar.channel)))
+
+script_sound : (xs ys : List Token) (x : Script) → reading.script xs ≡ read_next x ys → SpellsPlacement (script x) (token.Mark mark.Script ∷ xs) ys
+unfolding reading.script
+script_sound xs ys x e =
+    let P : Type 0 = SpellsPlacement (script x) (token.Mark mark.Script ∷ xs) ys in
+    bind_cases P e (λ n n_is e1. bind_cases P e1 (λ c c_is e2. bind_cases P e2 (λ cs cs_is done.
+    let p = some_pair_parts _ _ _ _ done in
+    rw (number_taken xs n n_is, expected_taken mark.Colon n.1 c c_is, ← p.0, ← p.1) (grammar.script (calls_sound c.1 cs.1 cs.0 cs_is)))))
+
 placement_sound : (xs ys : List Token) (x : Placement) → reading.placement xs ≡ read_next x ys → SpellsPlacement x xs ys
 unfolding reading.placement
 placement_sound xs ys x e =
@@ -186,11 +203,16 @@ placement_sound xs ys x e =
     bind_cases P more (λ n n_is done.
     let p = some_pair_parts _ _ _ _ done in
     rw (skip_taken mark.Node xs is_node, ← p.0, ← p.1) (node_sound _ n.1 n.0 n_is)))
-    (λ no_node more.
-    bind_cases P more (λ c c_is e1. bind_cases P e1 (λ i i_is e2. bind_cases P e2 (λ a a_is e3. bind_cases P e3 (λ j j_is done.
+    (λ no_node others.
+    choose_cases P others
+    (λ is_channel more.
+    bind_cases P more (λ c c_is done.
     let p = some_pair_parts _ _ _ _ done in
-    rw (← skip_left mark.Node xs no_node, expected_taken mark.Channel _ c c_is, number_taken c.1 i i_is, expected_taken mark.Arrow i.1 a a_is, number_taken a.1 j j_is, ← p.0, ← p.1)
-    grammar.channel)))))
+    rw (← skip_left mark.Node xs no_node, skip_taken mark.Channel _ is_channel, ← p.0, ← p.1) (channel_sound _ c.1 c.0 c_is)))
+    (λ no_channel more.
+    bind_cases P more (λ m m_is e1. bind_cases P e1 (λ s s_is done.
+    let p = some_pair_parts _ _ _ _ done in
+    rw (← skip_left mark.Node xs no_node, ← skip_left mark.Channel _ no_channel, expected_taken mark.Script _ m m_is, ← p.0, ← p.1) (script_sound m.1 s.1 s.0 s_is)))))
 
 placed_sound : (xs ys : List Token) (all : List Placement) → reading.all_placements xs ≡ read_next all ys → Several SpellsPlacement all xs ys
 unfolding reading.all_placements

@@ -1,6 +1,6 @@
 -- The grammar of texts (profile), a production at a time. `SpellsX x xs ys` says that the tokens `xs` are a spelling of
 -- `x`, followed by the tokens `ys`. The next token decides each choice. The statements of a schedule block are firings,
--- and there are no scripts, no invariants and no unordered channels yet.
+-- and there are no invariants and no unordered channels yet.
 use Rattle.std.specs.Prelude.{ℕ, suc, ℤ, List, [], ◌∷◌, ◌≤◌, Option, Some, None, map}
 use Rattle.ioa_tokens.specs.declared.token.Token.{Token}
 use Rattle.ioa_tokens.specs.declared.token.Token.TheVariants as token
@@ -18,7 +18,7 @@ use Rattle.ioa_source.specs.Sides.{SourceStatements as Statements, SourceArms as
 use Rattle.ioa_source.specs.Sides.{SourceDeclared as Declared}
 use Rattle.ioa_source.specs.Sides.{SourceParameter as Parameter, SourceEntry as Entry, SourceVariable as Variable}
 use Rattle.ioa_source.specs.Sides.{SourceTransition as Transition, SourceForm as Form, SourceDeclaration as Declaration}
-use Rattle.ioa_source.specs.Sides.{SourcePlacement as Placement, SourceText}
+use Rattle.ioa_source.specs.Sides.{SourceCall as Call, SourcePlacement as Placement, SourceText}
 use Rattle.ioa_cursor.specs.Lists.{Several, SeparatedBy, SeparatedOrEndedBy, Section, Optional}
 use Rattle.ioa_cursor.specs.Lists.{ListsSeparatedBy, SeveralLists}
 use Rattle.ioa_source.specs.Heights.{height_limit, statements_height}
@@ -74,11 +74,6 @@ pub data InBrackets {A : Type 0} (X : List A → List Token → List Token → T
   hollow : {xs : List Token} → InBrackets X [] (token.Mark mark.OpenRound ∷ token.Mark mark.CloseRound ∷ xs) xs
   filled : {items : List A} {xs ys : List Token} → X items xs (token.Mark mark.CloseRound ∷ ys) →
       InBrackets X items (token.Mark mark.OpenRound ∷ xs) ys
-
--- an action: its name and its arguments
-pub record Call : Type 0 where
-  pub name : List ℕ
-  pub arguments : List Term
 
 -- Call: Word [ ( [Term {, Term}] ) ]
 pub data SpellsCall : Call → List Token → List Token → Type 0 where
@@ -231,7 +226,7 @@ pub data SpellsDeclaration : Declaration → List Token → List Token → Type 
       }))
       (token.Mark mark.Automaton ∷ token.Word w ∷ xs) ys
 
--- Placement: node Number : Call, or channel Number -> Number
+-- Placement: node Number : Call, channel Number -> Number, or script Number : Call {, Call}
 pub data SpellsPlacement : Placement → List Token → List Token → Type 0 where
   node : {n : ℤ} {call : Call} {xs ys : List Token} → SpellsCall call xs ys →
       SpellsPlacement (plain.node (record { number = n; automaton = call.name; arguments = call.arguments }))
@@ -239,6 +234,9 @@ pub data SpellsPlacement : Placement → List Token → List Token → Type 0 wh
   channel : {i j : ℤ} {xs : List Token} →
       SpellsPlacement (plain.channel (record { from = i; to = j }))
       (token.Mark mark.Channel ∷ token.Number i ∷ token.Mark mark.Arrow ∷ token.Number j ∷ xs) xs
+  script : {n : ℤ} {calls : List Call} {xs ys : List Token} → SeparatedBy mark.Comma SpellsCall calls xs ys →
+      SpellsPlacement (plain.script (record { node = n; calls = calls }))
+      (token.Mark mark.Script ∷ token.Number n ∷ token.Mark mark.Colon ∷ xs) ys
 
 -- Text: {Declaration} system {Placement}, and then nothing more
 pub data Spells : SourceText → List Token → Type 0 where

@@ -1,5 +1,4 @@
 -- what the contracts of this crate and of those above it cite
-pub mod Calls
 pub mod FaultText
 pub mod Grammar
 pub mod Groups

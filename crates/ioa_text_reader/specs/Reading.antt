@@ -16,14 +16,16 @@ use Rattle.ioa_source.specs.Sides.{SourceStatements as Statements, SourceFiring 
 use Rattle.ioa_source.specs.Sides.{SourceParameter as Parameter, SourceEntry as Entry, SourceVariable as Variable}
 use Rattle.ioa_source.specs.Sides.{SourceTransition as Transition, SourceForm as Form, SourceType as TypeOf}
 use Rattle.ioa_source.specs.Sides.{SourceAutomaton as Automaton, SourceDeclaration as Declaration}
-use Rattle.ioa_source.specs.Sides.{SourceNode as Node, SourcePlacement as Placement, SourceText}
+use Rattle.ioa_source.specs.Sides.{SourceNode as Node, SourceCall as Call, SourceScript as Script}
+use Rattle.ioa_source.specs.Sides.{SourcePlacement as Placement, SourceText}
+use Rattle.ioa_source.specs.declared.declaration.Channel.{Channel}
 use Rattle.ioa_cursor.specs.Reading.{◌>>=◌, choose, skip, expect, word, number, end}
 use Rattle.ioa_cursor.specs.Reading.{at, at_word, peek_mark, advance, begins_with, resumes_with}
 use Rattle.ioa_cursor.specs.Reading.{several, several_more, section, optional, several_lists, several_more_lists}
 use Rattle.ioa_source.specs.Heights.{height_limit, statement_height}
 use Rattle.ioa_term_reader.specs.Grammar.{bracket_limit}
 use Rattle.ioa_term_reader.specs.Reading.{term}
-use Rattle.ioa_text_reader.specs.Grammar.{Call, declare, inner_limit}
+use Rattle.ioa_text_reader.specs.Grammar.{declare, inner_limit}
 
 -- `next` reads the sorts in the brackets of a sort
 module _ (next : List Token → Option (PlainSort × List Token)) where
@@ -109,6 +111,10 @@ arguments xs = in_brackets terms xs
 -- Word and its arguments
 unfoldable pub call : List Token → Option (Call × List Token)
 call xs = word xs >>= λ w. arguments w.1 >>= λ ts. Some (record { name = w.0; arguments = ts.0 }, ts.1)
+
+-- Call {, Call}
+unfoldable pub calls : List Token → Option (List Call × List Token)
+calls xs = several_more (skip mark.Comma) call [] xs
 
 -- the kind that a mark says, if it says one
 abbrev pub kind_of : Mark → Option Kind
@@ -348,9 +354,9 @@ declaration xs =
 unfoldable pub all_declarations : List Token → Option (List Declaration × List Token)
 all_declarations xs = several (begins_with at_declaration) declaration xs
 
--- whether node or channel comes first
+-- whether node, channel or script comes first
 unfoldable pub at_placement : List Token → Bool
-at_placement xs = if at mark.Node xs then true else at mark.Channel xs
+at_placement xs = if at mark.Node xs then true else (if at mark.Channel xs then true else at mark.Script xs)
 
 -- Number : Call, after the first word
 unfoldable pub node : List Token → Option (Node × List Token)
@@ -358,14 +364,27 @@ node xs =
     number xs >>= λ n. expect mark.Colon n.1 >>= λ c. call c.1 >>= λ a.
     Some (record { number = n.0; automaton = a.0.name; arguments = a.0.arguments }, a.1)
 
--- node Number : Call, or channel Number -> Number
+-- Number -> Number, after the first word
+unfoldable pub channel : List Token → Option (Channel × List Token)
+channel xs =
+    number xs >>= λ i. expect mark.Arrow i.1 >>= λ a. number a.1 >>= λ j.
+    Some (record { from = i.0; to = j.0 }, j.1)
+
+-- Number : Call {, Call}, after the first word
+unfoldable pub script : List Token → Option (Script × List Token)
+script xs =
+    number xs >>= λ n. expect mark.Colon n.1 >>= λ c. calls c.1 >>= λ cs.
+    Some (record { node = n.0; calls = cs.0 }, cs.1)
+
+-- Node, Channel or Script
 unfoldable pub placement : List Token → Option (Placement × List Token)
 placement xs =
     choose (skip mark.Node xs).0
     (node (skip mark.Node xs).1 >>= λ n. Some (declarations.node n.0, n.1))
-    (expect mark.Channel (skip mark.Node xs).1 >>= λ c. number c.1 >>= λ i.
-    expect mark.Arrow i.1 >>= λ a. number a.1 >>= λ j.
-    Some (declarations.channel (record { from = i.0; to = j.0 }), j.1))
+    (choose (skip mark.Channel (skip mark.Node xs).1).0
+    (channel (skip mark.Channel (skip mark.Node xs).1).1 >>= λ c. Some (declarations.channel c.0, c.1))
+    (expect mark.Script (skip mark.Channel (skip mark.Node xs).1).1 >>= λ m. script m.1 >>= λ s.
+    Some (declarations.script s.0, s.1)))
 
 -- {Placement}
 unfoldable pub all_placements : List Token → Option (List Placement × List Token)

@@ -2,28 +2,20 @@
 
 ghost use Rattle.std.specs.Prelude.{◌≡◌, map};
 ghost use Rattle.ioa_cursor.specs.Outcome.{Reads};
+ghost use Rattle.ioa_source.specs.TextView.{call_of};
 ghost use Rattle.ioa_terms.specs.View.{term_of};
-ghost use Rattle.ioa_text_reader.specs.Calls.{call_of};
 ghost use Rattle.ioa_text_reader.specs.Reading as spec;
 
 use ioa_cursor::{Tokens, Unread};
+use ioa_source::Call;
 use ioa_term_reader::{BRACKET_LIMIT, term};
-use ioa_terms::{Kind, Term, Word};
+use ioa_terms::{Kind, Term};
 use ioa_tokens::Mark;
 use std::alloc::Global;
 
 /// How many brackets may be opened within the brackets of a call, an entry, an automaton or a target:
 /// these are open, too.
 pub(crate) const INNER_LIMIT: usize = BRACKET_LIMIT - 1;
-
-/// An action as a text writes it.
-#[derive(Drop)]
-pub(crate) struct ActionCall {
-    /// Its name.
-    pub(crate) name: Word,
-    /// Its arguments; none if it has no brackets.
-    pub(crate) arguments: Vec<Term>,
-}
 
 /// Term {`,` Term}, in brackets
 #[tactic(auto, unfolding(crate::specs::Reading::terms, crate::specs::bind))]
@@ -60,12 +52,28 @@ fn arguments(alloc: Global, tokens: &mut Tokens<'_>) -> Result<Vec<Term>, Unread
 
 /// Word [`(` [Term {`,` Term}] `)`]
 #[tactic(auto, unfolding(crate::specs::Reading::call, crate::specs::bind))]
-pub(crate) fn call(alloc: Global, tokens: &mut Tokens<'_>) -> Result<ActionCall, Unread>
+pub(crate) fn call(alloc: Global, tokens: &mut Tokens<'_>) -> Result<Call<(), ()>, Unread>
     ensures { Reads call_of (spec.call tokens.old) result tokens.new }
 {
     let name = tokens.word(alloc)?;
     let arguments = arguments(alloc, tokens)?;
-    Ok(ActionCall { name, arguments })
+    Ok(Call { name, arguments })
+}
+
+/// Call {`,` Call}
+#[tactic(auto, unfolding(crate::specs::Reading::calls, crate::specs::bind))]
+pub(crate) fn calls(alloc: Global, tokens: &mut Tokens<'_>) -> Result<Vec<Call<(), ()>>, Unread>
+    ensures { Reads (λ v. map call_of v.items) (spec.calls tokens.old) result tokens.new }
+{
+    let mut calls = Vec::new(alloc);
+    calls.push(call(alloc, tokens)?)?;
+    for _turn in 0..tokens.len() {
+        if !tokens.skip(Mark::Comma) {
+            return Ok(calls);
+        }
+        calls.push(call(alloc, tokens)?)?;
+    }
+    Ok(calls)
 }
 
 /// The kind that a mark says, if it says one.

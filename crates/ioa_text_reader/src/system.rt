@@ -2,14 +2,17 @@
 
 ghost use Rattle.std.specs.Prelude.{◌≡◌, map};
 ghost use Rattle.ioa_cursor.specs.Outcome.{Reads};
-ghost use Rattle.ioa_source.specs.TextView.{form_of, type_of, declaration_of, node_of, placement_of, text_of};
+ghost use Rattle.ioa_source.specs.TextView.{form_of, type_of, declaration_of, node_of, script_of};
+ghost use Rattle.ioa_source.specs.TextView.{placement_of, text_of};
 ghost use Rattle.ioa_text_reader.specs.Reading as spec;
 
 use crate::automaton::automaton;
-use crate::call::call;
+use crate::call::{call, calls};
 use crate::declared::{declared_names, words};
 use ioa_cursor::{Tokens, Unread};
-use ioa_source::{Channel, Declaration, Node, Placement, Text, TypeDeclaration, TypeForm};
+use ioa_source::{
+    Channel, Declaration, Node, Placement, ScriptDeclaration, Text, TypeDeclaration, TypeForm,
+};
 use ioa_term_reader::BRACKET_LIMIT;
 use ioa_tokens::Mark;
 use std::alloc::Global;
@@ -83,7 +86,7 @@ fn declarations(alloc: Global, tokens: &mut Tokens<'_>) -> Result<Vec<Declaratio
 fn at_placement(tokens: &Tokens<'_>) -> bool
     ensures { result ≡ spec.at_placement tokens.now }
 {
-    tokens.at(Mark::Node) || tokens.at(Mark::Channel)
+    tokens.at(Mark::Node) || tokens.at(Mark::Channel) || tokens.at(Mark::Script)
 }
 
 /// Number `:` Call, after `node`
@@ -101,7 +104,29 @@ fn node(alloc: Global, tokens: &mut Tokens<'_>) -> Result<Node<(), ()>, Unread>
     })
 }
 
-/// `node` Number `:` Call, or `channel` Number `->` Number
+/// Number `->` Number, after `channel`
+#[tactic(auto, unfolding(crate::specs::Reading::channel, crate::specs::bind))]
+fn channel(tokens: &mut Tokens<'_>) -> Result<Channel, Unread>
+    ensures { Reads (λ c. c) (spec.channel tokens.old) result tokens.new }
+{
+    let from = tokens.number()?;
+    tokens.expect(Mark::Arrow)?;
+    let to = tokens.number()?;
+    Ok(Channel { from, to })
+}
+
+/// Number `:` Call {`,` Call}, after `script`
+#[tactic(auto, unfolding(crate::specs::Reading::script, crate::specs::bind))]
+fn script(alloc: Global, tokens: &mut Tokens<'_>) -> Result<ScriptDeclaration<(), ()>, Unread>
+    ensures { Reads script_of (spec.script tokens.old) result tokens.new }
+{
+    let node = tokens.number()?;
+    tokens.expect(Mark::Colon)?;
+    let calls = calls(alloc, tokens)?;
+    Ok(ScriptDeclaration { node, calls })
+}
+
+/// Node, Channel or Script
 #[tactic(auto, unfolding(crate::specs::Reading::placement, crate::specs::bind, crate::specs::choose))]
 fn one_placement(alloc: Global, tokens: &mut Tokens<'_>) -> Result<Placement<(), ()>, Unread>
     ensures { Reads placement_of (spec.placement tokens.old) result tokens.new }
@@ -110,14 +135,16 @@ fn one_placement(alloc: Global, tokens: &mut Tokens<'_>) -> Result<Placement<(),
         let node = node(alloc, tokens)?;
         return Ok(Placement::Node(node));
     }
-    tokens.expect(Mark::Channel)?;
-    let from = tokens.number()?;
-    tokens.expect(Mark::Arrow)?;
-    let to = tokens.number()?;
-    Ok(Placement::Channel(Channel { from, to }))
+    if tokens.skip(Mark::Channel) {
+        let channel = channel(tokens)?;
+        return Ok(Placement::Channel(channel));
+    }
+    tokens.expect(Mark::Script)?;
+    let script = script(alloc, tokens)?;
+    Ok(Placement::Script(script))
 }
 
-/// {Node or Channel}
+/// {Node or Channel or Script}
 #[tactic(auto, unfolding(crate::specs::Reading::all_placements))]
 fn placements(alloc: Global, tokens: &mut Tokens<'_>) -> Result<Vec<Placement<(), ()>>, Unread>
     ensures { Reads (λ v. map placement_of v.items) (spec.all_placements tokens.old) result tokens.new }
@@ -132,7 +159,7 @@ fn placements(alloc: Global, tokens: &mut Tokens<'_>) -> Result<Vec<Placement<()
     Ok(placements)
 }
 
-/// {Type or Automaton} `system` {Node or Channel}, and then the end
+/// {Type or Automaton} `system` {Node or Channel or Script}, and then the end
 #[tactic(auto, unfolding(crate::specs::Reading::whole, crate::specs::bind))]
 pub(crate) fn whole(alloc: Global, tokens: &mut Tokens<'_>) -> Result<Text<(), ()>, Unread>
     ensures { Reads text_of (spec.whole tokens.old) result tokens.new }

@@ -1,5 +1,6 @@
 -- lemmas of workers
 mod Elements
+mod Fired
 mod Nexts
 mod Termination
 mod Rounds

@@ -7,8 +7,8 @@ use Rattle.ioa_actions.specs.ActionParts.{node_of}
 use Rattle.ioa_actions.specs.declared.action.Action.{Action}
 use Rattle.ioa_operators.specs.declared.fault.TermFault.{TermFault}
 use Rattle.ioa_compose.specs.declared.configuration.Conf.{Conf}
-use Rattle.ioa_compose.specs.declared.fault.StepFault.{StepFault}
-use Rattle.ioa_compose.specs.declared.fault.StepFault.TheVariants as step
+use Rattle.ioa_actions.specs.declared.fault.StepFault.{StepFault}
+use Rattle.ioa_actions.specs.declared.fault.StepFault.TheVariants as step
 use Rattle.ioa_compose.specs.Composition.{joint_answer}
 use Rattle.ioa_compose.specs.Start.{start}
 use Rattle.ioa_system.specs.Systems.{SystemParts}

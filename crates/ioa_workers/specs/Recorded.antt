@@ -11,6 +11,7 @@ use Rattle.ioa_compose.specs.Automata.{IsExecution, ProjectsOnEach}
 use Rattle.ioa_compose.specs.JointStep.{IsJointStep}
 use Rattle.ioa_compose.specs.Steps.{IsStep}
 use Rattle.ioa_compose.specs.Channels.{HandsOutBeginning}
+use Rattle.ioa_compose.specs.Scripts.{TakesBeginning}
 use Rattle.ioa_record.specs.declared.ending.Ending.{Ending}
 use Rattle.ioa_record.specs.declared.record.Record.{Record}
 use Rattle.ioa_workers.specs.declared.running.Course.{Course}
@@ -43,6 +44,8 @@ pub record IsRunOf (s : SystemParts) (limit : ℕ) (r : Record) (endings : List 
   pub projections : ProjectsOnEach IsStep (start s) r.schedule.items r.states.items
   -- each declared channel has handed out a beginning of what was sent on it, and holds the rest (Lynch 14.1)
   pub channels : AllByRecursion (HandsOutBeginning r.schedule.items r.states.items) s.channels
+  -- each declared script has handed out a beginning of its stimuli, and holds the rest (profile)
+  pub scripts : AllByRecursion (TakesBeginning r.schedule.items r.states.items) s.scripts
   -- the runtime finds each of these steps, the schedule is within the limit, the one worker's count is the number of
   -- the actions, and there is one ending a node (profile)
   pub left : IsRecordOf s limit r endings

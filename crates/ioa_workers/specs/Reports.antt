@@ -1,5 +1,5 @@
 -- The report of a run (profile): its parts in order, each line ended by a line feed.
-use Rattle.std.specs.Prelude.{ℕ, ℤ, ◌+◌, List, [], ◌∷◌, ◌++◌, map, length, sum, codes}
+use Rattle.std.specs.Prelude.{ℕ, ℤ, ◌+◌, List, [], ◌∷◌, ◌++◌, Option, Some, None, map, length, sum, codes}
 use Rattle.std.specs.Fmt.{decimal, signed_decimal}
 use Rattle.std.specs.List.{flat_map}
 use Rattle.ioa_values.specs.Data.{Data}
@@ -9,10 +9,11 @@ use Rattle.ioa_actions.specs.declared.action.Action.{Action}
 use Rattle.ioa_actions.specs.declared.component.Component.{Component}
 use Rattle.ioa_actions.specs.declared.component.Component.TheVariants as component
 use Rattle.ioa_source.specs.Sides.{CheckedVariable}
+use Rattle.ioa_system.specs.Systems.{ScriptParts, SystemParts, script_of}
 use Rattle.ioa_compose.specs.declared.configuration.Conf.{Conf}
 use Rattle.ioa_compose.specs.declared.configuration.Conf.TheVariants.{Node, Queue}
-use Rattle.ioa_compose.specs.declared.queue.Item.{Item}
-use Rattle.ioa_compose.specs.declared.queue.Item.TheVariants.{Message, Stimulus}
+use Rattle.ioa_channels.specs.declared.queue.Item.{Item}
+use Rattle.ioa_channels.specs.declared.queue.Item.TheVariants.{Message, Stimulus}
 use Rattle.ioa_record.specs.declared.ending.Ending.{Ending}
 use Rattle.ioa_record.specs.declared.record.Record.{Record}
 use Rattle.ioa_record.specs.Endings.{ending_text}
@@ -44,22 +45,30 @@ abbrev pub item_text : List (List ℕ) → Item → List ℕ
 item_text names (Message m) = text names m
 item_text names (Stimulus a) = node_action_text names a
 
--- `channel i -> j {v, w}` for a queue with the items v and w; nothing for the queue of a script
-abbrev pub queue_line : List (List ℕ) → Component → List Item → List ℕ
-queue_line names (component.Node i) items = []
-queue_line names (component.Channel i j) items =
+-- `script i n` for n stimuli that are left of a declared script of node i; nothing if none is declared
+abbrev pub script_text : Option ScriptParts → ℤ → ℕ → List ℕ
+script_text None i n = []
+script_text (Some s) i n = codes "script " ++ (signed_decimal i ++ (codes " " ++ (decimal n ++ codes "\n")))
+
+abbrev pub script_line : List ScriptParts → ℤ → ℕ → List ℕ
+script_line scripts i n = script_text (script_of i scripts) i n
+
+-- `channel i -> j {v, w}` for a queue with the items v and w, and the line of a script
+abbrev pub queue_line : SystemParts → Component → List Item → List ℕ
+queue_line s (component.Node i) items = []
+queue_line s (component.Channel i j) items =
     codes "channel " ++ (signed_decimal i ++ (codes " -> " ++ (signed_decimal j
-    ++ (codes " {" ++ (with_commas (map (item_text names) items) ++ codes "}\n")))))
-queue_line names (component.Script i) items = []
+    ++ (codes " {" ++ (with_commas (map (item_text s.names) items) ++ codes "}\n")))))
+queue_line s (component.Script i) items = script_line s.scripts i (length items)
 
 -- the lines of a component
-abbrev pub component_lines : List (List ℕ) → Conf → List ℕ
-component_lines names (Node c) = variable_lines names c.program.node c.variables c.program.automaton.variables
-component_lines names (Queue q) = queue_line names q.component q.items
+abbrev pub component_lines : SystemParts → Conf → List ℕ
+component_lines s (Node c) = variable_lines s.names c.program.node c.variables c.program.automaton.variables
+component_lines s (Queue q) = queue_line s q.component q.items
 
 -- the lines of the components, in the order of their configurations
-abbrev pub states_text : List (List ℕ) → List Conf → List ℕ
-states_text names states = flat_map (component_lines names) states
+abbrev pub states_text : SystemParts → List Conf → List ℕ
+states_text s states = flat_map (component_lines s) states
 
 -- `ending i e`, one line a node, counted from i
 abbrev pub ending_lines : ℕ → List Ending → List ℕ
@@ -78,7 +87,7 @@ abbrev pub commits_text : List ℕ → List ℕ
 commits_text commits = commit_lines 0 commits ++ (codes "total " ++ (decimal (sum commits) ++ codes "\n"))
 
 -- the whole report
-abbrev pub report_text : List (List ℕ) → Record → List Ending → List ℕ
-report_text names r endings =
-    schedule_text names r.schedule.items ++ states_text names r.states.items ++ ending_lines 0 endings
+abbrev pub report_text : SystemParts → Record → List Ending → List ℕ
+report_text s r endings =
+    schedule_text s.names r.schedule.items ++ states_text s r.states.items ++ ending_lines 0 endings
     ++ commits_text r.commits.items

@@ -39,7 +39,7 @@ pub record IsReport (text : List ℕ) (options : PlainOptions) (report : List �
   pub endings : List Ending
   pub run : IsRunOf parts options.steps left endings
   pub solo : IsSoloRun parts options left endings
-  pub written : report ≡ report_text parts.names left endings
+  pub written : report ≡ report_text parts left endings
 
 -- a fault of reading as a run's: want of memory is one fault wherever it comes
 abbrev pub run_fault_of_front : FrontFault → RunFault

@@ -1,13 +1,19 @@
 //! Laws of runs. Each law is the contract of a function that does nothing.
 
-ghost use Rattle.std.specs.Prelude.{◌≡◌, true, ℕ};
+ghost use Rattle.std.specs.Prelude.{◌≡◌, true, ℕ, List, Some};
 ghost use Rattle.std.specs.List.{list_all};
 ghost use Rattle.ioa_compose.specs.Automata.{IsExecution};
 ghost use Rattle.ioa_compose.specs.JointStep.{IsJointStep};
 ghost use Rattle.ioa_compose.specs.Start.{start};
 ghost use Rattle.ioa_compose.specs.Steps.{IsStep};
 ghost use Rattle.ioa_system.specs.Declarations.{IsWellDeclared};
+ghost use Rattle.ioa_system.specs.Parts.{Parts, PlainRule, rule_named};
 ghost use Rattle.ioa_system.specs.Systems.{SystemParts};
+ghost use Rattle.ioa_values.specs.Data.{Data};
+ghost use Rattle.ioa_actions.specs.ActionParts.{action_name, action_arguments};
+ghost use Rattle.ioa_transitions.specs.NodeStep.{IsOfKind};
+ghost use Rattle.ioa_workers.specs.Fired.{AreArgumentsFor};
+ghost use Rattle.ioa_workers.specs.Turns.{action_fired};
 ghost use Rattle.ioa_workers.specs.Recorded.{ReplaysWithin};
 ghost use Rattle.ioa_workers.specs.Solo.{has_ended, rounds, solo};
 
@@ -22,4 +28,14 @@ pub fn solo_law()
         (solo s attempts limit).0.schedule (solo s attempts limit).0.states }
     ensures execution { (s : SystemParts) (attempts limit : ℕ) → IsWellDeclared s → IsExecution (IsJointStep IsStep)
         (start s) (solo s attempts limit).0.schedule (solo s attempts limit).0.states }
+{}
+
+/// A fired action has the name and the arguments that it is fired with. It is of the kind of the node's entry of that
+/// name (Lynch 8.1), if `send` and `receive` are entries of messages, as the check asks.
+pub fn fired_law()
+    ensures name { (p : Parts) (w : List ℕ) (vs : List Data) → action_name (action_fired p w vs) ≡ w }
+    ensures arguments { (p : Parts) (w : List ℕ) (vs : List Data) → action_arguments (action_fired p w vs) ≡ vs }
+    ensures kind { (p : Parts) (r : PlainRule) (w : List ℕ) (vs : List Data) →
+        rule_named w p.automaton.rules ≡ Some r → AreArgumentsFor r.entry.kind w vs →
+        IsOfKind (action_fired p w vs) r.entry.kind }
 {}

@@ -8,6 +8,6 @@ mod running;
 mod turn;
 mod whole_run;
 
-pub use laws::solo_law;
+pub use laws::{fired_law, solo_law};
 pub use options::{DEFAULT_ATTEMPTS, DEFAULT_STEPS, Options};
 pub use whole_run::{RunFault, run_system};

@@ -6,30 +6,32 @@ ghost use Rattle.ioa_values.specs.Text.{with_commas};
 ghost use Rattle.ioa_values.specs.Outcome.{Writes};
 ghost use Rattle.ioa_workers.specs.Reports.{report_text, schedule_text, action_lines, states_text};
 ghost use Rattle.ioa_workers.specs.Reports.{component_lines, variable_lines, variable_line, queue_line, item_text};
+ghost use Rattle.ioa_workers.specs.Reports.{script_line};
 ghost use Rattle.ioa_workers.specs.Reports.{ending_lines, commits_text, commit_lines};
 
 use ioa_actions::{Action, Component, push_listed, show_action, show_node_action};
-use ioa_compose::{Conf, Item, NodeConf, Queue};
+use ioa_channels::{Item, Queue};
+use ioa_compose::Conf;
 use ioa_record::{Ending, Record};
 use ioa_source::Variable;
 use ioa_system::System;
 use ioa_terms::{Names, Shape, Value, show};
+use ioa_transitions::NodeConf;
 use std::alloc::{AllocError, Global};
 
 /// The report of a run that left this record, with an ending for each node, node 0 first (profile): the schedule, the
-/// nodes' variables, the channels' queues, the endings and the commits.
+/// nodes' variables, the channels' queues, what is left of the declared scripts, the endings and the commits.
 pub fn report(
     alloc: Global,
     system: &System,
     run_record: &Record,
     endings: &[Ending],
 ) -> Result<String, AllocError>
-    ensures { IfOk result (λ s. string_bytes s ≡ report_text system.now.names run_record.now endings.now) }
+    ensures { IfOk result (λ s. string_bytes s ≡ report_text system.now run_record.now endings.now) }
 {
-    let names = system.names();
     let mut report = String::new(alloc);
-    push_schedule(alloc, names, &run_record.schedule, &mut report)?;
-    push_states(alloc, names, &run_record.states, &mut report)?;
+    push_schedule(alloc, system.names(), &run_record.schedule, &mut report)?;
+    push_states(alloc, system, &run_record.states, &mut report)?;
     push_endings(endings, &mut report)?;
     push_commits(run_record, &mut report)?;
     Ok(report)
@@ -68,34 +70,35 @@ fn push_actions(
 /// Writes the components, in the order of their configurations.
 fn push_states(
     alloc: Global,
-    names: &Names,
+    system: &System,
     states: &[Conf],
     report: &mut String,
 ) -> Result<(), AllocError>
-    ensures { OnOk result (Writes report.old report.new (states_text names.now states.now)) }
+    ensures { OnOk result (Writes report.old report.new (states_text system.now states.now)) }
 {
     for state in states {
-        push_component(alloc, names, state, report)?;
+        push_component(alloc, system, state, report)?;
     }
     Ok(())
 }
 
-/// Writes a node's variables or a channel's queue.
+/// Writes a node's variables, a channel's queue, or how much is left of a declared script.
 fn push_component(
     alloc: Global,
-    names: &Names,
+    system: &System,
     state: &Conf,
     report: &mut String,
 ) -> Result<(), AllocError>
-    ensures { OnOk result (Writes report.old report.new (component_lines names.now state.now)) }
+    ensures { OnOk result (Writes report.old report.new (component_lines system.now state.now)) }
 {
     match state {
         Conf::Node(node) => {
+            let names = system.names();
             let values = node.variables().as_slice();
             let variables = node.program().automaton().variables();
             push_variables(alloc, names, node.node(), values, variables, report)
         }
-        Conf::Queue(queue) => push_queue(alloc, names, queue, report),
+        Conf::Queue(queue) => push_queue(alloc, system, queue, report),
     }
 }
 
@@ -142,22 +145,37 @@ fn push_variable(
     write!(report, "node {node} {name} = {value}\n")
 }
 
-/// Writes a channel's queue; nothing for the queue of a script.
+/// Writes a channel's queue, or how many stimuli are left of a declared script; nothing for a node without one.
 fn push_queue(
     alloc: Global,
-    names: &Names,
+    system: &System,
     queue: &Queue,
     report: &mut String,
 ) -> Result<(), AllocError>
-    ensures { OnOk result (Writes report.old report.new (queue_line names.now queue.now.component queue.now.items)) }
+    ensures { OnOk result (Writes report.old report.new (queue_line system.now queue.now.component queue.now.items)) }
 {
     match queue.component() {
         Component::Node(_) => Ok(()),
         Component::Channel { from, to } => {
-            let items = show_items(alloc, names, queue.items())?;
+            let items = show_items(alloc, system.names(), queue.items())?;
             write!(report, "channel {from} -> {to} {{{items}}}\n")
         }
-        Component::Script(_) => Ok(()),
+        Component::Script(node) => push_script(system, node, queue.items().len(), report),
+    }
+}
+
+/// Writes how many stimuli are left of a node's script, if one is declared.
+fn push_script(
+    system: &System,
+    node: i64,
+    left: usize,
+    report: &mut String,
+) -> Result<(), AllocError>
+    ensures { OnOk result (Writes report.old report.new (script_line system.now.scripts node left)) }
+{
+    match system.script_of(node) {
+        None => Ok(()),
+        Some(_) => write!(report, "script {node} {left}\n"),
     }
 }
 

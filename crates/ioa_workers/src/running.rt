@@ -16,8 +16,8 @@ ghost use Rattle.ioa_workers.specs.Solo.{progress_at, course_of, visit, round, r
 
 use crate::options::Options;
 use crate::turn::{Turn, next};
-use ioa_actions::{Action, Component};
-use ioa_compose::{Conf, StepFault, changes, find_conf, put_confs, start};
+use ioa_actions::{Action, Component, StepFault};
+use ioa_compose::{Conf, changes, find_conf, put_confs, start};
 use ioa_record::{Ending, NodeFault, Record};
 use ioa_system::{Program, System};
 use ioa_terms::TermFault;

@@ -1,19 +1,22 @@
 //! Turns of a schedule block.
 
 ghost use Rattle.std.specs.Prelude.{◌≡◌, [], IfOk, map};
+ghost use Rattle.std.specs.Option.{option_copied};
 ghost use Rattle.ioa_values.specs.Outcome.{Answers};
 ghost use Rattle.ioa_terms.specs.Bindings.{names_of};
 ghost use Rattle.ioa_terms.specs.View.{term_of, firing_of};
 ghost use Rattle.ioa_system.specs.InView as site;
 ghost use Rattle.ioa_system.specs.InView.{declared_names, names_at};
 ghost use Rattle.ioa_system.specs.ResolvedPrograms.{AreResolvedTerms, IsResolvedFiring};
+ghost use Rattle.ioa_workers.specs.Turns as spec;
 ghost use Rattle.ioa_workers.specs.Turns.{block_bindings, answers};
 ghost use Rattle.ioa_workers.specs.Turns.{firing_answer, node_turn, FitsAfterTurn};
 
 use ioa_actions::Action;
-use ioa_compose::NodeConf;
-use ioa_terms::{Checked, Env, Firing, Shape, TermFault, Value, eval};
-use std::alloc::Global;
+use ioa_system::{Program, Rule};
+use ioa_terms::{Checked, Env, Firing, Kind, Shape, TermFault, Value, Word, eval};
+use ioa_transitions::NodeConf;
+use std::alloc::{AllocError, Global};
 
 /// What a turn comes to (profile).
 #[derive(Debug, Drop)]
@@ -42,11 +45,38 @@ fn fire(alloc: Global, node: &NodeConf, firing: &Firing<usize, Shape>) -> Result
     requires { IsResolvedFiring (firing_of firing.now)
         (names_at site.firing (declared_names node.now.program.automaton) []) }
     ensures { Answers TermFault.Memory (λ t. t) result
-        (firing_answer node.now.program.node (block_bindings node.now) (firing_of firing.now)) }
+        (firing_answer node.now.program (block_bindings node.now) (firing_of firing.now)) }
 {
     let arguments = arguments_of(alloc, node, &firing.arguments)?;
-    let action = Action::at_node(alloc, node.node(), &firing.action, arguments)?;
+    let action = action_fired(alloc, node.program(), &firing.action, arguments)?;
     Ok(Turn::Fire(action))
+}
+
+/// The action that a name and arguments give at a node with this program: a receive or a stimulus if they are of an
+/// input, and else a send or a local action.
+fn action_fired(
+    alloc: Global,
+    program: &Program,
+    name: &Word,
+    arguments: Vec<Value>,
+) -> Result<Action, AllocError>
+    ensures { IfOk result (λ a. a ≡ spec.action_fired program.now name.now arguments.items) }
+{
+    if is_input(program.automaton().rule_named(name.as_str())) {
+        Action::input_at(alloc, program.node(), name, arguments)
+    } else {
+        Action::locally_controlled_at(alloc, program.node(), name, arguments)
+    }
+}
+
+/// Whether a rule is there and its actions are inputs.
+fn is_input(rule: Option<&Rule>) -> bool
+    ensures { result ≡ spec.is_input (option_copied rule.entry) }
+{
+    match rule {
+        None => false,
+        Some(rule) => rule.entry.kind == Kind::Input,
+    }
 }
 
 /// The values of terms of a node's schedule, in order. No name and no value is copied for them.

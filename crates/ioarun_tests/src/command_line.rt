@@ -251,6 +251,74 @@ fn local_actions_are_taken(rt: HostRuntime) -> Result<(), Fail> {
     Ok(())
 }
 
+/// A text with a script, or with an input that has none, and its report.
+static SCRIPTED: [(&str, &str); 7] = [
+    // the node takes two of three stimuli
+    (
+        "automaton A signature input go(v: Int) states s: Int := 0 transitions input go(v) eff s := s + v
+        schedule do fire go(4); fire go(5) od system node 0: A script 0: go(4), go(5), go(6)",
+        "schedule 2\n0 go(4)@0\n1 go(5)@0\nnode 0 s = 9\nscript 0 1\n\
+        ending 0 done\nworker 0 commits 2\ntotal 2\n",
+    ),
+    // the first fire is missed, since another stimulus is first
+    (
+        "automaton A signature input go(v: Int) states s: Int := 0 transitions input go(v) eff s := s + v
+        schedule do fire go(5); fire input go(4) od system node 0: A script 0: go(4), go(5), go(6)",
+        "schedule 1\n0 go(4)@0\nnode 0 s = 4\nscript 0 2\nending 0 done\nworker 0 commits 1\ntotal 1\n",
+    ),
+    // a node without a script has an empty one, and no line for it
+    (
+        "automaton A signature input go, stop transitions input go input stop
+        schedule do fire go; fire stop od system node 0: A node 1: A script 1: go, stop()",
+        "schedule 2\n0 go@1\n1 stop@1\nscript 1 0\nending 0 done\nending 1 done\nworker 0 commits 2\ntotal 2\n",
+    ),
+    // the lines come by the number of the node, whatever order the scripts have
+    (
+        "type C = enumeration of red, green automaton A signature input go(c: C, s: Seq[Int])
+        states all: Seq[C] := {} transitions input go(c, s) eff all := all |- c
+        system script 1: go(green, {}), go(red, {1, 2}) node 0: A script 0: go(red, {}) node 1: A",
+        "schedule 0\nnode 0 all = {}\nnode 1 all = {}\nscript 0 1\nscript 1 2\n\
+        ending 0 done\nending 1 done\nworker 0 commits 0\ntotal 0\n",
+    ),
+    // the effect has no value, so the stimulus is no step and stays in the script
+    (
+        "automaton A signature input down(v: Nat) states n: Nat := 1 transitions input down(v) eff n := n - v
+        schedule do fire down(1); fire down(1) od system node 0: A script 0: down(1), down(1)",
+        "schedule 1\n0 down(1)@0\nnode 0 n = 0\nscript 0 1\n\
+        ending 0 fault Undefined\nworker 0 commits 1\ntotal 1\n",
+    ),
+    // the stimulus is first, but the node's entry has another constant
+    (
+        "automaton A(n: Nat) signature input go(const n, v: Nat) transitions input go(n, v)
+        schedule do fire go(n, 3); fire go(2, 3) od system node 0: A(1) script 0: go(1, 3), go(2, 3)",
+        "schedule 1\n0 go(1, 3)@0\nscript 0 1\nending 0 fault NotMine\nworker 0 commits 1\ntotal 1\n",
+    ),
+    // a stimulus and a message are one after the other
+    (
+        "automaton A signature output send(m: Int, const 0, const 1), input go(v: Int) states x: Int := 0
+        transitions output send(m, 0, 1) pre m = x input go(v) eff x := v
+        schedule do fire send(7, 0, 1); fire go(7); fire send(7, 0, 1) od
+        automaton B signature input receive(m: Int, const 0, const 1) states got: Int := 0
+        transitions input receive(m, 0, 1) eff got := m schedule do fire receive(7, 0, 1); fire receive(7, 0, 1);
+        fire receive(7, 0, 1) od
+        system node 0: A node 1: B channel 0 -> 1 script 0: go(7)",
+        "schedule 3\n0 go(7)@0\n1 send(7, 0, 1)\n2 receive(7, 0, 1)\nnode 0 x = 7\nnode 1 got = 7\n\
+        channel 0 -> 1 {}\nscript 0 0\nending 0 done\nending 1 done\nworker 0 commits 3\ntotal 3\n",
+    ),
+];
+
+#[test]
+fn stimuli_are_taken_in_the_order_of_their_script(rt: HostRuntime) -> Result<(), Fail> {
+    for (text, report) in &SCRIPTED {
+        let mut reader = text.as_bytes();
+        let (status, out, err) = run_on(&rt, &["ioarun"], &mut reader)?;
+        assert_eq!(rt; out.as_str(), *report);
+        assert_eq!(rt; err.as_str(), "");
+        assert_eq!(rt; status, 0);
+    }
+    Ok(())
+}
+
 #[test]
 fn lengths_are_limited(rt: HostRuntime) -> Result<(), Fail> {
     let room = 1_048_576 - ONE_STATE.len() as u64;

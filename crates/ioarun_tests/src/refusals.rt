@@ -2,9 +2,10 @@
 //! More texts for each refusal are in the folder `checks` at the top of the repository.
 
 use ioa_actions::{Action, Component};
+use ioa_channels::{Item, Queue};
 use ioa_check::check;
 use ioa_command::command;
-use ioa_compose::{Conf, Item, Queue, project, replay};
+use ioa_compose::{Conf, project, replay};
 use ioa_streams::Over;
 use ioa_system::System;
 use ioa_text_reader::parse;
@@ -46,7 +47,7 @@ fn list_of(
 }
 
 /// Texts that are refused for one thing each, with the line that the program shows.
-static REFUSED: [(&str, &str); 15] = [
+static REFUSED: [(&str, &str); 19] = [
     ("automaton A system node 0: B", "20 Unknown in 1"),
     (
         "automaton A states x: Int := 1, x: Int := 2 system",
@@ -80,11 +81,28 @@ static REFUSED: [(&str, &str); 15] = [
         "automaton A(n: Nat) system node 0: A(-1)",
         "34 BadArgument in 1",
     ),
-    // What does not run yet.
+    // Scripts.
     (
-        "automaton A signature input t transitions input t schedule do fire t od system",
-        "20 Unknown in 0",
+        "automaton A system node 0: A script 0: go",
+        "20 Unknown in 1",
     ),
+    (
+        "automaton A signature input go transitions input go system node 0: A script 0: go script 0: go",
+        "21 Twice in 1",
+    ),
+    (
+        "automaton A signature input go(v: Int) transitions input go(v) system node 0: A script 0: go(true)",
+        "22 Sorts in 1",
+    ),
+    (
+        "automaton A signature input go(v: Nat) transitions input go(v) system node 0: A script 0: go(-1)",
+        "34 BadArgument in 1",
+    ),
+    (
+        "automaton A system node 0: A script 0: receive(7, 1, 0)",
+        "34 BadArgument in 1",
+    ),
+    // What does not run yet.
     (
         "automaton A signature input receive(m: Int, s: Nat, const 0) transitions input receive(m, s, 0) \
         schedule do fire receive(len(inbox(1)), 1, 0) od system",
@@ -94,7 +112,10 @@ static REFUSED: [(&str, &str); 15] = [
         "automaton A schedule do while true do od od system",
         "12 Unexpected at 24",
     ),
-    ("automaton A system script 0: go", "12 Unexpected at 19"),
+    (
+        "automaton A system invariant I: true",
+        "12 Unexpected at 19",
+    ),
 ];
 
 /// Whether the program refuses a text with this line and status 1.

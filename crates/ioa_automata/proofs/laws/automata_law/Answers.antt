@@ -2,6 +2,7 @@ use Rattle.std.proofs.Common.{sym}
 use Rattle.ioa_automata.proofs.SoundRules.{automaton_sound}
 use Rattle.ioa_automata.proofs.Complete.{automaton_found}
 use Rattle.ioa_automata.proofs.Compiled.{automaton_compiled}
+use Rattle.ioa_automata.proofs.DeclaredShapes.{automaton_declared}
 use Rattle.ioa_automata.proofs.laws.automata_law.Goals as goal
 
 pub returns : goal.returns
@@ -9,4 +10,5 @@ returns c = record {
   sound = λ t a c text h. automaton_sound t text a c h;
   found = λ t a c h. sym (automaton_found t a c h);
   resolved = automaton_compiled;
+  declared = λ t a c text h. automaton_declared t text a c h;
 }

@@ -5,4 +5,4 @@ use Rattle.ioa_workers.proofs.reporting.push_states.Given as goal
 -- what is written so far are the components gone by
 abbrev pub invariant-loop-state : goal.invariant-loop-state
 invariant-loop-state l =
-    string_bytes l.report ≡ string_bytes l.initial.report ++ states_text l.names (take l.state-index l.states)
+    string_bytes l.report ≡ string_bytes l.initial.report ++ states_text l.system (take l.state-index l.states)

@@ -18,5 +18,5 @@ pub returns-in-Some-clause-answer : goal.returns-in-Some-clause-answer
 returns-in-Some-clause-answer c =
     let found = c.in-Some.ensures.lookup in
     let schedule : map firing_of c.schedule.result.now ≡ c.args.node.now.program.automaton.schedule = rw (c.automaton.ensures, c.program.ensures) at c.schedule.ensures.value in
-    let turn = next_turn firing_of c.args.node.now.program.node (block_bindings c.args.node.now) c.schedule.result.now c.args.passed c.in-Some.firing.now (found.3.0) (found.1) in
+    let turn = next_turn firing_of c.args.node.now.program (block_bindings c.args.node.now) c.schedule.result.now c.args.passed c.in-Some.firing.now (found.3.0) (found.1) in
     rw (← schedule, turn) c.fire.ensures

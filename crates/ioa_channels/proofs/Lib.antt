@@ -1,0 +1,5 @@
+-- the lemmas of this crate
+pub mod Items
+pub mod Names
+pub mod QueueSteps
+pub mod SameQueues

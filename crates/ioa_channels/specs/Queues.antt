@@ -1,0 +1,55 @@
+-- Queues: of the messages under way on a channel (Lynch 14.1), and of the stimuli left in a script (profile).
+use Rattle.std.specs.Prelude.{Bool, false, if◌then◌else◌, List, [], ◌∷◌, ◌++◌, Result, Ok, Err, refl}
+use Rattle.std.specs.Coded.{Coded, code_by, coded×, coded_list}
+use Rattle.ioa_values.specs.Outcome.{and_then}
+use Rattle.ioa_values.specs.DataOrder.{same}
+use Rattle.ioa_actions.specs.Actions.{same_node_action}
+use Rattle.ioa_actions.specs.contracts.component.Component as component
+use Rattle.ioa_actions.specs.declared.component.Component.{Component}
+use Rattle.ioa_actions.specs.declared.action.Action.{Action}
+use Rattle.ioa_actions.specs.declared.action.Action.TheVariants as action
+use Rattle.ioa_channels.specs.contracts.queue.Item as item
+use Rattle.ioa_channels.specs.declared.queue.Item.{Item}
+use Rattle.ioa_channels.specs.declared.queue.Item.TheVariants.{Message, Stimulus}
+use Rattle.ioa_actions.specs.declared.fault.StepFault.{StepFault}
+use Rattle.ioa_actions.specs.declared.fault.StepFault.TheVariants.{NotEnabled, NotMine}
+
+-- a queue's component, and its items from the first to the last
+pub record QueueState : Type 0 where
+  pub component : Component
+  pub items : List Item
+
+abbrev pub queue_state : Component → List Item → QueueState
+queue_state k items = record { component = k; items = items }
+
+abbrev pub queue_state_code : Coded QueueState
+queue_state_code =
+    code_by (Component × List Item) (coded× component.the_row.coded (coded_list item.the_row.coded))
+    (λ q. (q.component, q.items)) (λ p. queue_state p.0 p.1) (λ _. refl)
+
+-- whether two items are the same
+abbrev pub same_item : Item → Item → Bool
+same_item (Message m) (Message n) = same m n
+same_item (Message m) (Stimulus b) = false
+same_item (Stimulus a) (Message n) = false
+same_item (Stimulus a) (Stimulus b) = same_node_action a b
+
+-- the queue with one more item at the end (Lynch 14.1)
+abbrev pub with_last : Item → QueueState → QueueState
+with_last x q = queue_state q.component (q.items ++ x ∷ [])
+
+-- the items behind this item, if it is the first (Lynch 14.1)
+abbrev pub items_behind : Item → List Item → Result (List Item) StepFault
+items_behind x [] = Err NotEnabled
+items_behind x (y ∷ more) = if same_item y x then Ok more else Err NotEnabled
+
+-- the queue without this item, if it is the first
+abbrev pub without_first : Item → QueueState → Result QueueState StepFault
+without_first x q = and_then (items_behind x q.items) (λ items. Ok (queue_state q.component items))
+
+-- the result of an action at a queue: its new state, or why there is none (Lynch 8.1 and 14.1)
+abbrev pub queue_answer : QueueState → Action → Result QueueState StepFault
+queue_answer q (action.Send m i j) = Ok (with_last (Message m) q)
+queue_answer q (action.Receive m i j) = without_first (Message m) q
+queue_answer q (action.Local a) = Err NotMine
+queue_answer q (action.Stimulus a) = without_first (Stimulus a) q

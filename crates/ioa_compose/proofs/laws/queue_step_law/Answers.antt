@@ -1,5 +1,0 @@
-use Rattle.ioa_compose.proofs.Compositions.{queue_answer-is, queue_answer-from}
-use Rattle.ioa_compose.proofs.laws.queue_step_law.Goals as goal
-
-pub returns : goal.returns
-returns c = λ q a r. (queue_answer-is q a r, queue_answer-from q a r)

@@ -1,0 +1,110 @@
+-- Arguments beside parameters, one after another, and what the terms of a rule read.
+use Rattle.std.proofs.Common.{◌≡◌, ◌≢◌, ℕ, zero, suc, ◌≤◌, Bool, true, false, List, [], ◌∷◌, ◌++◌, refl, sym, ap, ◌∙◌, subst, length, drop, arith, min, map, take, Ok, length-append}
+use Rattle.std.specs.Prelude.{◌&&◌}
+use Rattle.std.specs.List.{zip}
+use Rattle.std.proofs.lemmas.List.{length-map, map-append, take-append-le}
+use Rattle.std.proofs.lemmas.Slice.Zip.{seconds-zip}
+use Rattle.std.proofs.Math.Bool.{and-false}
+use Rattle.ioa_values.specs.Data.{Data}
+use Rattle.ioa_terms.specs.declared.name.Name.{Name}
+use Rattle.ioa_terms.specs.declared.name.Name.TheVariants.{Word}
+use Rattle.ioa_terms.specs.Bindings.{Bindings, same_word, environment, constants_from}
+use Rattle.ioa_terms.specs.Resolved.{AreResolved}
+use Rattle.ioa_terms.proofs.Slots.{resolved_widely}
+use Rattle.ioa_actions.specs.declared.action.Action.{Action}
+use Rattle.ioa_actions.specs.ActionParts.{action_name, action_arguments}
+use Rattle.ioa_source.specs.PlainText.{const, named}
+use Rattle.ioa_source.specs.Sides.{CheckedDeclared, CheckedEntry, CheckedParameter, CheckedStatement, CheckedVariable}
+use Rattle.ioa_system.specs.InView.{declared_names, names_at, own_names, parameter_names, variable_names, scope_at}
+use Rattle.ioa_system.specs.InView.{entry_condition, guard_or_effect}
+use Rattle.ioa_system.specs.Parts.{AutomatonParts}
+use Rattle.ioa_transitions.specs.NodeAnswers.{effect_answer, arguments_agree, parameter_agrees, are_natural, entry_agrees, kind_agrees}
+use Rattle.ioa_transitions.specs.NodeStep.{own_values}
+
+second_true : (a b : Bool) → a && b ≡ true → b ≡ true
+second_true true b h = h
+second_true false b h = absurd (cc)
+
+-- arguments that are not as many as the parameters fit none
+pub arguments_agree_short : (b : Bindings) (ps : List CheckedParameter) (vs : List Data) → length ps ≢ length vs → arguments_agree b ps vs ≡ false
+arguments_agree_short b [] [] h = absurd (h refl)
+arguments_agree_short b [] (v ∷ vs) h = refl
+arguments_agree_short b (p ∷ ps) [] h = refl
+arguments_agree_short b (p ∷ ps) (v ∷ vs) h =
+    let e : arguments_agree b ps vs ≡ false = arguments_agree_short b ps vs (λ q. h (omega arith)) in
+    rw e (and-false (parameter_agrees b p v))
+
+-- if the parameters or the arguments end, no value of their own is left
+pub own_values_end : {A : Type 0} (f : A → CheckedParameter) (ps : List A) (vs : List Data) (i : ℕ) → i ≡ min (length ps) (length vs) → own_values (map f (drop i ps)) (drop i vs) ≡ []
+own_values_end f [] vs zero h = refl
+own_values_end f [] vs (suc i) h = refl
+own_values_end f (p ∷ ps) [] zero h = refl
+own_values_end f (p ∷ ps) [] (suc i) h = absurd (omega arith)
+own_values_end f (p ∷ ps) (v ∷ vs) zero h = absurd (omega arith)
+own_values_end f (p ∷ ps) (v ∷ vs) (suc i) h = own_values_end f ps vs i (omega arith)
+
+-- if the parameters or the arguments end, no negative number is left
+pub are_natural_end : {A : Type 0} (f : A → CheckedParameter) (ps : List A) (vs : List Data) (i : ℕ) → i ≡ min (length ps) (length vs) → are_natural (map f (drop i ps)) (drop i vs) ≡ true
+are_natural_end f [] vs zero h = refl
+are_natural_end f [] vs (suc i) h = refl
+are_natural_end f (p ∷ ps) [] zero h = refl
+are_natural_end f (p ∷ ps) [] (suc i) h = absurd (omega arith)
+are_natural_end f (p ∷ ps) (v ∷ vs) zero h = absurd (omega arith)
+are_natural_end f (p ∷ ps) (v ∷ vs) (suc i) h = are_natural_end f ps vs i (omega arith)
+
+-- the first n values that an effect leaves
+pub effect_answer_environment : (n : ℕ) (names : List (List ℕ)) (vs : List Data) (cs : List (List ℕ)) → length names ≡ length vs → n ≤ length vs → effect_answer n (Ok (environment (map Word names) vs cs)) ≡ Ok (take n vs)
+effect_answer_environment n names vs cs many within =
+    let behind : List Data = map (λ (b : Name × Data). b.1) (constants_from 0 cs) in
+    let split : map (λ (b : Name × Data). b.1) (environment (map Word names) vs cs) ≡ vs ++ behind =
+    map-append (λ (b : Name × Data). b.1) (zip (map Word names) vs) (constants_from 0 cs)
+    ∙ ap (λ (ds : List Data). ds ++ behind) (seconds-zip (map Word names) vs (sym (length-map names Word ∙ many))) in
+    ap (λ (ds : List Data). Ok (take n ds)) split ∙ ap Ok (take-append-le n vs behind within)
+
+-- arguments that fit have as many values of their own as the parameters have names
+pub own_values_named : (b : Bindings) (ps : List CheckedParameter) (vs : List Data) → arguments_agree b ps vs ≡ true → length (own_values ps vs) ≡ length (own_names ps)
+own_values_named b [] [] h = refl
+own_values_named b [] (v ∷ vs) h = absurd (cc)
+own_values_named b (p ∷ ps) [] h = absurd (cc)
+own_values_named b (const t ∷ ps) (v ∷ vs) h = own_values_named b ps vs (second_true (parameter_agrees b (const t) v) (arguments_agree b ps vs) h)
+own_values_named b (named d ∷ ps) (v ∷ vs) h =
+    let more = own_values_named b ps vs (second_true (parameter_agrees b (named d) v) (arguments_agree b ps vs) h) in omega arith
+
+-- the arguments of an action that is one of an entry's fit
+agreeing_arguments : (b : Bindings) (a : Action) (e : CheckedEntry) → entry_agrees b a e ≡ true → arguments_agree b e.parameters (action_arguments a) ≡ true
+agreeing_arguments b a e h =
+    second_true (kind_agrees a e.kind) (arguments_agree b e.parameters (action_arguments a))
+    (second_true (same_word e.name (action_name a)) (kind_agrees a e.kind && arguments_agree b e.parameters (action_arguments a)) h)
+
+-- the own parameters of an entry whose action is taken have as many names as values
+pub own_named : (b : Bindings) (a : Action) (e : CheckedEntry) → entry_agrees b a e ≡ true → length (own_names e.parameters) ≡ length (own_values e.parameters (action_arguments a))
+own_named b a e h = sym (own_values_named b e.parameters (action_arguments a) (agreeing_arguments b a e h))
+
+-- so many names are in view in the condition of an entry: one for each value of the automaton's and of its own parameters
+pub condition_named : (p : AutomatonParts) (own : List (List ℕ)) (given values : List Data) → length given ≡ length p.parameters → length own ≡ length values →
+    length (scope_at entry_condition (declared_names p) own) ≡ length (given ++ values)
+condition_named p own given values g h =
+    let names = length-append (parameter_names p.parameters) own in
+    let values_many = length-append given values in
+    let parameters = length-map p.parameters (λ (d : CheckedDeclared). d.name) in
+    omega arith
+
+-- and so many in the guard and the effect: those of the state variables too
+pub step_named : (p : AutomatonParts) (own : List (List ℕ)) (variables given values : List Data) → length variables ≡ length p.variables → length given ≡ length p.parameters → length own ≡ length values →
+    length (scope_at guard_or_effect (declared_names p) own) ≡ length (variables ++ (given ++ values))
+step_named p own variables given values v g h =
+    let inner = condition_named p own given values g h in
+    let names = length-append (variable_names p.variables) (parameter_names p.parameters ++ own) in
+    let values_many = length-append variables (given ++ values) in
+    let named = length-map p.variables (λ (x : CheckedVariable). x.declared.name) in
+    omega arith
+
+-- the variables are the first of the names in view
+pub effect_in_view : (effect : List CheckedStatement) (p : AutomatonParts) (own : List (List ℕ)) →
+    AreResolved effect (map Word (variable_names p.variables)) (names_at guard_or_effect (declared_names p) own) →
+    AreResolved effect (map Word (scope_at guard_or_effect (declared_names p) own)) (names_at guard_or_effect (declared_names p) own)
+effect_in_view effect p own h =
+    let given = parameter_names p.parameters ++ own in
+    let names = names_at guard_or_effect (declared_names p) own in
+    subst (λ (xs : List Name). AreResolved effect xs names) (sym (map-append Word (variable_names p.variables) given))
+    (resolved_widely effect (map Word (variable_names p.variables)) (map Word given) names h)

@@ -1,0 +1,6 @@
+-- the lemmas of this crate
+pub mod Arguments
+pub mod NodeSignatures
+pub mod NodeSteps
+pub mod NodeVariables
+pub mod SameNodes

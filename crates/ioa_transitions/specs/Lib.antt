@@ -1,0 +1,5 @@
+-- what the contracts of this crate and of those above it cite
+pub mod NodeState
+pub mod NodeStep
+pub mod NodeAnswers
+pub mod SameNodes

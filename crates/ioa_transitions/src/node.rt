@@ -1,0 +1,112 @@
+//! Node configurations and their steps.
+
+ghost use Rattle.std.specs.Prelude.{◌≡◌, ◌↔◌, IfOk, IsTrue, length};
+ghost use Rattle.ioa_values.specs.Outcome.{Answers};
+ghost use Rattle.ioa_transitions.specs.NodeAnswers.{node_answer};
+ghost use Rattle.ioa_transitions.specs.SameNodes.{same_node};
+ghost use Rattle.std.specs.Arc.{arc_value};
+ghost use Rattle.ioa_transitions.specs.NodeState.{node_state};
+
+use crate::rule::values_after;
+use ioa_actions::{Action, StepFault, Values};
+use ioa_system::Program;
+use ioa_values::copies;
+use std::alloc::{AllocError, Global};
+use std::marker::Model;
+use std::sync::Arc;
+
+/// The configuration of a node: its program, which is shared, and the values of its state variables.
+#[derive(Drop)]
+pub struct NodeConf {
+    program: Arc<Program>,
+    variables: Values,
+}
+
+impl Model for NodeConf {
+    ghost use Rattle.std.specs.Arc.{arc_value};
+    ghost use Rattle.ioa_transitions.specs.NodeState.{NodeState, node_state_code};
+
+    ghost Value = { NodeState };
+
+    ghost coded = { node_state_code };
+
+    ghost use Rattle.ioa_transitions.specs.NodeState.{node_state, IsValued};
+
+    ghost view = { λ c. node_state (arc_value c.program) c.variables };
+
+    ghost invariant = { λ c. IsValued (node_state (arc_value c.program) c.variables) };
+}
+
+impl NodeConf {
+    /// The start configuration of a program (Lynch 8.1): each variable has its initial value.
+    pub fn start(alloc: Global, program: &Arc<Program>) -> Result<Self, AllocError>
+        ensures { IfOk result (λ c. c ≡ node_state (arc_value program.now) (arc_value program.now).initial) }
+    {
+        let variables = Values::from_vec(copies(alloc, program.initial())?);
+        let program = Arc::try_clone(program)?;
+        Ok(NodeConf { program, variables })
+    }
+
+    /// The number of the node.
+    pub fn node(&self) -> i64
+        ensures { result ≡ self.now.program.node }
+    {
+        self.program.node()
+    }
+
+    /// The program of the node.
+    pub fn program(&self) -> &Program
+        ensures { result.now ≡ self.now.program }
+    {
+        &self.program
+    }
+
+    /// The values of the state variables, in the order of their declaration.
+    pub fn variables(&self) -> &Values
+        ensures value { result.now ≡ self.now.variables }
+        ensures valued { length result.now ≡ length self.now.program.automaton.variables }
+    {
+        &self.variables
+    }
+
+    /// Whether two configurations are the same: their values, and their programs by value. Costs time in proportion to
+    /// the shorter one.
+    #[tactic(auto, using(crate::proofs::SameNodes::same_node_is))]
+    pub fn equals(&self, other: &Self) -> bool
+        ensures value { result ≡ same_node self.now other.now }
+        ensures equality { IsTrue result ↔ (self.now ≡ other.now) }
+    {
+        self.is_same(other)
+    }
+
+    /// Whether two configurations have the same values and the same program.
+    fn is_same(&self, other: &Self) -> bool
+        ensures { result ≡ same_node self.now other.now }
+    {
+        self.variables == other.variables && self.program.equals(&other.program)
+    }
+
+    /// An equal configuration with its own values; the program is shared.
+    pub fn try_copy(&self, alloc: Global) -> Result<Self, AllocError>
+        ensures { IfOk result (λ c. c ≡ self.now) }
+    {
+        let program = Arc::try_clone(&self.program)?;
+        let variables = self.variables.try_copy(alloc)?;
+        Ok(NodeConf { program, variables })
+    }
+
+    /// The configuration after an action (Lynch 8.1). `NotMine` (41) if the action is not in the node's signature;
+    /// else the first fault of the arguments, the entry's condition, the guard and the effect: `Range` (2) if a
+    /// number met lies outside 64 bits, `Undefined` (1) if a part has no value or an argument holds a negative number
+    /// where its sort says Nat, `NotEnabled` (40) if the condition or the guard is not true. It is meant for an action
+    /// in which the node takes part, and does not test that.
+    #[tactic(auto, unfolding(crate::specs::NodeAnswers::node_answer))]
+    pub fn step(&self, alloc: Global, action: &Action) -> Result<Self, StepFault>
+        ensures { Answers StepFault.Memory (λ c. c) result (node_answer self.now action.now) }
+    {
+        let values = self.variables.as_slice();
+        let variables = Values::from_vec(values_after(alloc, &self.program, values, action)?);
+        let program = Arc::try_clone(&self.program)?;
+        Ok(NodeConf { program, variables })
+    }
+}
