@@ -1,25 +1,19 @@
 //! Laws of executions. Each law is the contract of a function that does nothing.
 
 ghost use Rattle.std.specs.Prelude.{◌≡◌, ◌↔◌, ◌||◌, ℤ, true, List, Some, Ok};
-ghost use Rattle.std.specs.List.{IsDistinct, list_any};
+ghost use Rattle.std.specs.List.{list_any};
 ghost use Rattle.std.specs.Option.{is_some};
 ghost use Rattle.ioa_actions.specs.ActionParts.{node_of};
 ghost use Rattle.ioa_actions.specs.declared.component.Component.{Component};
 ghost use Rattle.ioa_actions.specs.declared.action.Action.{Action};
 ghost use Rattle.ioa_compose.specs.declared.configuration.Conf.{Conf};
-ghost use Rattle.ioa_transitions.specs.NodeState.{NodeState};
-ghost use Rattle.ioa_transitions.specs.NodeAnswers.{node_answer};
-ghost use Rattle.ioa_transitions.specs.NodeStep.{IsState, HasRule, IsNodeStep, FitsNodeStep};
-ghost use Rattle.ioa_channels.specs.Queues.{QueueState, queue_answer};
 ghost use Rattle.ioa_compose.specs.Participants.{participants_of, takes_part};
 ghost use Rattle.ioa_actions.specs.ComponentOrder.{same_component};
 ghost use Rattle.ioa_compose.specs.Steps.{IsStep};
-ghost use Rattle.ioa_channels.specs.QueueSteps.{IsQueueStep};
 ghost use Rattle.ioa_compose.specs.JointStep.{IsJointState, IsJointStep, FitsJointStep, AllHaveSteps, HasAnswer};
-ghost use Rattle.ioa_compose.specs.Composition.{component_names, joint_answer};
+ghost use Rattle.ioa_compose.specs.Composition.{joint_answer};
 ghost use Rattle.ioa_compose.specs.Executions.{replay};
-ghost use Rattle.ioa_system.specs.Declarations.{DeclaresOnce, IsWellDeclared};
-ghost use Rattle.ioa_system.specs.Parts.{Parts, PlainRule};
+ghost use Rattle.ioa_system.specs.Declarations.{IsWellDeclared};
 ghost use Rattle.ioa_system.specs.Systems.{SystemParts};
 ghost use Rattle.ioa_compose.specs.Start.{start};
 ghost use Rattle.ioa_compose.specs.IsStart.{IsStart};
