@@ -31,14 +31,14 @@ abbrev pub is_input : Option PlainRule → Bool
 is_input None = false
 is_input (Some r) = same_kind r.entry.kind Input
 
--- the action that a name and arguments give at a node with this program: a receive or a stimulus if the automaton has an
--- input of that name, else a send or a local action
+-- the action that a name and arguments give at a node with this program: a receive or a stimulus if the automaton has
+-- an input of that name, else a send or a local action
 abbrev pub action_fired : Parts → List ℕ → List Data → Action
 action_fired p w vs =
     if is_input (rule_named w p.automaton.rules) then input_at p.node w vs else locally_controlled_at p.node w vs
 
--- the result of a turn of a node with this program if this is the next firing: the action whose arguments are the values
--- of its terms
+-- the result of a turn of a node with this program if this is the next firing: the action whose arguments are the
+-- values of its terms
 abbrev pub firing_answer : Parts → Bindings → CheckedFiring → Result Turn TermFault
 firing_answer p e f = and_then (answers f.arguments e) (λ vs. Ok (Fire (action_fired p f.action vs)))
 

@@ -9,5 +9,5 @@ mod turn;
 mod whole_run;
 
 pub use laws::{fired_law, solo_law};
-pub use options::{DEFAULT_ATTEMPTS, DEFAULT_STEPS, Options};
+pub use options::{DEFAULT_ATTEMPTS, DEFAULT_STEPS, GREATEST_ATTEMPTS, GREATEST_STEPS, Options};
 pub use whole_run::{RunFault, run_system};
