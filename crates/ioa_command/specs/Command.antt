@@ -1,40 +1,67 @@
 -- What the program does with its words, its input and its two outputs (profile).
-use Rattle.std.specs.Prelude.{◌≡◌, ◌⊎◌, ◌<◌, ◌≤◌, ◌++◌, ℕ, Bool, true, false, List, length, codes}
+use Rattle.std.specs.Prelude.{◌≡◌, ◌⊎◌, ◌≤◌, ◌++◌, ℕ, Bool, true, false, List, length, codes}
 use Rattle.std.specs.Prelude.{Option, Result, Ok, Err, IfSome, IfErr}
 use Rattle.std.specs.Str.{IsUtf8}
 use Rattle.std.specs.Io.KnownBytes.{Keeps, Appends}
+use Rattle.clap.specs.Values.{kind_of}
+use Rattle.clap.specs.Walk.{Text}
+use Rattle.clap.specs.declared.error.Error.{Error}
+use Rattle.clap.specs.declared.error.kind.ErrorKind.{ErrorKind}
 use Rattle.ioa_streams.specs.declared.input.TheConstants.{INPUT_LIMIT}
 use Rattle.ioa_streams.specs.declared.input.InputFault.{InputFault}
 use Rattle.ioa_streams.specs.declared.input.InputFault.TheVariants as input
 use Rattle.ioa_workers.specs.declared.whole_run.RunFault.{RunFault}
 use Rattle.ioa_workers.specs.declared.whole_run.RunFault.TheVariants as run
-use Rattle.ioa_command.specs.declared.command_line.CommandFault.{CommandFault}
-use Rattle.ioa_command.specs.declared.command_line.CommandFault.TheVariants.{Words, Input, Run}
+use Rattle.ioa_command.specs.declared.words.Subcommand.TheVariants as subcommand
+use Rattle.ioa_command.specs.declared.command_line.TextFault.{TextFault}
+use Rattle.ioa_command.specs.declared.command_line.TextFault.TheVariants.{Input, Run}
 use Rattle.ioa_streams.specs.Input.{IsFaultOf, input_fault_text}
-use Rattle.ioa_workers.specs.Options.{default_options}
+use Rattle.ioa_workers.specs.Options.{PlainOptions}
 use Rattle.ioa_streams.specs.Output.{AppendsBeginning}
 use Rattle.ioa_workers.specs.WholeRun.{IsExactFor, IsRefusalOf, WritesReport, run_fault_text}
+use Rattle.ioa_command.specs.CommandLine.{AsksForText, Chooses, IsErrorOf, words_status}
+
+-- an output before and after: its bytes, if they are known, and whether it has failed
+pub record Output : Type 0 where
+  pub old : Option (List ℕ)
+  pub new : Option (List ℕ)
+  pub failed : Bool
+
+abbrev pub output : Option (List ℕ) → Option (List ℕ) → Bool → Output
+output old new failed = record { old = old; new = new; failed = failed }
+
+-- nothing went out, and nothing failed
+abbrev pub IsKept : Output → Type 0
+IsKept o = (o.failed ≡ false) × Keeps o.old o.new
+
+-- if the bytes of an output are known, they grow by a text: by all of it, or by a beginning of it if the output failed
+abbrev pub ShowsBy : Bool → Text → Output → Type 0
+ShowsBy false text o = Appends o.old o.new text
+ShowsBy true text o = AppendsBeginning o.old o.new text
+
+abbrev pub Shows : Text → Output → Type 0
+Shows text o = ShowsBy o.failed text o
+
+-- some text went out so; which text clap has for an error is not known
+abbrev pub ShowsText : Output → Type 0
+ShowsText o = (text : Text) × Shows text o
 
 -- a text that is UTF-8 and no longer than the limit; if the bytes of the input are known, it is them
 abbrev pub IsTextOf : Option (List ℕ) → List ℕ → Type 0
 IsTextOf given text = (length text ≤ INPUT_LIMIT) × IsUtf8 text × IfSome given (λ bytes. text ≡ bytes)
 
--- the text of the input was run with the default options; a fault is one of that text, and no fault that is always
--- found is passed over
-abbrev pub RunsText : Option (List ℕ) → Option (List ℕ) → Option (List ℕ) → Bool → Result (Unit {0}) RunFault → Type 0
-RunsText given old new failed result =
-    (text : List ℕ) × IsTextOf given text × WritesReport text default_options old new failed result
+-- the text of the input was run with these options; a fault is one of that text, and no fault that is always found is
+-- passed over
+abbrev pub RunsText : PlainOptions → Option (List ℕ) → Output → Result (Unit {0}) RunFault → Type 0
+RunsText options given out result =
+    (text : List ℕ) × IsTextOf given text × WritesReport text options out.old out.new out.failed result
     × IfErr result (λ f. IsRefusalOf f text) × IsExactFor result text
 
--- what the program read and what it wrote as its report, if it ends so: no report is written if there are words beyond
--- its name, or if the input gives no text
-abbrev pub Executes : ℕ → Option (List ℕ) → Option (List ℕ) → Option (List ℕ) → Bool → Result (Unit {0}) CommandFault
-    → Type 0
-Executes words given old new failed (Ok x) = (words ≤ 1) × RunsText given old new failed (Ok x)
-Executes words given old new failed (Err Words) = (1 < words) × (failed ≡ false) × Keeps old new
-Executes words given old new failed (Err (Input f)) =
-    (words ≤ 1) × IfSome given (IsFaultOf f) × (failed ≡ false) × Keeps old new
-Executes words given old new failed (Err (Run f)) = (words ≤ 1) × RunsText given old new failed (Err f)
+-- what `run` read and what it wrote as its report, if it ends so: nothing if the input gives no text
+abbrev pub Executes : PlainOptions → Option (List ℕ) → Output → Result (Unit {0}) TextFault → Type 0
+Executes options given out (Ok x) = RunsText options given out (Ok x)
+Executes options given out (Err (Input f)) = IfSome given (IsFaultOf f) × IsKept out
+Executes options given out (Err (Run f)) = RunsText options given out (Err f)
 
 -- 1 if the input is refused, and 3 if memory or reading failed
 abbrev pub input_status : InputFault → ℕ
@@ -50,12 +77,6 @@ run_status (run.Check f) = 1
 run_status run.Memory = 3
 run_status run.Write = 3
 
--- the status of a fault: 2 if the command line is refused
-abbrev pub fault_status : CommandFault → ℕ
-fault_status Words = 2
-fault_status (Input f) = input_status f
-fault_status (Run f) = run_status f
-
 -- the line of an input that gives no text: a read has `failed`, all else is `refused`
 abbrev pub input_line : InputFault → List ℕ
 input_line input.Read = codes "failed " ++ input_fault_text input.Read
@@ -70,21 +91,53 @@ run_line (run.Check f) = codes "refused " ++ run_fault_text (run.Check f)
 run_line run.Memory = codes "refused " ++ run_fault_text run.Memory
 run_line run.Write = codes "failed " ++ run_fault_text run.Write
 
--- the line of a fault
-abbrev pub fault_line : CommandFault → List ℕ
-fault_line Words = codes "ioarun takes no words"
-fault_line (Input f) = input_line f
-fault_line (Run f) = run_line f
+-- the line of want of memory
+abbrev pub memory_line : List ℕ
+memory_line = codes "refused 3 Memory\n"
 
--- if the bytes of an output are known, they grow by a line: by all of it, or by a beginning of it if the output failed
-abbrev pub Shows : List ℕ → Option (List ℕ) → Option (List ℕ) → Bool → Type 0
-Shows line old new false = Appends old new line
-Shows line old new true = AppendsBeginning old new line
+-- a line with its status is shown as an error; if there is no memory for that line, one that says so, with status 3
+abbrev pub ShowsLine : List ℕ → ℕ → ℕ → Output → Type 0
+ShowsLine line of_line status err =
+    ((status ≡ of_line) × Shows (line ++ codes "\n") err) ⊎ ((status ≡ 3) × Shows memory_line err)
 
--- the status that the program returns, and what it shows, if it ends so: nothing if it did what it was asked, else the
--- fault's line with the fault's status; if there is no memory for that line, one that says so, with status 3
-abbrev pub Tells : Result (Unit {0}) CommandFault → ℕ → Option (List ℕ) → Option (List ℕ) → Bool → Type 0
-Tells (Ok x) status old new failed = (status ≡ 0) × (failed ≡ false) × Keeps old new
-Tells (Err f) status old new failed =
-    ((status ≡ fault_status f) × Shows (fault_line f ++ codes "\n") old new failed)
-    ⊎ ((status ≡ 3) × Shows (codes "refused 3 Memory\n") old new failed)
+-- a text that was asked for went out; or its output failed, or there was no memory for it, and a line with status 3
+-- says so
+abbrev pub ShowsAsked : ℕ → Output → Output → Type 0
+ShowsAsked status out err =
+    ((status ≡ 0) × (out.failed ≡ false) × ShowsText out × IsKept err)
+    ⊎ ((status ≡ 3) × ((ShowsText out × Shows (codes "failed 71 Write\n") err) ⊎ (IsKept out × Shows memory_line err)))
+
+-- what is shown of an error of the words: a text that was asked for, if the status of its kind is 0, else the error's
+-- text as an error, or a line that says that memory ran out
+pub record ShowsWords (kind : ErrorKind) (status : ℕ) (out err : Output) : Type 0 where
+  pub asked : words_status kind ≡ 0 → ShowsAsked status out err
+  pub refused : (words_status kind ≡ 0 → ⊥)
+      → IsKept out × (((status ≡ words_status kind) × ShowsText err) ⊎ ((status ≡ 3) × Shows memory_line err))
+
+-- the status of `run`, and what it shows, if it ends so: nothing if the report was written, else the line of the fault
+abbrev pub EndsText : PlainOptions → Option (List ℕ) → Output → Output → ℕ → Result (Unit {0}) TextFault → Type 0
+EndsText options given out err status (Ok x) = Executes options given out (Ok x) × (status ≡ 0) × IsKept err
+EndsText options given out err status (Err (Input f)) =
+    Executes options given out (Err (Input f)) × ShowsLine (input_line f) (input_status f) status err
+EndsText options given out err status (Err (Run f)) =
+    Executes options given out (Err (Run f)) × ShowsLine (run_line f) (run_status f) status err
+
+-- the words choose to run the text with their options, and the program ends as `run`
+abbrev pub EndsRun : List Text → Option (List ℕ) → Output → Output → ℕ → Type 0
+EndsRun words given out err status =
+    (options : PlainOptions) × (outcome : Result (Unit {0}) TextFault) × Chooses words (subcommand.Run options)
+    × EndsText options given out err status outcome
+
+-- the words choose nothing, and the program shows the text of their error
+abbrev pub EndsWords : List Text → Output → Output → ℕ → Type 0
+EndsWords words out err status = (e : Error) × IsErrorOf words e × ShowsWords (kind_of e) status out err
+
+-- the status that the program returns, and what it reads, writes and shows
+abbrev pub Ends : List Text → Option (List ℕ) → Output → Output → ℕ → Type 0
+Ends words given out err status = EndsRun words given out err status ⊎ EndsWords words out err status
+
+-- what status 0 says: the report of the text that was read went out, or a text for which the words ask
+abbrev pub IsDone : List Text → Option (List ℕ) → Output → Type 0
+IsDone words given out =
+    ((options : PlainOptions) × Chooses words (subcommand.Run options) × RunsText options given out (Ok tt))
+    ⊎ (AsksForText words × ShowsText out)

@@ -1,2 +1,3 @@
 -- what the contracts of this crate cite
 pub mod Command
+pub mod CommandLine

@@ -1,16 +1,21 @@
 //! The program as a function of its words and its streams.
 
-ghost use Rattle.std.specs.Prelude.{◌≡◌, ◌⊎◌, false, length, Ok, Err, Result, Some};
-ghost use Rattle.std.specs.Fmt.{DisplaysOnOk};
+ghost use Rattle.std.specs.Prelude.{◌≡◌, ◌⊎◌, ◌++◌, false, not, codes, map, IfOk, MatchResult, Result};
 ghost use Rattle.std.specs.Io.KnownBytes.{Keeps};
-ghost use Rattle.ioa_command.specs.declared.command_line.CommandFault.{CommandFault};
-ghost use Rattle.ioa_command.specs.Command.{Executes, RunsText, Tells};
-ghost use Rattle.ioa_command.specs.Command.{fault_status, input_line, input_status, run_line, run_status};
+ghost use Rattle.std.specs.String.{string_bytes};
+ghost use Rattle.clap.specs.Values.{kind_of};
+ghost use Rattle.ioa_command.specs.declared.command_line.TextFault.{TextFault};
+ghost use Rattle.ioa_command.specs.Command.{Ends, EndsText, Executes, IsDone};
+ghost use Rattle.ioa_command.specs.Command.{Shows, ShowsAsked, ShowsWords, output};
+ghost use Rattle.ioa_command.specs.Command.{input_line, input_status, memory_line, run_line, run_status};
+ghost use Rattle.ioa_command.specs.CommandLine.{words_status};
 
+use crate::words::options;
+use clap::Error;
+use clap::error::ErrorKind;
 use ioa_streams::{InputFault, Out, put_all, read_input};
 use ioa_workers::{Options, RunFault, run_system};
-use std::alloc::Global;
-use std::fmt;
+use std::alloc::{AllocError, Global};
 use std::io::Read;
 
 /// The status of a program that did what it was asked.
@@ -25,27 +30,109 @@ pub const BAD_WORDS: u8 = 2;
 /// The status if memory, reading or writing failed.
 pub const FAILED: u8 = 3;
 
-/// Why the program did not do what it was asked. Its text is the line that is shown.
+/// Why `run` wrote no report.
 #[derive(Debug, Drop)]
-enum CommandFault {
-    /// There are words beyond the program's name.
-    Words,
+enum TextFault {
     /// The input gives no text.
     Input(InputFault),
     /// The text gave no report.
     Run(RunFault),
 }
 
-impl CommandFault {
-    /// The status with which the program ends.
-    fn status(&self) -> u8
-        ensures { result ≡ fault_status self.now }
-    {
-        match self {
-            CommandFault::Words => BAD_WORDS,
-            CommandFault::Input(fault) => input_status(fault),
-            CommandFault::Run(fault) => run_status(fault),
+/// The program (profile): `words` are those of the command line, its own name first, and choose what it does. `run`
+/// reads a text, runs its system, and writes the report. Returns the status: 0 if the report was written, or the help
+/// or the version for which the words ask; 1 if the text was refused; 2 if the words were refused; and 3 if memory,
+/// reading or writing failed. If it is not 0, `err` says why; a fault of `err` is ignored. If there is no memory for
+/// what it has to say, the status is 3 and a line says so.
+#[tactic(auto, using(crate::proofs::Endings::refused_of))]
+pub fn command<'a, R: Read, O: Out, E: Out>(
+    alloc: Global,
+    words: &'a [&'a str],
+    reader: &mut R,
+    out: &mut O,
+    err: &mut E,
+) -> u8
+    // neither output has failed yet
+    requires out { O.failed out.old ≡ false }
+    requires err { E.failed err.old ≡ false }
+    // what the status says of the output
+    ensures done { result ≡ 0 → IsDone (map (λ w. w.now) words.entry.now) (R.remaining reader.old)
+        (output (O.bytes out.old) (O.bytes out.new) (O.failed out.new)) }
+    ensures refused { (result ≡ 1) ⊎ (result ≡ 2) → Keeps (O.bytes out.old) (O.bytes out.new) }
+    // of which fault the status and what is shown are
+    ensures ends { Ends (map (λ w. w.now) words.entry.now) (R.remaining reader.old)
+        (output (O.bytes out.old) (O.bytes out.new) (O.failed out.new))
+        (output (E.bytes err.old) (E.bytes err.new) (E.failed err.new)) result }
+{
+    execute_words(alloc, words, reader, out, err)
+}
+
+/// Does what the words choose, and tells of a fault.
+fn execute_words<'a, R: Read, O: Out, E: Out>(
+    alloc: Global,
+    words: &'a [&'a str],
+    reader: &mut R,
+    out: &mut O,
+    err: &mut E,
+) -> u8
+    requires out { O.failed out.old ≡ false }
+    requires err { E.failed err.old ≡ false }
+    ensures { Ends (map (λ w. w.now) words.entry.now) (R.remaining reader.old)
+        (output (O.bytes out.old) (O.bytes out.new) (O.failed out.new))
+        (output (E.bytes err.old) (E.bytes err.new) (E.failed err.new)) result }
+{
+    match options(alloc, words) {
+        Ok(subcommand) => run_text(alloc, &subcommand.options(), reader, out, err),
+        Err(error) => show_words(alloc, &error, out, err),
+    }
+}
+
+/// Runs the text with these options, and tells of a fault.
+fn run_text<R: Read, O: Out, E: Out>(
+    alloc: Global,
+    options: &Options,
+    reader: &mut R,
+    out: &mut O,
+    err: &mut E,
+) -> u8
+    requires out { O.failed out.old ≡ false }
+    requires err { E.failed err.old ≡ false }
+    ensures { (outcome : Result (Unit {0}) TextFault) × EndsText options.now (R.remaining reader.old)
+        (output (O.bytes out.old) (O.bytes out.new) (O.failed out.new))
+        (output (E.bytes err.old) (E.bytes err.new) (E.failed err.new)) result outcome }
+{
+    match execute(alloc, options, reader, out) {
+        Ok(()) => DONE,
+        Err(TextFault::Input(fault)) => {
+            show_line(input_line(alloc, &fault), input_status(&fault), err)
         }
+        Err(TextFault::Run(fault)) => show_line(run_line(alloc, &fault), run_status(&fault), err),
+    }
+}
+
+/// Reads the text, runs its system and writes the report.
+fn execute<R: Read, O: Out>(
+    alloc: Global,
+    options: &Options,
+    reader: &mut R,
+    out: &mut O,
+) -> Result<(), TextFault>
+    requires { O.failed out.old ≡ false }
+    ensures { Executes options.now (R.remaining reader.old)
+        (output (O.bytes out.old) (O.bytes out.new) (O.failed out.new)) result }
+{
+    let text = read_input(alloc, reader).map_err(TextFault::Input)?;
+    run_system(alloc, text.as_str(), options, out).map_err(TextFault::Run)
+}
+
+/// The status if the words ask for a text or are refused.
+fn words_status(error: &Error) -> u8
+    ensures { result ≡ words_status (kind_of error.now) }
+{
+    match error.kind() {
+        ErrorKind::DisplayHelp | ErrorKind::DisplayVersion => DONE,
+        ErrorKind::OutOfMemory => FAILED,
+        _ => BAD_WORDS,
     }
 }
 
@@ -69,106 +156,87 @@ fn run_status(fault: &RunFault) -> u8
     }
 }
 
-impl fmt::Display for CommandFault {
-    ghost use Rattle.std.specs.Prelude.{Some};
-    ghost use Rattle.ioa_command.specs.Command.{fault_line};
-
-    ghost output = { λ f. Some (fault_line f) };
-
-    fn fmt<W: fmt::Write>(&self, f: &mut fmt::Formatter<W>) -> fmt::Result {
-        match self {
-            CommandFault::Words => write!(f, "ioarun takes no words"),
-            CommandFault::Input(fault) => show_input_fault(fault, f),
-            CommandFault::Run(fault) => show_run_fault(fault, f),
-        }
-    }
-}
-
-/// Writes the line of an input that gives no text.
-fn show_input_fault<W: fmt::Write>(fault: &InputFault, f: &mut fmt::Formatter<W>) -> fmt::Result
-    ensures { DisplaysOnOk W.write_str_gives f.old result (Some (input_line fault.now)) f.new }
+/// The line of an input that gives no text.
+fn input_line(alloc: Global, fault: &InputFault) -> Result<String, AllocError>
+    ensures { IfOk result (λ s. string_bytes s ≡ input_line fault.now ++ codes "\n") }
 {
     match fault {
-        InputFault::Read => write!(f, "failed {fault}"),
+        InputFault::Read => format!(in alloc; "failed {fault}\n"),
         InputFault::TooLong | InputFault::BadCharacter(_) | InputFault::Memory => {
-            write!(f, "refused {fault}")
+            format!(in alloc; "refused {fault}\n")
         }
     }
 }
 
-/// Writes the line of a text that gave no report.
-fn show_run_fault<W: fmt::Write>(fault: &RunFault, f: &mut fmt::Formatter<W>) -> fmt::Result
-    ensures { DisplaysOnOk W.write_str_gives f.old result (Some (run_line fault.now)) f.new }
+/// The line of a text that gave no report.
+fn run_line(alloc: Global, fault: &RunFault) -> Result<String, AllocError>
+    ensures { IfOk result (λ s. string_bytes s ≡ run_line fault.now ++ codes "\n") }
 {
     match fault {
-        RunFault::Front(_) | RunFault::Check(_) | RunFault::Memory => write!(f, "refused {fault}"),
-        RunFault::Write => write!(f, "failed {fault}"),
+        RunFault::Front(_) | RunFault::Check(_) | RunFault::Memory => {
+            format!(in alloc; "refused {fault}\n")
+        }
+        RunFault::Write => format!(in alloc; "failed {fault}\n"),
     }
 }
 
-/// The program (profile): reads a text, runs its system with the default options, and writes the report. It takes no
-/// words beyond its own name. Returns the status: 0 if the report was written, 1 if the text was refused, 2 if the
-/// words were refused, and 3 if memory, reading or writing failed. If it is not 0, one line on `err` says why; a fault
-/// of `err` is ignored. If there is no memory for that line, the status is 3 and another line says so.
-pub fn command<R: Read, O: Out, E: Out>(
-    alloc: Global,
-    words: &[&str],
-    reader: &mut R,
-    out: &mut O,
-    err: &mut E,
-) -> u8
-    // neither output has failed yet
-    requires out { O.failed out.old ≡ false }
-    requires err { E.failed err.old ≡ false }
-    // what the status says of the report
-    ensures report { result ≡ 0 → RunsText (R.remaining reader.old)
-        (O.bytes out.old) (O.bytes out.new) (O.failed out.new) (Ok tt) }
-    ensures refused { (result ≡ 1) ⊎ (result ≡ 2) → Keeps (O.bytes out.old) (O.bytes out.new) }
-    // of which fault the status and the line are
-    ensures outcome { (outcome : Result (Unit {0}) CommandFault)
-        × Executes (length words.now) (R.remaining reader.old)
-        (O.bytes out.old) (O.bytes out.new) (O.failed out.new) outcome
-        × Tells outcome result (E.bytes err.old) (E.bytes err.new) (E.failed err.new) }
-{
-    match execute(alloc, words, reader, out) {
-        Ok(()) => DONE,
-        Err(fault) => tell(alloc, &fault, err),
-    }
-}
-
-/// Reads the text, runs its system and writes the report.
-fn execute<R: Read, O: Out>(
-    alloc: Global,
-    words: &[&str],
-    reader: &mut R,
-    out: &mut O,
-) -> Result<(), CommandFault>
-    requires { O.failed out.old ≡ false }
-    ensures { Executes (length words.now) (R.remaining reader.old)
-        (O.bytes out.old) (O.bytes out.new) (O.failed out.new) result }
-{
-    if words.len() > 1 {
-        return Err(CommandFault::Words);
-    }
-    let text = read_input(alloc, reader).map_err(CommandFault::Input)?;
-    let options = Options::default();
-    run_system(alloc, text.as_str(), &options, out).map_err(CommandFault::Run)
-}
-
-/// Shows the line of a fault, and returns its status. If there is no memory for the line, another line says so, and the
-/// status is that of `Memory` (3).
-fn tell<E: Out>(alloc: Global, fault: &CommandFault, err: &mut E) -> u8
+/// Shows a line, and returns its status. If there was no memory for the line, another line says so, and the status is
+/// that of `Memory` (3).
+fn show_line<E: Out>(line: Result<String, AllocError>, status: u8, err: &mut E) -> u8
     requires { E.failed err.old ≡ false }
-    ensures { Tells (Err fault.now) result (E.bytes err.old) (E.bytes err.new) (E.failed err.new) }
+    ensures { MatchResult line
+        (λ s. (result ≡ status) × Shows (string_bytes s) (output (E.bytes err.old) (E.bytes err.new) (E.failed err.new)))
+        (λ _. (result ≡ 3) × Shows memory_line (output (E.bytes err.old) (E.bytes err.new) (E.failed err.new))) }
 {
-    match format!(in alloc; "{fault}\n") {
+    match line {
         Ok(line) => {
-            let _ = put_all(err, line.as_bytes());
-            fault.status()
+            show(line.as_str(), err);
+            status
         }
         Err(_) => {
-            let _ = put_all(err, b"refused 3 Memory\n");
+            show("refused 3 Memory\n", err);
             FAILED
         }
     }
+}
+
+/// Shows the text of an error of the words, and returns the status: a text that was asked for goes to `out`, and any
+/// other to `err`.
+fn show_words<O: Out, E: Out>(alloc: Global, error: &Error, out: &mut O, err: &mut E) -> u8
+    requires out { O.failed out.old ≡ false }
+    requires err { E.failed err.old ≡ false }
+    ensures { ShowsWords (kind_of error.now) result
+        (output (O.bytes out.old) (O.bytes out.new) (O.failed out.new))
+        (output (E.bytes err.old) (E.bytes err.new) (E.failed err.new)) }
+{
+    let status = words_status(error);
+    match format!(in alloc; "{error}") {
+        Ok(text) if status == DONE => show_asked(text.as_str(), out, err),
+        text => show_line(text, status, err),
+    }
+}
+
+/// Shows a text that was asked for, and returns the status; if the output fails, a line says so.
+fn show_asked<O: Out, E: Out>(text: &str, out: &mut O, err: &mut E) -> u8
+    requires out { O.failed out.old ≡ false }
+    requires err { E.failed err.old ≡ false }
+    ensures { ShowsAsked result
+        (output (O.bytes out.old) (O.bytes out.new) (O.failed out.new))
+        (output (E.bytes err.old) (E.bytes err.new) (E.failed err.new)) }
+{
+    if show(text, out) {
+        DONE
+    } else {
+        show("failed 71 Write\n", err);
+        FAILED
+    }
+}
+
+/// Puts out a text, and returns whether all of it went out.
+fn show<O: Out>(text: &str, out: &mut O) -> bool
+    requires { O.failed out.old ≡ false }
+    ensures shown { Shows text.now (output (O.bytes out.old) (O.bytes out.new) (O.failed out.new)) }
+    ensures failed { O.failed out.new ≡ not result }
+{
+    put_all(out, text.as_bytes()).is_ok()
 }

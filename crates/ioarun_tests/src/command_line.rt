@@ -1,7 +1,7 @@
 //! Texts with the lines that the program writes for them.
 
 use crate::input::Failing;
-use ioa_command::command;
+use ioa_command::{Subcommand, command, options};
 use ioa_streams::Over;
 use ioa_workers::{Options, RunFault, run_system};
 use std::io;
@@ -89,14 +89,6 @@ struct Row {
     err: &'static str,
 }
 
-/// A run with options of its own.
-#[derive(Drop)]
-struct Limited {
-    steps: u64,
-    attempts: u64,
-    out: &'static str,
-}
-
 /// A writer that takes a few bytes, and then fails.
 #[derive(Drop)]
 struct FailingWriter {
@@ -121,9 +113,9 @@ impl Write for FailingWriter {
 }
 
 /// What the program makes of a reader: its status, and what it wrote on each stream.
-fn run_on<R: Read>(
+fn run_on<'a, R: Read>(
     rt: &HostRuntime,
-    words: &[&str],
+    words: &'a [&'a str],
     reader: &mut R,
 ) -> Result<(u8, String, String), Fail> {
     let mut out = Over::new(Vec::new(rt.alloc()));
@@ -164,7 +156,8 @@ fn texts_give_their_reports_or_refusals(rt: HostRuntime) -> Result<(), Fail> {
         Row {
             input: WITHOUT_CHANNEL.as_bytes(),
             status: 0,
-            out: "schedule 0\nnode 0 n = 7\nnode 1 last = 0\nending 0 fault NoChannel\nending 1 fault NoChannel\nworker 0 commits 0\ntotal 0\n",
+            out: "schedule 0\nnode 0 n = 7\nnode 1 last = 0\n\
+            ending 0 fault NoChannel\nending 1 fault NoChannel\nworker 0 commits 0\ntotal 0\n",
             err: "",
         },
         Row {
@@ -200,7 +193,7 @@ fn texts_give_their_reports_or_refusals(rt: HostRuntime) -> Result<(), Fail> {
     ];
     for row in &rows {
         let mut reader = row.input;
-        let (status, out, err) = run_on(&rt, &["ioarun"], &mut reader)?;
+        let (status, out, err) = run_on(&rt, &["ioarun", "run"], &mut reader)?;
         assert_eq!(rt; out.as_str(), row.out);
         assert_eq!(rt; err.as_str(), row.err);
         assert_eq!(rt; status, row.status);
@@ -243,7 +236,7 @@ static LOCAL: [(&str, &str); 5] = [
 fn local_actions_are_taken(rt: HostRuntime) -> Result<(), Fail> {
     for (text, report) in &LOCAL {
         let mut reader = text.as_bytes();
-        let (status, out, err) = run_on(&rt, &["ioarun"], &mut reader)?;
+        let (status, out, err) = run_on(&rt, &["ioarun", "run"], &mut reader)?;
         assert_eq!(rt; out.as_str(), *report);
         assert_eq!(rt; err.as_str(), "");
         assert_eq!(rt; status, 0);
@@ -311,7 +304,7 @@ static SCRIPTED: [(&str, &str); 7] = [
 fn stimuli_are_taken_in_the_order_of_their_script(rt: HostRuntime) -> Result<(), Fail> {
     for (text, report) in &SCRIPTED {
         let mut reader = text.as_bytes();
-        let (status, out, err) = run_on(&rt, &["ioarun"], &mut reader)?;
+        let (status, out, err) = run_on(&rt, &["ioarun", "run"], &mut reader)?;
         assert_eq!(rt; out.as_str(), *report);
         assert_eq!(rt; err.as_str(), "");
         assert_eq!(rt; status, 0);
@@ -323,7 +316,7 @@ fn stimuli_are_taken_in_the_order_of_their_script(rt: HostRuntime) -> Result<(),
 fn lengths_are_limited(rt: HostRuntime) -> Result<(), Fail> {
     let room = 1_048_576 - ONE_STATE.len() as u64;
     let mut at_the_limit = ONE_STATE.as_bytes().chain(io::repeat(b' ').take(room));
-    let (status, out, _) = run_on(&rt, &["ioarun"], &mut at_the_limit)?;
+    let (status, out, _) = run_on(&rt, &["ioarun", "run"], &mut at_the_limit)?;
     assert_eq!(rt; out.as_str(), ONE_STATE_REPORT);
     assert_eq!(rt; status, 0);
     let rows = [
@@ -332,7 +325,7 @@ fn lengths_are_limited(rt: HostRuntime) -> Result<(), Fail> {
     ];
     for (length, line) in rows {
         let mut too_long = io::repeat(b' ').take(length);
-        let (status, out, err) = run_on(&rt, &["ioarun"], &mut too_long)?;
+        let (status, out, err) = run_on(&rt, &["ioarun", "run"], &mut too_long)?;
         assert_eq!(rt; err.as_str(), line);
         assert_eq!(rt; out.as_str(), "");
         assert_eq!(rt; status, 1);
@@ -340,18 +333,183 @@ fn lengths_are_limited(rt: HostRuntime) -> Result<(), Fail> {
     Ok(())
 }
 
+/// Words that clap refuses, and what it says of them.
+static REFUSED_WORDS: [(&[&str], &str); 12] = [
+    (&["ioarun"], "Usage: ioarun <COMMAND>"),
+    (&["ioarun", "check"], "unrecognized subcommand 'check'"),
+    (&["ioarun", "--steps", "3"], "unexpected argument '--steps'"),
+    (
+        &["ioarun", "run", "text.ioa"],
+        "unexpected argument 'text.ioa'",
+    ),
+    (
+        &["ioarun", "run", "--workers", "2"],
+        "unexpected argument '--workers'",
+    ),
+    (
+        &["ioarun", "run", "--attempts", "0"],
+        "0 is not in 1..=1000000",
+    ),
+    (
+        &["ioarun", "run", "--attempts=1000001"],
+        "1000001 is not in 1..=1000000",
+    ),
+    (
+        &["ioarun", "run", "--steps", "1000001"],
+        "1000001 is not in 0..=1000000",
+    ),
+    (
+        &["ioarun", "run", "--steps=-1"],
+        "invalid value '-1' for '--steps <N>'",
+    ),
+    (
+        &["ioarun", "run", "--steps", "ten"],
+        "invalid value 'ten' for '--steps <N>'",
+    ),
+    (
+        &["ioarun", "run", "--steps"],
+        "a value is required for '--steps <N>'",
+    ),
+    (
+        &["ioarun", "run", "--steps", "1", "--steps", "2"],
+        "cannot be used multiple times",
+    ),
+];
+
 #[test]
-fn words_and_failed_reads_are_told(rt: HostRuntime) -> Result<(), Fail> {
+fn refused_words_have_status_2_and_read_nothing(rt: HostRuntime) -> Result<(), Fail> {
+    for (words, said) in &REFUSED_WORDS {
+        let mut reader = LIST.as_bytes();
+        let (status, out, err) = run_on(&rt, words, &mut reader)?;
+        assert!(rt; err.as_str().contains(said), "at {said}: {err}");
+        assert_eq!(rt; out.as_str(), "");
+        assert_eq!(rt; status, 2);
+        assert_eq!(rt; reader.len(), LIST.len());
+    }
+    Ok(())
+}
+
+/// Words that ask for a text, and what the text has.
+static ASKED: [(&[&str], &str); 6] = [
+    (&["ioarun", "--help"], "ioarun run --steps 100 < relay.ioa"),
+    (&["ioarun", "-h"], "1  the text was refused"),
+    (&["ioarun", "help"], "Usage: ioarun <COMMAND>"),
+    (&["ioarun", "run", "--help"], "--attempts <N>"),
+    (&["ioarun", "help", "run"], "[default: 10000]"),
+    (&["ioarun", "--version"], "ioarun 0.1.0"),
+];
+
+#[test]
+fn help_and_version_go_to_the_output(rt: HostRuntime) -> Result<(), Fail> {
+    for (words, said) in &ASKED {
+        let mut reader = LIST.as_bytes();
+        let (status, out, err) = run_on(&rt, words, &mut reader)?;
+        assert!(rt; out.as_str().contains(said), "at {said}: {out}");
+        assert_eq!(rt; err.as_str(), "");
+        assert_eq!(rt; status, 0);
+    }
+    let mut out = Over::new(FailingWriter {
+        written: Vec::new(rt.alloc()),
+        room: 3,
+    });
+    let mut err = Over::new(Vec::new(rt.alloc()));
     let mut reader = LIST.as_bytes();
-    let (status, out, err) = run_on(&rt, &["ioarun", "run"], &mut reader)?;
-    assert_eq!(rt; err.as_str(), "ioarun takes no words\n");
-    assert_eq!(rt; out.as_str(), "");
-    assert_eq!(rt; status, 2);
+    let words = ["ioarun", "--version"];
+    let status = command(rt.alloc(), &words, &mut reader, &mut out, &mut err);
+    assert_eq!(rt; out.into_writer().written.as_slice(), b"ioa".as_slice());
+    assert_eq!(rt;
+        err.into_writer().as_slice(),
+        b"failed 71 Write\n".as_slice()
+    );
+    assert_eq!(rt; status, 3);
+    Ok(())
+}
+
+#[test]
+fn failed_reads_are_told(rt: HostRuntime) -> Result<(), Fail> {
     let mut failing = b"automaton".as_slice().chain(Failing(ErrorKind::Other));
-    let (status, out, err) = run_on(&rt, &["ioarun"], &mut failing)?;
+    let (status, out, err) = run_on(&rt, &["ioarun", "run"], &mut failing)?;
     assert_eq!(rt; err.as_str(), "failed 70 Read\n");
     assert_eq!(rt; out.as_str(), "");
     assert_eq!(rt; status, 3);
+    Ok(())
+}
+
+/// The report of the list's run with one attempt a node.
+const ONE_ATTEMPT: &str = "schedule 2
+0 send(7, 0, 1)
+1 receive(7, 0, 1)
+node 0 n = 8
+node 1 last = 7
+channel 0 -> 1 {}
+ending 0 spent
+ending 1 spent
+worker 0 commits 2
+total 2
+";
+
+/// The report of the list's run with three steps.
+const THREE_STEPS: &str = "schedule 3
+0 send(7, 0, 1)
+1 receive(7, 0, 1)
+2 send(8, 0, 1)
+node 0 n = 9
+node 1 last = 7
+channel 0 -> 1 {8}
+ending 0 done
+ending 1 fault Full
+worker 0 commits 3
+total 3
+";
+
+/// Words for the list, and the report of its run.
+static LIST_WORDS: [(&[&str], &str); 8] = [
+    (&["ioarun", "run"], LIST_REPORT),
+    (
+        &["ioarun", "run", "--steps", "10000", "--attempts", "1000"],
+        LIST_REPORT,
+    ),
+    (
+        &["ioarun", "run", "--attempts", "1000000", "--steps=1000000"],
+        LIST_REPORT,
+    ),
+    (&["ioarun", "run", "--attempts", "1"], ONE_ATTEMPT),
+    (&["ioarun", "run", "--attempts=01"], ONE_ATTEMPT),
+    (&["ioarun", "run", "--steps", "3"], THREE_STEPS),
+    (&["ioarun", "run", "--steps=4", "--attempts=3"], LIST_REPORT),
+    (&["another name", "run", "--steps", "3"], THREE_STEPS),
+];
+
+#[test]
+fn words_choose_the_options(rt: HostRuntime) -> Result<(), Fail> {
+    for (words, report) in &LIST_WORDS {
+        let mut reader = LIST.as_bytes();
+        let (status, out, err) = run_on(&rt, words, &mut reader)?;
+        assert_eq!(rt; out.as_str(), *report);
+        assert_eq!(rt; err.as_str(), "");
+        assert_eq!(rt; status, 0);
+    }
+    Ok(())
+}
+
+/// Words, and the steps and the attempts that they choose.
+static CHOSEN: [(&[&str], u64, u64); 4] = [
+    (&["ioarun", "run"], 10_000, 1_000),
+    (&["ioarun", "run", "--steps", "0"], 0, 1_000),
+    (&["ioarun", "run", "--attempts", "1"], 10_000, 1),
+    (
+        &["ioarun", "run", "--steps", "+7", "--attempts", "0008"],
+        7,
+        8,
+    ),
+];
+
+#[test]
+fn numbers_are_those_of_the_words(rt: HostRuntime) -> Result<(), Fail> {
+    for (words, steps, attempts) in &CHOSEN {
+        let Subcommand::Run(options) = options(rt.alloc(), words)?;
+        assert_eq!(rt; (options.steps(), options.attempts()), (*steps, *attempts));
+    }
     Ok(())
 }
 
@@ -364,7 +522,13 @@ fn a_writer_that_fails_has_a_beginning_of_the_report(rt: HostRuntime) -> Result<
         });
         let mut err = Over::new(Vec::new(rt.alloc()));
         let mut reader = ONE_STATE.as_bytes();
-        let status = command(rt.alloc(), &["ioarun"], &mut reader, &mut out, &mut err);
+        let status = command(
+            rt.alloc(),
+            &["ioarun", "run"],
+            &mut reader,
+            &mut out,
+            &mut err,
+        );
         let written = out.into_writer().written;
         assert_eq!(rt; written.len(), room);
         assert!(rt; ONE_STATE_REPORT.as_bytes().starts_with(&written));
@@ -373,30 +537,6 @@ fn a_writer_that_fails_has_a_beginning_of_the_report(rt: HostRuntime) -> Result<
             b"failed 71 Write\n".as_slice()
         );
         assert_eq!(rt; status, 3);
-    }
-    Ok(())
-}
-
-#[test]
-fn runs_keep_to_their_attempts_and_steps(rt: HostRuntime) -> Result<(), Fail> {
-    let rows = [
-        Limited {
-            steps: 10_000,
-            attempts: 1,
-            out: "schedule 2\n0 send(7, 0, 1)\n1 receive(7, 0, 1)\nnode 0 n = 8\nnode 1 last = 7\nchannel 0 -> 1 {}\nending 0 spent\nending 1 spent\nworker 0 commits 2\ntotal 2\n",
-        },
-        Limited {
-            steps: 3,
-            attempts: 1_000,
-            out: "schedule 3\n0 send(7, 0, 1)\n1 receive(7, 0, 1)\n2 send(8, 0, 1)\nnode 0 n = 9\nnode 1 last = 7\nchannel 0 -> 1 {8}\nending 0 done\nending 1 fault Full\nworker 0 commits 3\ntotal 3\n",
-        },
-    ];
-    for row in &rows {
-        let options = Options::within(row.steps, row.attempts).ok_or("out of range")?;
-        let mut out = Over::new(Vec::new(rt.alloc()));
-        run_system(rt.alloc(), LIST, &options, &mut out)?;
-        let written = String::from_utf8(out.into_writer())?;
-        assert_eq!(rt; written.as_str(), row.out);
     }
     Ok(())
 }

@@ -18,7 +18,13 @@ fn line_of(rt: &HostRuntime, text: &str) -> Result<(u8, String), Fail> {
     let mut out = Over::new(Vec::new(rt.alloc()));
     let mut err = Over::new(Vec::new(rt.alloc()));
     let mut reader = text.as_bytes();
-    let status = command(rt.alloc(), &["ioarun"], &mut reader, &mut out, &mut err);
+    let status = command(
+        rt.alloc(),
+        &["ioarun", "run"],
+        &mut reader,
+        &mut out,
+        &mut err,
+    );
     if out.into_writer().is_empty() {
         Ok((status, String::from_utf8(err.into_writer())?))
     } else {
@@ -177,7 +183,13 @@ fn an_automaton_without_nodes_is_a_text(rt: HostRuntime) -> Result<(), Fail> {
     let mut out = Over::new(Vec::new(rt.alloc()));
     let mut err = Over::new(Vec::new(rt.alloc()));
     let mut reader = "automaton A system".as_bytes();
-    let status = command(rt.alloc(), &["ioarun"], &mut reader, &mut out, &mut err);
+    let status = command(
+        rt.alloc(),
+        &["ioarun", "run"],
+        &mut reader,
+        &mut out,
+        &mut err,
+    );
     assert_eq!(rt; status, 0);
     let report = String::from_utf8(out.into_writer())?;
     assert!(rt; report.as_str() == "schedule 0\nworker 0 commits 0\ntotal 0\n");

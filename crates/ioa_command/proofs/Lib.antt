@@ -1,0 +1,2 @@
+mod CommandLine
+mod Endings

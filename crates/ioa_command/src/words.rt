@@ -1,0 +1,134 @@
+//! What the words of the command line choose.
+
+ghost use Rattle.std.specs.Prelude.{◌≡◌, false, map, IfOk, IfErr, IfSome};
+ghost use Rattle.clap.specs.Words.{rule_of, app_of, subcommand_rows_of};
+ghost use Rattle.clap.specs.declared.builder.command.Command.TheViews.{out-Command};
+ghost use Rattle.ioa_command.specs.declared.words.Subcommand.TheVariants.{Run};
+ghost use Rattle.ioa_command.specs.CommandLine.{number_rule, run_app, program_app};
+ghost use Rattle.ioa_command.specs.CommandLine.{Chooses, IsChosenBy, IsErrorOf};
+
+use clap::builder::ValueParser;
+use clap::error::ErrorKind;
+use clap::{Arg, ArgMatches, Command, Error, value_parser};
+use ioa_workers::{GREATEST_ATTEMPTS, GREATEST_STEPS, Options};
+use std::alloc::{AllocError, Global};
+
+/// What is shown before the list of subcommands.
+const ABOUT: &str = "Runs systems of I/O automata, and prints what happened.";
+
+/// What is shown at the end of the help of the program.
+const STATUSES: &str = "\
+`ioarun run` reads a system text on standard input: automata with their schedule blocks, and the
+nodes, channels and scripts on which they are placed. It writes the report of the run on standard
+output: the schedule, the last states, how each node ended, and how many actions were taken.
+
+Statuses:
+  0  the report was written, or this help
+  1  the text was refused: one line on standard error has the number, the name and the place
+  2  these words were refused
+  3  memory ran out, or reading or writing failed
+
+Example:
+  ioarun run --steps 100 < relay.ioa";
+
+/// What the program is asked to do.
+#[derive(Clone, Copy, Debug, PartialEq, Eq)]
+pub enum Subcommand {
+    /// `run`: run the system of the text with these options, and write the report.
+    Run(Options),
+}
+
+impl Subcommand {
+    /// The options of the run.
+    pub fn options(&self) -> Options
+        ensures { self.now ≡ Run result }
+    {
+        match self {
+            Subcommand::Run(options) => *options,
+        }
+    }
+}
+
+/// What the words choose, the program's name first (profile). `--steps N` and `--attempts N` have decimal numbers, each
+/// in its range of [`Options`]; if one is not given, it is that of `Options::default`. The error is clap's own, and has
+/// no number: it is a text that the words ask for (`--help` or `--version`), says what is wrong with the words, or tells
+/// want of memory.
+pub fn options<'a>(alloc: Global, words: &'a [&'a str]) -> Result<Subcommand, Error>
+    ensures chosen { IfOk result (Chooses (map (λ w. w.now) words.entry.now)) }
+    ensures refused { IfErr result (IsErrorOf (map (λ w. w.now) words.entry.now)) }
+{
+    let mut command = program(alloc)?;
+    let matches = match command.try_get_matches_from_mut(words) {
+        Ok(matches) => matches,
+        Err(error) => return Err(error),
+    };
+    match choice_of(&matches) {
+        Some(subcommand) => Ok(subcommand),
+        None => Err(command.error(ErrorKind::ValueValidation, "a number is outside its range")?),
+    }
+}
+
+/// The command line as clap is told of it.
+fn program<'a>(alloc: Global) -> Result<Command<'a>, AllocError>
+    ensures { IfOk result (λ c. (app_of c ≡ program_app) × ((out-Command c).has_globals ≡ false)) }
+{
+    Command::new(alloc, "ioarun")
+        .version("0.1.0")
+        .about(ABOUT)
+        .after_help(STATUSES)
+        .subcommand_required(true)
+        .arg_required_else_help(true)
+        .subcommand(run(alloc)?)
+}
+
+/// The subcommand `run`.
+fn run<'a>(alloc: Global) -> Result<Command<'a>, AllocError>
+    ensures { IfOk result (λ c. (app_of c ≡ run_app) × ((out-Command c).has_globals ≡ false)) }
+{
+    let steps = number(
+        alloc,
+        "steps",
+        "10000",
+        value_parser!(u64).range(..=GREATEST_STEPS as i64),
+    )
+    .help("How many actions the schedule may have, from 0 to 1000000");
+    let attempts = number(
+        alloc,
+        "attempts",
+        "1000",
+        value_parser!(u64)
+            .range(1..)
+            .range(..=GREATEST_ATTEMPTS as i64),
+    )
+    .help("How many turns each node may have, from 1 to 1000000");
+    Command::new(alloc, "run")
+        .about("Runs the system of the text on standard input, and writes the report of the run")
+        .arg(steps)?
+        .arg(attempts)
+}
+
+/// `--name N`.
+fn number<'a>(alloc: Global, name: &'a str, default: &'a str, parser: ValueParser<'a>) -> Arg<'a>
+    ensures rule { rule_of result ≡ number_rule name.entry.now parser.entry default.entry.now }
+    ensures global { result.global ≡ false }
+{
+    Arg::new(alloc, name)
+        .long(name)
+        .value_name("N")
+        .default_value(default)
+        .value_parser(parser)
+}
+
+/// What the matches choose; nothing if they name no subcommand, or if a number is missing or outside its range.
+fn choice_of(matches: &ArgMatches<'_>) -> Option<Subcommand>
+    ensures { IfSome result (IsChosenBy (subcommand_rows_of matches.now)) }
+{
+    let (name, found) = matches.subcommand()?;
+    if name == "run" {
+        let steps = found.get_one::<u64>("steps")?;
+        let attempts = found.get_one::<u64>("attempts")?;
+        Some(Subcommand::Run(Options::within(steps, attempts)?))
+    } else {
+        None
+    }
+}
