@@ -185,7 +185,8 @@ fn run_line(alloc: Global, fault: &RunFault) -> Result<String, AllocError>
 fn show_line<E: Out>(line: Result<String, AllocError>, status: u8, err: &mut E) -> u8
     requires { E.failed err.old ≡ false }
     ensures { MatchResult line
-        (λ s. (result ≡ status) × Shows (string_bytes s) (output (E.bytes err.old) (E.bytes err.new) (E.failed err.new)))
+        (λ s. (result ≡ status)
+        × Shows (string_bytes s) (output (E.bytes err.old) (E.bytes err.new) (E.failed err.new)))
         (λ _. (result ≡ 3) × Shows memory_line (output (E.bytes err.old) (E.bytes err.new) (E.failed err.new))) }
 {
     match line {
