@@ -7,7 +7,7 @@ use Rattle.ioa_system.specs.Parts.{AutomatonParts, Parts}
 use Rattle.ioa_system.specs.Systems.{SystemParts}
 use Rattle.ioa_types.specs.TextTypes.{PlainTextTypes}
 use Rattle.ioa_automata.specs.SortedAutomata.{IsAutomatonOf}
-use Rattle.ioa_automata.proofs.Lookups.{contained_has, found_has}
+use Rattle.ioa_sorts.proofs.Lookups.{contained_has, found_has}
 use Rattle.ioa_check.specs.Sections.{automata_in, nodes_in}
 use Rattle.ioa_check.specs.Systems.{AreNodesOf, IsNodeOf, IsProgramOf, IsSystemOf}
 use Rattle.ioa_accepted.proofs.Numbered.{AreNumbered, text_numbered}

@@ -11,7 +11,7 @@ use Rattle.ioa_types.specs.TextTypes.{PlainTextTypes, no_types}
 use Rattle.ioa_types.proofs.Meant.{no_text_types, type_added}
 use Rattle.ioa_types.proofs.TypeDeclarations.{type_found}
 use Rattle.ioa_automata.proofs.DeclaredShapes.{automaton_declared}
-use Rattle.ioa_automata.proofs.Lookups.{contained_has}
+use Rattle.ioa_sorts.proofs.Lookups.{contained_has}
 use Rattle.ioa_check.specs.Systems.{AreTypesOf}
 use Rattle.ioa_accepted.proofs.Accepted.{IsAcceptedProgram}
 

@@ -9,11 +9,12 @@ use Rattle.ioa_operators.proofs.Holding.{map_holds, and_then_holds, and_then_hol
 use Rattle.ioa_terms.specs.declared.name.Name.{Name}
 use Rattle.ioa_terms.specs.SameNames.{same_name_is}
 use Rattle.ioa_terms.specs.Bindings.{Bindings, same_name, lookup, put}
-use Rattle.ioa_terms.specs.PlainTerm.{PlainTarget, variable, at_key, at_field, PlainStatement, PlainStatements, PlainArms, assign, branch, no_statements, statement, no_arms, arm, statements_of}
+use Rattle.ioa_terms.specs.PlainTerm.{PlainTarget, variable, at_key, at_field, PlainStatement, PlainStatements, PlainArms, assign, branch, loop, fire, no_statements, statement, no_arms, arm, statements_of}
 use Rattle.ioa_terms.specs.Performance.{target_name, target_shape, assignment_value, fitting_value, test_value, by_test, after_one, after_choice, after_all, after}
 use Rattle.ioa_terms.specs.Sorted.{NameShapes, shape_named, IsShaped}
 use Rattle.ioa_terms.proofs.Assigned.{assigned_value}
 use Rattle.ioa_source.specs.Sides.{SourceStatement, CheckedStatement}
+use Rattle.ioa_sorts.specs.StatementSites.{PlainStatementSite, effect_site}
 use Rattle.ioa_sorts.specs.SortedStatements.{HoldsShape, IsSorted, AreSorted, AreArmsSorted, IsStatementOf}
 
 -- a name that is found among the first names is found among all
@@ -55,6 +56,13 @@ after_test P None x y z h k l = h
 after_test P (Some true) x y z h k l = k
 after_test P (Some false) x y z h k l = l
 
+-- statements of a text are sorted
+pub all_sorted : (site : PlainStatementSite) (us : List SourceStatement) (ss : List CheckedStatement) → AllZip (IsStatementOf site) us ss → AreSorted site (statements_of ss)
+all_sorted site [] [] h = tt
+all_sorted site [] (s ∷ ss) h = absurd h
+all_sorted site (u ∷ us) [] h = absurd h
+all_sorted site (u ∷ us) (s ∷ ss) h = (h.0.sorted, all_sorted site us ss h.1)
+
 module _ (variables names : NameShapes) (declared : (x : Name) (s : PlainShape) → shape_named x variables ≡ Some s → shape_named x names ≡ Some s) where
   assigned_shaped : (p : PlainTarget ℕ Shape) (s : PlainShape) (e : Bindings) (o : Option Data) → HoldsShape variables names p s → IsShaped names e →
       IfSome (option_map (λ v. put (target_name p) v e) (option_and_then (fitting_value (target_shape p)) o)) (IsShaped names)
@@ -67,28 +75,23 @@ module _ (variables names : NameShapes) (declared : (x : Name) (s : PlainShape) 
       Fits v = has_shape (target_shape p) v ≡ true
 
   mutual
-    pub statement_shaped : (s : PlainStatement ℕ Shape) (e : Bindings) → IsSorted variables names s → IsShaped names e → IfSome (after_one s e) (IsShaped names)
+    pub statement_shaped : (s : PlainStatement ℕ Shape) (e : Bindings) → IsSorted (effect_site variables names) s → IsShaped names e → IfSome (after_one s e) (IsShaped names)
     statement_shaped (assign p t) e h g = assigned_shaped p h.0 e (assignment_value p t e) h.1 g
     statement_shaped (branch arms rest) e h g = choice_shaped arms (after_all rest e) e h.0 g (statements_shaped rest e h.1 g)
+    statement_shaped (loop t body) e h g = tt
+    statement_shaped (fire f) e h g = tt
 
-    choice_shaped : (arms : PlainArms ℕ Shape) (rest : Option Bindings) (e : Bindings) → AreArmsSorted variables names arms → IsShaped names e → IfSome rest (IsShaped names) → IfSome (after_choice arms rest e) (IsShaped names)
+    choice_shaped : (arms : PlainArms ℕ Shape) (rest : Option Bindings) (e : Bindings) → AreArmsSorted (effect_site variables names) arms → IsShaped names e → IfSome rest (IsShaped names) → IfSome (after_choice arms rest e) (IsShaped names)
     choice_shaped no_arms rest e h g k = k
     choice_shaped (arm t body more) rest e h g k =
         after_test (λ (o : Option Bindings). IfSome o (IsShaped names)) (test_value t e) None (after_all body e) (after_choice more rest e)
         tt (statements_shaped body e h.1 g) (choice_shaped more rest e h.2 g k)
 
-    pub statements_shaped : (ss : PlainStatements ℕ Shape) (e : Bindings) → AreSorted variables names ss → IsShaped names e → IfSome (after_all ss e) (IsShaped names)
+    pub statements_shaped : (ss : PlainStatements ℕ Shape) (e : Bindings) → AreSorted (effect_site variables names) ss → IsShaped names e → IfSome (after_all ss e) (IsShaped names)
     statements_shaped no_statements e h g = g
     statements_shaped (statement s more) e h g =
         and_then_holds (IsShaped names) (IsShaped names) (after_all more) (after_one s e) (statement_shaped s e h.0 g) (λ f k. statements_shaped more f h.1 k)
 
-  -- the statements of an effect are sorted
-  pub effect_sorted : (us : List SourceStatement) (ss : List CheckedStatement) → AllZip (IsStatementOf variables names) us ss → AreSorted variables names (statements_of ss)
-  effect_sorted [] [] h = tt
-  effect_sorted [] (s ∷ ss) h = absurd h
-  effect_sorted (u ∷ us) [] h = absurd h
-  effect_sorted (u ∷ us) (s ∷ ss) h = (h.0.sorted, effect_sorted us ss h.1)
-
   -- what an effect leaves
-  pub effect_shaped : (us : List SourceStatement) (ss : List CheckedStatement) (e left : Bindings) → AllZip (IsStatementOf variables names) us ss → IsShaped names e → after ss e ≡ Some left → IsShaped names left
-  effect_shaped us ss e left h g k = rw k at (statements_shaped (statements_of ss) e (effect_sorted us ss h) g)
+  pub effect_shaped : (us : List SourceStatement) (ss : List CheckedStatement) (e left : Bindings) → AllZip (IsStatementOf (effect_site variables names)) us ss → IsShaped names e → after ss e ≡ Some left → IsShaped names left
+  effect_shaped us ss e left h g k = rw k at (statements_shaped (statements_of ss) e (all_sorted (effect_site variables names) us ss h) g)

@@ -1,5 +1,5 @@
 -- What the terms of an accepted system give has their shapes.
-use Rattle.std.proofs.Common.{◌≡◌, ℤ, ℕ, List, [], ◌∷◌, Option, Some, None, sym, ◌∙◌, take, length}
+use Rattle.std.proofs.Common.{◌≡◌, ℤ, ℕ, true, false, List, [], ◌∷◌, Option, Some, None, take, length, arith}
 use Rattle.std.specs.List.{AllByRecursion, AllZip, Contains}
 use Rattle.std.specs.Option.{IfSome}
 use Rattle.ioa_operators.specs.Shapes.{PlainShape, truths}
@@ -9,16 +9,17 @@ use Rattle.ioa_terms.specs.declared.name.Name.TheVariants.{Word}
 use Rattle.ioa_terms.specs.Bindings.{Bindings}
 use Rattle.ioa_terms.specs.Meaning.{value}
 use Rattle.ioa_terms.specs.Performance.{after_one}
-use Rattle.ioa_terms.specs.PlainTerm.{PlainStatement, PlainStatements, PlainArms, assign, branch, no_statements, statement, no_arms, arm, statements_of}
-use Rattle.ioa_terms.specs.Sorted.{NameShapes, shape_named, shape_in_terms, IsShaped}
+use Rattle.ioa_terms.specs.PlainTerm.{PlainStatement, PlainStatements, PlainArms, assign, branch, loop, fire, no_statements, statement, no_arms, arm, statements_of}
+use Rattle.ioa_terms.specs.Sorted.{NameShapes, HasShape, shape_named, shape_in_terms, IsShaped}
 use Rattle.ioa_actions.specs.ActionParts.{action_arguments}
 use Rattle.ioa_actions.specs.declared.action.Action.{Action}
-use Rattle.ioa_source.specs.Sides.{SourceFiring, SourceTerm, SourceText, CheckedFiring, CheckedTerm}
-use Rattle.ioa_system.specs.InView.{entry_condition, guard_or_effect, firing, firing_bindings, given_bindings}
+use Rattle.ioa_source.specs.Sides.{SourceTerm, SourceText, CheckedFiring, CheckedTerm}
+use Rattle.ioa_system.specs.InView.{entry_condition, guard_or_effect, given_bindings}
 use Rattle.ioa_system.specs.Parts.{PlainRule}
 use Rattle.ioa_system.specs.Systems.{SystemParts}
-use Rattle.ioa_sorts.specs.SortedStatements.{IsSorted, AreSorted, AreArmsSorted}
-use Rattle.ioa_automata.specs.SortedAutomata.{AreArgumentsOf, IsConditionOf, IsFiringOf, names_at}
+use Rattle.ioa_sorts.specs.SortedStatements.{IsFired, IsSorted, AreSorted, AreArmsSorted}
+use Rattle.ioa_sorts.specs.StatementSites.{PlainStatementSite, effect_site}
+use Rattle.ioa_automata.specs.SortedAutomata.{block_names, block_of, IsConditionOf, names_at}
 use Rattle.ioa_automata.proofs.Compiled.{automaton_compiled}
 use Rattle.ioa_check.specs.Systems.{IsEntryOn, IsSystemOf}
 use Rattle.ioa_transitions.specs.NodeState.{NodeState}
@@ -26,11 +27,12 @@ use Rattle.ioa_transitions.specs.NodeStep.{IsOfSort, rule_bindings}
 use Rattle.ioa_compose.specs.declared.configuration.Conf.{Conf}
 use Rattle.ioa_compose.specs.declared.configuration.Conf.TheVariants.{Node, Queue}
 use Rattle.ioa_accepted.specs.Shaped.{IsShapedNode, AreShaped}
-use Rattle.ioa_accepted.specs.WellSorted.{IsOfShape, IsTruthValued, IsWellSorted, AreArmsWellSorted, AreWellSorted, AreConstantsValued, IsRuleWellSorted, IsFiringWellSorted, IsNodeWellSorted, AreConfsWellSorted}
+use Rattle.ioa_accepted.specs.WellSorted.{IsOfShape, IsTruthValued, IsWellSorted, AreArmsWellSorted, AreWellSorted, AreConstantsValued, IsRuleWellSorted, IsFiringWellSorted, IsBlockWellSorted, AreBlockArmsWellSorted, AreBlockWellSorted, block_read, IsNodeWellSorted, AreConfsWellSorted}
 use Rattle.ioa_accepted.proofs.Accepted.{IsAcceptedProgram, is_accepted, system_numbered}
 use Rattle.ioa_accepted.proofs.Assigned.{term_has, assigned_has}
-use Rattle.ioa_accepted.proofs.Effects.{found_in_front, statement_shaped, effect_sorted}
-use Rattle.ioa_accepted.proofs.Environments.{bindings_shaped, bindings_names, given_names}
+use Rattle.ioa_accepted.proofs.Effects.{all_sorted, found_in_front, statement_shaped}
+use Rattle.ioa_accepted.proofs.Environments.{block_reads, block_shaped, given_names}
+use Rattle.ioa_accepted.proofs.Starts.{initial_fit}
 use Rattle.ioa_accepted.proofs.NodeSteps.{is_rule, rule_names, rule_shaped}
 
 -- a guard or a condition
@@ -47,15 +49,17 @@ further P Q (Some f) h g = g f h
 -- statements
 module _ (variables names : NameShapes) (declared : (x : Name) (s : PlainShape) → shape_named x variables ≡ Some s → shape_named x names ≡ Some s) where
   mutual
-    statement_sorted : (s : PlainStatement ℕ Shape) (e : Bindings) → IsSorted variables names s → IsShaped names e → IsWellSorted s e
+    statement_sorted : (s : PlainStatement ℕ Shape) (e : Bindings) → IsSorted (effect_site variables names) s → IsShaped names e → IsWellSorted s e
     statement_sorted (assign p t) e h g = assigned_has names e g variables (λ x d k. declared (Word x) d k) p t h.0 h.1 h.2
     statement_sorted (branch arms rest) e h g = (arms_sorted arms e h.0 g, statements_sorted rest e h.1 g)
+    statement_sorted (loop t body) e h g = let f : false ≡ true = h.0 in absurd (cc)
+    statement_sorted (fire f) e h g = absurd (omega (arith, h.present.1))
 
-    arms_sorted : (arms : PlainArms ℕ Shape) (e : Bindings) → AreArmsSorted variables names arms → IsShaped names e → AreArmsWellSorted arms e
+    arms_sorted : (arms : PlainArms ℕ Shape) (e : Bindings) → AreArmsSorted (effect_site variables names) arms → IsShaped names e → AreArmsWellSorted arms e
     arms_sorted no_arms e h g = tt
     arms_sorted (arm t body more) e h g = (term_has names e g t truths h.0, statements_sorted body e h.1 g, arms_sorted more e h.2 g)
 
-    statements_sorted : (ss : PlainStatements ℕ Shape) (e : Bindings) → AreSorted variables names ss → IsShaped names e → AreWellSorted ss e
+    statements_sorted : (ss : PlainStatements ℕ Shape) (e : Bindings) → AreSorted (effect_site variables names) ss → IsShaped names e → AreWellSorted ss e
     statements_sorted no_statements e h g = tt
     statements_sorted (statement s more) e h g = (
       statement_sorted s e h.0 g,
@@ -63,28 +67,36 @@ module _ (variables names : NameShapes) (declared : (x : Name) (s : PlainShape) 
     )
 
 -- the arguments of a firing
-arguments_sorted : (names : NameShapes) (e : Bindings) → IsShaped names e → (ss : List PlainShape) (us : List SourceTerm) (ts : List CheckedTerm) → AreArgumentsOf names ss us ts → AllZip (λ s t. IsOfShape (shape_in_terms s) (value t e)) ss ts
-arguments_sorted names e g [] [] [] h = tt
-arguments_sorted names e g [] [] (t ∷ ts) h = absurd h
-arguments_sorted names e g [] (u ∷ us) ts h = absurd h
-arguments_sorted names e g (s ∷ ss) [] ts h = absurd h
-arguments_sorted names e g (s ∷ ss) (u ∷ us) [] h = absurd h
-arguments_sorted names e g (s ∷ ss) (u ∷ us) (t ∷ ts) h = (term_has names e g t (shape_in_terms s) h.0.has_shape, arguments_sorted names e g ss us ts h.1)
+arguments_sorted : (names : NameShapes) (e : Bindings) → IsShaped names e → (ss : List PlainShape) (ts : List CheckedTerm) → AllZip (λ s t. HasShape names t (shape_in_terms s)) ss ts → AllZip (λ s t. IsOfShape (shape_in_terms s) (value t e)) ss ts
+arguments_sorted names e g [] [] h = tt
+arguments_sorted names e g [] (t ∷ ts) h = absurd h
+arguments_sorted names e g (s ∷ ss) [] h = absurd h
+arguments_sorted names e g (s ∷ ss) (t ∷ ts) h = (term_has names e g t (shape_in_terms s) h.0, arguments_sorted names e g ss ts h.1)
 
-module _ (c : NodeState) (names : NameShapes) (g : IsShaped names (firing_bindings c.program.automaton c.program.arguments c.variables)) where
-  firing_sorted : (u : SourceFiring) (f : CheckedFiring) → IsFiringOf names c.program.automaton.rules u f → IsFiringWellSorted c f
-  firing_sorted u f h = record {
-    rule = h.fired;
+-- statements of a schedule block
+module _ (site : PlainStatementSite) (declared : (x : Name) (s : PlainShape) → shape_named x site.variables ≡ Some s → shape_named x site.names ≡ Some s) (e : Bindings) (g : IsShaped site.names e) where
+  firing_sorted : (f : CheckedFiring) → IsFired site.names site.rules f → IsFiringWellSorted site.rules f e
+  firing_sorted f h = record {
+    rule = h.rule;
     present = h.present;
-    name = h.same_name ∙ sym h.action;
-    arguments = arguments_sorted names (firing_bindings c.program.automaton c.program.arguments c.variables) g h.fired.shapes u.arguments f.arguments h.arguments;
+    name = h.same_name;
+    arguments = arguments_sorted site.names e g h.rule.shapes f.arguments h.arguments;
   }
 
-  firings_sorted : (us : List SourceFiring) (fs : List CheckedFiring) → AllZip (IsFiringOf names c.program.automaton.rules) us fs → AllByRecursion (IsFiringWellSorted c) fs
-  firings_sorted [] [] h = tt
-  firings_sorted [] (f ∷ fs) h = absurd h
-  firings_sorted (u ∷ us) [] h = absurd h
-  firings_sorted (u ∷ us) (f ∷ fs) h = (firing_sorted u f h.0, firings_sorted us fs h.1)
+  mutual
+    one_block_sorted : (s : PlainStatement ℕ Shape) → IsSorted site s → IsBlockWellSorted site.rules s e
+    one_block_sorted (assign p t) h = assigned_has site.names e g site.variables (λ x d k. declared (Word x) d k) p t h.0 h.1 h.2
+    one_block_sorted (branch arms rest) h = (block_arms_sorted arms h.0, block_sorted rest h.1)
+    one_block_sorted (loop t body) h = (term_has site.names e g t truths h.1, block_sorted body h.2)
+    one_block_sorted (fire f) h = firing_sorted f h
+
+    block_arms_sorted : (arms : PlainArms ℕ Shape) → AreArmsSorted site arms → AreBlockArmsWellSorted site.rules arms e
+    block_arms_sorted no_arms h = tt
+    block_arms_sorted (arm t body more) h = (term_has site.names e g t truths h.0, block_sorted body h.1, block_arms_sorted more h.2)
+
+    block_sorted : (ss : PlainStatements ℕ Shape) → AreSorted site ss → AreBlockWellSorted site.rules ss e
+    block_sorted no_statements h = tt
+    block_sorted (statement s more) h = (one_block_sorted s h.0, block_sorted more h.1)
 
 -- the constants of entries
 constants_valued : (k : ℤ) (e : Bindings) (rs : List PlainRule) → AllByRecursion (IsEntryOn e k) rs → AllByRecursion (AreConstantsValued e) rs
@@ -108,21 +120,25 @@ module _ (x : SourceText) (s : SystemParts) (h : IsSystemOf x s) (c : NodeState)
         names = λ site. rule_names x s h c shaped site r a sorts;
         condition = guard_truth (names_at entry_condition h.types.constants b.parameters b.variables r.entry.parameters) (rule_bindings entry_condition r a c) (rule_shaped x s h c shaped entry_condition r a sorts) made.0.condition r.entry.condition made.1.condition;
         guard = guard_truth names (rule_bindings guard_or_effect r a c) g made.1.written.pre r.transition.pre made.1.transition.pre;
-        effect = statements_sorted variables names declared (statements_of r.transition.effect) (rule_bindings guard_or_effect r a c) (effect_sorted variables names declared made.1.written.effect r.transition.effect made.1.transition.effect) g;
+        effect = statements_sorted variables names declared (statements_of r.transition.effect) (rule_bindings guard_or_effect r a c) (all_sorted (effect_site variables names) made.1.written.effect r.transition.effect made.1.transition.effect) g;
       }
 
   pub node_sorted : IsNodeWellSorted c
   node_sorted =
       let b = c.program.automaton in
+      let names = block_names h.types.constants b.parameters b.variables b.schedule.variables in
+      let count = length b.schedule.variables in
+      let site = block_of names b.variables b.schedule.variables b.rules in
       record {
         slots = automaton_compiled h.types accepted.source b accepted.automaton;
         given_names = given_names h.types b accepted.automaton.constants (system_numbered x s h) c.program.arguments shaped.arguments;
         constants = constants_valued c.program.node (given_bindings b c.program.arguments) b.rules accepted.program.entries;
         rules = rule_sorted;
-        firing_names = bindings_names h.types b accepted.automaton.constants (system_numbered x s h) firing [] c.program.arguments c.variables [] shaped.arguments shaped.variables tt;
-        firings = firings_sorted c (names_at firing h.types.constants b.parameters b.variables [])
-            (bindings_shaped h.types b accepted.automaton.constants (system_numbered x s h) firing [] c.program.arguments c.variables [] shaped.arguments shaped.variables tt)
-            accepted.source.schedule b.schedule accepted.automaton.schedule;
+        block_starts = initial_fit (given_bindings b c.program.arguments) b.schedule.variables c.program.block accepted.program.block;
+        block_names = λ own fits. block_reads h.types b accepted.automaton.constants (system_numbered x s h) c.program.arguments c.variables own shaped.arguments shaped.variables fits;
+        block = λ own fits. block_sorted site (λ y t found. found_in_front y count names t found) (block_read c own)
+            (block_shaped h.types b accepted.automaton.constants (system_numbered x s h) c.program.arguments c.variables own shaped.arguments shaped.variables fits)
+            (statements_of b.schedule.statements) (all_sorted site accepted.source.schedule.statements b.schedule.statements accepted.automaton.schedule.statements);
       }
 
 -- configurations with their declared shapes

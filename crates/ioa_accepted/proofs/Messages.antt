@@ -38,7 +38,7 @@ use Rattle.ioa_channels.specs.QueueSteps.{IsQueueStep}
 use Rattle.ioa_channels.specs.declared.queue.Item.{Item}
 use Rattle.ioa_channels.specs.declared.queue.Item.TheVariants.{Message, Stimulus}
 use Rattle.ioa_accepted.specs.Shaped.{IsShapedNode, IsMessageTo, IsItemTo, IsShapedQueue}
-use Rattle.ioa_automata.proofs.Lookups.{contained_found, contained_has, found_contained}
+use Rattle.ioa_sorts.proofs.Lookups.{contained_found, contained_has, found_contained}
 use Rattle.ioa_accepted.proofs.Accepted.{IsAcceptedProgram, is_accepted, system_numbered}
 use Rattle.ioa_accepted.proofs.DeclaredTypes.{message_declared, text_types_of}
 use Rattle.ioa_accepted.proofs.Environments.{given_shaped}

@@ -25,7 +25,7 @@ use Rattle.ioa_transitions.specs.NodeStep.{IsOfSort, IsNodeStep, own_values, rul
 use Rattle.ioa_accepted.specs.Shaped.{FitsVariable, IsShapedNode}
 use Rattle.ioa_accepted.proofs.Environments.{bindings_shaped, bindings_names, own_fit}
 use Rattle.ioa_accepted.proofs.Effects.{found_in_front, effect_shaped}
-use Rattle.ioa_automata.proofs.Lookups.{contained_has}
+use Rattle.ioa_sorts.proofs.Lookups.{contained_has}
 use Rattle.ioa_accepted.proofs.Accepted.{IsAcceptedProgram, each_related, is_accepted, system_numbered}
 
 -- a state variable has its declared shape among names

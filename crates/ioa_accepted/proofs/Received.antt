@@ -42,7 +42,7 @@ use Rattle.ioa_transitions.proofs.NodeSignatures.{range_check_parts}
 use Rattle.ioa_transitions.proofs.NodeSteps.{names_left}
 use Rattle.ioa_accepted.specs.Shaped.{FitsVariable, IsShapedNode, IsMessageTo, IsItemTo, IsShapedChannel, IsShapedQueue, IsShapedConf, AreShaped}
 use Rattle.ioa_accepted.specs.Awaited.{IsAwaited, AreMessagesAwaited}
-use Rattle.ioa_automata.proofs.Lookups.{contained_found, contained_has, found_contained, found_has}
+use Rattle.ioa_sorts.proofs.Lookups.{contained_found, contained_has, found_contained, found_has}
 use Rattle.ioa_accepted.proofs.Accepted.{IsAcceptedProgram, is_accepted}
 use Rattle.ioa_accepted.proofs.Assigned.{widened}
 use Rattle.ioa_accepted.proofs.NodeSteps.{is_rule}

@@ -28,7 +28,7 @@ use Rattle.ioa_compose.proofs.Compositions.{joint_state_after}
 use Rattle.ioa_compose.proofs.Projections.{replays}
 use Rattle.ioa_compose.proofs.Starts.{start_state}
 use Rattle.ioa_accepted.specs.Shaped.{IsMessageTo, IsShapedQueue, IsShapedConf, AreShaped}
-use Rattle.ioa_automata.proofs.Lookups.{found_has, keys_all}
+use Rattle.ioa_sorts.proofs.Lookups.{found_has, keys_all}
 use Rattle.ioa_accepted.proofs.Messages.{message_fits, queue_shaped}
 use Rattle.ioa_accepted.proofs.NodeSteps.{step_shaped}
 use Rattle.ioa_accepted.proofs.Starts.{start_shaped}

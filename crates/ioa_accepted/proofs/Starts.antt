@@ -24,7 +24,7 @@ arguments_fit e (p ∷ ps) [] vs h = absurd h
 arguments_fit e (p ∷ ps) (t ∷ ts) [] h = absurd h
 arguments_fit e (p ∷ ps) (t ∷ ts) (v ∷ vs) h = (h.0.shape, arguments_fit e ps ts vs h.1)
 
-initial_fit : (e : Bindings) (xs : List CheckedVariable) (vs : List Data) → AllZip (IsInitialValue e) xs vs → AllZip FitsVariable xs vs
+pub initial_fit : (e : Bindings) (xs : List CheckedVariable) (vs : List Data) → AllZip (IsInitialValue e) xs vs → AllZip FitsVariable xs vs
 initial_fit e [] [] h = tt
 initial_fit e [] (v ∷ vs) h = absurd h
 initial_fit e (x ∷ xs) [] h = absurd h

@@ -9,14 +9,15 @@ use Rattle.ioa_operators.specs.declared.shape.Shape.{Shape}
 use Rattle.ioa_terms.specs.Bindings.{Bindings, names_of}
 use Rattle.ioa_terms.specs.Meaning.{value}
 use Rattle.ioa_terms.specs.Performance.{after_one, assignment_value, target_shape}
-use Rattle.ioa_terms.specs.PlainTerm.{PlainStatement, PlainStatements, PlainArms, assign, branch}
+use Rattle.ioa_terms.specs.PlainTerm.{PlainStatement, PlainStatements, PlainArms, assign, branch, loop, fire}
 use Rattle.ioa_terms.specs.PlainTerm.{no_statements, statement, no_arms, arm, statements_of}
 use Rattle.ioa_terms.specs.Sorted.{shape_in_terms}
 use Rattle.ioa_actions.specs.ActionParts.{action_arguments}
 use Rattle.ioa_actions.specs.declared.action.Action.{Action}
 use Rattle.ioa_source.specs.Sides.{CheckedFiring, CheckedTerm}
-use Rattle.ioa_system.specs.InView.{Site, entry_constant, entry_condition, guard_or_effect, firing}
-use Rattle.ioa_system.specs.InView.{declared_names, firing_bindings, given_bindings, names_at, own_names}
+use Rattle.ioa_system.specs.InView.{Site, entry_constant, entry_condition, guard_or_effect, block_statement}
+use Rattle.ioa_system.specs.InView.{block_bindings, declared_names, given_bindings, names_at, own_names}
+use Rattle.ioa_system.specs.InView.{variable_names}
 use Rattle.ioa_system.specs.Parts.{PlainRule}
 use Rattle.ioa_system.specs.ResolvedPrograms.{IsResolvedAutomaton}
 use Rattle.ioa_check.specs.Systems.{HasValue}
@@ -24,6 +25,7 @@ use Rattle.ioa_transitions.specs.NodeState.{NodeState}
 use Rattle.ioa_transitions.specs.NodeStep.{IsOfSort, rule_bindings}
 use Rattle.ioa_compose.specs.declared.configuration.Conf.{Conf}
 use Rattle.ioa_compose.specs.declared.configuration.Conf.TheVariants.{Node, Queue}
+use Rattle.ioa_accepted.specs.Shaped.{FitsVariable}
 
 -- a value, if there is one, has a shape
 abbrev pub IsOfShape : PlainShape → Option Data → Type 0
@@ -35,10 +37,13 @@ IsTruthValued None e = Unit {0}
 IsTruthValued (Some t) e = IsOfShape truths (value t e)
 
 abbrev mutual
-  -- what a statement gives its variable, if anything, has the variable's shape, but for negative numbers
+  -- what a statement gives its variable, if anything, has the variable's shape, but for negative numbers; no effect has
+  -- a `while` or a `fire`
   pub IsWellSorted : PlainStatement ℕ Shape → Bindings → Type 0
   IsWellSorted (assign p t) e = IsOfShape (wide_shape (target_shape p)) (assignment_value p t e)
   IsWellSorted (branch arms rest) e = AreArmsWellSorted arms e × AreWellSorted rest e
+  IsWellSorted (loop t body) e = ⊥
+  IsWellSorted (fire f) e = ⊥
 
   -- what an arm tests is a truth value, and its statements are well sorted
   pub AreArmsWellSorted : PlainArms ℕ Shape → Bindings → Type 0
@@ -60,16 +65,38 @@ pub record IsRuleWellSorted (c : NodeState) (a : Action) (r : PlainRule) : Type 
   pub guard : IsTruthValued r.transition.pre (rule_bindings guard_or_effect r a c)
   pub effect : AreWellSorted (statements_of r.transition.effect) (rule_bindings guard_or_effect r a c)
 
--- a firing is of an entry, and has an argument for each of the entry's; its value, if it has one, has the shape of the
--- entry's argument, in which naturals count as integers
-pub record IsFiringWellSorted (c : NodeState) (f : CheckedFiring) : Type 0 where
+-- what the schedule block of a node reads, if its own variables have these values
+abbrev pub block_read : NodeState → List Data → Bindings
+block_read c own = block_bindings c.program.automaton c.program.arguments c.variables own
+
+-- a firing is of one of these rules, and has an argument for each of the rule's; its value, if it has one, has the shape
+-- of the rule's argument, in which naturals count as integers
+pub record IsFiringWellSorted (rules : List PlainRule) (f : CheckedFiring) (e : Bindings) : Type 0 where
   pub rule : PlainRule
-  pub present : Contains c.program.automaton.rules rule
+  pub present : Contains rules rule
   pub name : rule.entry.name ≡ f.action
-  pub arguments : AllZip
-      (λ s t. IsOfShape (shape_in_terms s)
-      (value t (firing_bindings c.program.automaton c.program.arguments c.variables)))
-      rule.shapes f.arguments
+  pub arguments : AllZip (λ s t. IsOfShape (shape_in_terms s) (value t e)) rule.shapes f.arguments
+
+abbrev mutual
+  -- a statement of a schedule block, whose firings are of these rules, and each statement within it: what an assignment
+  -- gives its variable, if anything, has the variable's shape, but for negative numbers, and what is tested is a truth
+  -- value
+  pub IsBlockWellSorted : List PlainRule → PlainStatement ℕ Shape → Bindings → Type 0
+  IsBlockWellSorted rules (assign p t) e = IsOfShape (wide_shape (target_shape p)) (assignment_value p t e)
+  IsBlockWellSorted rules (branch arms rest) e = AreBlockArmsWellSorted rules arms e × AreBlockWellSorted rules rest e
+  IsBlockWellSorted rules (loop t body) e = IsOfShape truths (value t e) × AreBlockWellSorted rules body e
+  IsBlockWellSorted rules (fire f) e = IsFiringWellSorted rules f e
+
+  -- the same of arms
+  pub AreBlockArmsWellSorted : List PlainRule → PlainArms ℕ Shape → Bindings → Type 0
+  AreBlockArmsWellSorted rules no_arms e = Unit {0}
+  AreBlockArmsWellSorted rules (arm t body more) e =
+      IsOfShape truths (value t e) × AreBlockWellSorted rules body e × AreBlockArmsWellSorted rules more e
+
+  -- and of statements, each on the same bindings
+  pub AreBlockWellSorted : List PlainRule → PlainStatements ℕ Shape → Bindings → Type 0
+  AreBlockWellSorted rules no_statements e = Unit {0}
+  AreBlockWellSorted rules (statement s more) e = IsBlockWellSorted rules s e × AreBlockWellSorted rules more e
 
 -- each constant of an entry has a value, among bindings that it reads
 abbrev pub AreConstantsValued : Bindings → PlainRule → Type 0
@@ -77,7 +104,7 @@ AreConstantsValued e r = AllByRecursion (HasValue e) r.entry.parameters
 
 -- a node meets no name without a slot, and no value of a wrong sort: each name of its automaton has its slot among the
 -- names in view, which is what is read there; the constants of entries have values; and what is evaluated by an action
--- whose arguments are of their sorts, or by a firing, is well sorted
+-- whose arguments are of their sorts, or by a statement of the schedule block, is well sorted
 pub record IsNodeWellSorted (c : NodeState) : Type 0 where
   pub slots : IsResolvedAutomaton c.program.automaton
   pub given_names : names_of (given_bindings c.program.automaton c.program.arguments)
@@ -87,9 +114,15 @@ pub record IsNodeWellSorted (c : NodeState) : Type 0 where
       c.program.automaton.rules
   pub rules : (a : Action) (r : PlainRule) → Contains c.program.automaton.rules r
       → AllZip IsOfSort r.entry.parameters (action_arguments a) → IsRuleWellSorted c a r
-  pub firing_names : names_of (firing_bindings c.program.automaton c.program.arguments c.variables)
-      ≡ names_at firing (declared_names c.program.automaton) []
-  pub firings : AllByRecursion (IsFiringWellSorted c) c.program.automaton.schedule
+  -- the variables of the schedule block have first values of their shapes; whatever values of their shapes they have
+  -- later, its names are those in view, and its statements are well sorted
+  pub block_starts : AllZip FitsVariable c.program.automaton.schedule.variables c.program.block
+  pub block_names : (own : List Data) → AllZip FitsVariable c.program.automaton.schedule.variables own
+      → names_of (block_read c own) ≡ names_at block_statement (declared_names c.program.automaton)
+      (variable_names c.program.automaton.schedule.variables)
+  pub block : (own : List Data) → AllZip FitsVariable c.program.automaton.schedule.variables own
+      → AreBlockWellSorted c.program.automaton.rules (statements_of c.program.automaton.schedule.statements)
+      (block_read c own)
 
 -- the same of each node among configurations
 abbrev pub IsConfWellSorted : Conf → Type 0

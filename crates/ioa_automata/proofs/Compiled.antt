@@ -3,31 +3,30 @@ use Rattle.std.proofs.Common.{◌≡◌, ◌<◌, ℕ, zero, suc, List, [], ◌�
 use Rattle.std.specs.List.{All, AllByRecursion, AllZip, slice_index_or}
 use Rattle.std.proofs.lemmas.List.{append_assoc}
 use Rattle.ioa_operators.specs.Shapes.{PlainShape}
+use Rattle.ioa_terms.specs.declared.name.Name.{Name}
 use Rattle.ioa_terms.specs.declared.name.Name.TheVariants.{Word}
 use Rattle.ioa_terms.specs.Resolved.{AreResolved, IsResolvedStatement}
 use Rattle.ioa_terms.specs.Sorted.{NameShapes}
 use Rattle.ioa_source.specs.PlainText.{const, named}
-use Rattle.ioa_source.specs.Sides.{SourceTerm, SourceParameter, SourceEntry, SourceVariable, SourceTransition, SourceFiring, SourceStatement, SourceAutomaton, CheckedTerm, CheckedDeclared, CheckedParameter, CheckedVariable, CheckedFiring, CheckedStatement}
+use Rattle.ioa_source.specs.Sides.{SourceTerm, SourceParameter, SourceEntry, SourceVariable, SourceTransition, SourceStatement, SourceSchedule, SourceAutomaton, CheckedDeclared, CheckedParameter, CheckedTerm, CheckedVariable, CheckedSchedule, CheckedStatement}
 use Rattle.ioa_system.specs.InView as view
-use Rattle.ioa_system.specs.InView.{Site, in_view, entry_constant, initial_value, entry_condition, guard_or_effect, firing, parameter_names, variable_names, own_names, DeclaredNames, scope_at}
+use Rattle.ioa_system.specs.InView.{Site, in_view, entry_constant, initial_value, entry_condition, guard_or_effect, block_statement, parameter_names, variable_names, own_names, DeclaredNames, scope_at}
 use Rattle.ioa_system.specs.Parts.{AutomatonParts, PlainRule, automaton_parts}
-use Rattle.ioa_system.specs.ResolvedPrograms.{IsResolvedParameter, AreResolvedParameters, IsResolvedGuard, IsResolvedRule, AreResolvedTerms, AreResolvedFirings, AreResolvedVariables, IsResolvedAutomaton}
+use Rattle.ioa_system.specs.ResolvedPrograms.{IsResolvedParameter, AreResolvedParameters, IsResolvedGuard, IsResolvedRule, IsResolvedSchedule, AreResolvedVariables, IsResolvedAutomaton}
 use Rattle.ioa_sorts.specs.SortedStatements.{IsStatementOf}
+use Rattle.ioa_sorts.specs.StatementSites.{PlainStatementSite, effect_site}
 use Rattle.ioa_names.specs.NameTables.{words}
 use Rattle.ioa_types.specs.TextTypes.{PlainTextTypes}
 use Rattle.ioa_automata.specs.NamesInView.{parameter_shapes, variable_shapes, own_shapes}
-use Rattle.ioa_automata.specs.SortedAutomata.{IsVariableOf, IsInitialOf, IsConditionOf, AreParametersOf, IsRuleOf, AreArgumentsOf, IsFiringOf, IsAutomatonOf, names_at}
+use Rattle.ioa_automata.proofs.BlockNames.{words_behind}
+use Rattle.ioa_automata.specs.SortedAutomata.{IsVariableOf, IsInitialOf, IsConditionOf, AreParametersOf, IsRuleOf, IsScheduleOf, block_names, block_of, IsAutomatonOf, names_at}
 
 -- names as words
 keys_are : (names : NameShapes) → map (λ n. n.0) names ≡ map Word (words names)
 keys_are [] = refl
 keys_are ((Word w, s) ∷ names) = ap (λ ns. Word w ∷ ns) (keys_are names)
 
-words_behind : (xs ys : NameShapes) → words (xs ++ ys) ≡ words xs ++ words ys
-words_behind [] ys = refl
-words_behind ((Word w, s) ∷ xs) ys = ap (λ ws. w ∷ ws) (words_behind xs ys)
-
-parameter_words : (ps : List CheckedDeclared) → words (parameter_shapes ps) ≡ parameter_names ps
+pub parameter_words : (ps : List CheckedDeclared) → words (parameter_shapes ps) ≡ parameter_names ps
 parameter_words [] = refl
 parameter_words (p ∷ ps) = ap (λ ws. p.name ∷ ws) (parameter_words ps)
 
@@ -45,7 +44,7 @@ site_words entry_constant ps vs own = refl
 site_words initial_value ps vs own = refl
 site_words entry_condition ps vs own = words_behind ps own
 site_words guard_or_effect ps vs own = words_behind vs (ps ++ own) ∙ ap (λ ws. words vs ++ ws) (words_behind ps own)
-site_words firing ps vs own = words_behind vs ps
+site_words block_statement ps vs own = words_behind own (vs ++ ps) ∙ ap (λ ws. words own ++ ws) (words_behind vs ps)
 
 -- what holds of all holds at each position
 all_each : {A : Type 0} (P : A → Type 0) (xs : List A) → AllByRecursion P xs → All P xs
@@ -90,23 +89,25 @@ module _ (t : PlainTextTypes) (ps : List CheckedDeclared) (vs : List CheckedVari
   parameters_resolved (named u ∷ us) (const c ∷ cs) (s ∷ ss) h = absurd h.0
   parameters_resolved (named u ∷ us) (named c ∷ cs) (s ∷ ss) h = (tt, parameters_resolved us cs ss h.1)
 
+  -- statements, by the names that they may assign and read
+  statements_resolved : (site : PlainStatementSite) (variables names : List Name) → map (λ n. n.0) site.variables ≡ variables → map (λ n. n.0) site.names ≡ names → (us : List SourceStatement) (cs : List CheckedStatement) → AllZip (IsStatementOf site) us cs → AreResolved cs variables names
+  statements_resolved site variables names v n [] [] h = tt
+  statements_resolved site variables names v n [] (c ∷ cs) h = absurd h
+  statements_resolved site variables names v n (u ∷ us) [] h = absurd h
+  statements_resolved site variables names v n (u ∷ us) (c ∷ cs) h =
+      (subst (λ ns. IsResolvedStatement c ns names) v (subst (λ ns. IsResolvedStatement c (map (λ n. n.0) site.variables) ns) n h.0.resolved), statements_resolved site variables names v n us cs h.1)
+
+  -- the first names are those of the variables
+  assigned_names : (ws : List CheckedVariable) (names behind : NameShapes) → names ≡ variable_shapes ws ++ behind → map (λ n. n.0) (take (length ws) names) ≡ map Word (variable_names ws)
+  assigned_names ws names behind whole =
+      ap (λ (ns : NameShapes). map (λ n. n.0) (take (length ws) ns)) whole ∙ ap (λ (ns : NameShapes). map (λ n. n.0) ns) (first_variables ws behind) ∙ keys_are (variable_shapes ws) ∙ ap (map Word) (variable_words ws)
+
   -- an effect
-  effect_resolved : (own : List CheckedParameter) (us : List SourceStatement) (cs : List CheckedStatement) → AllZip (IsStatementOf (take (length vs) (names_at guard_or_effect t.constants ps vs own)) (names_at guard_or_effect t.constants ps vs own)) us cs → AreResolved cs (map Word (variable_names vs)) (view.names_at guard_or_effect declared (own_names own))
-  effect_resolved own [] [] h = tt
-  effect_resolved own [] (c ∷ cs) h = absurd h
-  effect_resolved own (u ∷ us) [] h = absurd h
-  effect_resolved own (u ∷ us) (c ∷ cs) h =
-      (subst (λ ns. IsResolvedStatement c ns (view.names_at guard_or_effect declared (own_names own))) assigned (subst (λ ns. IsResolvedStatement c (map (λ n. n.0) (take (length vs) (names_at guard_or_effect t.constants ps vs own))) ns) (read_names guard_or_effect own) h.0.resolved), effect_resolved own us cs h.1)
-    where
-      behind : NameShapes
-      behind = (parameter_shapes ps ++ own_shapes own) ++ t.constants
-
-      whole : names_at guard_or_effect t.constants ps vs own ≡ variable_shapes vs ++ behind
-      whole = append_assoc (variable_shapes vs) (parameter_shapes ps ++ own_shapes own) t.constants
-
-      assigned : map (λ n. n.0) (take (length vs) (names_at guard_or_effect t.constants ps vs own)) ≡ map Word (variable_names vs)
-      assigned =
-          ap (λ (ns : NameShapes). map (λ n. n.0) (take (length vs) ns)) whole ∙ ap (λ (ns : NameShapes). map (λ n. n.0) ns) (first_variables vs behind) ∙ keys_are (variable_shapes vs) ∙ ap (map Word) (variable_words vs)
+  effect_resolved : (own : List CheckedParameter) (us : List SourceStatement) (cs : List CheckedStatement) → AllZip (IsStatementOf (effect_site (take (length vs) (names_at guard_or_effect t.constants ps vs own)) (names_at guard_or_effect t.constants ps vs own))) us cs → AreResolved cs (map Word (variable_names vs)) (view.names_at guard_or_effect declared (own_names own))
+  effect_resolved own us cs h =
+      let names = names_at guard_or_effect t.constants ps vs own in
+      let whole = append_assoc (variable_shapes vs) (parameter_shapes ps ++ own_shapes own) t.constants in
+      statements_resolved (effect_site (take (length vs) names) names) (map Word (variable_names vs)) (view.names_at guard_or_effect declared (own_names own)) (assigned_names vs names ((parameter_shapes ps ++ own_shapes own) ++ t.constants) whole) (read_names guard_or_effect own) us cs h
 
   rule_resolved : (ts : List SourceTransition) (e : SourceEntry) (r : PlainRule) → IsRuleOf t ps vs ts e r → IsResolvedRule declared r
   rule_resolved ts e r h =
@@ -138,27 +139,30 @@ module _ (t : PlainTextTypes) (ps : List CheckedDeclared) (vs : List CheckedVari
   variables_resolved (u ∷ us) [] h = absurd h
   variables_resolved (u ∷ us) (c ∷ cs) h = (initial_resolved c.declared.shape u.initial c.initial h.0.initial, variables_resolved us cs h.1)
 
-  -- firings
-  arguments_resolved : (ss : List PlainShape) (us : List SourceTerm) (cs : List CheckedTerm) → AreArgumentsOf (names_at firing t.constants ps vs []) ss us cs → AreResolvedTerms cs (view.names_at firing declared [])
-  arguments_resolved [] [] [] h = tt
-  arguments_resolved [] [] (c ∷ cs) h = absurd h
-  arguments_resolved [] (u ∷ us) cs h = absurd h
-  arguments_resolved (s ∷ ss) [] cs h = absurd h
-  arguments_resolved (s ∷ ss) (u ∷ us) [] h = absurd h
-  arguments_resolved (s ∷ ss) (u ∷ us) (c ∷ cs) h =
-      (subst (λ ns. IsResolvedGuard (Some c) ns) (read_names firing []) h.0.resolved, arguments_resolved ss us cs h.1)
+  -- the schedule block
+  pub block_words : (own : List CheckedVariable) → words (in_view block_statement (parameter_shapes ps) (variable_shapes vs) (variable_shapes own)) ≡ scope_at block_statement declared (variable_names own)
+  block_words own =
+      site_words block_statement (parameter_shapes ps) (variable_shapes vs) (variable_shapes own) ∙ (λ i. in_view block_statement (parameter_words ps i) (variable_words vs i) (variable_words own i))
 
-  firings_resolved : (rs : List PlainRule) (fs : List SourceFiring) (cs : List CheckedFiring) → AllZip (IsFiringOf (names_at firing t.constants ps vs []) rs) fs cs → AreResolvedFirings cs (view.names_at firing declared [])
-  firings_resolved rs [] [] h = tt
-  firings_resolved rs [] (c ∷ cs) h = absurd h
-  firings_resolved rs (f ∷ fs) [] h = absurd h
-  firings_resolved rs (f ∷ fs) (c ∷ cs) h = (arguments_resolved h.0.fired.shapes f.arguments c.arguments h.0.arguments, firings_resolved rs fs cs h.1)
+  block_read_names : (own : List CheckedVariable) → map (λ n. n.0) (block_names t.constants ps vs own) ≡ view.names_at block_statement declared (variable_names own)
+  block_read_names own =
+      keys_are (block_names t.constants ps vs own) ∙ ap (map Word) (words_behind (in_view block_statement (parameter_shapes ps) (variable_shapes vs) (variable_shapes own)) t.constants ∙ ap (λ ws. ws ++ words t.constants) (block_words own))
+
+  schedule_resolved : (rs : List PlainRule) (s : SourceSchedule) (c : CheckedSchedule) → IsScheduleOf t ps vs rs s c → IsResolvedSchedule declared c
+  schedule_resolved rs s c h =
+      let own = c.variables in
+      let names = block_names t.constants ps vs own in
+      let whole = append_assoc (variable_shapes own) (variable_shapes vs ++ parameter_shapes ps) t.constants in
+      record {
+        initials = variables_resolved s.variables own h.variables;
+        statements = statements_resolved (block_of names vs own rs) (map Word (variable_names own)) (view.names_at block_statement declared (variable_names own)) (assigned_names own names ((variable_shapes vs ++ parameter_shapes ps) ++ t.constants) whole) (block_read_names own) s.statements c.statements h.statements;
+      }
 
 pub automaton_compiled : (t : PlainTextTypes) (a : SourceAutomaton) (c : AutomatonParts) → IsAutomatonOf t a c → IsResolvedAutomaton c
 automaton_compiled t a c h = subst IsResolvedAutomaton rebuilt (record {
   rules = all_each (IsResolvedRule (declared t c.parameters c.variables)) c.rules (rules_resolved t c.parameters c.variables a.transitions a.signature c.rules h.rules);
   initials = variables_resolved t c.parameters c.variables a.states c.variables h.variables;
-  schedule = firings_resolved t c.parameters c.variables c.rules a.schedule c.schedule h.schedule;
+  schedule = schedule_resolved t c.parameters c.variables c.rules a.schedule c.schedule h.schedule;
 })
   where
     rebuilt : automaton_parts c.name (words t.constants) c.parameters c.variables c.rules c.schedule ≡ c

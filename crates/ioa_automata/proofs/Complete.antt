@@ -1,5 +1,5 @@
 -- Each automaton with slots and shapes is found.
-use Rattle.std.proofs.Common.{◌≡◌, ◌&&◌, ℕ, true, false, List, [], ◌∷◌, ◌++◌, Option, Some, None, Result, Ok, refl, sym, ap, subst, ◌∙◌, find, map, length, take}
+use Rattle.std.proofs.Common.{◌≡◌, ◌&&◌, ℕ, true, false, List, [], ◌∷◌, ◌++◌, Option, Some, None, Result, Ok, refl, sym, ap, subst, ◌∙◌, map, length, take}
 use Rattle.std.specs.List.{AllByRecursion, AllZip, IsDistinct, list_all}
 use Rattle.std.specs.Option.{is_some}
 use Rattle.std.proofs.lemmas.List.{append_assoc}
@@ -12,7 +12,7 @@ use Rattle.ioa_terms.proofs.SameTerms.{kind_is}
 use Rattle.ioa_terms.specs.SameTerms.{same_kind}
 use Rattle.ioa_terms.specs.Sorted.{NameShapes, shape_in_terms}
 use Rattle.ioa_source.specs.PlainText.{const, named}
-use Rattle.ioa_source.specs.Sides.{SourceTerm, SourceDeclared, SourceParameter, SourceEntry, SourceVariable, SourceTransition, SourceFiring, SourceStatement, SourceAutomaton, CheckedTerm, CheckedDeclared, CheckedParameter, CheckedVariable, CheckedTransition, CheckedFiring, CheckedStatement}
+use Rattle.ioa_source.specs.Sides.{SourceTerm, SourceDeclared, SourceParameter, SourceEntry, SourceVariable, SourceTransition, SourceStatement, SourceAutomaton, CheckedTerm, CheckedDeclared, CheckedParameter, CheckedVariable, CheckedTransition, CheckedStatement}
 use Rattle.ioa_system.specs.InView.{entry_condition, guard_or_effect, own_names}
 use Rattle.ioa_system.specs.Parts.{AutomatonParts, PlainRule}
 use Rattle.ioa_sort_rules.specs.declared.refusal.Refusal.{Refusal}
@@ -29,11 +29,16 @@ use Rattle.ioa_types.proofs.Meant.{sort_found}
 use Rattle.ioa_names.proofs.Names.{all_found, first_differ, new_found, second_differ}
 use Rattle.ioa_automata.specs.NamesInView.{parameter_shapes, variable_shapes, own_shapes, given_names_or, outer_names_or, own_names_or}
 use Rattle.ioa_automata.specs.Parts.{declared_at, all_declared_at, own_or, infer_own, own_term, condition_at, initial_at, variable_at, variables_at, sorted_parameter, parameter_at, sorted_parameters, parameters_at, where_at, PlainSortedEntry, entry_at, transition_at}
-use Rattle.ioa_automata.specs.Rules.{transition_for, transition_or, may_have_name, message_at, PlainSurroundings, rule_of, rule_at, rules_at, is_of_kind, fires, entry_fired, arguments_at, firing_at, firings_at, has_entry, names_or, have_entries}
+use Rattle.ioa_automata.specs.Rules.{transition_for, transition_or, may_have_name, message_at, PlainSurroundings, rule_of, rule_at, rules_at, has_entry, names_or, have_entries}
 use Rattle.ioa_automata.specs.Automata.{PlainHeading, heading_at, actions_at, automaton_at}
-use Rattle.ioa_automata.specs.SortedAutomata.{IsDeclaredOf, IsOwnTermOf, IsInitialOf, IsVariableOf, IsConditionOf, IsParameterOf, AreParametersOf, IsTransitionOf, IsRuleOf, AreArgumentsOf, NamesKind, IsFiringOf, HasItsEntry, IsAutomatonOf, names_at}
+use Rattle.ioa_automata.specs.SortedAutomata.{IsDeclaredOf, IsOwnTermOf, IsInitialOf, IsVariableOf, IsConditionOf, IsParameterOf, AreParametersOf, IsTransitionOf, IsRuleOf, block_names, block_of, HasItsEntry, IsAutomatonOf, names_at}
 use Rattle.ioa_automata.proofs.Loops.{results_are}
-use Rattle.ioa_automata.proofs.Lookups.{present_found}
+use Rattle.ioa_sorts.proofs.Lookups.{present_found}
+use Rattle.ioa_sorts.specs.StatementSites.{PlainStatementSite, effect_site}
+use Rattle.ioa_automata.specs.Automata.{surroundings}
+use Rattle.ioa_automata.specs.Schedules.{schedule_at}
+use Rattle.ioa_automata.proofs.BlockNames.{block_found, site_same}
+use Rattle.ioa_automata.proofs.Sound.{sortings_listed}
 use Rattle.ioa_automata.proofs.SoundRules.{step_view}
 use Rattle.ioa_automata.proofs.Results.{result_is, zip_weaker}
 use Rattle.ioa_automata.proofs.Heads.{head_is, lacks_input, named_iff}
@@ -58,6 +63,16 @@ outer_found constants ps vs d =
 own_found : (outer constants : NameShapes) (own : List CheckedParameter) → AreDistinct (outer ++ (own_shapes own ++ constants)) → result_is (own_shapes own) ≡ own_names_or outer constants own
 own_found outer constants own d =
     rw (← all_found [] (own_shapes own) (first_differ (own_shapes own) constants (second_differ outer (own_shapes own ++ constants) d))) (new_found outer constants (own_shapes own) d)
+
+-- statements one by one
+pub statements_found : (site : PlainStatementSite) → IsDistinct same_word (map (λ r. r.entry.name) site.rules) → (ss : List SourceStatement) (cs : List CheckedStatement) → AllZip (IsStatementOf site) ss cs → results_are cs ≡ all_ok (statement_sortings site (statements_of ss))
+statements_found site d ss cs h =
+    all_ok_all (statement_sorting site) ss cs (zip_weaker (IsStatementOf site) (λ s c. result_is c ≡ statement_sorting site s) (λ s c g. statement_complete site d s c g) ss cs h) ∙ sym (ap all_ok (sortings_listed site ss))
+
+-- the names of no rules differ
+nothing_differs : IsDistinct same_word []
+unfolding IsDistinct
+nothing_differs = tt
 
 module _ (types : TypeTable) where
   declared_found : (d : SourceDeclared) (c : CheckedDeclared) → IsDeclaredOf types d c → result_is c ≡ declared_at types d
@@ -136,12 +151,8 @@ module _ (types : TypeTable) where
     transition_found variables t c h =
         rw (← all_ok_all (own_term names) t.arguments c.arguments (zip_weaker (λ u d. (s : PlainShape) × IsOwnTermOf names u d s) (λ u d. result_is d ≡ own_term names u) own_term_found t.arguments c.arguments h.arguments), ← condition_found t.pre c.pre h.pre, ← effect_found t.effect c.effect h.effect) (ap result_is (rebuilt t c h))
       where
-        listed : (ss : List SourceStatement) → statement_sortings (take variables names) names (statements_of ss) ≡ map (statement_sorting (take variables names) names) ss
-        listed [] = refl
-        listed (s ∷ ss) = ap (λ rs. statement_sorting (take variables names) names s ∷ rs) (listed ss)
-
-        effect_found : (ss : List SourceStatement) (cs : List CheckedStatement) → AllZip (IsStatementOf (take variables names) names) ss cs → results_are cs ≡ all_ok (statement_sortings (take variables names) names (statements_of ss))
-        effect_found ss cs h = all_ok_all (statement_sorting (take variables names) names) ss cs (zip_weaker (IsStatementOf (take variables names) names) (λ s c. result_is c ≡ statement_sorting (take variables names) names s) (λ s c g. statement_complete (take variables names) names s c g) ss cs h) ∙ sym (ap all_ok (listed ss))
+        effect_found : (ss : List SourceStatement) (cs : List CheckedStatement) → AllZip (IsStatementOf (effect_site (take variables names) names)) ss cs → results_are cs ≡ all_ok (statement_sortings (effect_site (take variables names) names) (statements_of ss))
+        effect_found ss cs h = statements_found (effect_site (take variables names) names) nothing_differs ss cs h
 
         rebuilt : (t : SourceTransition) (c : CheckedTransition) → IsTransitionOf names variables t c → c ≡ record { kind = t.kind; name = t.name; arguments = c.arguments; pre = c.pre; effect = c.effect }
         rebuilt t c h = λ i. record { kind = h.kind i; name = h.name i; arguments = c.arguments; pre = c.pre; effect = c.effect }
@@ -205,37 +216,6 @@ module _ (t : PlainTextTypes) (ps : List CheckedDeclared) (vs : List CheckedVari
     rules_found : (es : List SourceEntry) (rs : List PlainRule) → AllZip (IsRuleOf t ps vs ts) es rs → results_are rs ≡ rules_at around ts es
     rules_found es rs h = all_ok_all (rule_at around ts) es rs (zip_weaker (IsRuleOf t ps vs ts) (λ e r. result_is r ≡ rule_at around ts e) rule_found es rs h)
 
-module _ (names : NameShapes) (rs : List PlainRule) (rules_differ : IsDistinct same_word (map (λ r. r.entry.name) rs)) where
-  arguments_found : (ss : List PlainShape) (us : List SourceTerm) (cs : List CheckedTerm) → AreArgumentsOf names ss us cs → results_are cs ≡ arguments_at names ss us
-  arguments_found [] [] [] h = refl
-  arguments_found [] [] (c ∷ cs) h = absurd h
-  arguments_found [] (u ∷ us) cs h = absurd h
-  arguments_found (s ∷ ss) [] cs h = absurd h
-  arguments_found (s ∷ ss) (u ∷ us) [] h = absurd h
-  arguments_found (s ∷ ss) (u ∷ us) (c ∷ cs) h = rw (← fit_complete names u c (shape_in_terms s) h.0, ← arguments_found ss us cs h.1) refl
-
-  kind_named : (o : Option Kind) (k : Kind) → NamesKind o k → is_of_kind o k ≡ true
-  kind_named None k h = refl
-  kind_named (Some j) k h = (kind_is j k).1 h
-
-  rule_fired : (f : SourceFiring) (c : CheckedFiring) (h : IsFiringOf names rs f c) → Some h.fired ≡ find (fires f) rs
-  rule_fired f c h =
-      present_found (λ (r : PlainRule). r.entry.name) (λ (r : PlainRule). is_of_kind f.kind r.entry.kind) f.action rs rules_differ h.fired h.present h.same_name (kind_named f.kind h.fired.entry.kind h.of_kind)
-
-  fired_found : (r : PlainRule) → result_is r.shapes ≡ entry_fired (Some r)
-  unfolding entry_fired
-  fired_found r = refl
-
-  firing_found : (f : SourceFiring) (c : CheckedFiring) → IsFiringOf names rs f c → result_is c ≡ firing_at names rs f
-  unfolding firing_at
-  firing_found f c h = rw (← rule_fired f c h, ← fired_found h.fired, ← arguments_found h.fired.shapes f.arguments c.arguments h.arguments) (ap result_is (rebuilt h))
-    where
-      rebuilt : IsFiringOf names rs f c → c ≡ record { kind = f.kind; action = f.action; arguments = c.arguments }
-      rebuilt h = λ i. record { kind = h.kind i; action = h.action i; arguments = c.arguments }
-
-  firings_found : (fs : List SourceFiring) (cs : List CheckedFiring) → AllZip (IsFiringOf names rs) fs cs → results_are cs ≡ firings_at names rs fs
-  firings_found fs cs h = all_ok_all (firing_at names rs) fs cs (zip_weaker (IsFiringOf names rs) (λ f c. result_is c ≡ firing_at names rs f) firing_found fs cs h)
-
 abbrev nothing : Result (Unit {0}) Refusal
 nothing = Ok tt
 
@@ -274,7 +254,7 @@ module _ (t : PlainTextTypes) (a : SourceAutomaton) (c : AutomatonParts) (h : Is
   heading_found =
       rw (← all_declared_found t.types a.parameters c.parameters h.parameters, ← given_found t.constants c.parameters h.given_names, ← variables_found t.types (parameter_shapes c.parameters ++ t.constants) a.states c.variables h.variables, ← outer_found t.constants c.parameters c.variables h.names) refl
 
-  actions_found : results_are c.rules ≡ actions_at t heading a
+  actions_found : results_are c.rules ≡ actions_at (surroundings t heading) a
   unfolding actions_at
   actions_found =
       rw (← differ_found (map (λ e. e.name) a.signature) h.entries_differ, ← differ_found (map (λ u. u.name) a.transitions) h.transitions_differ, ← entries_found a.signature a.transitions h.entries_differ h.entries) (rules_found t c.parameters c.variables a.transitions h.transitions_differ a.signature c.rules h.rules)
@@ -282,10 +262,20 @@ module _ (t : PlainTextTypes) (a : SourceAutomaton) (c : AutomatonParts) (h : Is
   rules_differ : IsDistinct same_word (map (λ r. r.entry.name) c.rules)
   rules_differ = subst (IsDistinct same_word) (rule_words t c.parameters c.variables a.transitions a.signature c.rules h.rules) h.entries_differ
 
+  schedule_found : result_is c.schedule ≡ schedule_at (surroundings t heading) c.rules a.schedule
+  unfolding schedule_at
+  schedule_found =
+      let outer = variable_shapes c.variables ++ parameter_shapes c.parameters in
+      let own = c.schedule.variables in
+      let names = subst AreDistinct (append_assoc (variable_shapes own) outer t.constants) h.schedule.names in
+      let site = site_same (surroundings t heading) c.parameters c.variables own (variable_shapes own) c.rules refl refl refl in
+      let found = subst (λ (x : PlainStatementSite). results_are c.schedule.statements ≡ all_ok (statement_sortings x (statements_of a.schedule.statements))) (sym site)
+      (statements_found (block_of (block_names t.constants c.parameters c.variables own) c.variables own c.rules) rules_differ a.schedule.statements c.schedule.statements h.schedule.statements) in
+      rw (← variables_found t.types (parameter_shapes c.parameters ++ t.constants) a.schedule.variables own h.schedule.variables, ← block_found outer t.constants own names, ← found) refl
+
   pub automaton_found : result_is c ≡ automaton_at t a
   automaton_found =
-      let names = (variable_shapes c.variables ++ parameter_shapes c.parameters) ++ t.constants in
-      rw (← heading_found, ← actions_found, ← firings_found names c.rules rules_differ a.schedule c.schedule h.schedule) (ap result_is rebuilt)
+      rw (← heading_found, ← actions_found, ← schedule_found) (ap result_is rebuilt)
     where
       rebuilt : c ≡ record { name = a.name; constants = words t.constants; parameters = c.parameters; variables = c.variables; rules = c.rules; schedule = c.schedule }
       rebuilt = λ i. record { name = h.name i; constants = h.constants i; parameters = c.parameters; variables = c.variables; rules = c.rules; schedule = c.schedule }

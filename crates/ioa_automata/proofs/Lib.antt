@@ -1,10 +1,10 @@
 -- the lemmas of this crate
 pub mod Loops
-pub mod Lookups
 pub mod Results
 pub mod RuleNames
 pub mod Heads
 pub mod Sound
+pub mod BlockNames
 pub mod SoundRules
 pub mod Complete
 pub mod Compiled

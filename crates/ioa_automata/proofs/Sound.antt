@@ -11,10 +11,11 @@ use Rattle.ioa_terms.specs.SameTerms.{same_kind}
 use Rattle.ioa_terms.specs.Sorted.{NameShapes, shape_in_terms}
 use Rattle.ioa_source.specs.PlainText.{const, named}
 use Rattle.ioa_source.specs.Sides.{SourceTerm, SourceDeclared, SourceParameter, SourceVariable, SourceTransition, SourceStatement, CheckedTerm, CheckedDeclared, CheckedVariable, CheckedTransition, CheckedStatement}
-use Rattle.ioa_sort_rules.specs.DeclaredTypes.{IsDeclared, AreAllDeclared}
+use Rattle.ioa_sort_rules.specs.DeclaredTypes.{TupleTypes, IsDeclared, AreAllDeclared}
 use Rattle.ioa_sorts.specs.Sorting.{PlainTyped, typed, infer, fit, sorting}
 use Rattle.ioa_sorts.specs.Statements.{all_ok, statement_sorting, statement_sortings}
 use Rattle.ioa_sorts.specs.SortedStatements.{IsStatementOf}
+use Rattle.ioa_sorts.specs.StatementSites.{PlainStatementSite, IsDeclaredSite, effect_site}
 use Rattle.ioa_sorts.proofs.Types.{in_terms}
 use Rattle.ioa_sorts.proofs.Sound.{own_sound, own_declared, own_bare, fit_sound}
 use Rattle.ioa_sorts.proofs.SoundStatements.{statement_sound}
@@ -25,6 +26,15 @@ use Rattle.ioa_automata.specs.Parts.{declared_at, all_declared_at, own_or, infer
 use Rattle.ioa_automata.specs.SortedAutomata.{IsDeclaredOf, IsOwnTermOf, IsInitialOf, IsVariableOf, IsConditionOf, IsParameterOf, AreParametersOf, IsTransitionOf}
 use Rattle.ioa_automata.proofs.Loops.{results_are}
 use Rattle.ioa_automata.proofs.Results.{result_is, first_of, all_ok_each, zip_weaker}
+
+-- statements one by one, by what is found of each
+pub sortings_listed : (site : PlainStatementSite) (ss : List SourceStatement) → statement_sortings site (statements_of ss) ≡ map (statement_sorting site) ss
+sortings_listed site [] = refl
+sortings_listed site (s ∷ ss) = ap (λ rs. statement_sorting site s ∷ rs) (sortings_listed site ss)
+
+pub statements_sound : (types : TupleTypes) (site : PlainStatementSite) → IsDeclaredSite types site → (ss : List SourceStatement) (cs : List CheckedStatement) → all_ok (statement_sortings site (statements_of ss)) ≡ results_are cs → AllZip (IsStatementOf site) ss cs
+statements_sound types site d ss cs h =
+    zip_weaker (λ s c. statement_sorting site s ≡ result_is c) (IsStatementOf site) (λ s c e. statement_sound types site d s c (sym e)) ss cs (all_ok_each (statement_sorting site) ss cs (sym (ap all_ok (sortings_listed site ss)) ∙ h))
 
 module _ (types : TypeTable) (table : IsTypeTable types) where
   -- declared names
@@ -140,25 +150,15 @@ module _ (types : TypeTable) (table : IsTypeTable types) where
 
     -- transitions
     module _ (variables : ℕ) (first : AreAllDeclared (tuple_types types) (take variables names)) where
-      abbrev IsSortedStatement : SourceStatement → CheckedStatement → Type 0
-      IsSortedStatement s c = IsStatementOf (take variables names) names s c
-
-      statement_good : (s : SourceStatement) (c : CheckedStatement) → statement_sorting (take variables names) names s ≡ result_is c → IsSortedStatement s c
-      statement_good s c h = statement_sound (tuple_types types) (take variables names) names first all s c (sym h)
-
-      listed : (ss : List SourceStatement) → statement_sortings (take variables names) names (statements_of ss) ≡ map (statement_sorting (take variables names) names) ss
-      listed [] = refl
-      listed (s ∷ ss) = ap (λ rs. statement_sorting (take variables names) names s ∷ rs) (listed ss)
-
-      effect_sound : (ss : List SourceStatement) (cs : List CheckedStatement) → all_ok (statement_sortings (take variables names) names (statements_of ss)) ≡ results_are cs → AllZip IsSortedStatement ss cs
-      effect_sound ss cs h = zip_weaker (λ s c. statement_sorting (take variables names) names s ≡ result_is c) IsSortedStatement statement_good ss cs (all_ok_each (statement_sorting (take variables names) names) ss cs (sym (ap all_ok (listed ss)) ∙ h))
+      effect_sound : (ss : List SourceStatement) (cs : List CheckedStatement) → all_ok (statement_sortings (effect_site (take variables names) names) (statements_of ss)) ≡ results_are cs → AllZip (IsStatementOf (effect_site (take variables names) names)) ss cs
+      effect_sound ss cs h = statements_sound (tuple_types types) (effect_site (take variables names) names) (record { variables = first; names = all; rules = tt }) ss cs h
 
       pub transition_sound : (t : SourceTransition) (c : CheckedTransition) → transition_at names variables t ≡ result_is c → IsTransitionOf names variables t c
       unfolding transition_at
       transition_sound t c h =
-          let one = first_of (own_terms names t.arguments) (λ ts. and_then (condition_at names t.pre) (λ p. and_then (all_ok (statement_sortings (take variables names) names (statements_of t.effect))) (λ ss. result_is (record { kind = t.kind; name = t.name; arguments = ts; pre = p; effect = ss })))) c h in
-          let two = first_of (condition_at names t.pre) (λ p. and_then (all_ok (statement_sortings (take variables names) names (statements_of t.effect))) (λ ss. result_is (record { kind = t.kind; name = t.name; arguments = one.0; pre = p; effect = ss }))) c one.2 in
-          let three = first_of (all_ok (statement_sortings (take variables names) names (statements_of t.effect))) (λ ss. result_is (record { kind = t.kind; name = t.name; arguments = one.0; pre = two.0; effect = ss })) c two.2 in
+          let one = first_of (own_terms names t.arguments) (λ ts. and_then (condition_at names t.pre) (λ p. and_then (all_ok (statement_sortings (effect_site (take variables names) names) (statements_of t.effect))) (λ ss. result_is (record { kind = t.kind; name = t.name; arguments = ts; pre = p; effect = ss })))) c h in
+          let two = first_of (condition_at names t.pre) (λ p. and_then (all_ok (statement_sortings (effect_site (take variables names) names) (statements_of t.effect))) (λ ss. result_is (record { kind = t.kind; name = t.name; arguments = one.0; pre = p; effect = ss }))) c one.2 in
+          let three = first_of (all_ok (statement_sortings (effect_site (take variables names) names) (statements_of t.effect))) (λ ss. result_is (record { kind = t.kind; name = t.name; arguments = one.0; pre = two.0; effect = ss })) c two.2 in
           let made : CheckedTransition = record { kind = t.kind; name = t.name; arguments = one.0; pre = two.0; effect = three.0 } in
           let same : made ≡ c = cc in
           subst (IsTransitionOf names variables t) same (record {

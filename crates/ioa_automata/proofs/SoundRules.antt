@@ -1,6 +1,5 @@
 -- What is made of an automaton.
 use Rattle.std.proofs.Common.{◌≡◌, ◌&&◌, ℕ, zero, suc, Bool, true, false, List, [], ◌∷◌, ◌++◌, Option, Some, None, Err, refl, sym, ap, subst, ◌∙◌, map, length, take, if◌then◌else◌}
-use Rattle.std.specs.Prelude.{find}
 use Rattle.std.specs.List.{AllByRecursion, AllZip, IsDistinct, list_all}
 use Rattle.std.specs.Option.{is_some}
 use Rattle.std.proofs.lemmas.List.{append_assoc}
@@ -8,35 +7,36 @@ use lib.Pointwise.{pointwise}
 use Rattle.ioa_values.specs.Outcome.{and_then}
 use Rattle.ioa_values.proofs.AllOf.{all_appended}
 use Rattle.ioa_operators.specs.Shapes.{PlainShape}
-use Rattle.ioa_terms.specs.declared.tree.Kind.{Kind}
 use Rattle.ioa_terms.specs.declared.tree.Kind.TheVariants.{Input}
 use Rattle.ioa_terms.proofs.SameTerms.{kind_is}
 use Rattle.ioa_terms.specs.SameTerms.{same_kind}
-use Rattle.ioa_terms.specs.Sorted.{NameShapes, shape_in_terms}
+use Rattle.ioa_terms.specs.Sorted.{NameShapes}
 use Rattle.ioa_source.specs.PlainText.{const, named}
-use Rattle.ioa_source.specs.Sides.{SourceTerm, SourceDeclared, SourceParameter, SourceEntry, SourceVariable, SourceTransition, SourceFiring, SourceAutomaton, CheckedTerm, CheckedDeclared, CheckedParameter, CheckedVariable, CheckedFiring}
+use Rattle.ioa_source.specs.Sides.{SourceDeclared, SourceParameter, SourceEntry, SourceVariable, SourceTransition, SourceSchedule, SourceAutomaton, CheckedDeclared, CheckedParameter, CheckedVariable, CheckedSchedule}
 use Rattle.ioa_system.specs.InView.{entry_condition, guard_or_effect}
 use Rattle.ioa_system.specs.Parts.{AutomatonParts, PlainRule}
 use Rattle.ioa_sort_rules.specs.DeclaredTypes.{IsDeclared, AreAllDeclared}
 use Rattle.ioa_sort_rules.specs.declared.refusal.Refusal.TheVariants.{Unknown, InputPre, BadArgument}
-use Rattle.ioa_sorts.specs.Sorting.{fit, sorting}
-use Rattle.ioa_sorts.proofs.Types.{in_terms}
-use Rattle.ioa_sorts.proofs.Sound.{fit_sound}
 use Rattle.ioa_types.specs.Meanings.{tuple_types, AreTextTypes}
 use Rattle.ioa_names.specs.NameTables.{AreDistinct, new_or, with_names}
 use Rattle.ioa_types.specs.TextTypes.{PlainTextTypes}
 use Rattle.ioa_names.proofs.Names.{all_behind, all_differ, new_differ_between, second_differ}
-use Rattle.ioa_automata.specs.NamesInView.{parameter_shapes, variable_shapes, own_shapes, given_names_or, outer_names_or, own_names_or}
+use Rattle.ioa_automata.specs.NamesInView.{parameter_shapes, variable_shapes, own_shapes, given_names_or, outer_names_or, own_names_or, block_names_or}
 use Rattle.ioa_automata.specs.Parts.{PlainSortedEntry, sorted_entry, parameters_at, where_at, entry_at, transition_at, all_declared_at, variables_at}
-use Rattle.ioa_automata.specs.Rules.{repeats, transition_for, transition_or, may_have_name, message_at, sorted_rule, PlainSurroundings, rule_of, rule_at, rules_at, is_of_kind, fires, entry_fired, arguments_at, firing_at, firings_at, names_or, entry_for, has_entry, have_entries}
+use Rattle.ioa_automata.specs.Rules.{repeats, transition_for, transition_or, may_have_name, message_at, sorted_rule, PlainSurroundings, rule_of, rule_at, rules_at, names_or, entry_for, has_entry, have_entries}
 use Rattle.ioa_automata.specs.Automata.{PlainBody, PlainHeading, heading_at, surroundings, actions_at, body_at, sorted_automaton, automaton_at}
-use Rattle.ioa_automata.specs.SortedAutomata.{IsDeclaredOf, IsVariableOf, IsConditionOf, AreParametersOf, IsTransitionOf, IsRuleOf, AreArgumentsOf, NamesKind, IsFiringOf, HasItsEntry, IsAutomatonOf, names_at}
+use Rattle.ioa_automata.specs.SortedAutomata.{IsDeclaredOf, IsVariableOf, IsConditionOf, AreParametersOf, IsTransitionOf, IsRuleOf, IsScheduleOf, block_names, block_of, HasItsEntry, IsAutomatonOf, names_at}
 use Rattle.ioa_automata.proofs.Loops.{results_are}
-use Rattle.ioa_automata.proofs.Lookups.{found_has, found_is}
+use Rattle.ioa_sorts.proofs.Lookups.{found_is}
+use Rattle.ioa_sorts.specs.StatementSites.{PlainStatementSite}
+use Rattle.ioa_sorts.specs.Statements.{all_ok, statement_sortings}
+use Rattle.ioa_terms.specs.PlainTerm.{statements_of}
+use Rattle.ioa_automata.specs.Schedules.{site_in, sorted_schedule, schedule_at}
+use Rattle.ioa_automata.proofs.BlockNames.{names_swapped, site_same}
 use Rattle.ioa_automata.proofs.Results.{result_is, first_of, all_ok_each, zip_weaker}
 use Rattle.ioa_automata.proofs.RuleNames.{message_same, names_are}
 use Rattle.ioa_automata.proofs.Heads.{head_is, input_lacks, named_iff}
-use Rattle.ioa_automata.proofs.Sound.{all_declared_sound, variables_sound, parameters_sound, where_sound, transition_sound}
+use Rattle.ioa_automata.proofs.Sound.{all_declared_sound, variables_sound, parameters_sound, where_sound, transition_sound, statements_sound}
 
 -- names in view: which they are, and that they differ
 pub record AreNames (n names : NameShapes) : Type 0 where
@@ -244,55 +244,6 @@ module _ (t : PlainTextTypes) (text : AreTextTypes t) where
     rules_sound ts es rs h =
         rules_kept ts es rs (zip_weaker (λ e r. rule_at (around ps vs) ts e ≡ result_is r) (IsWhole ts) (rule_sound ts) es rs (all_ok_each (rule_at (around ps vs) ts) es rs h))
 
-  -- firings
-  module _ (names : NameShapes) (all : AreKept names) (rs : List PlainRule) (kept : AllByRecursion (λ r. AllByRecursion IsKept r.shapes) rs) where
-    arguments_sound : (ss : List PlainShape) (us : List SourceTerm) (cs : List CheckedTerm) → AllByRecursion IsKept ss → arguments_at names ss us ≡ results_are cs → AreArgumentsOf names ss us cs
-    arguments_sound [] [] cs k h = let same : [] ≡ cs = cc in subst (AreArgumentsOf names [] []) same tt
-    arguments_sound [] (u ∷ us) cs k h = absurd (cc)
-    arguments_sound (s ∷ ss) [] cs k h = absurd (cc)
-    arguments_sound (s ∷ ss) (u ∷ us) cs k h =
-        let one = first_of (fit (sorting names u) (shape_in_terms s)) (λ c. and_then (arguments_at names ss us) (λ ds. results_are (c ∷ ds))) cs h in
-        let two = first_of (arguments_at names ss us) (λ ds. results_are (one.0 ∷ ds)) cs one.2 in
-        let same : one.0 ∷ two.0 ≡ cs = cc in
-        subst (AreArgumentsOf names (s ∷ ss) (u ∷ us)) same (fit_sound (tuple_types t.types) names all u (shape_in_terms s) (in_terms (tuple_types t.types) s k.0) one.0 (sym one.1), arguments_sound ss us two.0 k.1 two.1)
-
-    record IsFired (o : Option PlainRule) (ss : List PlainShape) : Type 0 where
-      fired : PlainRule
-      found : o ≡ Some fired
-      shapes : fired.shapes ≡ ss
-
-    kind_names : (o : Option Kind) (k : Kind) → is_of_kind o k ≡ true → NamesKind o k
-    kind_names None k h = tt
-    kind_names (Some j) k h = (kind_is j k).0 h
-
-    fired_sound : (o : Option PlainRule) (ss : List PlainShape) → entry_fired o ≡ results_are ss → IsFired o ss
-    unfolding entry_fired
-    fired_sound None ss h = absurd (cc)
-    fired_sound (Some r) ss h = let same : r.shapes ≡ ss = cc in record { fired = r; found = refl; shapes = same }
-
-    firing_sound : (f : SourceFiring) (c : CheckedFiring) → firing_at names rs f ≡ result_is c → IsFiringOf names rs f c
-    unfolding firing_at
-    firing_sound f c h =
-        let one = first_of (entry_fired (find (fires f) rs)) (λ ss. and_then (arguments_at names ss f.arguments) (λ us. result_is (record { kind = f.kind; action = f.action; arguments = us }))) c h in
-        let two = first_of (arguments_at names one.0 f.arguments) (λ us. result_is (record { kind = f.kind; action = f.action; arguments = us })) c one.2 in
-        let made : CheckedFiring = record { kind = f.kind; action = f.action; arguments = two.0 } in
-        let same : made ≡ c = cc in
-        let fired = fired_sound (find (fires f) rs) one.0 one.1 in
-        let declared = found_has (λ r. AllByRecursion IsKept r.shapes) (fires f) rs fired.fired kept fired.found in
-        let is = found_is (λ (r : PlainRule). r.entry.name) (λ (r : PlainRule). is_of_kind f.kind r.entry.kind) f.action rs fired.fired fired.found in
-        subst (IsFiringOf names rs f) same (record {
-          kind = refl;
-          action = refl;
-          fired = fired.fired;
-          present = is.0;
-          same_name = is.1;
-          of_kind = kind_names f.kind fired.fired.entry.kind is.2;
-          arguments = subst (λ ss. AreArgumentsOf names ss f.arguments two.0) (sym fired.shapes) (arguments_sound one.0 f.arguments two.0 (subst (AllByRecursion IsKept) fired.shapes declared) two.1);
-        })
-
-    pub firings_sound : (fs : List SourceFiring) (cs : List CheckedFiring) → firings_at names rs fs ≡ results_are cs → AllZip (IsFiringOf names rs) fs cs
-    firings_sound fs cs h = zip_weaker (λ f c. firing_at names rs f ≡ result_is c) (IsFiringOf names rs) firing_sound fs cs (all_ok_each (firing_at names rs) fs cs h)
-
   -- the tests of an automaton's actions
   entry_is : (es : List SourceEntry) (u : SourceTransition) → has_entry es u ≡ true → HasItsEntry es u
   entry_is es u h = by_found (entry_for u es) refl h
@@ -353,8 +304,37 @@ module _ (t : PlainTextTypes) (text : AreTextTypes t) where
   pub heading_outer : (a : SourceAutomaton) (h : PlainHeading) → heading_at t a ≡ result_is h → h.outer ≡ variable_shapes h.variables ++ parameter_shapes h.parameters
   heading_outer a h e = (heading_sound a h e).outer.same
 
-  abbrev body_is : List PlainRule → List CheckedFiring → PlainBody
-  body_is rs fs = record { rules = rs; schedule = fs }
+  abbrev body_is : List PlainRule → CheckedSchedule → PlainBody
+  body_is rs b = record { rules = rs; schedule = b }
+
+  -- the schedule block
+  schedule_sound : (ps : List CheckedDeclared) (vs : List CheckedVariable) → AreKept (parameter_shapes ps) → AreKept (variable_shapes vs) → AreDistinct ((variable_shapes vs ++ parameter_shapes ps) ++ t.constants) →
+      (rs : List PlainRule) → AllByRecursion (λ r. AllByRecursion IsKept r.shapes) rs → (b : SourceSchedule) (c : CheckedSchedule) → schedule_at (around ps vs) rs b ≡ result_is c → IsScheduleOf t ps vs rs b c
+  unfolding schedule_at
+  schedule_sound ps vs kept valued differ rs rules b c h =
+      let given = parameter_shapes ps ++ t.constants in
+      let outer = variable_shapes vs ++ parameter_shapes ps in
+      let s = around ps vs in
+      let one = first_of (variables_at t.types given b.variables) (λ ws. and_then (block_names_or outer t.constants ws) (λ n. and_then (all_ok (statement_sortings (site_in s n rs) (statements_of b.statements))) (λ ss. result_is (sorted_schedule ws ss)))) c h in
+      let two = first_of (block_names_or outer t.constants one.0) (λ n. and_then (all_ok (statement_sortings (site_in s n rs) (statements_of b.statements))) (λ ss. result_is (sorted_schedule one.0 ss))) c one.2 in
+      let three = first_of (all_ok (statement_sortings (site_in s two.0 rs) (statements_of b.statements))) (λ ss. result_is (sorted_schedule one.0 ss)) c two.2 in
+      let made : sorted_schedule one.0 three.0 ≡ c = cc in
+      let all_given = all_appended (λ n. IsKept n.1) (parameter_shapes ps) t.constants kept text.constants in
+      let variables = variables_kept given b.variables one.0 (variables_sound t.types text.types given all_given b.variables one.0 one.1) in
+      let own = variable_shapes one.0 in
+      let first = first_of (with_names [] own) (new_or outer t.constants) two.0 two.1 in
+      let between = between_names outer t.constants own first.0 two.0 (first_names own first.0 first.1) first.2 differ in
+      let names = block_names t.constants ps vs one.0 in
+      let view : own ++ (outer ++ t.constants) ≡ names = sym (append_assoc own outer t.constants) in
+      let all_outer = all_appended (λ n. IsKept n.1) (variable_shapes vs) (parameter_shapes ps) valued kept in
+      let all = subst AreKept view (all_appended (λ n. IsKept n.1) own (outer ++ t.constants) variables.0 (all_appended (λ n. IsKept n.1) outer t.constants all_outer text.constants)) in
+      let site = site_same s ps vs one.0 two.0 rs refl refl between.same in
+      let found = subst (λ (x : PlainStatementSite). all_ok (statement_sortings x (statements_of b.statements)) ≡ results_are three.0) site three.1 in
+      subst (IsScheduleOf t ps vs rs b) made (record {
+        variables = variables.1;
+        names = subst AreDistinct view (names_swapped outer own t.constants between.differ);
+        statements = statements_sound (tuple_types t.types) (block_of names vs one.0 rs) (record { variables = all_taken (λ n. IsKept n.1) (length one.0) names all; names = all; rules = rules }) b.statements three.0 found;
+      })
 
   result_same : (x y : AutomatonParts) → result_is x ≡ result_is y → x ≡ y
   result_same x y h = cc
@@ -362,15 +342,15 @@ module _ (t : PlainTextTypes) (text : AreTextTypes t) where
   pub automaton_sound : (a : SourceAutomaton) (c : AutomatonParts) → automaton_at t a ≡ result_is c → IsAutomatonOf t a c
   unfolding actions_at
   automaton_sound a c h =
-      let one = first_of (heading_at t a) (λ g. and_then (body_at t g a) (λ b. result_is (sorted_automaton t a.name g b))) c h in
+      let one = first_of (heading_at t a) (λ g. and_then (body_at (surroundings t g) a) (λ b. result_is (sorted_automaton t a.name g b))) c h in
       let g = one.0 in
-      let body = first_of (body_at t g a) (λ b. result_is (sorted_automaton t a.name g b)) c one.2 in
-      let two = first_of (actions_at t g a) (λ rs. and_then (firings_at (g.outer ++ t.constants) rs a.schedule) (λ fs. result_is (body_is rs fs))) body.0 body.1 in
+      let body = first_of (body_at (surroundings t g) a) (λ b. result_is (sorted_automaton t a.name g b)) c one.2 in
+      let two = first_of (actions_at (surroundings t g) a) (λ rs. and_then (schedule_at (surroundings t g) rs a.schedule) (λ b. result_is (body_is rs b))) body.0 body.1 in
       let rs = two.0 in
-      let three = first_of (firings_at (g.outer ++ t.constants) rs a.schedule) (λ fs. result_is (body_is rs fs)) body.0 two.2 in
-      let fs = three.0 in
-      let whole : body_is rs fs ≡ body.0 = cc in
-      let made : sorted_automaton t a.name g (body_is rs fs) ≡ c = ap (sorted_automaton t a.name g) whole ∙ (result_same (sorted_automaton t a.name g body.0) c body.2) in
+      let three = first_of (schedule_at (surroundings t g) rs a.schedule) (λ b. result_is (body_is rs b)) body.0 two.2 in
+      let block = three.0 in
+      let whole : body_is rs block ≡ body.0 = cc in
+      let made : sorted_automaton t a.name g (body_is rs block) ≡ c = ap (sorted_automaton t a.name g) whole ∙ (result_same (sorted_automaton t a.name g body.0) c body.2) in
       let four = first_of (names_or (map (λ e. e.name) a.signature)) (λ x. and_then (names_or (map (λ u. u.name) a.transitions)) (λ y. and_then (have_entries a.signature a.transitions) (λ z. rules_at (surroundings t g) a.transitions a.signature))) rs two.1 in
       let five = first_of (names_or (map (λ u. u.name) a.transitions)) (λ y. and_then (have_entries a.signature a.transitions) (λ z. rules_at (surroundings t g) a.transitions a.signature)) rs four.2 in
       let six = first_of (have_entries a.signature a.transitions) (λ z. rules_at (surroundings t g) a.transitions a.signature) rs five.2 in
@@ -379,14 +359,13 @@ module _ (t : PlainTextTypes) (text : AreTextTypes t) where
       let same : surroundings t g ≡ around g.parameters g.variables =
       λ i. record { constants = t.constants; types = t.types; given = heading.given.same i; outer = heading.outer.same i; variables = length g.variables } in
       let rules = rules_sound g.parameters g.variables heading.kept heading.valued heading.outer.differ a.transitions a.signature rs (subst (λ (s : PlainSurroundings). rules_at s a.transitions a.signature ≡ results_are rs) same six.2) in
-      let all = all_appended (λ n. IsKept n.1) outer t.constants (all_appended (λ n. IsKept n.1) (variable_shapes g.variables) (parameter_shapes g.parameters) heading.valued heading.kept) text.constants in
       subst (IsAutomatonOf t a) made (record {
         name = refl;
         constants = refl;
         parameters = heading.parameters;
         variables = heading.variables;
         rules = rules.1;
-        schedule = firings_sound (outer ++ t.constants) all rs rules.0 a.schedule fs (subst (λ ns. firings_at (ns ++ t.constants) rs a.schedule ≡ results_are fs) heading.outer.same three.1);
+        schedule = schedule_sound g.parameters g.variables heading.kept heading.valued heading.outer.differ rs rules.0 a.schedule block (subst (λ (s : PlainSurroundings). schedule_at s rs a.schedule ≡ result_is block) same three.1);
         given_names = heading.given.differ;
         names = heading.outer.differ;
         entries_differ = (names_are (map (λ e. e.name) a.signature) four.0 four.1).1;

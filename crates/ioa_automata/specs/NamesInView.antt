@@ -50,3 +50,8 @@ outer_names_or constants ps vs =
 -- an entry's own parameters: they differ from each other, from the names outside and from the text's constants
 abbrev pub own_names_or : (outer constants : NameShapes) → List CheckedParameter → Result NameShapes Refusal
 own_names_or outer constants own = and_then (with_names [] (own_shapes own)) (new_or outer constants)
+
+-- the variables of its schedule block, which the block alone reads: they differ from each other, from the names outside
+-- and from the text's constants
+abbrev pub block_names_or : (outer constants : NameShapes) → List CheckedVariable → Result NameShapes Refusal
+block_names_or outer constants vs = and_then (with_names [] (variable_shapes vs)) (new_or outer constants)

@@ -17,6 +17,7 @@ use Rattle.ioa_sort_rules.specs.declared.refusal.Refusal.{Refusal}
 use Rattle.ioa_sort_rules.specs.declared.refusal.Refusal.TheVariants.{NoInitial, EmptyOfWhat, InputWhere}
 use Rattle.ioa_sorts.specs.Sorting.{PlainTyped, infer, fit, sorting}
 use Rattle.ioa_sorts.specs.Statements.{all_ok, statement_sortings}
+use Rattle.ioa_sorts.specs.StatementSites.{effect_site}
 use Rattle.ioa_types.specs.TypeTables.{TypeTable, shape_of_sort}
 
 -- a declared name with the shape of its sort
@@ -114,5 +115,5 @@ entry_at names e ps = and_then (where_at names e.kind e.condition) (λ c. Ok (so
 unfoldable pub transition_at : NameShapes → (variables : ℕ) → SourceTransition → Result CheckedTransition Refusal
 transition_at names variables t = and_then (own_terms names t.arguments)
     (λ ts. and_then (condition_at names t.pre)
-    (λ p. and_then (all_ok (statement_sortings (take variables names) names (statements_of t.effect)))
+    (λ p. and_then (all_ok (statement_sortings (effect_site (take variables names) names) (statements_of t.effect)))
     (λ ss. Ok (record { kind = t.kind; name = t.name; arguments = ts; pre = p; effect = ss }))))

@@ -1,29 +1,26 @@
--- The entries of an automaton with their transitions, and its firings, with slots and shapes (profile).
+-- The entries of an automaton with their transitions, with slots and shapes (profile).
 use Rattle.std.specs.Prelude.{ℕ, Bool, true, false, not, ◌&&◌, ◌||◌, ◌++◌, nat_eq, if◌then◌else◌}
-use Rattle.std.specs.Prelude.{List, [], ◌∷◌, Option, Some, None, Result, Ok, Err, map, length, find, slice_get}
+use Rattle.std.specs.Prelude.{List, [], Option, Some, None, Result, Ok, Err, map, length, find, slice_get}
 use Rattle.std.specs.List.{list_all}
 use Rattle.std.specs.Option.{is_some}
 use lib.Pointwise.{pointwise}
 use Rattle.ioa_values.specs.Outcome.{and_then}
 use Rattle.ioa_operators.specs.Shapes.{PlainShape, truths, integers, naturals, constants, tuples, sequences, sets, maps}
-use Rattle.ioa_terms.specs.declared.tree.Kind.{Kind}
 use Rattle.ioa_terms.specs.declared.tree.Kind.TheVariants.{Input, Output}
 use Rattle.ioa_terms.specs.declared.name.Name.TheVariants.{Word}
 use Rattle.ioa_terms.specs.Bindings.{same_word}
 use Rattle.ioa_terms.specs.PlainTerm.{number, truth, name, one, two, call, display, field}
 use Rattle.ioa_terms.specs.SameTerms.{same_kind, same_term}
-use Rattle.ioa_terms.specs.Sorted.{NameShapes, shape_in_terms}
+use Rattle.ioa_terms.specs.Sorted.{NameShapes}
 use Rattle.ioa_actions.specs.ActionParts.{send_name, receive_name}
 use Rattle.ioa_source.specs.PlainText.{const, named}
-use Rattle.ioa_source.specs.Sides.{SourceTerm, SourceParameter, SourceEntry, SourceTransition, SourceFiring}
-use Rattle.ioa_source.specs.Sides.{CheckedTerm, CheckedParameter, CheckedTransition}
-use Rattle.ioa_source.specs.Sides.{CheckedFiring}
+use Rattle.ioa_source.specs.Sides.{SourceTerm, SourceParameter, SourceEntry, SourceTransition}
+use Rattle.ioa_source.specs.Sides.{CheckedParameter, CheckedTransition}
 use Rattle.ioa_system.specs.InView.{own_names}
 use Rattle.ioa_system.specs.Parts.{PlainRule}
 use Rattle.ioa_sort_rules.specs.declared.refusal.Refusal.{Refusal}
-use Rattle.ioa_sort_rules.specs.declared.refusal.Refusal.TheVariants.{Unknown, Twice, Sorts, NoTransition, InputPre}
+use Rattle.ioa_sort_rules.specs.declared.refusal.Refusal.TheVariants.{Unknown, Twice, NoTransition, InputPre}
 use Rattle.ioa_sort_rules.specs.declared.refusal.Refusal.TheVariants.{BadArgument}
-use Rattle.ioa_sorts.specs.Sorting.{fit, sorting}
 use Rattle.ioa_sorts.specs.Statements.{all_ok}
 use Rattle.ioa_types.specs.TypeTables.{TypeTable, are_new}
 use Rattle.ioa_automata.specs.NamesInView.{own_names_or}
@@ -128,35 +125,6 @@ rule_at s ts e = and_then (transition_or e (transition_for e ts))
 abbrev pub rules_at : PlainSurroundings → List SourceTransition → List SourceEntry
     → Result (List PlainRule) Refusal
 rules_at s ts es = all_ok (map (rule_at s ts) es)
-
--- whether a firing is of an entry: it names the entry's actions, and its kind if it has one
-abbrev pub is_of_kind : Option Kind → Kind → Bool
-is_of_kind None k = true
-is_of_kind (Some j) k = same_kind j k
-
-abbrev pub fires : SourceFiring → PlainRule → Bool
-fires f r = same_word r.entry.name f.action && is_of_kind f.kind r.entry.kind
-
--- the shapes of the arguments that a firing takes, if it names an entry
-unfoldable pub entry_fired : Option PlainRule → Result (List PlainShape) Refusal
-entry_fired None = Err Unknown
-entry_fired (Some r) = Ok r.shapes
-
--- arguments, each of the shape at its position
-abbrev pub arguments_at : NameShapes → List PlainShape → List SourceTerm → Result (List CheckedTerm) Refusal
-arguments_at names [] [] = Ok []
-arguments_at names [] (t ∷ ts) = Err Sorts
-arguments_at names (s ∷ ss) [] = Err Sorts
-arguments_at names (s ∷ ss) (t ∷ ts) = and_then (fit (sorting names t) (shape_in_terms s))
-    (λ c. and_then (arguments_at names ss ts) (λ cs. Ok (c ∷ cs)))
-
-unfoldable pub firing_at : NameShapes → List PlainRule → SourceFiring → Result CheckedFiring Refusal
-firing_at names rs f = and_then (entry_fired (find (fires f) rs))
-    (λ ss. and_then (arguments_at names ss f.arguments)
-    (λ ts. Ok (record { kind = f.kind; action = f.action; arguments = ts })))
-
-abbrev pub firings_at : NameShapes → List PlainRule → List SourceFiring → Result (List CheckedFiring) Refusal
-firings_at names rs fs = all_ok (map (firing_at names rs) fs)
 
 -- names, if they differ from each other
 abbrev pub names_or : List (List ℕ) → Result (List (List ℕ)) Refusal

@@ -1,10 +1,9 @@
 -- An automaton of a text with slots and shapes (profile), in words that know nothing of the order of refusals.
-use Rattle.std.specs.Prelude.{◌≡◌, ◌<◌, ◌⊎◌, ℕ, false, List, [], ◌∷◌, ◌++◌, Option, Some, None}
+use Rattle.std.specs.Prelude.{◌≡◌, ◌<◌, ◌+◌, ◌⊎◌, ℕ, false, List, [], ◌∷◌, ◌++◌, Option, Some, None}
 use Rattle.std.specs.Prelude.{map, take, length, slice_get}
 use Rattle.std.specs.List.{AllByRecursion, AllZip, Contains, IsDistinct}
 use Rattle.ioa_operators.specs.Shapes.{PlainShape, truths, integers, naturals}
 use Rattle.ioa_operators.specs.ShapeHeight.{height}
-use Rattle.ioa_terms.specs.declared.tree.Kind.{Kind}
 use Rattle.ioa_terms.specs.declared.tree.Kind.TheVariants.{Input, Output}
 use Rattle.ioa_terms.specs.Bindings.{same_word}
 use Rattle.ioa_terms.specs.declared.name.Name.TheVariants.{Word}
@@ -14,15 +13,16 @@ use Rattle.ioa_terms.specs.Sorted.{NameShapes, shape_in_terms}
 use Rattle.ioa_source.specs.Erasure.{erase_declared}
 use Rattle.ioa_source.specs.PlainText.{const, named}
 use Rattle.ioa_source.specs.Sides.{SourceTerm, SourceDeclared, SourceParameter, SourceEntry, SourceVariable}
-use Rattle.ioa_source.specs.Sides.{SourceTransition, SourceFiring, SourceAutomaton}
+use Rattle.ioa_source.specs.Sides.{SourceTransition, SourceSchedule, SourceAutomaton}
 use Rattle.ioa_source.specs.Sides.{CheckedTerm, CheckedDeclared, CheckedParameter, CheckedVariable}
-use Rattle.ioa_source.specs.Sides.{CheckedTransition, CheckedFiring}
+use Rattle.ioa_source.specs.Sides.{CheckedTransition, CheckedSchedule}
 use Rattle.ioa_system.specs.InView.{Site, in_view, entry_constant, initial_value, entry_condition, guard_or_effect}
-use Rattle.ioa_system.specs.InView.{firing, own_names}
+use Rattle.ioa_system.specs.InView.{block_statement, own_names}
 use Rattle.ioa_system.specs.Parts.{AutomatonParts, PlainRule}
 use Rattle.ioa_sorts.specs.Determined.{is_display}
 use Rattle.ioa_sorts.specs.SortedTerms.{IsTermOf}
 use Rattle.ioa_sorts.specs.SortedStatements.{IsStatementOf}
+use Rattle.ioa_sorts.specs.StatementSites.{PlainStatementSite, block_site, effect_site}
 use Rattle.ioa_types.specs.declared.height.TheConstants.{SHAPE_LIMIT}
 use Rattle.ioa_types.specs.Meanings.{Means}
 use Rattle.ioa_names.specs.NameTables.{AreDistinct, words}
@@ -124,7 +124,7 @@ pub record IsTransitionOf (names : NameShapes) (variables : ℕ) (t : SourceTran
   pub name : c.name ≡ t.name
   pub arguments : AllZip (λ u d. (s : PlainShape) × IsOwnTermOf names u d s) t.arguments c.arguments
   pub pre : IsConditionOf names t.pre c.pre
-  pub effect : AllZip (IsStatementOf (take variables names) names) t.effect c.effect
+  pub effect : AllZip (IsStatementOf (effect_site (take variables names) names)) t.effect c.effect
 
 -- what the terms of an automaton read at a site, with shapes: the names in view, and the text's constants behind them
 abbrev pub names_at : Site → (constants : NameShapes) → List CheckedDeclared → List CheckedVariable
@@ -159,31 +159,25 @@ pub record IsRuleOf (t : PlainTextTypes) (ps : List CheckedDeclared) (vs : List 
   pub no_condition : e.kind ≡ Input → e.condition ≡ None
   pub message : IsWellNamed (record { entry = r.entry; shapes = r.shapes })
 
--- arguments, each of the shape at its position
-abbrev pub AreArgumentsOf : NameShapes → List PlainShape → List SourceTerm → List CheckedTerm → Type 0
-AreArgumentsOf names [] [] [] = Unit {0}
-AreArgumentsOf names [] [] (c ∷ cs) = ⊥
-AreArgumentsOf names [] (t ∷ ts) cs = ⊥
-AreArgumentsOf names (s ∷ ss) [] cs = ⊥
-AreArgumentsOf names (s ∷ ss) (t ∷ ts) [] = ⊥
-AreArgumentsOf names (s ∷ ss) (t ∷ ts) (c ∷ cs) =
-    IsTermOf names t c (shape_in_terms s) × AreArgumentsOf names ss ts cs
+-- what the statements of a schedule block of these variables read, with shapes: the names in view, and the text's
+-- constants behind them
+abbrev pub block_names : (constants : NameShapes) → List CheckedDeclared → (states own : List CheckedVariable)
+    → NameShapes
+block_names constants ps vs own =
+    in_view block_statement (parameter_shapes ps) (variable_shapes vs) (variable_shapes own) ++ constants
 
--- a firing's kind, if it is written, is that of an entry
-abbrev pub NamesKind : Option Kind → Kind → Type 0
-NamesKind None k = Unit {0}
-NamesKind (Some j) k = j ≡ k
+-- where they are: they assign the block's own variables, which come first among the names in view, and fire these rules
+abbrev pub block_of : NameShapes → (states own : List CheckedVariable) → List PlainRule → PlainStatementSite
+block_of names vs own rules =
+    block_site (take (length own) names) (take (length own + length vs) names) names rules
 
--- a firing: it is of an entry of its name and kind, and its arguments have the shapes of the entry's
-pub record IsFiringOf (names : NameShapes) (rs : List PlainRule) (f : SourceFiring) (c : CheckedFiring)
-    : Type 0 where
-  pub kind : c.kind ≡ f.kind
-  pub action : c.action ≡ f.action
-  pub fired : PlainRule
-  pub present : Contains rs fired
-  pub same_name : fired.entry.name ≡ f.action
-  pub of_kind : NamesKind f.kind fired.entry.kind
-  pub arguments : AreArgumentsOf names fired.shapes f.arguments c.arguments
+-- a schedule block, in an automaton of these parameters, state variables and rules
+pub record IsScheduleOf (t : PlainTextTypes) (ps : List CheckedDeclared) (vs : List CheckedVariable)
+    (rules : List PlainRule) (s : SourceSchedule) (c : CheckedSchedule) : Type 0 where
+  pub variables : AllZip (IsVariableOf t.types (names_at initial_value t.constants ps vs [])) s.variables c.variables
+  pub names : AreDistinct (block_names t.constants ps vs c.variables)
+  pub statements : AllZip (IsStatementOf (block_of (block_names t.constants ps vs c.variables) vs c.variables rules))
+      s.statements c.statements
 
 -- a transition has an entry of its name and kind
 pub record HasItsEntry (es : List SourceEntry) (t : SourceTransition) : Type 0 where
@@ -200,11 +194,10 @@ pub record IsAutomatonOf (t : PlainTextTypes) (a : SourceAutomaton) (c : Automat
   pub variables : AllZip (IsVariableOf t.types (names_at initial_value t.constants c.parameters c.variables []))
       a.states c.variables
   pub rules : AllZip (IsRuleOf t c.parameters c.variables a.transitions) a.signature c.rules
-  pub schedule : AllZip (IsFiringOf (names_at firing t.constants c.parameters c.variables []) c.rules)
-      a.schedule c.schedule
+  pub schedule : IsScheduleOf t c.parameters c.variables c.rules a.schedule c.schedule
   -- what has to differ does, and each transition has an entry
   pub given_names : AreDistinct (names_at initial_value t.constants c.parameters c.variables [])
-  pub names : AreDistinct (names_at firing t.constants c.parameters c.variables [])
+  pub names : AreDistinct (block_names t.constants c.parameters c.variables [])
   pub entries_differ : IsDistinct same_word (map (λ e. e.name) a.signature)
   pub transitions_differ : IsDistinct same_word (map (λ u. u.name) a.transitions)
   pub entries : AllByRecursion (HasItsEntry a.signature) a.transitions

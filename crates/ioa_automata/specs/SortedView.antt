@@ -1,8 +1,7 @@
 -- What the code of sorted automata means (view).
 use Rattle.std.specs.Prelude.{List, map}
-use Rattle.ioa_terms.specs.View.{firing_of}
 use Rattle.ioa_source.specs.Sides.{SourceTransition}
-use Rattle.ioa_source.specs.TextView.{declared_of, parameter_of, entry_of, transition_of, variable_of}
+use Rattle.ioa_source.specs.TextView.{declared_of, parameter_of, entry_of, transition_of, schedule_of, variable_of}
 use Rattle.ioa_automata.specs.declared.parts.SortedParameter.{SortedParameter}
 use Rattle.ioa_automata.specs.declared.parts.SortedParameters.{SortedParameters}
 use Rattle.ioa_automata.specs.declared.parts.SortedEntry.{SortedEntry}
@@ -52,4 +51,4 @@ heading_of h = record {
 
 -- what it has behind them
 abbrev pub body_of : Body → PlainBody
-body_of b = record { rules = b.rules.items; schedule = map firing_of b.schedule.items }
+body_of b = record { rules = b.rules.items; schedule = schedule_of b.schedule }

@@ -4,25 +4,25 @@ ghost use Rattle.std.specs.Prelude.{◌≡◌, ◌++◌, IfOk, map};
 ghost use Rattle.std.specs.Arc.{arc_value};
 ghost use Rattle.std.specs.Option.{option_copied, option_map};
 ghost use Rattle.ioa_values.specs.Outcome.{Answers};
-ghost use Rattle.ioa_terms.specs.View.{firing_of};
 ghost use Rattle.ioa_source.specs.TextView.{automaton_of, entry_of, transition_of, variable_of};
 ghost use Rattle.ioa_names.specs.NameTables.{words};
 ghost use Rattle.ioa_types.specs.Meanings.{AreTextTypes};
 ghost use Rattle.ioa_automata.specs.Automata as spec;
-ghost use Rattle.ioa_automata.specs.Indexes.{AreIndexed};
+ghost use Rattle.ioa_sorts.specs.Indexes.{AreIndexed};
 ghost use Rattle.ioa_automata.specs.Parts.{variables_at};
-ghost use Rattle.ioa_automata.specs.Rules.{entry_for, firings_at, has_entry, have_entries, names_or};
-ghost use Rattle.ioa_automata.specs.SortedView.{body_of, heading_of};
+ghost use Rattle.ioa_automata.specs.Rules.{entry_for, has_entry, have_entries, names_or};
+ghost use Rattle.ioa_automata.specs.SortedView.{body_of, heading_of, surroundings_of};
 
-use crate::firings::sort_firings;
 use crate::names::{given_names, outer_names};
 use crate::parts::{sort_all_declared, sort_variables};
 use crate::rules::{Surroundings, Transitions, sort_rules};
+use crate::schedules::{sort_schedule, variable_words};
 use ioa_names::{NameTable, View};
 use ioa_sort_rules::Refusal;
-use ioa_source::{Automaton, Declared, Entry, Transition, Variable};
+use ioa_sorts::Actions;
+use ioa_source::{Automaton, Declared, Entry, Schedule, Transition, Variable};
 use ioa_system::{CompiledAutomaton, Rule, Scope};
-use ioa_terms::{Firing, Names, Shape};
+use ioa_terms::{Names, Shape};
 use ioa_types::TextTypes;
 use std::alloc::Global;
 use std::sync::Arc;
@@ -38,18 +38,11 @@ pub(crate) struct Heading {
     pub outer: NameTable,
 }
 
-/// The entries of an automaton with their transitions, and their names.
-#[derive(Drop)]
-struct Actions {
-    rules: Vec<Rule>,
-    names: Scope,
-}
-
-/// What an automaton has behind its heading: its entries with their transitions, and the firings of its schedule block.
+/// What an automaton has behind its heading: its entries with their transitions, and its schedule block.
 #[derive(Drop)]
 pub(crate) struct Body {
     pub rules: Vec<Rule>,
-    pub schedule: Vec<Firing<usize, Shape>>,
+    pub schedule: Schedule<usize, Shape>,
 }
 
 /// The parameters and the state variables of an automaton.
@@ -170,35 +163,26 @@ fn have_entries(
 #[tactic(auto, unfolding(crate::specs::Automata::actions_at))]
 fn sort_actions(
     alloc: Global,
-    types: &TextTypes,
-    heading: &Heading,
+    around: &Surroundings,
     automaton: &Automaton<(), ()>,
 ) -> Result<Actions, Refusal>
-    ensures rules { Answers Refusal.Memory (λ a. a.rules.items) result
-        (spec.actions_at types.now (heading_of heading.now) (automaton_of automaton.now)) }
-    ensures names { IfOk result (λ a. AreIndexed a.names (map (λ r. r.entry.name) a.rules.items)) }
+    ensures { Answers Refusal.Memory (λ a. a.rules.items) result
+        (spec.actions_at (surroundings_of around.now) (automaton_of automaton.now)) }
 {
     let names = entry_names(alloc, &automaton.signature)?;
     let transition_names = transition_names(alloc, &automaton.transitions)?;
     have_entries(&names, &automaton.signature, &automaton.transitions)?;
-    let around = Surroundings {
-        constants: types.constants(),
-        types: types.types(),
-        given: &heading.given,
-        outer: &heading.outer,
-        variables: heading.variables.len(),
-    };
     let transitions = Transitions {
         items: &automaton.transitions,
         names: &transition_names,
     };
-    let rules = sort_rules(alloc, &around, &transitions, &automaton.signature)?;
-    Ok(Actions { rules, names })
+    let rules = sort_rules(alloc, around, &transitions, &automaton.signature)?;
+    Ok(Actions::new(rules, names))
 }
 
 /// The automaton with slots and shapes, in a text that declares these types, made ready to step. `constants` are the
 /// names of the text's constants. Returns `Unknown` (20), `Twice` (21), `Sorts` (22), `NoInitial` (23), `InputPre` (24),
-/// `NoTransition` (25), `Limit` (31), `EmptyOfWhat` (32), `InputWhere` (33), `BadArgument` (34), each if it applies to
+/// `NoTransition` (25), `ScheduleAssignsState` (26), `Limit` (31), `EmptyOfWhat` (32), `InputWhere` (33), `BadArgument` (34), each if it applies to
 /// the automaton, and `Memory` (3) if no memory is left. Costs time in proportion to the automaton, but for what the
 /// look-up of a name and a sort cost.
 pub fn sort_automaton(
@@ -213,6 +197,7 @@ pub fn sort_automaton(
 {
     let heading = sort_heading(alloc, types, automaton)?;
     let body = sort_body(alloc, types, &heading, automaton)?;
+    let own = variable_words(alloc, &body.schedule.variables)?;
     let name = automaton.name.try_copy(alloc)?;
     let constants = Arc::try_clone(constants)?;
     Ok(CompiledAutomaton::new(
@@ -223,6 +208,7 @@ pub fn sort_automaton(
         heading.outer.into_names(),
         body.rules,
         body.schedule,
+        own,
     ))
 }
 
@@ -234,35 +220,19 @@ fn sort_body(
     automaton: &Automaton<(), ()>,
 ) -> Result<Body, Refusal>
     ensures { Answers Refusal.Memory body_of result
-        (spec.body_at types.now (heading_of heading.now) (automaton_of automaton.now)) }
+        (spec.body_at (spec.surroundings types.now (heading_of heading.now)) (automaton_of automaton.now)) }
 {
-    let actions = sort_actions(alloc, types, heading, automaton)?;
-    let schedule = sort_schedule(
-        alloc,
-        types.constants(),
-        &heading.outer,
-        &actions,
-        &automaton.schedule,
-    )?;
+    let around = Surroundings {
+        constants: types.constants(),
+        types: types.types(),
+        given: &heading.given,
+        outer: &heading.outer,
+        variables: heading.variables.len(),
+    };
+    let actions = sort_actions(alloc, &around, automaton)?;
+    let schedule = sort_schedule(alloc, &around, &actions, &automaton.schedule)?;
     Ok(Body {
-        rules: actions.rules,
+        rules: actions.into_rules(),
         schedule,
     })
-}
-
-/// The firings of an automaton's schedule block, which read these names.
-fn sort_schedule(
-    alloc: Global,
-    constants: &NameTable,
-    outer: &NameTable,
-    actions: &Actions,
-    firings: &Vec<Firing<(), ()>>,
-) -> Result<Vec<Firing<usize, Shape>>, Refusal>
-    requires { AreIndexed actions.now.names (map (λ r. r.entry.name) actions.now.rules.items) }
-    ensures { Answers Refusal.Memory (λ fs. map firing_of fs.items) result
-        (firings_at (outer.now ++ constants.now) actions.now.rules.items (map firing_of firings.now.items)) }
-{
-    let none = NameTable::new(alloc);
-    let view = View::new(outer, &none, constants)?;
-    sort_firings(alloc, &view, &actions.rules, &actions.names, firings)
 }

@@ -2,12 +2,11 @@
 #![tactic(auto)]
 
 mod automata;
-mod firings;
 mod laws;
 mod names;
 mod parts;
 mod rules;
+mod schedules;
 
 pub use automata::sort_automaton;
-pub use firings::sort_arguments;
 pub use laws::{automata_law, heads_law};

@@ -121,3 +121,18 @@ pub(crate) fn own_names(
     let table = with_own(alloc, NameTable::new(alloc), own)?;
     table.pass_new(outer, constants)
 }
+
+/// The names of the variables of a schedule block. `Twice` (21) if two of them are the same, or one is a name outside or
+/// a constant's.
+pub(crate) fn block_names(
+    alloc: Global,
+    outer: &NameTable,
+    constants: &NameTable,
+    variables: &Vec<Variable<usize, Shape>>,
+) -> Result<NameTable, Refusal>
+    ensures { Answers Refusal.Memory (λ t. t) result
+        (spec.block_names_or outer.now constants.now (map variable_of variables.now.items)) }
+{
+    let table = with_variables(alloc, NameTable::new(alloc), variables)?;
+    table.pass_new(outer, constants)
+}

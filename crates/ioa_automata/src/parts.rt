@@ -3,17 +3,20 @@
 ghost use Rattle.std.specs.Prelude.{◌≡◌, map, take};
 ghost use Rattle.std.specs.Option.{option_map};
 ghost use Rattle.ioa_values.specs.Outcome.{Answers};
-ghost use Rattle.ioa_terms.specs.View.{term_of};
+ghost use Rattle.ioa_terms.specs.PlainTerm.{statements_of};
+ghost use Rattle.ioa_terms.specs.View.{statement_of, term_of};
 ghost use Rattle.ioa_source.specs.TextView.{declared_of, parameter_of, entry_of, transition_of, variable_of};
 ghost use Rattle.ioa_sorts.specs.SortingView.{typed_of};
+ghost use Rattle.ioa_sorts.specs.StatementSites.{effect_site};
+ghost use Rattle.ioa_sorts.specs.Statements.{all_ok, statement_sortings};
 ghost use Rattle.ioa_automata.specs.Parts as spec;
 ghost use Rattle.ioa_automata.specs.SortedView.{sorted_parameter_of, sorted_parameters_of, sorted_entry_of};
 
 use ioa_names::View;
 use ioa_sort_rules::{Refusal, shape_in_terms};
-use ioa_sorts::{Typed, fit, infer, sort_statements};
+use ioa_sorts::{Actions, StatementSite, Typed, fit, infer, sort_statements};
 use ioa_source::{Declared, Entry, Parameter, Transition, Variable};
-use ioa_terms::{Checked, Kind, Shape, ShapeForm, Term};
+use ioa_terms::{Checked, Kind, Shape, ShapeForm, Statement, Term};
 use ioa_types::Types;
 use std::alloc::Global;
 
@@ -270,6 +273,22 @@ pub(crate) fn sort_entry(
     })
 }
 
+/// The statements of an effect, which may assign the first `variables` names in view.
+fn sort_effect(
+    alloc: Global,
+    view: &View,
+    variables: usize,
+    effect: &Vec<Statement<(), ()>>,
+) -> Result<Vec<Statement<usize, Shape>>, Refusal>
+    ensures { Answers Refusal.Memory (λ ss. map statement_of ss.items) result
+        (all_ok (statement_sortings (effect_site (take variables view.now) view.now)
+        (statements_of (map statement_of effect.now.items)))) }
+{
+    let none = Actions::none(alloc);
+    let site = StatementSite::effect(view, variables, &none);
+    sort_statements(alloc, &site, effect)
+}
+
 /// A transition, of whose names in view the first `variables` may be assigned.
 #[tactic(auto, unfolding(crate::specs::Parts::transition_at))]
 pub(crate) fn sort_transition(
@@ -283,7 +302,7 @@ pub(crate) fn sort_transition(
 {
     let arguments = infer_terms(alloc, view, &transition.arguments)?;
     let pre = sort_condition(alloc, view, &transition.pre)?;
-    let effect = sort_statements(alloc, view, &transition.effect, variables)?;
+    let effect = sort_effect(alloc, view, variables, &transition.effect)?;
     let name = transition.name.try_copy(alloc)?;
     Ok(Transition {
         kind: transition.kind,

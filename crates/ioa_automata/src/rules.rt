@@ -1,4 +1,4 @@
-//! The entries of an automaton with their transitions, and its firings, with slots and shapes.
+//! The entries of an automaton with their transitions, with slots and shapes.
 
 ghost use Rattle.std.specs.Prelude.{◌≡◌, ◌&&◌, ◌++◌, IfOk, map, slice_get};
 ghost use Rattle.std.specs.Option.{option_copied, option_map, is_some};
@@ -9,7 +9,7 @@ ghost use Rattle.ioa_terms.specs.View.{term_of};
 ghost use Rattle.ioa_source.specs.TextView.{parameter_of, entry_of, transition_of};
 ghost use Rattle.ioa_system.specs.InView.{own_names};
 ghost use Rattle.ioa_automata.specs.Rules as spec;
-ghost use Rattle.ioa_automata.specs.Indexes.{AreIndexed};
+ghost use Rattle.ioa_sorts.specs.Indexes.{AreIndexed};
 ghost use Rattle.ioa_automata.specs.SortedView.{sorted_entry_of, surroundings_of, transitions_of};
 
 use crate::names::own_names;

@@ -13,8 +13,8 @@ use Rattle.ioa_system.specs.Parts.{AutomatonParts, Parts, PlainRule}
 use Rattle.ioa_sort_rules.specs.declared.refusal.Refusal.{Refusal}
 use Rattle.ioa_sorts.specs.Statements.{all_ok}
 use Rattle.ioa_sorts.proofs.Complete.{fit_complete}
-use Rattle.ioa_automata.specs.Rules.{arguments_at}
-use Rattle.ioa_automata.specs.SortedAutomata.{AreArgumentsOf}
+use Rattle.ioa_sorts.specs.Firings.{arguments_at}
+use Rattle.ioa_sorts.specs.SortedTerms.{AreArgumentsOf}
 use Rattle.ioa_automata.proofs.Results.{result_is, zip_weaker}
 use Rattle.ioa_check.specs.Nodes.{has_number, automaton_or, value_or, fitting_or, value_for, constant_bindings, argument_values, given_at, initial_value, variable_value, variable_values, constant_at, constants_at, home_at, entry_on, entries_on, start_values, program_of, parameter_shapes, program_with, program_at, programs_from}
 use Rattle.ioa_check.specs.Systems.{IsValueFor, AreValuesFor, IsInitialValue, HasValue, IsEntryOn, IsProgramOf, IsNodeOf, AreNodesOf}
@@ -97,7 +97,8 @@ module _ (names : NameShapes) where
 
   made_found : (us : List SourceTerm) (p : Parts) → IsProgramOf names us p → result_is p ≡ program_of p.node p.automaton p.arguments
   unfolding program_of
-  made_found us p h = rw (← start_found us p h) refl
+  made_found us p h =
+      rw (← start_found us p h, ← initials_found (given_bindings p.automaton p.arguments) p.automaton.schedule.variables p.block h.block) refl
 
   program_found : (us : List SourceTerm) (p : Parts) → IsProgramOf names us p → result_is p ≡ program_with names p.node us p.automaton
   unfolding program_with

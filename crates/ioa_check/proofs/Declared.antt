@@ -21,7 +21,7 @@ use Rattle.ioa_check.specs.Systems.{AreNodesOf, IsInitialValue, IsNodeOf, IsScri
 use Rattle.ioa_names.proofs.Names.{first_differ}
 use Rattle.ioa_automata.proofs.Compiled.{variable_words}
 use Rattle.ioa_automata.proofs.Complete.{rule_words}
-use Rattle.ioa_automata.proofs.Lookups.{found_has}
+use Rattle.ioa_sorts.proofs.Lookups.{found_has}
 use Rattle.ioa_check.proofs.Tests.{numbers_apart}
 
 -- the nodes from a number on have other numbers than one below it

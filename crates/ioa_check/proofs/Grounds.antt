@@ -21,13 +21,13 @@ use Rattle.ioa_sorts.proofs.Sound.{fit_sound}
 use Rattle.ioa_types.specs.Meanings.{tuple_types, AreTextTypes}
 use Rattle.ioa_names.specs.NameTables.{words}
 use Rattle.ioa_types.specs.TextTypes.{PlainTextTypes}
-use Rattle.ioa_automata.specs.Rules.{arguments_at}
+use Rattle.ioa_sorts.specs.Firings.{arguments_at}
 use Rattle.ioa_automata.specs.Automata.{automaton_at}
-use Rattle.ioa_automata.specs.SortedAutomata.{AreArgumentsOf}
+use Rattle.ioa_sorts.specs.SortedTerms.{AreArgumentsOf}
 use Rattle.ioa_automata.proofs.Loops.{results_are}
 use Rattle.ioa_automata.proofs.Results.{result_is}
 use Rattle.ioa_automata.proofs.DeclaredShapes.{automaton_declared}
-use Rattle.ioa_automata.proofs.Lookups.{found_has}
+use Rattle.ioa_sorts.proofs.Lookups.{found_has}
 use Rattle.ioa_automata.proofs.SoundRules.{automaton_sound}
 use Rattle.ioa_check.specs.Declarations.{new_automaton_at, automata_at}
 use Rattle.ioa_check.specs.Faults.{in_declaration}

@@ -17,10 +17,10 @@ use Rattle.ioa_source.specs.Sides.{SourceNode, SourcePlacement, SourceTerm, Chec
 use Rattle.ioa_system.specs.InView.{given_bindings}
 use Rattle.ioa_system.specs.Parts.{AutomatonParts, Parts, PlainRule, parts}
 use Rattle.ioa_sort_rules.specs.declared.refusal.Refusal.TheVariants.{Twice, Limit, BadArgument}
-use Rattle.ioa_automata.specs.Rules.{arguments_at}
+use Rattle.ioa_sorts.specs.Firings.{arguments_at}
 use Rattle.ioa_automata.proofs.Loops.{results_are}
 use Rattle.ioa_automata.proofs.Results.{result_is, all_ok_each, zip_weaker}
-use Rattle.ioa_automata.proofs.Lookups.{found_has}
+use Rattle.ioa_sorts.proofs.Lookups.{found_has}
 use Rattle.ioa_check.specs.declared.nodes.TheConstants.{MOST_NODES}
 use Rattle.ioa_check.specs.Distinct.{differ_from}
 use Rattle.ioa_check.specs.Sections.{nodes_in}
@@ -171,10 +171,11 @@ program_sound names k us a p ground h =
     let ss = parameter_shapes a in
     let one = first_of (given_at names ss us) (program_of k a) p h in
     let two = first_of (arguments_at names ss us) (argument_values (constant_bindings names) ss) one.0 one.1 in
-    let three = first_of (start_values k a one.0) (λ vs. result_is (parts k a one.0 vs)) p one.2 in
+    let three = first_of (start_values k a one.0) (λ vs. and_then (variable_values (given_bindings a one.0) a.schedule.variables) (λ bs. result_is (parts k a one.0 vs bs))) p one.2 in
+    let five = first_of (variable_values (given_bindings a one.0) a.schedule.variables) (λ bs. result_is (parts k a one.0 three.0 bs)) p three.2 in
     let four = first_of (entries_on (given_bindings a one.0) k a.rules) (λ x. variable_values (given_bindings a one.0) a.variables) three.0 three.1 in
-    let same : parts k a one.0 three.0 ≡ p = cc in
-    subst (IsMadeOf names k us a) {x = parts k a one.0 three.0} same (record {
+    let same : parts k a one.0 three.0 five.0 ≡ p = cc in
+    subst (IsMadeOf names k us a) {x = parts k a one.0 three.0 five.0} same (record {
       number = refl;
       automaton = refl;
       program = record {
@@ -182,6 +183,7 @@ program_sound names k us a p ground h =
         sorted = arguments_meant ground.types names ground.names_declared ss us two.0 ground.shapes_declared two.1;
         given = values_sound (constant_bindings names) ss two.0 one.0 (as_many_arguments names ss us two.0 two.1) two.2;
         initial = variables_sound (given_bindings a one.0) a.variables three.0 four.2;
+        block = variables_sound (given_bindings a one.0) a.schedule.variables five.0 five.1;
         entries = entries_sound (given_bindings a one.0) k a.rules four.0 four.1;
       };
     })

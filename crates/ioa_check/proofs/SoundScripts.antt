@@ -17,10 +17,10 @@ use Rattle.ioa_system.specs.Parts.{AutomatonParts, Parts, PlainRule, rule_named}
 use Rattle.ioa_system.specs.Systems.{ScriptParts, script_parts}
 use Rattle.ioa_sort_rules.specs.declared.refusal.Refusal.TheVariants.{Unknown, Twice, BadArgument}
 use Rattle.ioa_sorts.specs.Statements.{all_ok}
-use Rattle.ioa_automata.specs.Rules.{arguments_at}
+use Rattle.ioa_sorts.specs.Firings.{arguments_at}
 use Rattle.ioa_automata.proofs.Loops.{results_are}
 use Rattle.ioa_automata.proofs.Results.{result_is, all_ok_each, zip_weaker}
-use Rattle.ioa_automata.proofs.Lookups.{found_has}
+use Rattle.ioa_sorts.proofs.Lookups.{found_has}
 use Rattle.ioa_check.specs.Distinct.{differ_from}
 use Rattle.ioa_check.specs.Sections.{scripts_in}
 use Rattle.ioa_check.specs.Grounds.{IsGrounded, AreGroundedPrograms}

@@ -21,7 +21,7 @@ use Rattle.ioa_sort_rules.specs.declared.refusal.Refusal.TheVariants.{Unknown, T
 use Rattle.ioa_sort_rules.specs.declared.refusal.Refusal.TheVariants.{BadArgument}
 use Rattle.ioa_sorts.specs.Statements.{all_ok}
 use Rattle.ioa_names.specs.NameTables.{words}
-use Rattle.ioa_automata.specs.Rules.{arguments_at}
+use Rattle.ioa_sorts.specs.Firings.{arguments_at}
 use Rattle.ioa_check.specs.declared.nodes.TheConstants.{MOST_NODES}
 use Rattle.ioa_check.specs.Distinct.{differ_from}
 use Rattle.ioa_check.specs.Sections.{nodes_in}
@@ -82,7 +82,7 @@ argument_values e (s ∷ ss) (t ∷ ts) = and_then (value_for e s t)
 unfoldable pub given_at : NameShapes → List PlainShape → List SourceTerm → Result (List Data) Refusal
 given_at names ss us = and_then (arguments_at names ss us) (argument_values (constant_bindings names) ss)
 
--- the value of a state variable in the start state
+-- the first value of a state variable or of a variable of a schedule block
 unfoldable pub initial_value : Bindings → PlainShape → Option CheckedTerm → Result Data Refusal
 initial_value e s None = Err NoInitial
 initial_value e s (Some t) = value_for e s t
@@ -147,7 +147,8 @@ start_values k a args = and_then (entries_on (given_bindings a args) k a.rules)
 
 -- the program of such a node
 unfoldable pub program_of : ℤ → AutomatonParts → List Data → Result Parts Refusal
-program_of k a args = and_then (start_values k a args) (λ vs. Ok (parts k a args vs))
+program_of k a args = and_then (start_values k a args)
+    (λ vs. and_then (variable_values (given_bindings a args) a.schedule.variables) (λ bs. Ok (parts k a args vs bs)))
 
 abbrev pub parameter_shapes : AutomatonParts → List PlainShape
 parameter_shapes a = map (λ d. d.shape) a.parameters

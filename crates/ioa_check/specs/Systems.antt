@@ -23,7 +23,8 @@ use Rattle.ioa_sort_rules.specs.SameSorts.{same_sort}
 use Rattle.ioa_names.specs.NameTables.{words}
 use Rattle.ioa_types.specs.TextTypes.{PlainTextTypes, no_types}
 use Rattle.ioa_types.specs.TypeDeclarations.{DeclaresType}
-use Rattle.ioa_automata.specs.SortedAutomata.{AreArgumentsOf, IsAutomatonOf}
+use Rattle.ioa_sorts.specs.SortedTerms.{AreArgumentsOf}
+use Rattle.ioa_automata.specs.SortedAutomata.{IsAutomatonOf}
 use Rattle.ioa_check.specs.declared.fault.CheckFault.{CheckFault}
 use Rattle.ioa_check.specs.declared.fault.CheckFault.TheVariants.{Refused, Memory}
 use Rattle.ioa_check.specs.declared.nodes.TheConstants.{MOST_NODES}
@@ -54,7 +55,7 @@ AreValuesFor e [] (t ∷ ts) vs = ⊥
 AreValuesFor e (s ∷ ss) [] vs = ⊥
 AreValuesFor e (s ∷ ss) (t ∷ ts) [] = ⊥
 
--- a state variable has this value in the start state
+-- a state variable or a variable of a schedule block has this first value
 abbrev pub IsInitialValue : Bindings → CheckedVariable → Data → Type 0
 IsInitialValue e v d = (t : CheckedTerm) × (v.initial ≡ Some t) × IsValueFor e v.declared.shape t d
 
@@ -78,10 +79,11 @@ pub record IsProgramOf (names : NameShapes) (us : List SourceTerm) (p : Parts) :
   -- 20, 22, 32: the terms have the sorts of the parameters
   pub arguments : List CheckedTerm
   pub sorted : AreArgumentsOf names (parameter_shapes p.automaton) us arguments
-  -- 34: the parameters, the state variables and the constants of entries have values, and sends and receives are the
-  -- node's own
+  -- 34: the parameters, the state variables, the variables of the schedule block and the constants of entries have
+  -- values, and sends and receives are the node's own
   pub given : AreValuesFor (constant_bindings names) (parameter_shapes p.automaton) arguments p.arguments
   pub initial : AllZip (IsInitialValue (given_bindings p.automaton p.arguments)) p.automaton.variables p.initial
+  pub block : AllZip (IsInitialValue (given_bindings p.automaton p.arguments)) p.automaton.schedule.variables p.block
   pub entries : AllByRecursion (IsEntryOn (given_bindings p.automaton p.arguments) p.node) p.automaton.rules
 
 -- the program of node k, of these nodes and automata

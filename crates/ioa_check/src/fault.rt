@@ -49,6 +49,7 @@ pub(crate) fn fault_at(index: usize, refusal: Refusal) -> CheckFault
         | Refusal::NoInitial
         | Refusal::InputPre
         | Refusal::NoTransition
+        | Refusal::ScheduleAssignsState
         | Refusal::ChannelSorts
         | Refusal::InputMissing
         | Refusal::SelfChannel

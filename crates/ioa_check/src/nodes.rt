@@ -18,9 +18,9 @@ ghost use Rattle.ioa_check.specs.Sections.{node_at, nodes_in};
 
 use crate::values::{argument_values, check_constants, gives_number, variable_values};
 use ioa_actions::{RECEIVE, SEND};
-use ioa_automata::sort_arguments;
 use ioa_names::View;
 use ioa_sort_rules::Refusal;
+use ioa_sorts::sort_arguments;
 use ioa_source::{Declared, Node, Parameter, Placement};
 use ioa_system::{CompiledAutomaton, Program, Rule};
 use ioa_terms::{Env, NameLists, Names, Shape, Term, Value, Word};
@@ -278,6 +278,21 @@ fn start_values(
     variable_values(alloc, &env, automaton.variables())
 }
 
+/// The first values of the variables of an automaton's schedule block, if its parameters have these values.
+fn block_values(
+    alloc: Global,
+    automaton: &CompiledAutomaton,
+    arguments: &Vec<Value>,
+) -> Result<Vec<Value>, Refusal>
+    requires { length arguments.now.items ≡ length automaton.now.parameters }
+    ensures values { Answers Refusal.Memory (λ vs. vs.items) result
+        (spec.variable_values (given_bindings automaton.now arguments.now.items) automaton.now.schedule.variables) }
+    ensures many { IfOk result (λ vs. length vs.items ≡ length automaton.now.schedule.variables) }
+{
+    let env = automaton.given_env(arguments);
+    variable_values(alloc, &env, automaton.schedule().variables.as_slice())
+}
+
 /// The program of the node of a number on which an automaton is placed, whose parameters have these values.
 #[tactic(auto, unfolding(crate::specs::Nodes::program_of))]
 fn program_of(
@@ -291,8 +306,9 @@ fn program_of(
         (spec.program_of number (arc_value automaton.now) arguments.items) }
 {
     let initial = start_values(alloc, automaton, &arguments, number)?;
+    let block = block_values(alloc, automaton, &arguments)?;
     let shared = Arc::try_clone(automaton)?;
-    Ok(Program::new(number, shared, arguments, initial))
+    Ok(Program::new(number, shared, arguments, initial, block))
 }
 
 /// The program of the node of a number on which an automaton is placed with these arguments.

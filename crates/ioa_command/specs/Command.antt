@@ -16,7 +16,7 @@ use Rattle.ioa_command.specs.declared.words.Subcommand.TheVariants as subcommand
 use Rattle.ioa_command.specs.declared.command_line.TextFault.{TextFault}
 use Rattle.ioa_command.specs.declared.command_line.TextFault.TheVariants.{Input, Run}
 use Rattle.ioa_streams.specs.Input.{IsFaultOf, input_fault_text}
-use Rattle.ioa_workers.specs.Options.{PlainOptions}
+use Rattle.ioa_solo.specs.Options.{PlainOptions}
 use Rattle.ioa_streams.specs.Output.{AppendsBeginning}
 use Rattle.ioa_workers.specs.WholeRun.{IsExactFor, IsRefusalOf, WritesReport, run_fault_text}
 use Rattle.ioa_command.specs.CommandLine.{AsksForText, Chooses, IsErrorOf, words_status}

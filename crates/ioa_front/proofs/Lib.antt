@@ -1,5 +1,6 @@
 -- the lemmas of this crate
 pub mod Elses
+pub mod Schedules
 pub mod Touching
 pub mod Writings
 pub mod PrintedLists

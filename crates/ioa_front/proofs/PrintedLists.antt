@@ -5,7 +5,7 @@ use Rattle.ioa_tokens.specs.declared.token.Token.TheVariants as token
 use Rattle.ioa_tokens.specs.declared.mark.Mark.{Mark}
 use Rattle.ioa_tokens.specs.declared.mark.Mark.TheVariants as mark
 use Rattle.ioa_tokens.specs.Written.{AreTokens}
-use Rattle.ioa_cursor.specs.Lists.{Several, SeparatedBy, SeparatedOrEndedBy, Section, Optional}
+use Rattle.ioa_cursor.specs.Lists.{Several, SeparatedBy, Section, Optional}
 use Rattle.ioa_cursor.specs.Lists as lists
 use Rattle.ioa_text_reader.specs.Grammar.{InBrackets, bare, hollow, filled}
 use Rattle.ioa_term_reader.proofs.PrintedGood.{AreGood, tokens_joined}
@@ -49,38 +49,6 @@ module _ {A : Type 0} (X : A → List Token → List Token → Type 0) (spell : 
         record {
           again = λ zs.
               rw (on, append_assoc (spell a) (token.Mark m ∷ separated_spelling m spell more) zs) (lists.followed (p.again (token.Mark m ∷ (separated_spelling m spell more ++ zs))) (q.again zs));
-          good = λ h.
-              let g = p.good h in
-              let i = q.good g.1.1 in
-              (rw on (tokens_joined (spell a) (token.Mark m ∷ separated_spelling m spell more) g.0 (tt, i.0)), i.1);
-        }
-
-    ended_goes_on : {items : List A} {xs ys : List Token} → SeparatedOrEndedBy m X items xs ys → more_separated_spelling m spell items ≡ token.Mark m ∷ separated_spelling m spell items
-    ended_goes_on (lists.last d) = refl
-    ended_goes_on (lists.closed d) = refl
-    ended_goes_on (lists.continued d rest) = refl
-
-    -- the mark at the end is not printed
-    pub ended_prints : {items : List A} {xs ys : List Token} → SeparatedOrEndedBy m X items xs ys → Prints (SeparatedOrEndedBy m X) (separated_spelling m spell) items xs ys
-    ended_prints (lists.last {only = a} d) =
-        let p = prints a _ _ d in
-        record {
-          again = λ zs. rw (append-nil (spell a)) (lists.last (p.again zs));
-          good = λ h. let g = p.good h in (tokens_joined (spell a) [] g.0 tt, g.1);
-        }
-    ended_prints (lists.closed {only = a} d) =
-        let p = prints a _ _ d in
-        record {
-          again = λ zs. rw (append-nil (spell a)) (lists.last (p.again zs));
-          good = λ h. let g = p.good h in (tokens_joined (spell a) [] g.0 tt, g.1.1);
-        }
-    ended_prints (lists.continued {first = a} {more = more} d rest) =
-        let p = prints a _ _ d in
-        let q = ended_prints rest in
-        let on = ended_goes_on rest in
-        record {
-          again = λ zs.
-              rw (on, append_assoc (spell a) (token.Mark m ∷ separated_spelling m spell more) zs) (lists.continued (p.again (token.Mark m ∷ (separated_spelling m spell more ++ zs))) (q.again zs));
           good = λ h.
               let g = p.good h in
               let i = q.good g.1.1 in

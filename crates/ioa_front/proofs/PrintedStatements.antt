@@ -6,10 +6,11 @@ use Rattle.ioa_tokens.specs.declared.mark.Mark.TheVariants as mark
 use Rattle.ioa_source.specs.Sides.{SourceTarget as Target, SourceStatement as Statement, SourceStatements as Statements, SourceArms as Arms, SourceFiring as Firing}
 use Rattle.ioa_term_reader.specs.Spelling.{spelling}
 use Rattle.ioa_term_reader.proofs.PrintedGood.{tokens_joined}
+use Rattle.ioa_text_reader.specs.declared.statement.Context.{Context}
 use Rattle.ioa_text_reader.specs.Grammar as grammar
-use Rattle.ioa_text_reader.specs.Grammar.{SpellsTarget, SpellsStatement, SpellsArms, SpellsRest, SpellsStatements, SpellsEffect, SpellsFire, SpellsBlock}
-use Rattle.ioa_front.specs.Spelling.{target_spelling, else_spelling, statement_spelling, statements_spelling, more_statements_spelling, arms_spelling, more_arms_spelling, effect_spelling, firing_spelling, firings_spelling, block_spelling}
-use Rattle.ioa_front.proofs.PrintedLists.{Prints, ended_prints}
+use Rattle.ioa_text_reader.specs.Grammar.{SpellsTarget, SpellsFiring, SpellsStatement, SpellsArms, SpellsRest, SpellsStatements, SpellsLow, SpellsBlock}
+use Rattle.ioa_front.specs.Spelling.{target_spelling, firing_spelling, else_spelling, between_do_and_od, statement_spelling, statements_spelling, more_statements_spelling, arms_spelling, more_arms_spelling, list_spelling, block_spelling}
+use Rattle.ioa_front.proofs.PrintedLists.{Prints}
 use Rattle.ioa_front.proofs.PrintedDeclared.{inner_term, outer_term, call_prints, kind_again, kind_good}
 
 target_prints : {p : Target} {xs ys : List Token} → SpellsTarget p xs ys → Prints SpellsTarget target_spelling p xs ys
@@ -23,18 +24,31 @@ target_prints (grammar.at_a_key {t = t} d) =
     }
 target_prints grammar.at_a_field = record { again = λ zs. grammar.at_a_field; good = λ h. ((h.0, (tt, (h.1.1.0, tt))), h.1.1.1) }
 
+-- an action as a `fire` names it
+
+firing_prints : {f : Firing} {xs ys : List Token} → SpellsFiring f xs ys → Prints SpellsFiring firing_spelling f xs ys
+firing_prints (grammar.firing {call = c} d) =
+    let p = call_prints d in
+    record { again = λ zs. grammar.firing {call = c} (p.again zs); good = p.good }
+firing_prints (grammar.kind_firing {k = k} {call = c} kinded d) =
+    let p = call_prints d in
+    record {
+      again = λ zs. grammar.kind_firing {call = c} (kind_again k _) (p.again zs);
+      good = λ h. let g = p.good (kind_good kinded h) in ((tt, g.0), g.1);
+    }
+
 -- behind a statement, an arm and the arms, what is spelled comes after its mark
 
-statements_go_on : {ss : Statements} {xs ys : List Token} → SpellsStatements ss xs ys → more_statements_spelling ss ≡ token.Mark mark.Semicolon ∷ statements_spelling ss
+statements_go_on : {c : Context} {ss : Statements} {xs ys : List Token} → SpellsStatements c ss xs ys → more_statements_spelling ss ≡ token.Mark mark.Semicolon ∷ statements_spelling ss
 statements_go_on (grammar.last_statement d) = refl
 statements_go_on (grammar.closed_statement d) = refl
 statements_go_on (grammar.more_statements d rest) = refl
 
-arms_go_on : {arms : Arms} {xs ys : List Token} → SpellsArms arms xs ys → more_arms_spelling arms ≡ token.Mark mark.ElseIf ∷ arms_spelling arms
+arms_go_on : {c : Context} {arms : Arms} {xs ys : List Token} → SpellsArms c arms xs ys → more_arms_spelling arms ≡ token.Mark mark.ElseIf ∷ arms_spelling arms
 arms_go_on (grammar.one_arm d body) = refl
 arms_go_on (grammar.more_arms d body rest) = refl
 
-else_goes_on : {ss : Statements} {xs ys : List Token} → SpellsStatements ss xs ys → (zs : List Token) → else_spelling ss zs ≡ token.Mark mark.Else ∷ zs
+else_goes_on : {c : Context} {ss : Statements} {xs ys : List Token} → SpellsStatements c ss xs ys → (zs : List Token) → else_spelling ss zs ≡ token.Mark mark.Else ∷ zs
 else_goes_on (grammar.last_statement d) zs = refl
 else_goes_on (grammar.closed_statement d) zs = refl
 else_goes_on (grammar.more_statements d rest) zs = refl
@@ -44,7 +58,7 @@ abbrev rest_spelling : Statements → List Token
 rest_spelling ss = else_spelling ss (statements_spelling ss) ++ token.Mark mark.Fi ∷ []
 
 mutual
-  statement_prints : {s : Statement} {xs ys : List Token} → SpellsStatement s xs ys → Prints SpellsStatement statement_spelling s xs ys
+  statement_prints : {c : Context} {s : Statement} {xs ys : List Token} → SpellsStatement c s xs ys → Prints (SpellsStatement c) statement_spelling s xs ys
   statement_prints (grammar.assignment {p = p} {t = t} d e) =
       let a = target_prints d in
       let b = outer_term t _ _ e in
@@ -60,8 +74,25 @@ mutual
         again = λ zs. rw (append_assoc (arms_spelling arms) (rest_spelling rest) zs) (grammar.choice (a.again (rest_spelling rest ++ zs)) (b.again zs));
         good = λ h. let g = a.good h.1 in let i = b.good g.1 in ((tt, tokens_joined (arms_spelling arms) (rest_spelling rest) g.0 i.0), i.1);
       }
+  statement_prints (grammar.repetition {t = t} {body = body} d e) =
+      let a = outer_term t _ _ d in
+      let b = statements_print e in
+      let inside = statements_spelling body in
+      let end = token.Mark mark.Od ∷ [] in
+      record {
+        again = λ zs.
+            rw (append_assoc (spelling t) (between_do_and_od inside) zs, append_assoc inside end zs)
+            (grammar.repetition (a.again (token.Mark mark.Do ∷ (inside ++ token.Mark mark.Od ∷ zs))) (b.again (token.Mark mark.Od ∷ zs)));
+        good = λ h.
+            let g = a.good h.1 in
+            let i = b.good g.1.1 in
+            ((tt, tokens_joined (spelling t) (between_do_and_od inside) g.0 (tt, tokens_joined inside end i.0 (tt, tt))), i.1.1);
+      }
+  statement_prints (grammar.fire_statement d) =
+      let p = firing_prints d in
+      record { again = λ zs. grammar.fire_statement (p.again zs); good = λ h. let g = p.good h.1 in ((tt, g.0), g.1) }
 
-  arms_print : {arms : Arms} {xs ys : List Token} → SpellsArms arms xs ys → Prints SpellsArms arms_spelling arms xs ys
+  arms_print : {c : Context} {arms : Arms} {xs ys : List Token} → SpellsArms c arms xs ys → Prints (SpellsArms c) arms_spelling arms xs ys
   arms_print (grammar.one_arm {t = t} {body = body} d e) =
       let a = outer_term t _ _ d in
       let b = statements_print e in
@@ -94,7 +125,7 @@ mutual
             (rw on (tokens_joined (spelling t) right g.0 (tt, tokens_joined (statements_spelling body) more i.0 (tt, k.0))), k.1);
       }
 
-  rest_prints : {ss : Statements} {xs ys : List Token} → SpellsRest ss xs ys → Prints SpellsRest rest_spelling ss xs ys
+  rest_prints : {c : Context} {ss : Statements} {xs ys : List Token} → SpellsRest c ss xs ys → Prints (SpellsRest c) rest_spelling ss xs ys
   rest_prints grammar.no_else = record { again = λ zs. grammar.no_else; good = λ h. ((tt, tt), h.1) }
   rest_prints (grammar.otherwise {rest = ss} d) =
       let p = statements_print d in
@@ -105,7 +136,7 @@ mutual
         good = λ h. let g = p.good h.1 in (rw on (tt, tokens_joined (statements_spelling ss) end g.0 (tt, tt)), g.1.1);
       }
 
-  statements_print : {ss : Statements} {xs ys : List Token} → SpellsStatements ss xs ys → Prints SpellsStatements statements_spelling ss xs ys
+  statements_print : {c : Context} {ss : Statements} {xs ys : List Token} → SpellsStatements c ss xs ys → Prints (SpellsStatements c) statements_spelling ss xs ys
   statements_print (grammar.last_statement {s = s} d) =
       let p = statement_prints d in
       record {
@@ -133,29 +164,16 @@ mutual
             (rw on (tokens_joined (statement_spelling s) right g.0 (tt, i.0)), i.1);
       }
 
-pub effect_prints : (ss : List Statement) (xs ys : List Token) → SpellsEffect ss xs ys → Prints SpellsEffect effect_spelling ss xs ys
-effect_prints ss xs ys d =
+pub low_prints : (c : Context) (ss : List Statement) (xs ys : List Token) → SpellsLow c ss xs ys → Prints (SpellsLow c) list_spelling ss xs ys
+low_prints c ss xs ys d =
     let p = statements_print d.spelled in
     record { again = λ zs. record { spelled = p.again zs; low = d.low }; good = p.good }
 
--- firings, and blocks of them
-
-firing_prints : (f : Firing) (xs ys : List Token) → SpellsFire f xs ys → Prints SpellsFire firing_spelling f xs ys
-firing_prints f xs ys (grammar.firing {call = c} d) =
-    let p = call_prints d in
-    record { again = λ zs. grammar.firing {call = c} (p.again zs); good = λ h. let g = p.good h.1 in ((tt, g.0), g.1) }
-firing_prints f xs ys (grammar.kind_firing {k = k} {call = c} kinded d) =
-    let p = call_prints d in
-    record {
-      again = λ zs. grammar.kind_firing {call = c} (kind_again k _) (p.again zs);
-      good = λ h. let g = p.good (kind_good kinded h.1) in ((tt, (tt, g.0)), g.1);
-    }
-
-pub block_prints : (fs : List Firing) (xs ys : List Token) → SpellsBlock fs xs ys → Prints SpellsBlock block_spelling fs xs ys
-block_prints fs xs ys grammar.idle = record { again = λ zs. grammar.idle; good = λ h. ((tt, (tt, tt)), h.1.1) }
-block_prints fs xs ys (grammar.busy {fires = fires} d) =
-    let p = ended_prints SpellsFire firing_spelling firing_prints mark.Semicolon d in
-    let inside = firings_spelling fires in
+pub block_prints : {ss : List Statement} {xs ys : List Token} → SpellsBlock ss xs ys → Prints SpellsBlock block_spelling ss xs ys
+block_prints grammar.idle = record { again = λ zs. grammar.idle; good = λ h. ((tt, (tt, tt)), h.1.1) }
+block_prints (grammar.busy {statements = ss} d) =
+    let p = low_prints _ ss _ _ d in
+    let inside = list_spelling ss in
     let end = token.Mark mark.Od ∷ [] in
     record {
       again = λ zs. rw (append_assoc inside end zs) (grammar.busy (p.again (token.Mark mark.Od ∷ zs)));

@@ -5,17 +5,18 @@ use Rattle.ioa_tokens.specs.declared.token.Token.{Token}
 use Rattle.ioa_tokens.specs.declared.token.Token.TheVariants as token
 use Rattle.ioa_tokens.specs.declared.mark.Mark.TheVariants as mark
 use Rattle.ioa_tokens.specs.Written.{AreTokens}
-use Rattle.ioa_source.specs.Sides.{SourceTerm as Term, SourceDeclared as Declared, SourceVariable as Variable, SourceTransition as Transition, SourceForm as Form, SourceDeclaration as Declaration, SourceCall as Call, SourcePlacement as Placement, SourceText}
-use Rattle.ioa_cursor.specs.Lists.{Several, SeparatedBy, SeveralLists}
+use Rattle.ioa_source.specs.Sides.{SourceTerm as Term, SourceDeclared as Declared, SourceVariable as Variable, SourceStatement as Statement, SourceTransition as Transition, SourceSchedule as Schedule, SourceForm as Form, SourceDeclaration as Declaration, SourceCall as Call, SourcePlacement as Placement, SourceText}
+use Rattle.ioa_cursor.specs.Lists.{Several, SeparatedBy, SeveralLists, Section}
 use Rattle.ioa_term_reader.specs.Grammar.{bracket_limit, SpellsTerm}
 use Rattle.ioa_term_reader.specs.Spelling.{spelling}
 use Rattle.ioa_term_reader.proofs.PrintedGood.{tokens_joined}
+use Rattle.ioa_text_reader.specs.declared.statement.Context.TheVariants.{Effect}
 use Rattle.ioa_text_reader.specs.Grammar as grammar
-use Rattle.ioa_text_reader.specs.Grammar.{SpellsWord, SpellsVariable, SpellsCall, SpellsGuard, SpellsEffect, SpellsTransition, SpellsGroup, SpellsBlock, SpellsHead, SpellsForm, SpellsDeclaration, SpellsPlacement, Spells}
-use Rattle.ioa_front.specs.Spelling.{separated_spelling, joined_spelling, bracketed_spelling, section_spelling, optional_spelling, word_spelling, sort_spelling, declared_spelling, call_spelling, one_call_spelling, calls_spelling, entry_spelling, variable_spelling, transition_spelling, effect_spelling, block_spelling, form_spelling, declaration_spelling, placement_spelling, text_spelling}
+use Rattle.ioa_text_reader.specs.Grammar.{SpellsWord, SpellsVariable, SpellsCall, SpellsGuard, SpellsLow, SpellsTransition, SpellsGroup, SpellsBlock, schedule_with, SpellsSchedule, SpellsHead, SpellsForm, SpellsDeclaration, SpellsPlacement, Spells}
+use Rattle.ioa_front.specs.Spelling.{separated_spelling, joined_spelling, bracketed_spelling, section_spelling, optional_spelling, word_spelling, sort_spelling, declared_spelling, call_spelling, one_call_spelling, calls_spelling, entry_spelling, variable_spelling, states_spelling, transition_spelling, list_spelling, block_spelling, schedule_spelling, form_spelling, declaration_spelling, placement_spelling, text_spelling}
 use Rattle.ioa_front.proofs.PrintedLists.{Prints, several_prints, separated_prints, optional_prints, section_prints, brackets_good}
 use Rattle.ioa_front.proofs.PrintedDeclared.{outer_term, sort_prints, word_prints, declared_prints, call_prints, kind_again, kind_good, entries_print}
-use Rattle.ioa_front.proofs.PrintedStatements.{effect_prints, block_prints}
+use Rattle.ioa_front.proofs.PrintedStatements.{low_prints, block_prints}
 
 variable_prints : (v : Variable) (xs ys : List Token) → SpellsVariable v xs ys → Prints SpellsVariable variable_spelling v xs ys
 variable_prints v xs ys (grammar.of_sort {s = s} {initial = initial} d o) =
@@ -30,6 +31,9 @@ variable_prints v xs ys (grammar.of_sort {s = s} {initial = initial} d o) =
 variables_print : (vs : List Variable) (xs ys : List Token) → SeparatedBy mark.Comma SpellsVariable vs xs ys → Prints (SeparatedBy mark.Comma SpellsVariable) (separated_spelling mark.Comma variable_spelling) vs xs ys
 variables_print vs xs ys d = separated_prints SpellsVariable variable_spelling variable_prints mark.Comma d
 
+states_print : {vs : List Variable} {xs ys : List Token} → Section mark.States (SeparatedBy mark.Comma SpellsVariable) vs xs ys → Prints (Section mark.States (SeparatedBy mark.Comma SpellsVariable)) states_spelling vs xs ys
+states_print d = section_prints (SeparatedBy mark.Comma SpellsVariable) (separated_spelling mark.Comma variable_spelling) variables_print mark.States d
+
 -- the semicolon behind a guard is not printed
 guard_prints : (t : Term) (xs ys : List Token) → SpellsGuard t xs ys → Prints SpellsGuard spelling t xs ys
 guard_prints t xs ys (grammar.guard d) = let p = outer_term t _ _ d in record { again = λ zs. grammar.guard (p.again zs); good = p.good }
@@ -41,10 +45,10 @@ transition_prints : (t : Transition) (xs ys : List Token) → SpellsTransition t
 transition_prints t xs ys (grammar.transition {k = k} {head = head} {pre = pre} {effect = effect} kinded d o e) =
     let p = call_prints d in
     let q = optional_prints SpellsGuard spelling guard_prints mark.Pre o in
-    let r = section_prints SpellsEffect effect_spelling effect_prints mark.Eff e in
+    let r = section_prints (SpellsLow Effect) list_spelling (low_prints Effect) mark.Eff e in
     let called = call_spelling head.name head.arguments in
     let guarded = optional_spelling mark.Pre spelling pre in
-    let effected = section_spelling mark.Eff effect_spelling effect in
+    let effected = section_spelling mark.Eff list_spelling effect in
     record {
       again = λ zs.
           rw (append_assoc called (guarded ++ effected) zs, append_assoc guarded effected zs)
@@ -58,6 +62,27 @@ transition_prints t xs ys (grammar.transition {k = k} {head = head} {pre = pre} 
 
 transitions_print : (ts : List Transition) (xs ys : List Token) → Several SpellsTransition ts xs ys → Prints (Several SpellsTransition) (joined_spelling transition_spelling) ts xs ys
 transitions_print ts xs ys d = several_prints SpellsTransition transition_spelling transition_prints d
+
+-- the empty schedule block is not printed
+written_schedule : (vs : List Variable) (ss : List Statement) {xs ys zs : List Token} → Prints (Section mark.States (SeparatedBy mark.Comma SpellsVariable)) states_spelling vs xs ys → Prints SpellsBlock block_spelling ss ys zs →
+    Prints SpellsSchedule schedule_spelling (schedule_with vs ss) (token.Mark mark.Schedule ∷ xs) zs
+written_schedule [] [] p q = record { again = λ us. grammar.no_schedule; good = λ h. let g = p.good h.1 in let i = q.good g.1 in (tt, i.1) }
+written_schedule [] (s ∷ more) p q =
+    record {
+      again = λ us. grammar.schedule (p.again (block_spelling (s ∷ more) ++ us)) (q.again us);
+      good = λ h. let g = p.good h.1 in let i = q.good g.1 in ((tt, i.0), i.1);
+    }
+written_schedule (v ∷ others) ss p q =
+    let left = states_spelling (v ∷ others) in
+    let right = block_spelling ss in
+    record {
+      again = λ us. rw (append_assoc left right us) (grammar.schedule (p.again (right ++ us)) (q.again us));
+      good = λ h. let g = p.good h.1 in let i = q.good g.1 in ((tt, tokens_joined left right g.0 i.0), i.1);
+    }
+
+schedule_prints : {s : Schedule} {xs ys : List Token} → SpellsSchedule s xs ys → Prints SpellsSchedule schedule_spelling s xs ys
+schedule_prints grammar.no_schedule = record { again = λ zs. grammar.no_schedule; good = λ h. (tt, h) }
+schedule_prints (grammar.schedule {variables = vs} {statements = ss} d e) = written_schedule vs ss (states_print d) (block_prints e)
 
 -- the parameters of an automaton, and none where there is no parameter
 head_again : (ds : List Declared) (zs : List Token) → ((us : List Token) → SpellsHead ds (token.Mark mark.OpenRound ∷ (separated_spelling mark.Comma declared_spelling ds ++ token.Mark mark.CloseRound ∷ us)) us) → SpellsHead ds (bracketed_spelling declared_spelling ds ++ zs) zs
@@ -88,14 +113,14 @@ declaration_prints _ xs ys (grammar.type_form d) =
 declaration_prints _ xs ys (grammar.automaton_parts {head = head} {entries = entries} {variables = variables} {transitions = transitions} {block = block} d e f g b) =
     let p = head_prints d in
     let q = section_prints (SeveralLists SpellsGroup) (joined_spelling entry_spelling) entries_print mark.Signature e in
-    let r = section_prints (SeparatedBy mark.Comma SpellsVariable) (separated_spelling mark.Comma variable_spelling) variables_print mark.States f in
+    let r = states_print f in
     let s = section_prints (Several SpellsTransition) (joined_spelling transition_spelling) transitions_print mark.Transitions g in
-    let t = section_prints SpellsBlock block_spelling block_prints mark.Schedule b in
+    let t = schedule_prints b in
     let ps = bracketed_spelling declared_spelling head in
     let qs = section_spelling mark.Signature (joined_spelling entry_spelling) entries in
-    let rs = section_spelling mark.States (separated_spelling mark.Comma variable_spelling) variables in
+    let rs = states_spelling variables in
     let ss = section_spelling mark.Transitions (joined_spelling transition_spelling) transitions in
-    let ts = section_spelling mark.Schedule block_spelling block in
+    let ts = schedule_spelling block in
     record {
       again = λ zs.
           rw (append_assoc ps (qs ++ (rs ++ (ss ++ ts))) zs, append_assoc qs (rs ++ (ss ++ ts)) zs, append_assoc rs (ss ++ ts) zs, append_assoc ss ts zs)

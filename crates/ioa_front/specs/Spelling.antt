@@ -1,13 +1,13 @@
 -- The tokens that print puts for each part of a text (profile): each name has its own sort, each entry its own kind,
 -- and no mark ends a list.
-use Rattle.std.specs.Prelude.{ℕ, List, [], ◌∷◌, ◌++◌, Option, Some, None}
+use Rattle.std.specs.Prelude.{ℕ, Bool, true, false, ◌&&◌, if◌then◌else◌, List, [], ◌∷◌, ◌++◌, Option, Some, None}
 use Rattle.ioa_tokens.specs.declared.token.Token.{Token}
 use Rattle.ioa_tokens.specs.declared.token.Token.TheVariants as token
 use Rattle.ioa_tokens.specs.declared.mark.Mark.{Mark}
 use Rattle.ioa_tokens.specs.declared.mark.Mark.TheVariants as mark
 use Rattle.ioa_terms.specs.declared.tree.Kind.{Kind}
 use Rattle.ioa_terms.specs.declared.tree.Kind.TheVariants as kind
-use Rattle.ioa_terms.specs.PlainTerm.{variable, at_key, at_field, assign, branch}
+use Rattle.ioa_terms.specs.PlainTerm.{variable, at_key, at_field, assign, branch, loop, fire}
 use Rattle.ioa_terms.specs.PlainTerm.{no_statements, statement, statements_of, no_arms, arm}
 use Rattle.ioa_source.specs.PlainSort.{PlainSort, booleans, integers, naturals, sequences, sets, maps, named_type}
 use Rattle.ioa_source.specs.PlainText.{const, named, enumeration, tuple_of, type_named, automaton}
@@ -16,8 +16,9 @@ use Rattle.ioa_source.specs.Sides.{SourceTerm as Term, SourceTarget as Target, S
 use Rattle.ioa_source.specs.Sides.{SourceStatements as Statements, SourceArms as Arms, SourceFiring as Firing}
 use Rattle.ioa_source.specs.Sides.{SourceDeclared as Declared}
 use Rattle.ioa_source.specs.Sides.{SourceParameter as Parameter, SourceEntry as Entry, SourceVariable as Variable}
-use Rattle.ioa_source.specs.Sides.{SourceTransition as Transition, SourceForm as Form, SourceDeclaration as Declaration}
-use Rattle.ioa_source.specs.Sides.{SourceCall as Call, SourcePlacement as Placement, SourceText}
+use Rattle.ioa_source.specs.Sides.{SourceTransition as Transition, SourceSchedule as Schedule, SourceForm as Form}
+use Rattle.ioa_source.specs.Sides.{SourceDeclaration as Declaration, SourceCall as Call, SourcePlacement as Placement}
+use Rattle.ioa_source.specs.Sides.{SourceText}
 use Rattle.ioa_term_reader.specs.Spelling.{spelling}
 
 -- items, each after a mark
@@ -130,18 +131,30 @@ abbrev pub kind_spelling : Option Kind → List Token
 kind_spelling None = []
 kind_spelling (Some k) = token.Mark (kind_mark k) ∷ []
 
+-- [Kind] Call, after `fire`
+abbrev pub firing_spelling : Firing → List Token
+firing_spelling f = kind_spelling f.kind ++ call_spelling f.action f.arguments
+
 -- [else Statements]: `xs` are the tokens of the statements
 abbrev pub else_spelling : Statements → List Token → List Token
 else_spelling no_statements xs = []
 else_spelling (statement s more) xs = token.Mark mark.Else ∷ xs
 
+-- do [Statements] od: `xs` are the tokens of the statements
+abbrev pub between_do_and_od : List Token → List Token
+between_do_and_od xs = token.Mark mark.Do ∷ (xs ++ token.Mark mark.Od ∷ [])
+
 abbrev mutual
-  -- Target := Term, or if Term then Statements {elseif Term then Statements} [else Statements] fi
+  -- Target := Term, if Term then Statements {elseif Term then Statements} [else Statements] fi, while Term do Statements
+  -- od, or fire [Kind] Call
   pub statement_spelling : Statement → List Token
   statement_spelling (assign p t) = target_spelling p ++ (token.Mark mark.Assign ∷ spelling t)
   statement_spelling (branch arms rest) =
       token.Mark mark.If ∷ (arms_spelling arms
       ++ (else_spelling rest (statements_spelling rest) ++ token.Mark mark.Fi ∷ []))
+  statement_spelling (loop t body) =
+      token.Mark mark.While ∷ (spelling t ++ between_do_and_od (statements_spelling body))
+  statement_spelling (fire f) = token.Mark mark.Fire ∷ firing_spelling f
 
   -- Statement {; Statement}
   pub statements_spelling : Statements → List Token
@@ -167,17 +180,21 @@ abbrev mutual
       token.Mark mark.ElseIf ∷ (spelling t
       ++ (token.Mark mark.Then ∷ (statements_spelling body ++ more_arms_spelling more)))
 
--- the statements of an effect
-abbrev pub effect_spelling : List Statement → List Token
-effect_spelling ss = statements_spelling (statements_of ss)
+-- the statements of an effect, of a part of an `if`, or of a block
+abbrev pub list_spelling : List Statement → List Token
+list_spelling ss = statements_spelling (statements_of ss)
 
 -- the last part of an `if`: [else Statements]
 abbrev pub rest_spelling : List Statement → List Token
-rest_spelling ss = else_spelling (statements_of ss) (effect_spelling ss)
+rest_spelling ss = else_spelling (statements_of ss) (list_spelling ss)
+
+-- do [Statements] od
+abbrev pub block_spelling : List Statement → List Token
+block_spelling ss = between_do_and_od (list_spelling ss)
 
 -- [eff Statements]
 abbrev pub effect_part_spelling : List Statement → List Token
-effect_part_spelling ss = section_spelling mark.Eff effect_spelling ss
+effect_part_spelling ss = section_spelling mark.Eff list_spelling ss
 
 -- Kind Call [pre Term] [eff Statements]
 abbrev pub transition_spelling : Transition → List Token
@@ -189,21 +206,20 @@ transition_spelling t =
 abbrev pub transitions_spelling : List Transition → List Token
 transitions_spelling ts = section_spelling mark.Transitions (joined_spelling transition_spelling) ts
 
--- Fire: fire [Kind] Call
-abbrev pub firing_spelling : Firing → List Token
-firing_spelling f = token.Mark mark.Fire ∷ (kind_spelling f.kind ++ call_spelling f.action f.arguments)
+-- whether a list has no item
+abbrev pub has_none : {A : Type 0} → List A → Bool
+has_none [] = true
+has_none (a ∷ more) = false
 
--- Fire {; Fire}
-abbrev pub firings_spelling : List Firing → List Token
-firings_spelling fs = separated_spelling mark.Semicolon firing_spelling fs
+-- whether a schedule block has neither a variable nor a statement
+abbrev pub is_empty_schedule : Schedule → Bool
+is_empty_schedule s = has_none s.variables && has_none s.statements
 
--- do Fire {; Fire} od
-abbrev pub block_spelling : List Firing → List Token
-block_spelling fs = token.Mark mark.Do ∷ (firings_spelling fs ++ token.Mark mark.Od ∷ [])
-
--- [schedule do Fire {; Fire} od]
-abbrev pub schedule_spelling : List Firing → List Token
-schedule_spelling fs = section_spelling mark.Schedule block_spelling fs
+-- [schedule [states Variable {, Variable}] do [Statements] od], and nothing for the empty block
+abbrev pub schedule_spelling : Schedule → List Token
+schedule_spelling s =
+    if is_empty_schedule s then []
+    else token.Mark mark.Schedule ∷ (states_spelling s.variables ++ block_spelling s.statements)
 
 -- enumeration of Word {, Word}, or tuple of Declared {, Declared}
 abbrev pub form_spelling : Form → List Token

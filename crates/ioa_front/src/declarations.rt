@@ -1,23 +1,23 @@
 //! The pieces of declarations.
 
-ghost use Rattle.std.specs.Prelude.{map};
+ghost use Rattle.std.specs.Prelude.{◌≡◌, map};
 ghost use Rattle.ioa_tokens.specs.declared.mark.Mark.TheVariants as mark;
 ghost use Rattle.ioa_source.specs.SortView.{sort_of};
-ghost use Rattle.ioa_terms.specs.View.{statement_of, firing_of};
+ghost use Rattle.ioa_terms.specs.View.{statement_of};
 ghost use Rattle.ioa_source.specs.TextView.{declared_of, parameter_of, entry_of, variable_of, transition_of};
-ghost use Rattle.ioa_source.specs.TextView.{automaton_of, form_of, type_of, declaration_of};
+ghost use Rattle.ioa_source.specs.TextView.{schedule_of, automaton_of, form_of, type_of, declaration_of};
 ghost use Rattle.ioa_source.specs.PlainText as plain;
 ghost use Rattle.ioa_front.specs.Pieces.{Puts};
 ghost use Rattle.ioa_front.specs.Spelling as spec;
 
 use crate::piece::Pieces;
-use crate::statements::{kind_mark, put_call, put_firings, put_statements};
+use crate::statements::{kind_mark, put_block, put_call, put_statements};
 use crate::terms::{put_optional, put_term};
 use ioa_source::{
-    Automaton, Declaration, Declared, Entry, Parameter, Sort, Transition, TypeDeclaration,
-    TypeForm, Variable,
+    Automaton, Declaration, Declared, Entry, Parameter, Schedule, Sort, Transition,
+    TypeDeclaration, TypeForm, Variable,
 };
-use ioa_terms::{Firing, Statement};
+use ioa_terms::Statement;
 use ioa_tokens::Mark;
 use ioa_values::Word;
 use std::alloc::AllocError;
@@ -177,7 +177,7 @@ fn put_signature<'a>(out: &mut Pieces<'a>, entries: &'a [Entry<(), ()>]) -> Resu
     }
 }
 
-/// Puts a state variable.
+/// Puts a variable.
 fn put_variable<'a>(out: &mut Pieces<'a>, variable: &'a Variable<(), ()>) -> Result<(), AllocError>
     ensures { Puts (spec.variable_spelling (variable_of variable.now)) result out.old out.new }
 {
@@ -185,7 +185,7 @@ fn put_variable<'a>(out: &mut Pieces<'a>, variable: &'a Variable<(), ()>) -> Res
     put_optional(out, Mark::Assign, &variable.initial)
 }
 
-/// Puts state variables with commas between.
+/// Puts variables with commas between.
 fn put_variables<'a>(
     out: &mut Pieces<'a>,
     variables: &'a [Variable<(), ()>],
@@ -202,7 +202,7 @@ fn put_variables<'a>(
     Ok(())
 }
 
-/// Puts the state variables of an automaton, if it has one.
+/// Puts the variables of a state or of a schedule block, if there is one.
 fn put_states<'a>(out: &mut Pieces<'a>, variables: &'a [Variable<(), ()>]) -> Result<(), AllocError>
     ensures { Puts (spec.states_spelling (map variable_of variables.now)) result out.old out.new }
 {
@@ -274,19 +274,24 @@ fn put_transitions<'a>(
     }
 }
 
-/// Puts a schedule block, if it has a firing.
-fn put_schedule<'a>(out: &mut Pieces<'a>, schedule: &'a [Firing<(), ()>]) -> Result<(), AllocError>
-    ensures { Puts (spec.schedule_spelling (map firing_of schedule.now)) result out.old out.new }
+/// Whether a schedule block has neither a variable nor a statement.
+#[tactic(auto, using(crate::proofs::Schedules::none_of_mapped))]
+fn is_empty_schedule(schedule: &Schedule<(), ()>) -> bool
+    ensures { result ≡ spec.is_empty_schedule (schedule_of schedule.now) }
 {
-    match schedule {
-        [] => Ok(()),
-        [_, ..] => {
-            out.put_mark(Mark::Schedule)?;
-            out.put_mark(Mark::Do)?;
-            put_firings(out, schedule)?;
-            out.put_mark(Mark::Od)
-        }
+    schedule.variables.is_empty() && schedule.statements.is_empty()
+}
+
+/// Puts a schedule block, and nothing for the empty block.
+fn put_schedule<'a>(out: &mut Pieces<'a>, schedule: &'a Schedule<(), ()>) -> Result<(), AllocError>
+    ensures { Puts (spec.schedule_spelling (schedule_of schedule.now)) result out.old out.new }
+{
+    if is_empty_schedule(schedule) {
+        return Ok(());
     }
+    out.put_mark(Mark::Schedule)?;
+    put_states(out, &schedule.variables)?;
+    put_block(out, &schedule.statements)
 }
 
 /// Puts an automaton.

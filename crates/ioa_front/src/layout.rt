@@ -13,23 +13,27 @@ use ioa_tokens::{Gap, Mark};
 /// How far the parts of a declaration and the nodes, channels and scripts of the system are indented.
 const PART: usize = 2;
 
-/// How far entries, variables, transitions and a block are indented.
+/// How far entries, variables, transitions and the parts of a schedule are indented.
 const ITEM: usize = 4;
 
-/// How far a guard, an effect and the statements of a block are indented.
+/// How far a guard and an effect are indented.
 const INNER: usize = 6;
 
 /// How far the statements of an effect are indented.
 const DEEPEST: usize = 8;
 
-/// How much further the statements of an arm are indented.
+/// How much further the statements of an arm and those behind a `do` are indented.
 const STEP: usize = 2;
 
 /// What decides the gap before the next piece of a text.
 #[derive(Drop)]
 pub(crate) struct Layout {
-    /// Whether state variables are declared.
+    /// Whether state variables are declared, each in a line of its own.
     in_states: bool,
+    /// Whether a schedule is written. Its variables are in one line.
+    in_schedule: bool,
+    /// Whether the test of a `while` is written.
+    in_test: bool,
     /// How many brackets are open.
     depth: usize,
     /// How far statements are indented.
@@ -43,6 +47,8 @@ impl Layout {
     pub(crate) fn new() -> Self {
         Layout {
             in_states: false,
+            in_schedule: false,
+            in_test: false,
             depth: 0,
             indent: 0,
             behind_prefix: false,
@@ -98,31 +104,44 @@ impl Layout {
             Mark::CloseRound | Mark::CloseSquare | Mark::CloseBrace => {
                 self.depth = self.depth.saturating_sub(1);
             }
-            Mark::States => self.in_states = true,
-            Mark::Transitions | Mark::Schedule | Mark::Automaton | Mark::Type | Mark::System => {
+            Mark::States => self.in_states = !self.in_schedule,
+            Mark::Transitions => self.in_states = false,
+            Mark::Schedule => {
                 self.in_states = false;
+                self.in_schedule = true;
+                self.indent = ITEM;
+            }
+            Mark::Automaton | Mark::Type | Mark::System => {
+                self.in_states = false;
+                self.in_schedule = false;
             }
             Mark::Eff => self.indent = DEEPEST,
-            Mark::Do => self.indent = INNER,
+            Mark::While => self.in_test = true,
+            Mark::Do => {
+                self.in_test = false;
+                self.indent = self.indent.saturating_add(STEP);
+            }
             Mark::Then => self.indent = self.indent.saturating_add(STEP),
-            Mark::ElseIf | Mark::Fi => self.indent = self.indent.saturating_sub(STEP),
+            Mark::ElseIf | Mark::Fi | Mark::Od => self.indent = self.indent.saturating_sub(STEP),
             _ => {}
         }
     }
 
-    /// How far the second of two pieces is indented, if it begins a line.
+    /// How far the second of two pieces is indented, if it begins a line. The piece itself counts first:
+    /// an `od` right behind a `do` is under it.
     fn line(&self, before: Piece<'_>, after: Piece<'_>) -> Option<usize> {
-        match self.line_behind(before) {
+        match self.line_before(before, after) {
             Some(indent) => Some(indent),
-            None => self.line_before(before, after),
+            None => self.line_behind(before),
         }
     }
 
     /// How far the next piece is indented, if a line ends after this one.
     fn line_behind(&self, piece: Piece<'_>) -> Option<usize> {
         match piece {
-            Piece::Mark(Mark::States) => Some(ITEM),
-            Piece::Mark(Mark::Comma) if self.in_states && self.depth == 0 => Some(ITEM),
+            Piece::Mark(Mark::States | Mark::Comma) if self.in_states && self.depth == 0 => {
+                Some(ITEM)
+            }
             Piece::Mark(Mark::Eff | Mark::Do | Mark::Semicolon | Mark::Then | Mark::Else) => {
                 Some(self.indent)
             }
@@ -134,6 +153,7 @@ impl Layout {
     fn line_before(&self, before: Piece<'_>, after: Piece<'_>) -> Option<usize> {
         match after {
             Piece::Mark(Mark::Type | Mark::Automaton | Mark::System) => Some(0),
+            Piece::Mark(Mark::States) if self.in_schedule => Some(ITEM),
             Piece::Mark(Mark::Signature | Mark::States | Mark::Transitions | Mark::Schedule) => {
                 Some(PART)
             }
@@ -141,9 +161,9 @@ impl Layout {
             Piece::Mark(Mark::Input | Mark::Output | Mark::Internal) if !is_fire(before) => {
                 Some(ITEM)
             }
-            Piece::Mark(Mark::Do | Mark::Od) => Some(ITEM),
             Piece::Mark(Mark::Pre | Mark::Eff) => Some(INNER),
-            Piece::Mark(Mark::ElseIf | Mark::Else | Mark::Fi) => {
+            Piece::Mark(Mark::Do) if !self.in_test => Some(self.indent),
+            Piece::Mark(Mark::ElseIf | Mark::Else | Mark::Fi | Mark::Od) => {
                 Some(self.indent.saturating_sub(STEP))
             }
             _ => None,

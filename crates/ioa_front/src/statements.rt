@@ -1,7 +1,7 @@
-//! The pieces of statements and firings.
+//! The pieces of statements and blocks.
 
 ghost use Rattle.std.specs.Prelude.{◌≡◌, map};
-ghost use Rattle.ioa_terms.specs.PlainTerm.{statements_of, arms_of, assign};
+ghost use Rattle.ioa_terms.specs.PlainTerm.{arms_of, assign, fire};
 ghost use Rattle.ioa_terms.specs.View.{term_of, target_of, statement_of, arm_of, firing_of};
 ghost use Rattle.ioa_front.specs.Pieces.{Puts};
 ghost use Rattle.ioa_front.specs.Spelling as spec;
@@ -66,6 +66,15 @@ fn put_target<'a>(out: &mut Pieces<'a>, target: &'a Target<(), ()>) -> Result<()
     }
 }
 
+/// Puts the firing of an action.
+fn put_firing<'a>(out: &mut Pieces<'a>, firing: &'a Firing<(), ()>) -> Result<(), AllocError>
+    ensures { Puts (spec.statement_spelling (fire (firing_of firing.now))) result out.old out.new }
+{
+    out.put_mark(Mark::Fire)?;
+    put_kind(out, firing.kind)?;
+    put_call(out, &firing.action, &firing.arguments)
+}
+
 /// Puts an assignment.
 fn put_assignment<'a>(
     out: &mut Pieces<'a>,
@@ -95,6 +104,12 @@ fn put_statement<'a>(
             put_else(out, rest)?;
             out.put_mark(Mark::Fi)
         }
+        Statement::While(test, body) => {
+            out.put_mark(Mark::While)?;
+            put_term(out, test)?;
+            put_block(out, body)
+        }
+        Statement::Fire(firing) => put_firing(out, firing),
     }
 }
 
@@ -128,44 +143,31 @@ fn put_else<'a>(out: &mut Pieces<'a>, rest: &'a Vec<Statement<(), ()>>) -> Resul
     }
 }
 
+/// Puts statements with `do` before and `od` behind them.
+#[cycle(statements)]
+pub(crate) fn put_block<'a>(
+    out: &mut Pieces<'a>,
+    statements: &'a Vec<Statement<(), ()>>,
+) -> Result<(), AllocError>
+    ensures { Puts (spec.block_spelling (map statement_of statements.now.items)) result out.old out.new }
+{
+    out.put_mark(Mark::Do)?;
+    put_statements(out, statements)?;
+    out.put_mark(Mark::Od)
+}
+
 /// Puts statements with semicolons between.
 #[cycle(statements)]
 pub(crate) fn put_statements<'a>(
     out: &mut Pieces<'a>,
     statements: &'a Vec<Statement<(), ()>>,
 ) -> Result<(), AllocError>
-    ensures { Puts (spec.statements_spelling (statements_of (map statement_of statements.now.items)))
-        result out.old out.new }
+    ensures { Puts (spec.list_spelling (map statement_of statements.now.items)) result out.old out.new }
 {
     let mut first = true;
     for statement in statements {
         out.put_between(Mark::Semicolon, first)?;
         put_statement(out, statement)?;
-        first = false;
-    }
-    Ok(())
-}
-
-/// Puts the firing of an action.
-fn put_firing<'a>(out: &mut Pieces<'a>, firing: &'a Firing<(), ()>) -> Result<(), AllocError>
-    ensures { Puts (spec.firing_spelling (firing_of firing.now)) result out.old out.new }
-{
-    out.put_mark(Mark::Fire)?;
-    put_kind(out, firing.kind)?;
-    put_call(out, &firing.action, &firing.arguments)
-}
-
-/// Puts firings with semicolons between.
-pub(crate) fn put_firings<'a>(
-    out: &mut Pieces<'a>,
-    firings: &'a [Firing<(), ()>],
-) -> Result<(), AllocError>
-    ensures { Puts (spec.firings_spelling (map firing_of firings.now)) result out.old out.new }
-{
-    let mut first = true;
-    for firing in firings {
-        out.put_between(Mark::Semicolon, first)?;
-        put_firing(out, firing)?;
         first = false;
     }
     Ok(())

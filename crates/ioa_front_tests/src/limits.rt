@@ -123,6 +123,45 @@ fn nested_statements(rt: HostRuntime) -> Result<(), Fail> {
 }
 
 #[test]
+fn nested_loops(rt: HostRuntime) -> Result<(), Fail> {
+    let alloc = rt.alloc();
+    let block = "automaton A schedule do ";
+    let loops = ("while x do ", "fire a", " od");
+    assert_eq!(rt;
+        nested_answer(alloc, block, loops, 63, " od system")?,
+        (0, 0)
+    );
+    assert_eq!(rt;
+        nested_answer(alloc, block, loops, 64, " od system")?,
+        (14, block.len() + 704)
+    );
+    Ok(())
+}
+
+#[test]
+fn high_parts_of_blocks(rt: HostRuntime) -> Result<(), Fail> {
+    let alloc = rt.alloc();
+    let block = "automaton A schedule do ";
+    let test = ("", "while 1", "+ 1");
+    let body = " do fire a od od system";
+    assert_eq!(rt; nested_answer(alloc, block, test, 62, body)?, (0, 0));
+    assert_eq!(rt;
+        nested_answer(alloc, block, test, 63, body)?,
+        (14, block.len())
+    );
+    let argument = ("", "fire a(1", "+ 1");
+    assert_eq!(rt;
+        nested_answer(alloc, block, argument, 63, ") od system")?,
+        (0, 0)
+    );
+    assert_eq!(rt;
+        nested_answer(alloc, block, argument, 64, ") od system")?.0,
+        14
+    );
+    Ok(())
+}
+
+#[test]
 fn high_terms(rt: HostRuntime) -> Result<(), Fail> {
     let alloc = rt.alloc();
     let effect = "automaton A transitions output a eff ";

@@ -38,7 +38,7 @@ system
 ";
 
 /// Texts, and what they are printed as.
-static TEXTS: [(&str, &str); 13] = [
+static TEXTS: [(&str, &str); 17] = [
     ("system", "system\n"),
     ("% nothing\n  system % here", "system\n"),
     (
@@ -126,6 +126,68 @@ system
       fire internal c(x + 1, {})
     od
 automaton B
+system
+",
+    ),
+    (
+        "automaton A schedule states c: Int := 0, b: Bool do od system",
+        "automaton A
+  schedule
+    states c: Int := 0, b: Bool
+    do
+    od
+system
+",
+    ),
+    (
+        "automaton A schedule states c: Int := 0 do while c < 2 do fire output send(n, i, j); c := c + 1 od od system",
+        "automaton A
+  schedule
+    states c: Int := 0
+    do
+      while c < 2 do
+        fire output send(n, i, j);
+        c := c + 1
+      od
+    od
+system
+",
+    ),
+    (
+        "automaton A schedule do while x do if inbox(j) ~= {} then fire a else while y do fire b od fi od; fire c od system",
+        "automaton A
+  schedule
+    do
+      while x do
+        if inbox(j) ~= {} then
+          fire a
+        else
+          while y do
+            fire b
+          od
+        fi
+      od;
+      fire c
+    od
+system
+",
+    ),
+    (
+        "automaton A schedule do c := 1; m[k] := 2; while true do c := 3 od od automaton B schedule do fire a od system",
+        "automaton A
+  schedule
+    do
+      c := 1;
+      m[k] := 2;
+      while true do
+        c := 3
+      od
+    od
+automaton B
+  schedule
+    do
+      fire a
+    od
 system
 ",
     ),

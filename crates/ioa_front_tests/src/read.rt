@@ -6,7 +6,7 @@ use std::alloc::{AllocError, Global};
 use std::test::Fail;
 
 /// A text, and its tree in short.
-static READ: [(&str, &str); 28] = [
+static READ: [(&str, &str); 34] = [
     ("system", ""),
     ("  system % the end", ""),
     (
@@ -104,6 +104,30 @@ static READ: [(&str, &str); 28] = [
         "automaton A()\ndo fire a(); fire Output b(); fire Input c(1, x); fire Internal d()\n",
     ),
     (
+        "automaton A schedule states c: Int := 0, d: Set[T] do od system",
+        "automaton A()\nown c: Int := 0\nown d: Set[T]\ndo \n",
+    ),
+    (
+        "automaton A states n: Int schedule states c: Nat := 1 do c := n; m[k] := 2; r.f := 3; od system",
+        "automaton A()\nstate n: Int\nown c: Nat := 1\ndo c := n; m[k] := 2; r.f := 3\n",
+    ),
+    (
+        "automaton A schedule do while c < 2 do fire output send(n, i, j); c := c + 1 od od system",
+        "automaton A()\ndo while (c Less 2) do fire Output send(n, i, j); c := (c Plus 1) od\n",
+    ),
+    (
+        "automaton A schedule do while x do while y do fire a; od; od; fire b; od system",
+        "automaton A()\ndo while x do while y do fire a() od od; fire b()\n",
+    ),
+    (
+        "automaton A schedule do if x then fire a elseif y then while z do c := 1 od else fire b fi od system",
+        "automaton A()\ndo if x then fire a() elseif y then while z do c := 1 od else fire b() fi\n",
+    ),
+    (
+        "automaton A schedule do while inbox(j) ~= {} do fire input receive(head(inbox(j)), j, i) od od system",
+        "automaton A()\ndo while (inbox(j) NotEqual Braces()) do fire Input receive(head(inbox(j)), j, i) od\n",
+    ),
+    (
         "automaton A signature input b states x: T transitions input b schedule do fire b od system node 0: A",
         "automaton A()\nInput b()\nstate x: T\non Input b() eff \ndo fire b()\nnode 0 A()\n",
     ),
@@ -194,6 +218,88 @@ node 0 A()
 script 0 go(4), go(5), go(6)
 ";
 
+/// A sender with a loop, and a receiver that looks at its inbox.
+const RELAY: &str = "automaton Src(i, j: Nat)
+  signature
+    output send(m: Int, const i, const j)
+  states
+    n: Int := 7
+  transitions
+    output send(m, i, j)
+      pre m = n
+      eff n := n + 1
+  schedule
+    states c: Int := 0
+    do
+      while c < 2 do
+        fire output send(n, i, j);
+        c := c + 1
+      od
+    od
+automaton Dst(i, j: Nat)
+  signature
+    input receive(m: Int, const j, const i)
+  states
+    got: Seq[Int] := {}
+  transitions
+    input receive(m, j, i)
+      eff got := got |- m
+  schedule
+    do
+      while len(got) < 2 do
+        if inbox(j) ~= {} then
+          fire input receive(head(inbox(j)), j, i)
+        fi
+      od
+    od
+system
+  node 0: Src(0, 1)
+  node 1: Dst(1, 0)
+  channel 0 -> 1
+";
+
+/// These in short.
+const SHORT_RELAY: &str = "automaton Src(i: Nat, j: Nat)
+Output send(m: Int, const i, const j)
+state n: Int := 7
+on Output send(m, i, j) pre (m Equal n) eff n := (n Plus 1)
+own c: Int := 0
+do while (c Less 2) do fire Output send(n, i, j); c := (c Plus 1) od
+automaton Dst(i: Nat, j: Nat)
+Input receive(m: Int, const j, const i)
+state got: Seq[Int] := Braces()
+on Input receive(m, j, i) eff got := (got Append m)
+do while (len(got) Less 2) do \
+if (inbox(j) NotEqual Braces()) then fire Input receive(head(inbox(j)), j, i) else  fi od
+node 0 Src(0, 1)
+node 1 Dst(1, 0)
+channel 0 1
+";
+
+/// Two nodes that count in a loop.
+const TICK: &str = "automaton Tick(c: Nat)
+  signature internal tick
+  states n: Int := 0
+  transitions internal tick eff n := n + 1
+  schedule
+    states k: Nat := 0
+    do while k < c do fire internal tick; k := k + 1 od od
+system
+  node 0: Tick(1)
+  node 1: Tick(5)
+";
+
+/// These in short.
+const SHORT_TICK: &str = "automaton Tick(c: Nat)
+Internal tick()
+state n: Int := 0
+on Internal tick() eff n := (n Plus 1)
+own k: Nat := 0
+do while (k Less c) do fire Internal tick(); k := (k Plus 1) od
+node 0 Tick(1)
+node 1 Tick(5)
+";
+
 /// A text's tree in short, or its refusal.
 fn answer(alloc: Global, text: &str) -> Result<String, AllocError> {
     match parse(alloc, text) {
@@ -218,6 +324,8 @@ fn whole_texts(rt: HostRuntime) -> Result<(), Fail> {
     assert_eq!(rt; answer(alloc, LIST)?.as_str(), SHORT_LIST);
     assert_eq!(rt; answer(alloc, PING)?.as_str(), SHORT_PING);
     assert_eq!(rt; answer(alloc, SCRIPTED)?.as_str(), SHORT_SCRIPTED);
+    assert_eq!(rt; answer(alloc, RELAY)?.as_str(), SHORT_RELAY);
+    assert_eq!(rt; answer(alloc, TICK)?.as_str(), SHORT_TICK);
     Ok(())
 }
 

@@ -1,8 +1,8 @@
 //! Trees of texts in a short form, for the tests.
 
 use ioa_source::{
-    Automaton, Call, Declaration, Declared, Entry, Parameter, Placement, Sort, Text, Transition,
-    TypeForm, Variable,
+    Automaton, Call, Declaration, Declared, Entry, Parameter, Placement, Schedule, Sort, Text,
+    Transition, TypeForm, Variable,
 };
 use ioa_terms::{Arm, Firing, Kind, Name, Statement, Target, Term, Tree, Word};
 use std::alloc::{AllocError, Global};
@@ -151,13 +151,17 @@ fn entries(alloc: Global, entries: &Vec<Entry<(), ()>>) -> Result<String, AllocE
     Ok(list)
 }
 
-/// The state variables.
-fn variables(alloc: Global, variables: &Vec<Variable<(), ()>>) -> Result<String, AllocError> {
+/// Variables, each after a word.
+fn variables(
+    alloc: Global,
+    word: &str,
+    variables: &Vec<Variable<(), ()>>,
+) -> Result<String, AllocError> {
     let mut list = String::new(alloc);
     for variable in variables {
         let name = declared_name(alloc, &variable.declared)?;
         let initial = optional(alloc, " := ", &variable.initial)?;
-        let piece = format!(in alloc; "\nstate {name}{initial}")?;
+        let piece = format!(in alloc; "\n{word} {name}{initial}")?;
         list.push_str(piece.as_str())?;
     }
     Ok(list)
@@ -189,6 +193,12 @@ fn statement(alloc: Global, tree: &Statement<(), ()>) -> Result<String, AllocErr
             let rest = statements(alloc, rest)?;
             format!(in alloc; "if {tried} else {rest} fi")
         }
+        Statement::While(test, body) => {
+            let test = term(alloc, test)?;
+            let body = statements(alloc, body)?;
+            format!(in alloc; "while {test} do {body} od")
+        }
+        Statement::Fire(fired) => firing(alloc, fired),
     }
 }
 
@@ -238,14 +248,11 @@ fn firing(alloc: Global, tree: &Firing<(), ()>) -> Result<String, AllocError> {
     format!(in alloc; "fire {kind}{action}({arguments})")
 }
 
-/// Firings with semicolons between.
-fn firings(alloc: Global, trees: &Vec<Firing<(), ()>>) -> Result<String, AllocError> {
-    let mut list = String::new(alloc);
-    for position in 0..trees.len() {
-        let piece = firing(alloc, &trees[position])?;
-        push_listed(&mut list, position, "; ", piece.as_str())?;
-    }
-    Ok(list)
+/// A schedule block: its variables and its statements.
+fn schedule(alloc: Global, tree: &Schedule<(), ()>) -> Result<String, AllocError> {
+    let variables = variables(alloc, "own", &tree.variables)?;
+    let statements = statements(alloc, &tree.statements)?;
+    format!(in alloc; "{variables}\ndo {statements}\n")
 }
 
 /// The transitions.
@@ -267,12 +274,10 @@ fn automaton(alloc: Global, tree: &Automaton<(), ()>) -> Result<String, AllocErr
     let name = &tree.name;
     let parameters = all_declared(alloc, &tree.parameters)?;
     let signature = entries(alloc, &tree.signature)?;
-    let states = variables(alloc, &tree.states)?;
+    let states = variables(alloc, "state", &tree.states)?;
     let transitions = transitions(alloc, &tree.transitions)?;
-    let schedule = firings(alloc, &tree.schedule)?;
-    format!(in alloc;
-        "automaton {name}({parameters}){signature}{states}{transitions}\ndo {schedule}\n"
-    )
+    let schedule = schedule(alloc, &tree.schedule)?;
+    format!(in alloc; "automaton {name}({parameters}){signature}{states}{transitions}{schedule}")
 }
 
 /// A declaration.

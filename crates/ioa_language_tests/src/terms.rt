@@ -402,7 +402,7 @@ fn is_resolved_target(target: &Target<usize, Shape>, variables: &[Word], names: 
     }
 }
 
-/// Whether each name of a statement has its slot.
+/// Whether each name of a statement of an effect has its slot. No effect has a loop or a firing.
 #[cycle(resolving_statements)]
 fn is_resolved_statement(
     statement: &Statement<usize, Shape>,
@@ -420,6 +420,8 @@ fn is_resolved_statement(
             are_resolved_arms(arms, variables, names)
                 && are_resolved_statements(rest, variables, names)
         }
+        Statement::While(_, _) => false,
+        Statement::Fire(_) => false,
     }
 }
 

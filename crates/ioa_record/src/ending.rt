@@ -16,6 +16,8 @@ pub enum NodeFault {
     NotMine,
     /// `NoChannel` (42): the action's channel is not declared.
     NoChannel,
+    /// `Differs` (51): no configuration is one that may be the node's.
+    Differs,
     /// `Full` (52): the schedule has as many actions as the step limit allows.
     Full,
 }
@@ -33,6 +35,7 @@ impl fmt::Display for NodeFault {
             NodeFault::Memory => f.write_str("Memory"),
             NodeFault::NotMine => f.write_str("NotMine"),
             NodeFault::NoChannel => f.write_str("NoChannel"),
+            NodeFault::Differs => f.write_str("Differs"),
             NodeFault::Full => f.write_str("Full"),
         }
     }

@@ -17,12 +17,14 @@ pub enum Refusal {
     Twice,
     /// 22: a term has another sort than its operator, function or place takes, or there are more or fewer parts.
     Sorts,
-    /// 23: a state variable has no initial value.
+    /// 23: a state variable or a variable of a schedule block has no initial value.
     NoInitial,
     /// 24: an input has a guard.
     InputPre,
     /// 25: an entry of a signature has no transition.
     NoTransition,
+    /// 26: a schedule block assigns a state variable.
+    ScheduleAssignsState,
     /// 27: a channel's sender sends messages of another sort than its receiver takes.
     ChannelSorts,
     /// 28: a channel's receiver has no `receive` from its sender.
@@ -56,6 +58,7 @@ impl Refusal {
             Refusal::NoInitial => 23,
             Refusal::InputPre => 24,
             Refusal::NoTransition => 25,
+            Refusal::ScheduleAssignsState => 26,
             Refusal::ChannelSorts => 27,
             Refusal::InputMissing => 28,
             Refusal::SelfChannel => 29,
@@ -79,6 +82,7 @@ impl Refusal {
             Refusal::NoInitial => "NoInitial",
             Refusal::InputPre => "InputPre",
             Refusal::NoTransition => "NoTransition",
+            Refusal::ScheduleAssignsState => "ScheduleAssignsState",
             Refusal::ChannelSorts => "ChannelSorts",
             Refusal::InputMissing => "InputMissing",
             Refusal::SelfChannel => "SelfChannel",

@@ -1,4 +1,5 @@
 -- the lemmas of this crate
+pub mod Lookups
 pub mod Calls
 pub mod Chains
 pub mod Types

@@ -44,7 +44,7 @@ pub calm_end : {A B : Type 0} (P : A → Type 0) (f : A → B) (r : Result A Ref
 calm_end P f (Ok x) h = tt
 calm_end P f (Err e) h = h
 
-sorts_is_calm : Sorts ≡ EmptyOfWhat → ⊥
+pub sorts_is_calm : Sorts ≡ EmptyOfWhat → ⊥
 sorts_is_calm e = absurd (cc)
 
 pub unknown_is_calm : Unknown ≡ EmptyOfWhat → ⊥

@@ -3,5 +3,9 @@ pub mod Sorting
 pub mod SortingView
 pub mod Determined
 pub mod SortedTerms
+pub mod Indexes
+pub mod StatementSites
+pub mod Firings
+pub mod SiteView
 pub mod Statements
 pub mod SortedStatements

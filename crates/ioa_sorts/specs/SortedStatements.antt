@@ -1,17 +1,21 @@
 -- A statement of a text with slots and shapes (profile): what the rules of sorts find, in words that know nothing of
 -- the rules.
-use Rattle.std.specs.Prelude.{◌≡◌, ℕ, Some, map}
+use Rattle.std.specs.Prelude.{◌≡◌, ℕ, true, List, Option, Some, None, map}
+use Rattle.std.specs.List.{AllByRecursion, AllZip, Contains}
 use Rattle.std.specs.Option.{option_map}
 use Rattle.ioa_operators.specs.Shapes.{PlainShape, truths, maps}
 use Rattle.ioa_operators.specs.declared.shape.Shape.{Shape}
 use Rattle.ioa_terms.specs.declared.name.Name.TheVariants.{Word}
-use Rattle.ioa_terms.specs.PlainTerm.{PlainTarget, variable, at_key, at_field, PlainStatement, assign, branch}
+use Rattle.ioa_terms.specs.declared.tree.Kind.{Kind}
+use Rattle.ioa_terms.specs.PlainTerm.{PlainTarget, variable, at_key, at_field, PlainStatement, assign, branch, loop, fire}
 use Rattle.ioa_terms.specs.PlainTerm.{PlainStatements, no_statements, statement, PlainArms, no_arms, arm}
 use Rattle.ioa_terms.specs.Resolved.{IsResolvedStatement}
 use Rattle.ioa_terms.specs.Sorted.{NameShapes, HasShape, shape_named, shape_in_terms, field_shape}
 use Rattle.ioa_source.specs.Erasure.{erase_statement}
-use Rattle.ioa_source.specs.Sides.{SourceTarget, SourceStatement, SourceStatements, SourceArms}
+use Rattle.ioa_source.specs.Sides.{SourceTarget, SourceStatement, SourceStatements, SourceArms, CheckedFiring}
+use Rattle.ioa_system.specs.Parts.{PlainRule}
 use Rattle.ioa_sorts.specs.Determined.{IsDetermined}
+use Rattle.ioa_sorts.specs.StatementSites.{PlainStatementSite}
 
 -- a target holds values of a shape, in which naturals count as integers: it is a variable of that shape, the values
 -- of a map, or a field, and beside it is the variable's declared shape
@@ -23,20 +27,36 @@ HoldsShape variables names (at_key x at d k) s =
 HoldsShape variables names (at_field x at d f) s =
     (shape_named (Word x) variables ≡ Some d) × (option_map shape_in_terms (field_shape f d) ≡ Some s)
 
+-- a firing's kind, if it is written, is that of an entry
+abbrev pub NamesKind : Option Kind → Kind → Type 0
+NamesKind None k = Unit {0}
+NamesKind (Some j) k = j ≡ k
+
+-- a firing is of a rule of its name and kind, and its arguments have the shapes of the rule's, in which naturals count
+-- as integers
+pub record IsFired (names : NameShapes) (rules : List PlainRule) (f : CheckedFiring) : Type 0 where
+  pub rule : PlainRule
+  pub present : Contains rules rule
+  pub same_name : rule.entry.name ≡ f.action
+  pub of_kind : NamesKind f.kind rule.entry.kind
+  pub arguments : AllZip (λ s t. HasShape names t (shape_in_terms s)) rule.shapes f.arguments
+
 abbrev mutual
-  -- what a statement assigns has the shape of the target, and what it tests is a truth value
-  pub IsSorted : NameShapes → NameShapes → PlainStatement ℕ Shape → Type 0
-  IsSorted variables names (assign p t) = (s : PlainShape) × HoldsShape variables names p s × HasShape names t s
-  IsSorted variables names (branch arms rest) = AreArmsSorted variables names arms × AreSorted variables names rest
+  -- what a statement assigns has the shape of the target, what it tests is a truth value, and what it fires is an action
+  -- with its arguments
+  pub IsSorted : PlainStatementSite → PlainStatement ℕ Shape → Type 0
+  IsSorted s (assign p t) = (u : PlainShape) × HoldsShape s.variables s.names p u × HasShape s.names t u
+  IsSorted s (branch arms rest) = AreArmsSorted s arms × AreSorted s rest
+  IsSorted s (loop t body) = (s.in_block ≡ true) × HasShape s.names t truths × AreSorted s body
+  IsSorted s (fire f) = IsFired s.names s.rules f
 
-  pub AreArmsSorted : NameShapes → NameShapes → PlainArms ℕ Shape → Type 0
-  AreArmsSorted variables names no_arms = Unit {0}
-  AreArmsSorted variables names (arm t body more) =
-      HasShape names t truths × AreSorted variables names body × AreArmsSorted variables names more
+  pub AreArmsSorted : PlainStatementSite → PlainArms ℕ Shape → Type 0
+  AreArmsSorted s no_arms = Unit {0}
+  AreArmsSorted s (arm t body more) = HasShape s.names t truths × AreSorted s body × AreArmsSorted s more
 
-  pub AreSorted : NameShapes → NameShapes → PlainStatements ℕ Shape → Type 0
-  AreSorted variables names no_statements = Unit {0}
-  AreSorted variables names (statement s more) = IsSorted variables names s × AreSorted variables names more
+  pub AreSorted : PlainStatementSite → PlainStatements ℕ Shape → Type 0
+  AreSorted s no_statements = Unit {0}
+  AreSorted s (statement u more) = IsSorted s u × AreSorted s more
 
 -- the sort of each display in a target is determined
 abbrev pub IsDeterminedTarget : SourceTarget → Type 0
@@ -49,6 +69,8 @@ abbrev mutual
   pub IsDeterminedStatement : SourceStatement → Type 0
   IsDeterminedStatement (assign p t) = IsDeterminedTarget p × IsDetermined t
   IsDeterminedStatement (branch arms rest) = AreArmsDetermined arms × AreStatementsDetermined rest
+  IsDeterminedStatement (loop t body) = IsDetermined t × AreStatementsDetermined body
+  IsDeterminedStatement (fire f) = AllByRecursion IsDetermined f.arguments
 
   pub AreArmsDetermined : SourceArms → Type 0
   AreArmsDetermined no_arms = Unit {0}
@@ -60,9 +82,9 @@ abbrev mutual
 
 -- the statement is the text's, without slots and shapes; each name has its slot, and each assigned variable is one of
 -- the variables; the sorts are right
-pub record IsStatementOf (variables names : NameShapes) (source : SourceStatement)
-    (found : PlainStatement ℕ Shape) : Type 0 where
+pub record IsStatementOf (s : PlainStatementSite) (source : SourceStatement) (found : PlainStatement ℕ Shape)
+    : Type 0 where
   pub same : erase_statement found ≡ source
-  pub resolved : IsResolvedStatement found (map (λ n. n.0) variables) (map (λ n. n.0) names)
-  pub sorted : IsSorted variables names found
+  pub resolved : IsResolvedStatement found (map (λ n. n.0) s.variables) (map (λ n. n.0) s.names)
+  pub sorted : IsSorted s found
   pub determined : IsDeterminedStatement source

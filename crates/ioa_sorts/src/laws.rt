@@ -1,6 +1,7 @@
 //! Laws of sorts: what functions ensure that do nothing.
 
-ghost use Rattle.std.specs.Prelude.{◌≡◌, false, Some, Ok, Err};
+ghost use Rattle.std.specs.Prelude.{◌≡◌, false, Some, Ok, Err, map};
+ghost use Rattle.std.specs.List.{IsDistinct};
 ghost use Rattle.ioa_operators.specs.Shapes.{PlainShape};
 ghost use Rattle.ioa_terms.specs.Sorted.{NameShapes};
 ghost use Rattle.ioa_source.specs.Sides.{SourceTerm, SourceStatement};
@@ -11,6 +12,8 @@ ghost use Rattle.ioa_sort_rules.specs.DeclaredTypes.{TupleTypes, IsDeclared, Are
 ghost use Rattle.ioa_sorts.specs.SortedTerms.{IsTermOf};
 ghost use Rattle.ioa_sorts.specs.SortedStatements.{IsDeterminedStatement, IsStatementOf};
 ghost use Rattle.ioa_sorts.specs.Statements.{SortedStatement, statement_sorting};
+ghost use Rattle.ioa_sorts.specs.StatementSites.{IsDeclaredSite, PlainStatementSite};
+ghost use Rattle.ioa_terms.specs.Bindings.{same_word};
 
 /// The rules of sorts, against the meaning of sorts. A term that they find is the text's, with the slot of each name,
 /// has the shape, and has only determined displays. There is no other such term: they find each that there is. They
@@ -40,15 +43,14 @@ pub fn sorts_law()
 {}
 
 /// The same of statements, where some names in view are variables, which may be assigned: a statement that the rules
-/// find is the text's with slots and shapes, what it assigns has the sort of its target, and what it tests is a truth
-/// value. They find each such statement, and refuse one by `EmptyOfWhat` (32) only if one of its displays is not
-/// determined.
+/// find is the text's with slots and shapes, what it assigns has the sort of its target, what it tests is a truth value,
+/// and what it fires is an action with its arguments. They find each such statement, if the names of the rules differ,
+/// and refuse one by `EmptyOfWhat` (32) only if one of its displays is not determined.
 pub fn statements_law()
-    ensures sound { (types : TupleTypes) (variables names : NameShapes) →
-        AreAllDeclared types variables → AreAllDeclared types names → (u : SourceStatement) (s : SortedStatement) →
-        statement_sorting variables names u ≡ Ok s → IsStatementOf variables names u s }
-    ensures found { (variables names : NameShapes) (u : SourceStatement) (s : SortedStatement) →
-        IsStatementOf variables names u s → statement_sorting variables names u ≡ Ok s }
-    ensures told { (variables names : NameShapes) (u : SourceStatement) → IsDeterminedStatement u →
-        statement_sorting variables names u ≡ Err Refusal.EmptyOfWhat → ⊥ }
+    ensures sound { (types : TupleTypes) (site : PlainStatementSite) → IsDeclaredSite types site →
+        (u : SourceStatement) (s : SortedStatement) → statement_sorting site u ≡ Ok s → IsStatementOf site u s }
+    ensures found { (site : PlainStatementSite) → IsDistinct same_word (map (λ r. r.entry.name) site.rules) →
+        (u : SourceStatement) (s : SortedStatement) → IsStatementOf site u s → statement_sorting site u ≡ Ok s }
+    ensures told { (site : PlainStatementSite) (u : SourceStatement) → IsDeterminedStatement u →
+        statement_sorting site u ≡ Err Refusal.EmptyOfWhat → ⊥ }
 {}

@@ -1,18 +1,22 @@
 //! The sorts of statements.
 
-ghost use Rattle.std.specs.Prelude.{◌≡◌, map, take};
+ghost use Rattle.std.specs.Prelude.{◌≡◌, Ok, map};
 ghost use Rattle.ioa_values.specs.Outcome.{Answers};
+ghost use Rattle.ioa_operators.specs.Shapes.{truths};
 ghost use Rattle.ioa_terms.specs.PlainTerm as plain;
 ghost use Rattle.ioa_terms.specs.PlainTerm.{arms_of, statements_of};
-ghost use Rattle.ioa_terms.specs.View.{term_of, target_of, statement_of, arm_of};
-ghost use Rattle.ioa_names.specs.Views.{declared_at};
+ghost use Rattle.ioa_terms.specs.View.{term_of, target_of, statement_of, arm_of, firing_of};
+ghost use Rattle.ioa_sorts.specs.SiteView.{site_of};
+ghost use Rattle.ioa_sorts.specs.Sorting as sorting;
 ghost use Rattle.ioa_sorts.specs.SortingView.{typed_target_of};
 ghost use Rattle.ioa_sorts.specs.Statements as spec;
 
+use crate::actions::sort_firing;
+use crate::site::StatementSite;
 use crate::sorting::fit;
 use ioa_names::View;
 use ioa_sort_rules::{Refusal, entry_of, shape_in_terms, value_of_field};
-use ioa_terms::{Arm, Name, Shape, ShapeForm, Statement, Target, Term, Word};
+use ioa_terms::{Arm, Checked, Firing, Shape, ShapeForm, Statement, Target, Term, Word};
 use std::alloc::Global;
 
 /// A target with the slot and the declared shape of its variable, and the shape of what is assigned to it.
@@ -22,24 +26,24 @@ pub(crate) struct TypedTarget {
     pub shape: Shape,
 }
 
-/// The statements with the slot of each name and the shape of each display and of each target's variable. Of the
-/// names in view the first `variables` may be assigned. Returns what `fit` does, `Unknown` (20) if a target is no
-/// variable or has no such field, and `Sorts` (22) if a target has no keys or no fields, or if a term has another
+/// The statements with the slot of each name and the shape of each display and of each target's variable. Returns what
+/// `fit` does, `Unknown` (20) if a target is no variable or has no such field, if a firing names no entry, or for a
+/// `while` that is not in a schedule block, `ScheduleAssignsState` (26) if a schedule block assigns a state variable, and
+/// `Sorts` (22) if a target has no keys or no fields, or if a term has another
 /// sort than its target or is tested and no truth value. The first refusal in the text's order is returned.
 #[cycle(sorting_statements)]
 pub fn sort_statements(
     alloc: Global,
-    view: &View,
+    site: &StatementSite,
     statements: &Vec<Statement<(), ()>>,
-    variables: usize,
 ) -> Result<Vec<Statement<usize, Shape>>, Refusal>
     ensures { Answers Refusal.Memory (λ ss. map statement_of ss.items) result
-        (spec.all_ok (spec.statement_sortings (take variables view.now) view.now
+        (spec.all_ok (spec.statement_sortings (site_of site.now)
         (statements_of (map statement_of statements.now.items)))) }
 {
     let mut sorted = Vec::new(alloc);
     for statement in statements {
-        let found = sort_statement(alloc, view, statement, variables)?;
+        let found = sort_statement(alloc, site, statement)?;
         sorted.push(found)?;
     }
     Ok(sorted)
@@ -49,20 +53,25 @@ pub fn sort_statements(
 #[cycle(sorting_statements)]
 fn sort_statement(
     alloc: Global,
-    view: &View,
+    site: &StatementSite,
     statement: &Statement<(), ()>,
-    variables: usize,
 ) -> Result<Statement<usize, Shape>, Refusal>
     ensures { Answers Refusal.Memory statement_of result
-        (spec.statement_sorting (take variables view.now) view.now (statement_of statement.now)) }
+        (spec.statement_sorting (site_of site.now) (statement_of statement.now)) }
 {
     match statement {
-        Statement::Assign(target, term) => sort_assignment(alloc, view, target, term, variables),
+        Statement::Assign(target, term) => sort_assignment(alloc, site, target, term),
         Statement::If(arms, rest) => {
-            let arms = sort_arms(alloc, view, arms, variables)?;
-            let rest = sort_statements(alloc, view, rest, variables)?;
+            let arms = sort_arms(alloc, site, arms)?;
+            let rest = sort_statements(alloc, site, rest)?;
             Ok(choice(arms, rest))
         }
+        Statement::While(test, body) => {
+            let test = sort_loop_test(alloc, site, test)?;
+            let body = sort_statements(alloc, site, body)?;
+            Ok(repetition(test, body))
+        }
+        Statement::Fire(firing) => sort_fire(alloc, site, firing),
     }
 }
 
@@ -70,16 +79,15 @@ fn sort_statement(
 #[cycle(sorting_statements)]
 fn sort_arms(
     alloc: Global,
-    view: &View,
+    site: &StatementSite,
     arms: &Vec<Arm<(), ()>>,
-    variables: usize,
 ) -> Result<Vec<Arm<usize, Shape>>, Refusal>
     ensures { Answers Refusal.Memory (λ ts. map arm_of ts.items) result
-        (spec.all_ok (spec.arm_sortings (take variables view.now) view.now (arms_of (map arm_of arms.now.items)))) }
+        (spec.all_ok (spec.arm_sortings (site_of site.now) (arms_of (map arm_of arms.now.items)))) }
 {
     let mut sorted = Vec::new(alloc);
     for arm in arms {
-        let found = sort_arm(alloc, view, arm, variables)?;
+        let found = sort_arm(alloc, site, arm)?;
         sorted.push(found)?;
     }
     Ok(sorted)
@@ -89,16 +97,48 @@ fn sort_arms(
 #[cycle(sorting_statements)]
 fn sort_arm(
     alloc: Global,
-    view: &View,
+    site: &StatementSite,
     arm: &Arm<(), ()>,
-    variables: usize,
 ) -> Result<Arm<usize, Shape>, Refusal>
     ensures { Answers Refusal.Memory arm_of result
-        (spec.arm_sorting (take variables view.now) view.now (arm_of arm.now)) }
+        (spec.arm_sorting (site_of site.now) (arm_of arm.now)) }
 {
-    let test = fit(alloc, view, &arm.test, &Shape::of(ShapeForm::Truths))?;
-    let body = sort_statements(alloc, view, &arm.body, variables)?;
+    let test = fit(alloc, site.view, &arm.test, &Shape::of(ShapeForm::Truths))?;
+    let body = sort_statements(alloc, site, &arm.body)?;
     Ok(Arm { test, body })
+}
+
+/// The test of a `while` with slots and shapes: a truth value. `Unknown` (20) outside of a schedule block.
+#[tactic(auto, unfolding(crate::specs::Statements::if_in_block))]
+fn sort_loop_test(alloc: Global, site: &StatementSite, test: &Term) -> Result<Checked, Refusal>
+    ensures { Answers Refusal.Memory term_of result (spec.if_in_block site.now.in_block
+        (sorting.fit (sorting.sorting site.now.view.now (term_of test.now)) truths)) }
+{
+    if site.in_block {
+        fit(alloc, site.view, test, &Shape::of(ShapeForm::Truths))
+    } else {
+        Err(Refusal::Unknown)
+    }
+}
+
+/// A `fire` with slots and shapes.
+fn sort_fire(
+    alloc: Global,
+    site: &StatementSite,
+    firing: &Firing<(), ()>,
+) -> Result<Statement<usize, Shape>, Refusal>
+    ensures { Answers Refusal.Memory statement_of result
+        (spec.statement_sorting (site_of site.now) (plain.fire (firing_of firing.now))) }
+{
+    let firing = sort_firing(alloc, site.view, site.actions, firing)?;
+    Ok(Statement::Fire(firing))
+}
+
+/// A `while` of a test and its body.
+fn repetition(test: Checked, body: Vec<Statement<usize, Shape>>) -> Statement<usize, Shape>
+    ensures { statement_of result ≡ plain.loop (term_of test) (statements_of (map statement_of body.items)) }
+{
+    Statement::While(test, body)
 }
 
 /// An `if` of arms and the rest.
@@ -115,50 +155,65 @@ fn choice(
 /// An assignment with slots and shapes.
 fn sort_assignment(
     alloc: Global,
-    view: &View,
+    site: &StatementSite,
     target: &Target<(), ()>,
     term: &Term,
-    variables: usize,
 ) -> Result<Statement<usize, Shape>, Refusal>
-    ensures { Answers Refusal.Memory statement_of result (spec.assignment_sorting (take variables view.now) view.now
+    ensures { Answers Refusal.Memory statement_of result (spec.assignment_sorting (site_of site.now)
         (target_of target.now) (term_of term.now)) }
 {
-    let target = sort_target(alloc, view, target, variables)?;
-    let value = fit(alloc, view, term, &target.shape)?;
+    let target = sort_target(alloc, site, target)?;
+    let value = fit(alloc, site.view, term, &target.shape)?;
     Ok(Statement::Assign(target.target, value))
 }
 
 /// A target with the slot and the declared shape of its variable.
 fn sort_target(
     alloc: Global,
-    view: &View,
+    site: &StatementSite,
     target: &Target<(), ()>,
-    variables: usize,
 ) -> Result<TypedTarget, Refusal>
     ensures { Answers Refusal.Memory typed_target_of result
-        (spec.target_sorting (take variables view.now) view.now (target_of target.now)) }
+        (spec.target_sorting (site_of site.now) (target_of target.now)) }
 {
     match target {
-        Target::Variable(name, _, _) => whole_target(alloc, view, name, variables),
-        Target::At(name, _, _, key) => key_target(alloc, view, name, key, variables),
-        Target::Field(name, _, _, field) => field_target(alloc, view, name, field, variables),
+        Target::Variable(name, _, _) => {
+            let found = assigned(site, name)?;
+            whole_target(alloc, name, found)
+        }
+        Target::At(name, _, _, key) => {
+            let found = assigned(site, name)?;
+            key_target(alloc, site.view, name, key, found)
+        }
+        Target::Field(name, _, _, field) => {
+            let found = assigned(site, name)?;
+            field_target(alloc, name, field, found)
+        }
+    }
+}
+
+/// The slot and the declared shape of a variable that may be assigned. `ScheduleAssignsState` (26) for another variable,
+/// which is one of the state, and `Unknown` (20) for what is no variable.
+#[tactic(auto, unfolding(crate::specs::Statements::assigned_or))]
+fn assigned<'a>(site: &'a StatementSite, name: &Word) -> Result<(usize, &'a Shape), Refusal>
+    ensures { Answers Refusal.Memory (λ p. (p.0, p.1.now)) result (spec.assigned (site_of site.now) name.now) }
+{
+    if let Some(found) = site.view.find_variable(name, site.variables) {
+        return Ok(found);
+    }
+    match site.view.find_variable(name, site.all_variables) {
+        None => Err(Refusal::Unknown),
+        Some(_) => Err(Refusal::ScheduleAssignsState),
     }
 }
 
 /// A variable as a whole.
 #[tactic(auto, unfolding(crate::specs::Statements::whole_target))]
-fn whole_target(
-    alloc: Global,
-    view: &View,
-    name: &Word,
-    variables: usize,
-) -> Result<TypedTarget, Refusal>
+fn whole_target(alloc: Global, name: &Word, found: (usize, &Shape)) -> Result<TypedTarget, Refusal>
     ensures { Answers Refusal.Memory typed_target_of result
-        (spec.whole_target name.now (declared_at (Name.Word name.now) (take variables view.now))) }
+        (Ok (spec.whole_target name.now (found.entry.0, found.entry.1.now))) }
 {
-    let Some((slot, declared)) = view.find_variable(name, variables) else {
-        return Err(Refusal::Unknown);
-    };
+    let (slot, declared) = found;
     let shape = shape_in_terms(alloc, declared)?;
     let name = name.try_copy(alloc)?;
     let target = Target::Variable(name, slot, declared.try_copy(alloc)?);
@@ -172,15 +227,12 @@ fn key_target(
     view: &View,
     name: &Word,
     key: &Term,
-    variables: usize,
+    found: (usize, &Shape),
 ) -> Result<TypedTarget, Refusal>
     ensures { Answers Refusal.Memory typed_target_of result
-        (spec.key_target view.now name.now (term_of key.now)
-        (declared_at (Name.Word name.now) (take variables view.now))) }
+        (spec.key_target view.now name.now (term_of key.now) (found.entry.0, found.entry.1.now)) }
 {
-    let Some((slot, declared)) = view.find_variable(name, variables) else {
-        return Err(Refusal::Unknown);
-    };
+    let (slot, declared) = found;
     let shape = shape_in_terms(alloc, declared)?;
     let sides = entry_of(alloc, &shape)?;
     let key = fit(alloc, view, key, &sides.other)?;
@@ -196,17 +248,14 @@ fn key_target(
 #[tactic(auto, unfolding(crate::specs::Statements::field_target))]
 fn field_target(
     alloc: Global,
-    view: &View,
     name: &Word,
     field: &Word,
-    variables: usize,
+    found: (usize, &Shape),
 ) -> Result<TypedTarget, Refusal>
     ensures { Answers Refusal.Memory typed_target_of result
-        (spec.field_target name.now field.now (declared_at (Name.Word name.now) (take variables view.now))) }
+        (spec.field_target name.now field.now (found.entry.0, found.entry.1.now)) }
 {
-    let Some((slot, declared)) = view.find_variable(name, variables) else {
-        return Err(Refusal::Unknown);
-    };
+    let (slot, declared) = found;
     let shape = value_of_field(alloc, field, declared)?;
     let name = name.try_copy(alloc)?;
     let field = field.try_copy(alloc)?;

@@ -1,10 +1,10 @@
 -- A text as it is spelled has no annotation to erase.
 use Rattle.std.proofs.Common.{◌≡◌, List, [], ◌∷◌, Option, Some, None, map, refl, ap}
 use Rattle.std.specs.Option.{option_map}
-use Rattle.ioa_terms.specs.PlainTerm.{number, truth, name, one, two, call, display, field, no_terms, term, variable, at_key, at_field, assign, branch, firing, no_statements, statement, no_arms, arm}
+use Rattle.ioa_terms.specs.PlainTerm.{number, truth, name, one, two, call, display, field, no_terms, term, variable, at_key, at_field, assign, branch, loop, fire, firing, no_statements, statement, no_arms, arm}
 use Rattle.ioa_source.specs.PlainText.{const, named, enumeration, tuple_of, type_named, automaton, node, channel, script}
-use Rattle.ioa_source.specs.Sides.{SourceTerm, SourceTerms, SourceTarget, SourceStatement, SourceFiring, SourceStatements, SourceArms, SourceDeclared, SourceParameter, SourceEntry, SourceVariable, SourceTransition, SourceAutomaton, SourceForm, SourceType, SourceDeclaration, SourceNode, SourceCall, SourceScript, SourcePlacement, SourceText}
-use Rattle.ioa_source.specs.Erasure.{erase_term, erase_terms, erase_target, erase_statement, erase_firing, erase_statements, erase_arms, erase_declared, erase_parameter, erase_entry, erase_variable, erase_transition, erase_automaton, erase_form, erase_type, erase_declaration, erase_node, erase_call, erase_script, erase_placement, erase}
+use Rattle.ioa_source.specs.Sides.{SourceTerm, SourceTerms, SourceTarget, SourceStatement, SourceFiring, SourceStatements, SourceArms, SourceDeclared, SourceParameter, SourceEntry, SourceVariable, SourceTransition, SourceSchedule, SourceAutomaton, SourceForm, SourceType, SourceDeclaration, SourceNode, SourceCall, SourceScript, SourcePlacement, SourceText}
+use Rattle.ioa_source.specs.Erasure.{erase_term, erase_terms, erase_target, erase_statement, erase_firing, erase_statements, erase_arms, erase_declared, erase_parameter, erase_entry, erase_variable, erase_transition, erase_schedule, erase_automaton, erase_form, erase_type, erase_declaration, erase_node, erase_call, erase_script, erase_placement, erase}
 
 -- a function that changes no item changes no list, and no option
 each : {A : Type 0} (f : A → A) → ((x : A) → f x ≡ x) → (xs : List A) → map f xs ≡ xs
@@ -35,10 +35,15 @@ target_erased (variable w x d) = refl
 target_erased (at_key w x d t) = ap (at_key w tt tt) (term_erased t)
 target_erased (at_field w x d f) = refl
 
+firing_erased : (f : SourceFiring) → erase_firing f ≡ f
+firing_erased f = ap (firing f.kind f.action) (each erase_term term_erased f.arguments)
+
 mutual
   statement_erased : (s : SourceStatement) → erase_statement s ≡ s
   statement_erased (assign p t) = λ i. assign (target_erased p i) (term_erased t i)
   statement_erased (branch arms rest) = λ i. branch (arms_erased arms i) (statements_erased rest i)
+  statement_erased (loop t body) = λ i. loop (term_erased t i) (statements_erased body i)
+  statement_erased (fire f) = ap fire (firing_erased f)
 
   statements_erased : (ss : SourceStatements) → erase_statements ss ≡ ss
   statements_erased no_statements = refl
@@ -47,9 +52,6 @@ mutual
   arms_erased : (arms : SourceArms) → erase_arms arms ≡ arms
   arms_erased no_arms = refl
   arms_erased (arm t ss more) = λ i. arm (term_erased t i) (statements_erased ss i) (arms_erased more i)
-
-firing_erased : (f : SourceFiring) → erase_firing f ≡ f
-firing_erased f = ap (firing f.kind f.action) (each erase_term term_erased f.arguments)
 
 declared_erased : (d : SourceDeclared) → erase_declared d ≡ d
 declared_erased d = refl
@@ -78,6 +80,12 @@ transition_erased t = λ i. record {
   effect = each erase_statement statement_erased t.effect i;
 }
 
+schedule_erased : (s : SourceSchedule) → erase_schedule s ≡ s
+schedule_erased s = λ i. record {
+  variables = each erase_variable variable_erased s.variables i;
+  statements = each erase_statement statement_erased s.statements i;
+}
+
 automaton_erased : (a : SourceAutomaton) → erase_automaton a ≡ a
 automaton_erased a = λ i. record {
   name = a.name;
@@ -85,7 +93,7 @@ automaton_erased a = λ i. record {
   signature = each erase_entry entry_erased a.signature i;
   states = each erase_variable variable_erased a.states i;
   transitions = each erase_transition transition_erased a.transitions i;
-  schedule = each erase_firing firing_erased a.schedule i;
+  schedule = schedule_erased a.schedule i;
 }
 
 form_erased : (f : SourceForm) → erase_form f ≡ f

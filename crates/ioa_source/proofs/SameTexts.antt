@@ -9,8 +9,8 @@ use Rattle.ioa_terms.specs.SameTerms.{same_term}
 use Rattle.ioa_terms.specs.PlainTerm.{PlainTerm}
 use Rattle.ioa_terms.proofs.SameTerms.{kind_is, option_is, same_term_is, same_terms_is, same_statements_is}
 use Rattle.ioa_source.specs.PlainSort.{PlainSort, booleans, integers, naturals, sequences, sets, maps, named_type}
-use Rattle.ioa_source.specs.PlainText.{PlainDeclared, PlainParameter, PlainEntry, PlainVariable, PlainTransition, const, named}
-use Rattle.ioa_source.specs.SameTexts.{same_sort, same_declared, same_parameter, same_entry, same_variable, same_transition}
+use Rattle.ioa_source.specs.PlainText.{PlainDeclared, PlainParameter, PlainEntry, PlainVariable, PlainTransition, PlainSchedule, const, named}
+use Rattle.ioa_source.specs.SameTexts.{same_sort, same_declared, same_parameter, same_entry, same_variable, same_transition, same_schedule}
 
 sort_equal : (a b : PlainSort) → same_sort a b ≡ true → a ≡ b
 sort_equal booleans booleans h = refl
@@ -79,3 +79,9 @@ module _ {N D : Type 0} {n : N → N → Bool} {d : D → D → Bool} (n_is : (x
       (Decides-and _ _ (bytes_eq-Decides a.name b.name)
       (Decides-and _ _ (same_terms_is n_is d_is a.arguments b.arguments)
       (Decides-and _ _ (guard_is a.pre b.pre) (same_statements_is n_is d_is a.effect b.effect)))))
+
+  pub same_schedule_is : (a b : PlainSchedule N D) → Decides (same_schedule n d a b) (a ≡ b)
+  same_schedule_is a b =
+      Decides-like _ (λ p i. record { variables = p.0 i; statements = p.1 i })
+      (λ e. (ap (λ (x : PlainSchedule N D). x.variables) e, ap (λ (x : PlainSchedule N D). x.statements) e))
+      (Decides-and _ _ (slice_eq-Decides same_variable_is a.variables b.variables _ refl) (same_statements_is n_is d_is a.statements b.statements))

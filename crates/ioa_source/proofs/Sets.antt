@@ -18,8 +18,8 @@ use Rattle.ioa_terms.specs.contracts.tree.Kind as kind
 use Rattle.ioa_terms.specs.PlainTerm.{PlainTerm-set, PlainTarget-set, PlainStatement-set, PlainFiring-set}
 use Rattle.ioa_source.specs.contracts.declaration.Channel as channel
 use Rattle.ioa_source.specs.PlainSort.{PlainSort-set}
-use Rattle.ioa_source.specs.PlainText.{PlainDeclared-set, PlainParameter-set, PlainEntry-set, PlainVariable-set, PlainTransition-set, PlainAutomaton-set, PlainForm-set, PlainType-set, PlainDeclaration-set, PlainNode-set, PlainCall-set, PlainScript-set, PlainPlacement-set, PlainText-set}
-use Rattle.ioa_source.specs.Sides.{SourceTerm, SourceTarget, SourceStatement, SourceFiring, SourceDeclared, SourceEntry, SourceVariable, SourceTransition, SourceAutomaton, SourceDeclaration, SourcePlacement, SourceText}
+use Rattle.ioa_source.specs.PlainText.{PlainDeclared-set, PlainParameter-set, PlainEntry-set, PlainVariable-set, PlainTransition-set, PlainSchedule-set, PlainAutomaton-set, PlainForm-set, PlainType-set, PlainDeclaration-set, PlainNode-set, PlainCall-set, PlainScript-set, PlainPlacement-set, PlainText-set}
+use Rattle.ioa_source.specs.Sides.{SourceTerm, SourceTarget, SourceStatement, SourceFiring, SourceDeclared, SourceEntry, SourceVariable, SourceTransition, SourceSchedule, SourceAutomaton, SourceDeclaration, SourcePlacement, SourceText}
 
 word_set : IsSet (List ℕ)
 word_set = List-set ℕ_set
@@ -56,11 +56,11 @@ term_set = PlainTerm-set ℤ_set Bool-set name_set unit_set (Coded-set unary.the
 target_set : IsSet SourceTarget
 target_set = PlainTarget-set word_set unit_set unit_set term_set
 
-statement_set : IsSet SourceStatement
-statement_set = PlainStatement-set target_set term_set
-
 firing_set : IsSet SourceFiring
 firing_set = PlainFiring-set (Option-set kind_set) word_set (List-set term_set)
+
+statement_set : IsSet SourceStatement
+statement_set = PlainStatement-set target_set term_set firing_set
 
 declared_set : IsSet SourceDeclared
 declared_set = PlainDeclared-set word_set (PlainSort-set word_set) unit_set
@@ -74,9 +74,12 @@ variable_set = PlainVariable-set declared_set (Option-set term_set)
 transition_set : IsSet SourceTransition
 transition_set = PlainTransition-set kind_set word_set (List-set term_set) (Option-set term_set) (List-set statement_set)
 
+schedule_set : IsSet SourceSchedule
+schedule_set = PlainSchedule-set (List-set variable_set) (List-set statement_set)
+
 automaton_set : IsSet SourceAutomaton
 automaton_set =
-    PlainAutomaton-set word_set (List-set declared_set) (List-set entry_set) (List-set variable_set) (List-set transition_set) (List-set firing_set)
+    PlainAutomaton-set word_set (List-set declared_set) (List-set entry_set) (List-set variable_set) (List-set transition_set) schedule_set
 
 declaration_set : IsSet SourceDeclaration
 declaration_set = PlainDeclaration-set (PlainType-set word_set (PlainForm-set (List-set word_set) (List-set declared_set))) automaton_set

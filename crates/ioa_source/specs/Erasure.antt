@@ -4,14 +4,14 @@ use Rattle.std.specs.Prelude.{map}
 use Rattle.std.specs.Option.{option_map}
 use Rattle.ioa_terms.specs.PlainTerm.{PlainTerm, PlainTerms, PlainTarget, PlainStatement, PlainStatements, PlainArms}
 use Rattle.ioa_terms.specs.PlainTerm.{number, truth, name, one, two, call, display, field, no_terms, term}
-use Rattle.ioa_terms.specs.PlainTerm.{variable, at_key, at_field, assign, branch, PlainFiring, firing}
+use Rattle.ioa_terms.specs.PlainTerm.{variable, at_key, at_field, assign, branch, loop, fire, PlainFiring, firing}
 use Rattle.ioa_terms.specs.PlainTerm.{no_statements, statement, no_arms, arm}
 use Rattle.ioa_source.specs.PlainText.{PlainDeclared, PlainParameter, PlainEntry, PlainVariable, PlainTransition}
-use Rattle.ioa_source.specs.PlainText.{PlainAutomaton, PlainForm, PlainType, PlainDeclaration}
+use Rattle.ioa_source.specs.PlainText.{PlainSchedule, PlainAutomaton, PlainForm, PlainType, PlainDeclaration}
 use Rattle.ioa_source.specs.PlainText.{PlainNode, PlainCall, PlainScript, PlainPlacement, PlainText}
 use Rattle.ioa_source.specs.PlainText.{const, named, enumeration, tuple_of, type_named, automaton, node, channel, script}
 use Rattle.ioa_source.specs.Sides.{SourceTerm, SourceTerms, SourceTarget, SourceStatement, SourceStatements, SourceArms}
-use Rattle.ioa_source.specs.Sides.{SourceFiring}
+use Rattle.ioa_source.specs.Sides.{SourceFiring, SourceSchedule}
 use Rattle.ioa_source.specs.Sides.{SourceDeclared, SourceParameter, SourceEntry, SourceVariable, SourceTransition}
 use Rattle.ioa_source.specs.Sides.{SourceAutomaton, SourceForm, SourceType, SourceDeclaration}
 use Rattle.ioa_source.specs.Sides.{SourceNode, SourceCall, SourceScript, SourcePlacement, SourceText}
@@ -38,10 +38,15 @@ erase_target (variable w x d) = variable w tt tt
 erase_target (at_key w x d t) = at_key w tt tt (erase_term t)
 erase_target (at_field w x d f) = at_field w tt tt f
 
+abbrev pub erase_firing : {N D : Type 0} → PlainFiring N D → SourceFiring
+erase_firing f = firing f.kind f.action (map erase_term f.arguments)
+
 abbrev mutual
   pub erase_statement : {N D : Type 0} → PlainStatement N D → SourceStatement
   erase_statement (assign p t) = assign (erase_target p) (erase_term t)
   erase_statement (branch arms rest) = branch (erase_arms arms) (erase_statements rest)
+  erase_statement (loop t body) = loop (erase_term t) (erase_statements body)
+  erase_statement (fire f) = fire (erase_firing f)
 
   pub erase_statements : {N D : Type 0} → PlainStatements N D → SourceStatements
   erase_statements no_statements = no_statements
@@ -50,9 +55,6 @@ abbrev mutual
   pub erase_arms : {N D : Type 0} → PlainArms N D → SourceArms
   erase_arms no_arms = no_arms
   erase_arms (arm t ss more) = arm (erase_term t) (erase_statements ss) (erase_arms more)
-
-abbrev pub erase_firing : {N D : Type 0} → PlainFiring N D → SourceFiring
-erase_firing f = firing f.kind f.action (map erase_term f.arguments)
 
 abbrev pub erase_declared : {D : Type 0} → PlainDeclared D → SourceDeclared
 erase_declared d = record { name = d.name; sort = d.sort; shape = tt }
@@ -81,6 +83,12 @@ erase_transition t = record {
   effect = map erase_statement t.effect;
 }
 
+abbrev pub erase_schedule : {N D : Type 0} → PlainSchedule N D → SourceSchedule
+erase_schedule s = record {
+  variables = map erase_variable s.variables;
+  statements = map erase_statement s.statements;
+}
+
 abbrev pub erase_automaton : {N D : Type 0} → PlainAutomaton N D → SourceAutomaton
 erase_automaton a = record {
   name = a.name;
@@ -88,7 +96,7 @@ erase_automaton a = record {
   signature = map erase_entry a.signature;
   states = map erase_variable a.states;
   transitions = map erase_transition a.transitions;
-  schedule = map erase_firing a.schedule;
+  schedule = erase_schedule a.schedule;
 }
 
 abbrev pub erase_form : {D : Type 0} → PlainForm D → SourceForm

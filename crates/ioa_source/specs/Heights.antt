@@ -2,7 +2,7 @@
 use Rattle.std.specs.Prelude.{ℕ, suc, max, List, [], ◌∷◌}
 use Rattle.ioa_terms.specs.PlainTerm.{number, truth, name, one, two, call, display, field, no_terms, term}
 use Rattle.ioa_terms.specs.PlainTerm.{variable, at_key, at_field}
-use Rattle.ioa_terms.specs.PlainTerm.{assign, branch, no_statements, statement, no_arms, arm}
+use Rattle.ioa_terms.specs.PlainTerm.{assign, branch, loop, fire, no_statements, statement, no_arms, arm, terms_of}
 use Rattle.ioa_source.specs.Sides.{SourceTerm, SourceTerms, SourceTarget, SourceStatement, SourceStatements, SourceArms}
 use Rattle.ioa_source.specs.declared.height.TheConstants.{HEIGHT_LIMIT}
 
@@ -39,10 +39,13 @@ target_height (at_key w at shape t) = height t
 target_height (at_field w at shape f) = 0
 
 abbrev mutual
-  -- an assignment is as high as its highest part, and an `if` one higher than its highest part
+  -- an assignment is as high as its highest part, an `if` and a `while` one higher than their highest part, and a `fire`
+  -- as high as its highest argument and at least 1
   pub statement_height : SourceStatement → ℕ
   statement_height (assign p t) = max (target_height p) (height t)
   statement_height (branch arms rest) = suc (max (arms_height arms) (statements_height rest))
+  statement_height (loop t body) = suc (max (height t) (statements_height body))
+  statement_height (fire f) = max 1 (heights (terms_of f.arguments))
 
   -- the highest of several statements
   pub statements_height : SourceStatements → ℕ

@@ -2,7 +2,7 @@
 -- each name that a term or a target reads; `D` annotates each display, field, assigned variable and declared sort.
 use Rattle.std.specs.Prelude.{ℕ, ℤ, List, Option}
 use Rattle.ioa_terms.specs.declared.tree.Kind.{Kind}
-use Rattle.ioa_terms.specs.PlainTerm.{PlainTerm, PlainStatement, PlainFiring}
+use Rattle.ioa_terms.specs.PlainTerm.{PlainTerm, PlainStatement}
 use Rattle.ioa_source.specs.PlainSort.{PlainSort}
 use Rattle.ioa_source.specs.declared.declaration.Channel.{Channel}
 
@@ -42,6 +42,12 @@ pub record PlainTransition (N D : Type 0) : Type 0 where
   pub effect : List (PlainStatement N D)
   deriving IsSet as PlainTransition-set
 
+-- a schedule block: its own variables, and its statements
+pub record PlainSchedule (N D : Type 0) : Type 0 where
+  pub variables : List (PlainVariable N D)
+  pub statements : List (PlainStatement N D)
+  deriving IsSet as PlainSchedule-set
+
 -- an automaton with its schedule block
 pub record PlainAutomaton (N D : Type 0) : Type 0 where
   pub name : List ℕ
@@ -49,7 +55,7 @@ pub record PlainAutomaton (N D : Type 0) : Type 0 where
   pub signature : List (PlainEntry N D)
   pub states : List (PlainVariable N D)
   pub transitions : List (PlainTransition N D)
-  pub schedule : List (PlainFiring N D)
+  pub schedule : PlainSchedule N D
   deriving IsSet as PlainAutomaton-set
 
 -- what a type's values are: the constants of these names, or a value for each of these fields

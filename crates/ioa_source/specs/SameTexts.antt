@@ -8,7 +8,7 @@ use Rattle.ioa_terms.specs.PlainTerm.{terms_of, statements_of}
 use Rattle.ioa_terms.specs.SameTerms.{same_kind, same_term, same_terms, same_statements}
 use Rattle.ioa_source.specs.PlainSort.{PlainSort, booleans, integers, naturals, sequences, sets, maps, named_type}
 use Rattle.ioa_source.specs.PlainText.{PlainDeclared, PlainParameter, PlainEntry, PlainVariable, PlainTransition}
-use Rattle.ioa_source.specs.PlainText.{const, named}
+use Rattle.ioa_source.specs.PlainText.{PlainSchedule, const, named}
 
 -- two sorts are the same if they are spelled alike
 abbrev pub same_sort : PlainSort → PlainSort → Bool
@@ -48,3 +48,8 @@ module _ {N D : Type 0} (n : N → N → Bool) (d : D → D → Bool) where
       && (same_terms n d (terms_of a.arguments) (terms_of b.arguments)
       && (option_eq (same_term n d) a.pre b.pre
       && same_statements n d (statements_of a.effect) (statements_of b.effect))))
+
+  abbrev pub same_schedule : PlainSchedule N D → PlainSchedule N D → Bool
+  same_schedule a b =
+      pointwise same_variable a.variables b.variables
+      && same_statements n d (statements_of a.statements) (statements_of b.statements)

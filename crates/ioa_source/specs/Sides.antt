@@ -6,7 +6,7 @@ use Rattle.ioa_operators.specs.declared.shape.Shape.{Shape}
 use Rattle.ioa_terms.specs.PlainTerm.{PlainTerm, PlainTerms, PlainTarget, PlainStatement, PlainStatements, PlainArms}
 use Rattle.ioa_terms.specs.PlainTerm.{PlainFiring}
 use Rattle.ioa_source.specs.PlainText.{PlainDeclared, PlainParameter, PlainEntry, PlainVariable, PlainTransition}
-use Rattle.ioa_source.specs.PlainText.{PlainAutomaton, PlainForm, PlainType, PlainDeclaration}
+use Rattle.ioa_source.specs.PlainText.{PlainSchedule, PlainAutomaton, PlainForm, PlainType, PlainDeclaration}
 use Rattle.ioa_source.specs.PlainText.{PlainNode, PlainCall, PlainScript, PlainPlacement, PlainText}
 
 -- the trees of a text as it is spelled
@@ -45,6 +45,9 @@ SourceVariable = PlainVariable (Unit {0}) (Unit {0})
 
 abbrev pub SourceTransition : Type 0
 SourceTransition = PlainTransition (Unit {0}) (Unit {0})
+
+abbrev pub SourceSchedule : Type 0
+SourceSchedule = PlainSchedule (Unit {0}) (Unit {0})
 
 abbrev pub SourceAutomaton : Type 0
 SourceAutomaton = PlainAutomaton (Unit {0}) (Unit {0})
@@ -97,3 +100,6 @@ CheckedVariable = PlainVariable ℕ Shape
 
 abbrev pub CheckedTransition : Type 0
 CheckedTransition = PlainTransition ℕ Shape
+
+abbrev pub CheckedSchedule : Type 0
+CheckedSchedule = PlainSchedule ℕ Shape

@@ -10,7 +10,7 @@ use Rattle.ioa_terms.specs.PlainTerm.{PlainTerm, PlainStatement}
 use Rattle.ioa_terms.specs.TermCode.{term_code, statement_code}
 use Rattle.ioa_source.specs.PlainSort.{PlainSort, booleans, integers, naturals, sequences, sets, maps, named_type}
 use Rattle.ioa_source.specs.PlainText.{PlainDeclared, PlainParameter, PlainEntry, PlainVariable, PlainTransition}
-use Rattle.ioa_source.specs.PlainText.{const, named}
+use Rattle.ioa_source.specs.PlainText.{PlainSchedule, const, named}
 
 abbrev word : Coded (List ℕ)
 word = coded_list coded_ℕ
@@ -103,4 +103,13 @@ module _ {N D : Type 0} (n : Coded N) (d : Coded D) where
       (coded× word (coded× (coded_list (term_code n d)) (coded× guard_code (coded_list (statement_code n d))))))
       (λ r. (r.kind, (r.name, (r.arguments, (r.pre, r.effect)))))
       (λ t. record { kind = t.0; name = t.1.0; arguments = t.1.1.0; pre = t.1.1.1.0; effect = t.1.1.1.1 })
+      (λ _. refl)
+
+  -- a schedule block: a pair
+  abbrev pub schedule_code : Coded (PlainSchedule N D)
+  schedule_code =
+      code_by (List (PlainVariable N D) × List (PlainStatement N D))
+      (coded× (coded_list variable_code) (coded_list (statement_code n d)))
+      (λ s. (s.variables, s.statements))
+      (λ t. record { variables = t.0; statements = t.1 })
       (λ _. refl)

@@ -1,10 +1,10 @@
 -- The plain data of the code's trees (view).
 use Rattle.std.specs.Prelude.{map}
 use Rattle.std.specs.Option.{option_map}
-use Rattle.ioa_terms.specs.View.{term_of, statement_of, firing_of}
+use Rattle.ioa_terms.specs.View.{term_of, statement_of}
 use Rattle.ioa_source.specs.SortView.{sort_of}
 use Rattle.ioa_source.specs.PlainText.{PlainDeclared, PlainParameter, PlainEntry, PlainVariable, PlainTransition}
-use Rattle.ioa_source.specs.PlainText.{PlainAutomaton, PlainForm, PlainType, PlainDeclaration}
+use Rattle.ioa_source.specs.PlainText.{PlainSchedule, PlainAutomaton, PlainForm, PlainType, PlainDeclaration}
 use Rattle.ioa_source.specs.PlainText.{PlainNode, PlainCall, PlainScript, PlainPlacement, PlainText}
 use Rattle.ioa_source.specs.PlainText.{const, named, enumeration, tuple_of, type_named, automaton, node, channel, script}
 use Rattle.ioa_source.specs.declared.declaration.Declared.{Declared}
@@ -13,6 +13,7 @@ use Rattle.ioa_source.specs.declared.declaration.Parameter.TheVariants as parame
 use Rattle.ioa_source.specs.declared.declaration.Entry.{Entry}
 use Rattle.ioa_source.specs.declared.declaration.Variable.{Variable}
 use Rattle.ioa_source.specs.declared.declaration.Transition.{Transition}
+use Rattle.ioa_source.specs.declared.declaration.Schedule.{Schedule}
 use Rattle.ioa_source.specs.declared.declaration.Automaton.{Automaton}
 use Rattle.ioa_source.specs.declared.declaration.TypeForm.{TypeForm}
 use Rattle.ioa_source.specs.declared.declaration.TypeForm.TheVariants as form
@@ -53,6 +54,12 @@ transition_of t = record {
   effect = map statement_of t.effect.items;
 }
 
+abbrev pub schedule_of : {N D : Type 0} → Schedule N D → PlainSchedule N D
+schedule_of s = record {
+  variables = map variable_of s.variables.items;
+  statements = map statement_of s.statements.items;
+}
+
 abbrev pub automaton_of : {N D : Type 0} → Automaton N D → PlainAutomaton N D
 automaton_of a = record {
   name = a.name;
@@ -60,7 +67,7 @@ automaton_of a = record {
   signature = map entry_of a.signature.items;
   states = map variable_of a.states.items;
   transitions = map transition_of a.transitions.items;
-  schedule = map firing_of a.schedule.items;
+  schedule = schedule_of a.schedule;
 }
 
 abbrev pub form_of : {D : Type 0} → TypeForm D → PlainForm D

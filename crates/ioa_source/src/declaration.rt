@@ -4,7 +4,7 @@
 //! checked system.
 
 use crate::sort::Sort;
-use ioa_terms::{Firing, Kind, Statement, Tree, Word};
+use ioa_terms::{Kind, Statement, Tree, Word};
 
 /// `x: S`: a name for any value of a sort (profile).
 #[derive(Drop)]
@@ -39,12 +39,12 @@ pub struct Entry<N, D> {
     pub condition: Option<Tree<N, D>>,
 }
 
-/// A state variable (Lynch 8.1; sorts and initial terms: profile).
+/// A variable of the state (Lynch 8.1; sorts and initial terms: profile) or of a schedule block (profile).
 #[derive(Drop)]
 pub struct Variable<N, D> {
     /// Its name and sort.
     pub declared: Declared<D>,
-    /// The term of its value in the start state, if one is written.
+    /// The term of its first value, if one is written.
     pub initial: Option<Tree<N, D>>,
 }
 
@@ -63,6 +63,15 @@ pub struct Transition<N, D> {
     pub effect: Vec<Statement<N, D>>,
 }
 
+/// A schedule block (profile): what a node does in its turns. An automaton without one has the empty block.
+#[derive(Drop)]
+pub struct Schedule<N, D> {
+    /// Its own variables.
+    pub variables: Vec<Variable<N, D>>,
+    /// Its statements in order.
+    pub statements: Vec<Statement<N, D>>,
+}
+
 /// An automaton (Lynch 8.1) with its schedule block (profile).
 #[derive(Drop)]
 pub struct Automaton<N, D> {
@@ -76,8 +85,8 @@ pub struct Automaton<N, D> {
     pub states: Vec<Variable<N, D>>,
     /// Its transitions.
     pub transitions: Vec<Transition<N, D>>,
-    /// The firings of its schedule block; none if it has no block.
-    pub schedule: Vec<Firing<N, D>>,
+    /// Its schedule block.
+    pub schedule: Schedule<N, D>,
 }
 
 /// What a type's values are (profile).

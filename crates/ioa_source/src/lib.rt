@@ -8,10 +8,12 @@ mod same;
 mod sort;
 
 pub use declaration::{
-    Automaton, Call, Channel, Declaration, Declared, Entry, Node, Parameter, Placement,
+    Automaton, Call, Channel, Declaration, Declared, Entry, Node, Parameter, Placement, Schedule,
     ScriptDeclaration, Text, Transition, TypeDeclaration, TypeForm, Variable,
 };
 pub use height::{HEIGHT_LIMIT, HasHeight};
 pub use laws::erasure_law;
-pub use same::{is_same_declared, is_same_entry, is_same_transition, is_same_variable};
+pub use same::{
+    are_same_variables, is_same_declared, is_same_entry, is_same_schedule, is_same_transition,
+};
 pub use sort::Sort;

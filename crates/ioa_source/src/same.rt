@@ -6,11 +6,12 @@ ghost use lib.Pointwise.{pointwise};
 ghost use Rattle.ioa_terms.specs.SameTerms.{same_term};
 ghost use Rattle.ioa_terms.specs.View.{term_of};
 ghost use Rattle.ioa_source.specs.SameTexts.{same_sort, same_declared, same_parameter};
-ghost use Rattle.ioa_source.specs.SameTexts.{same_entry, same_variable, same_transition};
+ghost use Rattle.ioa_source.specs.SameTexts.{same_entry, same_variable, same_transition, same_schedule};
 ghost use Rattle.ioa_source.specs.SortView.{sort_of};
 ghost use Rattle.ioa_source.specs.TextView.{declared_of, parameter_of, entry_of, variable_of, transition_of};
+ghost use Rattle.ioa_source.specs.TextView.{schedule_of};
 
-use crate::declaration::{Declared, Entry, Parameter, Transition, Variable};
+use crate::declaration::{Declared, Entry, Parameter, Schedule, Transition, Variable};
 use crate::sort::Sort;
 use ioa_terms::{Shape, Tree, are_same_statements, are_same_terms, is_same_term};
 
@@ -158,4 +159,31 @@ pub fn is_same_transition<N: PartialEq, D: PartialEq>(
             && (are_same_terms(&transition.arguments, &other.arguments)
                 && (is_same_guard(&transition.pre, &other.pre)
                     && are_same_statements(&transition.effect, &other.effect))))
+}
+
+/// Whether variables are the same, one by one, and as many.
+pub fn are_same_variables<N: PartialEq, D: PartialEq>(
+    variables: &Vec<Variable<N, D>>,
+    others: &Vec<Variable<N, D>>,
+) -> bool
+    ensures { result ≡ pointwise (same_variable N.eq D.eq) (map variable_of variables.now.items)
+        (map variable_of others.now.items) }
+{
+    for position in 0..variables.len().min(others.len()) {
+        if !is_same_variable(&variables[position], &others[position]) {
+            return false;
+        }
+    }
+    variables.len() == others.len()
+}
+
+/// Whether two schedule blocks are the same, by the tests of their annotations.
+pub fn is_same_schedule<N: PartialEq, D: PartialEq>(
+    schedule: &Schedule<N, D>,
+    other: &Schedule<N, D>,
+) -> bool
+    ensures { result ≡ same_schedule N.eq D.eq (schedule_of schedule.now) (schedule_of other.now) }
+{
+    are_same_variables(&schedule.variables, &other.variables)
+        && are_same_statements(&schedule.statements, &other.statements)
 }

@@ -9,22 +9,22 @@ use Rattle.ioa_source.specs.Sides.{CheckedParameter}
 use Rattle.ioa_system.specs.Parts.{AutomatonParts}
 
 -- where a term of an automaton is written: as a constant of an entry, as the initial value of a state variable, behind
--- the `where` of an entry, in the guard or the effect of a transition, or in a firing of the schedule block
+-- the `where` of an entry, in the guard or the effect of a transition, or in a statement of the schedule block
 pub data Site : Type 0 where
   entry_constant : Site
   initial_value : Site
   entry_condition : Site
   guard_or_effect : Site
-  firing : Site
+  block_statement : Site
 
--- what is in view there of what the automaton's parameters, its state variables and the entry's own parameters have,
--- their names or their values, in the order of the slots
+-- what is in view there of what the automaton's parameters and its state variables have, and of what the entry's own
+-- parameters or the block's own variables have, their names or their values, in the order of the slots
 abbrev pub in_view : {A : Type 0} → Site → (parameters variables own : List A) → List A
 in_view entry_constant parameters variables own = parameters
 in_view initial_value parameters variables own = parameters
 in_view entry_condition parameters variables own = parameters ++ own
 in_view guard_or_effect parameters variables own = variables ++ (parameters ++ own)
-in_view firing parameters variables own = variables ++ parameters
+in_view block_statement parameters variables own = own ++ (variables ++ parameters)
 
 -- the names of an automaton's parameters
 abbrev pub parameter_names : {D : Type 0} → List (PlainDeclared D) → List (List ℕ)
@@ -95,6 +95,7 @@ bindings_at site a arguments variables ps own =
 abbrev pub given_bindings : AutomatonParts → List Data → Bindings
 given_bindings a arguments = bindings_at entry_constant a arguments [] [] []
 
--- what a firing reads
-abbrev pub firing_bindings : AutomatonParts → (arguments variables : List Data) → Bindings
-firing_bindings a arguments variables = bindings_at firing a arguments variables [] []
+-- what a statement of the schedule block reads, if its variables have the values `own`
+abbrev pub block_bindings : AutomatonParts → (arguments variables own : List Data) → Bindings
+block_bindings a arguments variables own =
+    environment_at block_statement (declared_names a) (variable_names a.schedule.variables) arguments variables own

@@ -6,9 +6,8 @@ use Rattle.ioa_values.specs.DataCode.{data_code}
 use Rattle.ioa_operators.specs.ShapeCode.{shape_code}
 use Rattle.ioa_operators.specs.Shapes.{PlainShape}
 use Rattle.ioa_terms.specs.Bindings.{same_word}
-use Rattle.ioa_terms.specs.TermCode.{firing_code}
-use Rattle.ioa_source.specs.Sides.{CheckedDeclared, CheckedEntry, CheckedFiring, CheckedTransition, CheckedVariable}
-use Rattle.ioa_source.specs.TextCode.{declared_code, entry_code, transition_code, variable_code}
+use Rattle.ioa_source.specs.Sides.{CheckedDeclared, CheckedEntry, CheckedSchedule, CheckedTransition, CheckedVariable}
+use Rattle.ioa_source.specs.TextCode.{declared_code, entry_code, schedule_code, transition_code, variable_code}
 
 -- an entry of a signature with its transition (Lynch 8.1), the shapes of the arguments that it takes, and the names of
 -- its own parameters
@@ -33,19 +32,19 @@ rule_code =
 abbrev pub rule_named : List ℕ → List PlainRule → Option PlainRule
 rule_named w rs = find (λ r. same_word r.entry.name w) rs
 
--- an automaton: its name, the names of the text's constants, its parameters, its state variables, its rules and the
--- firings of its schedule block
+-- an automaton: its name, the names of the text's constants, its parameters, its state variables, its rules and its
+-- schedule block
 pub record AutomatonParts : Type 0 where
   pub name : List ℕ
   pub constants : List (List ℕ)
   pub parameters : List CheckedDeclared
   pub variables : List CheckedVariable
   pub rules : List PlainRule
-  pub schedule : List CheckedFiring
+  pub schedule : CheckedSchedule
 
 -- an automaton of these parts
 abbrev pub automaton_parts : List ℕ → List (List ℕ) → List CheckedDeclared → List CheckedVariable → List PlainRule
-    → List CheckedFiring → AutomatonParts
+    → CheckedSchedule → AutomatonParts
 automaton_parts w cs ds vs rs ss =
     record { name = w; constants = cs; parameters = ds; variables = vs; rules = rs; schedule = ss }
 
@@ -54,33 +53,35 @@ abbrev pub automaton_code : Coded AutomatonParts
 automaton_code =
     code_by
     (List ℕ × (List (List ℕ) × (List CheckedDeclared
-    × (List CheckedVariable × (List PlainRule × List CheckedFiring)))))
+    × (List CheckedVariable × (List PlainRule × CheckedSchedule)))))
     (coded× (coded_list coded_ℕ)
     (coded× (coded_list (coded_list coded_ℕ))
     (coded× (coded_list (declared_code shape_code))
     (coded× (coded_list (variable_code coded_ℕ shape_code))
-    (coded× (coded_list rule_code) (coded_list (firing_code coded_ℕ shape_code)))))))
+    (coded× (coded_list rule_code) (schedule_code coded_ℕ shape_code))))))
     (λ a. (a.name, (a.constants, (a.parameters, (a.variables, (a.rules, a.schedule))))))
     (λ t. automaton_parts t.0 t.1.0 t.1.1.0 t.1.1.1.0 t.1.1.1.1.0 t.1.1.1.1.1)
     (λ _. refl)
 
--- a node's program: the number of the node, its automaton, the values of the automaton's parameters, and those of the
--- state variables in the start state
+-- a node's program: the number of the node, its automaton, the values of the automaton's parameters, those of the
+-- state variables in the start state, and the first values of the schedule block's variables
 pub record Parts : Type 0 where
   pub node : ℤ
   pub automaton : AutomatonParts
   pub arguments : List Data
   pub initial : List Data
+  pub block : List Data
 
 -- a program of these parts
-abbrev pub parts : ℤ → AutomatonParts → List Data → List Data → Parts
-parts n a args vs = record { node = n; automaton = a; arguments = args; initial = vs }
+abbrev pub parts : ℤ → AutomatonParts → List Data → List Data → List Data → Parts
+parts n a args vs bs = record { node = n; automaton = a; arguments = args; initial = vs; block = bs }
 
 -- the code of a program: a nest of pairs
 abbrev pub parts_code : Coded Parts
 parts_code =
-    code_by (ℤ × (AutomatonParts × (List Data × List Data)))
-    (coded× coded_ℤ (coded× automaton_code (coded× (coded_list data_code) (coded_list data_code))))
-    (λ p. (p.node, (p.automaton, (p.arguments, p.initial))))
-    (λ t. parts t.0 t.1.0 t.1.1.0 t.1.1.1)
+    code_by (ℤ × (AutomatonParts × (List Data × (List Data × List Data))))
+    (coded× coded_ℤ
+    (coded× automaton_code (coded× (coded_list data_code) (coded× (coded_list data_code) (coded_list data_code)))))
+    (λ p. (p.node, (p.automaton, (p.arguments, (p.initial, p.block)))))
+    (λ t. parts t.0 t.1.0 t.1.1.0 t.1.1.1.0 t.1.1.1.1)
     (λ _. refl)

@@ -1,13 +1,14 @@
 -- When each name that a step reads is resolved to the slot of its value (profile).
-use Rattle.std.specs.Prelude.{◌≡◌, ℕ, List, [], Option, Some, None, length, map, All}
+use Rattle.std.specs.Prelude.{◌≡◌, ℕ, List, [], ◌++◌, Option, Some, None, length, map, All}
 use Rattle.std.specs.List.{AllByRecursion}
 use Rattle.ioa_terms.specs.Resolved.{IsResolved, AreResolved}
 use Rattle.ioa_terms.specs.declared.name.Name.{Name}
 use Rattle.ioa_terms.specs.declared.name.Name.TheVariants.{Word}
 use Rattle.ioa_source.specs.PlainText.{const, named}
-use Rattle.ioa_source.specs.Sides.{CheckedFiring, CheckedParameter, CheckedTerm, CheckedVariable}
-use Rattle.ioa_system.specs.InView.{DeclaredNames, declared_names, names_at, own_names, scope_at}
-use Rattle.ioa_system.specs.InView.{entry_constant, initial_value, entry_condition, guard_or_effect, firing}
+use Rattle.ioa_source.specs.Sides.{CheckedParameter, CheckedSchedule, CheckedTerm, CheckedVariable}
+use Rattle.ioa_system.specs.InView.{DeclaredNames, declared_names, names_at, own_names}
+use Rattle.ioa_system.specs.InView.{parameter_names, variable_names}
+use Rattle.ioa_system.specs.InView.{entry_constant, initial_value, entry_condition, guard_or_effect, block_statement}
 use Rattle.ioa_system.specs.Parts.{AutomatonParts, Parts, PlainRule}
 
 -- the names of a constant parameter are resolved among these; of another parameter nothing is said
@@ -38,30 +39,33 @@ pub record IsResolvedRule (d : DeclaredNames) (r : PlainRule) : Type 0 where
 abbrev pub AreResolvedTerms : List CheckedTerm → List Name → Type 0
 AreResolvedTerms ts names = AllByRecursion (λ t. IsResolved t names) ts
 
--- the names of a firing's arguments are resolved among these
-abbrev pub IsResolvedFiring : CheckedFiring → List Name → Type 0
-IsResolvedFiring f names = AreResolvedTerms f.arguments names
-
--- the same of each firing of a schedule block
-abbrev pub AreResolvedFirings : List CheckedFiring → List Name → Type 0
-AreResolvedFirings fs names = AllByRecursion (λ f. IsResolvedFiring f names) fs
-
 -- the names of initial terms are resolved among these
 abbrev pub AreResolvedVariables : List Name → List CheckedVariable → Type 0
 AreResolvedVariables names vs = AllByRecursion (λ v. IsResolvedGuard v.initial names) vs
 
--- an automaton in which each name is resolved that a step, an initial value or a firing of the schedule reads
+-- a schedule block in which each name is resolved: its initial terms read what those of state variables read, and its
+-- statements assign its own variables alone
+pub record IsResolvedSchedule (d : DeclaredNames) (s : CheckedSchedule) : Type 0 where
+  pub initials : AreResolvedVariables (names_at initial_value d []) s.variables
+  pub statements : AreResolved s.statements (map Word (variable_names s.variables))
+      (names_at block_statement d (variable_names s.variables))
+
+-- an automaton in which each name is resolved that a step, an initial value or the schedule block reads
 pub record IsResolvedAutomaton (a : AutomatonParts) : Type 0 where
   pub rules : All (IsResolvedRule (declared_names a)) a.rules
   pub initials : AreResolvedVariables (names_at initial_value (declared_names a) []) a.variables
-  pub schedule : AreResolvedFirings a.schedule (names_at firing (declared_names a) [])
+  pub schedule : IsResolvedSchedule (declared_names a) a.schedule
 
--- the same, if these are the names that the schedule reads besides the text's constants
-pub record IsCompiled (scope : List (List ℕ)) (a : AutomatonParts) : Type 0 where
-  pub names : scope ≡ scope_at firing (declared_names a) []
+-- the same, if these are the names of the state variables and behind them those of the parameters, and these the names
+-- of the schedule block's own variables
+pub record IsCompiled (scope own : List (List ℕ)) (a : AutomatonParts) : Type 0 where
+  pub names : scope ≡ variable_names a.variables ++ parameter_names a.parameters
+  pub block : own ≡ variable_names a.schedule.variables
   pub resolved : IsResolvedAutomaton a
 
--- a program in which each parameter of the automaton has a value, and each state variable an initial one
+-- a program in which each parameter of the automaton has a value, and each state variable and each variable of the
+-- schedule block a first one
 pub record IsValuedProgram (p : Parts) : Type 0 where
   pub given : length p.arguments ≡ length p.automaton.parameters
   pub valued : length p.initial ≡ length p.automaton.variables
+  pub block : length p.block ≡ length p.automaton.schedule.variables

@@ -11,11 +11,10 @@ use Rattle.ioa_values.specs.DataOrder.{same}
 use Rattle.ioa_values.proofs.Equality.{same_is}
 use Rattle.ioa_operators.specs.SameShapes.{same_shape}
 use Rattle.ioa_operators.specs.ShapeEquality.{same_shape_is}
-use Rattle.ioa_terms.specs.SameTerms.{same_firing}
-use Rattle.ioa_terms.proofs.SameTerms.{same_firing_is}
 use Rattle.ioa_source.specs.Sides.{CheckedDeclared, CheckedVariable}
-use Rattle.ioa_source.specs.SameTexts.{same_declared, same_entry, same_variable, same_transition}
-use Rattle.ioa_source.proofs.SameTexts.{same_declared_is, same_entry_is, same_variable_is, same_transition_is}
+use Rattle.ioa_source.specs.SameTexts.{same_declared, same_entry, same_schedule, same_variable, same_transition}
+use Rattle.ioa_source.proofs.SameTexts.{same_declared_is, same_entry_is, same_schedule_is, same_variable_is}
+use Rattle.ioa_source.proofs.SameTexts.{same_transition_is}
 use Rattle.ioa_system.specs.Parts.{AutomatonParts, Parts, PlainRule}
 
 -- two rules are the same if their entries, the shapes of their arguments, their transitions and the names of their own
@@ -43,14 +42,15 @@ same_automaton a b =
     && (same_parameters a.parameters b.parameters
     && (same_variables a.variables b.variables
     && (pointwise same_rule a.rules b.rules
-    && pointwise (same_firing nat_eq same_shape) a.schedule b.schedule))))
+    && same_schedule nat_eq same_shape a.schedule b.schedule))))
 
 -- two programs are the same if their parts are
 abbrev pub same_program : Parts → Parts → Bool
 same_program a b =
     int_eq a.node b.node
     && (pointwise same a.arguments b.arguments
-    && (pointwise same a.initial b.initial && same_automaton a.automaton b.automaton))
+    && (pointwise same a.initial b.initial
+    && (pointwise same a.block b.block && same_automaton a.automaton b.automaton)))
 
 -- the test finds two rules the same if and only if they are equal
 pub same_rule_is : (a b : PlainRule) → Decides (same_rule a b) (a ≡ b)
@@ -103,21 +103,31 @@ same_automaton_is a b =
     (Decides-and _ _
     (slice_eq-Decides (same_variable_is Decides-eqb same_shape_is) a.variables b.variables _ refl)
     (Decides-and _ _ (slice_eq-Decides same_rule_is a.rules b.rules _ refl)
-    (slice_eq-Decides (same_firing_is Decides-eqb same_shape_is) a.schedule b.schedule _ refl))))))
+    (same_schedule_is Decides-eqb same_shape_is a.schedule b.schedule))))))
 
 -- and two programs
 pub same_program_is : (a b : Parts) → Decides (same_program a b) (a ≡ b)
 same_program_is a b =
     Decides-like _
-    (λ p i. record { node = p.0 i; automaton = p.1.1.1 i; arguments = p.1.0 i; initial = p.1.1.0 i })
+    (λ p i. record {
+      node = p.0 i;
+      automaton = p.1.1.1.1 i;
+      arguments = p.1.0 i;
+      initial = p.1.1.0 i;
+      block = p.1.1.1.0 i;
+    })
     (λ e. (
       ap (λ (p : Parts). p.node) e,
       (
         ap (λ (p : Parts). p.arguments) e,
-        (ap (λ (p : Parts). p.initial) e, ap (λ (p : Parts). p.automaton) e),
+        (
+          ap (λ (p : Parts). p.initial) e,
+          (ap (λ (p : Parts). p.block) e, ap (λ (p : Parts). p.automaton) e),
+        ),
       ),
     ))
     (Decides-and _ _ (Decides-int_eq a.node b.node)
     (Decides-and _ _ (slice_eq-Decides same_is a.arguments b.arguments _ refl)
     (Decides-and _ _ (slice_eq-Decides same_is a.initial b.initial _ refl)
-    (same_automaton_is a.automaton b.automaton))))
+    (Decides-and _ _ (slice_eq-Decides same_is a.block b.block _ refl)
+    (same_automaton_is a.automaton b.automaton)))))

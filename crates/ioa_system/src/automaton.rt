@@ -1,25 +1,24 @@
 //! An automaton of a text, made ready to step.
 
-ghost use Rattle.std.specs.Prelude.{◌≡◌, ◌↔◌, ◌++◌, [], IsTrue, IfSome, All, map, length};
+ghost use Rattle.std.specs.Prelude.{◌≡◌, ◌↔◌, [], IsTrue, IfSome, All, map, length};
 ghost use Rattle.std.specs.Option.{option_copied};
 ghost use Rattle.std.specs.Arc.{arc_value};
 ghost use Rattle.ioa_terms.specs.Bindings.{names_of};
-ghost use Rattle.ioa_terms.specs.View.{firing_of};
-ghost use Rattle.ioa_source.specs.TextView.{declared_of, variable_of};
-ghost use Rattle.ioa_system.specs.InView.{declared_names, names_at, scope_at, given_bindings, firing_bindings};
-ghost use Rattle.ioa_system.specs.InView.{entry_constant, initial_value, entry_condition, guard_or_effect, firing};
+ghost use Rattle.ioa_source.specs.TextView.{declared_of, schedule_of, variable_of};
+ghost use Rattle.ioa_system.specs.InView.{declared_names, names_at, scope_at, given_bindings, block_statement};
+ghost use Rattle.ioa_system.specs.InView.{entry_constant, initial_value, entry_condition, guard_or_effect};
 ghost use Rattle.ioa_system.specs.InView.{parameter_names, variable_names};
 ghost use Rattle.ioa_system.specs.Parts.{automaton_parts, rule_named};
 ghost use Rattle.ioa_system.specs.ResolvedPrograms.{IsCompiled, IsResolvedRule};
-ghost use Rattle.ioa_system.specs.ResolvedPrograms.{AreResolvedFirings, AreResolvedVariables};
-ghost use Rattle.ioa_system.specs.SameParts.{same_rule, same_parameters, same_variables, same_automaton};
+ghost use Rattle.ioa_system.specs.ResolvedPrograms.{AreResolvedVariables, IsResolvedSchedule};
+ghost use Rattle.ioa_system.specs.SameParts.{same_rule, same_parameters, same_automaton};
 
 use crate::scope::Scope;
 use ioa_source::{
-    Declared, Entry, Transition, Variable, is_same_declared, is_same_entry, is_same_transition,
-    is_same_variable,
+    Declared, Entry, Schedule, Transition, Variable, are_same_variables, is_same_declared,
+    is_same_entry, is_same_schedule, is_same_transition,
 };
-use ioa_terms::{Env, Firing, NameLists, Names, Shape, Value, Word, are_same_firings};
+use ioa_terms::{Env, NameLists, Names, Shape, Value, Word};
 use std::marker::Model;
 use std::sync::Arc;
 
@@ -88,8 +87,8 @@ impl PartialEq for Rule {
 }
 
 /// An automaton of a text, made ready to step. The nodes on which it is placed share it. Its type
-/// guarantees that each name which a step, an initial value or a firing of the schedule reads is resolved to
-/// the slot of its value.
+/// guarantees that each name which a step, an initial value or the schedule block reads is resolved to the
+/// slot of its value.
 #[derive(Drop)]
 pub struct CompiledAutomaton {
     name: Word,
@@ -99,7 +98,9 @@ pub struct CompiledAutomaton {
     /// The names of the state variables, and then those of the parameters.
     scope: Scope,
     rules: Vec<Rule>,
-    schedule: Vec<Firing<usize, Shape>>,
+    schedule: Schedule<usize, Shape>,
+    /// The names of the schedule block's own variables.
+    own: Vec<Word>,
 }
 
 impl Model for CompiledAutomaton {
@@ -111,23 +112,22 @@ impl Model for CompiledAutomaton {
 
     ghost use Rattle.std.specs.Prelude.{map};
     ghost use Rattle.std.specs.Arc.{arc_value};
-    ghost use Rattle.ioa_terms.specs.View.{firing_of};
-    ghost use Rattle.ioa_source.specs.TextView.{declared_of, variable_of};
+    ghost use Rattle.ioa_source.specs.TextView.{declared_of, schedule_of, variable_of};
     ghost use Rattle.ioa_system.specs.Parts.{automaton_parts};
 
     ghost view = { λ a. automaton_parts a.name (arc_value a.constants) (map declared_of a.parameters.items)
-        (map variable_of a.variables.items) a.rules.items (map firing_of a.schedule.items) };
+        (map variable_of a.variables.items) a.rules.items (schedule_of a.schedule) };
 
     ghost use Rattle.ioa_system.specs.ResolvedPrograms.{IsCompiled};
 
-    ghost invariant = { λ a. IsCompiled a.scope (automaton_parts a.name (arc_value a.constants)
+    ghost invariant = { λ a. IsCompiled a.scope a.own.items (automaton_parts a.name (arc_value a.constants)
         (map declared_of a.parameters.items) (map variable_of a.variables.items) a.rules.items
-        (map firing_of a.schedule.items)) };
+        (schedule_of a.schedule)) };
 }
 
 impl CompiledAutomaton {
-    /// The automaton of these parts. `constants` are the names of the text's constants, and `scope` has
-    /// the names that a firing reads besides them.
+    /// The automaton of these parts. `constants` are the names of the text's constants, `scope` has those of
+    /// the state variables and behind them those of the parameters, and `own` those of the block's variables.
     pub fn new(
         name: Word,
         constants: Arc<Names>,
@@ -135,12 +135,13 @@ impl CompiledAutomaton {
         variables: Vec<Variable<usize, Shape>>,
         scope: Scope,
         rules: Vec<Rule>,
-        schedule: Vec<Firing<usize, Shape>>,
+        schedule: Schedule<usize, Shape>,
+        own: Vec<Word>,
     ) -> Self
-        requires { IsCompiled scope (automaton_parts name (arc_value constants) (map declared_of parameters.items)
-            (map variable_of variables.items) rules.items (map firing_of schedule.items)) }
+        requires { IsCompiled scope own.items (automaton_parts name (arc_value constants)
+            (map declared_of parameters.items) (map variable_of variables.items) rules.items (schedule_of schedule)) }
         ensures { result ≡ automaton_parts name (arc_value constants) (map declared_of parameters.items)
-            (map variable_of variables.items) rules.items (map firing_of schedule.items) }
+            (map variable_of variables.items) rules.items (schedule_of schedule) }
     {
         CompiledAutomaton {
             name,
@@ -150,6 +151,7 @@ impl CompiledAutomaton {
             scope,
             rules,
             schedule,
+            own,
         }
     }
 
@@ -204,13 +206,12 @@ impl CompiledAutomaton {
         None
     }
 
-    /// The firings of the schedule block.
-    pub fn schedule(&self) -> &[Firing<usize, Shape>]
-        ensures value { map firing_of result.now ≡ self.now.schedule }
-        ensures resolved { AreResolvedFirings (map firing_of result.now)
-            (names_at firing (declared_names self.now) []) }
+    /// The schedule block.
+    pub fn schedule(&self) -> &Schedule<usize, Shape>
+        ensures value { schedule_of result.now ≡ self.now.schedule }
+        ensures resolved { IsResolvedSchedule (declared_names self.now) (schedule_of result.now) }
     {
-        self.schedule.as_slice()
+        &self.schedule
     }
 
     /// What constants of entries and initial values read, if a node gives the parameters these values.
@@ -224,17 +225,6 @@ impl CompiledAutomaton {
             arguments,
             self.constants.as_slice(),
         )
-    }
-
-    /// What a firing reads, if a node gives the parameters and the state variables these values.
-    pub fn firing_env<'a>(&'a self, arguments: &'a [Value], variables: &'a [Value]) -> Env<'a>
-        requires given { length arguments.now ≡ length self.now.parameters }
-        requires valued { length variables.now ≡ length self.now.variables }
-        ensures value { result ≡ firing_bindings self.now arguments.now variables.now }
-        ensures names { names_of result ≡ names_at firing (declared_names self.now) [] }
-    {
-        let names = NameLists::one(self.scope.as_slice());
-        Env::with_given(names, variables, arguments, self.constants.as_slice())
     }
 
     /// The names in view in the condition of a rule's entry.
@@ -252,6 +242,18 @@ impl CompiledAutomaton {
             self.variable_names(),
             self.parameter_names(),
             rule.own.as_slice(),
+        )
+    }
+
+    /// The names in view in the statements of the schedule block: its own variables' first.
+    pub fn block_names(&self) -> NameLists<'_>
+        ensures { result ≡ scope_at block_statement (declared_names self.now)
+            (variable_names self.now.schedule.variables) }
+    {
+        NameLists::new(
+            self.own.as_slice(),
+            self.variable_names(),
+            self.parameter_names(),
         )
     }
 
@@ -287,7 +289,7 @@ impl CompiledAutomaton {
                 && (are_same_parameters(&self.parameters, &other.parameters)
                     && (are_same_variables(&self.variables, &other.variables)
                         && (self.rules == other.rules
-                            && are_same_firings(&self.schedule, &other.schedule)))))
+                            && is_same_schedule(&self.schedule, &other.schedule)))))
     }
 }
 
@@ -301,19 +303,4 @@ fn are_same_parameters(parameters: &Vec<Declared<Shape>>, others: &Vec<Declared<
         }
     }
     parameters.len() == others.len()
-}
-
-/// Whether state variables are the same, one by one, and as many.
-fn are_same_variables(
-    variables: &Vec<Variable<usize, Shape>>,
-    others: &Vec<Variable<usize, Shape>>,
-) -> bool
-    ensures { result ≡ same_variables (map variable_of variables.now.items) (map variable_of others.now.items) }
-{
-    for position in 0..variables.len().min(others.len()) {
-        if !is_same_variable(&variables[position], &others[position]) {
-            return false;
-        }
-    }
-    variables.len() == others.len()
 }

@@ -11,13 +11,14 @@ use std::marker::Model;
 use std::sync::Arc;
 
 /// A node's program. Its type guarantees that each parameter of the automaton has a value, and each state
-/// variable an initial one.
+/// variable and each variable of the schedule block a first one.
 #[derive(Drop)]
 pub struct Program {
     node: i64,
     automaton: Arc<CompiledAutomaton>,
     arguments: Vec<Value>,
     initial: Vec<Value>,
+    block: Vec<Value>,
 }
 
 impl Model for Program {
@@ -30,32 +31,36 @@ impl Model for Program {
     ghost use Rattle.std.specs.Arc.{arc_value};
     ghost use Rattle.ioa_system.specs.Parts.{parts};
 
-    ghost view = { λ p. parts p.node (arc_value p.automaton) p.arguments.items p.initial.items };
+    ghost view = { λ p. parts p.node (arc_value p.automaton) p.arguments.items p.initial.items p.block.items };
 
     ghost use Rattle.ioa_system.specs.ResolvedPrograms.{IsValuedProgram};
 
     ghost invariant = { λ p. IsValuedProgram
-        (parts p.node (arc_value p.automaton) p.arguments.items p.initial.items) };
+        (parts p.node (arc_value p.automaton) p.arguments.items p.initial.items p.block.items) };
 }
 
 impl Program {
     /// The program of a node on which an automaton is placed: `arguments` are the values of the
-    /// automaton's parameters, and `initial` those of its state variables in the start state.
+    /// automaton's parameters, `initial` those of its state variables in the start state, and `block` the
+    /// first ones of its schedule block's variables.
     pub fn new(
         node: i64,
         automaton: Arc<CompiledAutomaton>,
         arguments: Vec<Value>,
         initial: Vec<Value>,
+        block: Vec<Value>,
     ) -> Self
         requires given { length arguments.items ≡ length (arc_value automaton).parameters }
         requires valued { length initial.items ≡ length (arc_value automaton).variables }
-        ensures { result ≡ parts node (arc_value automaton) arguments.items initial.items }
+        requires block { length block.items ≡ length (arc_value automaton).schedule.variables }
+        ensures { result ≡ parts node (arc_value automaton) arguments.items initial.items block.items }
     {
         Program {
             node,
             automaton,
             arguments,
             initial,
+            block,
         }
     }
 
@@ -89,6 +94,14 @@ impl Program {
         self.initial.as_slice()
     }
 
+    /// The first values of the schedule block's variables.
+    pub fn block(&self) -> &[Value]
+        ensures value { result.now ≡ self.now.block }
+        ensures valued { length result.now ≡ length self.now.automaton.schedule.variables }
+    {
+        self.block.as_slice()
+    }
+
     /// Whether two programs are the same, whatever memory they are kept in. Costs time in proportion to the
     /// shorter one.
     #[tactic(auto, using(crate::specs::SameParts::same_program_is))]
@@ -105,6 +118,7 @@ impl Program {
     {
         self.node == other.node
             && (self.arguments == other.arguments
-                && (self.initial == other.initial && self.automaton.is_same(&other.automaton)))
+                && (self.initial == other.initial
+                    && (self.block == other.block && self.automaton.is_same(&other.automaton))))
     }
 }

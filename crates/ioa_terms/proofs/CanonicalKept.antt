@@ -9,7 +9,7 @@ use Rattle.ioa_terms.specs.declared.name.Name.{Name}
 use Rattle.ioa_terms.specs.declared.name.Name.TheVariants.{Word}
 use Rattle.ioa_terms.specs.Bindings.{Bindings, same_name, lookup, put}
 use Rattle.ioa_terms.specs.PlainTerm as plain
-use Rattle.ioa_terms.specs.PlainTerm.{PlainTerm, PlainTerms, name, one, two, call, display, field, no_terms, term, PlainTarget, variable, at_key, at_field, PlainStatement, PlainStatements, PlainArms, assign, branch, no_statements, statement, no_arms, arm, statements_of}
+use Rattle.ioa_terms.specs.PlainTerm.{PlainTerm, PlainTerms, name, one, two, call, display, field, no_terms, term, PlainTarget, variable, at_key, at_field, PlainStatement, PlainStatements, PlainArms, assign, branch, loop, fire, no_statements, statement, no_arms, arm, statements_of}
 use Rattle.ioa_terms.specs.Meaning.{value, values, named_call_value}
 use Rattle.ioa_terms.specs.Performance.{target_name, target_shape, updated_map, assignment_value, fitting_value, test_value, by_test, after_one, after_choice, after_all, after}
 use Rattle.ioa_terms.specs.Ascending.{IsAscendingEnvironment}
@@ -103,6 +103,8 @@ mutual
       (and_then_holds IsCanonical IsCanonical (fitting_value (target_shape p)) (assignment_value p t e) (assigned_canonical p t e g) (fitted_canonical (target_shape p)))
       (λ v h. put_canonical (target_name p) v e h g)
   statement_canonical (branch arms rest) e g = choice_canonical arms (after_all rest e) e g (statements_canonical rest e g)
+  statement_canonical (loop t body) e g = tt
+  statement_canonical (fire f) e g = tt
 
   choice_canonical : {N : Type 0} (arms : PlainArms N Shape) (rest : Option Bindings) (e : Bindings) → IsAscendingEnvironment e → IfSome rest IsAscendingEnvironment → IfSome (after_choice arms rest e) IsAscendingEnvironment
   choice_canonical no_arms rest e g h = h

@@ -10,7 +10,7 @@ use Rattle.ioa_operators.specs.RangeCheck.{range_check, checked_result}
 use Rattle.ioa_terms.specs.declared.name.Name.{Name}
 use Rattle.ioa_terms.specs.declared.name.Name.TheVariants.{Word}
 use Rattle.ioa_terms.specs.Bindings.{Bindings, lookup, put}
-use Rattle.ioa_terms.specs.PlainTerm.{PlainTerm, PlainTarget, variable, at_key, at_field, PlainStatement, PlainStatements, PlainArms, assign, branch, no_statements, statement, no_arms, arm, statements_of}
+use Rattle.ioa_terms.specs.PlainTerm.{PlainTerm, PlainTarget, variable, at_key, at_field, PlainStatement, PlainStatements, PlainArms, assign, branch, loop, fire, no_statements, statement, no_arms, arm, statements_of}
 use Rattle.ioa_terms.specs.Meaning.{value, numbers_met, if_any}
 use Rattle.ioa_terms.specs.Performance.{target_name, target_shape, updated_map, assignment_value, fitting_value, test_value, by_test, after_one, after_choice, after_all, numbers_met_by_assignment, numbers_met_after, numbers_met_by_one, numbers_met_by_choice, numbers_met_by_all, answer_by}
 use Rattle.ioa_terms.specs.Resolved.{AreAllResolved, AreResolved}
@@ -121,6 +121,8 @@ mutual
   stepwise_one_is : {N : Type 0} (s : PlainStatement N Shape) (e : Bindings) → stepwise_one s e ≡ range_check (numbers_met_by_one s e) (after_one s e)
   stepwise_one_is (assign p t) e = rw (stepwise_assignment_is p t e) (put_is (numbers_met_by_assignment p t e) (assignment_value p t e) (target_name p) (target_shape p) e)
   stepwise_one_is (branch arms rest) e = rw (stepwise_all_is rest e) (stepwise_choice_is arms (numbers_met_by_all rest e) (after_all rest e) e)
+  stepwise_one_is (loop t body) e = refl
+  stepwise_one_is (fire f) e = refl
 
   stepwise_choice_is : {N : Type 0} (arms : PlainArms N Shape) (ds : List Data) (rest : Option Bindings) (e : Bindings) → stepwise_choice arms (range_check ds rest) e ≡ range_check (numbers_met_by_choice arms ds e) (after_choice arms rest e)
   stepwise_choice_is no_arms ds rest e = refl

@@ -15,7 +15,7 @@ use Rattle.ioa_operators.specs.declared.operator.BinaryOperator.{BinaryOperator}
 use Rattle.ioa_operators.specs.declared.shape.DisplayForm.{DisplayForm}
 use Rattle.ioa_terms.specs.contracts.tree.Kind as kind
 use Rattle.ioa_terms.specs.declared.tree.Kind.{Kind}
-use Rattle.ioa_terms.specs.PlainTerm.{PlainTerm, PlainTerms, PlainTarget, PlainStatement, PlainStatements, PlainArms, number, truth, name, one, two, call, display, field, no_terms, term, terms_of, variable, at_key, at_field, assign, branch, PlainFiring, firing, no_statements, statement, statements_of, no_arms, arm}
+use Rattle.ioa_terms.specs.PlainTerm.{PlainTerm, PlainTerms, PlainTarget, PlainStatement, PlainStatements, PlainArms, number, truth, name, one, two, call, display, field, no_terms, term, terms_of, variable, at_key, at_field, assign, branch, loop, fire, PlainFiring, firing, no_statements, statement, statements_of, no_arms, arm}
 use Rattle.ioa_terms.specs.SameNames.{same_name_is}
 use Rattle.ioa_terms.specs.SameTerms.{same_unary, same_binary, same_form, same_kind, same_term, same_terms, same_target, same_statement, same_statements, same_arms, same_firing}
 
@@ -127,6 +127,14 @@ module _ {N D : Type 0} {n : N → N → Bool} {d : D → D → Bool} (n_is : (x
   target_itself (at_key w x s a) = rw ((bytes_eq-Decides w w).1 refl, (n_is x x).1 refl, (d_is s s).1 refl, term_itself a) refl
   target_itself (at_field w x s f) = rw ((bytes_eq-Decides w w).1 refl, (n_is x x).1 refl, (d_is s s).1 refl, (bytes_eq-Decides f f).1 refl) refl
 
+  -- the test finds two firings the same if and only if they are equal
+  pub same_firing_is : (a b : PlainFiring N D) → Decides (same_firing n d a b) (a ≡ b)
+  same_firing_is a b =
+      Decides-like _ (λ p i. firing (p.0 i) (p.1.0 i) (p.1.1 i))
+      (λ e. (ap (λ (f : PlainFiring N D). f.kind) e, (ap (λ (f : PlainFiring N D). f.action) e, ap (λ (f : PlainFiring N D). f.arguments) e)))
+      (Decides-and _ _ (option_is kind_is a.kind b.kind)
+      (Decides-and _ _ (bytes_eq-Decides a.action b.action) (same_terms_is a.arguments b.arguments)))
+
   mutual
     statement_equal : (a b : PlainStatement N D) → same_statement n d a b ≡ true → a ≡ b
     statement_equal (assign x t) (assign y u) h =
@@ -135,6 +143,10 @@ module _ {N D : Type 0} {n : N → N → Bool} {d : D → D → Bool} (n_is : (x
     statement_equal (branch xs ss) (branch ys ts) h =
         let p = and_parts _ _ h in
         λ i. branch (arms_equal xs ys p.0 i) (statements_equal ss ts p.1 i)
+    statement_equal (loop t ss) (loop u ts) h =
+        let p = and_parts _ _ h in
+        λ i. loop (term_equal t u p.0 i) (statements_equal ss ts p.1 i)
+    statement_equal (fire f) (fire g) h = λ i. fire ((same_firing_is f g).0 h i)
     statement_equal a b h = absurd (cc)
 
     statements_equal : (ss ts : PlainStatements N D) → same_statements n d ss ts ≡ true → ss ≡ ts
@@ -156,6 +168,8 @@ module _ {N D : Type 0} {n : N → N → Bool} {d : D → D → Bool} (n_is : (x
     statement_itself : (a : PlainStatement N D) → same_statement n d a a ≡ true
     statement_itself (assign x t) = rw (target_itself x, term_itself t) refl
     statement_itself (branch xs ss) = rw (arms_itself xs, statements_itself ss) refl
+    statement_itself (loop t ss) = rw (term_itself t, statements_itself ss) refl
+    statement_itself (fire f) = (same_firing_is f f).1 refl
 
     statements_itself : (ss : PlainStatements N D) → same_statements n d ss ss ≡ true
     statements_itself no_statements = refl
@@ -181,11 +195,3 @@ module _ {N D : Type 0} {n : N → N → Bool} {d : D → D → Bool} (n_is : (x
 
   pub same_statements_is : (ss ts : List (PlainStatement N D)) → Decides (same_statements n d (statements_of ss) (statements_of ts)) (ss ≡ ts)
   same_statements_is ss ts = (λ h. listed_statements ss ts (statements_equal (statements_of ss) (statements_of ts) h), λ e. rw (← e) (statements_itself (statements_of ss)))
-
-  -- the test finds two firings the same if and only if they are equal
-  pub same_firing_is : (a b : PlainFiring N D) → Decides (same_firing n d a b) (a ≡ b)
-  same_firing_is a b =
-      Decides-like _ (λ p i. firing (p.0 i) (p.1.0 i) (p.1.1 i))
-      (λ e. (ap (λ (f : PlainFiring N D). f.kind) e, (ap (λ (f : PlainFiring N D). f.action) e, ap (λ (f : PlainFiring N D). f.arguments) e)))
-      (Decides-and _ _ (option_is kind_is a.kind b.kind)
-      (Decides-and _ _ (bytes_eq-Decides a.action b.action) (same_terms_is a.arguments b.arguments)))

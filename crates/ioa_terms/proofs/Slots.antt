@@ -1,10 +1,10 @@
 -- Names and the slots of their values.
-use Rattle.std.proofs.Common.{◌≡◌, ℕ, zero, suc, ◌+◌, ◌<◌, ◌≤◌, min, Bool, true, false, List, [], ◌∷◌, ◌++◌, Option, Some, None, refl, sym, ap, subst, ◌∙◌, length, map, take, set, arith, if◌then◌else◌, inl, inr, ◌⊎◌, get_or, append-nil}
+use Rattle.std.proofs.Common.{◌≡◌, ℕ, zero, suc, ◌+◌, ◌<◌, ◌≤◌, min, Bool, true, false, List, [], ◌∷◌, ◌++◌, Option, Some, None, refl, sym, ap, subst, ◌∙◌, length, map, take, drop, set, arith, if◌then◌else◌, inl, inr, ◌⊎◌, get_or, append-nil}
 use Rattle.std.specs.List.{zip, slice_get}
-use Rattle.std.proofs.lemmas.List.{length-map, map-append}
+use Rattle.std.proofs.lemmas.List.{length-map, map-append, take-append-drop, take_all}
 use Rattle.std.proofs.lemmas.Slice.Zip.{firsts-zip}
 use Rattle.std.specs.Option.{option_map}
-use Rattle.ioa_terms.specs.PlainTerm.{PlainTarget, variable, at_key, at_field, PlainStatement, PlainStatements, PlainArms, assign, branch, no_statements, statement, no_arms, arm}
+use Rattle.ioa_terms.specs.PlainTerm.{PlainTarget, variable, at_key, at_field, PlainStatement, PlainStatements, PlainArms, assign, branch, loop, fire, no_statements, statement, no_arms, arm}
 use Rattle.ioa_terms.specs.Resolved.{IsResolvedTarget, IsResolvedStatement, AreArmsResolved, AreAllResolved, AreResolved}
 use Rattle.ioa_operators.specs.declared.shape.Shape.{Shape}
 use Rattle.ioa_values.specs.Data.{Data, constant}
@@ -32,6 +32,20 @@ environment_given [] vs gs cs i j d at h g = absurd (omega arith)
 environment_given (n ∷ names) [] gs cs i j d at h g = let same : i ≡ j = omega arith in rw same (environment_variable (n ∷ names) gs cs j d (omega arith) g)
 environment_given (n ∷ names) (v ∷ vs) gs cs zero j d at h g = absurd (omega arith)
 environment_given (n ∷ names) (v ∷ vs) gs cs (suc i) j d at h g = environment_given names vs gs cs i j d (omega arith) (omega arith) g
+
+-- what is at a slot among the values that the first of two further owners lends
+pub environment_middle : (names : List Name) (vs fs gs : List Data) (cs : List (List ℕ)) (i j : ℕ) (d : Data) → i ≡ length vs + j → i < length names → j < length fs → option_map (λ (b : Name × Data). b.1) (slice_get (environment names (vs ++ (fs ++ gs)) cs) i) ≡ Some (get_or fs j d)
+environment_middle [] vs fs gs cs i j d at h g = absurd (omega arith)
+environment_middle (n ∷ names) [] fs gs cs i j d at h g = let same : i ≡ j = omega arith in rw same (environment_first (n ∷ names) fs gs cs j d (omega arith) g)
+environment_middle (n ∷ names) (v ∷ vs) fs gs cs zero j d at h g = absurd (omega arith)
+environment_middle (n ∷ names) (v ∷ vs) fs gs cs (suc i) j d at h g = environment_middle names vs fs gs cs i j d (omega arith) (omega arith) g
+
+-- what is at a slot among the values that the second lends
+pub environment_last : (names : List Name) (vs fs gs : List Data) (cs : List (List ℕ)) (i j : ℕ) (d : Data) → i ≡ length vs + (length fs + j) → i < length names → j < length gs → option_map (λ (b : Name × Data). b.1) (slice_get (environment names (vs ++ (fs ++ gs)) cs) i) ≡ Some (get_or gs j d)
+environment_last [] vs fs gs cs i j d at h g = absurd (omega arith)
+environment_last (n ∷ names) [] fs gs cs i j d at h g = environment_given (n ∷ names) fs gs cs i j d (omega arith) h g
+environment_last (n ∷ names) (v ∷ vs) fs gs cs zero j d at h g = absurd (omega arith)
+environment_last (n ∷ names) (v ∷ vs) fs gs cs (suc i) j d at h g = environment_last names vs fs gs cs i j d (omega arith) (omega arith) g
 
 -- behind the variables are the constants
 behind : (names : List Name) (vs : List Data) (cs : List (List ℕ)) (i j : ℕ) → i ≡ min (length names) (length vs) + j → slice_get (environment names vs cs) i ≡ slice_get (constants_from 0 cs) j
@@ -93,14 +107,24 @@ slot_among_more (n ∷ names) more x p h =
       | inr w ↦ rw (w.0, w.3, slot_among_more names more x w.1 w.2) (ap (λ k. Some k) (omega arith))
     ]
 
--- a new value of a variable is at the variable's slot
-pub put_environment : (names : List (List ℕ)) (vs : List Data) (cs : List (List ℕ)) (x : Name) (p : ℕ) (v : Data) → length names ≡ length vs → slot_in x (map Word names) ≡ Some p → put x v (environment (map Word names) vs cs) ≡ environment (map Word names) (set vs p v) cs
-put_environment [] vs cs x p v many h = absurd (cc)
-put_environment (n ∷ names) [] cs x p v many h = absurd (omega arith)
-put_environment (n ∷ names) (u ∷ vs) cs x p v many h =
-    elim (slot_first (same_name x (Word n)) (map Word names) x p h) [
+-- the slot of a name among the first of several is one of theirs
+pub slot_within_first : (names : List Name) (count : ℕ) (x : Name) (p : ℕ) → slot_in x (take count names) ≡ Some p → p < count
+slot_within_first names zero x p h = absurd (cc)
+slot_within_first [] (suc count) x p h = absurd (cc)
+slot_within_first (n ∷ names) (suc count) x p h =
+    elim (slot_first (same_name x n) (take count names) x p h) [
+      | inl w ↦ omega arith
+      | inr w ↦ let less = slot_within_first names count x w.1 w.2 in omega arith
+    ]
+
+-- a new value of one of the first variables is at its slot, and what is lent behind them stays
+pub put_among_first : (names : List (List ℕ)) (vs gs : List Data) (cs : List (List ℕ)) (x : Name) (p : ℕ) (v : Data) → slot_in x (take (length vs) (map Word names)) ≡ Some p → put x v (environment (map Word names) (vs ++ gs) cs) ≡ environment (map Word names) (set vs p v ++ gs) cs
+put_among_first names [] gs cs x p v h = absurd (cc)
+put_among_first [] (u ∷ vs) gs cs x p v h = absurd (cc)
+put_among_first (n ∷ names) (u ∷ vs) gs cs x p v h =
+    elim (slot_first (same_name x (Word n)) (take (length vs) (map Word names)) x p h) [
       | inl w ↦ rw (w.0, w.1) refl
-      | inr w ↦ rw (w.0, w.3) (ap (λ (e : Bindings). (Word n, u) ∷ e) (put_environment names vs cs x w.1 v (omega arith) w.2))
+      | inr w ↦ rw (w.0, w.3) (ap (λ (e : Bindings). (Word n, u) ∷ e) (put_among_first names vs gs cs x w.1 v w.2))
     ]
 
 -- the names of pairs
@@ -118,6 +142,14 @@ names_environment names vs cs h = rw (map-append Word names cs, map-append (λ (
 -- if no value is given besides, an environment has the first values alone
 pub none_given : (names : List Name) (vs : List Data) (cs : List (List ℕ)) → environment names (vs ++ []) cs ≡ environment names vs cs
 none_given names vs cs = ap (λ (ds : List Data). environment names ds cs) (append-nil vs)
+
+-- if the second of two further owners lends nothing, the values are those of the first
+pub given_alone : (names : List Name) (vs gs : List Data) (cs : List (List ℕ)) → environment names (vs ++ (gs ++ [])) cs ≡ environment names (vs ++ gs) cs
+given_alone names vs gs cs = ap (λ (ds : List Data). environment names (vs ++ ds) cs) (append-nil gs)
+
+-- if as many values are there as names, all names are among the first
+pub first_names : (names : List (List ℕ)) (vs : List Data) → length names ≡ length vs → take (length vs) (map Word names) ≡ map Word names
+first_names names vs h = take_all (length vs) (map Word names) (let named = length-map names Word in omega arith)
 
 -- the names of one owner
 pub one_list : (names : List (List ℕ)) → names ++ ([] ++ []) ≡ names
@@ -144,6 +176,8 @@ mutual
   statement_widely : {D : Type 0} (s : PlainStatement ℕ D) (xs more names : List Name) → IsResolvedStatement s xs names → IsResolvedStatement s (xs ++ more) names
   statement_widely (assign p t) xs more names h = (target_widely p xs more names h.0, h.1)
   statement_widely (branch arms rest) xs more names h = (arms_widely arms xs more names h.0, all_widely rest xs more names h.1)
+  statement_widely (loop t body) xs more names h = (h.0, all_widely body xs more names h.1)
+  statement_widely (fire f) xs more names h = h
 
   arms_widely : {D : Type 0} (arms : PlainArms ℕ D) (xs more names : List Name) → AreArmsResolved arms xs names → AreArmsResolved arms (xs ++ more) names
   arms_widely no_arms xs more names h = tt
@@ -162,3 +196,9 @@ pub target_among_more : (p : PlainTarget ℕ Shape) (names more : List (List ℕ
 target_among_more p names more h =
     subst (λ (ns : List Name). IsResolvedTarget p ns (map Word (names ++ more))) (sym (map-append Word names more))
     (target_widely p (map Word names) (map Word more) (map Word (names ++ more)) h)
+
+-- a target among the first variables is one among the names in view
+pub target_among_all : (p : PlainTarget ℕ Shape) (names more : List (List ℕ)) (count : ℕ) → IsResolvedTarget p (take count (map Word names)) (map Word (names ++ more)) → IsResolvedTarget p (map Word (names ++ more)) (map Word (names ++ more))
+target_among_all p names more count h =
+    let widely = target_widely p (take count (map Word names)) (drop count (map Word names)) (map Word (names ++ more)) h in
+    target_among_more p names more (subst (λ (ns : List Name). IsResolvedTarget p ns (map Word (names ++ more))) (take-append-drop count (map Word names)) widely)

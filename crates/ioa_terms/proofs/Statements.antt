@@ -9,7 +9,7 @@ use Rattle.ioa_terms.specs.declared.name.Name.TheVariants.{Word}
 use Rattle.ioa_terms.specs.Bindings.{Bindings, names_of, same_name, put}
 use Rattle.ioa_terms.specs.Meaning.{value}
 use Rattle.ioa_terms.specs.Performance.{target_name, target_shape, assignment_value, fitting_value, test_value, by_test, after_one, after_choice, after_all, after}
-use Rattle.ioa_terms.specs.PlainTerm.{PlainTerm, PlainStatement, PlainStatements, PlainArms, variable, assign, branch, no_statements, statement, no_arms, arm, statements_of}
+use Rattle.ioa_terms.specs.PlainTerm.{PlainTerm, PlainStatement, PlainStatements, PlainArms, variable, assign, branch, loop, fire, no_statements, statement, no_arms, arm, statements_of}
 
 -- later statements start from what the earlier ones leave
 pub after_in_order : {N : Type 0} (earlier later : List (PlainStatement N Shape)) (e : Bindings) → after (earlier ++ later) e ≡ option_and_then (after later) (after earlier e)
@@ -62,6 +62,8 @@ mutual
   statement_names : {N : Type 0} (s : PlainStatement N Shape) (e : Bindings) → IfSome (after_one s e) (HasNamesOf e)
   statement_names (assign p t) e = put_option_names (target_name p) e (option_and_then (fitting_value (target_shape p)) (assignment_value p t e))
   statement_names (branch arms rest) e = choice_names arms (after_all rest e) e (statements_names rest e)
+  statement_names (loop t body) e = tt
+  statement_names (fire f) e = tt
 
   choice_names : {N : Type 0} (arms : PlainArms N Shape) (rest : Option Bindings) (e : Bindings) → IfSome rest (HasNamesOf e) → IfSome (after_choice arms rest e) (HasNamesOf e)
   choice_names no_arms rest e h = h

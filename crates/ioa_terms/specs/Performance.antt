@@ -1,4 +1,5 @@
--- What statements mean (profile): each sees the environment that the one before it left.
+-- What the statements of an effect mean (profile): each sees the environment that the one before it left. A `while` and
+-- a `fire` are statements of schedule blocks; in an effect they mean nothing.
 use Rattle.std.specs.Prelude.{Bool, true, false, if◌then◌else◌, List, [], ◌∷◌, ◌++◌, Option, Some, None, Result}
 use Rattle.std.specs.Option.{option_and_then, option_map}
 use Rattle.ioa_values.specs.Data.{Data, as_truth}
@@ -9,7 +10,7 @@ use Rattle.ioa_terms.specs.declared.name.Name.{Name}
 use Rattle.ioa_terms.specs.declared.name.Name.TheVariants.{Word}
 use Rattle.ioa_terms.specs.Bindings.{Bindings, lookup, put}
 use Rattle.ioa_terms.specs.PlainTerm.{PlainTerm, PlainTarget, variable, at_key, at_field}
-use Rattle.ioa_terms.specs.PlainTerm.{PlainStatement, PlainStatements, PlainArms, assign, branch}
+use Rattle.ioa_terms.specs.PlainTerm.{PlainStatement, PlainStatements, PlainArms, assign, branch, loop, fire}
 use Rattle.ioa_terms.specs.PlainTerm.{no_statements, statement, no_arms, arm, statements_of}
 use Rattle.ioa_terms.specs.Meaning.{value, numbers_met, if_any}
 use Rattle.ioa_operators.specs.declared.operator.Function.TheVariants as function
@@ -63,6 +64,8 @@ abbrev mutual
       option_map (λ v. put (target_name p) v e)
       (option_and_then (fitting_value (target_shape p)) (assignment_value p t e))
   after_one (branch arms rest) e = after_choice arms (after_all rest e) e
+  after_one (loop t body) e = None
+  after_one (fire f) e = None
 
   -- the environment after the first arm whose test is true, or after the rest if none is
   pub after_choice : {N : Type 0} → PlainArms N Shape → Option Bindings → Bindings → Option Bindings
@@ -90,6 +93,8 @@ abbrev mutual
   pub numbers_met_by_one : {N : Type 0} → PlainStatement N Shape → Bindings → List Data
   numbers_met_by_one (assign p t) e = numbers_met_by_assignment p t e
   numbers_met_by_one (branch arms rest) e = numbers_met_by_choice arms (numbers_met_by_all rest e) e
+  numbers_met_by_one (loop t body) e = []
+  numbers_met_by_one (fire f) e = []
 
   -- the results that a choice meets: tests in order, and then those of what is chosen
   pub numbers_met_by_choice : {N : Type 0} → PlainArms N Shape → List Data → Bindings → List Data

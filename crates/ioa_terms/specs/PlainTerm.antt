@@ -38,11 +38,26 @@ pub data PlainTarget (N D : Type 0) : Type 0 where
   at_field : List ℕ → N → D → List ℕ → PlainTarget N D
   deriving IsSet as PlainTarget-set
 
+-- what a schedule block asks for (profile): an action of this name with these arguments, and of this kind if one is
+-- written
+pub record PlainFiring (N D : Type 0) : Type 0 where
+  pub kind : Option Kind
+  pub action : List ℕ
+  pub arguments : List (PlainTerm N D)
+  deriving IsSet as PlainFiring-set
+
+-- a firing of these parts
+abbrev pub firing : {N D : Type 0} → Option Kind → List ℕ → List (PlainTerm N D) → PlainFiring N D
+firing k a ts = record { kind = k; action = a; arguments = ts }
+
 mutual
-  -- a statement of an effect (profile): an assignment, or an `if` of arms and the rest
+  -- a statement (profile): an assignment, or an `if` of arms and the rest; in a schedule block also a `while` of a test
+  -- and its body, or a `fire`
   pub data PlainStatement (N D : Type 0) : Type 0 where
     assign : PlainTarget N D → PlainTerm N D → PlainStatement N D
     branch : PlainArms N D → PlainStatements N D → PlainStatement N D
+    loop : PlainTerm N D → PlainStatements N D → PlainStatement N D
+    fire : PlainFiring N D → PlainStatement N D
     deriving IsSet as PlainStatement-set
 
   -- statements one after another
@@ -62,14 +77,3 @@ statements_of (s ∷ more) = statement s (statements_of more)
 abbrev pub arms_of : {N D : Type 0} → List (PlainTerm N D × PlainStatements N D) → PlainArms N D
 arms_of [] = no_arms
 arms_of (a ∷ more) = arm a.0 a.1 (arms_of more)
-
--- a statement of a schedule block (profile): the firing of an action, with its kind if that is written
-pub record PlainFiring (N D : Type 0) : Type 0 where
-  pub kind : Option Kind
-  pub action : List ℕ
-  pub arguments : List (PlainTerm N D)
-  deriving IsSet as PlainFiring-set
-
--- a firing of these parts
-abbrev pub firing : {N D : Type 0} → Option Kind → List ℕ → List (PlainTerm N D) → PlainFiring N D
-firing k a ts = record { kind = k; action = a; arguments = ts }

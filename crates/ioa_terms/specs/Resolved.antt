@@ -7,7 +7,8 @@ use Rattle.ioa_terms.specs.Bindings.{slot_in}
 use Rattle.ioa_terms.specs.PlainTerm as plain
 use Rattle.ioa_terms.specs.PlainTerm.{PlainTerm, PlainTerms, name, one, two, call, display, field, no_terms, term}
 use Rattle.ioa_terms.specs.PlainTerm.{PlainTarget, variable, at_key, at_field}
-use Rattle.ioa_terms.specs.PlainTerm.{PlainStatement, PlainStatements, PlainArms, assign, branch}
+use Rattle.ioa_terms.specs.PlainTerm.{PlainStatement, PlainStatements, PlainArms, assign, branch, loop, fire}
+use Rattle.ioa_terms.specs.PlainTerm.{PlainFiring}
 use Rattle.ioa_terms.specs.PlainTerm.{no_statements, statement, no_arms, arm}
 
 abbrev mutual
@@ -33,12 +34,18 @@ IsResolvedTarget (variable x at d) variables names = slot_in (Word x) variables 
 IsResolvedTarget (at_key x at d k) variables names = (slot_in (Word x) variables ≡ Some at) × IsResolved k names
 IsResolvedTarget (at_field x at d f) variables names = slot_in (Word x) variables ≡ Some at
 
+-- the same of the arguments of a firing
+abbrev pub IsResolvedFiring : {D : Type 0} → PlainFiring ℕ D → List Name → Type 0
+IsResolvedFiring f names = AllByRecursion (λ t. IsResolved t names) f.arguments
+
 abbrev mutual
   -- the same of a statement: what it assigns are variables, and what it reads are names in view
   pub IsResolvedStatement : {D : Type 0} → PlainStatement ℕ D → List Name → List Name → Type 0
   IsResolvedStatement (assign p t) variables names = IsResolvedTarget p variables names × IsResolved t names
   IsResolvedStatement (branch arms rest) variables names =
       AreArmsResolved arms variables names × AreAllResolved rest variables names
+  IsResolvedStatement (loop t body) variables names = IsResolved t names × AreAllResolved body variables names
+  IsResolvedStatement (fire f) variables names = IsResolvedFiring f names
 
   -- the same of each arm
   pub AreArmsResolved : {D : Type 0} → PlainArms ℕ D → List Name → List Name → Type 0

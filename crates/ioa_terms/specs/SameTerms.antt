@@ -15,7 +15,7 @@ use Rattle.ioa_terms.specs.contracts.tree.Kind as kind
 use Rattle.ioa_terms.specs.declared.tree.Kind.{Kind}
 use Rattle.ioa_terms.specs.PlainTerm.{PlainTerm, PlainTerms, PlainTarget, PlainStatement, PlainStatements, PlainArms}
 use Rattle.ioa_terms.specs.PlainTerm.{number, truth, name, one, two, call, display, field, no_terms, term, terms_of}
-use Rattle.ioa_terms.specs.PlainTerm.{variable, at_key, at_field, assign, branch, PlainFiring}
+use Rattle.ioa_terms.specs.PlainTerm.{variable, at_key, at_field, assign, branch, loop, fire, PlainFiring}
 use Rattle.ioa_terms.specs.PlainTerm.{no_statements, statement, no_arms, arm}
 use Rattle.ioa_terms.specs.Bindings.{same_word, same_name}
 
@@ -57,11 +57,19 @@ module _ {N D : Type 0} (n : N → N → Bool) (d : D → D → Bool) where
   same_target (at_field w x s f) (at_field v y t g) = same_word w v && (n x y && (d s t && same_word f g))
   same_target a b = false
 
+  -- and two firings
+  abbrev pub same_firing : PlainFiring N D → PlainFiring N D → Bool
+  same_firing a b =
+      option_eq same_kind a.kind b.kind
+      && (same_word a.action b.action && same_terms (terms_of a.arguments) (terms_of b.arguments))
+
   -- and two statements
   abbrev mutual
     pub same_statement : PlainStatement N D → PlainStatement N D → Bool
     same_statement (assign p t) (assign q u) = same_target p q && same_term t u
     same_statement (branch xs ss) (branch ys ts) = same_arms xs ys && same_statements ss ts
+    same_statement (loop t ss) (loop u ts) = same_term t u && same_statements ss ts
+    same_statement (fire f) (fire g) = same_firing f g
     same_statement a b = false
 
     pub same_statements : PlainStatements N D → PlainStatements N D → Bool
@@ -73,9 +81,3 @@ module _ {N D : Type 0} (n : N → N → Bool) (d : D → D → Bool) where
     same_arms no_arms no_arms = true
     same_arms (arm t ss xs) (arm u ts ys) = (same_term t u && same_statements ss ts) && same_arms xs ys
     same_arms xs ys = false
-
-  -- and two firings
-  abbrev pub same_firing : PlainFiring N D → PlainFiring N D → Bool
-  same_firing a b =
-      option_eq same_kind a.kind b.kind
-      && (same_word a.action b.action && same_terms (terms_of a.arguments) (terms_of b.arguments))

@@ -14,7 +14,7 @@ use Rattle.ioa_terms.specs.Performance.{target_name, target_shape, updated_map, 
 use Rattle.ioa_terms.specs.PlainTerm as plain
 use Rattle.ioa_terms.specs.PlainTerm.{PlainTerm, PlainTerms, name, one, two, call, display, field, no_terms, term}
 use Rattle.ioa_terms.specs.PlainTerm.{PlainTarget, variable, at_key, at_field}
-use Rattle.ioa_terms.specs.PlainTerm.{PlainStatement, PlainStatements, PlainArms, assign, branch}
+use Rattle.ioa_terms.specs.PlainTerm.{PlainStatement, PlainStatements, PlainArms, assign, branch, loop, fire}
 use Rattle.ioa_terms.specs.PlainTerm.{no_statements, statement, no_arms, arm}
 use Rattle.ioa_operators.specs.declared.operator.BinaryOperator.{BinaryOperator}
 use Rattle.ioa_operators.specs.declared.shape.Shape.{Shape}
@@ -77,6 +77,8 @@ abbrev mutual
   stepwise_one (assign p t) e =
       and_then (stepwise_assignment p t e) (put_fitting_value (target_name p) (target_shape p) e)
   stepwise_one (branch arms rest) e = stepwise_choice arms (stepwise_all rest e) e
+  stepwise_one (loop t body) e = range_check [] None
+  stepwise_one (fire f) e = range_check [] None
 
   -- the environment after the first arm whose test is true, or the result of the rest if none is
   pub stepwise_choice : {N : Type 0} →

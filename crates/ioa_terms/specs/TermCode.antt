@@ -11,7 +11,7 @@ use Rattle.ioa_terms.specs.contracts.tree.Kind as kind
 use Rattle.ioa_terms.specs.declared.tree.Kind.{Kind}
 use Rattle.ioa_terms.specs.PlainTerm.{PlainTerm, PlainTerms, PlainTarget, PlainStatement, PlainStatements, PlainArms}
 use Rattle.ioa_terms.specs.PlainTerm.{number, truth, name, one, two, call, display, field, no_terms, term}
-use Rattle.ioa_terms.specs.PlainTerm.{variable, at_key, at_field, assign, branch, PlainFiring, firing}
+use Rattle.ioa_terms.specs.PlainTerm.{variable, at_key, at_field, assign, branch, loop, fire, PlainFiring, firing}
 use Rattle.ioa_terms.specs.PlainTerm.{no_statements, statement, no_arms, arm}
 
 abbrev word : Coded (List ℕ)
@@ -122,11 +122,22 @@ module _ {N D : Type 0} (n : Coded N) (d : Coded D) where
   abbrev target_code : Coded (PlainTarget N D)
   target_code = record { code = target_stored; inj = target_apart }
 
+  -- the code of a firing: a nest of pairs
+  abbrev pub firing_code : Coded (PlainFiring N D)
+  firing_code =
+      code_by (Option Kind × (List ℕ × List (PlainTerm N D)))
+      (coded× maybe_kind (coded× word (coded_list term_code)))
+      (λ f. (f.kind, (f.action, f.arguments)))
+      (λ t. firing t.0 t.1.0 t.1.1)
+      (λ _. refl)
+
   -- a statement as a tree
   mutual
     pub statement_stored : PlainStatement N D → Gv
     statement_stored (assign p t) = gcons (gnum 0) (gcons (target_code.code p) (term_code.code t))
     statement_stored (branch xs ss) = gcons (gnum 1) (gcons (arms_stored xs) (statements_stored ss))
+    statement_stored (loop t ss) = gcons (gnum 2) (gcons (term_code.code t) (statements_stored ss))
+    statement_stored (fire f) = gcons (gnum 3) (firing_code.code f)
 
     pub statements_stored : PlainStatements N D → Gv
     statements_stored no_statements = gnil
@@ -149,6 +160,13 @@ module _ {N D : Type 0} (n : Coded N) (d : Coded D) where
         let p : arms_stored xs ≡ arms_stored ys = cc in
         let q : statements_stored ss ≡ statements_stored ts = cc in
         λ i. branch (arms_apart xs ys p i) (statements_apart ss ts q i)
+    statement_apart (loop t ss) (loop u ts) e =
+        let p : term_code.code t ≡ term_code.code u = cc in
+        let q : statements_stored ss ≡ statements_stored ts = cc in
+        λ i. loop (term_code.inj t u p i) (statements_apart ss ts q i)
+    statement_apart (fire f) (fire g) e =
+        let p : firing_code.code f ≡ firing_code.code g = cc in
+        λ i. fire (firing_code.inj f g p i)
     statement_apart a b e = absurd (cc)
 
     statements_apart : (ss ts : PlainStatements N D) → statements_stored ss ≡ statements_stored ts → ss ≡ ts
@@ -171,12 +189,3 @@ module _ {N D : Type 0} (n : Coded N) (d : Coded D) where
   -- the code by which a proof tells statements apart
   abbrev pub statement_code : Coded (PlainStatement N D)
   statement_code = record { code = statement_stored; inj = statement_apart }
-
-  -- the code of a firing: a nest of pairs
-  abbrev pub firing_code : Coded (PlainFiring N D)
-  firing_code =
-      code_by (Option Kind × (List ℕ × List (PlainTerm N D)))
-      (coded× maybe_kind (coded× word (coded_list term_code)))
-      (λ f. (f.kind, (f.action, f.arguments)))
-      (λ t. firing t.0 t.1.0 t.1.1)
-      (λ _. refl)

@@ -9,7 +9,8 @@ use Rattle.ioa_terms.specs.declared.tree.Statement.TheOpen.{Statement-F, Arm-F}
 use Rattle.ioa_terms.specs.declared.tree.Arm.{Arm, fold-Arm}
 use Rattle.ioa_terms.specs.PlainTerm.{PlainTerm, number, truth, name, one, two, call, display, field, terms_of}
 use Rattle.ioa_terms.specs.PlainTerm.{PlainTarget, variable, at_key, at_field}
-use Rattle.ioa_terms.specs.PlainTerm.{PlainStatement, PlainStatements, assign, branch, statements_of, arms_of}
+use Rattle.ioa_terms.specs.PlainTerm.{PlainStatement, PlainStatements, assign, branch, loop, fire}
+use Rattle.ioa_terms.specs.PlainTerm.{statements_of, arms_of}
 use Rattle.ioa_terms.specs.PlainTerm.{PlainFiring, firing}
 use Rattle.ioa_terms.specs.declared.tree.Firing.{Firing}
 
@@ -33,10 +34,16 @@ target_of (target.Variable w x d) = variable w x d
 target_of (target.At w x d t) = at_key w x d (term_of t)
 target_of (target.Field w x d f) = at_field w x d f
 
+-- a firing
+abbrev pub firing_of : {N D : Type 0} → Firing N D → PlainFiring N D
+firing_of f = firing f.kind f.action (map term_of f.arguments.items)
+
 abbrev pub statement_step : {N D : Type 0} →
     Statement-F N D (PlainStatement N D) (PlainTerm N D × PlainStatements N D) → PlainStatement N D
 statement_step (Statement-F.Assign p t) = assign (target_of p) (term_of t)
 statement_step (Statement-F.If arms rest) = branch (arms_of arms.items) (statements_of rest.items)
+statement_step (Statement-F.While test body) = loop (term_of test) (statements_of body.items)
+statement_step (Statement-F.Fire f) = fire (firing_of f)
 
 abbrev pub arm_step : {N D : Type 0} →
     Arm-F N D (PlainStatement N D) (PlainTerm N D × PlainStatements N D) → PlainTerm N D × PlainStatements N D
@@ -50,7 +57,3 @@ statement_of {N} {D} =
 -- an arm: its test and its statements
 abbrev pub arm_of : {N D : Type 0} → Arm N D → PlainTerm N D × PlainStatements N D
 arm_of {N} {D} = fold-Arm N D (PlainStatement N D) (PlainTerm N D × PlainStatements N D) statement_step arm_step
-
--- a firing
-abbrev pub firing_of : {N D : Type 0} → Firing N D → PlainFiring N D
-firing_of f = firing f.kind f.action (map term_of f.arguments.items)

@@ -1,6 +1,6 @@
 //! Environments in which terms are evaluated.
 
-ghost use Rattle.std.specs.Prelude.{◌≡◌, ◌++◌, slice_get, length, map};
+ghost use Rattle.std.specs.Prelude.{◌≡◌, ◌++◌, slice_get, length, map, []};
 ghost use Rattle.std.specs.Option.{option_map};
 ghost use Rattle.ioa_terms.specs.Bindings.{names_of, environment};
 ghost use Rattle.ioa_terms.specs.Slots.{slot_value};
@@ -54,14 +54,37 @@ impl<'a> NameLists<'a> {
     }
 }
 
+/// Values that two owners keep and lend: a term may read them, and no statement assigns one. Neither list is
+/// copied.
+#[derive(Clone, Copy)]
+pub struct LentValues<'a> {
+    /// The values that one owner lends.
+    pub first: &'a [Value],
+    /// The values that the other owner lends, behind those.
+    pub second: &'a [Value],
+}
+
+impl<'a> LentValues<'a> {
+    /// Nothing is lent.
+    pub fn none() -> Self
+        ensures first { result.first.now ≡ [] }
+        ensures second { result.second.now ≡ [] }
+    {
+        LentValues {
+            first: &[],
+            second: &[],
+        }
+    }
+}
+
 /// The values that a term may read, each at its slot, with their names: those of variables first, then
-/// those that are given besides, and the constants behind them. A contract sees the pairs of names and
-/// values; the first pair of a name is the one that counts.
+/// those that are lent, and the constants behind them. A contract sees the pairs of names and values; the
+/// first pair of a name is the one that counts.
 #[derive(Drop)]
 pub struct Env<'a> {
     names: NameLists<'a>,
     values: &'a [Value],
-    given: &'a [Value],
+    lent: LentValues<'a>,
     constants: &'a [Word],
 }
 
@@ -77,15 +100,16 @@ impl<'a> Model for Env<'a> {
 
     ghost coded = { coded_list (coded× called.the_row.coded data_code) };
 
-    ghost view = { λ e. environment (map Word e.names) (e.values.now ++ e.given.now) e.constants.now };
+    ghost view = { λ e. environment (map Word e.names) (e.values.now ++ (e.lent.first.now ++ e.lent.second.now))
+        e.constants.now };
 
-    ghost invariant = { λ e. length e.names ≡ length (e.values.now ++ e.given.now) };
+    ghost invariant = { λ e. length e.names ≡ length (e.values.now ++ (e.lent.first.now ++ e.lent.second.now)) };
 }
 
 /// What is at a slot of an environment.
 #[derive(Clone, Copy)]
 pub enum Slot<'a> {
-    /// The value of a variable, or one that is given besides.
+    /// The value of a variable, or one that is lent.
     Variable(&'a Value),
     /// A constant, by its index among the text's constants.
     Constant(usize),
@@ -104,7 +128,7 @@ impl<'a> Env<'a> {
 
     /// The environment of these names, whose values are in two slices, and of the text's constants behind
     /// them: so the values that two owners keep need not be copied.
-    #[tactic(auto, using(crate::proofs::Slots::names_environment))]
+    #[tactic(auto, using(crate::proofs::Slots::given_alone))]
     pub fn with_given(
         names: NameLists<'a>,
         values: &'a [Value],
@@ -115,10 +139,35 @@ impl<'a> Env<'a> {
         ensures value { result ≡ environment (map Name.Word names.entry) (values.now ++ given.now) constants.now }
         ensures names { names_of result ≡ map Name.Word (names.entry ++ constants.now) }
     {
+        Env::with_lent(
+            names,
+            values,
+            LentValues {
+                first: given,
+                second: &[],
+            },
+            constants,
+        )
+    }
+
+    /// The environment of these names and values, of what two further owners lend, and of the text's constants
+    /// behind them.
+    #[tactic(auto, using(crate::proofs::Slots::names_environment))]
+    pub fn with_lent(
+        names: NameLists<'a>,
+        values: &'a [Value],
+        lent: LentValues<'a>,
+        constants: &'a [Word],
+    ) -> Self
+        requires { length names ≡ length (values.now ++ (lent.first.now ++ lent.second.now)) }
+        ensures value { result ≡ environment (map Name.Word names.entry)
+            (values.now ++ (lent.entry.first.now ++ lent.entry.second.now)) constants.now }
+        ensures names { names_of result ≡ map Name.Word (names.entry ++ constants.now) }
+    {
         Env {
             names,
             values,
-            given,
+            lent,
             constants,
         }
     }
@@ -131,10 +180,14 @@ impl<'a> Env<'a> {
             return Some(Slot::Variable(&self.values[slot]));
         }
         let behind = slot - self.values.len();
-        if behind < self.given.len() {
-            return Some(Slot::Variable(&self.given[behind]));
+        if behind < self.lent.first.len() {
+            return Some(Slot::Variable(&self.lent.first[behind]));
         }
-        let constant = behind - self.given.len();
+        let further = behind - self.lent.first.len();
+        if further < self.lent.second.len() {
+            return Some(Slot::Variable(&self.lent.second[further]));
+        }
+        let constant = further - self.lent.second.len();
         if constant < self.constants.len() {
             Some(Slot::Constant(constant))
         } else {

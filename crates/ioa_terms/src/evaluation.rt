@@ -6,7 +6,7 @@ ghost use Rattle.ioa_terms.specs.Meaning.{answer, named_call_value};
 ghost use Rattle.ioa_terms.specs.Resolved.{IsResolved, AreTermsResolved};
 ghost use Rattle.ioa_terms.specs.Bindings.{names_of, slot_in, lookup};
 ghost use Rattle.ioa_operators.specs.RangeCheck.{range_check, checked_result};
-ghost use Rattle.ioa_terms.specs.Stepwise.{stepwise_answer, stepwise_answers};
+ghost use Rattle.ioa_terms.specs.Stepwise.{stepwise_answer, stepwise_answers, stepwise_test};
 ghost use Rattle.ioa_terms.specs.PlainTerm.{terms_of};
 ghost use Rattle.ioa_values.specs.Data.{is_within};
 ghost use Rattle.ioa_terms.specs.View.{term_of};
@@ -59,11 +59,11 @@ pub(crate) fn evaluate_stepwise(
             }
         }
         Checked::Call(name, parts) => {
-            let values = evaluate_all_stepwise(alloc, parts, env)?;
+            let values = evaluate_all(alloc, parts, env)?;
             call_named(alloc, name, values)
         }
         Checked::Display(form, shape, parts) => {
-            let values = evaluate_all_stepwise(alloc, parts, env)?;
+            let values = evaluate_all(alloc, parts, env)?;
             display(alloc, *form, shape, values)
         }
         Checked::Field(whole, name, shape) => {
@@ -73,13 +73,9 @@ pub(crate) fn evaluate_stepwise(
     }
 }
 
-/// The values of terms, in order.
+/// The values of terms, in order (profile). The first fault is returned, of the first term that has one.
 #[cycle(evaluating)]
-fn evaluate_all_stepwise(
-    alloc: Global,
-    parts: &Vec<Checked>,
-    env: &Env,
-) -> Result<Vec<Value>, TermFault>
+pub fn evaluate_all(alloc: Global, parts: &Vec<Checked>, env: &Env) -> Result<Vec<Value>, TermFault>
     requires { AreTermsResolved (terms_of (map term_of parts.now.items)) (names_of env.now) }
     ensures { Answers TermFault.Memory (λ v. v.items) result
         (stepwise_answers (terms_of (map term_of parts.now.items)) env.now) }
@@ -90,6 +86,18 @@ fn evaluate_all_stepwise(
         values.push(value)?;
     }
     Ok(values)
+}
+
+/// Whether a test is true; `Undefined (1)` if it has no truth value.
+pub fn evaluate_test(alloc: Global, test: &Checked, env: &Env) -> Result<bool, TermFault>
+    requires { IsResolved (term_of test.now) (names_of env.now) }
+    ensures { Answers TermFault.Memory (λ b. b) result (stepwise_test (term_of test.now) env.now) }
+{
+    let value = evaluate_stepwise(alloc, test, env)?;
+    match value.as_truth() {
+        Some(truth) => Ok(truth),
+        None => Err(TermFault::Undefined),
+    }
 }
 
 /// The value of a name, for a term.

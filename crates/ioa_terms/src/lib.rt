@@ -9,15 +9,15 @@ mod performance;
 mod same;
 mod tree;
 
-pub use environment::{Env, NameLists, Slot};
-pub use evaluation::eval;
+pub use environment::{Env, LentValues, NameLists, Slot};
+pub use evaluation::{eval, evaluate_all, evaluate_test};
 pub use ioa_operators::{
     BinaryOperator, DisplayForm, Function, Shape, ShapeForm, TermFault, UnaryOperator,
 };
 pub use ioa_values::{Names, Value, Word, show};
 pub use laws::{ascending_law, defined_law, put_law, shapes_law, statements_law};
 pub use name::Name;
-pub use performance::perform;
+pub use performance::{perform, perform_assignment};
 pub use same::{
     are_same_firings, are_same_statements, are_same_terms, is_same_firing, is_same_statement,
     is_same_term,

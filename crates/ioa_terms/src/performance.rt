@@ -1,6 +1,6 @@
 //! What a list of statements leaves of an environment.
 
-ghost use Rattle.std.specs.Prelude.{◌≡◌, ◌++◌, map, length, slice_set, ◌<◌, IfOk, Some};
+ghost use Rattle.std.specs.Prelude.{◌≡◌, ◌++◌, map, take, length, slice_set, ◌<◌, IfOk, Some};
 ghost use Rattle.std.specs.Option.{option_and_then};
 ghost use Rattle.ioa_values.specs.Outcome.{Answers, and_then};
 ghost use Rattle.ioa_operators.specs.RangeCheck.{checked_result};
@@ -9,13 +9,13 @@ ghost use Rattle.ioa_terms.specs.Bindings.{environment, slot_in, names_of, looku
 ghost use Rattle.ioa_terms.specs.Performance.{answer_by, updated_map};
 ghost use Rattle.ioa_terms.specs.Resolved.{AreResolved, AreAllResolved, IsResolved};
 ghost use Rattle.ioa_terms.specs.Resolved.{IsResolvedStatement, IsResolvedTarget};
-ghost use Rattle.ioa_terms.specs.Stepwise.{stepwise_answer, stepwise_all, stepwise_one, stepwise_test};
+ghost use Rattle.ioa_terms.specs.Stepwise.{stepwise_answer, stepwise_all, stepwise_one};
 ghost use Rattle.ioa_terms.specs.Stepwise.{stepwise_assignment, put_fitting_value};
 ghost use Rattle.ioa_terms.specs.PlainTerm.{assign, statements_of};
 ghost use Rattle.ioa_terms.specs.View.{statement_of, target_of, term_of};
 
-use crate::environment::{Env, NameLists};
-use crate::evaluation::{evaluate_stepwise, read};
+use crate::environment::{Env, LentValues, NameLists};
+use crate::evaluation::{evaluate_stepwise, evaluate_test, read};
 use crate::name::Name;
 use crate::tree::{Checked, Statement, Target};
 use ioa_operators::{Function, Shape, TermFault, call, replace_field};
@@ -91,41 +91,19 @@ fn perform_one(
         Statement::Assign(target, term) => assign(alloc, target, term, names, constants, values),
         Statement::If(arms, rest) => {
             for arm in arms {
-                if holds(alloc, &arm.test, names, constants, &values)? {
+                let env = Env::with_constants(names.reborrow(), &values, constants);
+                if evaluate_test(alloc, &arm.test, &env)? {
                     return perform_all(alloc, &arm.body, names, constants, values);
                 }
             }
             perform_all(alloc, rest, names, constants, values)
         }
-    }
-}
-
-/// Whether a test is true.
-fn holds(
-    alloc: Global,
-    test: &Checked,
-    names: &NameLists,
-    constants: &[Word],
-    values: &[Value],
-) -> Result<bool, TermFault>
-    requires resolved { IsResolved (term_of test.now) (map Name.Word (names.now ++ constants.now)) }
-    requires named { length names.now ≡ length values.now }
-    ensures { Answers TermFault.Memory (λ b. b) result
-        (stepwise_test (term_of test.now) (environment (map Name.Word names.now) values.now constants.now)) }
-{
-    let value = evaluate_stepwise(
-        alloc,
-        test,
-        &Env::with_constants(names.reborrow(), values, constants),
-    )?;
-    match value.as_truth() {
-        Some(truth) => Ok(truth),
-        None => Err(TermFault::Undefined),
+        Statement::While(_, _) | Statement::Fire(_) => Err(TermFault::Undefined),
     }
 }
 
 /// The values after an assignment.
-#[tactic(auto, using(crate::proofs::Slots::target_among_more))]
+#[tactic(auto, using(crate::proofs::Slots::first_names))]
 fn assign(
     alloc: Global,
     target: &Target<usize, Shape>,
@@ -142,16 +120,49 @@ fn assign(
         (environment (map Name.Word names.now) values.items constants.now)) }
     ensures named { IfOk result (λ vs. length names.now ≡ length vs.items) }
 {
+    let lent = LentValues::none();
+    perform_assignment(alloc, target, term, names, lent, constants, values)
+}
+
+/// The values after an assignment to one of them, whose terms may read what two further owners lend as well
+/// (profile). `names` are the names of these values and then of those that are lent, in the same order;
+/// `constants` are those of the text's constants. The first fault is returned, and the values are dropped then.
+/// Costs time in proportion to the values that the terms read and make.
+#[tactic(auto, using(crate::proofs::Slots::target_among_all))]
+pub fn perform_assignment(
+    alloc: Global,
+    target: &Target<usize, Shape>,
+    term: &Checked,
+    names: &NameLists,
+    lent: LentValues,
+    constants: &[Word],
+    values: Vec<Value>,
+) -> Result<Vec<Value>, TermFault>
+    requires resolved { IsResolvedStatement (assign (target_of target.now) (term_of term.now))
+        (take (length values.items) (map Name.Word names.now)) (map Name.Word (names.now ++ constants.now)) }
+    requires named { length names.now ≡ length (values.items ++ (lent.first.now ++ lent.second.now)) }
+    ensures after { Answers TermFault.Memory (λ vs. environment (map Name.Word names.now)
+        (vs.items ++ (lent.entry.first.now ++ lent.entry.second.now)) constants.now) result
+        (stepwise_one (assign (target_of target.now) (term_of term.now)) (environment (map Name.Word names.now)
+        (values.items ++ (lent.entry.first.now ++ lent.entry.second.now)) constants.now)) }
+    ensures kept { IfOk result (λ vs. length vs.items ≡ length values.items) }
+{
     let value = assignment_value(
         alloc,
         target,
         term,
-        &Env::with_constants(names.reborrow(), &values, constants),
+        &Env::with_lent(names.reborrow(), &values, lent, constants),
     )?;
     match target {
-        Target::Variable(name, at, shape) => put(name, *at, shape, value, names, constants, values),
-        Target::At(name, at, shape, _) => put(name, *at, shape, value, names, constants, values),
-        Target::Field(name, at, shape, _) => put(name, *at, shape, value, names, constants, values),
+        Target::Variable(name, at, shape) => {
+            put(name, *at, shape, value, names, lent, constants, values)
+        }
+        Target::At(name, at, shape, _) => {
+            put(name, *at, shape, value, names, lent, constants, values)
+        }
+        Target::Field(name, at, shape, _) => {
+            put(name, *at, shape, value, names, lent, constants, values)
+        }
     }
 }
 
@@ -240,22 +251,23 @@ fn replace(
 }
 
 /// The values with another one for a variable; `Undefined (1)` if it has not the variable's shape.
-#[tactic(auto, using(crate::proofs::Slots::put_environment, crate::proofs::Slots::slot_within))]
+#[tactic(auto, using(crate::proofs::Slots::put_among_first, crate::proofs::Slots::slot_within_first))]
 fn put(
     name: &Word,
     at: usize,
     shape: &Shape,
     value: Value,
     names: &NameLists,
+    lent: LentValues,
     constants: &[Word],
     mut values: Vec<Value>,
 ) -> Result<Vec<Value>, TermFault>
-    requires resolved { slot_in (Name.Word name.now) (map Name.Word names.now) ≡ Some at }
-    requires named { length names.now ≡ length values.items }
-    ensures after { Answers TermFault.Memory (λ vs. environment (map Name.Word names.now) vs.items constants.now) result
-        (put_fitting_value (Name.Word name.now) shape.now
-        (environment (map Name.Word names.now) values.items constants.now) value) }
-    ensures named { IfOk result (λ vs. length names.now ≡ length vs.items) }
+    requires { slot_in (Name.Word name.now) (take (length values.items) (map Name.Word names.now)) ≡ Some at }
+    ensures after { Answers TermFault.Memory (λ vs. environment (map Name.Word names.now)
+        (vs.items ++ (lent.entry.first.now ++ lent.entry.second.now)) constants.now) result
+        (put_fitting_value (Name.Word name.now) shape.now (environment (map Name.Word names.now)
+        (values.items ++ (lent.entry.first.now ++ lent.entry.second.now)) constants.now) value) }
+    ensures kept { IfOk result (λ vs. length vs.items ≡ length values.items) }
 {
     if shape.admits(&value) {
         set(&mut values, at, value);

@@ -107,6 +107,10 @@ pub fn is_same_statement<N: PartialEq, D: PartialEq>(
         (Statement::If(xs, ss), Statement::If(ys, ts)) => {
             are_same_arms(xs, ys) && are_same_statements(ss, ts)
         }
+        (Statement::While(t, ss), Statement::While(u, ts)) => {
+            is_same_term(t, u) && are_same_statements(ss, ts)
+        }
+        (Statement::Fire(f), Statement::Fire(g)) => is_same_firing(f, g),
         _ => false,
     }
 }

@@ -65,17 +65,7 @@ pub struct Arm<N, D> {
     pub body: Vec<Statement<N, D>>,
 }
 
-/// A statement of an effect (profile).
-#[cycle(statement)]
-#[derive(Drop)]
-pub enum Statement<N, D> {
-    /// `x := t`.
-    Assign(Target<N, D>, Tree<N, D>),
-    /// `if t then s elseif u then s else s fi`: the first arm whose test is true, or the rest.
-    If(Vec<Arm<N, D>>, Vec<Statement<N, D>>),
-}
-
-/// `fire a(t, u)`, a statement of a schedule block (profile).
+/// `fire a(t, u)`: what a schedule block asks for (profile).
 #[derive(Drop)]
 pub struct Firing<N, D> {
     /// The kind of the action, if it is written.
@@ -84,4 +74,19 @@ pub struct Firing<N, D> {
     pub action: Word,
     /// The terms of its arguments.
     pub arguments: Vec<Tree<N, D>>,
+}
+
+/// A statement of an effect or of a schedule block (profile). In an effect `while` and `fire` have no
+/// meaning: the grammar has no such effect.
+#[cycle(statement)]
+#[derive(Drop)]
+pub enum Statement<N, D> {
+    /// `x := t`.
+    Assign(Target<N, D>, Tree<N, D>),
+    /// `if t then s elseif u then s else s fi`: the first arm whose test is true, or the rest.
+    If(Vec<Arm<N, D>>, Vec<Statement<N, D>>),
+    /// `while t do s od`: the statements as long as the test is true. Only in a schedule block.
+    While(Tree<N, D>, Vec<Statement<N, D>>),
+    /// `fire a(t, u)`. Only in a schedule block.
+    Fire(Firing<N, D>),
 }

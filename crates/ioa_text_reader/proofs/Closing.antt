@@ -10,7 +10,9 @@ use Rattle.ioa_tokens.specs.Tables.{same_mark}
 use Rattle.ioa_cursor.proofs.Steps.{stays, same_mark_true}
 use Rattle.ioa_cursor.proofs.Follow.{skip_other}
 use Rattle.ioa_term_reader.proofs.Closing.{mark_binds, Closes}
-use Rattle.ioa_text_reader.specs.Reading.{kind_first, at_kind, begins_statement, at_declaration, at_placement}
+use Rattle.ioa_text_reader.specs.declared.statement.Context.{Context}
+use Rattle.ioa_text_reader.specs.declared.statement.Context.TheVariants.{Effect, Block}
+use Rattle.ioa_text_reader.specs.Reading.{kind_first, at_kind, begins_in_block, begins_statement, at_declaration, at_placement}
 
 -- the level at which a mark goes on with what comes before it: 14 where it goes on with a term, 0 where it goes on with nothing
 abbrev pub mark_level : Mark → ℕ
@@ -19,6 +21,7 @@ mark_level mark.Where = 12
 mark_level mark.Comma = 11
 mark_level mark.Semicolon = 11
 mark_level mark.If = 11
+mark_level mark.While = 11
 mark_level mark.Fire = 11
 mark_level mark.Pre = 10
 mark_level mark.Eff = 9
@@ -84,9 +87,10 @@ at_word_below (token.Number n ∷ xs) h = refl
 at_word_below (token.LeftOut w ∷ xs) h = refl
 at_word_below [] h = refl
 
-pub begins_statement_below : (xs : List Token) → level xs < 11 → begins_statement xs ≡ false
-unfolding begins_statement
-begins_statement_below xs h = rw (at_word_below xs h, at_below mark.If xs h) refl
+pub begins_statement_below : (c : Context) (xs : List Token) → level xs < 11 → begins_statement c xs ≡ false
+unfolding begins_statement begins_in_block
+begins_statement_below Effect xs h = rw (at_word_below xs h, at_below mark.If xs h) refl
+begins_statement_below Block xs h = rw (at_word_below xs h, at_below mark.If xs h, at_below mark.While xs h, at_below mark.Fire xs h) refl
 
 mark_no_kind : (m : Mark) (xs : List Token) → mark_level m < 8 → at_kind (token.Mark m ∷ xs) ≡ false
 unfolding at_kind kind_first peek_mark bind

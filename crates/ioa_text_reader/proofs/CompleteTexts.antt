@@ -7,23 +7,24 @@ use Rattle.ioa_terms.specs.declared.tree.Kind.{Kind}
 use Rattle.ioa_terms.specs.PlainTerm as plain
 use Rattle.ioa_source.specs.PlainSort.{PlainSort}
 use Rattle.ioa_source.specs.PlainText as declarations
-use Rattle.ioa_source.specs.Sides.{SourceTerm as Term, SourceStatement as Statement, SourceFiring as Firing, SourceDeclared as Declared, SourceEntry as Entry, SourceVariable as Variable, SourceTransition as Transition, SourceForm as Form, SourceType as TypeOf, SourceAutomaton as Automaton, SourceDeclaration as Declaration, SourceNode as Node, SourceCall as Call, SourceScript as Script, SourcePlacement as Placement, SourceText}
-use Rattle.ioa_cursor.specs.Lists.{Several, SeparatedBy, SeparatedOrEndedBy, Section, Optional, SeveralLists}
-use Rattle.ioa_cursor.specs.Reading.{bind, choose, skip, expect, word, number, at, peek_mark, end}
+use Rattle.ioa_source.specs.Sides.{SourceTerm as Term, SourceStatement as Statement, SourceDeclared as Declared, SourceEntry as Entry, SourceVariable as Variable, SourceTransition as Transition, SourceSchedule as Schedule, SourceForm as Form, SourceType as TypeOf, SourceAutomaton as Automaton, SourceDeclaration as Declaration, SourceNode as Node, SourceCall as Call, SourceScript as Script, SourcePlacement as Placement, SourceText}
+use Rattle.ioa_cursor.specs.Lists.{Several, SeparatedBy, Section, Optional, SeveralLists}
+use Rattle.ioa_cursor.specs.Reading.{bind, choose, skip, expect, word, number, at, end}
 use Rattle.ioa_cursor.proofs.Steps.{read_next, stays}
-use Rattle.ioa_cursor.proofs.Follow.{skip_same, skip_other, ended_starts, optional_starts, section_starts}
-use Rattle.ioa_cursor.proofs.CompleteLists.{several_complete, separated_complete, ended_complete, section_complete, optional_complete}
+use Rattle.ioa_cursor.proofs.Follow.{skip_same, skip_other, optional_starts, section_starts}
+use Rattle.ioa_cursor.proofs.CompleteLists.{several_complete, separated_complete, section_complete, optional_complete}
 use Rattle.ioa_term_reader.specs.Grammar.{bracket_limit, SpellsTerm}
 use Rattle.ioa_term_reader.specs.Reading.{term}
+use Rattle.ioa_text_reader.specs.declared.statement.Context.TheVariants.{Effect, Block}
 use Rattle.ioa_text_reader.specs.Grammar as grammar
-use Rattle.ioa_text_reader.specs.Grammar.{inner_limit, SpellsCall, SpellsGroup, SpellsVariable, SpellsEffect, SpellsGuard, SpellsTransition, SpellsFire, SpellsBlock, SpellsHead, SpellsForm, SpellsDeclaration, SpellsPlacement, Spells}
+use Rattle.ioa_text_reader.specs.Grammar.{inner_limit, schedule_with, SpellsGroup, SpellsVariable, SpellsLow, SpellsGuard, SpellsTransition, SpellsBlock, SpellsSchedule, SpellsHead, SpellsForm, SpellsDeclaration, SpellsPlacement, Spells}
 use Rattle.ioa_text_reader.specs.Reading as reading
-use Rattle.ioa_text_reader.specs.Reading.{kind_first, at_kind, at_declaration, at_placement}
+use Rattle.ioa_text_reader.specs.Reading.{at_kind, at_declaration, at_placement}
 use Rattle.ioa_text_reader.proofs.Closing.{Below, level, at_below, skip_below, at_kind_below, at_declaration_below, at_placement_below}
-use Rattle.ioa_text_reader.proofs.Shorter.{variable_shorter, transition_shorter, firing_shorter, declaration_shorter, placement_shorter}
+use Rattle.ioa_text_reader.proofs.Shorter.{variable_shorter, transition_shorter, declaration_shorter, placement_shorter}
 use Rattle.ioa_text_reader.proofs.CompleteSorts.{sort_complete, words_complete, declared_names_complete}
 use Rattle.ioa_text_reader.proofs.CompleteSignatures.{whole_term, call_complete, calls_complete, kind_complete, kind_begins, kind_level, signature_complete}
-use Rattle.ioa_text_reader.proofs.CompleteStatements.{effect_complete}
+use Rattle.ioa_text_reader.proofs.CompleteStatements.{effect_complete, statements_complete, statements_not_over}
 
 -- trees of their parts
 
@@ -33,8 +34,8 @@ variable_with w s i = record { declared = record { name = w; sort = s; shape = t
 abbrev transition_with : Kind → Call → Option Term → List Statement → Transition
 transition_with k c g ss = record { kind = k; name = c.name; arguments = c.arguments; pre = g; effect = ss }
 
-abbrev automaton_with : List ℕ → List Declared → List Entry → List Variable → List Transition → List Firing → Automaton
-automaton_with w ds es vs ts fs = record { name = w; parameters = ds; signature = es; states = vs; transitions = ts; schedule = fs }
+abbrev automaton_with : List ℕ → List Declared → List Entry → List Variable → List Transition → Schedule → Automaton
+automaton_with w ds es vs ts b = record { name = w; parameters = ds; signature = es; states = vs; transitions = ts; schedule = b }
 
 abbrev type_with : List ℕ → Form → TypeOf
 type_with w f = record { name = w; form = f }
@@ -96,7 +97,7 @@ transition_read k c g ss xs ps qs rs ys e f i j = rw e (rw f (rw i (rw j refl)))
 
 transition_complete : (x : Transition) (xs ys : List Token) → SpellsTransition x xs ys → level ys < 9 → reading.transition xs ≡ read_next x ys
 transition_complete _ xs ys (grammar.transition {k = k} {head = c} {pre = g} {effect = ss} {ps = ps} {qs = qs} {rs = rs} kd cd gd ed) h =
-    let below = section_starts (Below 10) mark.Eff SpellsEffect (λ zs. omega arith) ss rs ys ed (omega arith) in
+    let below = section_starts (Below 10) mark.Eff (SpellsLow Effect) (λ zs. omega arith) ss rs ys ed (omega arith) in
     let low = optional_starts (Below 14) mark.Pre SpellsGuard (λ zs. omega arith) g qs rs gd (omega arith) in
     transition_read k c g ss xs ps qs rs ys (kind_complete k xs ps kd) (call_complete c ps qs cd low) (guard_part_complete g qs rs gd below) (effect_complete ss rs ys ed h)
 
@@ -118,57 +119,41 @@ transitions_part_complete ts xs ys d h =
 
 -- schedules
 
-firing_read : (c : Call) (xs ys : List Token) → at_kind xs ≡ false → reading.call xs ≡ read_next c ys → reading.firing (token.Mark mark.Fire ∷ xs) ≡ read_next (plain.firing None c.name c.arguments) ys
-unfolding reading.firing expect skip bind choose
-firing_read c xs ys e f = rw e (rw f refl)
-
-kind_firing_read : (k : Kind) (c : Call) (xs ys zs : List Token) → at_kind xs ≡ true → reading.kind xs ≡ read_next k ys → reading.call ys ≡ read_next c zs →
-    reading.firing (token.Mark mark.Fire ∷ xs) ≡ read_next (plain.firing (Some k) c.name c.arguments) zs
-unfolding reading.firing expect skip bind choose
-kind_firing_read k c xs ys zs e f g = rw e (rw f (rw g refl))
-
-call_no_kind : (c : Call) (xs ys : List Token) → SpellsCall c xs ys → at_kind xs ≡ false
-unfolding at_kind kind_first peek_mark bind
-call_no_kind _ _ _ (grammar.called d) = refl
-
-firing_complete : (x : Firing) (xs ys : List Token) → SpellsFire x xs ys → level ys < 14 → reading.firing xs ≡ read_next x ys
-firing_complete _ _ ys (grammar.firing {call = c} {xs = xs} d) h = firing_read c xs ys (call_no_kind c xs ys d) (call_complete c xs ys d h)
-firing_complete _ _ zs (grammar.kind_firing {k = k} {call = c} {xs = xs} {ys = ys} kd d) h =
-    kind_firing_read k c xs ys zs (kind_begins k xs ys kd) (kind_complete k xs ys kd) (call_complete c ys zs d h)
-
-firing_begins : (x : Firing) (xs ys : List Token) → SpellsFire x xs ys → at mark.Fire xs ≡ true
-unfolding at
-firing_begins _ _ _ (grammar.firing d) = refl
-firing_begins _ _ _ (grammar.kind_firing kd d) = refl
-
-firing_not_over : (x : Firing) (xs ys : List Token) → SpellsFire x xs ys → at mark.Od xs ≡ false
-unfolding at
-firing_not_over _ _ _ (grammar.firing d) = refl
-firing_not_over _ _ _ (grammar.kind_firing kd d) = refl
-
-firings_complete : (fs : List Firing) (xs ys : List Token) → SeparatedOrEndedBy mark.Semicolon SpellsFire fs xs ys → level ys < 11 → reading.firings xs ≡ read_next fs ys
-unfolding reading.firings
-firings_complete fs xs ys d h =
-    ended_complete (Below 14) SpellsFire reading.firing firing_complete firing_shorter mark.Semicolon (at mark.Fire) firing_begins (λ zs. omega arith) fs xs ys d (omega arith)
-    (at_below mark.Semicolon ys h) (at_below mark.Fire ys h)
-
 idle_block : (xs : List Token) → reading.block (token.Mark mark.Do ∷ token.Mark mark.Od ∷ xs) ≡ read_next [] xs
 unfolding reading.block expect skip bind choose
 idle_block xs = refl
 
-busy_block : (fs : List Firing) (xs ys : List Token) → skip mark.Od xs ≡ stays false xs → reading.firings xs ≡ read_next fs (token.Mark mark.Od ∷ ys) →
-    reading.block (token.Mark mark.Do ∷ xs) ≡ read_next fs ys
+busy_block : (ss : List Statement) (xs ys : List Token) → skip mark.Od xs ≡ stays false xs → reading.statements Block xs ≡ read_next ss (token.Mark mark.Od ∷ ys) →
+    reading.block (token.Mark mark.Do ∷ xs) ≡ read_next ss ys
 unfolding reading.block expect bind choose
-busy_block fs xs ys e f = rw (skip_same mark.Do xs) (rw e (rw f (rw (skip_same mark.Od ys) refl)))
+busy_block ss xs ys e f = rw (skip_same mark.Do xs) (rw e (rw f (rw (skip_same mark.Od ys) refl)))
 
-block_complete : (fs : List Firing) (xs ys : List Token) → SpellsBlock fs xs ys → level ys < 14 → reading.block xs ≡ read_next fs ys
-block_complete _ _ ys grammar.idle h = idle_block ys
-block_complete fs _ ys (grammar.busy {xs = xs} d) h =
-    busy_block fs xs ys (skip_other mark.Od xs (ended_starts (λ us. at mark.Od us ≡ false) SpellsFire firing_not_over d)) (firings_complete fs xs _ d (omega arith))
+block_complete : (ss : List Statement) (xs ys : List Token) → SpellsBlock ss xs ys → reading.block xs ≡ read_next ss ys
+block_complete _ _ ys grammar.idle = idle_block ys
+block_complete ss _ ys (grammar.busy {xs = xs} d) =
+    busy_block ss xs ys (skip_other mark.Od xs (statements_not_over d.spelled)) (statements_complete Block ss xs _ d (omega arith))
 
-schedule_complete : (fs : List Firing) (xs ys : List Token) → Section mark.Schedule SpellsBlock fs xs ys → level ys < 4 → reading.schedule_part xs ≡ read_next fs ys
-unfolding reading.schedule_part
-schedule_complete fs xs ys d h = section_complete (Below 14) SpellsBlock reading.block block_complete mark.Schedule fs xs ys d (omega arith) (at_below mark.Schedule ys h)
+block_level : (ss : List Statement) (xs ys : List Token) → SpellsBlock ss xs ys → level xs < 6
+block_level _ _ _ grammar.idle = omega arith
+block_level _ _ _ (grammar.busy d) = omega arith
+
+no_schedule_read : (xs : List Token) → skip mark.Schedule xs ≡ stays false xs → reading.schedule_part xs ≡ read_next (schedule_with [] []) xs
+unfolding reading.schedule_part choose
+no_schedule_read xs e = rw e refl
+
+schedule_read : (vs : List Variable) (ss : List Statement) (xs ys zs : List Token) → reading.states_part xs ≡ read_next vs ys → reading.block ys ≡ read_next ss zs →
+    reading.schedule_part (token.Mark mark.Schedule ∷ xs) ≡ read_next (schedule_with vs ss) zs
+unfolding reading.schedule_part reading.schedule skip bind choose
+schedule_read vs ss xs ys zs e f = rw e (rw f refl)
+
+schedule_complete : (x : Schedule) (xs ys : List Token) → SpellsSchedule x xs ys → level ys < 4 → reading.schedule_part xs ≡ read_next x ys
+schedule_complete _ _ ys grammar.no_schedule h = no_schedule_read ys (skip_below mark.Schedule ys h)
+schedule_complete _ _ zs (grammar.schedule {variables = vs} {statements = ss} {xs = xs} {ys = ys} vd bd) h =
+    schedule_read vs ss xs ys zs (states_complete vs xs ys vd (block_level ss ys zs bd)) (block_complete ss ys zs bd)
+
+schedule_level : (x : Schedule) (xs ys : List Token) → SpellsSchedule x xs ys → level ys < 4 → level xs < 5
+schedule_level _ _ _ grammar.no_schedule h = omega arith
+schedule_level _ _ _ (grammar.schedule vd bd) h = omega arith
 
 -- automata
 
@@ -185,11 +170,11 @@ head_complete : (ds : List Declared) (xs ys : List Token) → SpellsHead ds xs y
 head_complete _ _ ys grammar.no_parameters h = no_head ys (skip_below mark.OpenRound ys h)
 head_complete ds _ ys (grammar.parameters {xs = xs} d) h = some_head ds xs ys (declared_names_complete inner_limit ds xs _ d (omega arith))
 
-automaton_read : (w : List ℕ) (ds : List Declared) (es : List Entry) (vs : List Variable) (ts : List Transition) (fs : List Firing) (xs os ps qs rs ys : List Token) →
+automaton_read : (w : List ℕ) (ds : List Declared) (es : List Entry) (vs : List Variable) (ts : List Transition) (b : Schedule) (xs os ps qs rs ys : List Token) →
     reading.head xs ≡ read_next ds os → reading.signature_part os ≡ read_next es ps → reading.states_part ps ≡ read_next vs qs → reading.transitions_part qs ≡ read_next ts rs →
-    reading.schedule_part rs ≡ read_next fs ys → reading.automaton (token.Word w ∷ xs) ≡ read_next (automaton_with w ds es vs ts fs) ys
+    reading.schedule_part rs ≡ read_next b ys → reading.automaton (token.Word w ∷ xs) ≡ read_next (automaton_with w ds es vs ts b) ys
 unfolding reading.automaton word bind
-automaton_read w ds es vs ts fs xs os ps qs rs ys e f i j k = rw e (rw f (rw i (rw j (rw k refl))))
+automaton_read w ds es vs ts b xs os ps qs rs ys e f i j k = rw e (rw f (rw i (rw j (rw k refl))))
 
 declared_automaton : (a : Automaton) (xs ys : List Token) → reading.automaton xs ≡ read_next a ys → reading.declaration (token.Mark mark.Automaton ∷ xs) ≡ read_next (declarations.automaton a) ys
 unfolding reading.declaration expect skip bind choose
@@ -219,14 +204,14 @@ type_read w f xs ys e = rw e refl
 
 declaration_complete : (x : Declaration) (xs ys : List Token) → SpellsDeclaration x xs ys → level ys < 4 → reading.declaration xs ≡ read_next x ys
 declaration_complete _ _ ys (grammar.type_form {w = w} {f = f} {xs = xs} d) h = type_read w f xs ys (form_complete f xs ys d (omega arith))
-declaration_complete _ _ ys (grammar.automaton_parts {w = w} {head = ds} {entries = es} {variables = vs} {transitions = ts} {block = fs} {xs = xs} {os = os} {ps = ps} {qs = qs} {rs = rs} hd ed vd td sd) h =
-    let a = section_starts (Below 5) mark.Schedule SpellsBlock (λ zs. omega arith) fs rs ys sd (omega arith) in
-    let b = section_starts (Below 6) mark.Transitions (Several SpellsTransition) (λ zs. omega arith) ts qs rs td (omega arith) in
+declaration_complete _ _ ys (grammar.automaton_parts {w = w} {head = ds} {entries = es} {variables = vs} {transitions = ts} {block = b} {xs = xs} {os = os} {ps = ps} {qs = qs} {rs = rs} hd ed vd td sd) h =
+    let starts = schedule_level b rs ys sd h in
+    let d = section_starts (Below 6) mark.Transitions (Several SpellsTransition) (λ zs. omega arith) ts qs rs td (omega arith) in
     let c = section_starts (Below 7) mark.States (SeparatedBy mark.Comma SpellsVariable) (λ zs. omega arith) vs ps qs vd (omega arith) in
     let e = section_starts (Below 14) mark.Signature (SeveralLists SpellsGroup) (λ zs. omega arith) es os ps ed (omega arith) in
-    declared_automaton (automaton_with w ds es vs ts fs) (token.Word w ∷ xs) ys
-    (automaton_read w ds es vs ts fs xs os ps qs rs ys (head_complete ds xs os hd e) (signature_complete es os ps ed c) (states_complete vs ps qs vd b) (transitions_part_complete ts qs rs td a)
-    (schedule_complete fs rs ys sd h))
+    declared_automaton (automaton_with w ds es vs ts b) (token.Word w ∷ xs) ys
+    (automaton_read w ds es vs ts b xs os ps qs rs ys (head_complete ds xs os hd e) (signature_complete es os ps ed c) (states_complete vs ps qs vd d) (transitions_part_complete ts qs rs td starts)
+    (schedule_complete b rs ys sd h))
 
 declaration_begins : (x : Declaration) (xs ys : List Token) → SpellsDeclaration x xs ys → at_declaration xs ≡ true
 unfolding at_declaration at

@@ -4,13 +4,15 @@ use Rattle.ioa_tokens.specs.declared.token.Token.{Token}
 use Rattle.ioa_tokens.specs.declared.mark.Mark.TheVariants as mark
 use Rattle.ioa_terms.specs.declared.tree.Kind.{Kind}
 use Rattle.ioa_source.specs.PlainSort.{PlainSort}
-use Rattle.ioa_source.specs.Sides.{SourceTerm as Term, SourceTarget as Target, SourceStatement as Statement, SourceStatements as Statements, SourceArms as Arms, SourceFiring as Firing, SourceDeclared as Declared, SourceParameter as Parameter, SourceEntry as Entry, SourceVariable as Variable, SourceTransition as Transition, SourceForm as Form, SourceDeclaration as Declaration, SourceCall as Call, SourcePlacement as Placement}
+use Rattle.ioa_source.specs.Sides.{SourceTerm as Term, SourceTarget as Target, SourceStatement as Statement, SourceStatements as Statements, SourceArms as Arms, SourceFiring as Firing, SourceDeclared as Declared, SourceParameter as Parameter, SourceEntry as Entry, SourceVariable as Variable, SourceTransition as Transition, SourceSchedule as Schedule, SourceForm as Form, SourceDeclaration as Declaration, SourceCall as Call, SourcePlacement as Placement}
 use Rattle.ioa_cursor.specs.Lists.{Several, SeparatedBy, ListsSeparatedBy, SeveralLists}
 use Rattle.ioa_cursor.proofs.Shorter.{several_shorter, separated_shorter, ended_shorter, gathered_shorter, gathered_several_shorter, section_shorter, optional_shorter}
 use Rattle.ioa_term_reader.specs.Grammar.{SpellsTerm, bracket_limit}
 use Rattle.ioa_term_reader.proofs.Shorter.{term_shorter}
+use Rattle.ioa_text_reader.specs.declared.statement.Context.{Context}
+use Rattle.ioa_text_reader.specs.declared.statement.Context.TheVariants.{Effect}
 use Rattle.ioa_text_reader.specs.Grammar as grammar
-use Rattle.ioa_text_reader.specs.Grammar.{inner_limit, SpellsSort, SpellsWord, SpellsDeclared, SpellsParameters, InBrackets, SpellsCall, SpellsKind, SpellsEntry, SpellsGroup, SpellsVariable, SpellsTarget, SpellsStatement, SpellsArms, SpellsRest, SpellsStatements, SpellsEffect, SpellsGuard, SpellsTransition, SpellsFire, SpellsBlock, SpellsHead, SpellsForm, SpellsDeclaration, SpellsPlacement}
+use Rattle.ioa_text_reader.specs.Grammar.{inner_limit, SpellsSort, SpellsWord, SpellsDeclared, SpellsParameters, InBrackets, SpellsCall, SpellsKind, SpellsEntry, SpellsGroup, SpellsVariable, SpellsTarget, SpellsStatement, SpellsArms, SpellsRest, SpellsStatements, SpellsLow, SpellsGuard, SpellsTransition, SpellsFiring, SpellsBlock, SpellsSchedule, SpellsHead, SpellsForm, SpellsDeclaration, SpellsPlacement}
 
 pub sort_shorter : (room : ℕ) (s : PlainSort) (xs ys : List Token) → SpellsSort room s xs ys → length ys < length xs
 sort_shorter _ _ _ _ grammar.bool = omega arith
@@ -80,12 +82,18 @@ target_shorter _ _ _ grammar.whole = omega arith
 target_shorter _ _ _ (grammar.at_a_key d) = let a = term_shorter _ _ _ _ d in omega arith
 target_shorter _ _ _ grammar.at_a_field = omega arith
 
+pub firing_shorter : {f : Firing} {xs ys : List Token} → SpellsFiring f xs ys → length ys < length xs
+firing_shorter (grammar.firing d) = call_shorter _ _ _ d
+firing_shorter (grammar.kind_firing k d) = let a = kind_shorter _ _ _ k in let b = call_shorter _ _ _ d in omega arith
+
 mutual
-  pub statement_shorter : {s : Statement} {xs ys : List Token} → SpellsStatement s xs ys → length ys < length xs
+  pub statement_shorter : {c : Context} {s : Statement} {xs ys : List Token} → SpellsStatement c s xs ys → length ys < length xs
   statement_shorter (grammar.assignment p t) = let a = target_shorter _ _ _ p in let b = term_shorter _ _ _ _ t in omega arith
   statement_shorter (grammar.choice arms rest) = let a = arms_shorter arms in let b = rest_shorter rest in omega arith
+  statement_shorter (grammar.repetition t body) = let a = term_shorter _ _ _ _ t in let b = statements_shorter body in omega arith
+  statement_shorter (grammar.fire_statement d) = let a = firing_shorter d in omega arith
 
-  arms_shorter : {arms : Arms} {xs ys : List Token} → SpellsArms arms xs ys → length ys < length xs
+  arms_shorter : {c : Context} {arms : Arms} {xs ys : List Token} → SpellsArms c arms xs ys → length ys < length xs
   arms_shorter (grammar.one_arm t body) = let a = term_shorter _ _ _ _ t in let b = statements_shorter body in omega arith
   arms_shorter (grammar.more_arms t body others) =
       let a = term_shorter _ _ _ _ t in
@@ -93,17 +101,17 @@ mutual
       let c = arms_shorter others in
       omega arith
 
-  rest_shorter : {rest : Statements} {xs ys : List Token} → SpellsRest rest xs ys → length ys < length xs
+  rest_shorter : {c : Context} {rest : Statements} {xs ys : List Token} → SpellsRest c rest xs ys → length ys < length xs
   rest_shorter grammar.no_else = omega arith
   rest_shorter (grammar.otherwise d) = let a = statements_shorter d in omega arith
 
-  pub statements_shorter : {ss : Statements} {xs ys : List Token} → SpellsStatements ss xs ys → length ys < length xs
+  pub statements_shorter : {c : Context} {ss : Statements} {xs ys : List Token} → SpellsStatements c ss xs ys → length ys < length xs
   statements_shorter (grammar.last_statement d) = statement_shorter d
   statements_shorter (grammar.closed_statement d) = let a = statement_shorter d in omega arith
   statements_shorter (grammar.more_statements d rest) = let a = statement_shorter d in let b = statements_shorter rest in omega arith
 
-effect_shorter : (ss : List Statement) (xs ys : List Token) → SpellsEffect ss xs ys → length ys ≤ length xs
-effect_shorter _ _ _ d = let a = statements_shorter d.spelled in omega arith
+low_shorter : (c : Context) (ss : List Statement) (xs ys : List Token) → SpellsLow c ss xs ys → length ys ≤ length xs
+low_shorter _ _ _ _ d = let a = statements_shorter d.spelled in omega arith
 
 guard_shorter : (t : Term) (xs ys : List Token) → SpellsGuard t xs ys → length ys ≤ length xs
 guard_shorter _ _ _ (grammar.guard d) = let a = term_shorter _ _ _ _ d in omega arith
@@ -114,16 +122,8 @@ transition_shorter _ _ _ (grammar.transition k h g e) =
     let a = kind_shorter _ _ _ k in
     let b = call_shorter _ _ _ h in
     let c = optional_shorter SpellsGuard guard_shorter g in
-    let d = section_shorter SpellsEffect effect_shorter e in
+    let d = section_shorter (SpellsLow Effect) (low_shorter Effect) e in
     omega arith
-
-pub firing_shorter : (f : Firing) (xs ys : List Token) → SpellsFire f xs ys → length ys < length xs
-firing_shorter _ _ _ (grammar.firing d) = let a = call_shorter _ _ _ d in omega arith
-firing_shorter _ _ _ (grammar.kind_firing k d) = let a = kind_shorter _ _ _ k in let b = call_shorter _ _ _ d in omega arith
-
-block_shorter : (fs : List Firing) (xs ys : List Token) → SpellsBlock fs xs ys → length ys ≤ length xs
-block_shorter _ _ _ grammar.idle = omega arith
-block_shorter _ _ _ (grammar.busy d) = let a = ended_shorter SpellsFire firing_shorter d in omega arith
 
 head_shorter : (ds : List Declared) (xs ys : List Token) → SpellsHead ds xs ys → length ys ≤ length xs
 head_shorter _ _ _ grammar.no_parameters = omega arith
@@ -139,6 +139,17 @@ groups_shorter _ _ _ d = gathered_several_shorter SpellsGroup group_shorter d
 variables_shorter : (vs : List Variable) (xs ys : List Token) → SeparatedBy mark.Comma SpellsVariable vs xs ys → length ys ≤ length xs
 variables_shorter _ _ _ d = let a = separated_shorter SpellsVariable variable_shorter d in omega arith
 
+block_shorter : (ss : List Statement) (xs ys : List Token) → SpellsBlock ss xs ys → length ys ≤ length xs
+block_shorter _ _ _ grammar.idle = omega arith
+block_shorter _ _ _ (grammar.busy d) = let a = low_shorter _ _ _ _ d in omega arith
+
+schedule_shorter : (s : Schedule) (xs ys : List Token) → SpellsSchedule s xs ys → length ys ≤ length xs
+schedule_shorter _ _ _ grammar.no_schedule = omega arith
+schedule_shorter _ _ _ (grammar.schedule v b) =
+    let a = section_shorter (SeparatedBy mark.Comma SpellsVariable) variables_shorter v in
+    let c = block_shorter _ _ _ b in
+    omega arith
+
 transitions_shorter : (ts : List Transition) (xs ys : List Token) → Several SpellsTransition ts xs ys → length ys ≤ length xs
 transitions_shorter _ _ _ d = several_shorter SpellsTransition transition_shorter d
 
@@ -149,7 +160,7 @@ declaration_shorter _ _ _ (grammar.automaton_parts h s v t b) =
     let k = section_shorter (SeveralLists SpellsGroup) groups_shorter s in
     let l = section_shorter (SeparatedBy mark.Comma SpellsVariable) variables_shorter v in
     let m = section_shorter (Several SpellsTransition) transitions_shorter t in
-    let n = section_shorter SpellsBlock block_shorter b in
+    let n = schedule_shorter _ _ _ b in
     omega arith
 
 pub placement_shorter : (p : Placement) (xs ys : List Token) → SpellsPlacement p xs ys → length ys < length xs

@@ -5,15 +5,16 @@ use Rattle.ioa_tokens.specs.declared.token.Token.{Token}
 use Rattle.ioa_tokens.specs.declared.token.Token.TheVariants as token
 use Rattle.ioa_tokens.specs.declared.mark.Mark.TheVariants as mark
 use Rattle.ioa_source.specs.PlainText.{type_named, automaton, node, channel, script}
-use Rattle.ioa_source.specs.Sides.{SourceTerm as Term, SourceStatement as Statement, SourceFiring as Firing, SourceDeclared as Declared, SourceTransition as Transition, SourceForm as Form, SourceType as TypeOf, SourceAutomaton as Automaton, SourceDeclaration as Declaration, SourceNode as Node, SourceScript as Script, SourcePlacement as Placement, SourceText}
+use Rattle.ioa_source.specs.Sides.{SourceTerm as Term, SourceStatement as Statement, SourceDeclared as Declared, SourceTransition as Transition, SourceSchedule as Schedule, SourceForm as Form, SourceType as TypeOf, SourceAutomaton as Automaton, SourceDeclaration as Declaration, SourceNode as Node, SourceScript as Script, SourcePlacement as Placement, SourceText}
 use Rattle.ioa_source.specs.declared.declaration.Channel.{Channel}
-use Rattle.ioa_cursor.specs.Lists.{Several, SeparatedOrEndedBy, Section, Optional}
-use Rattle.ioa_cursor.specs.Reading.{skip, at, end}
+use Rattle.ioa_cursor.specs.Lists.{Several, Section, Optional}
+use Rattle.ioa_cursor.specs.Reading.{skip, end}
 use Rattle.ioa_cursor.proofs.Steps.{read_next, choose_cases, bind_cases, skip_taken, skip_left, expected_taken, word_taken, number_taken}
-use Rattle.ioa_cursor.proofs.SoundLists.{several_sound, ended_sound, section_sound, optional_sound}
+use Rattle.ioa_cursor.proofs.SoundLists.{several_sound, section_sound, optional_sound}
 use Rattle.ioa_term_reader.specs.Grammar.{SpellsTerm, bracket_limit}
+use Rattle.ioa_text_reader.specs.declared.statement.Context.TheVariants.{Effect, Block}
 use Rattle.ioa_text_reader.specs.Grammar as grammar
-use Rattle.ioa_text_reader.specs.Grammar.{SpellsGuard, SpellsEffect, SpellsTransition, SpellsFire, SpellsBlock, SpellsHead, SpellsForm, SpellsDeclaration, SpellsPlacement, Spells, inner_limit}
+use Rattle.ioa_text_reader.specs.Grammar.{SpellsGuard, SpellsLow, SpellsTransition, SpellsBlock, SpellsSchedule, SpellsHead, SpellsForm, SpellsDeclaration, SpellsPlacement, Spells, inner_limit}
 use Rattle.ioa_text_reader.specs.Reading as reading
 use Rattle.ioa_term_reader.proofs.Sound.{term_sound}
 use Rattle.ioa_text_reader.proofs.SoundDeclared.{words_sound, declared_names_sound, call_sound, calls_sound}
@@ -22,9 +23,9 @@ use Rattle.ioa_text_reader.proofs.SoundStatements.{statements_sound}
 
 -- transitions
 
-effect_sound : (xs ys : List Token) (all : List Statement) → reading.effect xs ≡ read_next all ys → Section mark.Eff SpellsEffect all xs ys
+effect_sound : (xs ys : List Token) (all : List Statement) → reading.effect xs ≡ read_next all ys → Section mark.Eff (SpellsLow Effect) all xs ys
 unfolding reading.effect
-effect_sound xs ys all e = section_sound mark.Eff SpellsEffect reading.statements statements_sound xs ys all e
+effect_sound xs ys all e = section_sound mark.Eff (SpellsLow Effect) (reading.statements Effect) (statements_sound Effect) xs ys all e
 
 guard_at : {t : Term} {xs : List Token} (ys : List Token) (b : Bool) → (skip mark.Semicolon ys).0 ≡ b → SpellsTerm bracket_limit t xs ys →
     SpellsGuard t xs (skip mark.Semicolon ys).1
@@ -62,26 +63,7 @@ transitions_part_sound xs ys all e = section_sound mark.Transitions (Several Spe
 
 -- schedules
 
-firing_sound : (xs ys : List Token) (x : Firing) → reading.firing xs ≡ read_next x ys → SpellsFire x xs ys
-unfolding reading.firing
-firing_sound xs ys x e =
-    let P : Type 0 = SpellsFire x xs ys in
-    bind_cases P e (λ f f_is e1.
-    choose_cases P e1
-    (λ _ more.
-    bind_cases P more (λ k k_is e2. bind_cases P e2 (λ c c_is done.
-    let p = some_pair_parts _ _ _ _ done in
-    rw (expected_taken mark.Fire xs f f_is, ← p.0, ← p.1) (grammar.kind_firing (kind_sound f.1 k.1 k.0 k_is) (call_sound k.1 c.1 c.0 c_is)))))
-    (λ _ more.
-    bind_cases P more (λ c c_is done.
-    let p = some_pair_parts _ _ _ _ done in
-    rw (expected_taken mark.Fire xs f f_is, ← p.0, ← p.1) (grammar.firing (call_sound f.1 c.1 c.0 c_is)))))
-
-firings_sound : (xs ys : List Token) (all : List Firing) → reading.firings xs ≡ read_next all ys → SeparatedOrEndedBy mark.Semicolon SpellsFire all xs ys
-unfolding reading.firings
-firings_sound xs ys all e = ended_sound SpellsFire reading.firing firing_sound mark.Semicolon (at mark.Fire) xs ys all e
-
-block_sound : (xs ys : List Token) (all : List Firing) → reading.block xs ≡ read_next all ys → SpellsBlock all xs ys
+block_sound : (xs ys : List Token) (all : List Statement) → reading.block xs ≡ read_next all ys → SpellsBlock all xs ys
 unfolding reading.block
 block_sound xs ys all e =
     let P : Type 0 = SpellsBlock all xs ys in
@@ -93,12 +75,26 @@ block_sound xs ys all e =
     (λ not_closed more.
     bind_cases P more (λ r r_is close. bind_cases P close (λ c c_is done.
     let p = some_pair_parts _ _ _ _ done in
-    let within = rw (skip_left mark.Od d.1 not_closed, expected_taken mark.Od r.1 c c_is) at (firings_sound _ r.1 r.0 r_is) in
+    let within = rw (skip_left mark.Od d.1 not_closed, expected_taken mark.Od r.1 c c_is) at (statements_sound Block _ r.1 r.0 r_is) in
     rw (expected_taken mark.Do xs d d_is, ← p.0, ← p.1) (grammar.busy within)))))
 
-schedule_sound : (xs ys : List Token) (all : List Firing) → reading.schedule_part xs ≡ read_next all ys → Section mark.Schedule SpellsBlock all xs ys
+schedule_sound : (xs ys : List Token) (x : Schedule) → reading.schedule xs ≡ read_next x ys → SpellsSchedule x (token.Mark mark.Schedule ∷ xs) ys
+unfolding reading.schedule
+schedule_sound xs ys x e =
+    let P : Type 0 = SpellsSchedule x (token.Mark mark.Schedule ∷ xs) ys in
+    bind_cases P e (λ v v_is e1. bind_cases P e1 (λ b b_is done.
+    let p = some_pair_parts _ _ _ _ done in
+    rw (← p.0, ← p.1) (grammar.schedule (states_sound xs v.1 v.0 v_is) (block_sound v.1 b.1 b.0 b_is))))
+
+schedule_part_sound : (xs ys : List Token) (x : Schedule) → reading.schedule_part xs ≡ read_next x ys → SpellsSchedule x xs ys
 unfolding reading.schedule_part
-schedule_sound xs ys all e = section_sound mark.Schedule SpellsBlock reading.block block_sound xs ys all e
+schedule_part_sound xs ys x e =
+    let P : Type 0 = SpellsSchedule x xs ys in
+    choose_cases P e
+    (λ is_schedule more. rw (skip_taken mark.Schedule xs is_schedule) (schedule_sound _ ys x more))
+    (λ no_schedule is.
+    let p = some_pair_parts _ _ _ _ is in
+    rw (← p.0, ← p.1, skip_left mark.Schedule xs no_schedule) grammar.no_schedule)
 
 -- declarations
 
@@ -124,7 +120,7 @@ automaton_sound xs ys x e =
     let p = some_pair_parts _ _ _ _ done in
     rw (word_taken xs w w_is, ← p.0, ← p.1)
     (grammar.automaton_parts (head_sound w.1 h.1 h.0 h_is) (signature_sound h.1 g.1 g.0 g_is) (states_sound g.1 v.1 v.0 v_is)
-    (transitions_part_sound v.1 t.1 t.0 t_is) (schedule_sound t.1 b.1 b.0 b_is))))))))
+    (transitions_part_sound v.1 t.1 t.0 t_is) (schedule_part_sound t.1 b.1 b.0 b_is))))))))
 
 form_sound : (xs ys : List Token) (f : Form) → reading.form xs ≡ read_next f ys → SpellsForm f xs ys
 unfolding reading.form

@@ -1,6 +1,6 @@
 -- The grammar of texts (profile), a production at a time. `SpellsX x xs ys` says that the tokens `xs` are a spelling of
--- `x`, followed by the tokens `ys`. The next token decides each choice. The statements of a schedule block are firings,
--- and there are no invariants and no unordered channels yet.
+-- `x`, followed by the tokens `ys`. The next token decides each choice. There are no invariants and no unordered channels
+-- yet.
 use Rattle.std.specs.Prelude.{ℕ, suc, ℤ, List, [], ◌∷◌, ◌≤◌, Option, Some, None, map}
 use Rattle.ioa_tokens.specs.declared.token.Token.{Token}
 use Rattle.ioa_tokens.specs.declared.token.Token.TheVariants as token
@@ -8,7 +8,7 @@ use Rattle.ioa_tokens.specs.declared.mark.Mark.TheVariants as mark
 use Rattle.ioa_terms.specs.declared.tree.Kind.{Kind}
 use Rattle.ioa_terms.specs.declared.tree.Kind.TheVariants as kind
 use Rattle.ioa_terms.specs.PlainTerm as terms
-use Rattle.ioa_terms.specs.PlainTerm.{variable, at_key, at_field, assign, branch}
+use Rattle.ioa_terms.specs.PlainTerm.{variable, at_key, at_field, assign, branch, loop, fire}
 use Rattle.ioa_terms.specs.PlainTerm.{no_statements, statement, statements_of, no_arms, arm}
 use Rattle.ioa_source.specs.PlainSort.{PlainSort, booleans, integers, naturals, sequences, sets, maps, named_type}
 use Rattle.ioa_source.specs.PlainText.{const, named, enumeration, tuple_of, type_named, automaton}
@@ -17,13 +17,16 @@ use Rattle.ioa_source.specs.Sides.{SourceTerm as Term, SourceTarget as Target, S
 use Rattle.ioa_source.specs.Sides.{SourceStatements as Statements, SourceArms as Arms, SourceFiring as Firing}
 use Rattle.ioa_source.specs.Sides.{SourceDeclared as Declared}
 use Rattle.ioa_source.specs.Sides.{SourceParameter as Parameter, SourceEntry as Entry, SourceVariable as Variable}
-use Rattle.ioa_source.specs.Sides.{SourceTransition as Transition, SourceForm as Form, SourceDeclaration as Declaration}
-use Rattle.ioa_source.specs.Sides.{SourceCall as Call, SourcePlacement as Placement, SourceText}
+use Rattle.ioa_source.specs.Sides.{SourceTransition as Transition, SourceSchedule as Schedule, SourceForm as Form}
+use Rattle.ioa_source.specs.Sides.{SourceDeclaration as Declaration, SourceCall as Call, SourcePlacement as Placement}
+use Rattle.ioa_source.specs.Sides.{SourceText}
 use Rattle.ioa_cursor.specs.Lists.{Several, SeparatedBy, SeparatedOrEndedBy, Section, Optional}
 use Rattle.ioa_cursor.specs.Lists.{ListsSeparatedBy, SeveralLists}
 use Rattle.ioa_source.specs.Heights.{height_limit, statements_height}
 use Rattle.ioa_term_reader.specs.Grammar.{bracket_limit, SpellsTerm}
 use Rattle.ioa_text_reader.specs.declared.call.TheConstants.{INNER_LIMIT}
+use Rattle.ioa_text_reader.specs.declared.statement.Context.{Context}
+use Rattle.ioa_text_reader.specs.declared.statement.Context.TheVariants.{Effect, Block}
 
 -- how many brackets may be opened within the brackets of a call, an entry, an automaton or a target
 abbrev pub inner_limit : ℕ
@@ -118,45 +121,59 @@ pub data SpellsTarget : Target → List Token → List Token → Type 0 where
   at_a_field : {w f : List ℕ} {xs : List Token} →
       SpellsTarget (at_field w tt tt f) (token.Word w ∷ token.Mark mark.Dot ∷ token.Word f ∷ xs) xs
 
+-- [Kind] Call, after `fire`
+pub data SpellsFiring : Firing → List Token → List Token → Type 0 where
+  firing : {call : Call} {xs ys : List Token} → SpellsCall call xs ys →
+      SpellsFiring (terms.firing None call.name call.arguments) xs ys
+  kind_firing : {k : Kind} {call : Call} {xs ys zs : List Token} → SpellsKind k xs ys → SpellsCall call ys zs →
+      SpellsFiring (terms.firing (Some k) call.name call.arguments) xs zs
+
 mutual
-  -- Statement: Target := Term, or if Arms [else Statements] fi
-  pub data SpellsStatement : Statement → List Token → List Token → Type 0 where
-    assignment : {p : Target} {t : Term} {xs ys zs : List Token} →
+  -- Statement: Target := Term, or if Arms [else Statements] fi; in a schedule block also while Term do Statements od, or
+  -- fire [Kind] Call
+  pub data SpellsStatement : Context → Statement → List Token → List Token → Type 0 where
+    assignment : {c : Context} {p : Target} {t : Term} {xs ys zs : List Token} →
         SpellsTarget p xs (token.Mark mark.Assign ∷ ys) → SpellsTerm bracket_limit t ys zs →
-        SpellsStatement (assign p t) xs zs
-    choice : {arms : Arms} {rest : Statements} {xs ys zs : List Token} →
-        SpellsArms arms xs ys → SpellsRest rest ys zs →
-        SpellsStatement (branch arms rest) (token.Mark mark.If ∷ xs) zs
+        SpellsStatement c (assign p t) xs zs
+    choice : {c : Context} {arms : Arms} {rest : Statements} {xs ys zs : List Token} →
+        SpellsArms c arms xs ys → SpellsRest c rest ys zs →
+        SpellsStatement c (branch arms rest) (token.Mark mark.If ∷ xs) zs
+    repetition : {t : Term} {body : Statements} {xs ys zs : List Token} →
+        SpellsTerm bracket_limit t xs (token.Mark mark.Do ∷ ys) →
+        SpellsStatements Block body ys (token.Mark mark.Od ∷ zs) →
+        SpellsStatement Block (loop t body) (token.Mark mark.While ∷ xs) zs
+    fire_statement : {f : Firing} {xs ys : List Token} → SpellsFiring f xs ys →
+        SpellsStatement Block (fire f) (token.Mark mark.Fire ∷ xs) ys
 
   -- Arms: Term then Statements {elseif Term then Statements}
-  pub data SpellsArms : Arms → List Token → List Token → Type 0 where
-    one_arm : {t : Term} {body : Statements} {xs ys zs : List Token} →
-        SpellsTerm bracket_limit t xs (token.Mark mark.Then ∷ ys) → SpellsStatements body ys zs →
-        SpellsArms (arm t body no_arms) xs zs
-    more_arms : {t : Term} {body : Statements} {others : Arms} {xs ys zs ws : List Token} →
+  pub data SpellsArms : Context → Arms → List Token → List Token → Type 0 where
+    one_arm : {c : Context} {t : Term} {body : Statements} {xs ys zs : List Token} →
+        SpellsTerm bracket_limit t xs (token.Mark mark.Then ∷ ys) → SpellsStatements c body ys zs →
+        SpellsArms c (arm t body no_arms) xs zs
+    more_arms : {c : Context} {t : Term} {body : Statements} {others : Arms} {xs ys zs ws : List Token} →
         SpellsTerm bracket_limit t xs (token.Mark mark.Then ∷ ys) →
-        SpellsStatements body ys (token.Mark mark.ElseIf ∷ zs) → SpellsArms others zs ws →
-        SpellsArms (arm t body others) xs ws
+        SpellsStatements c body ys (token.Mark mark.ElseIf ∷ zs) → SpellsArms c others zs ws →
+        SpellsArms c (arm t body others) xs ws
 
   -- [else Statements] fi
-  pub data SpellsRest : Statements → List Token → List Token → Type 0 where
-    no_else : {xs : List Token} → SpellsRest no_statements (token.Mark mark.Fi ∷ xs) xs
-    otherwise : {rest : Statements} {xs ys : List Token} → SpellsStatements rest xs (token.Mark mark.Fi ∷ ys) →
-        SpellsRest rest (token.Mark mark.Else ∷ xs) ys
+  pub data SpellsRest : Context → Statements → List Token → List Token → Type 0 where
+    no_else : {c : Context} {xs : List Token} → SpellsRest c no_statements (token.Mark mark.Fi ∷ xs) xs
+    otherwise : {c : Context} {rest : Statements} {xs ys : List Token} →
+        SpellsStatements c rest xs (token.Mark mark.Fi ∷ ys) → SpellsRest c rest (token.Mark mark.Else ∷ xs) ys
 
   -- Statements: Statement {; Statement} [;]
-  pub data SpellsStatements : Statements → List Token → List Token → Type 0 where
-    last_statement : {s : Statement} {xs ys : List Token} → SpellsStatement s xs ys →
-        SpellsStatements (statement s no_statements) xs ys
-    closed_statement : {s : Statement} {xs ys : List Token} → SpellsStatement s xs (token.Mark mark.Semicolon ∷ ys) →
-        SpellsStatements (statement s no_statements) xs ys
-    more_statements : {s : Statement} {others : Statements} {xs ys zs : List Token} →
-        SpellsStatement s xs (token.Mark mark.Semicolon ∷ ys) → SpellsStatements others ys zs →
-        SpellsStatements (statement s others) xs zs
+  pub data SpellsStatements : Context → Statements → List Token → List Token → Type 0 where
+    last_statement : {c : Context} {s : Statement} {xs ys : List Token} → SpellsStatement c s xs ys →
+        SpellsStatements c (statement s no_statements) xs ys
+    closed_statement : {c : Context} {s : Statement} {xs ys : List Token} →
+        SpellsStatement c s xs (token.Mark mark.Semicolon ∷ ys) → SpellsStatements c (statement s no_statements) xs ys
+    more_statements : {c : Context} {s : Statement} {others : Statements} {xs ys zs : List Token} →
+        SpellsStatement c s xs (token.Mark mark.Semicolon ∷ ys) → SpellsStatements c others ys zs →
+        SpellsStatements c (statement s others) xs zs
 
--- the statements of an effect, none of them too high
-pub record SpellsEffect (statements : List Statement) (xs ys : List Token) : Type 0 where
-  pub spelled : SpellsStatements (statements_of statements) xs ys
+-- the statements of an effect or of a schedule block, none of them too high
+pub record SpellsLow (c : Context) (statements : List Statement) (xs ys : List Token) : Type 0 where
+  pub spelled : SpellsStatements c (statements_of statements) xs ys
   pub low : statements_height (statements_of statements) ≤ height_limit
 
 -- Term [;]
@@ -169,23 +186,26 @@ pub data SpellsGuard : Term → List Token → List Token → Type 0 where
 pub data SpellsTransition : Transition → List Token → List Token → Type 0 where
   transition : {k : Kind} {head : Call} {pre : Option Term} {effect : List Statement} {xs ps qs rs ys : List Token} →
       SpellsKind k xs ps → SpellsCall head ps qs →
-      Optional mark.Pre SpellsGuard pre qs rs → Section mark.Eff SpellsEffect effect rs ys →
+      Optional mark.Pre SpellsGuard pre qs rs → Section mark.Eff (SpellsLow Effect) effect rs ys →
       SpellsTransition
       (record { kind = k; name = head.name; arguments = head.arguments; pre = pre; effect = effect }) xs ys
 
--- Fire: fire [Kind] Call
-pub data SpellsFire : Firing → List Token → List Token → Type 0 where
-  firing : {call : Call} {xs ys : List Token} → SpellsCall call xs ys →
-      SpellsFire (terms.firing None call.name call.arguments) (token.Mark mark.Fire ∷ xs) ys
-  kind_firing : {k : Kind} {call : Call} {xs ys zs : List Token} → SpellsKind k xs ys → SpellsCall call ys zs →
-      SpellsFire (terms.firing (Some k) call.name call.arguments) (token.Mark mark.Fire ∷ xs) zs
-
--- do [Fire {; Fire} [;]] od
-pub data SpellsBlock : List Firing → List Token → List Token → Type 0 where
+-- do [Statements] od
+pub data SpellsBlock : List Statement → List Token → List Token → Type 0 where
   idle : {xs : List Token} → SpellsBlock [] (token.Mark mark.Do ∷ token.Mark mark.Od ∷ xs) xs
-  busy : {fires : List Firing} {xs ys : List Token} →
-      SeparatedOrEndedBy mark.Semicolon SpellsFire fires xs (token.Mark mark.Od ∷ ys) →
-      SpellsBlock fires (token.Mark mark.Do ∷ xs) ys
+  busy : {statements : List Statement} {xs ys : List Token} →
+      SpellsLow Block statements xs (token.Mark mark.Od ∷ ys) → SpellsBlock statements (token.Mark mark.Do ∷ xs) ys
+
+-- a schedule block with these variables and statements
+abbrev pub schedule_with : List Variable → List Statement → Schedule
+schedule_with vs ss = record { variables = vs; statements = ss }
+
+-- [schedule [States] do [Statements] od]: an automaton without a schedule has the empty block
+pub data SpellsSchedule : Schedule → List Token → List Token → Type 0 where
+  no_schedule : {xs : List Token} → SpellsSchedule (schedule_with [] []) xs xs
+  schedule : {variables : List Variable} {statements : List Statement} {xs ys zs : List Token} →
+      Section mark.States (SeparatedBy mark.Comma SpellsVariable) variables xs ys → SpellsBlock statements ys zs →
+      SpellsSchedule (schedule_with variables statements) (token.Mark mark.Schedule ∷ xs) zs
 
 -- [ ( Declared {, Declared} ) ]
 pub data SpellsHead : List Declared → List Token → List Token → Type 0 where
@@ -209,12 +229,12 @@ pub data SpellsDeclaration : Declaration → List Token → List Token → Type 
       SpellsDeclaration (type_named (record { name = w; form = f }))
       (token.Mark mark.Type ∷ token.Word w ∷ token.Mark mark.Equal ∷ xs) ys
   automaton_parts : {w : List ℕ} {head : List Declared} {entries : List Entry} {variables : List Variable}
-      {transitions : List Transition} {block : List Firing} {xs os ps qs rs ys : List Token} →
+      {transitions : List Transition} {block : Schedule} {xs os ps qs rs ys : List Token} →
       SpellsHead head xs os →
       Section mark.Signature (SeveralLists SpellsGroup) entries os ps →
       Section mark.States (SeparatedBy mark.Comma SpellsVariable) variables ps qs →
       Section mark.Transitions (Several SpellsTransition) transitions qs rs →
-      Section mark.Schedule SpellsBlock block rs ys →
+      SpellsSchedule block rs ys →
       SpellsDeclaration
       (automaton (record {
         name = w;

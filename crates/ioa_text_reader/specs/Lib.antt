@@ -1,4 +1,5 @@
 -- what the contracts of this crate and of those above it cite
+pub mod Built
 pub mod FaultText
 pub mod Grammar
 pub mod Groups

@@ -14,7 +14,8 @@ use Rattle.ioa_source.specs.PlainText as declarations
 use Rattle.ioa_source.specs.Sides.{SourceTerm as Term, SourceTarget as Target, SourceStatement as Statement}
 use Rattle.ioa_source.specs.Sides.{SourceStatements as Statements, SourceFiring as Firing, SourceDeclared as Declared}
 use Rattle.ioa_source.specs.Sides.{SourceParameter as Parameter, SourceEntry as Entry, SourceVariable as Variable}
-use Rattle.ioa_source.specs.Sides.{SourceTransition as Transition, SourceForm as Form, SourceType as TypeOf}
+use Rattle.ioa_source.specs.Sides.{SourceTransition as Transition, SourceSchedule as Schedule, SourceForm as Form}
+use Rattle.ioa_source.specs.Sides.{SourceType as TypeOf}
 use Rattle.ioa_source.specs.Sides.{SourceAutomaton as Automaton, SourceDeclaration as Declaration}
 use Rattle.ioa_source.specs.Sides.{SourceNode as Node, SourceCall as Call, SourceScript as Script}
 use Rattle.ioa_source.specs.Sides.{SourcePlacement as Placement, SourceText}
@@ -25,7 +26,9 @@ use Rattle.ioa_cursor.specs.Reading.{several, several_more, section, optional, s
 use Rattle.ioa_source.specs.Heights.{height_limit, statement_height}
 use Rattle.ioa_term_reader.specs.Grammar.{bracket_limit}
 use Rattle.ioa_term_reader.specs.Reading.{term}
-use Rattle.ioa_text_reader.specs.Grammar.{declare, inner_limit}
+use Rattle.ioa_text_reader.specs.Grammar.{declare, inner_limit, schedule_with}
+use Rattle.ioa_text_reader.specs.declared.statement.Context.{Context}
+use Rattle.ioa_text_reader.specs.declared.statement.Context.TheVariants.{Effect, Block}
 
 -- `next` reads the sorts in the brackets of a sort
 module _ (next : List Token → Option (PlainSort × List Token)) where
@@ -199,9 +202,25 @@ assignment xs =
 unfoldable pub limited_statement : Statement → Option Statement
 limited_statement s = if nat_le (statement_height s) height_limit then Some s else None
 
+-- whether a statement begins with one of the words that only a schedule block has
+unfoldable pub begins_in_block : List Token → Bool
+begins_in_block xs = if at mark.While xs then true else at mark.Fire xs
+
 -- whether a statement begins
-unfoldable pub begins_statement : List Token → Bool
-begins_statement xs = if at_word xs then true else at mark.If xs
+unfoldable pub begins_statement : Context → List Token → Bool
+begins_statement Effect xs = if at_word xs then true else at mark.If xs
+begins_statement Block xs = if at_word xs then true else (if at mark.If xs then true else begins_in_block xs)
+
+-- [Kind] Call, after `fire`
+unfoldable pub firing : List Token → Option (Firing × List Token)
+firing xs =
+    choose (at_kind xs)
+    (kind xs >>= λ k. call k.1 >>= λ c. Some (plain.firing (Some k.0) c.0.name c.0.arguments, c.1))
+    (call xs >>= λ c. Some (plain.firing None c.0.name c.0.arguments, c.1))
+
+-- fire [Kind] Call, after the first word
+unfoldable pub fire_statement : List Token → Option (Statement × List Token)
+fire_statement xs = firing xs >>= λ f. limited_statement (plain.fire f.0) >>= λ s. Some (s, f.1)
 
 -- `next` reads the statements in a statement
 module _ (next : List Token → Option (List Statement × List Token)) where
@@ -228,23 +247,43 @@ module _ (next : List Token → Option (List Statement × List Token)) where
       all_arms xs >>= λ arms. rest_of arms.1 >>= λ r.
       limited_statement (plain.branch (arms_of arms.0) (statements_of r.0)) >>= λ s. Some (s, r.1)
 
-  -- Target := Term, or if Arms [else Statements] fi
-  unfoldable pub one_statement : List Token → Option (Statement × List Token)
-  one_statement xs = choose (skip mark.If xs).0 (choice (skip mark.If xs).1) (assignment (skip mark.If xs).1)
+  -- while Term do Statements od, after the first word
+  unfoldable pub repetition : List Token → Option (Statement × List Token)
+  repetition xs =
+      term bracket_limit xs >>= λ t. expect mark.Do t.1 >>= λ d. next d.1 >>= λ ss. expect mark.Od ss.1 >>= λ o.
+      limited_statement (plain.loop t.0 (statements_of ss.0)) >>= λ s. Some (s, o.1)
+
+  -- while, fire or an assignment
+  unfoldable pub block_statement : List Token → Option (Statement × List Token)
+  block_statement xs =
+      choose (skip mark.While xs).0
+      (repetition (skip mark.While xs).1)
+      (choose (skip mark.Fire (skip mark.While xs).1).0
+      (fire_statement (skip mark.Fire (skip mark.While xs).1).1)
+      (assignment (skip mark.Fire (skip mark.While xs).1).1))
+
+  -- a statement other than an `if`
+  unfoldable pub other_statement : Context → List Token → Option (Statement × List Token)
+  other_statement Effect xs = assignment xs
+  other_statement Block xs = block_statement xs
+
+  -- a statement, which begins with `if` or is another
+  unfoldable pub one_statement : Context → List Token → Option (Statement × List Token)
+  one_statement c xs = choose (skip mark.If xs).0 (choice (skip mark.If xs).1) (other_statement c (skip mark.If xs).1)
 
 -- Statement {; Statement} [;]. The statements in a statement are read at one depth less.
-unfoldable pub statements_in : ℕ → List Token → Option (List Statement × List Token)
-statements_in zero xs = None
-statements_in (suc depth) xs =
-    several_more (resumes_with mark.Semicolon begins_statement) (one_statement (statements_in depth)) [] xs
+unfoldable pub statements_in : Context → ℕ → List Token → Option (List Statement × List Token)
+statements_in c zero xs = None
+statements_in c (suc depth) xs =
+    several_more (resumes_with mark.Semicolon (begins_statement c)) (one_statement (statements_in c depth) c) [] xs
 
--- the statements of an effect
-unfoldable pub statements : List Token → Option (List Statement × List Token)
-statements xs = statements_in height_limit xs
+-- the statements of an effect or of a schedule block
+unfoldable pub statements : Context → List Token → Option (List Statement × List Token)
+statements c xs = statements_in c height_limit xs
 
 -- [eff Statements]
 unfoldable pub effect : List Token → Option (List Statement × List Token)
-effect xs = section mark.Eff statements xs
+effect xs = section mark.Eff (statements Effect) xs
 
 -- Term [;]
 unfoldable pub guard : List Token → Option (Term × List Token)
@@ -264,25 +303,13 @@ transition xs =
 unfoldable pub transitions : List Token → Option (List Transition × List Token)
 transitions xs = several (begins_with at_kind) transition xs
 
--- fire [Kind] Call
-unfoldable pub firing : List Token → Option (Firing × List Token)
-firing xs =
-    expect mark.Fire xs >>= λ f.
-    choose (at_kind f.1)
-    (kind f.1 >>= λ k. call k.1 >>= λ c. Some (plain.firing (Some k.0) c.0.name c.0.arguments, c.1))
-    (call f.1 >>= λ c. Some (plain.firing None c.0.name c.0.arguments, c.1))
-
--- Fire {; Fire} [;]
-unfoldable pub firings : List Token → Option (List Firing × List Token)
-firings xs = several_more (resumes_with mark.Semicolon (at mark.Fire)) firing [] xs
-
--- do [Fire {; Fire} [;]] od
-unfoldable pub block : List Token → Option (List Firing × List Token)
+-- do [Statements] od
+unfoldable pub block : List Token → Option (List Statement × List Token)
 block xs =
     expect mark.Do xs >>= λ d.
     choose (skip mark.Od d.1).0
     (Some ([], (skip mark.Od d.1).1))
-    (firings (skip mark.Od d.1).1 >>= λ fs. expect mark.Od fs.1 >>= λ o. Some (fs.0, o.1))
+    (statements Block (skip mark.Od d.1).1 >>= λ ss. expect mark.Od ss.1 >>= λ o. Some (ss.0, o.1))
 
 -- [signature Groups]
 unfoldable pub signature_part : List Token → Option (List Entry × List Token)
@@ -296,9 +323,16 @@ states_part xs = section mark.States variables xs
 unfoldable pub transitions_part : List Token → Option (List Transition × List Token)
 transitions_part xs = section mark.Transitions transitions xs
 
--- [schedule Block]
-unfoldable pub schedule_part : List Token → Option (List Firing × List Token)
-schedule_part xs = section mark.Schedule block xs
+-- [states Variables] do [Statements] od
+unfoldable pub schedule : List Token → Option (Schedule × List Token)
+schedule xs = states_part xs >>= λ v. block v.1 >>= λ b. Some (schedule_with v.0 b.0, b.1)
+
+-- [schedule [States] do [Statements] od]
+unfoldable pub schedule_part : List Token → Option (Schedule × List Token)
+schedule_part xs =
+    choose (skip mark.Schedule xs).0
+    (schedule (skip mark.Schedule xs).1)
+    (Some (schedule_with [] [], (skip mark.Schedule xs).1))
 
 -- [ ( Declared {, Declared} ) ]
 unfoldable pub head : List Token → Option (List Declared × List Token)

@@ -3,19 +3,19 @@
 ghost use Rattle.std.specs.Prelude.{map};
 ghost use Rattle.std.specs.Option.{option_map};
 ghost use Rattle.ioa_cursor.specs.Outcome.{Reads};
-ghost use Rattle.ioa_source.specs.TextView.{declared_of, variable_of, transition_of, automaton_of};
-ghost use Rattle.ioa_terms.specs.View.{term_of, firing_of};
+ghost use Rattle.ioa_source.specs.TextView.{declared_of, variable_of, transition_of, schedule_of, automaton_of};
+ghost use Rattle.ioa_terms.specs.View.{term_of, statement_of};
 ghost use Rattle.ioa_text_reader.specs.Reading as spec;
 
 use crate::call::{INNER_LIMIT, at_kind, call, kind};
 use crate::declared::declared_names;
 use crate::signature::signature_part;
 use crate::sort::sort;
-use crate::statement::effect;
+use crate::statement::{Context, effect, statements};
 use ioa_cursor::{Tokens, Unread};
-use ioa_source::{Automaton, Declared, Transition, Variable};
+use ioa_source::{Automaton, Declared, Schedule, Transition, Variable};
 use ioa_term_reader::{BRACKET_LIMIT, term};
-use ioa_terms::{Firing, Term};
+use ioa_terms::{Statement, Term};
 use ioa_tokens::Mark;
 use std::alloc::Global;
 
@@ -121,57 +121,18 @@ fn transitions(alloc: Global, tokens: &mut Tokens<'_>) -> Result<Vec<Transition<
     Ok(transitions)
 }
 
-/// `fire` [Kind] Call
-#[tactic(auto, unfolding(crate::specs::Reading::firing, crate::specs::bind, crate::specs::choose))]
-fn firing(alloc: Global, tokens: &mut Tokens<'_>) -> Result<Firing<(), ()>, Unread>
-    ensures { Reads firing_of (spec.firing tokens.old) result tokens.new }
-{
-    tokens.expect(Mark::Fire)?;
-    if !at_kind(tokens) {
-        let fired = call(alloc, tokens)?;
-        return Ok(Firing {
-            kind: None,
-            action: fired.name,
-            arguments: fired.arguments,
-        });
-    }
-    let kind = kind(tokens)?;
-    let fired = call(alloc, tokens)?;
-    Ok(Firing {
-        kind: Some(kind),
-        action: fired.name,
-        arguments: fired.arguments,
-    })
-}
-
-/// Fire {`;` Fire} [`;`]
-#[tactic(auto, unfolding(crate::specs::Reading::firings, crate::specs::bind))]
-fn firings(alloc: Global, tokens: &mut Tokens<'_>) -> Result<Vec<Firing<(), ()>>, Unread>
-    ensures { Reads (λ v. map firing_of v.items) (spec.firings tokens.old) result tokens.new }
-{
-    let mut firings = Vec::new(alloc);
-    firings.push(firing(alloc, tokens)?)?;
-    for _turn in 0..tokens.len() {
-        if !tokens.resumes_with(Mark::Semicolon, Mark::Fire) {
-            return Ok(firings);
-        }
-        firings.push(firing(alloc, tokens)?)?;
-    }
-    Ok(firings)
-}
-
-/// `do` [Fire {`;` Fire} [`;`]] `od`
+/// `do` [Statements] `od`
 #[tactic(auto, unfolding(crate::specs::Reading::block, crate::specs::bind, crate::specs::choose))]
-fn block(alloc: Global, tokens: &mut Tokens<'_>) -> Result<Vec<Firing<(), ()>>, Unread>
-    ensures { Reads (λ v. map firing_of v.items) (spec.block tokens.old) result tokens.new }
+fn block(alloc: Global, tokens: &mut Tokens<'_>) -> Result<Vec<Statement<(), ()>>, Unread>
+    ensures { Reads (λ v. map statement_of v.items) (spec.block tokens.old) result tokens.new }
 {
     tokens.expect(Mark::Do)?;
     if tokens.skip(Mark::Od) {
         return Ok(Vec::new(alloc));
     }
-    let firings = firings(alloc, tokens)?;
+    let statements = statements(alloc, tokens, Context::Block)?;
     tokens.expect(Mark::Od)?;
-    Ok(firings)
+    Ok(statements)
 }
 
 /// [`states` Variable {`,` Variable}]
@@ -199,15 +160,31 @@ fn transitions_part(
     transitions(alloc, tokens)
 }
 
-/// [`schedule` Block]
+/// [`states` Variable {`,` Variable}] `do` [Statements] `od`
+#[tactic(auto, unfolding(crate::specs::Reading::schedule, crate::specs::bind))]
+fn schedule(alloc: Global, tokens: &mut Tokens<'_>) -> Result<Schedule<(), ()>, Unread>
+    ensures { Reads schedule_of (spec.schedule tokens.old) result tokens.new }
+{
+    let variables = states_part(alloc, tokens)?;
+    let statements = block(alloc, tokens)?;
+    Ok(Schedule {
+        variables,
+        statements,
+    })
+}
+
+/// [`schedule` Schedule]
 #[tactic(auto, unfolding(crate::specs::Reading::schedule_part, crate::specs::choose))]
-fn schedule_part(alloc: Global, tokens: &mut Tokens<'_>) -> Result<Vec<Firing<(), ()>>, Unread>
-    ensures { Reads (λ v. map firing_of v.items) (spec.schedule_part tokens.old) result tokens.new }
+fn schedule_part(alloc: Global, tokens: &mut Tokens<'_>) -> Result<Schedule<(), ()>, Unread>
+    ensures { Reads schedule_of (spec.schedule_part tokens.old) result tokens.new }
 {
     if !tokens.skip(Mark::Schedule) {
-        return Ok(Vec::new(alloc));
+        return Ok(Schedule {
+            variables: Vec::new(alloc),
+            statements: Vec::new(alloc),
+        });
     }
-    block(alloc, tokens)
+    schedule(alloc, tokens)
 }
 
 /// [`(` Declared {`,` Declared} `)`]

@@ -1,17 +1,22 @@
 //! Targets and statements within the limit of height, from their parts.
 
 ghost use Rattle.std.specs.Prelude.{◌≡◌, ◌≤◌, IfErr, map};
-ghost use Rattle.ioa_source.specs.Heights.{height_limit, statements_height, arms_height};
+ghost use Rattle.ioa_source.specs.Heights.{height_limit, heights, statements_height, arms_height};
 ghost use Rattle.ioa_cursor.specs.declared.cursor.Unread.TheVariants.{Memory};
 ghost use Rattle.ioa_terms.specs.PlainTerm as plain;
-ghost use Rattle.ioa_terms.specs.PlainTerm.{statements_of, arms_of};
+ghost use Rattle.ioa_terms.specs.PlainTerm.{terms_of, statements_of, arms_of};
 ghost use Rattle.ioa_terms.specs.View.{term_of, target_of, statement_of, arm_of};
+ghost use Rattle.ioa_text_reader.specs.Built.{built_firing_of};
 ghost use Rattle.ioa_text_reader.specs.Reading as spec;
 ghost use Rattle.ioa_values.specs.Outcome.{Matches};
 
+use crate::call::BuiltFiring;
 use ioa_cursor::Unread;
 use ioa_term_reader::Built;
-use ioa_terms::{Arm, Statement, Target, Term, Word};
+use ioa_terms::{Arm, Firing, Statement, Target, Term, Word};
+
+/// Terms one after another.
+pub(crate) type BuiltTerms = Built<Vec<Term>>;
 
 /// The target of an assignment. Its height is that of the term in it, 0 if there is none.
 pub(crate) type BuiltTarget = Built<Target<(), ()>>;
@@ -79,6 +84,41 @@ pub(crate) fn choice(
     Ok(built)
 }
 
+/// A `while`, if it is not too high: else the refusal `deep`.
+#[tactic(auto, unfolding(crate::specs::Reading::limited_statement))]
+pub(crate) fn repetition(
+    test: Built<Term>,
+    body: BuiltStatements,
+    deep: Unread,
+) -> Result<BuiltStatement, Unread>
+    ensures meant { Matches Memory (λ b. statement_of b.tree) result
+        (spec.limited_statement (plain.loop (term_of test.tree)
+        (statements_of (map statement_of body.tree.items)))) }
+    ensures told { IfErr result (λ e. e ≡ deep) }
+{
+    let height = test.height().max(highest_statement(&body)) + 1;
+    let repetition = Statement::While(test.into_tree(), body.into_tree());
+    let built = Built::within_limit(repetition, height, deep)?;
+    Ok(built)
+}
+
+/// A `fire`, if it is not too high: else the refusal `deep`.
+#[tactic(auto, unfolding(crate::specs::Reading::limited_statement))]
+pub(crate) fn fire(fired: BuiltFiring, deep: Unread) -> Result<BuiltStatement, Unread>
+    ensures meant { Matches Memory (λ b. statement_of b.tree) result
+        (spec.limited_statement (plain.fire (built_firing_of fired))) }
+    ensures told { IfErr result (λ e. e ≡ deep) }
+{
+    let height = highest_term(&fired.call.arguments).max(1);
+    let fire = Statement::Fire(Firing {
+        kind: fired.kind,
+        action: fired.call.name,
+        arguments: fired.call.arguments.into_tree(),
+    });
+    let built = Built::within_limit(fire, height, deep)?;
+    Ok(built)
+}
+
 /// `t then s`.
 pub(crate) fn arm(test: Built<Term>, body: BuiltStatements) -> BuiltArm
     ensures { arm_of result.tree ≡ (term_of test.tree, statements_of (map statement_of body.tree.items)) }
@@ -99,6 +139,14 @@ fn highest_statement(statements: &BuiltStatements) -> usize
     ensures low { result ≤ height_limit }
 {
     statements.height()
+}
+
+/// The height of the highest of several terms, 0 if there is none.
+fn highest_term(terms: &BuiltTerms) -> usize
+    ensures exact { result ≡ heights (terms_of (map term_of terms.now.tree.items)) }
+    ensures low { result ≤ height_limit }
+{
+    terms.height()
 }
 
 /// The height of the highest of several arms, 0 if there is none.

@@ -1,15 +1,17 @@
-//! Calls and kinds of actions.
+//! Calls, kinds of actions, and firings.
 
 ghost use Rattle.std.specs.Prelude.{◌≡◌, map};
 ghost use Rattle.ioa_cursor.specs.Outcome.{Reads};
 ghost use Rattle.ioa_source.specs.TextView.{call_of};
 ghost use Rattle.ioa_terms.specs.View.{term_of};
+ghost use Rattle.ioa_text_reader.specs.Built.{built_call_of, built_firing_of};
 ghost use Rattle.ioa_text_reader.specs.Reading as spec;
 
+use crate::built::BuiltTerms;
 use ioa_cursor::{Tokens, Unread};
 use ioa_source::Call;
 use ioa_term_reader::{BRACKET_LIMIT, term};
-use ioa_terms::{Kind, Term};
+use ioa_terms::{Kind, Word};
 use ioa_tokens::Mark;
 use std::alloc::Global;
 
@@ -19,45 +21,63 @@ pub(crate) const INNER_LIMIT: usize = BRACKET_LIMIT - 1;
 
 /// Term {`,` Term}, in brackets
 #[tactic(auto, unfolding(crate::specs::Reading::terms, crate::specs::bind))]
-fn terms(alloc: Global, tokens: &mut Tokens<'_>) -> Result<Vec<Term>, Unread>
-    ensures { Reads (λ v. map term_of v.items) (spec.terms tokens.old) result tokens.new }
+fn terms(alloc: Global, tokens: &mut Tokens<'_>) -> Result<BuiltTerms, Unread>
+    ensures { Reads (λ b. map term_of b.tree.items) (spec.terms tokens.old) result tokens.new }
 {
-    let mut terms = Vec::new(alloc);
-    terms.push(term(alloc, tokens, INNER_LIMIT)?.into_tree())?;
+    let first = term(alloc, tokens, INNER_LIMIT)?;
+    let mut terms = BuiltTerms::none(alloc).with_next(first)?;
     for _turn in 0..tokens.len() {
         if !tokens.skip(Mark::Comma) {
             return Ok(terms);
         }
         let next = term(alloc, tokens, INNER_LIMIT)?;
-        terms.push(next.into_tree())?;
+        terms = terms.with_next(next)?;
     }
     Ok(terms)
 }
 
 /// [`(` [Term {`,` Term}] `)`]
 #[tactic(auto, unfolding(crate::specs::Reading::arguments, crate::specs::bind, crate::specs::choose))]
-fn arguments(alloc: Global, tokens: &mut Tokens<'_>) -> Result<Vec<Term>, Unread>
-    ensures { Reads (λ v. map term_of v.items) (spec.arguments tokens.old) result tokens.new }
+fn arguments(alloc: Global, tokens: &mut Tokens<'_>) -> Result<BuiltTerms, Unread>
+    ensures { Reads (λ b. map term_of b.tree.items) (spec.arguments tokens.old) result tokens.new }
 {
     if !tokens.skip(Mark::OpenRound) {
-        return Ok(Vec::new(alloc));
+        return Ok(BuiltTerms::none(alloc));
     }
     if tokens.skip(Mark::CloseRound) {
-        return Ok(Vec::new(alloc));
+        return Ok(BuiltTerms::none(alloc));
     }
     let arguments = terms(alloc, tokens)?;
     tokens.expect(Mark::CloseRound)?;
     Ok(arguments)
 }
 
+/// A call, with the height of its highest argument.
+#[derive(Drop)]
+pub(crate) struct BuiltCall {
+    pub name: Word,
+    pub arguments: BuiltTerms,
+}
+
 /// Word [`(` [Term {`,` Term}] `)`]
 #[tactic(auto, unfolding(crate::specs::Reading::call, crate::specs::bind))]
-pub(crate) fn call(alloc: Global, tokens: &mut Tokens<'_>) -> Result<Call<(), ()>, Unread>
-    ensures { Reads call_of (spec.call tokens.old) result tokens.new }
+pub(crate) fn built_call(alloc: Global, tokens: &mut Tokens<'_>) -> Result<BuiltCall, Unread>
+    ensures { Reads built_call_of (spec.call tokens.old) result tokens.new }
 {
     let name = tokens.word(alloc)?;
     let arguments = arguments(alloc, tokens)?;
-    Ok(Call { name, arguments })
+    Ok(BuiltCall { name, arguments })
+}
+
+/// The same without the height.
+pub(crate) fn call(alloc: Global, tokens: &mut Tokens<'_>) -> Result<Call<(), ()>, Unread>
+    ensures { Reads call_of (spec.call tokens.old) result tokens.new }
+{
+    let call = built_call(alloc, tokens)?;
+    Ok(Call {
+        name: call.name,
+        arguments: call.arguments.into_tree(),
+    })
 }
 
 /// Call {`,` Call}
@@ -117,4 +137,28 @@ pub(crate) fn kind(tokens: &mut Tokens<'_>) -> Result<Kind, Unread>
             Ok(kind)
         }
     }
+}
+
+/// A firing, with the height of its highest argument.
+#[derive(Drop)]
+pub(crate) struct BuiltFiring {
+    pub kind: Option<Kind>,
+    pub call: BuiltCall,
+}
+
+/// [Kind] Call, after `fire`
+#[tactic(auto, unfolding(crate::specs::Reading::firing, crate::specs::bind, crate::specs::choose))]
+pub(crate) fn firing(alloc: Global, tokens: &mut Tokens<'_>) -> Result<BuiltFiring, Unread>
+    ensures { Reads built_firing_of (spec.firing tokens.old) result tokens.new }
+{
+    if !at_kind(tokens) {
+        let call = built_call(alloc, tokens)?;
+        return Ok(BuiltFiring { kind: None, call });
+    }
+    let kind = kind(tokens)?;
+    let call = built_call(alloc, tokens)?;
+    Ok(BuiltFiring {
+        kind: Some(kind),
+        call,
+    })
 }

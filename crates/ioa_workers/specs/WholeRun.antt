@@ -16,11 +16,11 @@ use Rattle.ioa_record.specs.declared.ending.Ending.{Ending}
 use Rattle.ioa_record.specs.declared.record.Record.{Record}
 use Rattle.ioa_workers.specs.declared.whole_run.RunFault.{RunFault}
 use Rattle.ioa_workers.specs.declared.whole_run.RunFault.TheVariants.{Front, Check, Memory, Write}
-use Rattle.ioa_workers.specs.Options.{PlainOptions}
+use Rattle.ioa_solo.specs.Options.{PlainOptions}
 use Rattle.ioa_streams.specs.Output.{AppendsBeginning}
 use Rattle.ioa_workers.specs.Reports.{report_text}
-use Rattle.ioa_workers.specs.Recorded.{IsRunOf}
-use Rattle.ioa_workers.specs.Solo.{IsSoloRun}
+use Rattle.ioa_solo.specs.Recorded.{IsRunOf}
+use Rattle.ioa_solo.specs.Solo.{IsSoloRun}
 use Rattle.ioa_source.specs.Sides.{SourceText}
 
 -- a system that a text describes: the tokens of the text spell a source, and the system is that source's; so it declares

@@ -3,10 +3,9 @@
 ghost use Rattle.std.specs.Prelude.{◌≡◌, false, IfOk, IfErr, string_bytes};
 ghost use Rattle.ioa_workers.specs.WholeRun.{IsDescribed, IsReport, IsEarly, IsExactFor, IsRefusalOf, WritesReport};
 
-use crate::options::Options;
 use crate::reporting::report;
-use crate::running::run;
 use ioa_check::{CheckFault, check};
+use ioa_solo::{Options, run};
 use ioa_streams::{Out, OutFailed, put_all};
 use ioa_system::System;
 use ioa_text_reader::{FrontFault, parse};

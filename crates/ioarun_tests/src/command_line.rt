@@ -113,7 +113,7 @@ impl Write for FailingWriter {
 }
 
 /// What the program makes of a reader: its status, and what it wrote on each stream.
-fn run_on<'a, R: Read>(
+pub(crate) fn run_on<'a, R: Read>(
     rt: &HostRuntime,
     words: &'a [&'a str],
     reader: &mut R,

@@ -53,7 +53,7 @@ fn list_of(
 }
 
 /// Texts that are refused for one thing each, with the line that the program shows.
-static REFUSED: [(&str, &str); 19] = [
+static REFUSED: [(&str, &str); 21] = [
     ("automaton A system node 0: B", "20 Unknown in 1"),
     (
         "automaton A states x: Int := 1, x: Int := 2 system",
@@ -108,6 +108,15 @@ static REFUSED: [(&str, &str); 19] = [
         "automaton A system node 0: A script 0: receive(7, 1, 0)",
         "34 BadArgument in 1",
     ),
+    // Schedule blocks.
+    (
+        "automaton A states x: Int := 0 schedule do x := 1 od system",
+        "26 ScheduleAssignsState in 0",
+    ),
+    (
+        "automaton A schedule states c: Int do od system",
+        "23 NoInitial in 0",
+    ),
     // What does not run yet.
     (
         "automaton A signature input receive(m: Int, s: Nat, const 0) transitions input receive(m, s, 0) \
@@ -116,7 +125,7 @@ static REFUSED: [(&str, &str); 19] = [
     ),
     (
         "automaton A schedule do while true do od od system",
-        "12 Unexpected at 24",
+        "12 Unexpected at 38",
     ),
     (
         "automaton A system invariant I: true",

@@ -3,7 +3,7 @@ use Rattle.std.proofs.lemmas.List.{length-map}
 use Rattle.ioa_terms.specs.SameTerms.{same_kind}
 use Rattle.ioa_source.specs.Sides.{SourceEntry}
 use Rattle.ioa_source.specs.TextView.{entry_of}
-use Rattle.ioa_automata.proofs.Lookups.{by_index, item_of, never_beyond, none_by_index}
+use Rattle.ioa_sorts.proofs.Lookups.{by_index, item_of, never_beyond, none_by_index}
 use Rattle.ioa_automata.proofs.automata.entry_for.Goals as goal
 
 pub returns-in_err-slot : goal.returns-in_err-slot

@@ -1,11 +1,11 @@
-use Rattle.std.proofs.Common.{rules, map}
+use Rattle.std.proofs.Common.{rules}
 use Rattle.std.specs.Arc.{arc_value}
-use Rattle.ioa_terms.specs.View.{firing_of}
-use Rattle.ioa_source.specs.TextView.{automaton_of}
+use Rattle.ioa_source.specs.TextView.{automaton_of, schedule_of}
 use Rattle.ioa_automata.specs.SortedView.{heading_of}
 use Rattle.ioa_automata.proofs.Ready.{automaton_ready}
 use Rattle.ioa_automata.proofs.automata.sort_automaton.Goals as goal
 
 pub new-requires : goal.new-requires
 new-requires c =
-    rw c.into_names.ensures (automaton_ready c.args.types.now c.in_ok-heading.ensures.declared (automaton_of c.args.automaton.now) (heading_of c.in_ok-heading.heading) c.in_ok-name.name (arc_value c.in_ok-constants.constants) c.in_ok-body.body.rules.items (map firing_of c.in_ok-body.body.schedule.items) (search rules) (search rules))
+    rw (c.into_names.ensures, c.in_ok-own.ensures)
+    (automaton_ready c.args.types.now c.in_ok-heading.ensures.declared (automaton_of c.args.automaton.now) (heading_of c.in_ok-heading.heading) c.in_ok-name.name (arc_value c.in_ok-constants.constants) c.in_ok-body.body.rules.items (schedule_of c.in_ok-body.body.schedule) (search rules) (search rules))

@@ -4,7 +4,7 @@ use Rattle.ioa_terms.specs.SameTerms.{same_kind}
 use Rattle.ioa_source.specs.Sides.{SourceTransition}
 use Rattle.ioa_source.specs.TextView.{transition_of}
 use Rattle.ioa_automata.specs.SortedView.{transitions_of}
-use Rattle.ioa_automata.proofs.Lookups.{by_index, item_of, never_beyond, none_by_index}
+use Rattle.ioa_sorts.proofs.Lookups.{by_index, item_of, never_beyond, none_by_index}
 use Rattle.ioa_automata.proofs.rules.transition_for.Goals as goal
 
 pub returns-in_err-slot : goal.returns-in_err-slot

@@ -4,7 +4,7 @@ use Rattle.ioa_terms.specs.Bindings.{same_word}
 use Rattle.ioa_source.specs.TextView.{node_of}
 use Rattle.ioa_system.specs.Parts.{AutomatonParts}
 use Rattle.ioa_check.specs.Grounds.{IsGrounded}
-use Rattle.ioa_automata.proofs.Lookups.{found_has}
+use Rattle.ioa_sorts.proofs.Lookups.{found_has}
 use Rattle.ioa_check.proofs.Grounds.{parameters_grounded}
 use Rattle.ioa_check.proofs.nodes.node_program.Goals as goal
 

@@ -2,7 +2,7 @@ use Rattle.std.proofs.Common.{◌≡◌, map, rules, subst, sym}
 use Rattle.std.specs.Arc.{arc_value}
 use Rattle.std.specs.Ordering.{int_eq}
 use Rattle.ioa_system.specs.Parts.{Parts}
-use Rattle.ioa_automata.proofs.Lookups.{found_has}
+use Rattle.ioa_sorts.proofs.Lookups.{found_has}
 use Rattle.ioa_automata.proofs.Results.{result_is}
 use Rattle.ioa_check.specs.Channels.{program_numbered, program_or}
 use Rattle.ioa_check.specs.Grounds.{IsGrounded}

@@ -6,7 +6,7 @@ use Rattle.ioa_sorts.proofs.laws.statements_law.Goals as goal
 
 pub returns : goal.returns
 returns c = record {
-  sound = λ types variables names h g u s e. statement_sound types variables names h g u s (sym e);
-  found = λ variables names u s h. sym (statement_complete variables names u s h);
+  sound = λ types site d u s e. statement_sound types site d u s (sym e);
+  found = λ site differ u s h. sym (statement_complete site differ u s h);
   told = statement_told;
 }

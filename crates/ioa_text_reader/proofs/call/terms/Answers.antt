@@ -6,6 +6,7 @@ use Rattle.ioa_cursor.specs.Reading.{skip}
 use Rattle.ioa_cursor.proofs.Exits.{none_of_part}
 use Rattle.ioa_cursor.proofs.Lists.{collected_more, collected_done, collected_none, collected_all}
 use Rattle.ioa_term_reader.specs.Reading.{term}
+use Rattle.ioa_term_reader.proofs.Turns.{some_same}
 use Rattle.ioa_text_reader.proofs.call.terms.Goals as goal
 
 pub returns-then-not-skip : goal.returns-then-not-skip
@@ -22,7 +23,7 @@ returns-in_err-next c =
 
 pub loop-turn-preserved : goal.loop-turn-preserved
 loop-turn-preserved c =
-    rw (c.in_ok-push-2.ensures.items, map_push, c.into_tree-in-loop-turn.ensures.same)
+    rw (sym (some_same c.in_ok-terms-2.ensures), map_push)
     (sym (collected_more (skip mark.Comma) (term 127) _ _ _ _ _ _ _ c.loop-turn-test.true (sym c.if-not-skip.ensures) c.in_ok-next.ensures)
     ∙ c.loop-turn.invariant)
 

@@ -7,4 +7,4 @@ use Rattle.ioa_text_reader.specs.Reading.{terms}
 use Rattle.ioa_text_reader.proofs.call.terms.Given as goal
 
 abbrev pub invariant-loop-turn : goal.invariant-loop-turn
-invariant-loop-turn l = collect (skip mark.Comma) (term 127) (l._turn-end - l._turn) (map term_of l.terms.items) l.tokens ≡ terms l.fn.tokens
+invariant-loop-turn l = collect (skip mark.Comma) (term 127) (l._turn-end - l._turn) (map term_of l.terms.tree.items) l.tokens ≡ terms l.fn.tokens

@@ -1,4 +1,3 @@
-use Rattle.ioa_workers.proofs.Runs.{is_run_of}
 use Rattle.ioa_workers.proofs.whole_run.report_of.Goals as goal
 
 pub returns-clause-report : goal.returns-clause-report
@@ -7,7 +6,7 @@ returns-clause-report c = record {
   described = c.in_ok-system.ensures.described;
   left = c.in_ok-record.record;
   endings = c.in_ok-record.endings.items;
-  run = is_run_of c.in_ok-system.system _ c.in_ok-record.record c.in_ok-record.endings.items c.in_ok-system.ensures.described.declared c.in_ok-record.ensures.left;
+  run = c.in_ok-record.ensures.run c.in_ok-system.ensures.described.declared;
   solo = c.in_ok-record.ensures.solo;
   written = rw (← c.deref.ensures.value) c.in_ok-report.ensures;
 }

@@ -1,0 +1,6 @@
+-- the lemmas of this crate
+pub mod Joins
+pub mod Firsts
+pub mod Runs
+pub mod ByStep
+pub mod TurnLaws

@@ -1,0 +1,6 @@
+-- what the contracts of this crate and of those above it cite
+pub mod Turns
+pub mod TurnsByStep
+pub mod Positions
+pub mod Views
+pub mod Controls

@@ -1,0 +1,8 @@
+-- lemmas of runs by one worker
+mod Fired
+mod Ready
+mod Termination
+mod Rounds
+mod Runs
+mod SoloRuns
+mod OwnStates

@@ -1,0 +1,91 @@
+-- Rounds that are gone node by node.
+use Rattle.std.proofs.Common.{◌≡◌, refl, ℕ, zero, suc, ◌+◌, ◌-◌, ◌<◌, ◌≤◌, List, [], ◌∷◌, ◌++◌, map, Bool, true, false, None, length, slice_set, arith}
+use Rattle.std.specs.Prelude.{◌||◌, is_some, Result, Ok, Err, OnOk, OnErr}
+use Rattle.std.specs.Result.{is_err}
+use Rattle.std.specs.List.{list_all, list_any}
+use Rattle.ioa_solo.specs.declared.progress.Progress.{Progress}
+use Rattle.ioa_solo.specs.NodeTurns.{PlainProgress, progress_of}
+use Rattle.ioa_solo.specs.Solo.{PlainCourse, round, rounds, has_ended, is_under_way, ending_of, short_of_memory, is_cut_short}
+
+-- nodes that are gone by, before the rest of a round
+abbrev pub prepend_nodes : List PlainProgress → PlainCourse × List PlainProgress → PlainCourse × List PlainProgress
+prepend_nodes done rest = (rest.0, done ++ rest.1)
+
+-- a round of nodes that have endings changes nothing
+round_ended : (limit : ℕ) (s : PlainCourse) (ps : List PlainProgress) → list_all has_ended ps ≡ true → round limit s ps ≡ (s, ps)
+round_ended limit s [] all = refl
+round_ended limit s (p ∷ more) all = at_head (is_some p.ending) refl (λ h. round_ended limit s more h)
+  where
+    at_head : (b : Bool) → is_some p.ending ≡ b → (list_all has_ended more ≡ true → round limit s more ≡ (s, more)) →
+        round limit s (p ∷ more) ≡ (s, p ∷ more)
+    at_head true e others =
+        let same = others (rw e at all) in
+        rw (e, same) refl
+    at_head false e others =
+        let no : false ≡ true = rw e at all in
+        absurd (cc)
+
+-- further rounds of nodes that have endings change nothing
+pub rounds_ended : (limit n : ℕ) (s : PlainCourse) (ps : List PlainProgress) → list_all has_ended ps ≡ true → rounds limit n s ps ≡ (s, ps)
+unfolding rounds
+rounds_ended limit zero s ps all = refl
+rounds_ended limit (suc n) s ps all = rw (round_ended limit s ps all) (rounds_ended limit n s ps all)
+
+first_round : (limit n : ℕ) (s : PlainCourse) (ps : List PlainProgress) → rounds limit (suc n) s ps ≡ rounds limit n (round limit s ps).0 (round limit s ps).1
+unfolding rounds
+first_round limit n s ps = refl
+
+-- one round, and then those that are left
+pub rounds_on : (limit turn end : ℕ) (s t : PlainCourse) (ps qs : List PlainProgress) → turn < end → (t, qs) ≡ round limit s ps →
+    rounds limit (end - (turn + 1)) t qs ≡ rounds limit (end - turn) s ps
+rounds_on limit turn end s t ps qs within h =
+    let left : end - turn ≡ suc (end - (turn + 1)) = omega arith in
+    rw (left, first_round limit (end - (turn + 1)) s ps, ← h) refl
+
+no_round : (limit : ℕ) (s : PlainCourse) (ps : List PlainProgress) → rounds limit zero s ps ≡ (s, ps)
+unfolding rounds
+no_round limit s ps = refl
+
+-- no round is left
+pub rounds_none : (limit turn end : ℕ) (s : PlainCourse) (ps : List PlainProgress) → end ≤ turn → rounds limit (end - turn) s ps ≡ (s, ps)
+rounds_none limit turn end s ps past =
+    let none : end - turn ≡ zero = omega arith in
+    rw none (no_round limit s ps)
+
+-- what a call promises if it passes, and if it fails
+pub on_ok : {T E P : Type 0} (r : Result T E) → is_err r ≡ false → OnOk r P → P
+on_ok (Ok x) passed p = p
+on_ok (Err e) passed p = absurd (cc)
+
+pub on_err : {T E P : Type 0} (r : Result T E) → is_err r ≡ true → OnErr r P → P
+on_err (Ok x) failed p = absurd (cc)
+on_err (Err e) failed p = p
+
+-- if a node was still under way, an ending says that memory ran out
+pub told_short : (ps : List PlainProgress) → list_any is_under_way ps ≡ true → list_any is_cut_short (map ending_of (map short_of_memory ps)) ≡ true
+told_short [] any = any
+told_short (p ∷ more) any = at_head (is_some p.ending) refl (λ h. told_short more h)
+  where
+    later : (a b : Bool) → b ≡ true → a || b ≡ true
+    later true b e = refl
+    later false b e = e
+
+    at_head : (b : Bool) → is_some p.ending ≡ b → (list_any is_under_way more ≡ true → list_any is_cut_short (map ending_of (map short_of_memory more)) ≡ true) →
+        list_any is_cut_short (map ending_of (map short_of_memory (p ∷ more))) ≡ true
+    at_head true e others = later _ _ (others (rw e at any))
+    at_head false e others = rw e refl
+
+-- what holds anyway holds if a call fails
+pub if_failed : {T E P : Type 0} (r : Result T E) → P → OnErr r P
+if_failed (Ok x) p = tt
+if_failed (Err e) p = p
+
+-- a node that has no ending is under way
+pub under_way_at : (nodes : List Progress) (n : ℕ) (p : Progress) → n < length nodes → p.ending ≡ None → list_any is_under_way (map progress_of (slice_set nodes n p)) ≡ true
+under_way_at [] n p within e = absurd (omega arith)
+under_way_at (q ∷ qs) zero p within e = rw e refl
+under_way_at (q ∷ qs) (suc n) p within e = later (is_under_way (progress_of q)) (under_way_at qs n p (omega arith) e)
+  where
+    later : (a : Bool) {b : Bool} → b ≡ true → a || b ≡ true
+    later true e = refl
+    later false e = e

@@ -1,0 +1,150 @@
+-- *Solo* (profile): the run by one worker, who goes round the nodes in order until each has an ending.
+use Rattle.std.specs.Prelude.{◌≡◌, ◌⊎◌, ℕ, zero, suc, ◌+◌, ◌-◌, nat_eq, if◌then◌else◌, Bool, true, false, not}
+use Rattle.std.specs.Prelude.{List, [], ◌∷◌, ◌++◌, map, Some, None, is_some, Result, Ok, Err}
+use Rattle.std.specs.List.{list_any}
+use Rattle.std.specs.Option.{unwrap_or}
+use Rattle.ioa_actions.specs.declared.action.Action.{Action}
+use Rattle.ioa_terms.specs.PlainTerm.{statements_of}
+use Rattle.ioa_compose.specs.declared.configuration.Conf.{Conf}
+use Rattle.ioa_system.specs.Parts.{Parts}
+use Rattle.ioa_compose.specs.Start.{start}
+use Rattle.ioa_system.specs.Systems.{SystemParts}
+use Rattle.ioa_record.specs.declared.ending.Ending.{Ending}
+use Rattle.ioa_record.specs.declared.ending.Ending.TheVariants.{Done, Spent, Fault}
+use Rattle.ioa_record.specs.declared.ending.NodeFault.{NodeFault}
+use Rattle.ioa_record.specs.declared.ending.NodeFault.TheVariants as fault
+use Rattle.ioa_record.specs.declared.record.Record.{Record}
+use Rattle.ioa_schedules.specs.Turns.{TurnEnd, fires, idle, done, following_statements}
+use Rattle.ioa_solo.specs.declared.running.Course.{Course}
+use Rattle.ioa_solo.specs.Attempts.{PlainFireOutcome, missed, taken, action_fired, fire_answer}
+use Rattle.ioa_solo.specs.NodeTurns.{PlainProgress, turn_at}
+use Rattle.ioa_solo.specs.Options.{PlainOptions}
+
+-- a node before the run: all of its block is to do, the block's variables have their first values, and the node has all
+-- its attempts
+abbrev pub progress_at : ℕ → Parts → PlainProgress
+progress_at attempts p = record {
+  program = p;
+  todo = statements_of p.automaton.schedule.statements;
+  own = p.block;
+  attempts = attempts;
+  ending = None;
+}
+
+-- a run under way: the schedule so far, and the configurations that it leads to
+pub record PlainCourse : Type 0 where
+  pub schedule : List Action
+  pub states : List Conf
+
+-- the run under way that the code keeps
+abbrev pub course_of : Course → PlainCourse
+course_of c = record { schedule = c.schedule.items; states = c.states.items }
+
+-- a node that ends so
+abbrev pub with_ending : Ending → PlainProgress → PlainProgress
+with_ending e p = record p { ending = Some e }
+
+-- a node whose block has moved past the fire at which it stood
+abbrev pub past_fire : PlainProgress → PlainProgress
+past_fire p = record p { todo = following_statements p.todo }
+
+-- the run and its node after a fire: one that is missed or taken is passed, and a taken action is added to the
+-- schedule; a fault ends the node
+abbrev pub after_fire : Result PlainFireOutcome NodeFault → PlainCourse → PlainProgress → PlainCourse × PlainProgress
+after_fire (Ok missed) s p = (s, past_fire p)
+after_fire (Ok (taken a next)) s p = (record { schedule = s.schedule ++ a ∷ []; states = next }, past_fire p)
+after_fire (Err f) s p = (s, with_ending (Fault f) p)
+
+-- the run and its node after a turn that ends so: a block that is done ends its node, an idle one goes on in the next
+-- attempt, and a fire is attempted
+abbrev pub after_end : ℕ → PlainCourse → PlainProgress → TurnEnd → PlainCourse × PlainProgress
+after_end limit s p done = (s, with_ending Done p)
+after_end limit s p idle = (s, p)
+after_end limit s p (fires k w vs) =
+    after_fire (fire_answer limit s.schedule s.states p.program.node (action_fired p.program w vs)) s p
+
+-- the same by the result of the turn: a fault ends the node where it stood
+abbrev pub after_turn : ℕ → PlainCourse → PlainProgress → Result (TurnEnd × PlainProgress) NodeFault
+    → PlainCourse × PlainProgress
+after_turn limit s p (Ok t) = after_end limit s t.1 t.0
+after_turn limit s p (Err f) = (s, with_ending (Fault f) p)
+
+-- an attempt of a node: its turn on the present configurations, and what follows from that
+abbrev pub attempt : ℕ → PlainCourse → PlainProgress → PlainCourse × PlainProgress
+attempt limit s p = after_turn limit s p (turn_at s.states p)
+
+-- a visit of a node that has no ending: it is spent if no attempt is left, else one is used
+abbrev pub visit : ℕ → PlainCourse → PlainProgress → PlainCourse × PlainProgress
+visit limit s p =
+    if nat_eq p.attempts 0 then (s, with_ending Spent p) else attempt limit s (record p { attempts = p.attempts - 1 })
+
+-- a node that has an ending is not visited again
+abbrev pub visit_unless_ended : ℕ → PlainCourse → PlainProgress → PlainCourse × PlainProgress
+visit_unless_ended limit s p = if is_some p.ending then (s, p) else visit limit s p
+
+-- a node, and then the others on the run that it left
+abbrev pub then_others : PlainCourse × PlainProgress → (PlainCourse → PlainCourse × List PlainProgress)
+    → PlainCourse × List PlainProgress
+then_others first others = ((others first.0).0, first.1 ∷ (others first.0).1)
+
+-- one round of the nodes, in order
+abbrev pub round : ℕ → PlainCourse → List PlainProgress → PlainCourse × List PlainProgress
+round limit s [] = (s, [])
+round limit s (p ∷ more) = then_others (visit_unless_ended limit s p) (λ t. round limit t more)
+
+-- n further rounds
+unfoldable pub rounds : ℕ → ℕ → PlainCourse → List PlainProgress → PlainCourse × List PlainProgress
+rounds limit zero s ps = (s, ps)
+rounds limit (suc n) s ps = rounds limit n (round limit s ps).0 (round limit s ps).1
+
+-- the whole run: a node uses an attempt each round, and the round after its last attempt ends it
+abbrev pub solo : SystemParts → ℕ → ℕ → PlainCourse × List PlainProgress
+solo s attempts limit =
+    rounds limit (attempts + 1) (record { schedule = []; states = start s }) (map (progress_at attempts) s.programs)
+
+-- whether a node has an ending
+abbrev pub has_ended : PlainProgress → Bool
+has_ended p = is_some p.ending
+
+-- whether a node has none
+abbrev pub is_under_way : PlainProgress → Bool
+is_under_way p = not (has_ended p)
+
+-- the ending that is reported of a node
+abbrev pub ending_of : PlainProgress → Ending
+ending_of p = unwrap_or p.ending Spent
+
+-- a node that a fault ends, and that fault is not want of memory
+abbrev pub IsEndedBy : NodeFault → PlainProgress → PlainProgress → Type 0
+IsEndedBy f old new = (f ≡ fault.Memory → ⊥) × (new ≡ with_ending (Fault f) old)
+
+-- a node that ends for want of memory, if it has no ending yet
+abbrev pub short_of_memory : PlainProgress → PlainProgress
+short_of_memory p = if is_some p.ending then p else with_ending (Fault fault.Memory) p
+
+-- whether a fault is want of memory
+abbrev pub is_memory : NodeFault → Bool
+is_memory fault.Memory = true
+is_memory fault.Undefined = false
+is_memory fault.Range = false
+is_memory fault.NotMine = false
+is_memory fault.NoChannel = false
+is_memory fault.Differs = false
+is_memory fault.Full = false
+
+-- whether an ending is want of memory
+abbrev pub is_cut_short : Ending → Bool
+is_cut_short (Fault f) = is_memory f
+is_cut_short Done = false
+is_cut_short Spent = false
+
+-- a record and a list of endings hold what a run leaves: the schedule, the configurations, and the ending of each
+-- node, which each node has
+pub record IsLeftBy (left : PlainCourse × List PlainProgress) (r : Record) (endings : List Ending) : Type 0 where
+  pub schedule : r.schedule.items ≡ left.0.schedule
+  pub states : r.states.items ≡ left.0.states
+  pub each : map Some endings ≡ map (λ p. p.ending) left.1
+
+-- a record and endings are those of the worker's own run, unless an ending says that memory ran out
+abbrev pub IsSoloRun : SystemParts → PlainOptions → Record → List Ending → Type 0
+IsSoloRun s o r endings = (list_any is_cut_short endings ≡ true) ⊎ IsLeftBy (solo s o.attempts o.steps) r endings

@@ -1,0 +1,46 @@
+//! Laws of runs. Each law is the contract of a function that does nothing.
+
+ghost use Rattle.std.specs.Prelude.{◌≡◌, ◌≢◌, true, ℕ, List, Some};
+ghost use Rattle.std.specs.List.{AllByRecursion, list_all};
+ghost use Rattle.ioa_compose.specs.Automata.{IsExecution};
+ghost use Rattle.ioa_compose.specs.JointStep.{IsJointStep};
+ghost use Rattle.ioa_compose.specs.Start.{start};
+ghost use Rattle.ioa_compose.specs.Steps.{IsStep};
+ghost use Rattle.ioa_system.specs.Declarations.{IsWellDeclared};
+ghost use Rattle.ioa_system.specs.Parts.{Parts, PlainRule, rule_named};
+ghost use Rattle.ioa_system.specs.Systems.{SystemParts};
+ghost use Rattle.ioa_values.specs.Data.{Data};
+ghost use Rattle.ioa_actions.specs.ActionParts.{action_name, action_arguments};
+ghost use Rattle.ioa_transitions.specs.NodeStep.{IsOfKind};
+ghost use Rattle.ioa_record.specs.declared.ending.Ending.{Ending};
+ghost use Rattle.ioa_record.specs.declared.ending.NodeFault.{NodeFault};
+ghost use Rattle.ioa_solo.specs.Fired.{AreArgumentsFor};
+ghost use Rattle.ioa_solo.specs.Attempts.{action_fired};
+ghost use Rattle.ioa_solo.specs.Recorded.{ReplaysWithin};
+ghost use Rattle.ioa_solo.specs.Solo.{has_ended, rounds, solo};
+
+/// The run by one worker comes to its end: each node has an ending, and more rounds change nothing, so there are rounds
+/// enough (profile). Its schedule is no longer than the limit. If the system declares each thing once, the schedule is
+/// an execution of the composition from the start to the states that the run leaves (Lynch 8.1 and 8.2), and no node ends
+/// with `Differs (51)`.
+pub fn solo_law()
+    ensures ends { (s : SystemParts) (attempts limit : ℕ) → list_all has_ended (solo s attempts limit).1 ≡ true }
+    ensures settled { (s : SystemParts) (attempts limit more : ℕ) →
+        rounds limit more (solo s attempts limit).0 (solo s attempts limit).1 ≡ solo s attempts limit }
+    ensures replays { (s : SystemParts) (attempts limit : ℕ) → ReplaysWithin limit (start s)
+        (solo s attempts limit).0.schedule (solo s attempts limit).0.states }
+    ensures execution { (s : SystemParts) (attempts limit : ℕ) → IsWellDeclared s → IsExecution (IsJointStep IsStep)
+        (start s) (solo s attempts limit).0.schedule (solo s attempts limit).0.states }
+    ensures own { (s : SystemParts) (attempts limit : ℕ) → IsWellDeclared s →
+        AllByRecursion (λ p. p.ending ≢ Some (Ending.Fault NodeFault.Differs)) (solo s attempts limit).1 }
+{}
+
+/// A fired action has the name and the arguments that it is fired with. It is of the kind of the node's entry of that
+/// name (Lynch 8.1), if `send` and `receive` are entries of messages, as the check asks.
+pub fn fired_law()
+    ensures name { (p : Parts) (w : List ℕ) (vs : List Data) → action_name (action_fired p w vs) ≡ w }
+    ensures arguments { (p : Parts) (w : List ℕ) (vs : List Data) → action_arguments (action_fired p w vs) ≡ vs }
+    ensures kind { (p : Parts) (r : PlainRule) (w : List ℕ) (vs : List Data) →
+        rule_named w p.automaton.rules ≡ Some r → AreArgumentsFor r.entry.kind w vs →
+        IsOfKind (action_fired p w vs) r.entry.kind }
+{}

@@ -1,8 +1,0 @@
--- lemmas of workers
-mod Elements
-mod Fired
-mod Nexts
-mod Termination
-mod Rounds
-mod Runs
-mod SoloRuns

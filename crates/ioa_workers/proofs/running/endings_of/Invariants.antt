@@ -1,7 +1,0 @@
-use Rattle.std.proofs.Common.{◌≡◌, map, take}
-use Rattle.ioa_workers.specs.Solo.{ending_of}
-use Rattle.ioa_workers.proofs.running.endings_of.Given as goal
-
--- the endings so far are those of the nodes gone by
-abbrev pub invariant-loop-node : goal.invariant-loop-node
-invariant-loop-node l = l.endings.items ≡ map ending_of (take l.node-index l.nodes)
