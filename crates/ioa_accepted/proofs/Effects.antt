@@ -45,13 +45,13 @@ put_shaped names e x s v g declared h = λ y t u named found. by_same y t u (sam
     by_same y t u false q named k = g y t u named k
 
 -- the annotation of a target is its variable's declared shape
-target_declared : (variables names : NameShapes) (p : PlainTarget ℕ Shape) (s : PlainShape) → HoldsShape variables names p s → shape_named (target_name p) variables ≡ Some (target_shape p)
+pub target_declared : (variables names : NameShapes) (p : PlainTarget ℕ Shape) (s : PlainShape) → HoldsShape variables names p s → shape_named (target_name p) variables ≡ Some (target_shape p)
 target_declared variables names (variable x at d) s h = h.0
 target_declared variables names (at_key x at d k) s h = h.1
 target_declared variables names (at_field x at d f) s h = h.0
 
 -- what comes after a test
-after_test : {A : Type 0} (P : A → Type 0) (o : Option Bool) (x y z : A) → P x → P y → P z → P (by_test o x y z)
+pub after_test : {A : Type 0} (P : A → Type 0) (o : Option Bool) (x y z : A) → P x → P y → P z → P (by_test o x y z)
 after_test P None x y z h k l = h
 after_test P (Some true) x y z h k l = k
 after_test P (Some false) x y z h k l = l

@@ -1,5 +1,5 @@
 -- What the terms of an accepted system give has their shapes.
-use Rattle.std.proofs.Common.{◌≡◌, ℤ, ℕ, true, false, List, [], ◌∷◌, Option, Some, None, take, length, arith}
+use Rattle.std.proofs.Common.{◌≡◌, ℤ, ℕ, true, false, List, [], ◌∷◌, ◌++◌, Option, Some, None, refl, ap, subst, take, length, arith}
 use Rattle.std.specs.List.{AllByRecursion, AllZip, Contains}
 use Rattle.std.specs.Option.{IfSome}
 use Rattle.ioa_operators.specs.Shapes.{PlainShape, truths}
@@ -8,17 +8,18 @@ use Rattle.ioa_terms.specs.declared.name.Name.{Name}
 use Rattle.ioa_terms.specs.declared.name.Name.TheVariants.{Word}
 use Rattle.ioa_terms.specs.Bindings.{Bindings}
 use Rattle.ioa_terms.specs.Meaning.{value}
-use Rattle.ioa_terms.specs.Performance.{after_one}
+use Rattle.ioa_terms.specs.Performance.{after_one, target_name, target_shape}
 use Rattle.ioa_terms.specs.PlainTerm.{PlainStatement, PlainStatements, PlainArms, assign, branch, loop, fire, no_statements, statement, no_arms, arm, statements_of}
 use Rattle.ioa_terms.specs.Sorted.{NameShapes, HasShape, shape_named, shape_in_terms, IsShaped}
 use Rattle.ioa_actions.specs.ActionParts.{action_arguments}
 use Rattle.ioa_actions.specs.declared.action.Action.{Action}
-use Rattle.ioa_source.specs.Sides.{SourceTerm, SourceText, CheckedFiring, CheckedTerm}
+use Rattle.ioa_source.specs.Sides.{SourceTerm, SourceText, CheckedFiring, CheckedTerm, CheckedVariable}
 use Rattle.ioa_system.specs.InView.{entry_condition, guard_or_effect, given_bindings}
 use Rattle.ioa_system.specs.Parts.{PlainRule}
 use Rattle.ioa_system.specs.Systems.{SystemParts}
 use Rattle.ioa_sorts.specs.SortedStatements.{IsFired, IsSorted, AreSorted, AreArmsSorted}
 use Rattle.ioa_sorts.specs.StatementSites.{PlainStatementSite, effect_site}
+use Rattle.ioa_automata.specs.NamesInView.{parameter_shapes, shape_declared, variable_shapes}
 use Rattle.ioa_automata.specs.SortedAutomata.{block_names, block_of, IsConditionOf, names_at}
 use Rattle.ioa_automata.proofs.Compiled.{automaton_compiled}
 use Rattle.ioa_check.specs.Systems.{IsEntryOn, IsSystemOf}
@@ -30,7 +31,7 @@ use Rattle.ioa_accepted.specs.Shaped.{IsShapedNode, AreShaped}
 use Rattle.ioa_accepted.specs.WellSorted.{IsOfShape, IsTruthValued, IsWellSorted, AreArmsWellSorted, AreWellSorted, AreConstantsValued, IsRuleWellSorted, IsFiringWellSorted, IsBlockWellSorted, AreBlockArmsWellSorted, AreBlockWellSorted, block_read, IsNodeWellSorted, AreConfsWellSorted}
 use Rattle.ioa_accepted.proofs.Accepted.{IsAcceptedProgram, is_accepted, system_numbered}
 use Rattle.ioa_accepted.proofs.Assigned.{term_has, assigned_has}
-use Rattle.ioa_accepted.proofs.Effects.{all_sorted, found_in_front, statement_shaped}
+use Rattle.ioa_accepted.proofs.Effects.{all_sorted, found_in_front, statement_shaped, target_declared}
 use Rattle.ioa_accepted.proofs.Environments.{block_reads, block_shaped, given_names}
 use Rattle.ioa_accepted.proofs.Starts.{initial_fit}
 use Rattle.ioa_accepted.proofs.NodeSteps.{is_rule, rule_names, rule_shaped}
@@ -73,8 +74,13 @@ arguments_sorted names e g [] (t ∷ ts) h = absurd h
 arguments_sorted names e g (s ∷ ss) [] h = absurd h
 arguments_sorted names e g (s ∷ ss) (t ∷ ts) h = (term_has names e g t (shape_in_terms s) h.0, arguments_sorted names e g ss ts h.1)
 
+-- the block's own variables come first among the names in view
+own_first : (ws : List CheckedVariable) (more cs : NameShapes) → take (length ws) ((variable_shapes ws ++ more) ++ cs) ≡ variable_shapes ws
+own_first [] more cs = refl
+own_first (w ∷ ws) more cs = ap (λ (ns : NameShapes). shape_declared w.declared ∷ ns) (own_first ws more cs)
+
 -- statements of a schedule block
-module _ (site : PlainStatementSite) (declared : (x : Name) (s : PlainShape) → shape_named x site.variables ≡ Some s → shape_named x site.names ≡ Some s) (e : Bindings) (g : IsShaped site.names e) where
+module _ (own : List CheckedVariable) (site : PlainStatementSite) (first : site.variables ≡ variable_shapes own) (declared : (x : Name) (s : PlainShape) → shape_named x site.variables ≡ Some s → shape_named x site.names ≡ Some s) (e : Bindings) (g : IsShaped site.names e) where
   firing_sorted : (f : CheckedFiring) → IsFired site.names site.rules f → IsFiringWellSorted site.rules f e
   firing_sorted f h = record {
     rule = h.rule;
@@ -84,17 +90,20 @@ module _ (site : PlainStatementSite) (declared : (x : Name) (s : PlainShape) →
   }
 
   mutual
-    one_block_sorted : (s : PlainStatement ℕ Shape) → IsSorted site s → IsBlockWellSorted site.rules s e
-    one_block_sorted (assign p t) h = assigned_has site.names e g site.variables (λ x d k. declared (Word x) d k) p t h.0 h.1 h.2
+    one_block_sorted : (s : PlainStatement ℕ Shape) → IsSorted site s → IsBlockWellSorted own site.rules s e
+    one_block_sorted (assign p t) h = (
+      subst (λ (vs : NameShapes). shape_named (target_name p) vs ≡ Some (target_shape p)) first (target_declared site.variables site.names p h.0 h.1),
+      assigned_has site.names e g site.variables (λ x d k. declared (Word x) d k) p t h.0 h.1 h.2,
+    )
     one_block_sorted (branch arms rest) h = (block_arms_sorted arms h.0, block_sorted rest h.1)
     one_block_sorted (loop t body) h = (term_has site.names e g t truths h.1, block_sorted body h.2)
     one_block_sorted (fire f) h = firing_sorted f h
 
-    block_arms_sorted : (arms : PlainArms ℕ Shape) → AreArmsSorted site arms → AreBlockArmsWellSorted site.rules arms e
+    block_arms_sorted : (arms : PlainArms ℕ Shape) → AreArmsSorted site arms → AreBlockArmsWellSorted own site.rules arms e
     block_arms_sorted no_arms h = tt
     block_arms_sorted (arm t body more) h = (term_has site.names e g t truths h.0, block_sorted body h.1, block_arms_sorted more h.2)
 
-    block_sorted : (ss : PlainStatements ℕ Shape) → AreSorted site ss → AreBlockWellSorted site.rules ss e
+    block_sorted : (ss : PlainStatements ℕ Shape) → AreSorted site ss → AreBlockWellSorted own site.rules ss e
     block_sorted no_statements h = tt
     block_sorted (statement s more) h = (one_block_sorted s h.0, block_sorted more h.1)
 
@@ -136,7 +145,7 @@ module _ (x : SourceText) (s : SystemParts) (h : IsSystemOf x s) (c : NodeState)
         rules = rule_sorted;
         block_starts = initial_fit (given_bindings b c.program.arguments) b.schedule.variables c.program.block accepted.program.block;
         block_names = λ own fits. block_reads h.types b accepted.automaton.constants (system_numbered x s h) c.program.arguments c.variables own shaped.arguments shaped.variables fits;
-        block = λ own fits. block_sorted site (λ y t found. found_in_front y count names t found) (block_read c own)
+        block = λ own fits. block_sorted b.schedule.variables site (own_first b.schedule.variables (variable_shapes b.variables ++ parameter_shapes b.parameters) h.types.constants) (λ y t found. found_in_front y count names t found) (block_read c own)
             (block_shaped h.types b accepted.automaton.constants (system_numbered x s h) c.program.arguments c.variables own shaped.arguments shaped.variables fits)
             (statements_of b.schedule.statements) (all_sorted site accepted.source.schedule.statements b.schedule.statements accepted.automaton.schedule.statements);
       }

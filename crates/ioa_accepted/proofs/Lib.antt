@@ -11,3 +11,4 @@ pub mod Runs
 pub mod Assigned
 pub mod Evaluated
 pub mod Received
+pub mod BlockTurns

@@ -31,7 +31,7 @@ initial_fit e (x ∷ xs) [] h = absurd h
 initial_fit e (x ∷ xs) (v ∷ vs) h = (h.0.2.shape, initial_fit e xs vs h.1)
 
 -- the start of one node
-node_shaped : (x : SourceText) (s : SystemParts) → IsSystemOf x s → (p : Parts) → Contains s.programs p → IsShapedNode s (node_state p p.initial)
+pub node_shaped : (x : SourceText) (s : SystemParts) → IsSystemOf x s → (p : Parts) → Contains s.programs p → IsShapedNode s (node_state p p.initial)
 node_shaped x s h p c =
     let accepted = is_accepted x s h p c in
     record {

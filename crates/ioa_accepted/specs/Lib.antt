@@ -2,3 +2,4 @@
 pub mod Shaped
 pub mod WellSorted
 pub mod Awaited
+pub mod BlockStates

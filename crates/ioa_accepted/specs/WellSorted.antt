@@ -8,18 +8,20 @@ use Rattle.ioa_operators.specs.Shapes.{PlainShape, truths, has_shape, wide_shape
 use Rattle.ioa_operators.specs.declared.shape.Shape.{Shape}
 use Rattle.ioa_terms.specs.Bindings.{Bindings, names_of}
 use Rattle.ioa_terms.specs.Meaning.{value}
-use Rattle.ioa_terms.specs.Performance.{after_one, assignment_value, target_shape}
-use Rattle.ioa_terms.specs.PlainTerm.{PlainStatement, PlainStatements, PlainArms, assign, branch, loop, fire}
+use Rattle.ioa_terms.specs.Performance.{after_one, assignment_value, target_name, target_shape}
+use Rattle.ioa_terms.specs.PlainTerm.{PlainTarget, PlainStatement, PlainStatements, PlainArms}
+use Rattle.ioa_terms.specs.PlainTerm.{assign, branch, loop, fire}
 use Rattle.ioa_terms.specs.PlainTerm.{no_statements, statement, no_arms, arm, statements_of}
-use Rattle.ioa_terms.specs.Sorted.{shape_in_terms}
+use Rattle.ioa_terms.specs.Sorted.{shape_in_terms, shape_named}
 use Rattle.ioa_actions.specs.ActionParts.{action_arguments}
 use Rattle.ioa_actions.specs.declared.action.Action.{Action}
-use Rattle.ioa_source.specs.Sides.{CheckedFiring, CheckedTerm}
+use Rattle.ioa_source.specs.Sides.{CheckedFiring, CheckedTerm, CheckedVariable}
 use Rattle.ioa_system.specs.InView.{Site, entry_constant, entry_condition, guard_or_effect, block_statement}
 use Rattle.ioa_system.specs.InView.{block_bindings, declared_names, given_bindings, names_at, own_names}
 use Rattle.ioa_system.specs.InView.{variable_names}
 use Rattle.ioa_system.specs.Parts.{PlainRule}
 use Rattle.ioa_system.specs.ResolvedPrograms.{IsResolvedAutomaton}
+use Rattle.ioa_automata.specs.NamesInView.{variable_shapes}
 use Rattle.ioa_check.specs.Systems.{HasValue}
 use Rattle.ioa_transitions.specs.NodeState.{NodeState}
 use Rattle.ioa_transitions.specs.NodeStep.{IsOfSort, rule_bindings}
@@ -77,26 +79,33 @@ pub record IsFiringWellSorted (rules : List PlainRule) (f : CheckedFiring) (e : 
   pub name : rule.entry.name ≡ f.action
   pub arguments : AllZip (λ s t. IsOfShape (shape_in_terms s) (value t e)) rule.shapes f.arguments
 
+-- what is assigned is one of a block's variables, or a part of one, and beside it is the variable's declared shape
+abbrev pub IsOwnTarget : List CheckedVariable → PlainTarget ℕ Shape → Type 0
+IsOwnTarget own p = shape_named (target_name p) (variable_shapes own) ≡ Some (target_shape p)
+
 abbrev mutual
-  -- a statement of a schedule block, whose firings are of these rules, and each statement within it: what an assignment
-  -- gives its variable, if anything, has the variable's shape, but for negative numbers, and what is tested is a truth
-  -- value
-  pub IsBlockWellSorted : List PlainRule → PlainStatement ℕ Shape → Bindings → Type 0
-  IsBlockWellSorted rules (assign p t) e = IsOfShape (wide_shape (target_shape p)) (assignment_value p t e)
-  IsBlockWellSorted rules (branch arms rest) e = AreBlockArmsWellSorted rules arms e × AreBlockWellSorted rules rest e
-  IsBlockWellSorted rules (loop t body) e = IsOfShape truths (value t e) × AreBlockWellSorted rules body e
-  IsBlockWellSorted rules (fire f) e = IsFiringWellSorted rules f e
+  -- a statement of a schedule block of these variables, whose firings are of these rules, and each statement within it:
+  -- an assignment is to one of the variables, what it gives the variable, if anything, has the variable's shape, but for
+  -- negative numbers, and what is tested is a truth value
+  pub IsBlockWellSorted : List CheckedVariable → List PlainRule → PlainStatement ℕ Shape → Bindings → Type 0
+  IsBlockWellSorted own rules (assign p t) e =
+      IsOwnTarget own p × IsOfShape (wide_shape (target_shape p)) (assignment_value p t e)
+  IsBlockWellSorted own rules (branch arms rest) e =
+      AreBlockArmsWellSorted own rules arms e × AreBlockWellSorted own rules rest e
+  IsBlockWellSorted own rules (loop t body) e = IsOfShape truths (value t e) × AreBlockWellSorted own rules body e
+  IsBlockWellSorted own rules (fire f) e = IsFiringWellSorted rules f e
 
   -- the same of arms
-  pub AreBlockArmsWellSorted : List PlainRule → PlainArms ℕ Shape → Bindings → Type 0
-  AreBlockArmsWellSorted rules no_arms e = Unit {0}
-  AreBlockArmsWellSorted rules (arm t body more) e =
-      IsOfShape truths (value t e) × AreBlockWellSorted rules body e × AreBlockArmsWellSorted rules more e
+  pub AreBlockArmsWellSorted : List CheckedVariable → List PlainRule → PlainArms ℕ Shape → Bindings → Type 0
+  AreBlockArmsWellSorted own rules no_arms e = Unit {0}
+  AreBlockArmsWellSorted own rules (arm t body more) e =
+      IsOfShape truths (value t e) × AreBlockWellSorted own rules body e × AreBlockArmsWellSorted own rules more e
 
   -- and of statements, each on the same bindings
-  pub AreBlockWellSorted : List PlainRule → PlainStatements ℕ Shape → Bindings → Type 0
-  AreBlockWellSorted rules no_statements e = Unit {0}
-  AreBlockWellSorted rules (statement s more) e = IsBlockWellSorted rules s e × AreBlockWellSorted rules more e
+  pub AreBlockWellSorted : List CheckedVariable → List PlainRule → PlainStatements ℕ Shape → Bindings → Type 0
+  AreBlockWellSorted own rules no_statements e = Unit {0}
+  AreBlockWellSorted own rules (statement s more) e =
+      IsBlockWellSorted own rules s e × AreBlockWellSorted own rules more e
 
 -- each constant of an entry has a value, among bindings that it reads
 abbrev pub AreConstantsValued : Bindings → PlainRule → Type 0
@@ -121,8 +130,8 @@ pub record IsNodeWellSorted (c : NodeState) : Type 0 where
       → names_of (block_read c own) ≡ names_at block_statement (declared_names c.program.automaton)
       (variable_names c.program.automaton.schedule.variables)
   pub block : (own : List Data) → AllZip FitsVariable c.program.automaton.schedule.variables own
-      → AreBlockWellSorted c.program.automaton.rules (statements_of c.program.automaton.schedule.statements)
-      (block_read c own)
+      → AreBlockWellSorted c.program.automaton.schedule.variables c.program.automaton.rules
+      (statements_of c.program.automaton.schedule.statements) (block_read c own)
 
 -- the same of each node among configurations
 abbrev pub IsConfWellSorted : Conf → Type 0

@@ -1,8 +1,15 @@
 //! Laws of systems that the check accepted: what functions ensure that do nothing.
 
-ghost use Rattle.std.specs.Prelude.{◌≡◌, List, Some};
+ghost use Rattle.std.specs.Prelude.{◌≡◌, ℕ, List, Some};
+ghost use Rattle.std.specs.List.{AllZip, Contains};
 ghost use Rattle.ioa_actions.specs.declared.action.Action.{Action};
+ghost use Rattle.ioa_values.specs.Data.{Data};
+ghost use Rattle.ioa_operators.specs.declared.shape.Shape.{Shape};
+ghost use Rattle.ioa_terms.specs.PlainTerm.{PlainStatements, statements_of};
+ghost use Rattle.ioa_schedules.specs.Turns.{TurnResult, following_statements, turn};
 ghost use Rattle.ioa_source.specs.Sides.{SourceText};
+ghost use Rattle.ioa_system.specs.InView.{block_bindings};
+ghost use Rattle.ioa_system.specs.Parts.{Parts};
 ghost use Rattle.ioa_system.specs.Systems.{SystemParts};
 ghost use Rattle.ioa_check.specs.Systems.{IsSystemOf};
 ghost use Rattle.ioa_compose.specs.Automata.{IsExecution};
@@ -14,7 +21,8 @@ ghost use Rattle.ioa_compose.specs.Start.{start};
 ghost use Rattle.ioa_compose.specs.Steps.{IsStep};
 ghost use Rattle.ioa_compose.specs.declared.configuration.Conf.{Conf};
 ghost use Rattle.ioa_accepted.specs.Awaited.{AreMessagesAwaited};
-ghost use Rattle.ioa_accepted.specs.Shaped.{IsShapedNode, AreShaped};
+ghost use Rattle.ioa_accepted.specs.BlockStates.{IsBlockState};
+ghost use Rattle.ioa_accepted.specs.Shaped.{FitsVariable, IsShapedNode, AreShaped};
 ghost use Rattle.ioa_accepted.specs.WellSorted.{IsNodeWellSorted, AreConfsWellSorted};
 
 /// At the start of an accepted system each value at a node has its declared shape. A step of a node keeps the shapes,
@@ -48,4 +56,19 @@ pub fn receive_law()
         AreMessagesAwaited cs }
     ensures replay { (x : SourceText) (s : SystemParts) (actions : List Action) (cs : List Conf) →
         IsSystemOf x s → replay actions (start s) ≡ Some cs → AreMessagesAwaited cs }
+{}
+
+/// The variables of a schedule block keep the shapes of their sorts (profile). At the start of an accepted system they
+/// have values of these shapes, and the block is well sorted. A turn that meets no fault leaves such values, and what is
+/// to do then is well sorted; so it is behind a `fire`. So whatever a block tests, assigns and fires in any turn has its
+/// sort, but for negative numbers.
+pub fn block_law()
+    ensures start { (x : SourceText) (s : SystemParts) (p : Parts) → IsSystemOf x s → Contains s.programs p →
+        IsBlockState p (statements_of p.automaton.schedule.statements) p.block }
+    ensures turn { (p : Parts) (state own : List Data) (todo : PlainStatements ℕ Shape) (n : ℕ) (r : TurnResult) →
+        AllZip FitsVariable p.automaton.variables state → IsBlockState p todo own →
+        turn todo n (block_bindings p.automaton p.arguments state own) ≡ Some r → (left : List Data)
+        × (r.bindings ≡ block_bindings p.automaton p.arguments state left) × IsBlockState p r.todo left }
+    ensures passed { (p : Parts) (todo : PlainStatements ℕ Shape) (own : List Data) →
+        IsBlockState p todo own → IsBlockState p (following_statements todo) own }
 {}

@@ -1,0 +1,9 @@
+use Rattle.ioa_accepted.proofs.BlockTurns.{block_starts, block_turns, block_passes}
+use Rattle.ioa_accepted.proofs.laws.block_law.Goals as goal
+
+pub returns : goal.returns
+returns c = record {
+  start = block_starts;
+  turn = block_turns;
+  passed = block_passes;
+}
