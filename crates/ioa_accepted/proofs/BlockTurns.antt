@@ -29,7 +29,7 @@ use Rattle.ioa_accepted.proofs.Evaluated.{node_sorted}
 use Rattle.ioa_accepted.proofs.Starts.{node_shaped}
 
 -- the block's own variables with their values come first in what it reads
-own_read : (xs : List CheckedVariable) (own : List Data) (ws : List (List ℕ)) (others : List Data) (e : Bindings) → AllZip FitsVariable xs own → zip (map Word (variable_names xs ++ ws)) (own ++ others) ++ e ≡ zip (map Word (variable_names xs)) own ++ (zip (map Word ws) others ++ e)
+pub own_read : (xs : List CheckedVariable) (own : List Data) (ws : List (List ℕ)) (others : List Data) (e : Bindings) → AllZip FitsVariable xs own → zip (map Word (variable_names xs ++ ws)) (own ++ others) ++ e ≡ zip (map Word (variable_names xs)) own ++ (zip (map Word ws) others ++ e)
 own_read [] [] ws others e h = refl
 own_read [] (v ∷ vs) ws others e h = absurd h
 own_read (x ∷ xs) [] ws others e h = absurd h

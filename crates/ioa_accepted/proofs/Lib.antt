@@ -12,3 +12,4 @@ pub mod Assigned
 pub mod Evaluated
 pub mod Received
 pub mod BlockTurns
+pub mod RunBlocks

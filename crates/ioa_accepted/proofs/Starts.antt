@@ -44,7 +44,7 @@ node_shaped x s h p c =
 contained_further : {A : Type 0} (x : A) (xs : List A) (y : A) → Contains xs y → Contains (x ∷ xs) y
 contained_further x xs y c = (suc c.0, omega (arith, c.1), c.2)
 
-all_contained : {A : Type 0} (P : A → Type 0) (xs : List A) → ((x : A) → Contains xs x → P x) → AllByRecursion P xs
+pub all_contained : {A : Type 0} (P : A → Type 0) (xs : List A) → ((x : A) → Contains xs x → P x) → AllByRecursion P xs
 all_contained P [] h = tt
 all_contained P (x ∷ xs) h = (h x (zero, omega arith, refl), all_contained P xs (λ y c. h y (contained_further x xs y c)))
 

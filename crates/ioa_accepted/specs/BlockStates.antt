@@ -1,11 +1,12 @@
 -- A schedule block under way (profile).
 use Rattle.std.specs.Prelude.{ℕ, List}
-use Rattle.std.specs.List.{AllZip}
+use Rattle.std.specs.List.{AllByRecursion, AllZip}
 use Rattle.ioa_values.specs.Data.{Data}
 use Rattle.ioa_operators.specs.declared.shape.Shape.{Shape}
 use Rattle.ioa_terms.specs.PlainTerm.{PlainStatements}
 use Rattle.ioa_system.specs.InView.{block_bindings}
 use Rattle.ioa_system.specs.Parts.{Parts}
+use Rattle.ioa_solo.specs.NodeTurns.{PlainProgress}
 use Rattle.ioa_accepted.specs.Shaped.{FitsVariable}
 use Rattle.ioa_accepted.specs.WellSorted.{AreBlockWellSorted}
 
@@ -18,3 +19,7 @@ pub record IsBlockState (p : Parts) (todo : PlainStatements ℕ Shape) (own : Li
       → AllZip FitsVariable p.automaton.schedule.variables later
       → AreBlockWellSorted p.automaton.schedule.variables p.automaton.rules todo
       (block_bindings p.automaton p.arguments state later)
+
+-- each node of a run has its block in such a state
+abbrev pub AreBlockStates : List PlainProgress → Type 0
+AreBlockStates ps = AllByRecursion (λ p. IsBlockState p.program p.todo p.own) ps

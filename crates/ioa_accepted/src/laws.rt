@@ -1,6 +1,6 @@
 //! Laws of systems that the check accepted: what functions ensure that do nothing.
 
-ghost use Rattle.std.specs.Prelude.{◌≡◌, ℕ, List, Some};
+ghost use Rattle.std.specs.Prelude.{◌≡◌, ℕ, List, [], Some, map};
 ghost use Rattle.std.specs.List.{AllZip, Contains};
 ghost use Rattle.ioa_actions.specs.declared.action.Action.{Action};
 ghost use Rattle.ioa_values.specs.Data.{Data};
@@ -21,7 +21,8 @@ ghost use Rattle.ioa_compose.specs.Start.{start};
 ghost use Rattle.ioa_compose.specs.Steps.{IsStep};
 ghost use Rattle.ioa_compose.specs.declared.configuration.Conf.{Conf};
 ghost use Rattle.ioa_accepted.specs.Awaited.{AreMessagesAwaited};
-ghost use Rattle.ioa_accepted.specs.BlockStates.{IsBlockState};
+ghost use Rattle.ioa_solo.specs.Solo.{progress_at, rounds};
+ghost use Rattle.ioa_accepted.specs.BlockStates.{AreBlockStates, IsBlockState};
 ghost use Rattle.ioa_accepted.specs.Shaped.{FitsVariable, IsShapedNode, AreShaped};
 ghost use Rattle.ioa_accepted.specs.WellSorted.{IsNodeWellSorted, AreConfsWellSorted};
 
@@ -60,8 +61,8 @@ pub fn receive_law()
 
 /// The variables of a schedule block keep the shapes of their sorts (profile). At the start of an accepted system they
 /// have values of these shapes, and the block is well sorted. A turn that meets no fault leaves such values, and what is
-/// to do then is well sorted; so it is behind a `fire`. So whatever a block tests, assigns and fires in any turn has its
-/// sort, but for negative numbers.
+/// to do then is well sorted; so it is behind a `fire`. So it is with each node after each round of a run by one worker:
+/// whatever a block tests, assigns and fires in any turn has its sort, but for negative numbers.
 pub fn block_law()
     ensures start { (x : SourceText) (s : SystemParts) (p : Parts) → IsSystemOf x s → Contains s.programs p →
         IsBlockState p (statements_of p.automaton.schedule.statements) p.block }
@@ -71,4 +72,6 @@ pub fn block_law()
         × (r.bindings ≡ block_bindings p.automaton p.arguments state left) × IsBlockState p r.todo left }
     ensures passed { (p : Parts) (todo : PlainStatements ℕ Shape) (own : List Data) →
         IsBlockState p todo own → IsBlockState p (following_statements todo) own }
+    ensures rounds { (x : SourceText) (s : SystemParts) (attempts limit n : ℕ) → IsSystemOf x s → AreBlockStates
+        (rounds limit n (record { schedule = []; states = start s }) (map (progress_at attempts) s.programs)).1 }
 {}

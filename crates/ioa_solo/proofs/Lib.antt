@@ -6,3 +6,4 @@ mod Rounds
 mod Runs
 mod SoloRuns
 mod OwnStates
+pub mod KeptByRuns

@@ -1,4 +1,5 @@
 use Rattle.ioa_accepted.proofs.BlockTurns.{block_starts, block_turns, block_passes}
+use Rattle.ioa_accepted.proofs.RunBlocks.{blocks_kept}
 use Rattle.ioa_accepted.proofs.laws.block_law.Goals as goal
 
 pub returns : goal.returns
@@ -6,4 +7,5 @@ returns c = record {
   start = block_starts;
   turn = block_turns;
   passed = block_passes;
+  rounds = blocks_kept;
 }
