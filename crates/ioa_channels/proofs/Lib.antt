@@ -1,5 +1,7 @@
 -- the lemmas of this crate
 pub mod Items
 pub mod Names
+pub mod Parts
 pub mod QueueSteps
+pub mod Receives
 pub mod SameQueues

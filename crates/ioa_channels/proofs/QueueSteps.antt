@@ -11,7 +11,7 @@ use Rattle.ioa_channels.specs.QueueSteps.{IsQueueStep}
 use Rattle.ioa_channels.proofs.Items.{items_behind_is}
 
 -- what comes out of a queue was its first item
-taken : (x : Item) (q r : QueueState) → without_first x q ≡ Ok r → q ≡ queue_state r.component (x ∷ r.items)
+pub taken : (x : Item) (q r : QueueState) → without_first x q ≡ Ok r → q ≡ queue_state r.component (x ∷ r.items)
 taken x q r h = by_items (items_behind x q.items) refl h
   where
     by_items : (s : Result (List Item) StepFault) → items_behind x q.items ≡ s → and_then s (λ items. Ok (queue_state q.component items)) ≡ Ok r → q ≡ queue_state r.component (x ∷ r.items)
@@ -22,7 +22,7 @@ taken x q r h = by_items (items_behind x q.items) refl h
     by_items (Err f) e h = absurd (cc)
 
 -- the first item comes out of a queue
-comes_out : (x : Item) (q r : QueueState) → q ≡ queue_state r.component (x ∷ r.items) → without_first x q ≡ Ok r
+pub comes_out : (x : Item) (q r : QueueState) → q ≡ queue_state r.component (x ∷ r.items) → without_first x q ≡ Ok r
 comes_out x q r e =
     let behind : items_behind x q.items ≡ Ok r.items = (items_behind_is x q.items r.items).1 (ap (λ (s : QueueState). s.items) e) in
     let name : q.component ≡ r.component = ap (λ (s : QueueState). s.component) e in

@@ -1,11 +1,15 @@
 -- Queues: of the messages under way on a channel (Lynch 14.1), and of the stimuli left in a script (profile).
-use Rattle.std.specs.Prelude.{Bool, false, if◌then◌else◌, List, [], ◌∷◌, ◌++◌, Result, Ok, Err, refl}
+use Rattle.std.specs.Prelude.{Bool, false, if◌then◌else◌, List, [], ◌∷◌, ◌++◌, map}
+use Rattle.std.specs.Prelude.{Option, Some, None, Result, Ok, Err, refl}
 use Rattle.std.specs.Coded.{Coded, code_by, coded×, coded_list}
+use Rattle.std.specs.Option.{option_map}
 use Rattle.ioa_values.specs.Outcome.{and_then}
+use Rattle.ioa_values.specs.Data.{Data}
 use Rattle.ioa_values.specs.DataOrder.{same}
 use Rattle.ioa_actions.specs.Actions.{same_node_action}
 use Rattle.ioa_actions.specs.contracts.component.Component as component
 use Rattle.ioa_actions.specs.declared.component.Component.{Component}
+use Rattle.ioa_actions.specs.declared.action.NodeAction.{NodeAction}
 use Rattle.ioa_actions.specs.declared.action.Action.{Action}
 use Rattle.ioa_actions.specs.declared.action.Action.TheVariants as action
 use Rattle.ioa_channels.specs.contracts.queue.Item as item
@@ -26,6 +30,16 @@ abbrev pub queue_state_code : Coded QueueState
 queue_state_code =
     code_by (Component × List Item) (coded× component.the_row.coded (coded_list item.the_row.coded))
     (λ q. (q.component, q.items)) (λ p. queue_state p.0 p.1) (λ _. refl)
+
+-- the items of a queue that holds these stimuli (profile), and behind them these messages (Lynch 14.1)
+abbrev pub queue_items : List NodeAction → List Data → List Item
+queue_items stimuli messages = map Stimulus stimuli ++ map Message messages
+
+-- a queue's messages, if it holds nothing else (Lynch 14.1)
+abbrev pub messages_of : List Item → Option (List Data)
+messages_of [] = Some []
+messages_of (Message m ∷ more) = option_map (λ (ms : List Data). m ∷ ms) (messages_of more)
+messages_of (Stimulus a ∷ more) = None
 
 -- whether two items are the same
 abbrev pub same_item : Item → Item → Bool

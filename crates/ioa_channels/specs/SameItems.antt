@@ -1,6 +1,5 @@
 -- The test of items finds two the same exactly if they are equal (profile).
 use Rattle.std.specs.Prelude.{◌≡◌, ◌↔◌, IsTrue}
-use Rattle.std.specs.Cmp.{IsPartialEquivalence, decided, partial_equiv_from_equiv}
 use Rattle.std.proofs.Common.{ap}
 use Rattle.ioa_values.proofs.Equality.{same_equal, same_itself}
 use Rattle.ioa_actions.proofs.SameActions.{same_node_action_is}
@@ -18,6 +17,3 @@ same_item_is (Stimulus a) (Stimulus b) = (
   λ h. ap Stimulus ((same_node_action_is a b).0 h),
   λ e. let k : a ≡ b = cc in (same_node_action_is a b).1 k,
 )
-
-pub same_item_partial : IsPartialEquivalence same_item
-same_item_partial = partial_equiv_from_equiv (decided same_item same_item_is)

@@ -5,4 +5,4 @@ mod laws;
 mod queue;
 
 pub use laws::queue_step_law;
-pub use queue::{Item, Queue};
+pub use queue::{Item, Queue, copy_stimuli};

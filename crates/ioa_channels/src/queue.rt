@@ -1,13 +1,14 @@
 //! Queues of channels and scripts, and their steps.
 
-ghost use Rattle.std.specs.Prelude.{◌≡◌, ◌≢◌, ◌↔◌, [], ◌∷◌, Ok, IsTrue, IfOk, IsErrOf, List, slice_get};
-ghost use Rattle.std.specs.Option.{option_copied};
+ghost use Rattle.std.specs.Prelude.{◌≡◌, ◌≢◌, [], ◌∷◌, ◌↔◌, IsTrue, IfOk, IfSome, IsErrOf, List, length, map};
+ghost use Rattle.std.specs.Option.{option_map};
 ghost use Rattle.ioa_values.specs.Outcome.{Answers};
-ghost use Rattle.ioa_channels.specs.Queues.{queue_state, same_item, with_last, without_first, queue_answer};
+ghost use Rattle.ioa_channels.specs.Queues.{queue_state, queue_items, messages_of};
+ghost use Rattle.ioa_channels.specs.Queues.{with_last, without_first, queue_answer};
 ghost use Rattle.ioa_channels.specs.SameQueues.{same_queue};
 
 use ioa_actions::{Action, Component, NodeAction, StepFault};
-use ioa_values::Value;
+use ioa_values::{Value, copies};
 use std::alloc::{AllocError, Global};
 use std::marker::Model;
 
@@ -20,114 +21,57 @@ pub enum Item {
     Stimulus(NodeAction),
 }
 
-impl Item {
-    /// An equal item with its own memory.
-    pub fn try_copy(&self, alloc: Global) -> Result<Self, AllocError>
-        ensures { IfOk result (λ x. x ≡ self.now) }
-    {
-        match self {
-            Item::Message(message) => Ok(Item::Message(message.try_copy(alloc)?)),
-            Item::Stimulus(action) => Ok(Item::Stimulus(action.try_copy(alloc)?)),
-        }
-    }
-
-    /// Whether two items are the same.
-    #[tactic(auto, using(crate::specs::SameItems::same_item_is))]
-    pub fn equals(&self, other: &Self) -> bool
-        ensures value { result ≡ same_item self.now other.now }
-        ensures equality { IsTrue result ↔ (self.now ≡ other.now) }
-    {
-        self.is_same(other)
-    }
-
-    /// Whether two items are of one kind and have the same in them.
-    fn is_same(&self, other: &Self) -> bool
-        ensures { result ≡ same_item self.now other.now }
-    {
-        match other {
-            Item::Message(message) => self.is_message(message),
-            Item::Stimulus(action) => self.is_stimulus(action),
-        }
-    }
-
-    /// Whether the item is this message.
-    fn is_message(&self, message: &Value) -> bool
-        ensures { result ≡ same_item self.now (Item.Message message.now) }
-    {
-        match self {
-            Item::Message(own) => own.equals(message),
-            Item::Stimulus(_) => false,
-        }
-    }
-
-    /// Whether the item is this stimulus.
-    fn is_stimulus(&self, action: &NodeAction) -> bool
-        ensures { result ≡ same_item self.now (Item.Stimulus action.now) }
-    {
-        match self {
-            Item::Message(_) => false,
-            Item::Stimulus(own) => own.equals(action),
-        }
-    }
-}
-
-impl PartialEq for Item {
-    ghost use Rattle.ioa_channels.specs.Queues.{same_item};
-    ghost use Rattle.ioa_channels.specs.SameItems.{same_item_partial};
-
-    ghost eq = { same_item };
-
-    ghost laws = { same_item_partial };
-
-    fn eq(&self, other: &Self) -> bool {
-        self.is_same(other)
-    }
-}
-
-/// Equal items with their own memory.
-fn copy_items(alloc: Global, items: &[Item]) -> Result<Vec<Item>, AllocError>
-    ensures { IfOk result (λ v. v.items ≡ items.now) }
+/// Equal stimuli with their own memory, in order.
+pub fn copy_stimuli(alloc: Global, stimuli: &[NodeAction]) -> Result<Vec<NodeAction>, AllocError>
+    ensures { IfOk result (λ v. v.items ≡ stimuli.now) }
 {
     let mut copied = Vec::new(alloc);
-    for item in items {
-        copied.push(item.try_copy(alloc)?)?;
+    for stimulus in stimuli {
+        copied.push(stimulus.try_copy(alloc)?)?;
     }
     Ok(copied)
 }
 
 /// The queue of a channel or of a script: the items that were put in and have not come out, in order. A contract sees
-/// the name of its component and the list of its items.
+/// the name of its component and the list of its items. A queue begins with the stimuli of a script or with nothing,
+/// and only messages are put in, so the stimuli that are left are in front of all messages.
 #[derive(Debug, Drop)]
 pub struct Queue {
     component: Component,
-    items: Vec<Item>,
+    stimuli: Vec<NodeAction>,
+    messages: Vec<Value>,
 }
 
 impl Model for Queue {
-    ghost use Rattle.ioa_channels.specs.Queues.{QueueState, queue_state, queue_state_code};
+    ghost use Rattle.ioa_channels.specs.Queues.{QueueState, queue_state, queue_state_code, queue_items};
 
     ghost Value = { QueueState };
 
     ghost coded = { queue_state_code };
 
-    ghost view = { λ q. queue_state q.component q.items.items };
+    ghost view = { λ q. queue_state q.component (queue_items q.stimuli.items q.messages.items) };
 }
 
 impl Queue {
-    /// The queue of a component with these items, first to last; takes no memory.
-    pub fn new(component: Component, items: Vec<Item>) -> Self
-        ensures { result ≡ queue_state component items.items }
-    {
-        Queue { component, items }
-    }
-
     /// The queue of a component with nothing in it; takes no memory.
     pub fn empty(alloc: Global, component: Component) -> Self
         ensures { result ≡ queue_state component [] }
     {
         Queue {
             component,
-            items: Vec::new(alloc),
+            stimuli: Vec::new(alloc),
+            messages: Vec::new(alloc),
+        }
+    }
+
+    /// The queue of a component with these stimuli, first to last; takes no memory.
+    pub fn of_stimuli(alloc: Global, component: Component, stimuli: Vec<NodeAction>) -> Self
+        ensures { result ≡ queue_state component (map Item.Stimulus stimuli.items) }
+    {
+        Queue {
+            component,
+            stimuli,
+            messages: Vec::new(alloc),
         }
     }
 
@@ -138,18 +82,30 @@ impl Queue {
         self.component
     }
 
-    /// The items, first to last.
-    pub fn items(&self) -> &[Item]
-        ensures { result.now ≡ self.now.items }
+    /// How many items it has.
+    #[tactic(auto, using(crate::proofs::Parts::length_of_parts))]
+    pub fn len(&self) -> usize
+        ensures { result ≡ length self.now.items }
     {
-        self.items.as_slice()
+        self.stimuli.len() + self.messages.len()
     }
 
-    /// The item that comes out next.
-    pub fn front(&self) -> Option<&Item>
-        ensures { option_copied result ≡ slice_get self.now.items 0 }
+    /// Its items in two slices: the stimuli that are left, and the messages behind them, each first to last.
+    pub fn parts(&self) -> (&[NodeAction], &[Value])
+        ensures { self.now.items ≡ queue_items result.0.now result.1.now }
     {
-        self.items.first()
+        (self.stimuli.as_slice(), self.messages.as_slice())
+    }
+
+    /// Its messages, first to last, if no stimulus is left in it.
+    pub fn messages(&self) -> Option<&[Value]>
+        ensures exact { option_map (λ m. m.now) result ≡ messages_of self.now.items }
+        ensures items { IfSome result (λ m. self.now.items ≡ map Item.Message m.now) }
+    {
+        match self.stimuli.as_slice() {
+            [] => Some(self.messages.as_slice()),
+            [_, ..] => None,
+        }
     }
 
     /// Whether two queues are the same, whatever memory they are kept in. Costs time in proportion to the shorter one.
@@ -162,32 +118,52 @@ impl Queue {
     }
 
     /// Whether two queues are of one component and have the same items.
+    #[tactic(auto, using(crate::proofs::SameQueues::same_parts))]
     fn is_same(&self, other: &Self) -> bool
         ensures { result ≡ same_queue self.now other.now }
     {
-        self.component == other.component && self.items == other.items
+        self.component == other.component
+            && self.stimuli == other.stimuli
+            && self.messages == other.messages
     }
 
     /// An equal queue with its own memory.
     pub fn try_copy(&self, alloc: Global) -> Result<Self, AllocError>
         ensures { IfOk result (λ q. q ≡ self.now) }
     {
-        let items = copy_items(alloc, self.items.as_slice())?;
+        self.with_parts(alloc, self.stimuli.as_slice(), self.messages.as_slice())
+    }
+
+    /// The queue of the same component with copies of these stimuli and, behind them, of these messages.
+    fn with_parts(
+        &self,
+        alloc: Global,
+        stimuli: &[NodeAction],
+        messages: &[Value],
+    ) -> Result<Self, AllocError>
+        ensures { IfOk result (λ q. q ≡ queue_state self.now.component (queue_items stimuli.now messages.now)) }
+    {
+        let stimuli = copy_stimuli(alloc, stimuli)?;
+        let messages = copies(alloc, messages)?;
         Ok(Queue {
             component: self.component,
-            items,
+            stimuli,
+            messages,
         })
     }
 
-    /// The queue with one more item at the end (Lynch 14.1).
-    pub fn after_send(&self, alloc: Global, item: Item) -> Result<Self, AllocError>
-        ensures { IfOk result (λ q. q ≡ with_last item self.now) }
+    /// The queue with one more message at the end (Lynch 14.1).
+    #[tactic(auto, using(crate::proofs::Parts::one_more_message))]
+    pub fn after_send(&self, alloc: Global, message: Value) -> Result<Self, AllocError>
+        ensures { IfOk result (λ q. q ≡ with_last (Item.Message message) self.now) }
     {
-        let mut items = copy_items(alloc, self.items.as_slice())?;
-        items.push(item)?;
+        let stimuli = copy_stimuli(alloc, self.stimuli.as_slice())?;
+        let mut messages = copies(alloc, self.messages.as_slice())?;
+        messages.push(message)?;
         Ok(Queue {
             component: self.component,
-            items,
+            stimuli,
+            messages,
         })
     }
 
@@ -199,35 +175,32 @@ impl Queue {
         ensures not_first { IsErrOf result StepFault.NotEnabled
             → (rest : List Item) → self.now.items ≢ item.now ∷ rest }
     {
-        match self.items.as_slice() {
-            [] => Err(StepFault::NotEnabled),
-            [first, rest @ ..] => {
-                if !first.equals(item) {
-                    return Err(StepFault::NotEnabled);
-                }
-                self.with_items(alloc, rest)
-            }
-        }
+        self.after_item(alloc, item)
     }
 
-    /// The queue of the same component with these items.
-    fn with_items(&self, alloc: Global, items: &[Item]) -> Result<Self, StepFault>
-        ensures { Answers StepFault.Memory (λ q. q) result (Ok (queue_state self.now.component items.now)) }
+    /// The queue without its first item, which is to be this one.
+    fn after_item(&self, alloc: Global, item: &Item) -> Result<Self, StepFault>
+        ensures { Answers StepFault.Memory (λ q. q) result (without_first item.now self.now) }
     {
-        let items = copy_items(alloc, items)?;
-        Ok(Queue {
-            component: self.component,
-            items,
-        })
+        match item {
+            Item::Message(message) => self.after_message(alloc, message),
+            Item::Stimulus(action) => self.after_stimulus(alloc, action),
+        }
     }
 
     /// The queue without its first item, which is to be this message.
     fn after_message(&self, alloc: Global, message: &Value) -> Result<Self, StepFault>
         ensures { Answers StepFault.Memory (λ q. q) result (without_first (Item.Message message.now) self.now) }
     {
-        match self.items.as_slice() {
-            [first, rest @ ..] if first.is_message(message) => self.with_items(alloc, rest),
-            _ => Err(StepFault::NotEnabled),
+        match (self.stimuli.as_slice(), self.messages.as_slice()) {
+            ([], [first, rest @ ..]) => {
+                if !first.equals(message) {
+                    return Err(StepFault::NotEnabled);
+                }
+                Ok(self.with_parts(alloc, &[], rest)?)
+            }
+            ([], []) => Err(StepFault::NotEnabled),
+            ([_, ..], _) => Err(StepFault::NotEnabled),
         }
     }
 
@@ -235,9 +208,14 @@ impl Queue {
     fn after_stimulus(&self, alloc: Global, action: &NodeAction) -> Result<Self, StepFault>
         ensures { Answers StepFault.Memory (λ q. q) result (without_first (Item.Stimulus action.now) self.now) }
     {
-        match self.items.as_slice() {
-            [first, rest @ ..] if first.is_stimulus(action) => self.with_items(alloc, rest),
-            _ => Err(StepFault::NotEnabled),
+        match self.stimuli.as_slice() {
+            [] => Err(StepFault::NotEnabled),
+            [first, rest @ ..] => {
+                if !first.equals(action) {
+                    return Err(StepFault::NotEnabled);
+                }
+                Ok(self.with_parts(alloc, rest, self.messages.as_slice())?)
+            }
         }
     }
 
@@ -250,7 +228,7 @@ impl Queue {
         match action {
             Action::Send { message, .. } => {
                 let message = message.try_copy(alloc)?;
-                Ok(self.after_send(alloc, Item::Message(message))?)
+                Ok(self.after_send(alloc, message)?)
             }
             Action::Receive { message, .. } => self.after_message(alloc, message),
             Action::Local(_) => Err(StepFault::NotMine),

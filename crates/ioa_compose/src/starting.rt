@@ -7,8 +7,8 @@ ghost use Rattle.ioa_channels.specs.Queues.{queue_state};
 ghost use Rattle.ioa_compose.specs.Start.{start, node_start, channel_start, script_start, stimuli_in};
 
 use crate::configuration::Conf;
-use ioa_actions::{Component, NodeAction};
-use ioa_channels::{Item, Queue};
+use ioa_actions::Component;
+use ioa_channels::{Item, Queue, copy_stimuli};
 use ioa_source::Channel;
 use ioa_system::{Program, System};
 use ioa_transitions::NodeConf;
@@ -76,21 +76,10 @@ fn start_script(alloc: Global, system: &System, node: i64) -> Result<Conf, Alloc
     ensures { IfOk result (λ c. c ≡ Conf.Queue (queue_state (Component.Script node)
         (map Item.Stimulus (stimuli_in (script_of node system.now.scripts))))) }
 {
-    let items = match system.script_of(node) {
+    let stimuli = match system.script_of(node) {
         None => Vec::new(alloc),
-        Some(script) => stimuli(alloc, script.stimuli())?,
+        Some(script) => copy_stimuli(alloc, script.stimuli())?,
     };
-    Ok(Conf::Queue(Queue::new(Component::Script(node), items)))
-}
-
-/// Stimuli as the items of a queue.
-fn stimuli(alloc: Global, actions: &[NodeAction]) -> Result<Vec<Item>, AllocError>
-    ensures { IfOk result (λ v. v.items ≡ map Item.Stimulus actions.now) }
-{
-    let mut items = Vec::new(alloc);
-    for action in actions {
-        let stimulus = action.try_copy(alloc)?;
-        items.push(Item::Stimulus(stimulus))?;
-    }
-    Ok(items)
+    let queue = Queue::of_stimuli(alloc, Component::Script(node), stimuli);
+    Ok(Conf::Queue(queue))
 }

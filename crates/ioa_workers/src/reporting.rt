@@ -10,7 +10,7 @@ ghost use Rattle.ioa_workers.specs.Reports.{script_line};
 ghost use Rattle.ioa_workers.specs.Reports.{ending_lines, commits_text, commit_lines};
 
 use ioa_actions::{Action, Component, push_listed, show_action, show_node_action};
-use ioa_channels::{Item, Queue};
+use ioa_channels::Queue;
 use ioa_compose::Conf;
 use ioa_record::{Ending, Record};
 use ioa_source::Variable;
@@ -157,10 +157,10 @@ fn push_queue(
     match queue.component() {
         Component::Node(_) => Ok(()),
         Component::Channel { from, to } => {
-            let items = show_items(alloc, system.names(), queue.items())?;
+            let items = show_items(alloc, system.names(), queue)?;
             write!(report, "channel {from} -> {to} {{{items}}}\n")
         }
-        Component::Script(node) => push_script(system, node, queue.items().len(), report),
+        Component::Script(node) => push_script(system, node, queue.len(), report),
     }
 }
 
@@ -180,25 +180,20 @@ fn push_script(
 }
 
 /// The texts of a queue's items, with a comma and a space between them.
-fn show_items(alloc: Global, names: &Names, items: &[Item]) -> Result<String, AllocError>
-    ensures { IfOk result (λ s. string_bytes s ≡ with_commas (map (item_text names.now) items.now)) }
+fn show_items(alloc: Global, names: &Names, queue: &Queue) -> Result<String, AllocError>
+    ensures { IfOk result (λ s. string_bytes s ≡ with_commas (map (item_text names.now) queue.now.items)) }
 {
+    let (stimuli, messages) = queue.parts();
     let mut list = String::new(alloc);
-    for (position, item) in items.iter().enumerate() {
-        let text = show_item(alloc, names, item)?;
+    for (position, stimulus) in stimuli.iter().enumerate() {
+        let text = show_node_action(alloc, names, stimulus)?;
         push_listed(&mut list, position, text.as_str())?;
     }
-    Ok(list)
-}
-
-/// The text of a queue's item.
-fn show_item(alloc: Global, names: &Names, item: &Item) -> Result<String, AllocError>
-    ensures { IfOk result (λ s. string_bytes s ≡ item_text names.now item.now) }
-{
-    match item {
-        Item::Message(message) => show(alloc, names, message),
-        Item::Stimulus(stimulus) => show_node_action(alloc, names, stimulus),
+    for (position, message) in messages.iter().enumerate() {
+        let text = show(alloc, names, message)?;
+        push_listed(&mut list, stimuli.len() + position, text.as_str())?;
     }
+    Ok(list)
 }
 
 /// Writes the endings, node 0 first.

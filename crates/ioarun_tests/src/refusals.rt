@@ -302,16 +302,17 @@ fn a_schedule_is_projected(rt: HostRuntime) -> Result<(), Fail> {
 fn queues_hand_out_their_first(rt: HostRuntime) -> Result<(), Fail> {
     let alloc = rt.alloc();
     let queue = Queue::empty(alloc, Component::Channel { from: 0, to: 1 });
-    let queue = queue.after_send(alloc, Item::Message(Value::number(7)))?;
-    let queue = queue.after_send(alloc, Item::Message(Value::number(8)))?;
-    assert_eq!(rt; queue.items().len(), 2);
+    let queue = queue.after_send(alloc, Value::number(7))?;
+    let queue = queue.after_send(alloc, Value::number(8))?;
+    assert_eq!(rt; queue.len(), 2);
     assert!(rt;
         queue
             .after_receive(alloc, &Item::Message(Value::number(8)))
             .is_err()
     );
     let queue = queue.after_receive(alloc, &Item::Message(Value::number(7)))?;
-    let front = queue.front().ok_or("empty")?;
-    assert!(rt; front.equals(&Item::Message(Value::number(8))));
+    let messages = queue.messages().ok_or("stimuli")?;
+    let front = messages.first().ok_or("empty")?;
+    assert!(rt; front.equals(&Value::number(8)));
     Ok(())
 }

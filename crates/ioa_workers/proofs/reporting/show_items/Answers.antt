@@ -1,8 +1,12 @@
-use Rattle.ioa_values.proofs.Commas.{with_commas-more}
-use Rattle.ioa_workers.specs.Reports.{item_text}
+use Rattle.ioa_workers.proofs.QueueTexts.{more_stimuli, more_messages}
 use Rattle.ioa_workers.proofs.reporting.show_items.Goals as goal
 
 pub loop-position-preserved : goal.loop-position-preserved
 loop-position-preserved c =
-    let more = with_commas-more (item_text c.args.names.now) c.args.items.now c.loop-position.position c.index-items-position.result c.loop-position-test.true in
+    let more = more_stimuli c.args.names.now c.parts.result.0.now c.loop-position.position c.index-stimuli-position.result c.loop-position-test.true in
     cc (c.in_ok-push_listed.ensures, c.in_ok-text.ensures)
+
+pub loop-position-2-preserved : goal.loop-position-2-preserved
+loop-position-2-preserved c =
+    let more = more_messages c.args.names.now c.parts.result.0.now c.parts.result.1.now c.loop-position-2.position c.index-messages-position.result c.loop-position-2-test.true in
+    cc (c.in_ok-push_listed-2.ensures, c.in_ok-text-2.ensures.text)

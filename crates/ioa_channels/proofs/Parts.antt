@@ -1,0 +1,48 @@
+-- The stimuli and the messages of a queue.
+use Rattle.std.proofs.Common.{◌≡◌, ◌∙◌, ◌+◌, ◌<◌, ◌≤◌, List, [], ◌∷◌, ◌++◌, Some, None, Err, length, map, refl, sym, ap, append_assoc, arith}
+use Rattle.std.specs.Option.{option_map}
+use Rattle.std.proofs.lemmas.List.{map-append, length-append, length-map}
+use Rattle.ioa_values.specs.Data.{Data}
+use Rattle.ioa_actions.specs.declared.action.NodeAction.{NodeAction}
+use Rattle.ioa_actions.specs.declared.fault.StepFault.TheVariants.{NotEnabled}
+use Rattle.ioa_channels.specs.declared.queue.Item.TheVariants.{Message, Stimulus}
+use Rattle.ioa_channels.specs.Queues.{queue_items, messages_of, items_behind}
+
+-- one more message is one more item at the end
+pub one_more_message : (stimuli : List NodeAction) (messages : List Data) (m : Data) →
+    queue_items stimuli (messages ++ m ∷ []) ≡ queue_items stimuli messages ++ Message m ∷ []
+one_more_message stimuli messages m =
+    ap (λ xs. map Stimulus stimuli ++ xs) (map-append Message messages (m ∷ []))
+    ∙ sym (append_assoc (map Stimulus stimuli) (map Message messages) (Message m ∷ []))
+
+-- a queue has as many items as it has stimuli and messages
+pub length_of_parts : (stimuli : List NodeAction) (messages : List Data) →
+    length (queue_items stimuli messages) ≡ length stimuli + length messages
+length_of_parts stimuli messages =
+    rw (length-append (map Stimulus stimuli) (map Message messages), length-map stimuli Stimulus, length-map messages Message) refl
+
+-- the messages of messages alone
+pub all_messages : (messages : List Data) → messages_of (map Message messages) ≡ Some messages
+all_messages [] = refl
+all_messages (m ∷ more) = ap (option_map (λ (ms : List Data). m ∷ ms)) (all_messages more)
+
+-- a queue with no stimulus left holds its messages alone
+pub messages_alone : (stimuli : List NodeAction) (messages : List Data) → length stimuli < 1 → messages_of (queue_items stimuli messages) ≡ Some messages
+messages_alone [] messages none = all_messages messages
+messages_alone (a ∷ more) messages none = absurd (omega arith)
+
+-- a queue with a stimulus left holds more than messages
+pub messages_behind : (stimuli : List NodeAction) (messages : List Data) → 1 ≤ length stimuli → messages_of (queue_items stimuli messages) ≡ None
+messages_behind [] messages some = absurd (omega arith)
+messages_behind (a ∷ more) messages some = refl
+
+-- no stimulus comes out if none is left
+pub no_stimulus : (a : NodeAction) (stimuli : List NodeAction) (messages : List Data) → length stimuli < 1 → items_behind (Stimulus a) (queue_items stimuli messages) ≡ Err NotEnabled
+no_stimulus a [] [] none = refl
+no_stimulus a [] (m ∷ more) none = refl
+no_stimulus a (b ∷ more) messages none = absurd (omega arith)
+
+-- no message comes out while a stimulus is left
+pub no_message : (m : Data) (stimuli : List NodeAction) (messages : List Data) → 1 ≤ length stimuli → items_behind (Message m) (queue_items stimuli messages) ≡ Err NotEnabled
+no_message m [] messages some = absurd (omega arith)
+no_message m (a ∷ more) messages some = refl
