@@ -1,5 +1,5 @@
 -- What terms read at a node has the shapes of the names in view.
-use Rattle.std.proofs.Common.{◌≡◌, ◌+◌, ℕ, true, List, [], ◌∷◌, ◌++◌, refl, sym, ap, subst, map, zip}
+use Rattle.std.proofs.Common.{◌≡◌, ◌+◌, ℕ, true, List, [], ◌∷◌, ◌++◌, Option, Some, None, refl, sym, ap, subst, map, zip}
 use Rattle.std.specs.List.{AllZip}
 use Rattle.ioa_values.specs.Data.{Data}
 use Rattle.ioa_operators.specs.Shapes.{PlainShape, has_shape}
@@ -10,15 +10,15 @@ use Rattle.ioa_terms.specs.Sorted.{NameShapes, IsShaped}
 use Rattle.ioa_source.specs.PlainText.{const, named}
 use Rattle.ioa_source.specs.Sides.{CheckedDeclared, CheckedParameter, CheckedVariable}
 use Rattle.ioa_system.specs.InView as view
-use Rattle.ioa_system.specs.InView.{Site, in_view, entry_constant, initial_value, entry_condition, guard_or_effect, block_statement, bindings_at, block_bindings, variable_names, declared_names, given_bindings, own_names}
-use Rattle.ioa_system.specs.Parts.{AutomatonParts}
+use Rattle.ioa_system.specs.InView.{Site, in_view, entry_constant, initial_value, entry_condition, guard_or_effect, block_statement, bindings_at, block_bindings, block_own_names, declared_names, given_bindings, own_names}
+use Rattle.ioa_system.specs.Parts.{AutomatonParts, message_shape}
 use Rattle.ioa_names.specs.NameTables.{words}
 use Rattle.ioa_types.specs.TextTypes.{PlainTextTypes}
-use Rattle.ioa_automata.specs.NamesInView.{parameter_shapes, variable_shapes, own_shapes}
+use Rattle.ioa_automata.specs.NamesInView.{parameter_shapes, variable_shapes, own_shapes, inbox_shapes_of, inbox_shapes, block_own_shapes}
 use Rattle.ioa_automata.specs.SortedAutomata.{block_names, names_at}
 use Rattle.ioa_automata.proofs.Compiled.{block_words, scope_words}
 use Rattle.ioa_transitions.specs.NodeStep.{IsOfSort, own_values}
-use Rattle.ioa_accepted.specs.Shaped.{FitsParameter, FitsVariable}
+use Rattle.ioa_accepted.specs.Shaped.{FitsParameter, FitsVariable, FitInboxes}
 use Rattle.ioa_accepted.proofs.Numbered.{AreNumbered, shaped_more, constants_shaped}
 
 -- a value has the shape of a name
@@ -117,27 +117,35 @@ given_shaped t a same numbered args f = seen_shaped t a same numbered entry_cons
 pub given_names : (t : PlainTextTypes) (a : AutomatonParts) → a.constants ≡ words t.constants → AreNumbered 0 t.constants → (args : List Data) → AllZip FitsParameter a.parameters args → names_of (given_bindings a args) ≡ view.names_at entry_constant (declared_names a) []
 given_names t a same numbered args f = seen_names t a same numbered entry_constant [] args [] [] (parameters_fit a.parameters args f)
 
--- what a schedule block reads, if its variables have values of their shapes
+inboxes_fit : (o : Option PlainShape) (ds : List Data) → FitInboxes o ds → Fit (inbox_shapes_of o) ds
+inboxes_fit None [] h = tt
+inboxes_fit None (d ∷ ds) h = absurd h
+inboxes_fit (Some s) [] h = absurd h
+inboxes_fit (Some s) (d ∷ []) h = (h, tt)
+inboxes_fit (Some s) (d ∷ e ∷ ds) h = absurd h
+
+-- what a schedule block reads, if its variables and its inboxes have values of their shapes
 module _ (t : PlainTextTypes) (a : AutomatonParts) (same : a.constants ≡ words t.constants) (numbered : AreNumbered 0 t.constants) where
   abbrev block_own : List CheckedVariable
   block_own = a.schedule.variables
 
   abbrev block_seen : NameShapes
-  block_seen = in_view block_statement (parameter_shapes a.parameters) (variable_shapes a.variables) (variable_shapes block_own)
+  block_seen = in_view block_statement (parameter_shapes a.parameters) (variable_shapes a.variables) (block_own_shapes block_own a.rules)
 
-  block_fit : (args vars os : List Data) → AllZip FitsParameter a.parameters args → AllZip FitsVariable a.variables vars → AllZip FitsVariable block_own os → Fit block_seen (in_view block_statement args vars os)
-  block_fit args vars os f g h =
-      fit_in_view block_statement (parameter_shapes a.parameters) (variable_shapes a.variables) (variable_shapes block_own) args vars os (parameters_fit a.parameters args f) (variables_fit a.variables vars g) (variables_fit block_own os h)
+  block_fit : (args vars is os : List Data) → AllZip FitsParameter a.parameters args → AllZip FitsVariable a.variables vars → FitInboxes (message_shape a.rules) is → AllZip FitsVariable block_own os → Fit block_seen (in_view block_statement args vars (os ++ is))
+  block_fit args vars is os f g k h =
+      fit_in_view block_statement (parameter_shapes a.parameters) (variable_shapes a.variables) (block_own_shapes block_own a.rules) args vars (os ++ is) (parameters_fit a.parameters args f) (variables_fit a.variables vars g)
+      (fit_behind (variable_shapes block_own) (inbox_shapes a.rules) os is (variables_fit block_own os h) (inboxes_fit (message_shape a.rules) is k))
 
-  pub block_shaped : (args vars os : List Data) → AllZip FitsParameter a.parameters args → AllZip FitsVariable a.variables vars → AllZip FitsVariable block_own os → IsShaped (block_names t.constants a.parameters a.variables block_own) (block_bindings a args vars os)
-  block_shaped args vars os f g h =
-      subst (λ (e : Bindings). IsShaped (block_names t.constants a.parameters a.variables block_own) e) there
-      (front_shaped block_seen t.constants (in_view block_statement args vars os) (constants_from 0 (words t.constants)) (block_fit args vars os f g h) (constants_shaped 0 t.constants numbered))
+  pub block_shaped : (args vars is os : List Data) → AllZip FitsParameter a.parameters args → AllZip FitsVariable a.variables vars → FitInboxes (message_shape a.rules) is → AllZip FitsVariable block_own os → IsShaped (block_names t.constants a.parameters a.variables block_own a.rules) (block_bindings a args vars is os)
+  block_shaped args vars is os f g k h =
+      subst (λ (e : Bindings). IsShaped (block_names t.constants a.parameters a.variables block_own a.rules) e) there
+      (front_shaped block_seen t.constants (in_view block_statement args vars (os ++ is)) (constants_from 0 (words t.constants)) (block_fit args vars is os f g k h) (constants_shaped 0 t.constants numbered))
     where
-      there : zip (map Word (words block_seen)) (in_view block_statement args vars os) ++ constants_from 0 (words t.constants) ≡ block_bindings a args vars os
-      there = λ i. zip (map Word (block_words t a.parameters a.variables block_own i)) (in_view block_statement args vars os) ++ constants_from 0 (sym same i)
+      there : zip (map Word (words block_seen)) (in_view block_statement args vars (os ++ is)) ++ constants_from 0 (words t.constants) ≡ block_bindings a args vars is os
+      there = λ i. zip (map Word (block_words t a.parameters a.variables block_own a.rules i)) (in_view block_statement args vars (os ++ is)) ++ constants_from 0 (sym same i)
 
-  pub block_reads : (args vars os : List Data) → AllZip FitsParameter a.parameters args → AllZip FitsVariable a.variables vars → AllZip FitsVariable block_own os → names_of (block_bindings a args vars os) ≡ view.names_at block_statement (declared_names a) (variable_names block_own)
-  block_reads args vars os f g h =
-      subst (λ (ws : List (List ℕ)). names_of (zip (map Word ws) (in_view block_statement args vars os) ++ constants_from 0 a.constants) ≡ map Word (ws ++ a.constants))
-      (block_words t a.parameters a.variables block_own) (front_names block_seen (in_view block_statement args vars os) a.constants (block_fit args vars os f g h))
+  pub block_reads : (args vars is os : List Data) → AllZip FitsParameter a.parameters args → AllZip FitsVariable a.variables vars → FitInboxes (message_shape a.rules) is → AllZip FitsVariable block_own os → names_of (block_bindings a args vars is os) ≡ view.names_at block_statement (declared_names a) (block_own_names a)
+  block_reads args vars is os f g k h =
+      subst (λ (ws : List (List ℕ)). names_of (zip (map Word ws) (in_view block_statement args vars (os ++ is)) ++ constants_from 0 a.constants) ≡ map Word (ws ++ a.constants))
+      (block_words t a.parameters a.variables block_own a.rules) (front_names block_seen (in_view block_statement args vars (os ++ is)) a.constants (block_fit args vars is os f g k h))

@@ -19,7 +19,7 @@ use Rattle.ioa_system.specs.Parts.{PlainRule}
 use Rattle.ioa_system.specs.Systems.{SystemParts}
 use Rattle.ioa_sorts.specs.SortedStatements.{IsFired, IsSorted, AreSorted, AreArmsSorted}
 use Rattle.ioa_sorts.specs.StatementSites.{PlainStatementSite, effect_site}
-use Rattle.ioa_automata.specs.NamesInView.{parameter_shapes, shape_declared, variable_shapes}
+use Rattle.ioa_automata.specs.NamesInView.{parameter_shapes, shape_declared, variable_shapes, inbox_shapes}
 use Rattle.ioa_automata.specs.SortedAutomata.{block_names, block_of, IsConditionOf, names_at}
 use Rattle.ioa_automata.proofs.Compiled.{automaton_compiled}
 use Rattle.ioa_check.specs.Systems.{IsEntryOn, IsSystemOf}
@@ -75,9 +75,9 @@ arguments_sorted names e g (s ∷ ss) [] h = absurd h
 arguments_sorted names e g (s ∷ ss) (t ∷ ts) h = (term_has names e g t (shape_in_terms s) h.0, arguments_sorted names e g ss ts h.1)
 
 -- the block's own variables come first among the names in view
-own_first : (ws : List CheckedVariable) (more cs : NameShapes) → take (length ws) ((variable_shapes ws ++ more) ++ cs) ≡ variable_shapes ws
-own_first [] more cs = refl
-own_first (w ∷ ws) more cs = ap (λ (ns : NameShapes). shape_declared w.declared ∷ ns) (own_first ws more cs)
+own_first : (ws : List CheckedVariable) (is more cs : NameShapes) → take (length ws) (((variable_shapes ws ++ is) ++ more) ++ cs) ≡ variable_shapes ws
+own_first [] is more cs = refl
+own_first (w ∷ ws) is more cs = ap (λ (ns : NameShapes). shape_declared w.declared ∷ ns) (own_first ws is more cs)
 
 -- statements of a schedule block
 module _ (own : List CheckedVariable) (site : PlainStatementSite) (first : site.variables ≡ variable_shapes own) (declared : (x : Name) (s : PlainShape) → shape_named x site.variables ≡ Some s → shape_named x site.names ≡ Some s) (e : Bindings) (g : IsShaped site.names e) where
@@ -135,7 +135,7 @@ module _ (x : SourceText) (s : SystemParts) (h : IsSystemOf x s) (c : NodeState)
   pub node_sorted : IsNodeWellSorted c
   node_sorted =
       let b = c.program.automaton in
-      let names = block_names h.types.constants b.parameters b.variables b.schedule.variables in
+      let names = block_names h.types.constants b.parameters b.variables b.schedule.variables b.rules in
       let count = length b.schedule.variables in
       let site = block_of names b.variables b.schedule.variables b.rules in
       record {
@@ -144,9 +144,9 @@ module _ (x : SourceText) (s : SystemParts) (h : IsSystemOf x s) (c : NodeState)
         constants = constants_valued c.program.node (given_bindings b c.program.arguments) b.rules accepted.program.entries;
         rules = rule_sorted;
         block_starts = initial_fit (given_bindings b c.program.arguments) b.schedule.variables c.program.block accepted.program.block;
-        block_names = λ own fits. block_reads h.types b accepted.automaton.constants (system_numbered x s h) c.program.arguments c.variables own shaped.arguments shaped.variables fits;
-        block = λ own fits. block_sorted b.schedule.variables site (own_first b.schedule.variables (variable_shapes b.variables ++ parameter_shapes b.parameters) h.types.constants) (λ y t found. found_in_front y count names t found) (block_read c own)
-            (block_shaped h.types b accepted.automaton.constants (system_numbered x s h) c.program.arguments c.variables own shaped.arguments shaped.variables fits)
+        block_names = λ is own seen fits. block_reads h.types b accepted.automaton.constants (system_numbered x s h) c.program.arguments c.variables is own shaped.arguments shaped.variables seen fits;
+        block = λ is own seen fits. block_sorted b.schedule.variables site (own_first b.schedule.variables (inbox_shapes b.rules) (variable_shapes b.variables ++ parameter_shapes b.parameters) h.types.constants) (λ y t found. found_in_front y count names t found) (block_read c is own)
+            (block_shaped h.types b accepted.automaton.constants (system_numbered x s h) c.program.arguments c.variables is own shaped.arguments shaped.variables seen fits)
             (statements_of b.schedule.statements) (all_sorted site accepted.source.schedule.statements b.schedule.statements accepted.automaton.schedule.statements);
       }
 

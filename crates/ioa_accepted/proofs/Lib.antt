@@ -11,5 +11,7 @@ pub mod Runs
 pub mod Assigned
 pub mod Evaluated
 pub mod Received
+pub mod SeenInboxes
 pub mod BlockTurns
+pub mod InboxTerms
 pub mod RunBlocks

@@ -61,7 +61,7 @@ module _ (types : TypeTable) (names : NameShapes) where
       subst (λ (z : PlainShape). has_shape z m ≡ true) (sym h.0.1 ∙ same) l.0
 
   -- the first parameter, if it is no constant, has that shape
-  first_named : (us : List SourceParameter) (ps : List CheckedParameter) (ss : List PlainShape) (t : PlainShape) → AreParametersOf types names us ps ss → slice_get ss 0 ≡ Some t → (IsConstantAt ps 0 → ⊥) →
+  pub first_named : (us : List SourceParameter) (ps : List CheckedParameter) (ss : List PlainShape) (t : PlainShape) → AreParametersOf types names us ps ss → slice_get ss 0 ≡ Some t → (IsConstantAt ps 0 → ⊥) →
       (d : CheckedDeclared) × (slice_get ps 0 ≡ Some (named d)) × (t ≡ d.shape)
   first_named us ps [] t h e free = absurd (cc)
   first_named [] [] (s ∷ ss) t h e free = absurd h

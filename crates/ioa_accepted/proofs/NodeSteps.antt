@@ -1,5 +1,5 @@
 -- A step of a node keeps the shapes.
-use Rattle.std.proofs.Common.{◌≡◌, ℕ, Bool, true, false, List, [], ◌∷◌, ◌++◌, Some, refl, sym, subst, map, take, length, append_assoc}
+use Rattle.std.proofs.Common.{◌≡◌, ℕ, false, List, [], ◌∷◌, ◌++◌, Some, refl, sym, subst, map, take, length, append_assoc}
 use Rattle.std.specs.List.{AllByRecursion, AllZip, Contains, IsDistinct}
 use Rattle.std.proofs.lemmas.Slice.Eq.{bytes_eq-Decides}
 use Rattle.ioa_values.specs.Data.{Data}
@@ -19,6 +19,7 @@ use Rattle.ioa_names.specs.NameTables.{AreDistinct, words}
 use Rattle.ioa_types.specs.TextTypes.{PlainTextTypes}
 use Rattle.ioa_automata.specs.NamesInView.{parameter_shapes, variable_shapes, own_shapes}
 use Rattle.ioa_automata.specs.SortedAutomata.{IsRuleOf, names_at}
+use Rattle.ioa_check.proofs.Tests.{word_turned}
 use Rattle.ioa_check.specs.Systems.{IsSystemOf}
 use Rattle.ioa_transitions.specs.NodeState.{NodeState, node_state}
 use Rattle.ioa_transitions.specs.NodeStep.{IsOfSort, IsNodeStep, own_values, rule_bindings}
@@ -32,20 +33,9 @@ use Rattle.ioa_accepted.proofs.Accepted.{IsAcceptedProgram, each_related, is_acc
 abbrev IsNamed : NameShapes → CheckedVariable → Type 0
 IsNamed ns v = shape_named (Word v.declared.name) ns ≡ Some v.declared.shape
 
--- words that differ do so whichever comes first
-turned : (x y : List ℕ) → same_word x y ≡ false → same_word y x ≡ false
-turned x y h = by_test (same_word y x) refl
-  where
-    by_test : (b : Bool) → same_word y x ≡ b → same_word y x ≡ false
-    by_test true e =
-        let same : y ≡ x = (bytes_eq-Decides y x).0 e in
-        let other : same_word x y ≡ true = (bytes_eq-Decides x y).1 (sym same) in
-        absurd (cc)
-    by_test false e = e
-
 named_later : (w : List ℕ) (s : PlainShape) (vs : List CheckedVariable) (more ns : NameShapes) → AllByRecursion (λ y. same_word w y ≡ false) (words (variable_shapes vs ++ more)) → AllByRecursion (IsNamed ns) vs → AllByRecursion (IsNamed ((Word w, s) ∷ ns)) vs
 named_later w s [] more ns apart h = tt
-named_later w s (v ∷ vs) more ns apart h = (rw (turned w v.declared.name apart.0) h.0, named_later w s vs more ns apart.1 h.1)
+named_later w s (v ∷ vs) more ns apart h = (rw (word_turned w v.declared.name apart.0) h.0, named_later w s vs more ns apart.1 h.1)
 
 -- state variables whose names differ, in front of others
 named_in_front : (vs : List CheckedVariable) (more : NameShapes) → AreDistinct (variable_shapes vs ++ more) → AllByRecursion (IsNamed (variable_shapes vs ++ more)) vs

@@ -12,11 +12,12 @@ use Rattle.ioa_operators.specs.declared.fault.TermFault.TheVariants as term
 use Rattle.ioa_terms.specs.declared.name.Name.{Name}
 use Rattle.ioa_terms.specs.declared.name.Name.TheVariants.{Word}
 use Rattle.ioa_terms.specs.Bindings.{Bindings, constants_from}
+use Rattle.ioa_terms.specs.Inboxes.{PlainInboxes, inbox_values}
 use Rattle.ioa_actions.specs.ComponentOrder.{same_component}
 use Rattle.ioa_actions.specs.declared.component.Component.TheVariants as component
 use Rattle.ioa_source.specs.Sides.{CheckedVariable, SourceText}
-use Rattle.ioa_system.specs.InView.{block_bindings, parameter_names, variable_names}
-use Rattle.ioa_system.specs.Parts.{Parts}
+use Rattle.ioa_system.specs.InView.{block_bindings, inbox_words, parameter_names, variable_names}
+use Rattle.ioa_system.specs.Parts.{Parts, message_shape}
 use Rattle.ioa_system.specs.Systems.{SystemParts}
 use Rattle.ioa_sorts.proofs.Lookups.{contained_found, found_has}
 use Rattle.ioa_check.proofs.Declared.{declared_once}
@@ -34,13 +35,15 @@ use Rattle.ioa_compose.proofs.Starts.{start_state}
 use Rattle.ioa_record.specs.declared.ending.NodeFault.{NodeFault}
 use Rattle.ioa_record.specs.declared.ending.NodeFault.TheVariants.{Differs}
 use Rattle.ioa_schedules.specs.Turns.{TurnEnd, TurnResult, turn, turn_answer, turn_limit, numbers_met_by_turn}
+use Rattle.ioa_solo.specs.Inboxes.{inboxes_seen}
 use Rattle.ioa_solo.specs.NodeTurns.{PlainProgress, own_values, reached, block_turn, shows_program, turn_on, turn_at}
 use Rattle.ioa_solo.specs.Solo.{progress_at, rounds}
 use Rattle.ioa_solo.proofs.KeptByRuns.{AreKept, rounds_keep}
 use Rattle.ioa_accepted.specs.BlockStates.{IsBlockState, AreBlockStates}
-use Rattle.ioa_accepted.specs.Shaped.{FitsVariable, IsShapedNode, IsShapedConf, AreShaped}
-use Rattle.ioa_accepted.proofs.BlockTurns.{own_read, block_starts, block_turns, block_passes}
+use Rattle.ioa_accepted.specs.Shaped.{FitsVariable, FitInboxes, IsShapedNode, IsShapedConf, AreShaped}
+use Rattle.ioa_accepted.proofs.BlockTurns.{bindings_read, block_starts, block_turns, block_passes}
 use Rattle.ioa_accepted.proofs.Runs.{joint_shaped}
+use Rattle.ioa_accepted.proofs.SeenInboxes.{seen_fit}
 use Rattle.ioa_accepted.proofs.Starts.{all_contained, start_shaped}
 
 -- a value that passes the check is the value
@@ -71,13 +74,13 @@ same_length (x ∷ xs) (v ∷ vs) [] h g = absurd g
 same_length (x ∷ xs) (v ∷ vs) (w ∷ ws) h g = ap (λ n. suc n) (same_length xs vs ws h.1 g.1)
 
 -- so they are what a turn leaves them
-own_left : (p : Parts) (state own left : List Data) → AllZip FitsVariable p.automaton.schedule.variables own → AllZip FitsVariable p.automaton.schedule.variables left → own_values (length own) (block_bindings p.automaton p.arguments state left) ≡ left
-own_left p state own left f g =
+own_left : (p : Parts) (state inboxes own left : List Data) → AllZip FitsVariable p.automaton.schedule.variables own → AllZip FitsVariable p.automaton.schedule.variables left → own_values (length own) (block_bindings p.automaton p.arguments state inboxes left) ≡ left
+own_left p state inboxes own left f g =
     let xs = p.automaton.schedule.variables in
-    let ws = variable_names p.automaton.variables ++ parameter_names p.automaton.parameters in
-    let others = state ++ p.arguments in
+    let ws = inbox_words (message_shape p.automaton.rules) ++ (variable_names p.automaton.variables ++ parameter_names p.automaton.parameters) in
+    let others = inboxes ++ (state ++ p.arguments) in
     let constants = constants_from 0 p.automaton.constants in
-    ap (λ (e : Bindings). own_values (length own) e) (own_read xs left ws others constants g)
+    ap (λ (e : Bindings). own_values (length own) e) (bindings_read p state inboxes left g)
     ∙ (rw (same_length xs own left f g) (own_first_values xs left (zip (map Word ws) others ++ constants) g))
 
 module _ (x : SourceText) (s : SystemParts) (h : IsSystemOf x s) where
@@ -106,31 +109,31 @@ module _ (x : SourceText) (s : SystemParts) (h : IsSystemOf x s) where
       subst (λ (q : Parts). AllZip FitsVariable q.automaton.variables c.variables) same shaped.variables
 
   -- a turn of its block
-  block_turned : (cs : List Conf) (p : PlainProgress) (c : NodeState) (t : TurnEnd × PlainProgress) → AllZip FitsVariable p.program.automaton.variables c.variables → HoldsNode cs p → block_turn p c.variables ≡ Ok t → HoldsNode cs t.1
-  block_turned cs p c t fits n e = by_result (turn_answer p.todo turn_limit (block_bindings p.program.automaton p.program.arguments c.variables p.own)) refl e
+  block_turned : (cs : List Conf) (p : PlainProgress) (c : NodeState) (is : Option PlainInboxes) (t : TurnEnd × PlainProgress) → AllZip FitsVariable p.program.automaton.variables c.variables → FitInboxes (message_shape p.program.automaton.rules) (inbox_values is) → HoldsNode cs p → block_turn p is c.variables ≡ Ok t → HoldsNode cs t.1
+  block_turned cs p c is t fits seen n e = by_result (turn_answer p.todo turn_limit (block_bindings p.program.automaton p.program.arguments c.variables (inbox_values is) p.own)) refl e
     where
-      at_end : (r : TurnResult) → turn p.todo turn_limit (block_bindings p.program.automaton p.program.arguments c.variables p.own) ≡ Some r → HoldsNode cs (record p { todo = r.todo; own = own_values (length p.own) r.bindings })
+      at_end : (r : TurnResult) → turn p.todo turn_limit (block_bindings p.program.automaton p.program.arguments c.variables (inbox_values is) p.own) ≡ Some r → HoldsNode cs (record p { todo = r.todo; own = own_values (length p.own) r.bindings })
       at_end r e =
-          let left = block_turns p.program c.variables p.own p.todo turn_limit r fits n.block e in
-          let own : own_values (length p.own) r.bindings ≡ left.0 = ap (λ (b : Bindings). own_values (length p.own) b) left.1 ∙ own_left p.program c.variables p.own left.0 n.block.values left.2.values in
+          let left = block_turns p.program c.variables (inbox_values is) p.own p.todo turn_limit r fits seen n.block e in
+          let own : own_values (length p.own) r.bindings ≡ left.0 = ap (λ (b : Bindings). own_values (length p.own) b) left.1 ∙ own_left p.program c.variables (inbox_values is) p.own left.0 n.block.values left.2.values in
           record { present = n.present; block = subst (IsBlockState p.program r.todo) (sym own) left.2 }
 
-      by_result : (r : Result TurnResult TermFault) → turn_answer p.todo turn_limit (block_bindings p.program.automaton p.program.arguments c.variables p.own) ≡ r → reached p r ≡ Ok t → HoldsNode cs t.1
+      by_result : (r : Result TurnResult TermFault) → turn_answer p.todo turn_limit (block_bindings p.program.automaton p.program.arguments c.variables (inbox_values is) p.own) ≡ r → reached p r ≡ Ok t → HoldsNode cs t.1
       by_result (Ok r) e g =
           let same : (r.ending, record p { todo = r.todo; own = own_values (length p.own) r.bindings }) ≡ t = of_ok (reached p (Ok r)) (r.ending, record p { todo = r.todo; own = own_values (length p.own) r.bindings }) t refl g in
-          subst (λ (q : TurnEnd × PlainProgress). HoldsNode cs q.1) same (at_end r (of_checked (numbers_met_by_turn p.todo turn_limit (block_bindings p.program.automaton p.program.arguments c.variables p.own)) (turn p.todo turn_limit (block_bindings p.program.automaton p.program.arguments c.variables p.own)) r e))
+          subst (λ (q : TurnEnd × PlainProgress). HoldsNode cs q.1) same (at_end r (of_checked (numbers_met_by_turn p.todo turn_limit (block_bindings p.program.automaton p.program.arguments c.variables (inbox_values is) p.own)) (turn p.todo turn_limit (block_bindings p.program.automaton p.program.arguments c.variables (inbox_values is) p.own)) r e))
       by_result (Err f) e g = absurd (cc)
 
   turn_kept : (cs : List Conf) (p : PlainProgress) (t : TurnEnd × PlainProgress) → HoldsStates cs → HoldsNode cs p → turn_at cs p ≡ Ok t → HoldsNode cs t.1
   turn_kept cs p t k n e = by_conf (find_conf (component.Node p.program.node) cs) refl e
     where
-      by_conf : (o : Option Conf) → find_conf (component.Node p.program.node) cs ≡ o → turn_on p o ≡ Ok t → HoldsNode cs t.1
+      by_conf : (o : Option Conf) → find_conf (component.Node p.program.node) cs ≡ o → turn_on p (inboxes_seen p.program cs) o ≡ Ok t → HoldsNode cs t.1
       by_conf None found g = absurd (cc)
       by_conf (Some (Queue q)) found g = absurd (cc)
       by_conf (Some (Node c)) found g = by_program (shows_program p.program c) g
         where
-          by_program : (b : Bool) → (if b then block_turn p c.variables else Err Differs) ≡ Ok t → HoldsNode cs t.1
-          by_program true g = block_turned cs p c t (variables_fit cs p c k n found) n g
+          by_program : (b : Bool) → (if b then block_turn p (inboxes_seen p.program cs) c.variables else Err Differs) ≡ Ok t → HoldsNode cs t.1
+          by_program true g = block_turned cs p c (inboxes_seen p.program cs) t (variables_fit cs p c k n found) (seen_fit x s h p.program n.present cs k.shaped) n g
           by_program false g = absurd (cc)
 
   blocks_are_kept : AreKept HoldsStates HoldsNode

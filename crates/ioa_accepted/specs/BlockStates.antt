@@ -5,20 +5,21 @@ use Rattle.ioa_values.specs.Data.{Data}
 use Rattle.ioa_operators.specs.declared.shape.Shape.{Shape}
 use Rattle.ioa_terms.specs.PlainTerm.{PlainStatements}
 use Rattle.ioa_system.specs.InView.{block_bindings}
-use Rattle.ioa_system.specs.Parts.{Parts}
+use Rattle.ioa_system.specs.Parts.{Parts, message_shape}
 use Rattle.ioa_solo.specs.NodeTurns.{PlainProgress}
-use Rattle.ioa_accepted.specs.Shaped.{FitsVariable}
+use Rattle.ioa_accepted.specs.Shaped.{FitsVariable, FitInboxes}
 use Rattle.ioa_accepted.specs.WellSorted.{AreBlockWellSorted}
 
 -- a block that has these statements to do, and whose variables have these values: the values have the variables' shapes,
--- and the statements are well sorted, whatever values of their shapes the state variables and the block's own have when
--- they are taken
+-- and the statements are well sorted, whatever values of their shapes the state variables, the inboxes and the block's
+-- own have when they are taken
 pub record IsBlockState (p : Parts) (todo : PlainStatements ℕ Shape) (own : List Data) : Type 0 where
   pub values : AllZip FitsVariable p.automaton.schedule.variables own
-  pub sorted : (state later : List Data) → AllZip FitsVariable p.automaton.variables state
+  pub sorted : (state inboxes later : List Data) → AllZip FitsVariable p.automaton.variables state
+      → FitInboxes (message_shape p.automaton.rules) inboxes
       → AllZip FitsVariable p.automaton.schedule.variables later
       → AreBlockWellSorted p.automaton.schedule.variables p.automaton.rules todo
-      (block_bindings p.automaton p.arguments state later)
+      (block_bindings p.automaton p.arguments state inboxes later)
 
 -- each node of a run has its block in such a state
 abbrev pub AreBlockStates : List PlainProgress → Type 0

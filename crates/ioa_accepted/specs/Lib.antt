@@ -3,3 +3,4 @@ pub mod Shaped
 pub mod WellSorted
 pub mod Awaited
 pub mod BlockStates
+pub mod Inboxes

@@ -1,9 +1,9 @@
 -- When each value at a node has its declared shape, and each message under way the shape that its receiver takes
 -- (profile).
-use Rattle.std.specs.Prelude.{◌≡◌, ℤ, true, List, Some, slice_get}
+use Rattle.std.specs.Prelude.{◌≡◌, ℤ, true, List, [], ◌∷◌, Option, Some, None, slice_get}
 use Rattle.std.specs.List.{AllByRecursion, AllZip, Contains}
 use Rattle.ioa_values.specs.Data.{Data}
-use Rattle.ioa_operators.specs.Shapes.{has_shape}
+use Rattle.ioa_operators.specs.Shapes.{PlainShape, integers, sequences, maps, has_shape}
 use Rattle.ioa_actions.specs.ActionParts.{receive_name}
 use Rattle.ioa_actions.specs.declared.component.Component.{Component}
 use Rattle.ioa_actions.specs.declared.component.Component.TheVariants as component
@@ -27,6 +27,15 @@ FitsParameter p v = has_shape p.shape v ≡ true
 -- a value has the shape of a state variable
 abbrev pub FitsVariable : CheckedVariable → Data → Type 0
 FitsVariable x v = has_shape x.declared.shape v ≡ true
+
+-- the inboxes that a block sees have their shape: a map from the numbers of nodes to sequences of messages of the shape
+-- that the automaton takes; where it takes none, the block sees none
+abbrev pub FitInboxes : Option PlainShape → List Data → Type 0
+FitInboxes None [] = Unit {0}
+FitInboxes None (d ∷ ds) = ⊥
+FitInboxes (Some s) [] = ⊥
+FitInboxes (Some s) (d ∷ []) = has_shape (maps integers (sequences s)) d ≡ true
+FitInboxes (Some s) (d ∷ e ∷ ds) = ⊥
 
 -- a configuration of a node of a system: its program is one of the system's, and each parameter and each state variable
 -- of its automaton has a value of the declared shape

@@ -18,8 +18,8 @@ use Rattle.ioa_actions.specs.declared.action.Action.{Action}
 use Rattle.ioa_source.specs.Sides.{CheckedFiring, CheckedTerm, CheckedVariable}
 use Rattle.ioa_system.specs.InView.{Site, entry_constant, entry_condition, guard_or_effect, block_statement}
 use Rattle.ioa_system.specs.InView.{block_bindings, declared_names, given_bindings, names_at, own_names}
-use Rattle.ioa_system.specs.InView.{variable_names}
-use Rattle.ioa_system.specs.Parts.{PlainRule}
+use Rattle.ioa_system.specs.InView.{block_own_names}
+use Rattle.ioa_system.specs.Parts.{PlainRule, message_shape}
 use Rattle.ioa_system.specs.ResolvedPrograms.{IsResolvedAutomaton}
 use Rattle.ioa_automata.specs.NamesInView.{variable_shapes}
 use Rattle.ioa_check.specs.Systems.{HasValue}
@@ -27,7 +27,7 @@ use Rattle.ioa_transitions.specs.NodeState.{NodeState}
 use Rattle.ioa_transitions.specs.NodeStep.{IsOfSort, rule_bindings}
 use Rattle.ioa_compose.specs.declared.configuration.Conf.{Conf}
 use Rattle.ioa_compose.specs.declared.configuration.Conf.TheVariants.{Node, Queue}
-use Rattle.ioa_accepted.specs.Shaped.{FitsVariable}
+use Rattle.ioa_accepted.specs.Shaped.{FitsVariable, FitInboxes}
 
 -- a value, if there is one, has a shape
 abbrev pub IsOfShape : PlainShape → Option Data → Type 0
@@ -67,9 +67,9 @@ pub record IsRuleWellSorted (c : NodeState) (a : Action) (r : PlainRule) : Type 
   pub guard : IsTruthValued r.transition.pre (rule_bindings guard_or_effect r a c)
   pub effect : AreWellSorted (statements_of r.transition.effect) (rule_bindings guard_or_effect r a c)
 
--- what the schedule block of a node reads, if its own variables have these values
-abbrev pub block_read : NodeState → List Data → Bindings
-block_read c own = block_bindings c.program.automaton c.program.arguments c.variables own
+-- what the schedule block of a node reads, if it sees these inboxes, and its own variables have these values
+abbrev pub block_read : NodeState → (inboxes own : List Data) → Bindings
+block_read c inboxes own = block_bindings c.program.automaton c.program.arguments c.variables inboxes own
 
 -- a firing is of one of these rules, and has an argument for each of the rule's; its value, if it has one, has the shape
 -- of the rule's argument, in which naturals count as integers
@@ -124,14 +124,16 @@ pub record IsNodeWellSorted (c : NodeState) : Type 0 where
   pub rules : (a : Action) (r : PlainRule) → Contains c.program.automaton.rules r
       → AllZip IsOfSort r.entry.parameters (action_arguments a) → IsRuleWellSorted c a r
   -- the variables of the schedule block have first values of their shapes; whatever values of their shapes they have
-  -- later, its names are those in view, and its statements are well sorted
+  -- later, and whatever inboxes are seen, its names are those in view, and its statements are well sorted
   pub block_starts : AllZip FitsVariable c.program.automaton.schedule.variables c.program.block
-  pub block_names : (own : List Data) → AllZip FitsVariable c.program.automaton.schedule.variables own
-      → names_of (block_read c own) ≡ names_at block_statement (declared_names c.program.automaton)
-      (variable_names c.program.automaton.schedule.variables)
-  pub block : (own : List Data) → AllZip FitsVariable c.program.automaton.schedule.variables own
+  pub block_names : (inboxes own : List Data) → FitInboxes (message_shape c.program.automaton.rules) inboxes
+      → AllZip FitsVariable c.program.automaton.schedule.variables own
+      → names_of (block_read c inboxes own) ≡ names_at block_statement (declared_names c.program.automaton)
+      (block_own_names c.program.automaton)
+  pub block : (inboxes own : List Data) → FitInboxes (message_shape c.program.automaton.rules) inboxes
+      → AllZip FitsVariable c.program.automaton.schedule.variables own
       → AreBlockWellSorted c.program.automaton.schedule.variables c.program.automaton.rules
-      (statements_of c.program.automaton.schedule.statements) (block_read c own)
+      (statements_of c.program.automaton.schedule.statements) (block_read c inboxes own)
 
 -- the same of each node among configurations
 abbrev pub IsConfWellSorted : Conf → Type 0

@@ -1,15 +1,17 @@
 //! Laws of systems that the check accepted: what functions ensure that do nothing.
 
-ghost use Rattle.std.specs.Prelude.{◌≡◌, ℕ, List, [], Some, map};
+ghost use Rattle.std.specs.Prelude.{◌≡◌, true, ℕ, ℤ, List, [], Some, is_some, map};
 ghost use Rattle.std.specs.List.{AllZip, Contains};
 ghost use Rattle.ioa_actions.specs.declared.action.Action.{Action};
-ghost use Rattle.ioa_values.specs.Data.{Data};
+ghost use Rattle.ioa_values.specs.Data.{Data, number};
 ghost use Rattle.ioa_operators.specs.declared.shape.Shape.{Shape};
-ghost use Rattle.ioa_terms.specs.PlainTerm.{PlainStatements, statements_of};
+ghost use Rattle.ioa_terms.specs.Inboxes.{inbox_values};
+ghost use Rattle.ioa_terms.specs.Meaning.{value};
+ghost use Rattle.ioa_terms.specs.PlainTerm.{PlainStatements, PlainTerm, statements_of};
 ghost use Rattle.ioa_schedules.specs.Turns.{TurnResult, following_statements, turn};
 ghost use Rattle.ioa_source.specs.Sides.{SourceText};
 ghost use Rattle.ioa_system.specs.InView.{block_bindings};
-ghost use Rattle.ioa_system.specs.Parts.{Parts};
+ghost use Rattle.ioa_system.specs.Parts.{Parts, message_shape};
 ghost use Rattle.ioa_system.specs.Systems.{SystemParts};
 ghost use Rattle.ioa_check.specs.Systems.{IsSystemOf};
 ghost use Rattle.ioa_compose.specs.Automata.{IsExecution};
@@ -21,9 +23,11 @@ ghost use Rattle.ioa_compose.specs.Start.{start};
 ghost use Rattle.ioa_compose.specs.Steps.{IsStep};
 ghost use Rattle.ioa_compose.specs.declared.configuration.Conf.{Conf};
 ghost use Rattle.ioa_accepted.specs.Awaited.{AreMessagesAwaited};
+ghost use Rattle.ioa_solo.specs.Inboxes.{inboxes_seen};
 ghost use Rattle.ioa_solo.specs.Solo.{progress_at, rounds};
 ghost use Rattle.ioa_accepted.specs.BlockStates.{AreBlockStates, IsBlockState};
-ghost use Rattle.ioa_accepted.specs.Shaped.{FitsVariable, IsShapedNode, AreShaped};
+ghost use Rattle.ioa_accepted.specs.Inboxes.{block_reads, channel_messages, inbox_term};
+ghost use Rattle.ioa_accepted.specs.Shaped.{FitsVariable, FitInboxes, IsShapedNode, AreShaped};
 ghost use Rattle.ioa_accepted.specs.WellSorted.{IsNodeWellSorted, AreConfsWellSorted};
 
 /// At the start of an accepted system each value at a node has its declared shape. A step of a node keeps the shapes,
@@ -60,18 +64,36 @@ pub fn receive_law()
 {}
 
 /// The variables of a schedule block keep the shapes of their sorts (profile). At the start of an accepted system they
-/// have values of these shapes, and the block is well sorted. A turn that meets no fault leaves such values, and what is
-/// to do then is well sorted; so it is behind a `fire`. So it is with each node after each round of a run by one worker:
-/// whatever a block tests, assigns and fires in any turn has its sort, but for negative numbers.
+/// have values of these shapes, and the block is well sorted. The inboxes that it sees have their shape as long as the
+/// configurations have theirs. A turn that meets no fault leaves such values, and what is to do then is well sorted; so
+/// it is behind a `fire`. So it is with each node after each round of a run by one worker: whatever a block tests,
+/// assigns and fires in any turn has its sort, but for negative numbers.
 pub fn block_law()
     ensures start { (x : SourceText) (s : SystemParts) (p : Parts) → IsSystemOf x s → Contains s.programs p →
         IsBlockState p (statements_of p.automaton.schedule.statements) p.block }
-    ensures turn { (p : Parts) (state own : List Data) (todo : PlainStatements ℕ Shape) (n : ℕ) (r : TurnResult) →
-        AllZip FitsVariable p.automaton.variables state → IsBlockState p todo own →
-        turn todo n (block_bindings p.automaton p.arguments state own) ≡ Some r → (left : List Data)
-        × (r.bindings ≡ block_bindings p.automaton p.arguments state left) × IsBlockState p r.todo left }
+    ensures inboxes { (x : SourceText) (s : SystemParts) (p : Parts) (cs : List Conf) →
+        IsSystemOf x s → Contains s.programs p → AreShaped s cs →
+        FitInboxes (message_shape p.automaton.rules) (inbox_values (inboxes_seen p cs)) }
+    ensures turn { (p : Parts) (state inboxes own : List Data) (todo : PlainStatements ℕ Shape) (n : ℕ)
+        (r : TurnResult) → AllZip FitsVariable p.automaton.variables state →
+        FitInboxes (message_shape p.automaton.rules) inboxes → IsBlockState p todo own →
+        turn todo n (block_bindings p.automaton p.arguments state inboxes own) ≡ Some r → (left : List Data)
+        × (r.bindings ≡ block_bindings p.automaton p.arguments state inboxes left) × IsBlockState p r.todo left }
     ensures passed { (p : Parts) (todo : PlainStatements ℕ Shape) (own : List Data) →
         IsBlockState p todo own → IsBlockState p (following_statements todo) own }
     ensures rounds { (x : SourceText) (s : SystemParts) (attempts limit n : ℕ) → IsSystemOf x s → AreBlockStates
         (rounds limit n (record { schedule = []; states = start s }) (map (progress_at attempts) s.programs)).1 }
+{}
+
+/// What `inbox(t)` is in the schedule block of a node (profile), if the node's automaton takes messages and t is the
+/// number i: the sequence of the messages that wait on the channel from node i to the node, from the first to be taken
+/// to the last (Lynch 14.1). If there is no such channel, it has no value. So it is whatever values the state variables
+/// have, and whatever values of their shapes the block's own have.
+pub fn inbox_term_law()
+    ensures value { (x : SourceText) (s : SystemParts) (p : Parts) (cs : List Conf) (state own : List Data)
+        (t : PlainTerm ℕ Shape) (i : ℤ) → IsSystemOf x s → Contains s.programs p → AreShaped s cs →
+        AllZip FitsVariable p.automaton.schedule.variables own →
+        is_some (message_shape p.automaton.rules) ≡ true →
+        value t (block_reads p cs state own) ≡ Some (number i) →
+        value (inbox_term t) (block_reads p cs state own) ≡ channel_messages i p.node cs }
 {}

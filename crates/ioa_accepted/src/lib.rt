@@ -3,4 +3,4 @@
 
 mod laws;
 
-pub use laws::{block_law, receive_law, shapes_kept_law, well_sorted_law};
+pub use laws::{block_law, inbox_term_law, receive_law, shapes_kept_law, well_sorted_law};

@@ -1,7 +1,7 @@
 -- The names in view in a schedule block: in which order they are, and that they differ.
 use Rattle.std.proofs.Common.{◌≡◌, ◌+◌, ℕ, false, List, [], ◌∷◌, ◌++◌, Result, Ok, refl, sym, ap, subst, ◌∙◌, length, take}
 use Rattle.std.specs.List.{AllByRecursion, IsDistinct}
-use Rattle.std.proofs.lemmas.List.{append_assoc, length-map}
+use Rattle.std.proofs.lemmas.List.{append_assoc}
 use Rattle.ioa_values.proofs.AllOf.{all_appended, all_parts}
 use Rattle.ioa_terms.specs.declared.name.Name.TheVariants.{Word}
 use Rattle.ioa_terms.specs.Bindings.{same_word}
@@ -13,7 +13,7 @@ use Rattle.ioa_sorts.specs.StatementSites.{block_site}
 use Rattle.ioa_sorts.proofs.Lookups.{same_turned}
 use Rattle.ioa_names.specs.NameTables.{AreDistinct, words}
 use Rattle.ioa_names.proofs.Names.{all_found, first_differ, new_found}
-use Rattle.ioa_automata.specs.NamesInView.{shape_declared, parameter_shapes, variable_shapes, block_names_or}
+use Rattle.ioa_automata.specs.NamesInView.{parameter_shapes, variable_shapes, inbox_shapes, block_own_shapes, block_names_or}
 use Rattle.ioa_automata.specs.Rules.{PlainSurroundings}
 use Rattle.ioa_automata.specs.Schedules.{site_in}
 use Rattle.ioa_automata.specs.SortedAutomata.{block_names, block_of}
@@ -49,18 +49,19 @@ names_swapped xs ys zs d =
     subst (IsDistinct same_word) (sym (words_of_three ys xs zs)) (words_swapped (words xs) (words ys) (words zs) (subst (IsDistinct same_word) (words_of_three xs ys zs) d))
 
 -- the site of a block, with its names in the order of the slots
-pub site_same : (s : PlainSurroundings) (ps : List CheckedDeclared) (vs own : List CheckedVariable) (n : NameShapes) (rs : List PlainRule) → s.outer ≡ variable_shapes vs ++ parameter_shapes ps → s.variables ≡ length vs → n ≡ variable_shapes own →
-    site_in s n rs ≡ block_of (block_names s.constants ps vs own) vs own rs
+pub site_same : (s : PlainSurroundings) (ps : List CheckedDeclared) (vs own : List CheckedVariable) (n : NameShapes) (rs : List PlainRule) → s.outer ≡ variable_shapes vs ++ parameter_shapes ps → s.variables ≡ length vs → n ≡ block_own_shapes own rs →
+    site_in s n (length own) rs ≡ block_of (block_names s.constants ps vs own rs) vs own rs
 site_same s ps vs own n rs outer many same =
-    let count : length n ≡ length own = ap (λ (ns : NameShapes). length ns) same ∙ length-map own (λ (v : CheckedVariable). shape_declared v.declared) in
-    let view : n ++ (s.outer ++ s.constants) ≡ block_names s.constants ps vs own =
-    (λ i. same i ++ (outer i ++ s.constants)) ∙ sym (append_assoc (variable_shapes own) (variable_shapes vs ++ parameter_shapes ps) s.constants) in
-    λ i. block_site (take (count i) (view i)) (take (count i + many i) (view i)) (view i) rs
+    let view : n ++ (s.outer ++ s.constants) ≡ block_names s.constants ps vs own rs =
+    (λ i. same i ++ (outer i ++ s.constants)) ∙ sym (append_assoc (block_own_shapes own rs) (variable_shapes vs ++ parameter_shapes ps) s.constants) in
+    λ i. block_site (take (length own) (view i)) (take (length (same i) + many i) (view i)) (view i) rs
 
 abbrev names_are : NameShapes → Result NameShapes Refusal
 names_are n = Ok n
 
 -- names of a block that differ are found
-pub block_found : (outer constants : NameShapes) (own : List CheckedVariable) → AreDistinct (variable_shapes own ++ (outer ++ constants)) → names_are (variable_shapes own) ≡ block_names_or outer constants own
-block_found outer constants own d =
-    rw (← all_found [] (variable_shapes own) (first_differ (variable_shapes own) (outer ++ constants) d)) (new_found outer constants (variable_shapes own) (names_swapped (variable_shapes own) outer constants d))
+pub block_found : (outer constants : NameShapes) (own : List CheckedVariable) (rs : List PlainRule) → AreDistinct (block_own_shapes own rs ++ (outer ++ constants)) → names_are (block_own_shapes own rs) ≡ block_names_or outer constants own rs
+block_found outer constants own rs d =
+    let names = block_own_shapes own rs in
+    let both = first_differ names (outer ++ constants) d in
+    rw (← all_found [] (variable_shapes own) (first_differ (variable_shapes own) (inbox_shapes rs) both), ← all_found (variable_shapes own) (inbox_shapes rs) both) (new_found outer constants names (names_swapped names outer constants d))

@@ -10,14 +10,14 @@ use Rattle.ioa_terms.specs.Sorted.{NameShapes}
 use Rattle.ioa_source.specs.PlainText.{const, named}
 use Rattle.ioa_source.specs.Sides.{SourceTerm, SourceParameter, SourceEntry, SourceVariable, SourceTransition, SourceStatement, SourceSchedule, SourceAutomaton, CheckedDeclared, CheckedParameter, CheckedTerm, CheckedVariable, CheckedSchedule, CheckedStatement}
 use Rattle.ioa_system.specs.InView as view
-use Rattle.ioa_system.specs.InView.{Site, in_view, entry_constant, initial_value, entry_condition, guard_or_effect, block_statement, parameter_names, variable_names, own_names, DeclaredNames, scope_at}
-use Rattle.ioa_system.specs.Parts.{AutomatonParts, PlainRule, automaton_parts}
+use Rattle.ioa_system.specs.InView.{Site, in_view, entry_constant, initial_value, entry_condition, guard_or_effect, block_statement, parameter_names, variable_names, own_names, inbox_words, DeclaredNames, scope_at}
+use Rattle.ioa_system.specs.Parts.{AutomatonParts, PlainRule, automaton_parts, message_shape}
 use Rattle.ioa_system.specs.ResolvedPrograms.{IsResolvedParameter, AreResolvedParameters, IsResolvedGuard, IsResolvedRule, IsResolvedSchedule, AreResolvedVariables, IsResolvedAutomaton}
 use Rattle.ioa_sorts.specs.SortedStatements.{IsStatementOf}
 use Rattle.ioa_sorts.specs.StatementSites.{PlainStatementSite, effect_site}
 use Rattle.ioa_names.specs.NameTables.{words}
 use Rattle.ioa_types.specs.TextTypes.{PlainTextTypes}
-use Rattle.ioa_automata.specs.NamesInView.{parameter_shapes, variable_shapes, own_shapes}
+use Rattle.ioa_automata.specs.NamesInView.{parameter_shapes, variable_shapes, own_shapes, inbox_shapes_of, inbox_shapes, block_own_shapes}
 use Rattle.ioa_automata.proofs.BlockNames.{words_behind}
 use Rattle.ioa_automata.specs.SortedAutomata.{IsVariableOf, IsInitialOf, IsConditionOf, AreParametersOf, IsRuleOf, IsScheduleOf, block_names, block_of, IsAutomatonOf, names_at}
 
@@ -45,6 +45,10 @@ site_words initial_value ps vs own = refl
 site_words entry_condition ps vs own = words_behind ps own
 site_words guard_or_effect ps vs own = words_behind vs (ps ++ own) ∙ ap (λ ws. words vs ++ ws) (words_behind ps own)
 site_words block_statement ps vs own = words_behind own (vs ++ ps) ∙ ap (λ ws. words own ++ ws) (words_behind vs ps)
+
+inboxes_named : (o : Option PlainShape) → words (inbox_shapes_of o) ≡ inbox_words o
+inboxes_named None = refl
+inboxes_named (Some s) = refl
 
 -- what holds of all holds at each position
 all_each : {A : Type 0} (P : A → Type 0) (xs : List A) → AllByRecursion P xs → All P xs
@@ -140,22 +144,25 @@ module _ (t : PlainTextTypes) (ps : List CheckedDeclared) (vs : List CheckedVari
   variables_resolved (u ∷ us) (c ∷ cs) h = (initial_resolved c.declared.shape u.initial c.initial h.0.initial, variables_resolved us cs h.1)
 
   -- the schedule block
-  pub block_words : (own : List CheckedVariable) → words (in_view block_statement (parameter_shapes ps) (variable_shapes vs) (variable_shapes own)) ≡ scope_at block_statement declared (variable_names own)
-  block_words own =
-      site_words block_statement (parameter_shapes ps) (variable_shapes vs) (variable_shapes own) ∙ (λ i. in_view block_statement (parameter_words ps i) (variable_words vs i) (variable_words own i))
+  first_words : (own : List CheckedVariable) (rs : List PlainRule) → words (block_own_shapes own rs) ≡ variable_names own ++ inbox_words (message_shape rs)
+  first_words own rs = words_behind (variable_shapes own) (inbox_shapes rs) ∙ (λ i. variable_words own i ++ inboxes_named (message_shape rs) i)
 
-  block_read_names : (own : List CheckedVariable) → map (λ n. n.0) (block_names t.constants ps vs own) ≡ view.names_at block_statement declared (variable_names own)
-  block_read_names own =
-      keys_are (block_names t.constants ps vs own) ∙ ap (map Word) (words_behind (in_view block_statement (parameter_shapes ps) (variable_shapes vs) (variable_shapes own)) t.constants ∙ ap (λ ws. ws ++ words t.constants) (block_words own))
+  pub block_words : (own : List CheckedVariable) (rs : List PlainRule) → words (in_view block_statement (parameter_shapes ps) (variable_shapes vs) (block_own_shapes own rs)) ≡ scope_at block_statement declared (variable_names own ++ inbox_words (message_shape rs))
+  block_words own rs =
+      site_words block_statement (parameter_shapes ps) (variable_shapes vs) (block_own_shapes own rs) ∙ (λ i. in_view block_statement (parameter_words ps i) (variable_words vs i) (first_words own rs i))
 
-  schedule_resolved : (rs : List PlainRule) (s : SourceSchedule) (c : CheckedSchedule) → IsScheduleOf t ps vs rs s c → IsResolvedSchedule declared c
+  block_read_names : (own : List CheckedVariable) (rs : List PlainRule) → map (λ n. n.0) (block_names t.constants ps vs own rs) ≡ view.names_at block_statement declared (variable_names own ++ inbox_words (message_shape rs))
+  block_read_names own rs =
+      keys_are (block_names t.constants ps vs own rs) ∙ ap (map Word) (words_behind (in_view block_statement (parameter_shapes ps) (variable_shapes vs) (block_own_shapes own rs)) t.constants ∙ ap (λ ws. ws ++ words t.constants) (block_words own rs))
+
+  schedule_resolved : (rs : List PlainRule) (s : SourceSchedule) (c : CheckedSchedule) → IsScheduleOf t ps vs rs s c → IsResolvedSchedule declared (variable_names c.variables ++ inbox_words (message_shape rs)) c
   schedule_resolved rs s c h =
       let own = c.variables in
-      let names = block_names t.constants ps vs own in
-      let whole = append_assoc (variable_shapes own) (variable_shapes vs ++ parameter_shapes ps) t.constants in
+      let names = block_names t.constants ps vs own rs in
+      let whole = append_assoc (block_own_shapes own rs) (variable_shapes vs ++ parameter_shapes ps) t.constants ∙ append_assoc (variable_shapes own) (inbox_shapes rs) ((variable_shapes vs ++ parameter_shapes ps) ++ t.constants) in
       record {
         initials = variables_resolved s.variables own h.variables;
-        statements = statements_resolved (block_of names vs own rs) (map Word (variable_names own)) (view.names_at block_statement declared (variable_names own)) (assigned_names own names ((variable_shapes vs ++ parameter_shapes ps) ++ t.constants) whole) (block_read_names own) s.statements c.statements h.statements;
+        statements = statements_resolved (block_of names vs own rs) (map Word (variable_names own)) (view.names_at block_statement declared (variable_names own ++ inbox_words (message_shape rs))) (assigned_names own names (inbox_shapes rs ++ ((variable_shapes vs ++ parameter_shapes ps) ++ t.constants)) whole) (block_read_names own rs) s.statements c.statements h.statements;
       }
 
 pub automaton_compiled : (t : PlainTextTypes) (a : SourceAutomaton) (c : AutomatonParts) → IsAutomatonOf t a c → IsResolvedAutomaton c

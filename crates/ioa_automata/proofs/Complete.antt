@@ -27,7 +27,7 @@ use Rattle.ioa_types.specs.TypeTables.{TypeTable}
 use Rattle.ioa_types.proofs.TypeDeclarations.{differ_new}
 use Rattle.ioa_types.proofs.Meant.{sort_found}
 use Rattle.ioa_names.proofs.Names.{all_found, first_differ, new_found, second_differ}
-use Rattle.ioa_automata.specs.NamesInView.{parameter_shapes, variable_shapes, own_shapes, given_names_or, outer_names_or, own_names_or}
+use Rattle.ioa_automata.specs.NamesInView.{block_own_shapes, parameter_shapes, variable_shapes, own_shapes, given_names_or, outer_names_or, own_names_or}
 use Rattle.ioa_automata.specs.Parts.{declared_at, all_declared_at, own_or, infer_own, own_term, condition_at, initial_at, variable_at, variables_at, sorted_parameter, parameter_at, sorted_parameters, parameters_at, where_at, PlainSortedEntry, entry_at, transition_at}
 use Rattle.ioa_automata.specs.Rules.{transition_for, transition_or, may_have_name, message_at, PlainSurroundings, rule_of, rule_at, rules_at, has_entry, names_or, have_entries}
 use Rattle.ioa_automata.specs.Automata.{PlainHeading, heading_at, actions_at, automaton_at}
@@ -267,11 +267,12 @@ module _ (t : PlainTextTypes) (a : SourceAutomaton) (c : AutomatonParts) (h : Is
   schedule_found =
       let outer = variable_shapes c.variables ++ parameter_shapes c.parameters in
       let own = c.schedule.variables in
-      let names = subst AreDistinct (append_assoc (variable_shapes own) outer t.constants) h.schedule.names in
-      let site = site_same (surroundings t heading) c.parameters c.variables own (variable_shapes own) c.rules refl refl refl in
+      let first = block_own_shapes own c.rules in
+      let names = subst AreDistinct (append_assoc first outer t.constants) h.schedule.names in
+      let site = site_same (surroundings t heading) c.parameters c.variables own first c.rules refl refl refl in
       let found = subst (λ (x : PlainStatementSite). results_are c.schedule.statements ≡ all_ok (statement_sortings x (statements_of a.schedule.statements))) (sym site)
-      (statements_found (block_of (block_names t.constants c.parameters c.variables own) c.variables own c.rules) rules_differ a.schedule.statements c.schedule.statements h.schedule.statements) in
-      rw (← variables_found t.types (parameter_shapes c.parameters ++ t.constants) a.schedule.variables own h.schedule.variables, ← block_found outer t.constants own names, ← found) refl
+      (statements_found (block_of (block_names t.constants c.parameters c.variables own c.rules) c.variables own c.rules) rules_differ a.schedule.statements c.schedule.statements h.schedule.statements) in
+      rw (← variables_found t.types (parameter_shapes c.parameters ++ t.constants) a.schedule.variables own h.schedule.variables, ← block_found outer t.constants own c.rules names, ← found) refl
 
   pub automaton_found : result_is c ≡ automaton_at t a
   automaton_found =

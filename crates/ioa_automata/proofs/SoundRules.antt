@@ -1,7 +1,7 @@
 -- What is made of an automaton.
 use Rattle.std.proofs.Common.{◌≡◌, ◌&&◌, ℕ, zero, suc, Bool, true, false, List, [], ◌∷◌, ◌++◌, Option, Some, None, Err, refl, sym, ap, subst, ◌∙◌, map, length, take, if◌then◌else◌}
-use Rattle.std.specs.List.{AllByRecursion, AllZip, IsDistinct, list_all}
-use Rattle.std.specs.Option.{is_some}
+use Rattle.std.specs.List.{AllByRecursion, AllZip, IsDistinct, list_all, slice_get}
+use Rattle.std.specs.Option.{IfSome, is_some, option_and_then}
 use Rattle.std.proofs.lemmas.List.{append_assoc}
 use lib.Pointwise.{pointwise}
 use Rattle.ioa_values.specs.Outcome.{and_then}
@@ -9,25 +9,27 @@ use Rattle.ioa_values.proofs.AllOf.{all_appended}
 use Rattle.ioa_operators.specs.Shapes.{PlainShape}
 use Rattle.ioa_terms.specs.declared.tree.Kind.TheVariants.{Input}
 use Rattle.ioa_terms.proofs.SameTerms.{kind_is}
+use Rattle.ioa_actions.specs.ActionParts.{receive_name}
+use Rattle.ioa_terms.specs.Bindings.{same_word}
 use Rattle.ioa_terms.specs.SameTerms.{same_kind}
 use Rattle.ioa_terms.specs.Sorted.{NameShapes}
 use Rattle.ioa_source.specs.PlainText.{const, named}
 use Rattle.ioa_source.specs.Sides.{SourceDeclared, SourceParameter, SourceEntry, SourceVariable, SourceTransition, SourceSchedule, SourceAutomaton, CheckedDeclared, CheckedParameter, CheckedVariable, CheckedSchedule}
 use Rattle.ioa_system.specs.InView.{entry_condition, guard_or_effect}
-use Rattle.ioa_system.specs.Parts.{AutomatonParts, PlainRule}
+use Rattle.ioa_system.specs.Parts.{AutomatonParts, PlainRule, rule_named, message_shape}
 use Rattle.ioa_sort_rules.specs.DeclaredTypes.{IsDeclared, AreAllDeclared}
 use Rattle.ioa_sort_rules.specs.declared.refusal.Refusal.TheVariants.{Unknown, InputPre, BadArgument}
 use Rattle.ioa_types.specs.Meanings.{tuple_types, AreTextTypes}
 use Rattle.ioa_names.specs.NameTables.{AreDistinct, new_or, with_names}
 use Rattle.ioa_types.specs.TextTypes.{PlainTextTypes}
 use Rattle.ioa_names.proofs.Names.{all_behind, all_differ, new_differ_between, second_differ}
-use Rattle.ioa_automata.specs.NamesInView.{parameter_shapes, variable_shapes, own_shapes, given_names_or, outer_names_or, own_names_or, block_names_or}
+use Rattle.ioa_automata.specs.NamesInView.{parameter_shapes, variable_shapes, own_shapes, given_names_or, outer_names_or, own_names_or, inbox_shapes_of, inbox_shapes, block_own_shapes, block_names_or}
 use Rattle.ioa_automata.specs.Parts.{PlainSortedEntry, sorted_entry, parameters_at, where_at, entry_at, transition_at, all_declared_at, variables_at}
 use Rattle.ioa_automata.specs.Rules.{repeats, transition_for, transition_or, may_have_name, message_at, sorted_rule, PlainSurroundings, rule_of, rule_at, rules_at, names_or, entry_for, has_entry, have_entries}
 use Rattle.ioa_automata.specs.Automata.{PlainBody, PlainHeading, heading_at, surroundings, actions_at, body_at, sorted_automaton, automaton_at}
 use Rattle.ioa_automata.specs.SortedAutomata.{IsDeclaredOf, IsVariableOf, IsConditionOf, AreParametersOf, IsTransitionOf, IsRuleOf, IsScheduleOf, block_names, block_of, HasItsEntry, IsAutomatonOf, names_at}
 use Rattle.ioa_automata.proofs.Loops.{results_are}
-use Rattle.ioa_sorts.proofs.Lookups.{found_is}
+use Rattle.ioa_sorts.proofs.Lookups.{found_has, found_is}
 use Rattle.ioa_sorts.specs.StatementSites.{PlainStatementSite}
 use Rattle.ioa_sorts.specs.Statements.{all_ok, statement_sortings}
 use Rattle.ioa_terms.specs.PlainTerm.{statements_of}
@@ -108,6 +110,18 @@ all_taken : {A : Type 0} (P : A → Type 0) (k : ℕ) (xs : List A) → AllByRec
 all_taken P zero xs h = tt
 all_taken P (suc k) [] h = tt
 all_taken P (suc k) (x ∷ xs) h = (h.0, all_taken P k xs h.1)
+
+-- what all shapes of rules have, that of the messages has
+message_has : (P : PlainShape → Type 0) (rs : List PlainRule) → AllByRecursion (λ r. AllByRecursion P r.shapes) rs → IfSome (message_shape rs) P
+message_has P rs h = by_rule (rule_named receive_name rs) refl
+  where
+    first : (ss : List PlainShape) → AllByRecursion P ss → IfSome (slice_get ss 0) P
+    first [] k = tt
+    first (s ∷ ss) k = k.0
+
+    by_rule : (o : Option PlainRule) → rule_named receive_name rs ≡ o → IfSome (option_and_then (λ r. slice_get r.shapes 0) o) P
+    by_rule None e = tt
+    by_rule (Some r) e = first r.shapes (found_has (λ q. AllByRecursion P q.shapes) (λ q. same_word q.entry.name receive_name) rs r h e)
 
 module _ (t : PlainTextTypes) (text : AreTextTypes t) where
   abbrev IsKept : PlainShape → Type 0
@@ -307,6 +321,11 @@ module _ (t : PlainTextTypes) (text : AreTextTypes t) where
   abbrev body_is : List PlainRule → CheckedSchedule → PlainBody
   body_is rs b = record { rules = rs; schedule = b }
 
+  -- the tuple types in the shape of the inboxes are declared, if those of the rules are
+  inboxes_kept : (o : Option PlainShape) → IfSome o IsKept → AreKept (inbox_shapes_of o)
+  inboxes_kept None k = tt
+  inboxes_kept (Some s) k = ((tt, k), tt)
+
   -- the schedule block
   schedule_sound : (ps : List CheckedDeclared) (vs : List CheckedVariable) → AreKept (parameter_shapes ps) → AreKept (variable_shapes vs) → AreDistinct ((variable_shapes vs ++ parameter_shapes ps) ++ t.constants) →
       (rs : List PlainRule) → AllByRecursion (λ r. AllByRecursion IsKept r.shapes) rs → (b : SourceSchedule) (c : CheckedSchedule) → schedule_at (around ps vs) rs b ≡ result_is c → IsScheduleOf t ps vs rs b c
@@ -315,19 +334,23 @@ module _ (t : PlainTextTypes) (text : AreTextTypes t) where
       let given = parameter_shapes ps ++ t.constants in
       let outer = variable_shapes vs ++ parameter_shapes ps in
       let s = around ps vs in
-      let one = first_of (variables_at t.types given b.variables) (λ ws. and_then (block_names_or outer t.constants ws) (λ n. and_then (all_ok (statement_sortings (site_in s n rs) (statements_of b.statements))) (λ ss. result_is (sorted_schedule ws ss)))) c h in
-      let two = first_of (block_names_or outer t.constants one.0) (λ n. and_then (all_ok (statement_sortings (site_in s n rs) (statements_of b.statements))) (λ ss. result_is (sorted_schedule one.0 ss))) c one.2 in
-      let three = first_of (all_ok (statement_sortings (site_in s two.0 rs) (statements_of b.statements))) (λ ss. result_is (sorted_schedule one.0 ss)) c two.2 in
+      let one = first_of (variables_at t.types given b.variables) (λ ws. and_then (block_names_or outer t.constants ws rs) (λ n. and_then (all_ok (statement_sortings (site_in s n (length ws) rs) (statements_of b.statements))) (λ ss. result_is (sorted_schedule ws ss)))) c h in
+      let two = first_of (block_names_or outer t.constants one.0 rs) (λ n. and_then (all_ok (statement_sortings (site_in s n (length one.0) rs) (statements_of b.statements))) (λ ss. result_is (sorted_schedule one.0 ss))) c one.2 in
+      let three = first_of (all_ok (statement_sortings (site_in s two.0 (length one.0) rs) (statements_of b.statements))) (λ ss. result_is (sorted_schedule one.0 ss)) c two.2 in
       let made : sorted_schedule one.0 three.0 ≡ c = cc in
       let all_given = all_appended (λ n. IsKept n.1) (parameter_shapes ps) t.constants kept text.constants in
       let variables = variables_kept given b.variables one.0 (variables_sound t.types text.types given all_given b.variables one.0 one.1) in
-      let own = variable_shapes one.0 in
-      let first = first_of (with_names [] own) (new_or outer t.constants) two.0 two.1 in
-      let between = between_names outer t.constants own first.0 two.0 (first_names own first.0 first.1) first.2 differ in
-      let names = block_names t.constants ps vs one.0 in
+      let inboxes = inbox_shapes rs in
+      let own = block_own_shapes one.0 rs in
+      let first = first_of (and_then (with_names [] (variable_shapes one.0)) (λ n. with_names n inboxes)) (new_or outer t.constants) two.0 two.1 in
+      let before = first_of (with_names [] (variable_shapes one.0)) (λ n. with_names n inboxes) first.0 first.1 in
+      let both = more_names (variable_shapes one.0) inboxes before.0 first.0 (first_names (variable_shapes one.0) before.0 before.1) before.2 in
+      let between = between_names outer t.constants own first.0 two.0 both first.2 differ in
+      let names = block_names t.constants ps vs one.0 rs in
+      let all_own = all_appended (λ n. IsKept n.1) (variable_shapes one.0) inboxes variables.0 (inboxes_kept (message_shape rs) (message_has IsKept rs rules)) in
       let view : own ++ (outer ++ t.constants) ≡ names = sym (append_assoc own outer t.constants) in
       let all_outer = all_appended (λ n. IsKept n.1) (variable_shapes vs) (parameter_shapes ps) valued kept in
-      let all = subst AreKept view (all_appended (λ n. IsKept n.1) own (outer ++ t.constants) variables.0 (all_appended (λ n. IsKept n.1) outer t.constants all_outer text.constants)) in
+      let all = subst AreKept view (all_appended (λ n. IsKept n.1) own (outer ++ t.constants) all_own (all_appended (λ n. IsKept n.1) outer t.constants all_outer text.constants)) in
       let site = site_same s ps vs one.0 two.0 rs refl refl between.same in
       let found = subst (λ (x : PlainStatementSite). all_ok (statement_sortings x (statements_of b.statements)) ≡ results_are three.0) site three.1 in
       subst (IsScheduleOf t ps vs rs b) made (record {

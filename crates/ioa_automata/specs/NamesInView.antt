@@ -1,13 +1,15 @@
 -- The names in view at the sites of an automaton, with their shapes (profile: the table of names). In view together
 -- they differ from each other.
-use Rattle.std.specs.Prelude.{List, [], ◌∷◌, ◌++◌, Result, map}
+use Rattle.std.specs.Prelude.{List, [], ◌∷◌, ◌++◌, Option, Some, None, Result, map}
 use Rattle.ioa_values.specs.Outcome.{and_then}
-use Rattle.ioa_operators.specs.Shapes.{PlainShape}
+use Rattle.ioa_operators.specs.Shapes.{PlainShape, integers, sequences, maps}
 use Rattle.ioa_terms.specs.declared.name.Name.{Name}
 use Rattle.ioa_terms.specs.declared.name.Name.TheVariants.{Word}
+use Rattle.ioa_terms.specs.Inboxes.{inboxes_word}
 use Rattle.ioa_terms.specs.Sorted.{NameShapes}
 use Rattle.ioa_source.specs.PlainText.{const, named}
 use Rattle.ioa_source.specs.Sides.{CheckedDeclared, CheckedParameter, CheckedVariable}
+use Rattle.ioa_system.specs.Parts.{PlainRule, message_shape}
 use Rattle.ioa_sort_rules.specs.declared.refusal.Refusal.{Refusal}
 use Rattle.ioa_names.specs.NameTables.{new_or, with_name, with_names}
 
@@ -51,7 +53,22 @@ outer_names_or constants ps vs =
 abbrev pub own_names_or : (outer constants : NameShapes) → List CheckedParameter → Result NameShapes Refusal
 own_names_or outer constants own = and_then (with_names [] (own_shapes own)) (new_or outer constants)
 
--- the variables of its schedule block, which the block alone reads: they differ from each other, from the names outside
--- and from the text's constants
-abbrev pub block_names_or : (outer constants : NameShapes) → List CheckedVariable → Result NameShapes Refusal
-block_names_or outer constants vs = and_then (with_names [] (variable_shapes vs)) (new_or outer constants)
+-- the inboxes, if messages of a shape are taken: a map from the numbers of nodes to sequences of messages
+abbrev pub inbox_shapes_of : Option PlainShape → NameShapes
+inbox_shapes_of None = []
+inbox_shapes_of (Some s) = (Word inboxes_word, maps integers (sequences s)) ∷ []
+
+-- the inboxes, if one of these rules takes messages
+abbrev pub inbox_shapes : List PlainRule → NameShapes
+inbox_shapes rules = inbox_shapes_of (message_shape rules)
+
+-- what its schedule block alone reads: the block's variables, and behind them the inboxes. These names differ from each
+-- other, from the names outside and from the text's constants
+abbrev pub block_own_shapes : List CheckedVariable → List PlainRule → NameShapes
+block_own_shapes vs rules = variable_shapes vs ++ inbox_shapes rules
+
+abbrev pub block_names_or : (outer constants : NameShapes) → List CheckedVariable → List PlainRule
+    → Result NameShapes Refusal
+block_names_or outer constants vs rules =
+    and_then (and_then (with_names [] (variable_shapes vs)) (λ n. with_names n (inbox_shapes rules)))
+    (new_or outer constants)

@@ -1,5 +1,5 @@
 -- The schedule block of an automaton with slots and shapes (profile).
-use Rattle.std.specs.Prelude.{◌+◌, ◌++◌, List, Result, Ok, length, take}
+use Rattle.std.specs.Prelude.{ℕ, ◌+◌, ◌++◌, List, Result, Ok, length, take}
 use Rattle.ioa_values.specs.Outcome.{and_then}
 use Rattle.ioa_terms.specs.PlainTerm.{statements_of}
 use Rattle.ioa_terms.specs.Sorted.{NameShapes}
@@ -12,11 +12,11 @@ use Rattle.ioa_automata.specs.NamesInView.{block_names_or}
 use Rattle.ioa_automata.specs.Parts.{variables_at}
 use Rattle.ioa_automata.specs.Rules.{PlainSurroundings}
 
--- where the statements of a block are, which has these names of its own: they come first, then the state variables, and
--- then the automaton's parameters and the text's constants
-abbrev pub site_in : PlainSurroundings → NameShapes → List PlainRule → PlainStatementSite
-site_in s own rules =
-    block_site (take (length own) (own ++ (s.outer ++ s.constants)))
+-- where the statements of a block are, of so many variables, which alone reads these names: they come first, then the
+-- state variables, and then the automaton's parameters and the text's constants
+abbrev pub site_in : PlainSurroundings → NameShapes → ℕ → List PlainRule → PlainStatementSite
+site_in s own count rules =
+    block_site (take count (own ++ (s.outer ++ s.constants)))
     (take (length own + s.variables) (own ++ (s.outer ++ s.constants))) (own ++ (s.outer ++ s.constants)) rules
 
 -- a block of these variables and statements
@@ -26,6 +26,6 @@ sorted_schedule vs ss = record { variables = vs; statements = ss }
 -- a schedule block: its variables, whose initial terms read the automaton's parameters, and then its statements
 unfoldable pub schedule_at : PlainSurroundings → List PlainRule → SourceSchedule → Result CheckedSchedule Refusal
 schedule_at s rules b = and_then (variables_at s.types (s.given ++ s.constants) b.variables)
-    (λ vs. and_then (block_names_or s.outer s.constants vs)
-    (λ own. and_then (all_ok (statement_sortings (site_in s own rules) (statements_of b.statements)))
+    (λ vs. and_then (block_names_or s.outer s.constants vs rules)
+    (λ own. and_then (all_ok (statement_sortings (site_in s own (length vs) rules) (statements_of b.statements)))
     (λ ss. Ok (sorted_schedule vs ss))))

@@ -28,7 +28,7 @@ use Rattle.ioa_types.specs.Meanings.{Means}
 use Rattle.ioa_names.specs.NameTables.{AreDistinct, words}
 use Rattle.ioa_types.specs.TextTypes.{PlainTextTypes}
 use Rattle.ioa_types.specs.TypeTables.{TypeTable}
-use Rattle.ioa_automata.specs.NamesInView.{parameter_shapes, variable_shapes, own_shapes}
+use Rattle.ioa_automata.specs.NamesInView.{parameter_shapes, variable_shapes, own_shapes, block_own_shapes}
 use Rattle.ioa_automata.specs.Parts.{PlainSortedEntry}
 
 -- a declared name has the shape that its sort means
@@ -159,24 +159,24 @@ pub record IsRuleOf (t : PlainTextTypes) (ps : List CheckedDeclared) (vs : List 
   pub no_condition : e.kind ≡ Input → e.condition ≡ None
   pub message : IsWellNamed (record { entry = r.entry; shapes = r.shapes })
 
--- what the statements of a schedule block of these variables read, with shapes: the names in view, and the text's
--- constants behind them
+-- what the statements of a schedule block of these variables read, in an automaton of these rules, with shapes: the names
+-- in view, and the text's constants behind them
 abbrev pub block_names : (constants : NameShapes) → List CheckedDeclared → (states own : List CheckedVariable)
-    → NameShapes
-block_names constants ps vs own =
-    in_view block_statement (parameter_shapes ps) (variable_shapes vs) (variable_shapes own) ++ constants
+    → List PlainRule → NameShapes
+block_names constants ps vs own rules =
+    in_view block_statement (parameter_shapes ps) (variable_shapes vs) (block_own_shapes own rules) ++ constants
 
 -- where they are: they assign the block's own variables, which come first among the names in view, and fire these rules
 abbrev pub block_of : NameShapes → (states own : List CheckedVariable) → List PlainRule → PlainStatementSite
 block_of names vs own rules =
-    block_site (take (length own) names) (take (length own + length vs) names) names rules
+    block_site (take (length own) names) (take (length (block_own_shapes own rules) + length vs) names) names rules
 
 -- a schedule block, in an automaton of these parameters, state variables and rules
 pub record IsScheduleOf (t : PlainTextTypes) (ps : List CheckedDeclared) (vs : List CheckedVariable)
     (rules : List PlainRule) (s : SourceSchedule) (c : CheckedSchedule) : Type 0 where
   pub variables : AllZip (IsVariableOf t.types (names_at initial_value t.constants ps vs [])) s.variables c.variables
-  pub names : AreDistinct (block_names t.constants ps vs c.variables)
-  pub statements : AllZip (IsStatementOf (block_of (block_names t.constants ps vs c.variables) vs c.variables rules))
+  pub names : AreDistinct (block_names t.constants ps vs c.variables rules)
+  pub statements : AllZip (IsStatementOf (block_of (block_names t.constants ps vs c.variables rules) vs c.variables rules))
       s.statements c.statements
 
 -- a transition has an entry of its name and kind
@@ -197,7 +197,7 @@ pub record IsAutomatonOf (t : PlainTextTypes) (a : SourceAutomaton) (c : Automat
   pub schedule : IsScheduleOf t c.parameters c.variables c.rules a.schedule c.schedule
   -- what has to differ does, and each transition has an entry
   pub given_names : AreDistinct (names_at initial_value t.constants c.parameters c.variables [])
-  pub names : AreDistinct (block_names t.constants c.parameters c.variables [])
+  pub names : AreDistinct (block_names t.constants c.parameters c.variables [] [])
   pub entries_differ : IsDistinct same_word (map (λ e. e.name) a.signature)
   pub transitions_differ : IsDistinct same_word (map (λ u. u.name) a.transitions)
   pub entries : AllByRecursion (HasItsEntry a.signature) a.transitions

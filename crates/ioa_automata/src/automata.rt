@@ -16,7 +16,7 @@ ghost use Rattle.ioa_automata.specs.SortedView.{body_of, heading_of, surrounding
 use crate::names::{given_names, outer_names};
 use crate::parts::{sort_all_declared, sort_variables};
 use crate::rules::{Surroundings, Transitions, sort_rules};
-use crate::schedules::{sort_schedule, variable_words};
+use crate::schedules::{block_own_words, sort_schedule};
 use ioa_names::{NameTable, View};
 use ioa_sort_rules::Refusal;
 use ioa_sorts::Actions;
@@ -182,9 +182,9 @@ fn sort_actions(
 
 /// The automaton with slots and shapes, in a text that declares these types, made ready to step. `constants` are the
 /// names of the text's constants. Returns `Unknown` (20), `Twice` (21), `Sorts` (22), `NoInitial` (23), `InputPre` (24),
-/// `NoTransition` (25), `ScheduleAssignsState` (26), `Limit` (31), `EmptyOfWhat` (32), `InputWhere` (33), `BadArgument` (34), each if it applies to
-/// the automaton, and `Memory` (3) if no memory is left. Costs time in proportion to the automaton, but for what the
-/// look-up of a name and a sort cost.
+/// `NoTransition` (25), `ScheduleAssignsState` (26), `Limit` (31), `EmptyOfWhat` (32), `InputWhere` (33),
+/// `BadArgument` (34), each if it applies to the automaton, and `Memory` (3) if no memory is left. Costs time in
+/// proportion to the automaton, but for what the look-up of a name and a sort cost.
 pub fn sort_automaton(
     alloc: Global,
     types: &TextTypes,
@@ -197,7 +197,7 @@ pub fn sort_automaton(
 {
     let heading = sort_heading(alloc, types, automaton)?;
     let body = sort_body(alloc, types, &heading, automaton)?;
-    let own = variable_words(alloc, &body.schedule.variables)?;
+    let own = block_own_words(alloc, &body.schedule.variables, &body.rules)?;
     let name = automaton.name.try_copy(alloc)?;
     let constants = Arc::try_clone(constants)?;
     Ok(CompiledAutomaton::new(

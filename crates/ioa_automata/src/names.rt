@@ -1,16 +1,20 @@
 //! The names in view at the sites of an automaton.
 
-ghost use Rattle.std.specs.Prelude.{map};
+ghost use Rattle.std.specs.Prelude.{◌≡◌, IfOk, map};
+ghost use Rattle.std.specs.Option.{option_copied};
+ghost use Rattle.ioa_operators.specs.Shapes.{integers, maps, sequences};
 ghost use Rattle.ioa_values.specs.Outcome.{Answers};
 ghost use Rattle.ioa_source.specs.TextView.{declared_of, parameter_of, variable_of};
 ghost use Rattle.ioa_names.specs.NameTables.{with_names};
 ghost use Rattle.ioa_automata.specs.NamesInView as spec;
 
 use ioa_names::NameTable;
-use ioa_sort_rules::Refusal;
+use ioa_sort_rules::{Refusal, map_of};
 use ioa_source::{Declared, Parameter, Variable};
-use ioa_terms::Shape;
-use std::alloc::Global;
+use ioa_system::{Rule, message_shape};
+use ioa_terms::{Shape, ShapeForm, inboxes_word};
+use std::alloc::{AllocError, Global};
+use std::sync::Arc;
 
 /// A table with one more declared name. `Twice` (21) if it is in the table.
 fn with_declared(
@@ -122,17 +126,48 @@ pub(crate) fn own_names(
     table.pass_new(outer, constants)
 }
 
-/// The names of the variables of a schedule block. `Twice` (21) if two of them are the same, or one is a name outside or
-/// a constant's.
+/// A table with the inboxes behind it, if messages of a shape are taken. `Twice` (21) if their name is in the table,
+/// which that of no text is.
+fn with_inboxes(
+    alloc: Global,
+    table: NameTable,
+    message: Option<&Shape>,
+) -> Result<NameTable, Refusal>
+    ensures { Answers Refusal.Memory (λ t. t) result
+        (with_names table (spec.inbox_shapes_of (option_copied message.entry))) }
+{
+    match message {
+        None => Ok(table),
+        Some(message) => table.with(
+            alloc,
+            inboxes_word(alloc)?,
+            shape_of_inboxes(alloc, message)?,
+        ),
+    }
+}
+
+/// The shape of the inboxes, if messages have this shape: a map from the numbers of nodes to sequences.
+fn shape_of_inboxes(alloc: Global, message: &Shape) -> Result<Shape, AllocError>
+    ensures { IfOk result (λ s. s ≡ maps integers (sequences message.now)) }
+{
+    let message = Arc::new(alloc, message.try_copy(alloc)?)?;
+    let senders = Shape::of(ShapeForm::Integers);
+    map_of(alloc, senders, Shape::of(ShapeForm::Sequences(message)))
+}
+
+/// The names that a schedule block alone reads: those of its variables, and that of the inboxes, if one of these rules
+/// takes messages. `Twice` (21) if two of them are the same, or one is a name outside or a constant's.
 pub(crate) fn block_names(
     alloc: Global,
     outer: &NameTable,
     constants: &NameTable,
     variables: &Vec<Variable<usize, Shape>>,
+    rules: &[Rule],
 ) -> Result<NameTable, Refusal>
     ensures { Answers Refusal.Memory (λ t. t) result
-        (spec.block_names_or outer.now constants.now (map variable_of variables.now.items)) }
+        (spec.block_names_or outer.now constants.now (map variable_of variables.now.items) rules.now) }
 {
     let table = with_variables(alloc, NameTable::new(alloc), variables)?;
+    let table = with_inboxes(alloc, table, message_shape(rules))?;
     table.pass_new(outer, constants)
 }

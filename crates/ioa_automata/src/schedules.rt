@@ -5,7 +5,8 @@ ghost use Rattle.ioa_values.specs.Outcome.{Answers};
 ghost use Rattle.ioa_terms.specs.PlainTerm.{statements_of};
 ghost use Rattle.ioa_terms.specs.View.{statement_of};
 ghost use Rattle.ioa_source.specs.TextView.{schedule_of, variable_of};
-ghost use Rattle.ioa_system.specs.InView.{variable_names};
+ghost use Rattle.ioa_system.specs.InView.{inbox_words, variable_names};
+ghost use Rattle.ioa_system.specs.Parts.{message_shape};
 ghost use Rattle.ioa_sorts.specs.Statements.{all_ok, statement_sortings};
 ghost use Rattle.ioa_automata.specs.Parts.{variables_at};
 ghost use Rattle.ioa_automata.specs.Schedules as spec;
@@ -18,7 +19,8 @@ use ioa_names::{NameTable, View};
 use ioa_sort_rules::Refusal;
 use ioa_sorts::{Actions, StatementSite, sort_statements};
 use ioa_source::{Schedule, Variable};
-use ioa_terms::{Shape, Statement, Word};
+use ioa_system::{Rule, message_shape};
+use ioa_terms::{Shape, Statement, Word, inboxes_word};
 use std::alloc::{AllocError, Global};
 
 /// The variables of a block, whose initial terms read the automaton's parameters.
@@ -36,21 +38,22 @@ fn sort_block_variables(
     sort_variables(alloc, around.types, &view, variables)
 }
 
-/// The statements of a block whose own names are these.
+/// The statements of a block of so many variables, which alone reads these names.
 fn sort_block_statements(
     alloc: Global,
     around: &Surroundings,
     actions: &Actions,
     own: &NameTable,
+    variables: usize,
     statements: &Vec<Statement<(), ()>>,
 ) -> Result<Vec<Statement<usize, Shape>>, Refusal>
     ensures { Answers Refusal.Memory (λ ss. map statement_of ss.items) result
-        (all_ok (statement_sortings (spec.site_in (surroundings_of around.now) own.now actions.now.rules.items)
+        (all_ok (statement_sortings (spec.site_in (surroundings_of around.now) own.now variables actions.now.rules.items)
         (statements_of (map statement_of statements.now.items)))) }
 {
     let view = View::new(own, around.outer, around.constants)?;
     let all_variables = own.len().checked_add(around.variables).ok_or(AllocError)?;
-    let site = StatementSite::block(&view, own.len(), all_variables, actions);
+    let site = StatementSite::block(&view, variables, all_variables, actions);
     sort_statements(alloc, &site, statements)
 }
 
@@ -66,16 +69,46 @@ pub(crate) fn sort_schedule(
         (spec.schedule_at (surroundings_of around.now) actions.now.rules.items (schedule_of schedule.now)) }
 {
     let variables = sort_block_variables(alloc, around, &schedule.variables)?;
-    let own = block_names(alloc, around.outer, around.constants, &variables)?;
-    let statements = sort_block_statements(alloc, around, actions, &own, &schedule.statements)?;
+    let own = block_names(
+        alloc,
+        around.outer,
+        around.constants,
+        &variables,
+        actions.rules(),
+    )?;
+    let statements = sort_block_statements(
+        alloc,
+        around,
+        actions,
+        &own,
+        variables.len(),
+        &schedule.statements,
+    )?;
     Ok(Schedule {
         variables,
         statements,
     })
 }
 
+/// The names that come first in view in a block of these variables, with their own memory: theirs, and that of the
+/// inboxes, if one of these rules takes messages.
+pub(crate) fn block_own_words(
+    alloc: Global,
+    variables: &Vec<Variable<usize, Shape>>,
+    rules: &[Rule],
+) -> Result<Vec<Word>, AllocError>
+    ensures { IfOk result (λ ws. ws.items
+        ≡ variable_names (map variable_of variables.now.items) ++ inbox_words (message_shape rules.now)) }
+{
+    let mut names = variable_words(alloc, variables)?;
+    if message_shape(rules).is_some() {
+        names.push(inboxes_word(alloc)?)?;
+    }
+    Ok(names)
+}
+
 /// The names of variables, with their own memory.
-pub(crate) fn variable_words(
+fn variable_words(
     alloc: Global,
     variables: &Vec<Variable<usize, Shape>>,
 ) -> Result<Vec<Word>, AllocError>

@@ -1,6 +1,7 @@
 -- the lemmas of this crate
 pub mod Searches
 pub mod Loops
+pub mod DeclaredAutomata
 pub mod Results
 pub mod Apart
 pub mod Tests

@@ -7,6 +7,7 @@ ghost use Rattle.ioa_source.specs.TextView.{automaton_of, declaration_of};
 ghost use Rattle.ioa_names.specs.NameTables.{words};
 ghost use Rattle.ioa_types.specs.TextTypes.{no_types};
 ghost use Rattle.ioa_check.specs.Declarations as spec;
+ghost use Rattle.ioa_check.specs.Faults.{in_declaration};
 
 use crate::fault::{CheckFault, fault_at};
 use ioa_automata::sort_automaton;
@@ -76,14 +77,37 @@ pub(crate) fn automata_of(
     let mut names = Scope::new(alloc);
     let mut automata = Vec::new(alloc);
     for (index, declaration) in declarations.iter().enumerate() {
-        if let Declaration::Automaton(automaton) = declaration {
-            match new_automaton(alloc, types, constants, &mut names, automaton) {
-                Ok(found) => automata.push(found)?,
-                Err(refusal) => return Err(fault_at(index, refusal)),
+        match declaration {
+            Declaration::Type(_) => {}
+            Declaration::Automaton(automaton) => {
+                let found = automaton_in_declaration(
+                    alloc, types, constants, &mut names, index, automaton,
+                )?;
+                automata.push(found)?;
             }
         }
     }
     Ok(automata)
+}
+
+/// The automaton of the declaration of an index. A fault tells the index.
+fn automaton_in_declaration(
+    alloc: Global,
+    types: &TextTypes,
+    constants: &Arc<Names>,
+    names: &mut Scope,
+    index: usize,
+    automaton: &Automaton<(), ()>,
+) -> Result<Arc<CompiledAutomaton>, CheckFault>
+    requires { arc_value constants.now ≡ words types.now.constants }
+    ensures found { Answers CheckFault.Memory arc_value result
+        (in_declaration index (spec.new_automaton_at types.now names.old (automaton_of automaton.now))) }
+    ensures named { OnOk result (names.new ≡ names.old ++ (automaton_of automaton.now).name ∷ []) }
+{
+    match new_automaton(alloc, types, constants, names, automaton) {
+        Ok(found) => Ok(found),
+        Err(refusal) => Err(fault_at(index, refusal)),
+    }
 }
 
 /// An automaton whose name is new, and is put behind the names. Else `Twice` (21).

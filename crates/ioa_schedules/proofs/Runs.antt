@@ -1,10 +1,11 @@
 -- A turn, one statement after another.
-use Rattle.std.proofs.Common.{◌≡◌, ◌++◌, ℕ, Bool, true, false, List, Result, Ok, Err, refl, sym, ap, subst, length, arith}
+use Rattle.std.proofs.Common.{◌≡◌, ℕ, Bool, true, false, List, Result, Ok, Err, refl, sym, ap, subst, length, arith}
 use Rattle.std.proofs.lemmas.List.{length-append}
 use Rattle.ioa_values.specs.Data.{Data}
 use Rattle.ioa_values.specs.Outcome.{and_then}
 use Rattle.ioa_operators.specs.declared.shape.Shape.{Shape}
 use Rattle.ioa_operators.specs.declared.fault.TermFault.{TermFault}
+use Rattle.ioa_terms.specs.Inboxes.{lent_values}
 use Rattle.ioa_terms.specs.declared.name.Name.{Name}
 use Rattle.ioa_terms.specs.Bindings.{Bindings}
 use Rattle.ioa_terms.specs.PlainTerm.{PlainStatement, PlainStatements, PlainArms, assign, branch, loop, fire, no_statements, statement, no_arms, arm}
@@ -65,6 +66,6 @@ kept_resolved v m n todo next e d h same r = subst (λ (k : ℕ). AreResolvedIn 
 -- and as many values have names
 pub kept_named : (v : View) (xs ys : List Data) → length ys ≡ length xs → IsNamed v xs → IsNamed v ys
 kept_named v xs ys h named =
-    let before = length-append xs (v.lent.first.now ++ v.lent.second.now) in
-    let after = length-append ys (v.lent.first.now ++ v.lent.second.now) in
+    let before = length-append xs (lent_values v.lent) in
+    let after = length-append ys (lent_values v.lent) in
     omega arith

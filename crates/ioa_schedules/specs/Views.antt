@@ -5,6 +5,7 @@ use Rattle.ioa_operators.specs.declared.shape.Shape.{Shape}
 use Rattle.ioa_terms.specs.declared.name.Name.{Name}
 use Rattle.ioa_terms.specs.declared.name.Name.TheVariants.{Word}
 use Rattle.ioa_terms.specs.Bindings.{Bindings, environment}
+use Rattle.ioa_terms.specs.Inboxes.{lent_values}
 use Rattle.ioa_terms.specs.PlainTerm.{PlainStatements}
 use Rattle.ioa_terms.specs.Resolved.{AreAllResolved}
 use Rattle.ioa_terms.specs.View.{firing_of}
@@ -15,7 +16,7 @@ use Rattle.ioa_schedules.specs.Turns.{TurnResult, turn_result, fires, idle, done
 
 -- all values in view, if the block's own variables have these (profile)
 abbrev pub all_values : View → List Data → List Data
-all_values v values = values ++ (v.lent.first.now ++ v.lent.second.now)
+all_values v values = values ++ lent_values v.lent
 
 -- each value in view has a name (profile)
 abbrev pub IsNamed : View → List Data → Type 0

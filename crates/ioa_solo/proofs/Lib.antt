@@ -6,4 +6,5 @@ mod Rounds
 mod Runs
 mod SoloRuns
 mod OwnStates
+pub mod SeenInboxes
 pub mod KeptByRuns

@@ -7,6 +7,7 @@ use Rattle.std.specs.Cmp.Derive.{both_true}
 use Rattle.ioa_actions.specs.declared.action.Action.{Action}
 use Rattle.ioa_actions.specs.declared.component.Component.TheVariants as component
 use Rattle.ioa_operators.specs.declared.fault.TermFault.{TermFault}
+use Rattle.ioa_terms.specs.Inboxes.{PlainInboxes}
 use Rattle.ioa_compose.specs.Composition.{find_conf}
 use Rattle.ioa_compose.specs.declared.configuration.Conf.{Conf}
 use Rattle.ioa_compose.specs.declared.configuration.Conf.TheVariants.{Node, Queue}
@@ -20,6 +21,7 @@ use Rattle.ioa_record.specs.declared.record.Record.{Record}
 use Rattle.ioa_solo.specs.Options.{PlainOptions}
 use Rattle.ioa_solo.specs.Attempts.{PlainFireOutcome, missed, taken, action_fired, fire_answer}
 use Rattle.ioa_schedules.specs.Turns.{TurnEnd, TurnResult, fires, idle, done}
+use Rattle.ioa_solo.specs.Inboxes.{inboxes_seen}
 use Rattle.ioa_solo.specs.NodeTurns.{PlainProgress, reached, block_turn, shows_program, turn_on, turn_at}
 use Rattle.ioa_solo.specs.Solo.{PlainCourse, after_fire, after_end, after_turn, visit, visit_unless_ended, round, rounds, solo, progress_at, has_ended, ending_of, is_cut_short, IsLeftBy, IsSoloRun}
 
@@ -48,13 +50,13 @@ unfolding KeepsAttempts
 reached_keeps p (Ok r) = refl
 reached_keeps p (Err f) = tt
 
-turn_keeps : (p : PlainProgress) (o : Option Conf) → KeepsAttempts p.attempts (turn_on p o)
+turn_keeps : (p : PlainProgress) (inboxes : Option PlainInboxes) (o : Option Conf) → KeepsAttempts p.attempts (turn_on p inboxes o)
 unfolding KeepsAttempts
-turn_keeps p None = tt
-turn_keeps p (Some (Queue q)) = tt
-turn_keeps p (Some (Node c)) = by_program (shows_program p.program c)
+turn_keeps p inboxes None = tt
+turn_keeps p inboxes (Some (Queue q)) = tt
+turn_keeps p inboxes (Some (Node c)) = by_program (shows_program p.program c)
   where
-    by_program : (b : Bool) → KeepsAttempts p.attempts (if b then block_turn p c.variables else Err Differs)
+    by_program : (b : Bool) → KeepsAttempts p.attempts (if b then block_turn p inboxes c.variables else Err Differs)
     by_program true = reached_keeps p _
     by_program false = tt
 
@@ -74,7 +76,7 @@ visit_near limit n s p h = by_test (nat_eq p.attempts 0) refl
     by_test true e = rw e (inl refl)
     by_test false e =
         let used = record p { attempts = p.attempts - 1 } in
-        rw e (turn_near limit n used.attempts s used (turn_at s.states used) (turn_keeps used (find_conf (component.Node p.program.node) s.states)) (less p.attempts e h))
+        rw e (turn_near limit n used.attempts s used (turn_at s.states used) (turn_keeps used (inboxes_seen p.program s.states) (find_conf (component.Node p.program.node) s.states)) (less p.attempts e h))
 
 one_near : (limit n : ℕ) (s : PlainCourse) (p : PlainProgress) → IsNear (suc n) p → IsNear n (visit_unless_ended limit s p).1
 one_near limit n s p h = by_ending (is_some p.ending) refl h

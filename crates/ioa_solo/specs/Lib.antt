@@ -1,6 +1,7 @@
 -- what the contracts of this crate and of those above it cite
 pub mod Attempts
 pub mod Fired
+pub mod Inboxes
 pub mod NodeTurns
 pub mod Options
 pub mod Ready

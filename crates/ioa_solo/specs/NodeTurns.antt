@@ -5,6 +5,7 @@ use Rattle.ioa_operators.specs.declared.fault.TermFault.{TermFault}
 use Rattle.ioa_operators.specs.declared.shape.Shape.{Shape}
 use Rattle.ioa_actions.specs.declared.component.Component.TheVariants as component
 use Rattle.ioa_terms.specs.Bindings.{Bindings}
+use Rattle.ioa_terms.specs.Inboxes.{PlainInboxes, inbox_values}
 use Rattle.ioa_terms.specs.PlainTerm.{PlainStatements}
 use Rattle.ioa_terms.specs.View.{firing_of}
 use Rattle.ioa_system.specs.InView.{block_bindings}
@@ -21,6 +22,7 @@ use Rattle.ioa_schedules.specs.Controls.{todo_of, values_of}
 use Rattle.ioa_schedules.specs.Turns.{TurnEnd, TurnResult, fires, idle, done, turn_answer, turn_limit}
 use Rattle.ioa_schedules.specs.declared.turn.Turn.{Turn}
 use Rattle.ioa_schedules.specs.declared.turn.Turn.TheVariants as turn
+use Rattle.ioa_solo.specs.Inboxes.{inboxes_seen}
 use Rattle.ioa_solo.specs.declared.progress.Progress.{Progress}
 
 -- how far a node has come: its program, what its block has still to do, the values of the block's own variables, how
@@ -51,25 +53,27 @@ abbrev pub reached : PlainProgress → Result TurnResult TermFault → Result (T
 reached p (Ok r) = Ok (r.ending, record p { todo = r.todo; own = own_values (length p.own) r.bindings })
 reached p (Err f) = Err (fault_of_term f)
 
--- the turn of a node whose variables have these values: that of its block, which reads its own variables, these, the
--- parameters of the automaton and the text's constants
-abbrev pub block_turn : PlainProgress → List Data → Result (TurnEnd × PlainProgress) NodeFault
-block_turn p variables =
-    reached p (turn_answer p.todo turn_limit (block_bindings p.program.automaton p.program.arguments variables p.own))
+-- the turn of a node whose variables have these values: that of its block, which reads its own variables, the inboxes
+-- if it sees them, these values, the parameters of the automaton and the text's constants
+abbrev pub block_turn : PlainProgress → Option PlainInboxes → List Data → Result (TurnEnd × PlainProgress) NodeFault
+block_turn p inboxes variables =
+    reached p (turn_answer p.todo turn_limit
+    (block_bindings p.program.automaton p.program.arguments variables (inbox_values inboxes) p.own))
 
 -- whether a configuration may be one of a node with this program: it has a value for each state variable
 abbrev pub shows_program : Parts → NodeState → Bool
 shows_program p c = nat_eq (length c.variables) (length p.automaton.variables)
 
 -- the turn of a node on a configuration; one that can't be the node's gives none
-abbrev pub turn_on : PlainProgress → Option Conf → Result (TurnEnd × PlainProgress) NodeFault
-turn_on p (Some (Node c)) = if shows_program p.program c then block_turn p c.variables else Err Differs
-turn_on p (Some (Queue q)) = Err Differs
-turn_on p None = Err Differs
+abbrev pub turn_on : PlainProgress → Option PlainInboxes → Option Conf → Result (TurnEnd × PlainProgress) NodeFault
+turn_on p inboxes (Some (Node c)) =
+    if shows_program p.program c then block_turn p inboxes c.variables else Err Differs
+turn_on p inboxes (Some (Queue q)) = Err Differs
+turn_on p inboxes None = Err Differs
 
 -- the turn of a node on the present configurations
 abbrev pub turn_at : List Conf → PlainProgress → Result (TurnEnd × PlainProgress) NodeFault
-turn_at states p = turn_on p (find_conf (component.Node p.program.node) states)
+turn_at states p = turn_on p (inboxes_seen p.program states) (find_conf (component.Node p.program.node) states)
 
 -- how a turn ends (view)
 abbrev pub end_of : Turn → TurnEnd

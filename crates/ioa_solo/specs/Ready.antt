@@ -5,11 +5,11 @@ use Rattle.ioa_operators.specs.declared.shape.Shape.{Shape}
 use Rattle.ioa_terms.specs.PlainTerm.{PlainStatements}
 use Rattle.ioa_terms.specs.Resolved.{AreAllResolved}
 use Rattle.ioa_terms.specs.declared.name.Name.TheVariants.{Word}
-use Rattle.ioa_system.specs.InView.{block_statement, declared_names, names_at, variable_names}
+use Rattle.ioa_system.specs.InView.{block_own_names, block_statement, declared_names, names_at, variable_names}
 use Rattle.ioa_system.specs.Parts.{Parts}
 
 -- a block that can go on: each of its own variables has a value, and each name in what is to do is resolved
 pub record IsReady (p : Parts) (todo : PlainStatements ℕ Shape) (own : List Data) : Type 0 where
   pub valued : length own ≡ length p.automaton.schedule.variables
   pub resolved : AreAllResolved todo (map Word (variable_names p.automaton.schedule.variables))
-      (names_at block_statement (declared_names p.automaton) (variable_names p.automaton.schedule.variables))
+      (names_at block_statement (declared_names p.automaton) (block_own_names p.automaton))

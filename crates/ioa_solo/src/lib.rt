@@ -8,6 +8,6 @@ mod progress;
 mod running;
 mod turn;
 
-pub use laws::{fired_law, solo_law};
+pub use laws::{fired_law, inboxes_law, solo_law};
 pub use options::{DEFAULT_ATTEMPTS, DEFAULT_STEPS, GREATEST_ATTEMPTS, GREATEST_STEPS, Options};
 pub use running::run;

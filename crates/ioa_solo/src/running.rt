@@ -223,7 +223,8 @@ fn go_past(
     requires under_way { node.old.ending ≡ None }
     ensures execution { Continues limit course.old course.new }
     ensures attempted { OnOk result (after_end limit (course_of course.old) (progress_of node.old)
-        (fires (firing_of fired.entry.firing.now).kind (firing_of fired.entry.firing.now).action fired.entry.arguments.items)
+        (fires (firing_of fired.entry.firing.now).kind (firing_of fired.entry.firing.now).action
+        fired.entry.arguments.items)
         ≡ (course_of course.new, progress_of node.new)) }
     ensures stopped { OnErr result (node.new.ending ≡ None) }
 {

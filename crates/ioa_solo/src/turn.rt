@@ -1,10 +1,14 @@
 //! The turns of a node.
 
-ghost use Rattle.std.specs.Prelude.{◌≡◌, IfOk, OnErr, Some, length};
+ghost use Rattle.std.specs.Prelude.{◌≡◌, IfOk, OnErr, Some, is_some, length};
+ghost use Rattle.std.specs.Option.{option_map};
 ghost use Rattle.ioa_values.specs.Outcome.{Answers};
-ghost use Rattle.ioa_system.specs.InView.{block_statement, declared_names, scope_at, variable_names};
+ghost use Rattle.ioa_terms.specs.Inboxes.{inboxes_of};
+ghost use Rattle.ioa_system.specs.InView.{block_own_names, block_statement, declared_names, scope_at};
+ghost use Rattle.ioa_system.specs.Parts.{message_shape};
 ghost use Rattle.ioa_schedules.specs.Controls.{todo_of};
 ghost use Rattle.ioa_schedules.specs.Views.{StandsAt};
+ghost use Rattle.ioa_solo.specs.Inboxes.{inbox_at, inbox_of, inboxes_in, inboxes_seen, one_or_none};
 ghost use Rattle.ioa_solo.specs.NodeTurns as spec;
 ghost use Rattle.ioa_solo.specs.NodeTurns.{end_of, progress_of};
 ghost use Rattle.ioa_solo.specs.Solo.{progress_at};
@@ -15,7 +19,7 @@ use ioa_compose::{Conf, find_conf};
 use ioa_record::NodeFault;
 use ioa_schedules::{Control, Turn, View, next};
 use ioa_system::Program;
-use ioa_terms::LentValues;
+use ioa_terms::{Inbox, LentValues, Value};
 use ioa_transitions::NodeConf;
 use std::alloc::{AllocError, Global};
 
@@ -39,11 +43,16 @@ impl<'a> Progress<'a> {
     }
 }
 
-/// What the block of a node sees on a configuration of the node.
-fn view_of<'a>(program: &'a Program, conf: &'a NodeConf) -> View<'a>
+/// What the block of a node sees on a configuration of the node, if it sees these inboxes.
+fn view_of<'a>(
+    program: &'a Program,
+    inboxes: Option<&'a [Inbox<'a>]>,
+    conf: &'a NodeConf,
+) -> View<'a>
     requires { length conf.now.variables ≡ length program.now.automaton.variables }
     ensures names { result.names ≡ scope_at block_statement (declared_names program.now.automaton)
-        (variable_names program.now.automaton.schedule.variables) }
+        (block_own_names program.now.automaton) }
+    ensures inboxes { result.lent.inboxes ≡ inboxes.entry }
     ensures first { result.lent.first.now ≡ conf.now.variables }
     ensures second { result.lent.second.now ≡ program.now.arguments }
     ensures constants { result.constants.now ≡ program.now.automaton.constants }
@@ -53,11 +62,56 @@ fn view_of<'a>(program: &'a Program, conf: &'a NodeConf) -> View<'a>
     View {
         names: automaton.block_names(),
         lent: LentValues {
+            inboxes,
             first: conf.variables().as_slice(),
             second: program.arguments(),
         },
         constants: automaton.constants(),
     }
+}
+
+/// The inbox of a node that a configuration is, if it is one: a channel to the node, on which nothing but messages
+/// waits. None of them is copied.
+fn inbox_at(conf: &Conf, node: i64) -> Option<Inbox<'_>>
+    ensures { inboxes_of (one_or_none result) ≡ inbox_at node conf.now }
+{
+    match conf {
+        Conf::Node(_) => None,
+        Conf::Queue(queue) => inbox_of(node, queue.messages()?, queue.component()),
+    }
+}
+
+/// The inbox of a node that a component with these messages is, if it is a channel to the node.
+fn inbox_of(node: i64, messages: &[Value], component: Component) -> Option<Inbox<'_>>
+    ensures { inboxes_of (one_or_none result) ≡ inbox_of node (Some messages.now) component }
+{
+    match component {
+        Component::Channel { from, to } => {
+            if to == node {
+                Some(Inbox {
+                    sender: from,
+                    messages,
+                })
+            } else {
+                None
+            }
+        }
+        Component::Node(_) => None,
+        Component::Script(_) => None,
+    }
+}
+
+/// The inboxes of a node, in the order of the configurations. No message is copied.
+fn inboxes_to(alloc: Global, states: &[Conf], node: i64) -> Result<Vec<Inbox<'_>>, AllocError>
+    ensures { IfOk result (λ v. inboxes_of v.items ≡ inboxes_in node states.now) }
+{
+    let mut inboxes = Vec::new(alloc);
+    for conf in states {
+        if let Some(inbox) = inbox_at(conf, node) {
+            inboxes.push(inbox)?;
+        }
+    }
+    Ok(inboxes)
 }
 
 /// The turn of a node on the present configurations (profile). `Differs (51)` if they show no configuration that may be
@@ -74,26 +128,28 @@ pub(crate) fn turn_of<'a>(
     ensures unchanged { OnErr result (progress_of node.new ≡ progress_of node.old) }
 {
     match find_conf(states, Component::Node(node.program.node())) {
-        Some(Conf::Node(conf)) => turn_on(alloc, conf, node),
+        Some(Conf::Node(conf)) => turn_on(alloc, states, conf, node),
         Some(Conf::Queue(_)) => Err(NodeFault::Differs),
         None => Err(NodeFault::Differs),
     }
 }
 
-/// The turn of a node on a configuration.
+/// The turn of a node on a configuration, among the present ones.
 fn turn_on<'a>(
     alloc: Global,
+    states: &[Conf],
     conf: &NodeConf,
     node: &mut Progress<'a>,
 ) -> Result<Turn<'a>, NodeFault>
     ensures turn { Answers NodeFault.Memory (λ t. (end_of t, progress_of node.new)) result
-        (spec.turn_on (progress_of node.old) (Some (Conf.Node conf.now))) }
+        (spec.turn_on (progress_of node.old) (inboxes_seen node.old.program.now states.now)
+        (Some (Conf.Node conf.now))) }
     ensures stands { IfOk result (StandsAt (todo_of node.new.control)) }
     ensures same_ending { node.new.ending ≡ node.old.ending }
     ensures unchanged { OnErr result (progress_of node.new ≡ progress_of node.old) }
 {
     if shows_program(node.program, conf) {
-        block_turn(alloc, conf, node)
+        turn_among(alloc, states, conf, node)
     } else {
         Err(NodeFault::Differs)
     }
@@ -106,20 +162,48 @@ fn shows_program(program: &Program, conf: &NodeConf) -> bool
     conf.variables().as_slice().len() == program.automaton().variables().len()
 }
 
-/// The turn of a node on a configuration that may be its own.
-fn block_turn<'a>(
+/// The turn of a node on a configuration that may be its own, among the present ones. Its inboxes are looked up only if
+/// its automaton takes messages.
+fn turn_among<'a>(
     alloc: Global,
+    states: &[Conf],
     conf: &NodeConf,
     node: &mut Progress<'a>,
 ) -> Result<Turn<'a>, NodeFault>
     requires { length conf.now.variables ≡ length node.old.program.now.automaton.variables }
     ensures turn { Answers NodeFault.Memory (λ t. (end_of t, progress_of node.new)) result
-        (spec.block_turn (progress_of node.old) conf.now.variables) }
+        (spec.block_turn (progress_of node.old) (inboxes_seen node.old.program.now states.now) conf.now.variables) }
     ensures stands { IfOk result (StandsAt (todo_of node.new.control)) }
     ensures same_ending { node.new.ending ≡ node.old.ending }
     ensures unchanged { OnErr result (progress_of node.new ≡ progress_of node.old) }
 {
-    let view = view_of(node.program, conf);
+    if node.program.automaton().takes_messages() {
+        let Ok(inboxes) = inboxes_to(alloc, states, node.program.node()) else {
+            return Err(NodeFault::Memory);
+        };
+        block_turn(alloc, Some(inboxes.as_slice()), conf, node)
+    } else {
+        block_turn(alloc, None, conf, node)
+    }
+}
+
+/// The turn of a node on a configuration that may be its own, if its block sees these inboxes.
+fn block_turn<'a>(
+    alloc: Global,
+    inboxes: Option<&[Inbox]>,
+    conf: &NodeConf,
+    node: &mut Progress<'a>,
+) -> Result<Turn<'a>, NodeFault>
+    requires valued { length conf.now.variables ≡ length node.old.program.now.automaton.variables }
+    requires seen { is_some inboxes ≡ is_some (message_shape node.old.program.now.automaton.rules) }
+    ensures turn { Answers NodeFault.Memory (λ t. (end_of t, progress_of node.new)) result
+        (spec.block_turn (progress_of node.old) (option_map (λ is. inboxes_of is.now) inboxes.entry)
+        conf.now.variables) }
+    ensures stands { IfOk result (StandsAt (todo_of node.new.control)) }
+    ensures same_ending { node.new.ending ≡ node.old.ending }
+    ensures unchanged { OnErr result (progress_of node.new ≡ progress_of node.old) }
+{
+    let view = view_of(node.program, inboxes, conf);
     let turn = next(alloc, &mut node.control, &view)?;
     Ok(turn)
 }

@@ -8,7 +8,8 @@ use Rattle.ioa_source.specs.Sides.{SourceTerm}
 use Rattle.ioa_sort_rules.specs.declared.refusal.Refusal.TheVariants.{Sorts}
 use Rattle.ioa_sort_rules.specs.declared.kinds.Single.{Single}
 use Rattle.ioa_sort_rules.specs.declared.kinds.Pairing.{Pairing}
-use Rattle.ioa_sorts.specs.Sorting.{typed, one_part, two_parts, three_parts, call_one, call_two, call_three, each_fit, sorting, sortings}
+use Rattle.ioa_sort_rules.specs.Rows.{PlainSides}
+use Rattle.ioa_sorts.specs.Sorting.{typed, fit, inbox_of, one_part, two_parts, three_parts, call_one, call_two, call_three, each_fit, sorting, sortings}
 
 module _ {A : Type 0} (source : A → SourceTerm) (names : NameShapes) (w : List ℕ) where
   -- a call of one part
@@ -23,6 +24,19 @@ module _ {A : Type 0} (source : A → SourceTerm) (names : NameShapes) (w : List
   other_than_one k [] other = refl
   other_than_one k (p ∷ []) other = absurd (other refl)
   other_than_one k (p ∷ q ∷ ps) other = refl
+
+  -- a call of `inbox`
+  pub inbox_listed : (p : PlainSides) (ps : List A) (a : A) → length ps ≡ 1 → a ≡ get_or ps 0 a → inbox_of w (sortings names (terms_of (map source ps))) p ≡ and_then (fit (sorting names (source a)) p.other) (λ t. Ok (typed (call w (term t no_terms)) p.whole))
+  unfolding inbox_of
+  inbox_listed p [] a many first = absurd (omega arith)
+  inbox_listed p (b ∷ []) a many first = rw first refl
+  inbox_listed p (b ∷ d ∷ ps) a many first = absurd (omega arith)
+
+  pub inbox_of_others : (p : PlainSides) (ps : List A) → (length ps ≡ 1 → ⊥) → inbox_of w (sortings names (terms_of (map source ps))) p ≡ Err Sorts
+  unfolding inbox_of
+  inbox_of_others p [] other = refl
+  inbox_of_others p (b ∷ []) other = absurd (other refl)
+  inbox_of_others p (b ∷ d ∷ ps) other = refl
 
   -- a call of two parts
   pub two_listed : (k : Pairing) (ps : List A) (a b : A) → length ps ≡ 2 → a ≡ get_or ps 0 a → b ≡ get_or ps 1 b → call_two w k (sortings names (terms_of (map source ps))) ≡ and_then (two_parts k (sorting names (source a)) (sorting names (source b))) (λ p. Ok (typed (call w (term p.left (term p.right no_terms))) p.whole))

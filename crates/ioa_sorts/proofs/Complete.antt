@@ -10,10 +10,13 @@ use Rattle.ioa_operators.specs.declared.operator.BinaryOperator.{BinaryOperator}
 use Rattle.ioa_operators.specs.declared.shape.DisplayForm.{DisplayForm}
 use Rattle.ioa_operators.specs.declared.shape.DisplayForm.TheVariants.{Braces, Brackets}
 use Rattle.ioa_terms.specs.declared.name.Name.{Name}
+use Rattle.ioa_terms.specs.declared.name.Name.TheVariants.{Word}
+use Rattle.ioa_terms.specs.Inboxes.{inboxes_word}
+use Rattle.ioa_terms.specs.Meaning.{is_inbox_word}
 use Rattle.ioa_terms.specs.Bindings.{same_name, slot_in}
 use Rattle.ioa_terms.specs.PlainTerm.{PlainTerm, PlainTerms, number, truth, name, one, two, call, display, field, no_terms, term, terms_of}
 use Rattle.ioa_terms.specs.Resolved.{IsResolved, AreTermsResolved}
-use Rattle.ioa_terms.specs.Sorted.{NameShapes, HasShape, HaveShapes, DisplayIs, FunctionIs, head, tail, items, members, keys, quotient, remainder, inserted, deleted, united, updated, removed, defined, BinaryIs, equivalent, implies, either, both, equal, differ, below, at_most, above, at_least, item_of, member_of, prepended, appended, joined, sum, difference, product, at_key, shape_named, shape_in_terms, field_shape, listed_shapes}
+use Rattle.ioa_terms.specs.Sorted.{NameShapes, CallBy, HasShape, HaveShapes, DisplayIs, FunctionIs, head, tail, items, members, keys, quotient, remainder, inserted, deleted, united, updated, removed, defined, BinaryIs, equivalent, implies, either, both, equal, differ, below, at_most, above, at_least, item_of, member_of, prepended, appended, joined, sum, difference, product, at_key, shape_named, shape_in_terms, field_shape, listed_shapes}
 use Rattle.ioa_source.specs.Erasure.{erase_term, erase_terms}
 use Rattle.ioa_source.specs.Sides.{SourceTerm}
 use Rattle.ioa_sort_rules.specs.declared.refusal.Refusal.{Refusal}
@@ -27,7 +30,7 @@ use Rattle.ioa_sort_rules.proofs.Rules.{unary_from}
 use Rattle.ioa_operators.specs.declared.shape.Shape.{Shape}
 use Rattle.ioa_sort_rules.specs.declared.kinds.Single.TheVariants as single
 use Rattle.ioa_sort_rules.specs.declared.kinds.Alike.TheVariants.{Numbers, Union}
-use Rattle.ioa_sorts.specs.Sorting.{SortedTerm, PlainTyped, typed, PlainPair, pair, PlainUpdate, update, Sorting, own, infer, fit, fit_typed, part_known, one_part, right_tells, left_tells, left_known, right_known, two_parts, map_known, key_known, three_parts, call_one, call_two, call_three, call_of_arity, call_of_function, all_fit, each_fit, display_parts, display_at, field_known, name_known, sorting, sortings}
+use Rattle.ioa_sorts.specs.Sorting.{SortedTerm, PlainTyped, typed, PlainPair, pair, PlainUpdate, update, Sorting, own, infer, fit, fit_typed, part_known, one_part, right_tells, left_tells, left_known, right_known, two_parts, map_known, key_known, three_parts, call_one, call_two, call_three, inbox_of, inbox_known, call_of_none, call_of_arity, call_of_function, all_fit, each_fit, display_parts, display_at, field_known, name_known, sorting, sortings}
 use Rattle.ioa_names.specs.Views.{declared_at, named}
 use Rattle.ioa_sorts.specs.Determined.{is_display, displays, tells, tells_update, tells_parts, tells_call, IsDetermined, AreDetermined}
 use Rattle.ioa_sorts.specs.SortedTerms.{IsTermOf}
@@ -208,6 +211,15 @@ named_found names x at s h g = by_shape (shape_named x names) refl g
     by_shape None e g = absurd (cc)
     by_shape (Some d) e g = let f : shape_in_terms d ≡ s = cc in rw (← declared_found names x at d h e, ← f) refl
 
+-- a name with a shape has a slot
+slot_of_shape : (names : NameShapes) (x : Name) (s : PlainShape) → option_map shape_in_terms (shape_named x names) ≡ Some s → (k : ℕ) × (slot_in x (map (λ n. n.0) names) ≡ Some k)
+slot_of_shape [] x s h = absurd (cc)
+slot_of_shape (n ∷ names) x s h = by_test (same_name x n.0) h (slot_of_shape names x s)
+  where
+    by_test : (b : Bool) → option_map shape_in_terms (if b then Some n.1 else shape_named x names) ≡ Some s → (option_map shape_in_terms (shape_named x names) ≡ Some s → (k : ℕ) × (slot_in x (map (λ n. n.0) names) ≡ Some k)) → (k : ℕ) × ((if b then Some 0 else option_map (λ k. k + 1) (slot_in x (map (λ n. n.0) names))) ≡ Some k)
+    by_test true h rest = (0, refl)
+    by_test false h rest = let r = rest h in (r.0 + 1, rw r.1 refl)
+
 name_known_found : (x : Name) (at : ℕ) (s : PlainShape) (o : Option (ℕ × PlainShape)) → named_is_at at s ≡ o → typed_is (name x at) s ≡ name_known x o
 name_known_found x at s o e = rw (← e) refl
 
@@ -261,6 +273,27 @@ module _ (names : NameShapes) where
   call_found w ts (removed {k} {v}) h told = two_call_found w Removal (maps k v) k (maps k v) (record { left = inl refl; right = inr refl }) ts h told
   call_found w ts (defined {k} {v}) h told = two_call_found w Definition (maps k v) k truths (record { left = inl refl; right = inr refl }) ts h told
 
+  -- a call of `inbox`
+  inbox_of_found : (w : List ℕ) (k v : PlainShape) (ts : PlainTerms ℕ Shape) → AreFound ts (k ∷ []) → typed_is (call w ts) v ≡ inbox_of w (sortings names (erase_terms ts)) (sides k v)
+  unfolding inbox_of
+  inbox_of_found w k v no_terms h = absurd h
+  inbox_of_found w k v (term a no_terms) h = rw (← h.0.fits) refl
+  inbox_of_found w k v (term a (term b ts)) h = absurd h.1
+
+  inbox_found : (w : List ℕ) (k s : PlainShape) (ts : PlainTerms ℕ Shape) → option_map shape_in_terms (shape_named (Word inboxes_word) names) ≡ Some (maps k s) → AreFound ts (k ∷ []) → typed_is (call w ts) s ≡ inbox_known w (sortings names (erase_terms ts)) (named (Word inboxes_word) names)
+  inbox_found w k s ts g h =
+      let slot = slot_of_shape names (Word inboxes_word) (maps k s) g in
+      rw (← named_found names (Word inboxes_word) slot.0 (maps k s) slot.1 g) (inbox_of_found w k s ts h)
+
+  none_found : (w : List ℕ) (ts : PlainTerms ℕ Shape) (k s : PlainShape) → is_inbox_word w ≡ true → option_map shape_in_terms (shape_named (Word inboxes_word) names) ≡ Some (maps k s) → AreFound ts (k ∷ []) → typed_is (call w ts) s ≡ call_of_none names w (sortings names (erase_terms ts))
+  unfolding call_of_none
+  none_found w ts k s is g h = rw is (inbox_found w k s ts g h)
+
+  -- a call, by its name
+  call_by_found : (w : List ℕ) (ts : PlainTerms ℕ Shape) (o : Option Function) (xs : List PlainShape) (s : PlainShape) → CallBy o names w xs s → AreFound ts xs → tells_call o (displays (erase_terms ts)) ≡ true → typed_is (call w ts) s ≡ call_of_function names w (sortings names (erase_terms ts)) o
+  call_by_found w ts None xs s h g told = none_found w ts h.0 s h.1 h.3 (subst (AreFound ts) h.2 g)
+  call_by_found w ts (Some f) xs s h g told = call_found w ts h g told
+
   -- displays
   all_found : (s : PlainShape) (ts : PlainTerms ℕ Shape) (ss : List PlainShape) → AreFound ts ss → AllByRecursion (λ y. y ≡ s) ss → list_is (listed_terms ts) ≡ all_fit (sortings names (erase_terms ts)) s
   all_found s no_terms [] h g = refl
@@ -307,7 +340,7 @@ module _ (names : NameShapes) where
     finds (two op a b) s h r d =
         own_finds (two op a b) s _ (rw (← two_found (pairing_of op) h.0 h.1 s a b (sorting names (erase_term a)) (sorting names (erase_term b)) (is_display (erase_term a)) (is_display (erase_term b)) (finds a h.0 h.2 r.0 d.0) (finds b h.1 h.3 r.1 d.1) d.2 (binary_rule h.4)) refl)
     finds (call w ts) s h r d =
-        own_finds (call w ts) s (call_of_function w (sortings names (erase_terms ts)) (function_named w)) (subst (λ o. tells_call o (displays (erase_terms ts)) ≡ true → typed_is (call w ts) s ≡ call_of_function w (sortings names (erase_terms ts)) o) (sym h.2) (call_found w ts h.4 (each_finds ts h.1 h.3 r d.0)) d.1)
+        own_finds (call w ts) s (call_of_function names w (sortings names (erase_terms ts)) (function_named w)) (call_by_found w ts (function_named w) h.0 s h.2 (each_finds ts h.0 h.1 r d.0) d.1)
     finds (display form e ts) s h r d = record { fits = rw h.1 (display_found form e ts h.0 (each_finds ts h.0 h.2 r d) h.3); infers = refl }
     finds (field a w e) s h r d =
         let p = subst (λ b. Finds b a e (sorting names (erase_term a))) d.1 (finds a e h.0 r d.0) in

@@ -4,7 +4,7 @@ use Rattle.std.specs.List.{AllByRecursion, AllZip, IsDistinct}
 use Rattle.ioa_operators.specs.Shapes.{PlainShape, truths, maps}
 use Rattle.ioa_operators.specs.declared.shape.Shape.{Shape}
 use Rattle.ioa_terms.specs.declared.name.Name.TheVariants.{Word}
-use Rattle.ioa_terms.specs.PlainTerm.{variable, at_key, at_field, assign, branch, loop, fire, firing, no_statements, statement, statements_of, PlainArms, no_arms, arm, arms_of}
+use Rattle.ioa_terms.specs.PlainTerm.{variable, at_key, at_field, assign, branch, loop, fire, no_statements, statement, statements_of, PlainArms, no_arms, arm, arms_of}
 use Rattle.ioa_terms.specs.Resolved.{IsResolvedTarget, IsResolvedFiring, IsResolvedStatement, AreArmsResolved, AreAllResolved}
 use Rattle.ioa_terms.specs.declared.tree.Kind.{Kind}
 use Rattle.ioa_terms.specs.Bindings.{same_word}
@@ -17,7 +17,7 @@ use Rattle.ioa_sort_rules.specs.declared.refusal.Refusal.{Refusal}
 use Rattle.ioa_sort_rules.specs.Rows.{value_of_field}
 use Rattle.ioa_sorts.specs.Sorting.{SortedTerm, fit, sorting}
 use Rattle.ioa_names.specs.Views.{declared_at}
-use Rattle.ioa_sorts.specs.Statements.{SortedTarget, SortedStatement, SortedStatements, PlainTypedTarget, typed_target, all_ok, assigned_or, assigned, if_in_block, whole_target, key_target, field_target, target_sorting, assignment_sorting, statement_sorting, statement_sortings, arm_sortings}
+use Rattle.ioa_sorts.specs.Statements.{SortedTarget, SortedStatement, SortedStatements, PlainTypedTarget, typed_target, all_ok, assigned_or, if_in_block, whole_target, key_target, field_target, target_sorting, assignment_sorting, statement_sorting, statement_sortings, arm_sortings}
 use Rattle.ioa_sorts.specs.SortedStatements.{HoldsShape, NamesKind, IsFired, IsSorted, AreArmsSorted, AreSorted, IsDeterminedTarget, IsDeterminedStatement, AreArmsDetermined, AreStatementsDetermined, IsStatementOf}
 use Rattle.ioa_sorts.specs.Determined.{IsDetermined}
 use Rattle.ioa_terms.specs.Resolved.{IsResolved}

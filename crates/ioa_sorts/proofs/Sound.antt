@@ -1,5 +1,5 @@
 -- What the rules of sorts find of a term.
-use Rattle.std.proofs.Common.{◌≡◌, ◌⊎◌, inl, inr, ℕ, ◌+◌, Bool, true, false, IfOk, List, [], ◌∷◌, Option, Some, None, Result, Ok, Err, map, refl, sym, ap, subst, if◌then◌else◌}
+use Rattle.std.proofs.Common.{◌≡◌, ◌⊎◌, inl, inr, ℕ, ◌+◌, Bool, true, false, IfOk, List, [], ◌∷◌, Option, Some, None, Result, Ok, Err, map, refl, sym, ap, subst, ◌∙◌, if◌then◌else◌}
 use Rattle.std.specs.Option.{option_map}
 use Rattle.std.specs.List.{AllByRecursion}
 use Rattle.ioa_values.specs.Outcome.{and_then}
@@ -10,14 +10,17 @@ use Rattle.ioa_operators.specs.declared.operator.BinaryOperator.{BinaryOperator}
 use Rattle.ioa_operators.specs.declared.shape.DisplayForm.{DisplayForm}
 use Rattle.ioa_operators.specs.declared.shape.DisplayForm.TheVariants.{Braces, Brackets}
 use Rattle.ioa_terms.specs.declared.name.Name.{Name}
+use Rattle.ioa_terms.specs.declared.name.Name.TheVariants.{Word}
 use Rattle.ioa_terms.specs.Bindings.{same_name, slot_in}
 use Rattle.ioa_terms.specs.PlainTerm.{number, truth, name, one, two, call, display, field, no_terms, term, terms_of}
 use Rattle.ioa_terms.specs.Resolved.{AreTermsResolved}
-use Rattle.ioa_terms.specs.Sorted.{NameShapes, HaveShapes, DisplayIs, FunctionIs, BinaryIs, shape_named, shape_in_terms, field_shape, listed_shapes}
+use Rattle.ioa_terms.specs.Inboxes.{inboxes_word}
+use Rattle.ioa_terms.specs.Meaning.{is_inbox_word}
+use Rattle.ioa_terms.specs.Sorted.{NameShapes, HaveShapes, DisplayIs, FunctionIs, CallBy, CallIs, BinaryIs, shape_named, shape_in_terms, field_shape, listed_shapes}
 use Rattle.ioa_source.specs.Erasure.{erase_terms}
 use Rattle.ioa_source.specs.Sides.{SourceTerm, SourceTerms}
 use Rattle.ioa_sort_rules.specs.declared.refusal.Refusal.{Refusal}
-use Rattle.ioa_sort_rules.specs.declared.refusal.Refusal.TheVariants.{Sorts}
+use Rattle.ioa_sort_rules.specs.declared.refusal.Refusal.TheVariants.{Sorts, Unknown}
 use Rattle.ioa_sort_rules.specs.declared.kinds.Single.{Single}
 use Rattle.ioa_sort_rules.specs.declared.kinds.Pairing.{Pairing}
 use Rattle.ioa_sort_rules.specs.declared.kinds.Pairing.TheVariants.{Both, Membership, Prepend, Append, Members, At, Removal, Definition}
@@ -27,8 +30,8 @@ use Rattle.ioa_sort_rules.specs.Kinds.{single_of, pairing_of, arity_of}
 use Rattle.ioa_sort_rules.specs.Rows.{PlainSides, sides, value_of_one, other_of_left, other_of_right, entry_of, declared_field, value_of_field}
 use Rattle.ioa_sort_rules.specs.SameSorts.{same_sort}
 use Rattle.ioa_sort_rules.proofs.Rules.{unary_is, left_is, right_is, one_is, two_left_is, two_right_is, update_is}
-use Rattle.ioa_sorts.specs.Sorting.{SortedTerm, PlainTyped, typed, PlainPair, pair, PlainUpdate, update, Sorting, own, given, infer, fit, fit_typed, part_known, one_part, right_tells, left_tells, left_known, right_known, right_first, left_first, two_parts, map_known, value_first, key_known, key_first, map_first, three_parts, call_one, call_two, call_three, call_of_arity, call_of_function, all_fit, each_fit, display_parts, display_at, field_known, name_known, sorting, sortings}
-use Rattle.ioa_names.specs.Views.{declared_at}
+use Rattle.ioa_sorts.specs.Sorting.{SortedTerm, PlainTyped, typed, PlainPair, pair, PlainUpdate, update, Sorting, own, given, infer, fit, fit_typed, part_known, one_part, right_tells, left_tells, left_known, right_known, right_first, left_first, two_parts, map_known, value_first, key_known, key_first, map_first, three_parts, call_one, call_two, call_three, inbox_of, inbox_known, call_of_none, call_of_arity, call_of_function, all_fit, each_fit, display_parts, display_at, field_known, name_known, sorting, sortings}
+use Rattle.ioa_names.specs.Views.{declared_at, named}
 use Rattle.ioa_sorts.specs.Determined.{is_display, tells, tells_update, AreDetermined}
 use Rattle.ioa_sort_rules.specs.DeclaredTypes.{TupleTypes, IsDeclared, AreAllDeclared}
 use Rattle.ioa_sorts.specs.SortedTerms.{IsTermOf}
@@ -280,6 +283,9 @@ module _ (types : TupleTypes) (names : NameShapes) where
     abbrev IsCall : SourceTerms → PlainTyped → Type 0
     IsCall us p = IsFound types names (call w us) p.tree p.shape
 
+    by_function : (xs : List PlainShape) (s : PlainShape) → FunctionIs f xs s → CallIs names w xs s
+    by_function xs s h = subst (λ o. CallBy o names w xs s) (sym is) h
+
     one_call : (k : Single) (us : SourceTerms) (fs : List Sorting) → arity_of f ≡ One k → AreGood us fs → IfOk (call_one w k fs) (IsCall us)
     unfolding call_one
     one_call k no_terms [] e g = tt
@@ -291,7 +297,7 @@ module _ (types : TupleTypes) (names : NameShapes) where
           of = record {
             same = ap (λ a. call w (term a no_terms)) p.found.of.same;
             resolved = (p.found.of.resolved, tt);
-            has_shape = (f, p.part ∷ [], is, (p.found.of.has_shape, tt), one_is f k p.part t.shape e p.value);
+            has_shape = (p.part ∷ [], (p.found.of.has_shape, tt), by_function (p.part ∷ []) t.shape (one_is f k p.part t.shape e p.value));
             determined = ((p.found.of.determined, tt), rw (is, e, p.bare) refl);
           };
           declared = p.declared;
@@ -310,7 +316,7 @@ module _ (types : TupleTypes) (names : NameShapes) where
           of = record {
             same = λ i. call w (term (q.first.of.same i) (term (q.second.of.same i) no_terms));
             resolved = (q.first.of.resolved, (q.second.of.resolved, tt));
-            has_shape = (f, q.x ∷ q.y ∷ [], is, (q.first.of.has_shape, (q.second.of.has_shape, tt)), by_rule p q q.rule);
+            has_shape = (q.x ∷ q.y ∷ [], (q.first.of.has_shape, (q.second.of.has_shape, tt)), by_function (q.x ∷ q.y ∷ []) p.whole (by_rule p q q.rule));
             determined = ((q.first.of.determined, (q.second.of.determined, tt)), rw (is, e) q.told);
           };
           declared = q.declared;
@@ -335,7 +341,7 @@ module _ (types : TupleTypes) (names : NameShapes) where
           of = record {
             same = λ i. call w (term (q.first.of.same i) (term (q.second.of.same i) (term (q.third.of.same i) no_terms)));
             resolved = (q.first.of.resolved, (q.second.of.resolved, (q.third.of.resolved, tt)));
-            has_shape = (f, p.whole ∷ q.keys ∷ q.values ∷ [], is, (q.first.of.has_shape, (q.second.of.has_shape, (q.third.of.has_shape, tt))), subst (λ m. FunctionIs f (m ∷ q.keys ∷ q.values ∷ []) m) (sym q.whole) (update_is f q.keys q.values e));
+            has_shape = (p.whole ∷ q.keys ∷ q.values ∷ [], (q.first.of.has_shape, (q.second.of.has_shape, (q.third.of.has_shape, tt))), by_function (p.whole ∷ q.keys ∷ q.values ∷ []) p.whole (subst (λ m. FunctionIs f (m ∷ q.keys ∷ q.values ∷ []) m) (sym q.whole) (update_is f q.keys q.values e)));
             determined = ((q.first.of.determined, (q.second.of.determined, (q.third.of.determined, tt))), rw (is, e) q.told);
           };
           declared = q.first.declared;
@@ -352,9 +358,46 @@ module _ (types : TupleTypes) (names : NameShapes) where
     arity_call (Two k) us fs e g = two_call k us fs e g
     arity_call Update us fs e g = three_call us fs e g
 
-  named_call : (w : List ℕ) (us : SourceTerms) (fs : List Sorting) → AreGood us fs → (o : Option Function) → function_named w ≡ o → IfOk (call_of_function w fs o) (λ p. IsFound types names (call w us) p.tree p.shape)
-  named_call w us fs g None e = tt
-  named_call w us fs g (Some f) e = arity_call w f e (arity_of f) us fs refl g
+  -- a call of `inbox`
+  module _ (w : List ℕ) (none : function_named w ≡ None) (is : is_inbox_word w ≡ true) where
+    abbrev IsInbox : SourceTerms → PlainTyped → Type 0
+    IsInbox us p = IsFound types names (call w us) p.tree p.shape
+
+    inbox_of_good : (us : SourceTerms) (fs : List Sorting) (e : PlainSides) → AreGood us fs → AreBoth types e → option_map shape_in_terms (shape_named (Word inboxes_word) names) ≡ Some (maps e.other e.whole) → IfOk (inbox_of w fs e) (IsInbox us)
+    unfolding inbox_of
+    inbox_of_good us [] e g d h = tt
+    inbox_of_good no_terms (x ∷ fs) e g d h = absurd g
+    inbox_of_good (term u no_terms) (x ∷ []) e g d h =
+        chain (λ t. IsFound types names u t e.other) (IsInbox (term u no_terms)) (λ t. Ok (typed (call w (term t no_terms)) e.whole)) (fit x e.other) (fit_good u x e.other g.0 d.0)
+        (λ t p. record {
+          of = record {
+            same = ap (λ a. call w (term a no_terms)) p.of.same;
+            resolved = (p.of.resolved, tt);
+            has_shape = (e.other ∷ [], (p.of.has_shape, tt), subst (λ o. CallBy o names w (e.other ∷ []) e.whole) (sym none) (e.other, is, refl, h));
+            determined = ((p.of.determined, tt), rw none refl);
+          };
+          declared = d.1;
+        })
+    inbox_of_good (term u (term v us)) (x ∷ []) e g d h = absurd g.1
+    inbox_of_good us (x ∷ y ∷ fs) e g d h = tt
+
+    inbox_good : (us : SourceTerms) (fs : List Sorting) → AreGood us fs → (o : Option (ℕ × PlainShape)) → IsDeclaredIf types names (Word inboxes_word) o → IfOk (inbox_known w fs (option_map (λ p. (p.0, shape_in_terms p.1)) o)) (IsInbox us)
+    inbox_good us fs g None k = tt
+    inbox_good us fs g (Some m) k =
+        chain (λ e. AreBoth types e × (shape_in_terms m.1 ≡ maps e.other e.whole)) (IsInbox us) (inbox_of w fs) (entry_of (shape_in_terms m.1)) (entry_declared types (shape_in_terms m.1) (in_terms types m.1 k.declared))
+        (λ e d. inbox_of_good us fs e g d.0 (ap (option_map shape_in_terms) k.shape ∙ ap (λ s. Some s) d.1))
+
+  none_call : (w : List ℕ) (us : SourceTerms) (fs : List Sorting) → AreAllDeclared types names → AreGood us fs → function_named w ≡ None → (b : Bool) → is_inbox_word w ≡ b → IfOk (if b then inbox_known w fs (named (Word inboxes_word) names) else Err Unknown) (λ p. IsFound types names (call w us) p.tree p.shape)
+  none_call w us fs d g none true e = inbox_good w none e us fs g (declared_at (Word inboxes_word) names) (declared_is types names (Word inboxes_word) d)
+  none_call w us fs d g none false e = tt
+
+  called_by_none : (w : List ℕ) (us : SourceTerms) (fs : List Sorting) → AreAllDeclared types names → AreGood us fs → function_named w ≡ None → IfOk (call_of_none names w fs) (λ p. IsFound types names (call w us) p.tree p.shape)
+  unfolding call_of_none
+  called_by_none w us fs d g none = none_call w us fs d g none (is_inbox_word w) refl
+
+  named_call : (w : List ℕ) (us : SourceTerms) (fs : List Sorting) → AreAllDeclared types names → AreGood us fs → (o : Option Function) → function_named w ≡ o → IfOk (call_of_function names w fs o) (λ p. IsFound types names (call w us) p.tree p.shape)
+  named_call w us fs d g None e = called_by_none w us fs d g e
+  named_call w us fs d g (Some f) e = arity_call w f e (arity_of f) us fs refl g
 
   -- displays
   abbrev AllAre : PlainShape → List PlainShape → Type 0
@@ -501,7 +544,7 @@ module _ (types : TupleTypes) (names : NameShapes) where
               declared = q.declared;
             }),
       )
-      good (call w ts) = (refl, named_call w ts (sortings names ts) (goods ts) (function_named w) refl)
+      good (call w ts) = (refl, named_call w ts (sortings names ts) declared (goods ts) (function_named w) refl)
       good (display form tt ts) = display_good form ts (sortings names ts) (goods ts)
       good (field a w tt) = field_good w a (sorting names a) (good a)
 

@@ -1,6 +1,6 @@
 -- What the rules of sorts find of a statement.
 use Rattle.std.proofs.Common.{◌≡◌, ℕ, Bool, true, false, IfOk, List, [], ◌∷◌, Option, Some, None, Result, Ok, Err, map, find, refl, sym, ap, subst, if◌then◌else◌}
-use Rattle.std.specs.List.{AllByRecursion, AllZip, Contains}
+use Rattle.std.specs.List.{AllByRecursion, AllZip}
 use Rattle.ioa_values.specs.Outcome.{and_then}
 use Rattle.ioa_operators.specs.Shapes.{PlainShape, truths, maps}
 use Rattle.ioa_terms.specs.declared.name.Name.TheVariants.{Word}

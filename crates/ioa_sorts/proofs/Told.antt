@@ -7,6 +7,9 @@ use Rattle.ioa_operators.specs.declared.operator.Function.{Function}
 use Rattle.ioa_operators.specs.declared.shape.DisplayForm.{DisplayForm}
 use Rattle.ioa_operators.specs.declared.shape.DisplayForm.TheVariants.{Braces, Brackets}
 use Rattle.ioa_terms.specs.declared.name.Name.{Name}
+use Rattle.ioa_terms.specs.declared.name.Name.TheVariants.{Word}
+use Rattle.ioa_terms.specs.Inboxes.{inboxes_word}
+use Rattle.ioa_terms.specs.Meaning.{is_inbox_word}
 use Rattle.ioa_terms.specs.PlainTerm.{number, truth, name, one, two, call, display, field, no_terms, term, terms_of}
 use Rattle.ioa_terms.specs.Sorted.{NameShapes, shape_in_terms, field_shape, listed_shapes}
 use Rattle.ioa_source.specs.Sides.{SourceTerm, SourceTerms}
@@ -23,7 +26,7 @@ use Rattle.ioa_sort_rules.specs.SameSorts.{same_sort}
 use Rattle.ioa_sort_rules.specs.declared.kinds.Single.TheVariants as single
 use Rattle.ioa_sort_rules.specs.declared.kinds.Alike.{Alike}
 use Rattle.ioa_sort_rules.specs.declared.kinds.Alike.TheVariants as alike
-use Rattle.ioa_sorts.specs.Sorting.{PlainTyped, typed, pair, update, Sorting, own, given, infer, fit, fit_typed, part_known, one_part, right_tells, left_tells, left_known, right_known, right_first, left_first, two_parts, map_known, value_first, key_known, key_first, map_first, three_parts, call_one, call_two, call_three, call_of_arity, call_of_function, all_fit, each_fit, display_parts, field_known, name_known, sorting, sortings}
+use Rattle.ioa_sorts.specs.Sorting.{PlainTyped, typed, pair, update, Sorting, own, given, infer, fit, fit_typed, part_known, one_part, right_tells, left_tells, left_known, right_known, right_first, left_first, two_parts, map_known, value_first, key_known, key_first, map_first, three_parts, call_one, call_two, call_three, inbox_of, inbox_known, call_of_none, call_of_arity, call_of_function, all_fit, each_fit, display_parts, field_known, name_known, sorting, sortings}
 use Rattle.ioa_names.specs.Views.{named}
 use Rattle.ioa_sorts.specs.Determined.{is_display, displays, tells, tells_update, tells_parts, tells_call, IsDetermined, AreDetermined}
 use Rattle.ioa_sorts.proofs.Complete.{none_told}
@@ -407,8 +410,27 @@ module _ (names : NameShapes) where
   arity_calm w (Two k) us h told = two_call_calm w k us h told
   arity_calm w Update us h told = three_call_calm w us h told
 
-  call_calm : (w : List ℕ) (us : SourceTerms) → AreCalm us → (o : Option Function) → tells_call o (displays us) ≡ true → Calmly Anything (call_of_function w (sortings names us) o)
-  call_calm w us h None told = unknown_is_calm
+  -- a call of `inbox`
+  inbox_of_calm : (w : List ℕ) (us : SourceTerms) (e : PlainSides) → AreCalm us → Calmly Anything (inbox_of w (sortings names us) e)
+  unfolding inbox_of
+  inbox_of_calm w no_terms e h = sorts_is_calm
+  inbox_of_calm w (term u no_terms) e h = calm_end Anything (λ t. typed (call w (term t no_terms)) e.whole) (fit (sorting names u) e.other) (fit_calm (is_display u) (sorting names u) e.other h.0)
+  inbox_of_calm w (term u (term v us)) e h = sorts_is_calm
+
+  inbox_calm : (w : List ℕ) (us : SourceTerms) (o : Option (ℕ × PlainShape)) → AreCalm us → Calmly Anything (inbox_known w (sortings names us) o)
+  inbox_calm w us None h = unknown_is_calm
+  inbox_calm w us (Some m) h = calm_chain Anything Anything (inbox_of w (sortings names us)) (entry_of m.1) (entry_calm m.1) (λ e _. inbox_of_calm w us e h)
+
+  none_calm : (w : List ℕ) (us : SourceTerms) → AreCalm us → (b : Bool) → Calmly Anything (if b then inbox_known w (sortings names us) (named (Word inboxes_word) names) else Err Unknown)
+  none_calm w us h true = inbox_calm w us (named (Word inboxes_word) names) h
+  none_calm w us h false = unknown_is_calm
+
+  called_by_none_calm : (w : List ℕ) (us : SourceTerms) → AreCalm us → Calmly Anything (call_of_none names w (sortings names us))
+  unfolding call_of_none
+  called_by_none_calm w us h = none_calm w us h (is_inbox_word w)
+
+  call_calm : (w : List ℕ) (us : SourceTerms) → AreCalm us → (o : Option Function) → tells_call o (displays us) ≡ true → Calmly Anything (call_of_function names w (sortings names us) o)
+  call_calm w us h None told = called_by_none_calm w us h
   call_calm w us h (Some f) told = arity_calm w (arity_of f) us h told
 
   -- displays

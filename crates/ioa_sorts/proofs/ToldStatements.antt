@@ -1,5 +1,5 @@
 -- The rules refuse a display of a statement for want of a sort only if the displays are not all determined.
-use Rattle.std.proofs.Common.{◌≡◌, ℕ, Bool, true, false, List, [], ◌∷◌, Option, Some, None, Result, Ok, Err, find, if◌then◌else◌}
+use Rattle.std.proofs.Common.{◌≡◌, ℕ, Bool, true, false, List, [], ◌∷◌, Option, Some, None, Result, Ok, Err, find}
 use Rattle.std.specs.List.{AllByRecursion}
 use Rattle.ioa_values.specs.Outcome.{and_then}
 use Rattle.ioa_operators.specs.Shapes.{PlainShape, truths}
@@ -9,7 +9,7 @@ use Rattle.ioa_terms.specs.Sorted.{NameShapes, shape_in_terms}
 use Rattle.ioa_source.specs.Sides.{SourceTarget, SourceTerm, SourceStatement, SourceStatements, SourceArms, SourceFiring}
 use Rattle.ioa_system.specs.Parts.{PlainRule}
 use Rattle.ioa_sort_rules.specs.declared.refusal.Refusal.{Refusal}
-use Rattle.ioa_sort_rules.specs.declared.refusal.Refusal.TheVariants.{Unknown, EmptyOfWhat, ScheduleAssignsState}
+use Rattle.ioa_sort_rules.specs.declared.refusal.Refusal.TheVariants.{EmptyOfWhat, ScheduleAssignsState}
 use Rattle.ioa_sort_rules.specs.Rows.{entry_of, value_of_field}
 use Rattle.ioa_sorts.specs.Sorting.{fit, sorting}
 use Rattle.ioa_names.specs.Views.{declared_at}

@@ -9,6 +9,9 @@ use Rattle.ioa_operators.specs.declared.shape.DisplayForm.{DisplayForm}
 use Rattle.ioa_operators.specs.declared.shape.DisplayForm.TheVariants.{Braces, Brackets}
 use Rattle.ioa_operators.specs.declared.shape.Shape.{Shape}
 use Rattle.ioa_terms.specs.declared.name.Name.{Name}
+use Rattle.ioa_terms.specs.declared.name.Name.TheVariants.{Word}
+use Rattle.ioa_terms.specs.Inboxes.{inboxes_word}
+use Rattle.ioa_terms.specs.Meaning.{is_inbox_word}
 use Rattle.ioa_terms.specs.PlainTerm.{PlainTerm, number, truth, name, one, two, call, display, field}
 use Rattle.ioa_terms.specs.PlainTerm.{no_terms, term, terms_of}
 use Rattle.ioa_terms.specs.Sorted.{NameShapes, shape_in_terms, listed_shapes}
@@ -165,9 +168,23 @@ call_of_arity w fs (One k) = call_one w k fs
 call_of_arity w fs (Two k) = call_two w k fs
 call_of_arity w fs Update = call_three w fs
 
-abbrev pub call_of_function : List ℕ → List Sorting → Option Function → Result PlainTyped Refusal
-call_of_function w fs None = Err Unknown
-call_of_function w fs (Some f) = call_of_arity w fs (arity_of f)
+-- a call of `inbox`, by the map of the inboxes in view: its one part is a key of the map, and its value is what the map
+-- has there
+unfoldable pub inbox_of : List ℕ → List Sorting → PlainSides → Result PlainTyped Refusal
+inbox_of w (f ∷ []) p = and_then (fit f p.other) (λ t. Ok (typed (call w (term t no_terms)) p.whole))
+inbox_of w fs p = Err Sorts
+
+abbrev pub inbox_known : List ℕ → List Sorting → Option (ℕ × PlainShape) → Result PlainTyped Refusal
+inbox_known w fs None = Err Unknown
+inbox_known w fs (Some m) = and_then (entry_of m.1) (inbox_of w fs)
+
+-- a call whose name is no function's: only `inbox` has a meaning, where the inboxes are in view
+unfoldable pub call_of_none : NameShapes → List ℕ → List Sorting → Result PlainTyped Refusal
+call_of_none names w fs = if is_inbox_word w then inbox_known w fs (named (Word inboxes_word) names) else Err Unknown
+
+abbrev pub call_of_function : NameShapes → List ℕ → List Sorting → Option Function → Result PlainTyped Refusal
+call_of_function names w fs None = call_of_none names w fs
+call_of_function names w fs (Some f) = call_of_arity w fs (arity_of f)
 
 -- terms that all have one shape, and terms that have shapes one by one
 abbrev pub all_fit : List Sorting → PlainShape → Result (List SortedTerm) Refusal
@@ -210,7 +227,7 @@ abbrev mutual
       own (and_then (one_part (single_of op) (sorting names a)) (λ t. Ok (typed (one op t.tree) t.shape)))
   sorting names (two op a b) = own (and_then (two_parts (pairing_of op) (sorting names a) (sorting names b))
       (λ p. Ok (typed (two op p.left p.right) p.whole)))
-  sorting names (call w ts) = own (call_of_function w (sortings names ts) (function_named w))
+  sorting names (call w ts) = own (call_of_function names w (sortings names ts) (function_named w))
   sorting names (display form u ts) = given (display_at form (sortings names ts))
   sorting names (field a w u) = own (and_then (infer (sorting names a)) (field_known w))
 

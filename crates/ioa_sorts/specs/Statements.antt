@@ -103,6 +103,7 @@ abbrev mutual
       ∷ arm_sortings s more
 
 -- an arm: its test is a truth value
-abbrev pub arm_sorting : PlainStatementSite → SourceTerm × SourceStatements → Result (SortedTerm × SortedStatements) Refusal
+abbrev pub arm_sorting : PlainStatementSite → SourceTerm × SourceStatements
+    → Result (SortedTerm × SortedStatements) Refusal
 arm_sorting s a = and_then (fit (sorting s.names a.0) truths)
     (λ v. and_then (all_ok (statement_sortings s a.1)) (λ ss. Ok (v, statements_of ss)))

@@ -46,6 +46,13 @@ impl Actions {
     }
 
     /// The rules, in the order of the signature.
+    pub fn rules(&self) -> &[Rule]
+        ensures { result.now ≡ self.now.rules.items }
+    {
+        self.rules.as_slice()
+    }
+
+    /// The rules, taken out of the actions.
     pub fn into_rules(self) -> Vec<Rule>
         ensures { result ≡ self.rules }
     {

@@ -9,6 +9,9 @@ ghost use Rattle.ioa_terms.specs.PlainTerm as plain;
 ghost use Rattle.ioa_terms.specs.PlainTerm.{terms_of};
 ghost use Rattle.ioa_terms.specs.Sorted.{shape_in_terms, listed_shapes};
 ghost use Rattle.ioa_terms.specs.View.{term_of};
+ghost use Rattle.ioa_terms.specs.Inboxes.{inboxes_word};
+ghost use Rattle.ioa_names.specs.Views.{named};
+ghost use Rattle.ioa_sort_rules.specs.Rows as rows;
 ghost use Rattle.ioa_sorts.specs.Sorting as spec;
 ghost use Rattle.ioa_sorts.specs.SortingView.{typed_of, pair_of, update_of};
 
@@ -18,10 +21,12 @@ use crate::parts::{
 };
 use ioa_names::View;
 use ioa_sort_rules::{
-    Arity, Pairing, Refusal, Single, arity_of, entry_of, map_of, other_of_left, other_of_right,
-    pairing_of, shape_in_terms, single_of, undetermined,
+    Arity, Pairing, Refusal, Sides, Single, arity_of, entry_of, map_of, other_of_left,
+    other_of_right, pairing_of, shape_in_terms, single_of, undetermined,
 };
-use ioa_terms::{Checked, DisplayForm, Function, Shape, ShapeForm, Term, Word};
+use ioa_terms::{
+    Checked, DisplayForm, Function, Name, Shape, ShapeForm, Term, Word, inboxes_word, is_inbox,
+};
 use std::alloc::Global;
 
 /// The term with the slot of each name and the shape of each display, and the shape of its value. Nothing if the term
@@ -233,16 +238,92 @@ fn key_known(alloc: Global, view: &View, a: &Term, d: &Term, key: Typed) -> Resu
     }
 }
 
-/// A call of a function, by its name.
+/// A call, by its name.
 #[cycle(sorting)]
 fn call(alloc: Global, view: &View, parts: &Vec<Term>, name: &Word) -> Result<Typed, Refusal>
-    ensures { Answers Refusal.Memory typed_of result (spec.call_of_function name.now
+    ensures { Answers Refusal.Memory typed_of result (spec.call_of_function view.now name.now
         (spec.sortings view.now (terms_of (map term_of parts.now.items))) (function_named name.now)) }
 {
     match Function::named(name) {
         Some(function) => call_of_arity(alloc, view, parts, name, arity_of(function)),
-        None => Err(Refusal::Unknown),
+        None => call_of_none(alloc, view, parts, name),
     }
+}
+
+/// A call whose name is no function's: only `inbox` has a meaning. `Unknown` (20) for another, or if the inboxes are
+/// not in view.
+#[cycle(sorting)]
+#[tactic(auto, unfolding(crate::specs::Sorting::call_of_none))]
+fn call_of_none(
+    alloc: Global,
+    view: &View,
+    parts: &Vec<Term>,
+    name: &Word,
+) -> Result<Typed, Refusal>
+    ensures { Answers Refusal.Memory typed_of result (spec.call_of_none view.now name.now
+        (spec.sortings view.now (terms_of (map term_of parts.now.items)))) }
+{
+    if is_inbox(name) {
+        inbox(alloc, view, parts, name)
+    } else {
+        Err(Refusal::Unknown)
+    }
+}
+
+/// A call of `inbox`, by the shape of the inboxes in view.
+#[cycle(sorting)]
+fn inbox(alloc: Global, view: &View, parts: &Vec<Term>, name: &Word) -> Result<Typed, Refusal>
+    ensures { Answers Refusal.Memory typed_of result (spec.inbox_known name.now
+        (spec.sortings view.now (terms_of (map term_of parts.now.items))) (named (Name.Word inboxes_word) view.now)) }
+{
+    let inboxes = Name::Word(inboxes_word(alloc)?);
+    match view.find(&inboxes) {
+        None => Err(Refusal::Unknown),
+        Some((_, map)) => {
+            let sides = entry_of(alloc, map)?;
+            inbox_of(alloc, view, parts, name, sides)
+        }
+    }
+}
+
+/// A call of `inbox`, by the shapes of a sender and of what waits from it.
+#[cycle(sorting)]
+fn inbox_of(
+    alloc: Global,
+    view: &View,
+    parts: &Vec<Term>,
+    name: &Word,
+    sides: Sides,
+) -> Result<Typed, Refusal>
+    ensures { Answers Refusal.Memory typed_of result (spec.inbox_of name.now
+        (spec.sortings view.now (terms_of (map term_of parts.now.items))) (rows.sides sides.other sides.whole)) }
+{
+    if parts.len() == 1 {
+        inbox_of_one(alloc, view, &parts[0], name, sides)
+    } else {
+        Err(Refusal::Sorts)
+    }
+}
+
+/// A call of `inbox` of one part, which is given.
+#[cycle(sorting)]
+fn inbox_of_one(
+    alloc: Global,
+    view: &View,
+    a: &Term,
+    name: &Word,
+    sides: Sides,
+) -> Result<Typed, Refusal>
+    ensures { Answers Refusal.Memory typed_of result
+        (and_then (spec.fit (spec.sorting view.now (term_of a.now)) sides.other)
+        (λ t. Ok (spec.typed (plain.call name.now (plain.term t plain.no_terms)) sides.whole))) }
+{
+    let tree = fit(alloc, view, a, &sides.other)?;
+    let part = Typed {
+        tree,
+        shape: sides.whole,
+    };
+    Ok(call_of_part(alloc, name, part)?)
 }
 
 /// A call of a function that takes as many parts as its kind says.

@@ -1,12 +1,14 @@
 -- What the terms of an automaton may read (profile: the table of names).
-use Rattle.std.specs.Prelude.{ℕ, List, [], ◌∷◌, ◌++◌, map}
+use Rattle.std.specs.Prelude.{ℕ, List, [], ◌∷◌, ◌++◌, map, Option, Some, None}
 use Rattle.ioa_values.specs.Data.{Data}
 use Rattle.ioa_terms.specs.declared.name.Name.{Name}
 use Rattle.ioa_terms.specs.declared.name.Name.TheVariants.{Word}
+use Rattle.ioa_operators.specs.Shapes.{PlainShape}
 use Rattle.ioa_terms.specs.Bindings.{Bindings, environment}
+use Rattle.ioa_terms.specs.Inboxes.{inboxes_word}
 use Rattle.ioa_source.specs.PlainText.{PlainAutomaton, PlainDeclared, PlainParameter, PlainVariable, const, named}
 use Rattle.ioa_source.specs.Sides.{CheckedParameter}
-use Rattle.ioa_system.specs.Parts.{AutomatonParts}
+use Rattle.ioa_system.specs.Parts.{AutomatonParts, message_shape}
 
 -- where a term of an automaton is written: as a constant of an entry, as the initial value of a state variable, behind
 -- the `where` of an entry, in the guard or the effect of a transition, or in a statement of the schedule block
@@ -95,7 +97,17 @@ bindings_at site a arguments variables ps own =
 abbrev pub given_bindings : AutomatonParts → List Data → Bindings
 given_bindings a arguments = bindings_at entry_constant a arguments [] [] []
 
--- what a statement of the schedule block reads, if its variables have the values `own`
-abbrev pub block_bindings : AutomatonParts → (arguments variables own : List Data) → Bindings
-block_bindings a arguments variables own =
-    environment_at block_statement (declared_names a) (variable_names a.schedule.variables) arguments variables own
+-- the name of the inboxes, if messages of a shape are taken
+abbrev pub inbox_words : Option PlainShape → List (List ℕ)
+inbox_words None = []
+inbox_words (Some s) = inboxes_word ∷ []
+
+-- the names that come first in view in a schedule block: those of its own variables, and that of the inboxes, which only
+-- a block sees, of an automaton that takes messages
+abbrev pub block_own_names : AutomatonParts → List (List ℕ)
+block_own_names a = variable_names a.schedule.variables ++ inbox_words (message_shape a.rules)
+
+-- what a statement of the schedule block reads, if its variables have the values `own`, and the inboxes these
+abbrev pub block_bindings : AutomatonParts → (arguments variables inboxes own : List Data) → Bindings
+block_bindings a arguments variables inboxes own =
+    environment_at block_statement (declared_names a) (block_own_names a) arguments variables (own ++ inboxes)

@@ -1,10 +1,12 @@
 -- The parts of an automaton that was made ready to step, and of a node's program, as plain data (view).
-use Rattle.std.specs.Prelude.{ℕ, ℤ, List, Option, find, refl}
+use Rattle.std.specs.Prelude.{ℕ, ℤ, List, Option, find, slice_get, refl}
+use Rattle.std.specs.Option.{option_and_then}
 use Rattle.std.specs.Coded.{Coded, code_by, coded×, coded_ℕ, coded_ℤ, coded_list}
 use Rattle.ioa_values.specs.Data.{Data}
 use Rattle.ioa_values.specs.DataCode.{data_code}
 use Rattle.ioa_operators.specs.ShapeCode.{shape_code}
 use Rattle.ioa_operators.specs.Shapes.{PlainShape}
+use Rattle.ioa_actions.specs.ActionParts.{receive_name}
 use Rattle.ioa_terms.specs.Bindings.{same_word}
 use Rattle.ioa_source.specs.Sides.{CheckedDeclared, CheckedEntry, CheckedSchedule, CheckedTransition, CheckedVariable}
 use Rattle.ioa_source.specs.TextCode.{declared_code, entry_code, schedule_code, transition_code, variable_code}
@@ -31,6 +33,11 @@ rule_code =
 -- the rule for actions of a name, the first one if there are several
 abbrev pub rule_named : List ℕ → List PlainRule → Option PlainRule
 rule_named w rs = find (λ r. same_word r.entry.name w) rs
+
+-- the shape of the messages that rules take, if one of them is named `receive`: it is that of its first argument
+-- (profile)
+abbrev pub message_shape : List PlainRule → Option PlainShape
+message_shape rs = option_and_then (λ r. slice_get r.shapes 0) (rule_named receive_name rs)
 
 -- an automaton: its name, the names of the text's constants, its parameters, its state variables, its rules and its
 -- schedule block

@@ -6,7 +6,7 @@ use Rattle.ioa_terms.specs.declared.name.Name.{Name}
 use Rattle.ioa_terms.specs.declared.name.Name.TheVariants.{Word}
 use Rattle.ioa_source.specs.PlainText.{const, named}
 use Rattle.ioa_source.specs.Sides.{CheckedParameter, CheckedSchedule, CheckedTerm, CheckedVariable}
-use Rattle.ioa_system.specs.InView.{DeclaredNames, declared_names, names_at, own_names}
+use Rattle.ioa_system.specs.InView.{DeclaredNames, block_own_names, declared_names, names_at, own_names}
 use Rattle.ioa_system.specs.InView.{parameter_names, variable_names}
 use Rattle.ioa_system.specs.InView.{entry_constant, initial_value, entry_condition, guard_or_effect, block_statement}
 use Rattle.ioa_system.specs.Parts.{AutomatonParts, Parts, PlainRule}
@@ -43,24 +43,23 @@ AreResolvedTerms ts names = AllByRecursion (λ t. IsResolved t names) ts
 abbrev pub AreResolvedVariables : List Name → List CheckedVariable → Type 0
 AreResolvedVariables names vs = AllByRecursion (λ v. IsResolvedGuard v.initial names) vs
 
--- a schedule block in which each name is resolved: its initial terms read what those of state variables read, and its
--- statements assign its own variables alone
-pub record IsResolvedSchedule (d : DeclaredNames) (s : CheckedSchedule) : Type 0 where
+-- a schedule block in which each name is resolved, if these names come first in view there: its initial terms read what
+-- those of state variables read, and its statements assign its own variables alone
+pub record IsResolvedSchedule (d : DeclaredNames) (first : List (List ℕ)) (s : CheckedSchedule) : Type 0 where
   pub initials : AreResolvedVariables (names_at initial_value d []) s.variables
-  pub statements : AreResolved s.statements (map Word (variable_names s.variables))
-      (names_at block_statement d (variable_names s.variables))
+  pub statements : AreResolved s.statements (map Word (variable_names s.variables)) (names_at block_statement d first)
 
 -- an automaton in which each name is resolved that a step, an initial value or the schedule block reads
 pub record IsResolvedAutomaton (a : AutomatonParts) : Type 0 where
   pub rules : All (IsResolvedRule (declared_names a)) a.rules
   pub initials : AreResolvedVariables (names_at initial_value (declared_names a) []) a.variables
-  pub schedule : IsResolvedSchedule (declared_names a) a.schedule
+  pub schedule : IsResolvedSchedule (declared_names a) (block_own_names a) a.schedule
 
 -- the same, if these are the names of the state variables and behind them those of the parameters, and these the names
--- of the schedule block's own variables
+-- that come first in view in the schedule block
 pub record IsCompiled (scope own : List (List ℕ)) (a : AutomatonParts) : Type 0 where
   pub names : scope ≡ variable_names a.variables ++ parameter_names a.parameters
-  pub block : own ≡ variable_names a.schedule.variables
+  pub block : own ≡ block_own_names a
   pub resolved : IsResolvedAutomaton a
 
 -- a program in which each parameter of the automaton has a value, and each state variable and each variable of the

@@ -1,19 +1,20 @@
 //! An automaton of a text, made ready to step.
 
 ghost use Rattle.std.specs.Prelude.{◌≡◌, ◌↔◌, [], IsTrue, IfSome, All, map, length};
-ghost use Rattle.std.specs.Option.{option_copied};
+ghost use Rattle.std.specs.Option.{is_some, option_copied};
 ghost use Rattle.std.specs.Arc.{arc_value};
 ghost use Rattle.ioa_terms.specs.Bindings.{names_of};
 ghost use Rattle.ioa_source.specs.TextView.{declared_of, schedule_of, variable_of};
 ghost use Rattle.ioa_system.specs.InView.{declared_names, names_at, scope_at, given_bindings, block_statement};
 ghost use Rattle.ioa_system.specs.InView.{entry_constant, initial_value, entry_condition, guard_or_effect};
-ghost use Rattle.ioa_system.specs.InView.{parameter_names, variable_names};
-ghost use Rattle.ioa_system.specs.Parts.{automaton_parts, rule_named};
+ghost use Rattle.ioa_system.specs.InView.{block_own_names, parameter_names, variable_names};
+ghost use Rattle.ioa_system.specs.Parts.{automaton_parts, message_shape, rule_named};
 ghost use Rattle.ioa_system.specs.ResolvedPrograms.{IsCompiled, IsResolvedRule};
 ghost use Rattle.ioa_system.specs.ResolvedPrograms.{AreResolvedVariables, IsResolvedSchedule};
 ghost use Rattle.ioa_system.specs.SameParts.{same_rule, same_parameters, same_automaton};
 
 use crate::scope::Scope;
+use ioa_actions::RECEIVE;
 use ioa_source::{
     Declared, Entry, Schedule, Transition, Variable, are_same_variables, is_same_declared,
     is_same_entry, is_same_schedule, is_same_transition,
@@ -99,7 +100,7 @@ pub struct CompiledAutomaton {
     scope: Scope,
     rules: Vec<Rule>,
     schedule: Schedule<usize, Shape>,
-    /// The names of the schedule block's own variables.
+    /// The names of the schedule block's own variables, and then that of the inboxes, if the automaton takes messages.
     own: Vec<Word>,
 }
 
@@ -127,7 +128,8 @@ impl Model for CompiledAutomaton {
 
 impl CompiledAutomaton {
     /// The automaton of these parts. `constants` are the names of the text's constants, `scope` has those of
-    /// the state variables and behind them those of the parameters, and `own` those of the block's variables.
+    /// the state variables and behind them those of the parameters, and `own` those of the block's variables and
+    /// behind them that of the inboxes, if the automaton takes messages.
     pub fn new(
         name: Word,
         constants: Arc<Names>,
@@ -209,7 +211,8 @@ impl CompiledAutomaton {
     /// The schedule block.
     pub fn schedule(&self) -> &Schedule<usize, Shape>
         ensures value { schedule_of result.now ≡ self.now.schedule }
-        ensures resolved { IsResolvedSchedule (declared_names self.now) (schedule_of result.now) }
+        ensures resolved { IsResolvedSchedule (declared_names self.now) (block_own_names self.now)
+            (schedule_of result.now) }
     {
         &self.schedule
     }
@@ -245,10 +248,17 @@ impl CompiledAutomaton {
         )
     }
 
+    /// Whether the automaton takes messages, so that its schedule block sees the inboxes.
+    #[tactic(auto, using(crate::proofs::Inboxes::one_name_more))]
+    pub fn takes_messages(&self) -> bool
+        ensures { result ≡ is_some (message_shape self.now.rules) }
+    {
+        self.own.len() > self.schedule.variables.len()
+    }
+
     /// The names in view in the statements of the schedule block: its own variables' first.
     pub fn block_names(&self) -> NameLists<'_>
-        ensures { result ≡ scope_at block_statement (declared_names self.now)
-            (variable_names self.now.schedule.variables) }
+        ensures { result ≡ scope_at block_statement (declared_names self.now) (block_own_names self.now) }
     {
         NameLists::new(
             self.own.as_slice(),
@@ -291,6 +301,26 @@ impl CompiledAutomaton {
                         && (self.rules == other.rules
                             && is_same_schedule(&self.schedule, &other.schedule)))))
     }
+}
+
+/// The shape of the messages that rules take, if one of them is named `receive`.
+pub fn message_shape(rules: &[Rule]) -> Option<&Shape>
+    ensures { option_copied result ≡ message_shape rules.now }
+{
+    let rule = first_named(rules, RECEIVE)?;
+    rule.shapes.first()
+}
+
+/// The first rule of a name, if there is one.
+fn first_named<'a>(rules: &'a [Rule], name: &str) -> Option<&'a Rule>
+    ensures { option_copied result ≡ rule_named name.now rules.now }
+{
+    for rule in rules {
+        if rule.entry.name.as_str() == name {
+            return Some(rule);
+        }
+    }
+    None
 }
 
 /// Whether parameters are the same, one by one, and as many.

@@ -8,7 +8,7 @@ mod scope;
 mod script;
 mod system;
 
-pub use automaton::{CompiledAutomaton, Rule};
+pub use automaton::{CompiledAutomaton, Rule, message_shape};
 pub use program::Program;
 pub use scope::Scope;
 pub use script::Script;

@@ -1,8 +1,8 @@
 -- Terms make canonical values, and statements canonical environments, of canonical environments.
-use Rattle.std.proofs.Common.{◌≡◌, Bool, true, false, List, [], ◌∷◌, Option, Some, None, if◌then◌else◌}
+use Rattle.std.proofs.Common.{◌≡◌, ℕ, Bool, true, false, List, [], ◌∷◌, Option, Some, None, if◌then◌else◌}
 use Rattle.std.specs.Option.{IfSome, option_and_then, option_map, option_or}
 use Rattle.ioa_values.specs.Data.{Data, truth}
-use Rattle.ioa_operators.specs.Operators.{unary_value, binary_value, left_decision, function_named, call_value}
+use Rattle.ioa_operators.specs.Operators.{unary_value, binary_value, left_decision, function_named}
 use Rattle.ioa_operators.specs.Shapes.{PlainShape, has_shape, display_value, field_value, with_field}
 use Rattle.ioa_values.specs.Canonical.{IsCanonical, AllCanonical}
 use Rattle.ioa_terms.specs.declared.name.Name.{Name}
@@ -10,12 +10,13 @@ use Rattle.ioa_terms.specs.declared.name.Name.TheVariants.{Word}
 use Rattle.ioa_terms.specs.Bindings.{Bindings, same_name, lookup, put}
 use Rattle.ioa_terms.specs.PlainTerm as plain
 use Rattle.ioa_terms.specs.PlainTerm.{PlainTerm, PlainTerms, name, one, two, call, display, field, no_terms, term, PlainTarget, variable, at_key, at_field, PlainStatement, PlainStatements, PlainArms, assign, branch, loop, fire, no_statements, statement, no_arms, arm, statements_of}
-use Rattle.ioa_terms.specs.Meaning.{value, values, named_call_value}
+use Rattle.ioa_terms.specs.Meaning.{value, values, is_inbox_word, inbox_value, call_by, named_call_value}
+use Rattle.ioa_terms.specs.Inboxes.{inboxes_word}
 use Rattle.ioa_terms.specs.Performance.{target_name, target_shape, updated_map, assignment_value, fitting_value, test_value, by_test, after_one, after_choice, after_all, after}
 use Rattle.ioa_terms.specs.Ascending.{IsAscendingEnvironment}
 use Rattle.ioa_operators.proofs.Canonicals.{unary_canonical, binary_canonical, call_canonical, display_canonical, field_canonical, with_field_canonical}
 use Rattle.ioa_operators.specs.declared.operator.BinaryOperator.{BinaryOperator}
-use Rattle.ioa_operators.specs.declared.operator.BinaryOperator.TheVariants.{Implies, Or, And}
+use Rattle.ioa_operators.specs.declared.operator.BinaryOperator.TheVariants.{Implies, Or, And, At}
 use Rattle.ioa_operators.specs.declared.operator.Function.{Function}
 use Rattle.ioa_operators.specs.declared.operator.Function.TheVariants as function
 use Rattle.ioa_operators.specs.declared.shape.Shape.{Shape}
@@ -52,10 +53,18 @@ decision_canonical Implies (truth false) = tt
 decision_canonical Implies _ = tt
 decision_canonical _ v = tt
 
--- what a function makes, if there is one
-function_canonical : (o : Option Function) (vs : List Data) → AllCanonical vs → IfSome (option_and_then (λ f. call_value f vs) o) IsCanonical
-function_canonical None vs h = tt
-function_canonical (Some f) vs h = call_canonical f vs h
+-- what waits in an inbox
+waiting_canonical : (e : Bindings) → IsAscendingEnvironment e → (vs : List Data) → AllCanonical vs → IfSome (inbox_value vs e) IsCanonical
+waiting_canonical e g [] h = tt
+waiting_canonical e g (v ∷ []) h =
+    and_then_holds IsCanonical IsCanonical (λ m. binary_value At m v) (lookup (Word inboxes_word) e) (lookup_canonical (Word inboxes_word) e g)
+    (λ m k. binary_canonical At m v k h.0)
+waiting_canonical e g (v ∷ w ∷ vs) h = tt
+
+-- what a call makes
+call_by_canonical : (e : Bindings) → IsAscendingEnvironment e → (o : Option Function) (w : List ℕ) (vs : List Data) → AllCanonical vs → IfSome (call_by o w e vs) IsCanonical
+call_by_canonical e g None w vs h = by_condition (λ (o : Option Data). IfSome o IsCanonical) (is_inbox_word w) (inbox_value vs e) None (waiting_canonical e g vs h) tt
+call_by_canonical e g (Some f) w vs h = call_canonical f vs h
 
 -- what terms make
 mutual
@@ -68,7 +77,7 @@ mutual
       and_then_holds IsCanonical IsCanonical (λ v. option_or (left_decision op v) (option_and_then (binary_value op v) (value b e))) (value a e) (term_canonical e g a)
       (λ v h. or_holds IsCanonical (left_decision op v) (option_and_then (binary_value op v) (value b e)) (decision_canonical op v)
       (and_then_holds IsCanonical IsCanonical (binary_value op v) (value b e) (term_canonical e g b) (λ w k. binary_canonical op v w h k)))
-  term_canonical e g (call w ts) = and_then_holds AllCanonical IsCanonical (named_call_value w) (values ts e) (terms_canonical e g ts) (function_canonical (function_named w))
+  term_canonical e g (call w ts) = and_then_holds AllCanonical IsCanonical (named_call_value w e) (values ts e) (terms_canonical e g ts) (call_by_canonical e g (function_named w) w)
   term_canonical e g (display form d ts) =
       and_then_holds AllCanonical IsCanonical (display_value form d) (values ts e) (terms_canonical e g ts) (display_canonical form d)
   term_canonical e g (field a w d) =

@@ -2,6 +2,7 @@
 pub mod Stepwise
 pub mod Performed
 pub mod Slots
+pub mod Inboxes
 pub mod ShapesKept
 pub mod Sound
 pub mod SameTerms

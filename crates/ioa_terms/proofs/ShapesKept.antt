@@ -1,6 +1,6 @@
 -- Values that operators, functions, displays and fields make of values with their shapes have theirs.
 use Rattle.std.proofs.Common.{◌≡◌, ℕ, zero, suc, true, false, List, [], ◌∷◌, ◌++◌, Option, Some, None, refl, subst}
-use Rattle.std.specs.Prelude.{slice_get, int_le, int_lt, ◌+ℤ◌, ◌-ℤ◌, ◌*ℤ◌, neg_ℤ, not, ◌&&◌, ◌||◌}
+use Rattle.std.specs.Prelude.{ℤ, slice_get, int_le, int_lt, ◌+ℤ◌, ◌-ℤ◌, ◌*ℤ◌, neg_ℤ, not, ◌&&◌, ◌||◌}
 use Rattle.std.specs.Int.{int_div_euclid, int_rem_euclid}
 use Rattle.std.specs.List.{AllByRecursion}
 use Rattle.std.specs.Option.{IfSome, option_and_then, option_map}
@@ -12,6 +12,7 @@ use Rattle.ioa_values.specs.Data.{Data, Items, Entries, number, truth, tuple, se
 use Rattle.ioa_values.specs.Collections.{with_member, without_member, set_of, union, value_at, with_entry, without_key}
 use Rattle.ioa_operators.specs.Operators.{sequence_of, finite_set_of, finite_map_of, as_sequence, as_set, as_map, unary_value, binary_value, left_decision, first, rest, count, is_there, call_value, same_truth}
 use Rattle.ioa_operators.specs.Shapes.{PlainShape, PlainShapes, truths, integers, naturals, constants, tuples, sequences, sets, maps, no_shapes, shape, has_shape, have_shapes, all_have, entries_have, display_value, field_value, field_position}
+use Rattle.ioa_terms.specs.Inboxes.{PlainInboxes, inbox_entries, inboxes_value}
 use Rattle.ioa_terms.specs.Sorted.{shape_in_terms, UnaryIs, negation, negative, BinaryIs, equivalent, implies, either, both, equal, differ, below, at_most, above, at_least, item_of, member_of, prepended, appended, joined, sum, difference, product, at_key, FunctionIs, head, tail, items, members, keys, quotient, remainder, inserted, deleted, united, updated, removed, defined, DisplayIs, listed_shapes, field_shape}
 use Rattle.ioa_operators.specs.declared.operator.UnaryOperator.{UnaryOperator}
 use Rattle.ioa_operators.specs.declared.operator.BinaryOperator.{BinaryOperator}
@@ -237,3 +238,14 @@ named_part_has ss ds (Some i) s h e = part_has ss ds i s h e
 pub field_has : (t : PlainShape) (w : List ℕ) (s : PlainShape) (v : Data) → option_map shape_in_terms (field_shape w t) ≡ Some s → Has t v → IfSome (field_value t w v) (Has s)
 field_has (tuples type names ss) w s (tuple ds) e h = named_part_has ss ds (field_position w names) s h e
 field_has t w s v e h = tt
+
+-- the map of inboxes, all of whose messages have a shape
+abbrev pub HoldShaped : PlainShape → PlainInboxes → Type 0
+HoldShaped s is = AllByRecursion (λ (i : ℤ × List Data). AllByRecursion (Has s) i.1) is
+
+inbox_entries_have : (s : PlainShape) (is : PlainInboxes) → HoldShaped s is → AllByRecursion (HasEntry integers (sequences s)) (inbox_entries is)
+inbox_entries_have s [] h = tt
+inbox_entries_have s (i ∷ is) h = all_with_entry (HasEntry integers (sequences s)) (number i.0) (sequence (items_of i.1)) (inbox_entries is) (refl, items_all s i.1 h.0) (inbox_entries_have s is h.1)
+
+pub inboxes_have : (s : PlainShape) (is : PlainInboxes) → HoldShaped s is → Has (maps integers (sequences s)) (inboxes_value is)
+inboxes_have s is h = entries_all integers (sequences s) (inbox_entries is) (inbox_entries_have s is h)

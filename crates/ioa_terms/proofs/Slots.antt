@@ -1,8 +1,11 @@
 -- Names and the slots of their values.
 use Rattle.std.proofs.Common.{◌≡◌, ℕ, zero, suc, ◌+◌, ◌<◌, ◌≤◌, min, Bool, true, false, List, [], ◌∷◌, ◌++◌, Option, Some, None, refl, sym, ap, subst, ◌∙◌, length, map, take, drop, set, arith, if◌then◌else◌, inl, inr, ◌⊎◌, get_or, append-nil}
 use Rattle.std.specs.List.{zip, slice_get}
-use Rattle.std.proofs.lemmas.List.{length-map, map-append, take-append-drop, take_all}
+use Rattle.std.specs.Prelude.{nat_lt}
+use Rattle.std.proofs.lemmas.Bool.Decides.{nat_tests}
+use Rattle.std.proofs.lemmas.List.{append_assoc, drop_more, get_or_append_left, get_or-append-add, length-append, length-map, map-append, take-append-drop, take_all}
 use Rattle.std.proofs.lemmas.Slice.Zip.{firsts-zip}
+use Rattle.std.proofs.lemmas.Slice.Eq.{bytes_eq-Decides}
 use Rattle.std.specs.Option.{option_map}
 use Rattle.ioa_terms.specs.PlainTerm.{PlainTarget, variable, at_key, at_field, PlainStatement, PlainStatements, PlainArms, assign, branch, loop, fire, no_statements, statement, no_arms, arm}
 use Rattle.ioa_terms.specs.Resolved.{IsResolvedTarget, IsResolvedStatement, AreArmsResolved, AreAllResolved, AreResolved}
@@ -10,7 +13,8 @@ use Rattle.ioa_operators.specs.declared.shape.Shape.{Shape}
 use Rattle.ioa_values.specs.Data.{Data, constant}
 use Rattle.ioa_terms.specs.declared.name.Name.{Name}
 use Rattle.ioa_terms.specs.declared.name.Name.TheVariants.{Word}
-use Rattle.ioa_terms.specs.Bindings.{Bindings, lookup, put, slot_in, names_of, same_name, constants_from, environment}
+use Rattle.ioa_terms.specs.Bindings.{Bindings, lookup, put, slot_in, names_of, same_word, same_name, constants_from, environment}
+use Rattle.ioa_terms.specs.Slots.{index_within, slot_or_behind}
 
 -- what is at the slot of a variable
 pub environment_variable : (names : List Name) (vs : List Data) (cs : List (List ℕ)) (i : ℕ) (d : Data) → i < length names → i < length vs → option_map (λ (b : Name × Data). b.1) (slice_get (environment names vs cs) i) ≡ Some (get_or vs i d)
@@ -19,33 +23,37 @@ environment_variable (n ∷ names) [] cs i d h g = absurd (omega arith)
 environment_variable (n ∷ names) (v ∷ vs) cs zero d h g = refl
 environment_variable (n ∷ names) (v ∷ vs) cs (suc i) d h g = environment_variable names vs cs i d (omega arith) (omega arith)
 
--- what is at a slot among the first values
-pub environment_first : (names : List Name) (vs gs : List Data) (cs : List (List ℕ)) (i : ℕ) (d : Data) → i < length names → i < length vs → option_map (λ (b : Name × Data). b.1) (slice_get (environment names (vs ++ gs) cs) i) ≡ Some (get_or vs i d)
-environment_first [] vs gs cs i d h g = absurd (omega arith)
-environment_first (n ∷ names) [] gs cs i d h g = absurd (omega arith)
-environment_first (n ∷ names) (v ∷ vs) gs cs zero d h g = refl
-environment_first (n ∷ names) (v ∷ vs) gs cs (suc i) d h g = environment_first names vs gs cs i d (omega arith) (omega arith)
+-- what is at a slot among the values of one of several owners: of the first, the second, the third, or one more behind
+pub environment_first : (names : List Name) (vs more : List Data) (cs : List (List ℕ)) (i : ℕ) (d : Data) → i < length names → i < length vs → option_map (λ (b : Name × Data). b.1) (slice_get (environment names (vs ++ more) cs) i) ≡ Some (get_or vs i d)
+environment_first names vs more cs i d h g =
+    let many = length-append vs more in
+    environment_variable names (vs ++ more) cs i d h (omega arith) ∙ ap (λ v. Some v) (get_or_append_left vs more d i g)
 
--- what is at a slot among the values that are given besides
-pub environment_given : (names : List Name) (vs gs : List Data) (cs : List (List ℕ)) (i j : ℕ) (d : Data) → i ≡ length vs + j → i < length names → j < length gs → option_map (λ (b : Name × Data). b.1) (slice_get (environment names (vs ++ gs) cs) i) ≡ Some (get_or gs j d)
-environment_given [] vs gs cs i j d at h g = absurd (omega arith)
-environment_given (n ∷ names) [] gs cs i j d at h g = let same : i ≡ j = omega arith in rw same (environment_variable (n ∷ names) gs cs j d (omega arith) g)
-environment_given (n ∷ names) (v ∷ vs) gs cs zero j d at h g = absurd (omega arith)
-environment_given (n ∷ names) (v ∷ vs) gs cs (suc i) j d at h g = environment_given names vs gs cs i j d (omega arith) (omega arith) g
+-- an index behind the first of two lists
+behind_first : (vs more : List Data) (i j : ℕ) (d : Data) → i ≡ length vs + j → get_or (vs ++ more) i d ≡ get_or more j d
+behind_first vs more i j d at = ap (λ k. get_or (vs ++ more) k d) at ∙ get_or-append-add vs more j d
 
--- what is at a slot among the values that the first of two further owners lends
-pub environment_middle : (names : List Name) (vs fs gs : List Data) (cs : List (List ℕ)) (i j : ℕ) (d : Data) → i ≡ length vs + j → i < length names → j < length fs → option_map (λ (b : Name × Data). b.1) (slice_get (environment names (vs ++ (fs ++ gs)) cs) i) ≡ Some (get_or fs j d)
-environment_middle [] vs fs gs cs i j d at h g = absurd (omega arith)
-environment_middle (n ∷ names) [] fs gs cs i j d at h g = let same : i ≡ j = omega arith in rw same (environment_first (n ∷ names) fs gs cs j d (omega arith) g)
-environment_middle (n ∷ names) (v ∷ vs) fs gs cs zero j d at h g = absurd (omega arith)
-environment_middle (n ∷ names) (v ∷ vs) fs gs cs (suc i) j d at h g = environment_middle names vs fs gs cs i j d (omega arith) (omega arith) g
+pub environment_middle : (names : List Name) (vs fs more : List Data) (cs : List (List ℕ)) (i j : ℕ) (d : Data) → i ≡ length vs + j → i < length names → j < length fs → option_map (λ (b : Name × Data). b.1) (slice_get (environment names (vs ++ (fs ++ more)) cs) i) ≡ Some (get_or fs j d)
+environment_middle names vs fs more cs i j d at h g =
+    let many = length-append vs (fs ++ more) in
+    let behind = length-append fs more in
+    environment_variable names (vs ++ (fs ++ more)) cs i d h (omega arith) ∙ ap (λ v. Some v) (behind_first vs (fs ++ more) i j d at ∙ get_or_append_left fs more d j g)
 
--- what is at a slot among the values that the second lends
-pub environment_last : (names : List Name) (vs fs gs : List Data) (cs : List (List ℕ)) (i j : ℕ) (d : Data) → i ≡ length vs + (length fs + j) → i < length names → j < length gs → option_map (λ (b : Name × Data). b.1) (slice_get (environment names (vs ++ (fs ++ gs)) cs) i) ≡ Some (get_or gs j d)
-environment_last [] vs fs gs cs i j d at h g = absurd (omega arith)
-environment_last (n ∷ names) [] fs gs cs i j d at h g = environment_given (n ∷ names) fs gs cs i j d (omega arith) h g
-environment_last (n ∷ names) (v ∷ vs) fs gs cs zero j d at h g = absurd (omega arith)
-environment_last (n ∷ names) (v ∷ vs) fs gs cs (suc i) j d at h g = environment_last names vs fs gs cs i j d (omega arith) (omega arith) g
+pub environment_last : (names : List Name) (vs fs gs more : List Data) (cs : List (List ℕ)) (i j : ℕ) (d : Data) → i ≡ length vs + (length fs + j) → i < length names → j < length gs → option_map (λ (b : Name × Data). b.1) (slice_get (environment names (vs ++ (fs ++ (gs ++ more))) cs) i) ≡ Some (get_or gs j d)
+environment_last names vs fs gs more cs i j d at h g =
+    let many = length-append vs (fs ++ (gs ++ more)) in
+    let behind = length-append fs (gs ++ more) in
+    let beyond = length-append gs more in
+    environment_variable names (vs ++ (fs ++ (gs ++ more))) cs i d h (omega arith)
+    ∙ ap (λ v. Some v) (behind_first vs (fs ++ (gs ++ more)) i (length fs + j) d at ∙ (behind_first fs (gs ++ more) (length fs + j) j d refl ∙ get_or_append_left gs more d j g))
+
+pub environment_beyond : (names : List Name) (vs is fs gs : List Data) (cs : List (List ℕ)) (i j : ℕ) (d : Data) → i ≡ length vs + (length is + (length fs + j)) → i < length names → j < length gs → option_map (λ (b : Name × Data). b.1) (slice_get (environment names (vs ++ (is ++ (fs ++ gs))) cs) i) ≡ Some (get_or gs j d)
+environment_beyond names vs is fs gs cs i j d at h g =
+    let many = length-append vs (is ++ (fs ++ gs)) in
+    let behind = length-append is (fs ++ gs) in
+    let beyond = length-append fs gs in
+    environment_variable names (vs ++ (is ++ (fs ++ gs))) cs i d h (omega arith)
+    ∙ ap (λ v. Some v) (behind_first vs (is ++ (fs ++ gs)) i (length is + (length fs + j)) d at ∙ (behind_first is (fs ++ gs) (length is + (length fs + j)) (length fs + j) d refl ∙ behind_first fs gs (length fs + j) j d refl))
 
 -- behind the variables are the constants
 behind : (names : List Name) (vs : List Data) (cs : List (List ℕ)) (i j : ℕ) → i ≡ min (length names) (length vs) + j → slice_get (environment names vs cs) i ≡ slice_get (constants_from 0 cs) j
@@ -64,13 +72,13 @@ no_constant k [] j h = refl
 no_constant k (c ∷ cs) zero h = absurd (omega arith)
 no_constant k (c ∷ cs) (suc j) h = no_constant (k + 1) cs j (omega arith)
 
--- what is at the slot of a constant
-pub environment_constant : (names : List Name) (vs : List Data) (cs : List (List ℕ)) (i j : ℕ) → i ≡ min (length names) (length vs) + j → j < length cs → option_map (λ (b : Name × Data). b.1) (slice_get (environment names vs cs) i) ≡ Some (constant j)
-environment_constant names vs cs i j at h = rw (behind names vs cs i j at) (constant_at 0 cs j h ∙ ap (λ n. Some (constant n)) (omega arith))
-
--- behind the constants is nothing
-pub environment_past : (names : List Name) (vs : List Data) (cs : List (List ℕ)) (i j : ℕ) → i ≡ min (length names) (length vs) + j → length cs ≤ j → None ≡ option_map (λ (b : Name × Data). b.1) (slice_get (environment names vs cs) i)
-environment_past names vs cs i j at h = rw (behind names vs cs i j at) (no_constant 0 cs j h)
+-- what is at a slot behind all values: a constant, or nothing
+pub environment_constant : (names : List Name) (vs : List Data) (cs : List (List ℕ)) (i j : ℕ) → i ≡ min (length names) (length vs) + j → option_map (λ (b : Name × Data). b.1) (slice_get (environment names vs cs) i) ≡ option_map constant (index_within j (length cs))
+environment_constant names vs cs i j at = rw (behind names vs cs i j at) (by_test (nat_lt j (length cs)) refl)
+  where
+    by_test : (t : Bool) → nat_lt j (length cs) ≡ t → option_map (λ (b : Name × Data). b.1) (slice_get (constants_from 0 cs) j) ≡ option_map constant (if t then Some j else None)
+    by_test true h = constant_at 0 cs j (grind (arith, nat_tests)) ∙ ap (λ n. Some (constant n)) (omega arith)
+    by_test false h = sym (no_constant 0 cs j (grind (arith, nat_tests)))
 
 mapped : (o : Option ℕ) (p : ℕ) → option_map (λ k. k + 1) o ≡ Some p → (k : ℕ) × (o ≡ Some k) × (p ≡ suc k)
 mapped None p h = absurd (cc)
@@ -88,6 +96,69 @@ lookup_slot (b ∷ e) x p h =
       | inl w ↦ rw (w.0, w.1) refl
       | inr w ↦ rw (w.0, w.3) (lookup_slot e x w.1 w.2)
     ]
+
+unmapped : (o : Option ℕ) → option_map (λ k. k + 1) o ≡ None → o ≡ None
+unmapped None g = refl
+unmapped (Some k) g = absurd (cc)
+
+-- a name without a slot has no value
+pub lookup_none : (e : Bindings) (x : Name) → slot_in x (names_of e) ≡ None → lookup x e ≡ None
+lookup_none [] x h = refl
+lookup_none (b ∷ e) x h = by_first (same_name x b.0) h (λ g. lookup_none e x (unmapped (slot_in x (names_of e)) g))
+  where
+    by_first : (t : Bool) → (if t then Some 0 else option_map (λ k. k + 1) (slot_in x (names_of e))) ≡ None → (option_map (λ k. k + 1) (slot_in x (names_of e)) ≡ None → lookup x e ≡ None) → (if t then Some b.1 else lookup x e) ≡ None
+    by_first true g rest = absurd (cc)
+    by_first false g rest = rest g
+
+-- the slot of a name among the words of two lists
+pub slot_in_two : (ws more : List (List ℕ)) (x : Name) → slot_in x (map Word (ws ++ more)) ≡ slot_or_behind (length ws) (slot_in x (map Word ws)) (slot_in x (map Word more))
+slot_in_two [] more x = alone (slot_in x (map Word more))
+  where
+    alone : (o : Option ℕ) → o ≡ option_map (λ slot. 0 + slot) o
+    alone None = refl
+    alone (Some k) = ap (λ n. Some n) (omega arith)
+slot_in_two (w ∷ ws) more x = by_first (same_name x (Word w)) (slot_in_two ws more x)
+  where
+    later : (o p : Option ℕ) → option_map (λ k. k + 1) (slot_or_behind (length ws) o p) ≡ slot_or_behind (suc (length ws)) (option_map (λ k. k + 1) o) p
+    later (Some k) p = refl
+    later None None = refl
+    later None (Some k) = ap (λ n. Some n) (omega arith)
+
+    by_first : (t : Bool) → slot_in x (map Word (ws ++ more)) ≡ slot_or_behind (length ws) (slot_in x (map Word ws)) (slot_in x (map Word more)) → (if t then Some 0 else option_map (λ k. k + 1) (slot_in x (map Word (ws ++ more)))) ≡ slot_or_behind (suc (length ws)) (if t then Some 0 else option_map (λ k. k + 1) (slot_in x (map Word ws))) (slot_in x (map Word more))
+    by_first true h = refl
+    by_first false h = ap (option_map (λ k. k + 1)) h ∙ later (slot_in x (map Word ws)) (slot_in x (map Word more))
+
+-- the slot of a name among the words of four lists
+pub slot_in_four : (ws vs us cs : List (List ℕ)) (x : Name) → slot_in x (map Word ((ws ++ (vs ++ us)) ++ cs)) ≡ slot_or_behind (length ws) (slot_in x (map Word ws)) (slot_or_behind (length vs) (slot_in x (map Word vs)) (slot_or_behind (length us) (slot_in x (map Word us)) (slot_in x (map Word cs))))
+slot_in_four ws vs us cs x =
+    rw (append_assoc ws (vs ++ us) cs, append_assoc vs us cs, slot_in_two ws (vs ++ (us ++ cs)) x, slot_in_two vs (us ++ cs) x, slot_in_two us cs x) refl
+
+-- the slot of a name behind words of which none is the name
+pub slot_later : (ws : List (List ℕ)) (p : ℕ) (w : List ℕ) (x : Name) (o : Option ℕ) → p < length ws → same_name x (Word (get_or ws p w)) ≡ false → o ≡ option_map (λ k. p + k) (slot_in x (map Word (drop p ws))) → o ≡ option_map (λ k. p + 1 + k) (slot_in x (map Word (drop (p + 1) ws)))
+slot_later ws p w x o h d e = e ∙ rw (drop_more ws p w h, d) (further (slot_in x (map Word (drop (p + 1) ws))))
+  where
+    further : (s : Option ℕ) → option_map (λ k. p + k) (option_map (λ k. k + 1) s) ≡ option_map (λ k. p + 1 + k) s
+    further None = refl
+    further (Some k) = ap (λ n. Some n) (omega arith)
+
+pub slot_here : (ws : List (List ℕ)) (p : ℕ) (w : List ℕ) (x : Name) (o : Option ℕ) → p < length ws → same_name x (Word (get_or ws p w)) ≡ true → o ≡ option_map (λ k. p + k) (slot_in x (map Word (drop p ws))) → o ≡ Some p
+slot_here ws p w x o h d e = e ∙ rw (drop_more ws p w h, d) (ap (λ n. Some n) (omega arith))
+
+-- two words are the same whichever comes first
+pub same_turned : (v w : List ℕ) → same_word v w ≡ same_word w v
+same_turned v w = by_test (same_word v w) refl
+  where
+    other : same_word v w ≡ false → (b : Bool) → same_word w v ≡ b → same_word v w ≡ b
+    other e true g =
+        let same : w ≡ v = (bytes_eq-Decides w v).0 g in
+        (bytes_eq-Decides v w).1 (sym same)
+    other e false g = e
+
+    by_test : (b : Bool) → same_word v w ≡ b → same_word v w ≡ same_word w v
+    by_test true e =
+        let same : v ≡ w = (bytes_eq-Decides v w).0 e in
+        e ∙ sym ((bytes_eq-Decides w v).1 (sym same))
+    by_test false e = other e (same_word w v) refl
 
 -- the slot of a name is below the number of variables
 pub slot_within : (names : List (List ℕ)) (x : Name) (p : ℕ) → slot_in x (map Word names) ≡ Some p → p < length names
@@ -143,8 +214,8 @@ names_environment names vs cs h = rw (map-append Word names cs, map-append (λ (
 pub none_given : (names : List Name) (vs : List Data) (cs : List (List ℕ)) → environment names (vs ++ []) cs ≡ environment names vs cs
 none_given names vs cs = ap (λ (ds : List Data). environment names ds cs) (append-nil vs)
 
--- if the second of two further owners lends nothing, the values are those of the first
-pub given_alone : (names : List Name) (vs gs : List Data) (cs : List (List ℕ)) → environment names (vs ++ (gs ++ [])) cs ≡ environment names (vs ++ gs) cs
+-- if the second of two further owners lends nothing, and no inboxes are lent, the values are those of the first
+pub given_alone : (names : List Name) (vs gs : List Data) (cs : List (List ℕ)) → environment names (vs ++ (gs ++ ([] ++ []))) cs ≡ environment names (vs ++ gs) cs
 given_alone names vs gs cs = ap (λ (ds : List Data). environment names (vs ++ ds) cs) (append-nil gs)
 
 -- if as many values are there as names, all names are among the first

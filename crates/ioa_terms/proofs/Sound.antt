@@ -1,16 +1,20 @@
 -- The value of a term has the term's shape.
-use Rattle.std.proofs.Common.{◌≡◌, List, [], ◌∷◌, Option, Some, None, refl, subst, true}
+use Rattle.std.proofs.Common.{◌≡◌, ℕ, List, [], ◌∷◌, Option, Some, None, refl, subst, true}
 use Rattle.std.specs.Option.{IfSome, option_and_then, option_map, option_or}
 use Rattle.ioa_values.specs.Data.{Data}
-use Rattle.ioa_operators.specs.Operators.{unary_value, binary_value, left_decision}
-use Rattle.ioa_operators.specs.Shapes.{PlainShape, has_shape, display_value, field_value}
+use Rattle.ioa_operators.specs.Operators.{unary_value, binary_value, left_decision, function_named}
+use Rattle.ioa_operators.specs.Shapes.{PlainShape, maps, has_shape, display_value, field_value}
 use Rattle.ioa_terms.specs.declared.name.Name.{Name}
+use Rattle.ioa_terms.specs.declared.name.Name.TheVariants.{Word}
 use Rattle.ioa_terms.specs.Bindings.{Bindings, lookup}
 use Rattle.ioa_terms.specs.PlainTerm as plain
 use Rattle.ioa_terms.specs.PlainTerm.{PlainTerm, PlainTerms, name, one, two, call, display, field, no_terms, term}
-use Rattle.ioa_terms.specs.Meaning.{value, values, named_call_value}
-use Rattle.ioa_terms.specs.Sorted.{NameShapes, shape_named, shape_in_terms, HasShape, HaveShapes, IsShaped}
+use Rattle.ioa_terms.specs.Meaning.{value, values, inbox_value, call_by, named_call_value}
+use Rattle.ioa_terms.specs.Inboxes.{inboxes_word}
+use Rattle.ioa_terms.specs.Sorted.{NameShapes, shape_named, shape_in_terms, at_key, CallBy, HasShape, HaveShapes, IsShaped}
 use Rattle.ioa_terms.proofs.ShapesKept.{Has, HaveEach, shape_in_terms_has, unary_has, decision_has, binary_has, function_has, display_has, field_has}
+use Rattle.ioa_operators.specs.declared.operator.BinaryOperator.TheVariants.{At}
+use Rattle.ioa_operators.specs.declared.operator.Function.{Function}
 use Rattle.ioa_operators.specs.declared.shape.Shape.{Shape}
 use Rattle.ioa_operators.proofs.Holding.{map_holds, and_then_holds, or_holds}
 
@@ -25,6 +29,20 @@ named_has names e g x s v (Some z) q h k =
     subst (λ (y : PlainShape). Has y v) f (shape_in_terms_has z v (g x z v q k))
 named_has names e g x s v None q h k = absurd (cc)
 
+-- what an inbox has
+waiting_has : (names : NameShapes) (e : Bindings) → IsShaped names e → (k s : PlainShape) → option_map shape_in_terms (shape_named (Word inboxes_word) names) ≡ Some (maps k s) → (vs : List Data) → HaveEach (k ∷ []) vs → IfSome (inbox_value vs e) (Has s)
+waiting_has names e g k s h [] has = tt
+waiting_has names e g k s h (v ∷ []) has =
+    and_then_holds (Has (maps k s)) (Has s) (λ d. binary_value At d v) (lookup (Word inboxes_word) e)
+    (each (Has (maps k s)) (lookup (Word inboxes_word) e) (λ d l. named_has names e g (Word inboxes_word) (maps k s) d (shape_named (Word inboxes_word) names) refl h l))
+    (λ d l. binary_has at_key d v l has.0)
+waiting_has names e g k s h (v ∷ w ∷ vs) has = tt
+
+-- what a call has
+call_has : (names : NameShapes) (e : Bindings) → IsShaped names e → (o : Option Function) (w : List ℕ) (xs : List PlainShape) (s : PlainShape) → CallBy o names w xs s → (vs : List Data) → HaveEach xs vs → IfSome (call_by o w e vs) (Has s)
+call_has names e g (Some f) w xs s h vs k = function_has h vs k
+call_has names e g None w xs s h vs k = rw (h.1) (waiting_has names e g h.0 s h.3 vs (subst (λ ys. HaveEach ys vs) h.2 k))
+
 mutual
   sound : {N : Type 0} (names : NameShapes) (e : Bindings) → IsShaped names e → (t : PlainTerm N Shape) (s : PlainShape) → HasShape names t s → IfSome (value t e) (Has s)
   sound names e g (plain.number n) s h = rw h refl
@@ -36,7 +54,7 @@ mutual
       (λ v k. or_holds (Has s) (left_decision op v) (option_and_then (binary_value op v) (value b e)) (decision_has h.4 v)
       (and_then_holds (Has h.1) (Has s) (binary_value op v) (value b e) (sound names e g b h.1 h.3) (λ w l. binary_has h.4 v w k l)))
   sound names e g (call w ts) s h =
-      and_then_holds (HaveEach h.1) (Has s) (named_call_value w) (values ts e) (all_sound names e g ts h.1 h.3) (λ vs k. rw (h.2) (function_has h.4 vs k))
+      and_then_holds (HaveEach h.0) (Has s) (named_call_value w e) (values ts e) (all_sound names e g ts h.0 h.1) (call_has names e g (function_named w) w h.0 s h.2)
   sound names e g (display form d ts) s h =
       rw (h.1) (and_then_holds (HaveEach h.0) (Has d) (display_value form d) (values ts e) (all_sound names e g ts h.0 h.2) (λ vs k. display_has form d h.0 vs h.3 k))
   sound names e g (field a w d) s h =

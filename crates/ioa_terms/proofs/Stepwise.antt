@@ -81,7 +81,7 @@ mutual
   stepwise_is (name x at) e = refl
   stepwise_is (one op a) e = rw (stepwise_is a e) (one_part (unary_value op) (numbers_met a e) (value a e))
   stepwise_is (two op a b) e = rw (stepwise_is a e, stepwise_is b e) (two_parts op (numbers_met a e) (numbers_met b e) (value a e) (value b e))
-  stepwise_is (call w ts) e = rw (all_stepwise_is ts e) (one_part (named_call_value w) (all_numbers_met ts e) (values ts e))
+  stepwise_is (call w ts) e = rw (all_stepwise_is ts e) (one_part (named_call_value w e) (all_numbers_met ts e) (values ts e))
   stepwise_is (display form d ts) e = rw (all_stepwise_is ts e) (one_part (display_value form d) (all_numbers_met ts e) (values ts e))
   stepwise_is (field a w d) e = rw (stepwise_is a e) (one_part (field_value d w) (numbers_met a e) (value a e))
 

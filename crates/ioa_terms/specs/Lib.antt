@@ -16,6 +16,7 @@ pub mod SameNames
 pub mod SameTerms
 pub mod View
 pub mod Bindings
+pub mod Inboxes
 pub mod Slots
 pub mod Meaning
 pub mod Performance

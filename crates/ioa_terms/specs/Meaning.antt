@@ -1,20 +1,37 @@
 -- What terms mean (profile): over numbers without bound, partial, evaluated from left to right.
-use Rattle.std.specs.Prelude.{ℕ, List, [], ◌∷◌, ◌++◌, Option, Some, None, Result}
+use Rattle.std.specs.Prelude.{ℕ, Bool, if◌then◌else◌, codes, List, [], ◌∷◌, ◌++◌, Option, Some, None, Result}
 use Rattle.std.specs.Option.{option_and_then, option_map, option_or}
 use Rattle.ioa_values.specs.Data.{Data, number, truth}
 use Rattle.ioa_operators.specs.Operators.{unary_value, binary_value, left_decision, function_named, call_value}
 use Rattle.ioa_operators.specs.Shapes.{display_value, field_value}
 use Rattle.ioa_operators.specs.RangeCheck.{range_check, result_of}
-use Rattle.ioa_terms.specs.Bindings.{Bindings, lookup}
+use Rattle.ioa_terms.specs.Bindings.{Bindings, same_word, lookup}
+use Rattle.ioa_terms.specs.Inboxes.{inboxes_word}
+use Rattle.ioa_terms.specs.declared.name.Name.TheVariants.{Word}
 use Rattle.ioa_terms.specs.PlainTerm as plain
 use Rattle.ioa_terms.specs.PlainTerm.{PlainTerm, PlainTerms, name, one, two, call, display, field, no_terms, term}
 use Rattle.ioa_operators.specs.declared.operator.BinaryOperator.{BinaryOperator}
+use Rattle.ioa_operators.specs.declared.operator.BinaryOperator.TheVariants.{At}
+use Rattle.ioa_operators.specs.declared.operator.Function.{Function}
 use Rattle.ioa_operators.specs.declared.shape.Shape.{Shape}
 use Rattle.ioa_operators.specs.declared.fault.TermFault.{TermFault}
 
--- the value of a function, by its name
-abbrev pub named_call_value : List ℕ → List Data → Option Data
-named_call_value w vs = option_and_then (λ f. call_value f vs) (function_named w)
+-- whether a call is of `inbox`
+abbrev pub is_inbox_word : List ℕ → Bool
+is_inbox_word w = same_word w (codes "inbox")
+
+-- the value of `inbox`: what the map of the inboxes has at the number of a node, if the inboxes are in view
+abbrev pub inbox_value : List Data → Bindings → Option Data
+inbox_value (v ∷ []) e = option_and_then (λ m. binary_value At m v) (lookup (Word inboxes_word) e)
+inbox_value vs e = None
+
+-- the value of a call: of a function, or of `inbox`, which is the name of none
+abbrev pub call_by : Option Function → List ℕ → Bindings → List Data → Option Data
+call_by (Some f) w e vs = call_value f vs
+call_by None w e vs = if is_inbox_word w then inbox_value vs e else None
+
+abbrev pub named_call_value : List ℕ → Bindings → List Data → Option Data
+named_call_value w e vs = call_by (function_named w) w e vs
 
 abbrev mutual
   -- the value of a term in an environment, if it has one; the right side of an operator counts only if the left one
@@ -28,7 +45,7 @@ abbrev mutual
       option_and_then
       (λ x. option_or (left_decision op x) (option_and_then (binary_value op x) (value b e)))
       (value a e)
-  value (call w ts) e = option_and_then (named_call_value w) (values ts e)
+  value (call w ts) e = option_and_then (named_call_value w e) (values ts e)
   value (display form d ts) e = option_and_then (display_value form d) (values ts e)
   value (field a w d) e = option_and_then (field_value d w) (value a e)
 

@@ -8,7 +8,10 @@ use Rattle.ioa_operators.specs.Operators.{function_named}
 use Rattle.ioa_operators.specs.Shapes.{PlainShape, truths, integers, naturals, constants, tuples, sequences, sets, maps}
 use Rattle.ioa_operators.specs.Shapes.{PlainShapes, no_shapes, shape, has_shape, field_position}
 use Rattle.ioa_terms.specs.declared.name.Name.{Name}
+use Rattle.ioa_terms.specs.declared.name.Name.TheVariants.{Word}
 use Rattle.ioa_terms.specs.Bindings.{Bindings, same_name, lookup}
+use Rattle.ioa_terms.specs.Inboxes.{inboxes_word}
+use Rattle.ioa_terms.specs.Meaning.{is_inbox_word}
 use Rattle.ioa_terms.specs.PlainTerm as plain
 use Rattle.ioa_terms.specs.PlainTerm.{PlainTerm, PlainTerms, name, one, two, call, display, field, no_terms, term}
 use Rattle.ioa_operators.specs.declared.operator.UnaryOperator.{UnaryOperator}
@@ -87,6 +90,17 @@ abbrev pub shape_named : Name → NameShapes → Option PlainShape
 shape_named x [] = None
 shape_named x (n ∷ names) = if same_name x n.0 then Some n.1 else shape_named x names
 
+-- a call: the shapes of its parts and of its value. `inbox` takes a key of the map of the inboxes, if that is in view,
+-- and gives what the map has there
+abbrev pub CallBy : Option Function → NameShapes → List ℕ → List PlainShape → PlainShape → Type 0
+CallBy (Some f) names w xs s = FunctionIs f xs s
+CallBy None names w xs s =
+    (k : PlainShape) × (is_inbox_word w ≡ true) × (xs ≡ k ∷ [])
+    × (option_map shape_in_terms (shape_named (Word inboxes_word) names) ≡ Some (maps k s))
+
+abbrev pub CallIs : NameShapes → List ℕ → List PlainShape → PlainShape → Type 0
+CallIs names w xs s = CallBy (function_named w) names w xs s
+
 -- the shape of a field of a tuple type
 abbrev pub listed_shapes : PlainShapes → List PlainShape
 listed_shapes no_shapes = []
@@ -119,8 +133,7 @@ abbrev mutual
   HasShape names (one op a) s = (x : PlainShape) × HasShape names a x × UnaryIs op x s
   HasShape names (two op a b) s =
       (x : PlainShape) × (y : PlainShape) × HasShape names a x × HasShape names b y × BinaryIs op x y s
-  HasShape names (call w ts) s =
-      (f : Function) × (xs : List PlainShape) × (function_named w ≡ Some f) × HaveShapes names ts xs × FunctionIs f xs s
+  HasShape names (call w ts) s = (xs : List PlainShape) × HaveShapes names ts xs × CallIs names w xs s
   HasShape names (display form d ts) s =
       (xs : List PlainShape) × (s ≡ d) × HaveShapes names ts xs × DisplayIs form xs d
   HasShape names (field a w d) s =

@@ -34,7 +34,7 @@ abbrev mutual
   stepwise_answer (one op a) e = and_then (stepwise_answer a e) (λ x. checked_result (unary_value op x))
   stepwise_answer (two op a b) e =
       and_then (stepwise_answer a e) (λ x. with_right op x (left_decision op x) (stepwise_answer b e))
-  stepwise_answer (call w ts) e = and_then (stepwise_answers ts e) (λ vs. checked_result (named_call_value w vs))
+  stepwise_answer (call w ts) e = and_then (stepwise_answers ts e) (λ vs. checked_result (named_call_value w e vs))
   stepwise_answer (display form d ts) e =
       and_then (stepwise_answers ts e) (λ vs. checked_result (display_value form d vs))
   stepwise_answer (field a w d) e = and_then (stepwise_answer a e) (λ x. checked_result (field_value d w x))

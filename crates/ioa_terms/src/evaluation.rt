@@ -1,8 +1,14 @@
 //! The value of a term.
 
-ghost use Rattle.std.specs.Prelude.{◌≡◌, Some, [], map, true, IfOk};
+ghost use Rattle.std.specs.Prelude.{◌≡◌, Some, None, [], map, true, IfOk};
+ghost use Rattle.std.specs.Option.{option_and_then};
 ghost use Rattle.ioa_values.specs.Outcome.{Answers};
-ghost use Rattle.ioa_terms.specs.Meaning.{answer, named_call_value};
+ghost use Rattle.ioa_terms.specs.Meaning.{answer, call_by, inbox_value, is_inbox_word, named_call_value};
+ghost use Rattle.ioa_terms.specs.Inboxes.{inbox_entries, inboxes_of, inboxes_value, inboxes_word};
+ghost use Rattle.ioa_values.specs.Collections.{IsAscending, keys_of, value_at};
+ghost use Rattle.ioa_values.specs.Data as datum;
+ghost use Rattle.ioa_values.specs.DataOrder.{same};
+ghost use Rattle.ioa_operators.specs.Operators.{binary_value};
 ghost use Rattle.ioa_terms.specs.Resolved.{IsResolved, AreTermsResolved};
 ghost use Rattle.ioa_terms.specs.Bindings.{names_of, slot_in, lookup};
 ghost use Rattle.ioa_operators.specs.RangeCheck.{range_check, checked_result};
@@ -11,12 +17,15 @@ ghost use Rattle.ioa_terms.specs.PlainTerm.{terms_of};
 ghost use Rattle.ioa_values.specs.Data.{is_within};
 ghost use Rattle.ioa_terms.specs.View.{term_of};
 
-use crate::environment::{Env, Slot};
+use crate::environment::{Env, Inbox, Slot};
 use crate::name::Name;
 use crate::tree::Checked;
-use ioa_operators::{Function, TermFault, binary, call, display, field, left_decision, unary};
-use ioa_values::{Value, Word};
-use std::alloc::Global;
+use ioa_operators::{
+    BinaryOperator, Function, TermFault, binary, call, display, field, left_decision, unary,
+};
+use ioa_values::collections::update;
+use ioa_values::{Value, Word, copies};
+use std::alloc::{AllocError, Global};
 
 /// The value of a term in an environment (profile). Parts are evaluated from left to right, and the first
 /// fault is returned: `Undefined (1)` if a part has no value, `Range (2)` if a number lies outside 64 bits,
@@ -60,7 +69,7 @@ pub(crate) fn evaluate_stepwise(
         }
         Checked::Call(name, parts) => {
             let values = evaluate_all(alloc, parts, env)?;
-            call_named(alloc, name, values)
+            call_named(alloc, env, name, values)
         }
         Checked::Display(form, shape, parts) => {
             let values = evaluate_all(alloc, parts, env)?;
@@ -120,16 +129,115 @@ pub(crate) fn read(alloc: Global, env: &Env, name: &Word, slot: usize) -> Result
     match env.get(slot) {
         Some(Slot::Variable(value)) => Ok(value.try_copy(alloc)?),
         Some(Slot::Constant(constant)) => Ok(Value::constant(constant)),
+        Some(Slot::Inboxes(inboxes)) => Ok(map_of(alloc, inboxes)?),
         None => Err(TermFault::Undefined),
     }
 }
 
-/// The value of a function, by its name.
-fn call_named(alloc: Global, name: &Word, values: Vec<Value>) -> Result<Value, TermFault>
-    ensures { Answers TermFault.Memory (λ v. v) result (checked_result (named_call_value name.now values.items)) }
+/// The map of the inboxes.
+fn map_of(alloc: Global, inboxes: &[Inbox]) -> Result<Value, AllocError>
+    ensures { IfOk result (λ v. v ≡ inboxes_value (inboxes_of inboxes.now)) }
+{
+    Ok(Value::map(entries_of(alloc, inboxes)?))
+}
+
+/// The entries of the map of the inboxes.
+#[tactic(auto, using(crate::proofs::Inboxes::one_inbox_more))]
+fn entries_of(alloc: Global, inboxes: &[Inbox]) -> Result<Vec<(Value, Value)>, AllocError>
+    ensures entries { IfOk result (λ v. v.items ≡ inbox_entries (inboxes_of inboxes.now)) }
+    ensures ascending { IfOk result (λ v. IsAscending (keys_of v.items)) }
+{
+    let mut entries = Vec::new(alloc);
+    let mut left = inboxes.len();
+    while left > 0 {
+        left -= 1;
+        let inbox = inboxes[left];
+        let messages = copies(alloc, inbox.messages)?;
+        entries = update(
+            entries,
+            Value::number(inbox.sender),
+            Value::sequence(messages),
+        )?;
+    }
+    Ok(entries)
+}
+
+/// The value of a call, by its name.
+fn call_named(alloc: Global, env: &Env, name: &Word, values: Vec<Value>) -> Result<Value, TermFault>
+    ensures { Answers TermFault.Memory (λ v. v) result
+        (checked_result (named_call_value name.now env.now values.items)) }
 {
     match Function::named(name) {
         Some(function) => call(alloc, function, values),
-        None => Err(TermFault::Undefined),
+        None => call_of_none(alloc, env, name, &values),
     }
+}
+
+/// The value of a call whose name is no function's: only `inbox` has one.
+fn call_of_none(alloc: Global, env: &Env, name: &Word, values: &[Value]) -> Result<Value, TermFault>
+    ensures { Answers TermFault.Memory (λ v. v) result (checked_result (call_by None name.now env.now values.now)) }
+{
+    if is_inbox(name) {
+        inbox(alloc, env, values)
+    } else {
+        Err(TermFault::Undefined)
+    }
+}
+
+/// Whether a call is of `inbox`.
+pub fn is_inbox(name: &Word) -> bool
+    ensures { result ≡ is_inbox_word name.now }
+{
+    match name.as_str() {
+        "inbox" => true,
+        _ => false,
+    }
+}
+
+/// The value of `inbox`: a copy of what waits from the node of this number, if the inboxes are in view.
+fn inbox(alloc: Global, env: &Env, values: &[Value]) -> Result<Value, TermFault>
+    ensures { Answers TermFault.Memory (λ v. v) result (checked_result (inbox_value values.now env.now)) }
+{
+    match values {
+        [sender] => inbox_at(alloc, env, sender),
+        _ => Err(TermFault::Undefined),
+    }
+}
+
+/// What the map of the inboxes has at a key, if the inboxes are in view.
+#[tactic(auto, using(ioa_values::proofs::ItemLists::pairs_of_entries))]
+fn inbox_at(alloc: Global, env: &Env, sender: &Value) -> Result<Value, TermFault>
+    ensures { Answers TermFault.Memory (λ v. v) result (checked_result (option_and_then
+        (λ m. binary_value BinaryOperator.At m sender.now) (lookup (Name.Word inboxes_word) env.now))) }
+{
+    match env.inboxes()? {
+        Some(Slot::Inboxes(inboxes)) => messages_from(alloc, inboxes, sender),
+        Some(Slot::Variable(map)) => {
+            let map = map.try_copy(alloc)?;
+            let sender = sender.try_copy(alloc)?;
+            binary(alloc, BinaryOperator::At, map, sender)
+        }
+        Some(Slot::Constant(_)) | None => Err(TermFault::Undefined),
+    }
+}
+
+/// Whether a value is this number.
+fn is_number(value: &Value, number: i64) -> bool
+    ensures { result ≡ same value.now (datum.number number) }
+{
+    value.equals(&Value::number(number))
+}
+
+/// A copy of the messages of a sender, if there is an inbox of it.
+#[tactic(auto, using(crate::proofs::Inboxes::found_here, crate::proofs::Inboxes::found_later))]
+fn messages_from(alloc: Global, inboxes: &[Inbox], sender: &Value) -> Result<Value, TermFault>
+    ensures { Answers TermFault.Memory (λ v. v) result
+        (checked_result (value_at sender.now (inbox_entries (inboxes_of inboxes.now)))) }
+{
+    for inbox in inboxes {
+        if is_number(sender, inbox.sender) {
+            return Ok(Value::sequence(copies(alloc, inbox.messages)?));
+        }
+    }
+    Err(TermFault::Undefined)
 }

@@ -9,8 +9,8 @@ mod performance;
 mod same;
 mod tree;
 
-pub use environment::{Env, LentValues, NameLists, Slot};
-pub use evaluation::{eval, evaluate_all, evaluate_test};
+pub use environment::{Env, Inbox, LentValues, NameLists, Slot, inboxes_word};
+pub use evaluation::{eval, evaluate_all, evaluate_test, is_inbox};
 pub use ioa_operators::{
     BinaryOperator, DisplayForm, Function, Shape, ShapeForm, TermFault, UnaryOperator,
 };

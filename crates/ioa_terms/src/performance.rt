@@ -6,6 +6,7 @@ ghost use Rattle.ioa_values.specs.Outcome.{Answers, and_then};
 ghost use Rattle.ioa_operators.specs.RangeCheck.{checked_result};
 ghost use Rattle.ioa_operators.specs.Shapes.{with_field};
 ghost use Rattle.ioa_terms.specs.Bindings.{environment, slot_in, names_of, lookup};
+ghost use Rattle.ioa_terms.specs.Inboxes.{lent_values};
 ghost use Rattle.ioa_terms.specs.Performance.{answer_by, updated_map};
 ghost use Rattle.ioa_terms.specs.Resolved.{AreResolved, AreAllResolved, IsResolved};
 ghost use Rattle.ioa_terms.specs.Resolved.{IsResolvedStatement, IsResolvedTarget};
@@ -124,10 +125,10 @@ fn assign(
     perform_assignment(alloc, target, term, names, lent, constants, values)
 }
 
-/// The values after an assignment to one of them, whose terms may read what two further owners lend as well
-/// (profile). `names` are the names of these values and then of those that are lent, in the same order;
-/// `constants` are those of the text's constants. The first fault is returned, and the values are dropped then.
-/// Costs time in proportion to the values that the terms read and make.
+/// The values after an assignment to one of them, whose terms may read what is lent as well (profile). `names` are the
+/// names of these values and then of what is lent, in the same order; `constants` are those of the text's constants.
+/// The first fault is returned, and the values are dropped then. Costs time in proportion to the values that the terms
+/// read and make.
 #[tactic(auto, using(crate::proofs::Slots::target_among_all))]
 pub fn perform_assignment(
     alloc: Global,
@@ -140,11 +141,11 @@ pub fn perform_assignment(
 ) -> Result<Vec<Value>, TermFault>
     requires resolved { IsResolvedStatement (assign (target_of target.now) (term_of term.now))
         (take (length values.items) (map Name.Word names.now)) (map Name.Word (names.now ++ constants.now)) }
-    requires named { length names.now ≡ length (values.items ++ (lent.first.now ++ lent.second.now)) }
+    requires named { length names.now ≡ length (values.items ++ lent_values lent) }
     ensures after { Answers TermFault.Memory (λ vs. environment (map Name.Word names.now)
-        (vs.items ++ (lent.entry.first.now ++ lent.entry.second.now)) constants.now) result
+        (vs.items ++ lent_values lent.entry) constants.now) result
         (stepwise_one (assign (target_of target.now) (term_of term.now)) (environment (map Name.Word names.now)
-        (values.items ++ (lent.entry.first.now ++ lent.entry.second.now)) constants.now)) }
+        (values.items ++ lent_values lent.entry) constants.now)) }
     ensures kept { IfOk result (λ vs. length vs.items ≡ length values.items) }
 {
     let value = assignment_value(
@@ -264,9 +265,9 @@ fn put(
 ) -> Result<Vec<Value>, TermFault>
     requires { slot_in (Name.Word name.now) (take (length values.items) (map Name.Word names.now)) ≡ Some at }
     ensures after { Answers TermFault.Memory (λ vs. environment (map Name.Word names.now)
-        (vs.items ++ (lent.entry.first.now ++ lent.entry.second.now)) constants.now) result
+        (vs.items ++ lent_values lent.entry) constants.now) result
         (put_fitting_value (Name.Word name.now) shape.now (environment (map Name.Word names.now)
-        (values.items ++ (lent.entry.first.now ++ lent.entry.second.now)) constants.now) value) }
+        (values.items ++ lent_values lent.entry) constants.now) value) }
     ensures kept { IfOk result (λ vs. length vs.items ≡ length values.items) }
 {
     if shape.admits(&value) {

@@ -1,12 +1,11 @@
 //! Texts that are refused, one for each refusal that the check can give, and what calls on a checked system return.
 //! More texts for each refusal are in the folder `checks` at the top of the repository.
 
+use crate::command_line::run_on;
 use ioa_actions::{Action, Component};
 use ioa_channels::{Item, Queue};
 use ioa_check::check;
-use ioa_command::command;
 use ioa_compose::{Conf, project, replay};
-use ioa_streams::Over;
 use ioa_system::System;
 use ioa_text_reader::parse;
 use ioa_values::Value;
@@ -15,21 +14,14 @@ use std::test::Fail;
 
 /// The line that the program shows for a text, and its status; no line if it writes a report.
 fn line_of(rt: &HostRuntime, text: &str) -> Result<(u8, String), Fail> {
-    let mut out = Over::new(Vec::new(rt.alloc()));
-    let mut err = Over::new(Vec::new(rt.alloc()));
     let mut reader = text.as_bytes();
-    let status = command(
-        rt.alloc(),
-        &["ioarun", "run"],
-        &mut reader,
-        &mut out,
-        &mut err,
-    );
-    if out.into_writer().is_empty() {
-        Ok((status, String::from_utf8(err.into_writer())?))
+    let (status, out, err) = run_on(rt, &["ioarun", "run"], &mut reader)?;
+    let line = if out.is_empty() {
+        err
     } else {
-        Ok((status, String::new(rt.alloc())))
-    }
+        String::new(rt.alloc())
+    };
+    Ok((status, line))
 }
 
 /// The two automata of a text in which node 0 sends 7 and 8 to node 1, with the sort of what node 1 takes and keeps, its
@@ -53,7 +45,7 @@ fn list_of(
 }
 
 /// Texts that are refused for one thing each, with the line that the program shows.
-static REFUSED: [(&str, &str); 21] = [
+static REFUSED: [(&str, &str); 23] = [
     ("automaton A system node 0: B", "20 Unknown in 1"),
     (
         "automaton A states x: Int := 1, x: Int := 2 system",
@@ -117,12 +109,23 @@ static REFUSED: [(&str, &str); 21] = [
         "automaton A schedule states c: Int do od system",
         "23 NoInitial in 0",
     ),
-    // What does not run yet.
+    // A block sees inboxes only if its automaton takes messages, and a term of a transition never does.
     (
-        "automaton A signature input receive(m: Int, s: Nat, const 0) transitions input receive(m, s, 0) \
-        schedule do fire receive(len(inbox(1)), 1, 0) od system",
+        "automaton A signature internal t(n: Int) transitions internal t(n) \
+        schedule do fire t(len(inbox(1))) od system",
         "20 Unknown in 0",
     ),
+    (
+        "automaton A signature input receive(m: Int, s: Nat, const 0) states n: Int := 0 \
+        transitions input receive(m, s, 0) eff n := len(inbox(s)) system",
+        "20 Unknown in 0",
+    ),
+    (
+        "automaton A signature input receive(m: Int, s: Nat, const 0) transitions input receive(m, s, 0) \
+        schedule do fire receive(inbox(1), 1, 0) od system",
+        "22 Sorts in 0",
+    ),
+    // What does not run yet.
     (
         "automaton A schedule do while true do od od system",
         "12 Unexpected at 38",
@@ -183,25 +186,6 @@ fn more_nodes_or_channels_than_the_limits_are_told(rt: HostRuntime) -> Result<()
         write!(channels, " channel 0 -> {number}")?;
     }
     assert!(rt; is_refused(&rt, channels.as_str(), "31 Limit in 1")?);
-    Ok(())
-}
-
-/// The report of a text in which nothing happens.
-#[test]
-fn an_automaton_without_nodes_is_a_text(rt: HostRuntime) -> Result<(), Fail> {
-    let mut out = Over::new(Vec::new(rt.alloc()));
-    let mut err = Over::new(Vec::new(rt.alloc()));
-    let mut reader = "automaton A system".as_bytes();
-    let status = command(
-        rt.alloc(),
-        &["ioarun", "run"],
-        &mut reader,
-        &mut out,
-        &mut err,
-    );
-    assert_eq!(rt; status, 0);
-    let report = String::from_utf8(out.into_writer())?;
-    assert!(rt; report.as_str() == "schedule 0\nworker 0 commits 0\ntotal 0\n");
     Ok(())
 }
 

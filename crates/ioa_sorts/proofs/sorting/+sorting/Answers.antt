@@ -1,7 +1,8 @@
 use Rattle.std.proofs.Common.{◌≡◌, inr, refl, length, arith}
 use Rattle.ioa_terms.specs.View.{term_of}
 use Rattle.ioa_sort_rules.proofs.Fields.{listed_same}
-use Rattle.ioa_sorts.proofs.Calls.{one_listed, other_than_one, two_listed, other_than_two, three_listed, other_than_three, uneven}
+use Rattle.ioa_sort_rules.specs.Rows.{sides}
+use Rattle.ioa_sorts.proofs.Calls.{inbox_listed, inbox_of_others, one_listed, other_than_one, two_listed, other_than_two, three_listed, other_than_three, uneven}
 use Rattle.ioa_sorts.proofs.sorting.+sorting.Goals as goal
 
 pub call_one-returns-then-len-eq1 : goal.call_one-returns-then-len-eq1
@@ -12,6 +13,15 @@ call_one-returns-then-len-eq1 n c =
 pub call_one-returns-else-len-eq1 : goal.call_one-returns-else-len-eq1
 call_one-returns-else-len-eq1 n c =
     inr (other_than_one term_of c.args.view.now c.args.name.now c.args.kind c.args.parts.now.items (λ h. omega arith))
+
+pub inbox_of-returns-then-len-eq1 : goal.inbox_of-returns-then-len-eq1
+inbox_of-returns-then-len-eq1 n c =
+    let many : length c.args.parts.now.items ≡ 1 = omega arith in
+    rw (inbox_listed term_of c.args.view.now c.args.name.now (sides c.args.sides.other c.args.sides.whole) c.args.parts.now.items c.index.result.now many c.index.ensures) c.inbox_of_one.ensures
+
+pub inbox_of-returns-else-len-eq1 : goal.inbox_of-returns-else-len-eq1
+inbox_of-returns-else-len-eq1 n c =
+    inr (inbox_of_others term_of c.args.view.now c.args.name.now (sides c.args.sides.other c.args.sides.whole) c.args.parts.now.items (λ h. omega arith))
 
 pub call_two-returns-then-len-eq2 : goal.call_two-returns-then-len-eq2
 call_two-returns-then-len-eq2 n c =

@@ -37,6 +37,18 @@ decreases-key_known l = 16 * max (goal.size-key_known l) (goal.size-key_known (r
 abbrev pub decreases-call : goal.decreases-call
 decreases-call l = 16 * goal.size-call l + 9
 
+abbrev pub decreases-call_of_none : goal.decreases-call_of_none
+decreases-call_of_none l = 16 * goal.size-call_of_none l + 8
+
+abbrev pub decreases-inbox : goal.decreases-inbox
+decreases-inbox l = 16 * goal.size-inbox l + 7
+
+abbrev pub decreases-inbox_of : goal.decreases-inbox_of
+decreases-inbox_of l = 16 * goal.size-inbox_of l + 6
+
+abbrev pub decreases-inbox_of_one : goal.decreases-inbox_of_one
+decreases-inbox_of_one l = 16 * goal.size-inbox_of_one l + 2
+
 abbrev pub decreases-call_of_arity : goal.decreases-call_of_arity
 decreases-call_of_arity l = 16 * goal.size-call_of_arity l + 8
 

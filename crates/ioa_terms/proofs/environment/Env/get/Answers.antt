@@ -1,51 +1,110 @@
-use Rattle.std.proofs.Common.{◌≡◌, ◌++◌, ◌-◌, ◌+◌, length, map, min, arith, sym}
+use Rattle.std.proofs.Common.{◌++◌, ◌-◌, ◌+◌, [], ◌∷◌, length, map, arith, sym, ap, ◌∙◌}
+use Rattle.std.specs.Option.{option_map}
 use Rattle.std.proofs.lemmas.List.{length-append, length-map}
+use Rattle.ioa_terms.specs.Inboxes.{inbox_values, inboxes_of, inboxes_value}
 use Rattle.ioa_terms.specs.declared.name.Name.TheVariants.{Word}
-use Rattle.ioa_terms.proofs.Slots.{environment_constant, environment_first, environment_middle, environment_last, environment_past}
+use Rattle.ioa_terms.proofs.Slots.{environment_constant, environment_first, environment_middle, environment_last, environment_beyond}
 use Rattle.ioa_terms.proofs.environment.Env.get.Goals as goal
 
 pub returns-then-slot-self : goal.returns-then-slot-self
 returns-then-slot-self c =
     let env = c.self.inside in
-    let named = length-map env.names Word in
-    let many = length-append env.values.now (env.lent.first.now ++ env.lent.second.now) in
+    let ws = env.names in
+    let vs = env.values.now in
+    let is = inbox_values (option_map (λ is. inboxes_of is.now) env.lent.inboxes) in
+    let fs = env.lent.first.now in
+    let gs = env.lent.second.now in
+    let cs = env.constants.now in
+    let named = length-map ws Word in
+    let further = length-append fs gs in
+    let lent = length-append is (fs ++ gs) in
+    let many = length-append vs (is ++ (fs ++ gs)) in
     let valued = c.self.invariant in
-    rw (← c.self.view_is) (sym (environment_first (map Word env.names) env.values.now (env.lent.first.now ++ env.lent.second.now) env.constants.now c.args.slot c.index-self-slot.result (omega arith) (omega arith)))
+    rw (← c.self.view_is) (sym (environment_first (map Word ws) vs (is ++ (fs ++ gs)) cs c.args.slot c.index-self-slot.result (omega arith) (omega arith)))
 
-pub returns-then-behind-self : goal.returns-then-behind-self
-returns-then-behind-self c =
+pub returns-in-Some : goal.returns-in-Some
+returns-in-Some c =
     let env = c.self.inside in
-    let named = length-map env.names Word in
-    let lent = length-append env.lent.first.now env.lent.second.now in
-    let many = length-append env.values.now (env.lent.first.now ++ env.lent.second.now) in
+    let ws = env.names in
+    let vs = env.values.now in
+    let is = inbox_values (option_map (λ is. inboxes_of is.now) env.lent.inboxes) in
+    let fs = env.lent.first.now in
+    let gs = env.lent.second.now in
+    let cs = env.constants.now in
+    let named = length-map ws Word in
+    let further = length-append fs gs in
+    let lent = length-append is (fs ++ gs) in
+    let many = length-append vs (is ++ (fs ++ gs)) in
     let valued = c.self.invariant in
-    rw (← c.self.view_is) (sym (environment_middle (map Word env.names) env.values.now env.lent.first.now env.lent.second.now env.constants.now c.args.slot (c.args.slot - length env.values.now) c.index-self-behind.result (omega arith) (omega arith) (omega arith)))
+    let some = ap (λ o. length (inbox_values (option_map (λ is. inboxes_of is.now) o))) c.in-Some.is in
+    let slots = c.inbox_slots-inbox_slots.ensures in
+    rw (← c.self.view_is, c.in-Some.is) (sym (environment_middle (map Word ws) vs (inboxes_value (inboxes_of c.in-Some.inboxes.now) ∷ []) (fs ++ gs) cs c.args.slot 0 (inboxes_value (inboxes_of c.in-Some.inboxes.now)) (omega arith) (omega arith) (omega arith)))
+
+pub returns-in-None : goal.returns-in-None
+returns-in-None c =
+    let env = c.self.inside in
+    let ws = env.names in
+    let vs = env.values.now in
+    let is = inbox_values (option_map (λ is. inboxes_of is.now) env.lent.inboxes) in
+    let fs = env.lent.first.now in
+    let gs = env.lent.second.now in
+    let cs = env.constants.now in
+    let named = length-map ws Word in
+    let further = length-append fs gs in
+    let lent = length-append is (fs ++ gs) in
+    let many = length-append vs (is ++ (fs ++ gs)) in
+    let valued = c.self.invariant in
+    let none = ap (λ o. length (inbox_values (option_map (λ is. inboxes_of is.now) o))) c.in-None.is in
+    let slots = c.inbox_slots-inbox_slots.ensures in
+    absurd (omega arith)
+
+pub returns-then-lent-self : goal.returns-then-lent-self
+returns-then-lent-self c =
+    let env = c.self.inside in
+    let ws = env.names in
+    let vs = env.values.now in
+    let is = inbox_values (option_map (λ is. inboxes_of is.now) env.lent.inboxes) in
+    let fs = env.lent.first.now in
+    let gs = env.lent.second.now in
+    let cs = env.constants.now in
+    let named = length-map ws Word in
+    let further = length-append fs gs in
+    let lent = length-append is (fs ++ gs) in
+    let many = length-append vs (is ++ (fs ++ gs)) in
+    let valued = c.self.invariant in
+    let slots = c.inbox_slots-inbox_slots.ensures in
+    rw (← c.self.view_is) (sym (environment_last (map Word ws) vs is fs gs cs c.args.slot (c.args.slot - length vs - c.inbox_slots-inbox_slots.result) c.index-self-lent.result (omega arith) (omega arith) (omega arith)))
 
 pub returns-then-further-self : goal.returns-then-further-self
 returns-then-further-self c =
     let env = c.self.inside in
-    let named = length-map env.names Word in
-    let lent = length-append env.lent.first.now env.lent.second.now in
-    let many = length-append env.values.now (env.lent.first.now ++ env.lent.second.now) in
+    let ws = env.names in
+    let vs = env.values.now in
+    let is = inbox_values (option_map (λ is. inboxes_of is.now) env.lent.inboxes) in
+    let fs = env.lent.first.now in
+    let gs = env.lent.second.now in
+    let cs = env.constants.now in
+    let named = length-map ws Word in
+    let further = length-append fs gs in
+    let lent = length-append is (fs ++ gs) in
+    let many = length-append vs (is ++ (fs ++ gs)) in
     let valued = c.self.invariant in
-    rw (← c.self.view_is) (sym (environment_last (map Word env.names) env.values.now env.lent.first.now env.lent.second.now env.constants.now c.args.slot (c.args.slot - length env.values.now - length env.lent.first.now) c.index-self-further.result (omega arith) (omega arith) (omega arith)))
+    let slots = c.inbox_slots-inbox_slots.ensures in
+    rw (← c.self.view_is) (sym (environment_beyond (map Word ws) vs is fs gs cs c.args.slot (c.args.slot - length vs - c.inbox_slots-inbox_slots.result - length fs) c.index-self-further.result (omega arith) (omega arith) (omega arith)))
 
-pub returns-then-constant-self : goal.returns-then-constant-self
-returns-then-constant-self c =
+pub returns : goal.returns
+returns c =
     let env = c.self.inside in
-    let named = length-map env.names Word in
-    let lent = length-append env.lent.first.now env.lent.second.now in
-    let many = length-append env.values.now (env.lent.first.now ++ env.lent.second.now) in
+    let ws = env.names in
+    let vs = env.values.now in
+    let is = inbox_values (option_map (λ is. inboxes_of is.now) env.lent.inboxes) in
+    let fs = env.lent.first.now in
+    let gs = env.lent.second.now in
+    let cs = env.constants.now in
+    let named = length-map ws Word in
+    let further = length-append fs gs in
+    let lent = length-append is (fs ++ gs) in
+    let many = length-append vs (is ++ (fs ++ gs)) in
     let valued = c.self.invariant in
-    let at : c.args.slot ≡ min (length (map Word env.names)) (length (env.values.now ++ (env.lent.first.now ++ env.lent.second.now))) + (c.args.slot - length env.values.now - length env.lent.first.now - length env.lent.second.now) = omega arith in
-    rw (← c.self.view_is) (sym (environment_constant (map Word env.names) (env.values.now ++ (env.lent.first.now ++ env.lent.second.now)) env.constants.now c.args.slot (c.args.slot - length env.values.now - length env.lent.first.now - length env.lent.second.now) at (omega arith)))
-
-pub returns-else-constant-self : goal.returns-else-constant-self
-returns-else-constant-self c =
-    let env = c.self.inside in
-    let named = length-map env.names Word in
-    let lent = length-append env.lent.first.now env.lent.second.now in
-    let many = length-append env.values.now (env.lent.first.now ++ env.lent.second.now) in
-    let valued = c.self.invariant in
-    let at : c.args.slot ≡ min (length (map Word env.names)) (length (env.values.now ++ (env.lent.first.now ++ env.lent.second.now))) + (c.args.slot - length env.values.now - length env.lent.first.now - length env.lent.second.now) = omega arith in
-    rw (← c.self.view_is) (environment_past (map Word env.names) (env.values.now ++ (env.lent.first.now ++ env.lent.second.now)) env.constants.now c.args.slot (c.args.slot - length env.values.now - length env.lent.first.now - length env.lent.second.now) at (omega arith))
+    let slots = c.inbox_slots-inbox_slots.ensures in
+    c.constant_at.ensures ∙ rw (← c.self.view_is) (sym (environment_constant (map Word ws) (vs ++ (is ++ (fs ++ gs))) cs c.args.slot (c.args.slot - length vs - c.inbox_slots-inbox_slots.result - length fs - length gs) (omega arith)))

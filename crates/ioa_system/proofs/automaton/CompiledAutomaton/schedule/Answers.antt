@@ -1,0 +1,10 @@
+use Rattle.std.proofs.Common.{subst}
+use Rattle.ioa_source.specs.TextView.{schedule_of}
+use Rattle.ioa_system.specs.InView.{block_own_names, declared_names}
+use Rattle.ioa_system.specs.Parts.{AutomatonParts}
+use Rattle.ioa_system.specs.ResolvedPrograms.{IsResolvedSchedule}
+use Rattle.ioa_system.proofs.automaton.CompiledAutomaton.schedule.Goals as goal
+
+pub returns-clause-resolved : goal.returns-clause-resolved
+returns-clause-resolved c =
+    subst (λ (a : AutomatonParts). IsResolvedSchedule (declared_names a) (block_own_names a) (schedule_of c.self.inside.schedule)) c.self.view_is c.self.invariant.resolved.schedule
