@@ -48,7 +48,8 @@ fn sort_block_statements(
     statements: &Vec<Statement<(), ()>>,
 ) -> Result<Vec<Statement<usize, Shape>>, Refusal>
     ensures { Answers Refusal.Memory (λ ss. map statement_of ss.items) result
-        (all_ok (statement_sortings (spec.site_in (surroundings_of around.now) own.now variables actions.now.rules.items)
+        (all_ok (statement_sortings
+        (spec.site_in (surroundings_of around.now) own.now variables actions.now.rules.items)
         (statements_of (map statement_of statements.now.items)))) }
 {
     let view = View::new(own, around.outer, around.constants)?;

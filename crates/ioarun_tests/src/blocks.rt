@@ -111,8 +111,8 @@ system
   channel 0 -> 1
 ";
 
-/// A node in the middle: it tells how many messages wait from each side, and then takes them. Node 0 sends it two, node 2
-/// sends it one, and it sends one to node 0, which has an inbox of its own.
+/// A node in the middle: it tells how many messages wait from each side, and then takes them. Node 0 sends it two, node
+/// 2 sends it one, and it sends one to node 0, which has an inbox of its own.
 const TWO_SIDES: &str = "automaton Sender(me, n: Nat)
   signature output send(m: Nat, const me, const 1)
     input receive(m: Nat, const 1, const me)
