@@ -1,0 +1,9 @@
+-- the lemmas of this crate
+pub mod SameConfs
+pub mod Lookups
+pub mod Raises
+pub mod Puts
+pub mod FoundReads
+pub mod Commits
+pub mod BookLaws
+pub mod FreshLooks

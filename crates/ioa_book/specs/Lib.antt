@@ -1,0 +1,8 @@
+-- what the contracts of this crate and of those above it cite
+pub mod Versions
+pub mod Books
+pub mod Proposals
+pub mod Commits
+pub mod BookLaws
+pub mod Slots
+pub mod Refusals

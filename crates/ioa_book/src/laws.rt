@@ -1,0 +1,31 @@
+//! Laws of looks and proposals. Each law is the contract of a function that does nothing.
+
+ghost use Rattle.std.specs.Prelude.{◌≡◌, true, ℤ, List, Ok, filter, length};
+ghost use Rattle.std.specs.Ordering.{int_eq};
+ghost use Rattle.ioa_values.specs.Outcome.{and_then};
+ghost use Rattle.ioa_actions.specs.ActionParts.{node_of};
+ghost use Rattle.ioa_actions.specs.declared.action.Action.{Action};
+ghost use Rattle.ioa_actions.specs.declared.component.Component.{Component};
+ghost use Rattle.ioa_index.specs.Own.{concerns};
+ghost use Rattle.ioa_compose.specs.Composition.{changes_of, component_of, find_conf, find_confs};
+ghost use Rattle.ioa_compose.specs.Participants.{participants_of};
+ghost use Rattle.ioa_book.specs.Books.{PlainBook, snapshot_after, states_held};
+ghost use Rattle.ioa_book.specs.Commits.{full, refusal_of};
+ghost use Rattle.ioa_book.specs.Proposals.{plain_proposal, proposal_answer, reads_held};
+ghost use Rattle.ioa_book.specs.Versions.{read_confs};
+
+/// A look at a node shows of each component that the node has to do with what the book holds. So a proposal of one of
+/// the node's actions has the steps of the participants from the configurations held (Lynch 8.2), or the fault that
+/// these have, and what it has read is what the book holds of them. As long as nothing else is committed, the proposal
+/// stands: it is refused only if the book is full.
+pub fn fresh_look_law()
+    ensures shown { (b : PlainBook) (n : ℤ) → read_confs (snapshot_after n b.start b.log).reads
+        ≡ filter (λ c. concerns n (component_of c)) (states_held b) }
+    ensures seen { (b : PlainBook) (n : ℤ) (k : Component) → concerns n k ≡ true →
+        find_conf k (read_confs (snapshot_after n b.start b.log).reads) ≡ find_conf k (states_held b) }
+    ensures proposal { (b : PlainBook) (n : ℤ) (a : Action) → int_eq (node_of a) n ≡ true →
+        proposal_answer a (snapshot_after n b.start b.log)
+        ≡ and_then (changes_of a (find_confs (participants_of a) (states_held b)))
+        (λ ds. Ok (plain_proposal a (length b.log) (reads_held b (participants_of a)))) }
+    ensures stands { (b : PlainBook) (ks : List Component) → refusal_of b (reads_held b ks) ≡ full b }
+{}

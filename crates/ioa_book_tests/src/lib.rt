@@ -1,0 +1,5 @@
+//! Tests of the book of commits.
+#![tactic(auto)]
+
+#[cfg(test)]
+mod rows;

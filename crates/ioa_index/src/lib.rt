@@ -1,0 +1,6 @@
+//! Where the components of a list stand.
+#![tactic(auto)]
+
+mod index;
+
+pub use index::Index;
