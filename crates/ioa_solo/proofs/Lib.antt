@@ -1,5 +1,7 @@
 -- lemmas of runs by one worker
 mod Fired
+mod FreshTurns
+mod FreshFires
 mod Ready
 mod Termination
 mod Rounds

@@ -1,5 +1,6 @@
 -- Executions that go on by one more action, and what a run leaves in the book's words.
-use Rattle.std.proofs.Common.{◌≡◌, ℕ, ◌<◌, List, [], ◌∷◌, ◌++◌, Ok, refl, map, length, length-append, arith}
+use Rattle.std.proofs.Common.{◌≡◌, ℕ, ◌<◌, List, [], ◌∷◌, ◌++◌, Option, Ok, Some, refl, sym, ap, subst, ◌∙◌, map, length, length-append, arith}
+use Rattle.std.specs.Option.{unwrap_or}
 use Rattle.std.specs.List.{AllByRecursion}
 use Rattle.ioa_actions.specs.declared.action.Action.{Action}
 use Rattle.ioa_compose.specs.declared.configuration.Conf.{Conf}
@@ -23,7 +24,13 @@ use Rattle.ioa_compose.proofs.Deliveries.{hands_out_prefix, takes_in_order}
 use Rattle.ioa_compose.proofs.Starts.{is_start, start_state}
 use Rattle.ioa_record.specs.declared.ending.Ending.{Ending}
 use Rattle.ioa_record.specs.declared.record.Record.{Record}
-use Rattle.ioa_solo.specs.Recorded.{ReplaysWithin, IsRecordOf, IsRunOf}
+use Rattle.ioa_book.specs.Books.{IsExecutionOf, PlainBook, states_held}
+use Rattle.ioa_compose.specs.Executions.{replay}
+use Rattle.std.proofs.lemmas.List.{length-map}
+use Rattle.ioa_solo.specs.NodeTurns.{PlainProgress, progress_of}
+use Rattle.ioa_solo.specs.Solo.{ending_of, progress_at}
+use Rattle.ioa_solo.specs.declared.progress.Progress.{Progress}
+use Rattle.ioa_solo.specs.Recorded.{ReplaysWithin, IsOneRun, IsRecordOf, IsRunOf}
 
 -- an execution that is shorter than the limit goes on by a step
 pub ReplaysWithin-push : (limit : ℕ) (from : List Conf) (actions : List Action) (a : Action) (states next : List Conf) → ReplaysWithin limit from actions states → joint_answer a states ≡ Ok next → length actions < limit → ReplaysWithin limit from (actions ++ a ∷ []) next
@@ -61,3 +68,28 @@ is_run_of s limit r endings w left =
       scripts = each_script r.schedule.items (start s) r.states.items execution s.scripts begins.scripts;
       left = left;
     }
+
+-- what the book of a run has recorded replays from the start of the system
+pub book_replays : (s : SystemParts) (limit : ℕ) (old new : PlainBook) (actions : List Action) (states : List Conf) → old.start ≡ start s → old.limit ≡ limit → IsOneRun old new → IsExecutionOf new actions states → ReplaysWithin limit (start s) actions states
+book_replays s limit old new actions states begun limited one left = record {
+  leads = rw (← (one.start ∙ begun)) left.leads;
+  within = rw (← (one.limit ∙ limited)) left.within;
+}
+
+-- and ends in the states that the book holds
+pub book_states : (b : PlainBook) (actions : List Action) (states : List Conf) → IsExecutionOf b actions states → states ≡ states_held b
+book_states b actions states left =
+    let leads : replay b.log b.start ≡ Some states = subst (λ (log : List Action). replay log b.start ≡ Some states) left.schedule_is left.leads in
+    sym (ap (λ (o : Option (List Conf)). unwrap_or o []) leads)
+
+-- there is an ending for each node of the system
+pub as_many_endings : (s : SystemParts) (attempts : ℕ) (endings : List Ending) (now new old : List Progress) → endings ≡ map ending_of (map progress_of now) → now ≡ new → length new ≡ length old → map progress_of old ≡ map (progress_at attempts) s.programs → length endings ≡ length s.programs
+as_many_endings s attempts endings now new old ended same long begun =
+    ap (λ (es : List Ending). length es) ended
+    ∙ length-map (map progress_of now) ending_of
+    ∙ length-map now progress_of
+    ∙ ap (λ (ps : List Progress). length ps) same
+    ∙ long
+    ∙ sym (length-map old progress_of)
+    ∙ ap (λ (ps : List PlainProgress). length ps) begun
+    ∙ length-map s.programs (progress_at attempts)

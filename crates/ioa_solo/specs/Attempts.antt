@@ -1,5 +1,5 @@
 -- What it comes to that a node fires an action, in a run by one worker (profile).
-use Rattle.std.specs.Prelude.{◌≡◌, ℕ, ℤ, ◌<◌, Bool, false, nat_lt, if◌then◌else◌, List, length}
+use Rattle.std.specs.Prelude.{◌≡◌, ℕ, ℤ, Bool, false, nat_lt, if◌then◌else◌, List, [], ◌∷◌, ◌++◌, length}
 use Rattle.std.specs.Prelude.{Option, Some, None, Result, Ok, Err}
 use Rattle.std.specs.Ordering.{int_eq}
 use Rattle.ioa_values.specs.Data.{Data}
@@ -11,10 +11,12 @@ use Rattle.ioa_terms.specs.SameTerms.{same_kind}
 use Rattle.ioa_terms.specs.declared.tree.Kind.TheVariants.{Input}
 use Rattle.ioa_system.specs.Parts.{Parts, PlainRule, rule_named}
 use Rattle.ioa_compose.specs.declared.configuration.Conf.{Conf}
-use Rattle.ioa_compose.specs.Composition.{joint_answer, put_confs}
+use Rattle.ioa_compose.specs.Composition.{joint_answer}
 use Rattle.ioa_record.specs.declared.ending.NodeFault.{NodeFault}
-use Rattle.ioa_record.specs.declared.ending.NodeFault.TheVariants.{Undefined, Range, Memory, NotMine, NoChannel, Full}
-use Rattle.ioa_solo.specs.declared.running.Course.{Course}
+use Rattle.ioa_record.specs.declared.ending.NodeFault.TheVariants.{Undefined, Range, Memory, NotMine, NoChannel, Differs, Full}
+use Rattle.ioa_book.specs.Books.{PlainBook, states_held}
+use Rattle.ioa_book.specs.declared.outcome.Refusal.{Refusal}
+use Rattle.ioa_book.specs.declared.outcome.Refusal.TheVariants as refusal
 use Rattle.ioa_solo.specs.declared.firing.FireOutcome.{FireOutcome}
 use Rattle.ioa_solo.specs.declared.firing.FireOutcome.TheVariants as outcome
 
@@ -34,10 +36,32 @@ pub data PlainFireOutcome : Type 0 where
   missed : PlainFireOutcome
   taken : Action → List Conf → PlainFireOutcome
 
--- the same on these configurations, of which the participants' have changed (view)
-abbrev pub fire_outcome_on : List Conf → FireOutcome → PlainFireOutcome
-fire_outcome_on states outcome.Missed = missed
-fire_outcome_on states (outcome.Taken a changed) = taken a (put_confs changed.items states)
+-- the same of an action, if the book is so afterwards (view)
+abbrev pub outcome_in : PlainBook → Action → FireOutcome → PlainFireOutcome
+outcome_in b a outcome.Missed = missed
+outcome_in b a outcome.Taken = taken a (states_held b)
+
+-- a book before and after a fire: it has recorded the action if that was taken
+abbrev pub IsRecordedBy : PlainBook → Action → FireOutcome → PlainBook → Type 0
+IsRecordedBy old a outcome.Missed new = new ≡ old
+IsRecordedBy old a outcome.Taken new = new ≡ record old { log = old.log ++ a ∷ [] }
+
+-- what a fault of a step comes to, as the code returns it
+abbrev pub fault_outcome : StepFault → Result FireOutcome NodeFault
+fault_outcome step.NotEnabled = Ok outcome.Missed
+fault_outcome step.Undefined = Err Undefined
+fault_outcome step.Range = Err Range
+fault_outcome step.Memory = Err Memory
+fault_outcome step.NotMine = Err NotMine
+fault_outcome step.NoChannel = Err NoChannel
+
+-- the fault of a node whose proposal is refused so; with one worker only the first two reasons occur
+abbrev pub fault_of_refusal : Refusal → NodeFault
+fault_of_refusal refusal.Full = Full
+fault_of_refusal refusal.Memory = Memory
+fault_of_refusal (refusal.Unknown k) = Differs
+fault_of_refusal (refusal.Stale k read held) = Differs
+fault_of_refusal (refusal.Differs k) = Differs
 
 -- what a fire comes to by the result of a joint step: an action that is not enabled is missed, any other fault is the
 -- node's, and a step is taken if the schedule is shorter than the limit
@@ -54,9 +78,3 @@ step_outcome limit schedule a (Err step.NoChannel) = Err NoChannel
 abbrev pub fire_answer : ℕ → List Action → List Conf → ℤ → Action → Result PlainFireOutcome NodeFault
 fire_answer limit schedule states k a =
     if int_eq (node_of a) k then step_outcome limit schedule a (joint_answer a states) else Err NotMine
-
--- an action that is taken is a step, and there is room for it in the schedule
-abbrev pub IsStepOf : ℕ → Course → FireOutcome → Type 0
-IsStepOf limit c outcome.Missed = Unit {0}
-IsStepOf limit c (outcome.Taken a changed) =
-    (joint_answer a c.states.items ≡ Ok (put_confs changed.items c.states.items)) × (length c.schedule.items < limit)

@@ -5,6 +5,7 @@ use Rattle.ioa_actions.specs.declared.action.Action.{Action}
 use Rattle.ioa_system.specs.Systems.{SystemParts}
 use Rattle.ioa_compose.specs.declared.configuration.Conf.{Conf}
 use Rattle.ioa_compose.specs.Executions.{replay}
+use Rattle.ioa_book.specs.Books.{PlainBook}
 use Rattle.ioa_compose.specs.Start.{start}
 use Rattle.ioa_compose.specs.IsStart.{IsStart}
 use Rattle.ioa_compose.specs.Automata.{IsExecution, ProjectsOnEach}
@@ -14,18 +15,16 @@ use Rattle.ioa_compose.specs.Channels.{HandsOutBeginning}
 use Rattle.ioa_compose.specs.Scripts.{TakesBeginning}
 use Rattle.ioa_record.specs.declared.ending.Ending.{Ending}
 use Rattle.ioa_record.specs.declared.record.Record.{Record}
-use Rattle.ioa_solo.specs.declared.running.Course.{Course}
 
 -- a schedule within the limit replays from the first configurations, and leads to the second
 pub record ReplaysWithin (limit : ℕ) (from : List Conf) (schedule : List Action) (states : List Conf) : Type 0 where
   pub leads : replay schedule from ≡ Some states
   pub within : length schedule ≤ limit
 
--- if the first course replays from some configurations, the second one does so too
-abbrev pub Continues : ℕ → Course → Course → Type 0
-Continues limit old new =
-    (from : List Conf) → ReplaysWithin limit from old.schedule.items old.states.items
-    → ReplaysWithin limit from new.schedule.items new.states.items
+-- two books of one run: both begin at the same configurations, and have the same limit
+pub record IsOneRun (old new : PlainBook) : Type 0 where
+  pub start : new.start ≡ old.start
+  pub limit : new.limit ≡ old.limit
 
 -- a record and endings that a run leaves: the schedule replays from the system's start, the one worker's count is the
 -- number of the actions, and there is one ending a node (profile)

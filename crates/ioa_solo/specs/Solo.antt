@@ -5,6 +5,7 @@ use Rattle.std.specs.List.{list_any}
 use Rattle.std.specs.Option.{unwrap_or}
 use Rattle.ioa_actions.specs.declared.action.Action.{Action}
 use Rattle.ioa_terms.specs.PlainTerm.{statements_of}
+use Rattle.ioa_book.specs.Books.{PlainBook, states_held}
 use Rattle.ioa_compose.specs.declared.configuration.Conf.{Conf}
 use Rattle.ioa_system.specs.Parts.{Parts}
 use Rattle.ioa_compose.specs.Start.{start}
@@ -15,7 +16,6 @@ use Rattle.ioa_record.specs.declared.ending.NodeFault.{NodeFault}
 use Rattle.ioa_record.specs.declared.ending.NodeFault.TheVariants as fault
 use Rattle.ioa_record.specs.declared.record.Record.{Record}
 use Rattle.ioa_schedules.specs.Turns.{TurnEnd, fires, idle, done, following_statements}
-use Rattle.ioa_solo.specs.declared.running.Course.{Course}
 use Rattle.ioa_solo.specs.Attempts.{PlainFireOutcome, missed, taken, action_fired, fire_answer}
 use Rattle.ioa_solo.specs.NodeTurns.{PlainProgress, turn_at}
 use Rattle.ioa_solo.specs.Options.{PlainOptions}
@@ -36,9 +36,9 @@ pub record PlainCourse : Type 0 where
   pub schedule : List Action
   pub states : List Conf
 
--- the run under way that the code keeps
-abbrev pub course_of : Course → PlainCourse
-course_of c = record { schedule = c.schedule.items; states = c.states.items }
+-- the run under way that a book of commits keeps
+abbrev pub course_of : PlainBook → PlainCourse
+course_of b = record { schedule = b.log; states = states_held b }
 
 -- a node that ends so
 abbrev pub with_ending : Ending → PlainProgress → PlainProgress

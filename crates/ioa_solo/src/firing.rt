@@ -1,17 +1,16 @@
 //! What it comes to that a node fires an action.
 
-ghost use Rattle.std.specs.Prelude.{◌≡◌, IfOk};
+ghost use Rattle.std.specs.Prelude.{◌≡◌, ◌⊎◌, IfOk, OnErr, Ok};
 ghost use Rattle.std.specs.Option.{option_copied};
-ghost use Rattle.std.specs.Ordering.{int_eq};
-ghost use Rattle.ioa_actions.specs.ActionParts.{node_of};
+ghost use Rattle.ioa_book.specs.Books.{IsLookAt, states_held};
+ghost use Rattle.ioa_book.specs.declared.outcome.Refusal.{Refusal};
+ghost use Rattle.ioa_book.specs.Proposals.{proposal_answer};
 ghost use Rattle.ioa_values.specs.Outcome.{Answers};
-ghost use Rattle.ioa_compose.specs.Composition.{joint_answer};
 ghost use Rattle.ioa_solo.specs.Attempts as spec;
-ghost use Rattle.ioa_solo.specs.Attempts.{fire_outcome_on, step_outcome, fire_answer, IsStepOf};
+ghost use Rattle.ioa_solo.specs.Attempts.{IsRecordedBy, fire_answer, outcome_in};
 
-use crate::running::Course;
 use ioa_actions::{Action, StepFault};
-use ioa_compose::{Conf, changes};
+use ioa_book::{Book, Proposal, Refusal, Snapshot};
 use ioa_record::NodeFault;
 use ioa_system::{Program, Rule};
 use ioa_terms::{Kind, Value, Word};
@@ -22,8 +21,8 @@ use std::alloc::{AllocError, Global};
 pub(crate) enum FireOutcome {
     /// The action is not enabled.
     Missed,
-    /// The action is a step, and these are the new configurations of its participants.
-    Taken(Action, Vec<Conf>),
+    /// The action was a step, and is recorded.
+    Taken,
 }
 
 /// The action that a name and arguments give at a node with this program: a receive or a stimulus if they are of an
@@ -53,57 +52,71 @@ fn is_input(rule: Option<&Rule>) -> bool
     }
 }
 
-/// The step of an action that a node fires: `NotMine` (41) if the action is another node's, else the joint step.
+/// The step of an action that a node fires, on a look at the node in the book as it is. The action is proposed and
+/// committed: `NotMine` (41) if it is another node's, else the joint step's fault, and `Full` (52) if the book is full.
+/// After a fault the book is as it was.
 pub(crate) fn fire(
     alloc: Global,
-    limit: u64,
-    course: &Course,
+    book: &mut Book,
+    snapshot: &Snapshot,
     node: i64,
     action: Action,
 ) -> Result<FireOutcome, NodeFault>
-    ensures answer { Answers NodeFault.Memory (fire_outcome_on course.now.states.items) result
-        (fire_answer limit course.now.schedule.items course.now.states.items node action) }
-    ensures step { IfOk result (IsStepOf limit course.now) }
+    requires fresh { IsLookAt book.old node snapshot.now }
+    ensures answer { Answers NodeFault.Memory (outcome_in book.new action) result
+        (fire_answer book.old.limit book.old.log (states_held book.old) node action) }
+    ensures recorded { IfOk result (λ outcome. IsRecordedBy book.old action outcome book.new) }
+    ensures unchanged { OnErr result (book.new ≡ book.old) }
 {
-    if is_fired_by(&action, node) {
-        take(alloc, limit, course, action)
-    } else {
-        Err(NodeFault::NotMine)
+    match snapshot.propose(alloc, action) {
+        Ok(proposal) => commit(book, snapshot, node, proposal),
+        Err(fault) => outcome_of(fault),
     }
 }
 
-/// Whether an action is fired by the program of this node.
-fn is_fired_by(action: &Action, node: i64) -> bool
-    ensures { result ≡ int_eq (node_of action.now) node }
+/// What a fault of a step comes to: an action that is not enabled is missed, and any other fault is the node's.
+fn outcome_of(fault: StepFault) -> Result<FireOutcome, NodeFault>
+    ensures { result ≡ spec.fault_outcome fault }
 {
-    action.node() == node
+    match fault {
+        StepFault::NotEnabled => Ok(FireOutcome::Missed),
+        StepFault::Undefined => Err(NodeFault::Undefined),
+        StepFault::Range => Err(NodeFault::Range),
+        StepFault::Memory => Err(NodeFault::Memory),
+        StepFault::NotMine => Err(NodeFault::NotMine),
+        StepFault::NoChannel => Err(NodeFault::NoChannel),
+    }
 }
 
-/// The joint step of an action. An action that is not enabled is missed; a step is `Full` (52) if the schedule is as
-/// long as the limit allows.
-fn take(
-    alloc: Global,
-    limit: u64,
-    course: &Course,
-    action: Action,
+/// Commits a proposal on a look at the book as it is. Nothing was committed since, so only a full book refuses it.
+fn commit(
+    book: &mut Book,
+    snapshot: &Snapshot,
+    node: i64,
+    proposal: Proposal,
 ) -> Result<FireOutcome, NodeFault>
-    ensures answer { Answers NodeFault.Memory (fire_outcome_on course.now.states.items) result
-        (step_outcome limit course.now.schedule.items action (joint_answer action course.now.states.items)) }
-    ensures step { IfOk result (IsStepOf limit course.now) }
+    requires fresh { IsLookAt book.old node snapshot.now }
+    requires proposed { proposal_answer proposal.action snapshot.now ≡ Ok proposal }
+    ensures answer { Answers NodeFault.Memory (outcome_in book.new proposal.action) result
+        (fire_answer book.old.limit book.old.log (states_held book.old) node proposal.action) }
+    ensures recorded { IfOk result (λ outcome. IsRecordedBy book.old proposal.action outcome book.new) }
+    ensures unchanged { OnErr result (book.new ≡ book.old) }
 {
-    match changes(alloc, &course.states, &action) {
-        Ok(changed) => {
-            if (course.schedule.len() as u64) < limit {
-                Ok(FireOutcome::Taken(action, changed))
-            } else {
-                Err(NodeFault::Full)
-            }
-        }
-        Err(StepFault::NotEnabled) => Ok(FireOutcome::Missed),
-        Err(StepFault::Undefined) => Err(NodeFault::Undefined),
-        Err(StepFault::Range) => Err(NodeFault::Range),
-        Err(StepFault::Memory) => Err(NodeFault::Memory),
-        Err(StepFault::NotMine) => Err(NodeFault::NotMine),
-        Err(StepFault::NoChannel) => Err(NodeFault::NoChannel),
+    match book.commit(proposal) {
+        Ok(_) => Ok(FireOutcome::Taken),
+        Err(refused) => Err(fault_of(refused.refusal)),
+    }
+}
+
+/// The fault of a node whose proposal is refused for one of the two reasons that there are if nothing was committed
+/// since its look.
+fn fault_of(refusal: Refusal) -> NodeFault
+    requires { (refusal ≡ Refusal.Full) ⊎ (refusal ≡ Refusal.Memory) }
+    ensures { result ≡ spec.fault_of_refusal refusal }
+{
+    match refusal {
+        Refusal::Full => NodeFault::Full,
+        Refusal::Memory => NodeFault::Memory,
+        _ => unreachable!(),
     }
 }

@@ -1,15 +1,15 @@
 //! Runs of a system by one worker.
 
-ghost use Rattle.std.specs.Prelude.{◌≡◌, ◌⊎◌, ◌+◌, ◌++◌, [], ◌∷◌, None, true, IfOk, OnOk, OnErr, map};
+ghost use Rattle.std.specs.Prelude.{◌≡◌, ◌⊎◌, ◌+◌, [], ◌∷◌, None, true, IfOk, OnOk, OnErr, length, map};
 ghost use Rattle.std.specs.List.{list_all, list_any};
 ghost use Rattle.std.specs.Arc.{arc_value};
 ghost use Rattle.ioa_system.specs.Declarations.{IsWellDeclared};
 ghost use Rattle.ioa_terms.specs.View.{firing_of};
-ghost use Rattle.ioa_compose.specs.Composition.{put_confs};
+ghost use Rattle.ioa_book.specs.Books.{IsExecutionOf, IsLookAt};
 ghost use Rattle.ioa_schedules.specs.Controls.{todo_of};
 ghost use Rattle.ioa_schedules.specs.Turns.{fires, IsAtFire};
 ghost use Rattle.ioa_solo.specs.NodeTurns.{progress_of};
-ghost use Rattle.ioa_solo.specs.Recorded.{Continues, IsRecordOf, IsRunOf};
+ghost use Rattle.ioa_solo.specs.Recorded.{IsOneRun, IsRecordOf, IsRunOf};
 ghost use Rattle.ioa_solo.specs.Solo.{IsSoloRun, IsEndedBy, ending_of, has_ended, is_cut_short, is_under_way};
 ghost use Rattle.ioa_solo.specs.Solo.{progress_at, course_of, after_end, attempt, visit, visit_unless_ended};
 ghost use Rattle.ioa_solo.specs.Solo.{round, rounds, short_of_memory};
@@ -17,27 +17,19 @@ ghost use Rattle.ioa_solo.specs.Solo.{round, rounds, short_of_memory};
 use crate::firing::{FireOutcome, action_fired, fire};
 use crate::options::Options;
 use crate::progress::Progress;
-use crate::turn::turn_of;
-use ioa_actions::Action;
-use ioa_compose::{Conf, put_confs, start};
+use crate::turn::fresh_turn;
+use ioa_book::{Book, LookFault, Snapshot};
 use ioa_record::{Ending, NodeFault, Record};
 use ioa_schedules::{Fired, Turn, passed};
 use ioa_system::{Program, System};
 use std::alloc::{AllocError, Global};
 use std::sync::Arc;
 
-/// A run under way: the schedule so far, and the configurations that it leads to.
-#[derive(Drop)]
-pub(crate) struct Course {
-    pub(crate) schedule: Vec<Action>,
-    pub(crate) states: Vec<Conf>,
-}
-
 /// Runs a system by one worker (profile). The worker goes round the nodes in order until each has an ending. A visit of
-/// a node that has no attempt left ends it; else one attempt is used, and one turn is made on the present
-/// configurations. Returns the record, and an ending for each node, node 0 first. If memory runs out on the way, each
-/// node without an ending gets that fault. `AllocError` is returned only if a run cannot begin, or its endings cannot
-/// be listed.
+/// a node that has no attempt left ends it; else one attempt is used: a look at the node in the book of commits, one
+/// turn on what it shows, and the commit of the action that the turn fires. Returns the record, and an ending for each
+/// node, node 0 first. If memory runs out on the way, each node without an ending gets that fault. `AllocError` is
+/// returned only if a run cannot begin, or what it leaves cannot be listed.
 pub fn run(
     alloc: Global,
     system: &System,
@@ -47,18 +39,30 @@ pub fn run(
     ensures run { IfOk result (λ r. IsWellDeclared system.now → IsRunOf system.now options.now.steps r.0 r.1.items) }
     ensures solo { IfOk result (λ r. IsSoloRun system.now options.now r.0 r.1.items) }
 {
-    let mut course = Course {
-        schedule: Vec::new(alloc),
-        states: start(alloc, system)?,
-    };
+    let mut book = Book::new(alloc, system, options.steps() as usize)?;
     let mut nodes = start_nodes(alloc, system.programs(), options.attempts())?;
-    go_on(alloc, options, &mut course, &mut nodes);
-    let endings = endings_of(alloc, &nodes)?;
+    go_on(alloc, options, &mut book, &mut nodes);
+    let left = record_of(alloc, book, &nodes)?;
+    Ok(left)
+}
+
+/// The record of a run that its book and its nodes leave, and the endings of the nodes, in order.
+fn record_of(
+    alloc: Global,
+    book: Book,
+    nodes: &[Progress],
+) -> Result<(Record, Vec<Ending>), AllocError>
+    ensures execution { IfOk result (λ r. IsExecutionOf book r.0.schedule.items r.0.states.items) }
+    ensures counted { IfOk result (λ r. r.0.commits.items ≡ length r.0.schedule.items ∷ []) }
+    ensures endings { IfOk result (λ r. r.1.items ≡ map ending_of (map progress_of nodes.now)) }
+{
+    let endings = endings_of(alloc, nodes)?;
+    let execution = book.into_execution(alloc)?;
     let mut commits = Vec::new(alloc);
-    commits.push(course.schedule.len() as u64)?;
+    commits.push(execution.schedule.len() as u64)?;
     let record = Record {
-        schedule: course.schedule,
-        states: course.states,
+        schedule: execution.schedule,
+        states: execution.states,
         commits,
     };
     Ok((record, endings))
@@ -66,14 +70,14 @@ pub fn run(
 
 /// Goes round the nodes until each has an ending, at most once more than they have attempts. If memory runs out, each
 /// node without an ending gets that fault.
-fn go_on(alloc: Global, options: &Options, course: &mut Course, nodes: &mut [Progress])
-    ensures execution { Continues options.now.steps course.old course.new }
+fn go_on(alloc: Global, options: &Options, book: &mut Book, nodes: &mut [Progress])
+    ensures one { IsOneRun book.old book.new }
     ensures solo { (list_any is_cut_short (map ending_of (map progress_of nodes.new)) ≡ true)
-        ⊎ ((course_of course.new, map progress_of nodes.new)
-        ≡ rounds options.now.steps (options.now.attempts + 1) (course_of course.old) (map progress_of nodes.old)) }
+        ⊎ ((course_of book.new, map progress_of nodes.new)
+        ≡ rounds book.old.limit (options.now.attempts + 1) (course_of book.old) (map progress_of nodes.old)) }
 {
     for _round in 0..options.attempts() + 1 {
-        if go_round(alloc, options.steps(), course, nodes).is_err() {
+        if go_round(alloc, book, nodes).is_err() {
             end_all(nodes);
             return;
         }
@@ -112,39 +116,29 @@ fn start_nodes(
 }
 
 /// Visits each node that has no ending, in order, until memory runs out at one.
-fn go_round(
-    alloc: Global,
-    limit: u64,
-    course: &mut Course,
-    nodes: &mut [Progress],
-) -> Result<(), AllocError>
-    ensures execution { Continues limit course.old course.new }
+fn go_round(alloc: Global, book: &mut Book, nodes: &mut [Progress]) -> Result<(), AllocError>
+    ensures one { IsOneRun book.old book.new }
     ensures round { OnOk result
-        ((course_of course.new, map progress_of nodes.new)
-        ≡ round limit (course_of course.old) (map progress_of nodes.old)) }
+        ((course_of book.new, map progress_of nodes.new)
+        ≡ round book.old.limit (course_of book.old) (map progress_of nodes.old)) }
     ensures stopped { OnErr result (list_any is_under_way (map progress_of nodes.new) ≡ true) }
 {
     for position in 0..nodes.len() {
-        visit_unless_ended(alloc, limit, course, &mut nodes[position])?;
+        visit_unless_ended(alloc, book, &mut nodes[position])?;
     }
     Ok(())
 }
 
 /// A visit of a node, unless it has an ending.
-fn visit_unless_ended(
-    alloc: Global,
-    limit: u64,
-    course: &mut Course,
-    node: &mut Progress,
-) -> Result<(), AllocError>
-    ensures execution { Continues limit course.old course.new }
-    ensures visited { OnOk result (visit_unless_ended limit (course_of course.old) (progress_of node.old)
-        ≡ (course_of course.new, progress_of node.new)) }
+fn visit_unless_ended(alloc: Global, book: &mut Book, node: &mut Progress) -> Result<(), AllocError>
+    ensures one { IsOneRun book.old book.new }
+    ensures visited { OnOk result (visit_unless_ended book.old.limit (course_of book.old) (progress_of node.old)
+        ≡ (course_of book.new, progress_of node.new)) }
     ensures stopped { OnErr result (node.new.ending ≡ None) }
 {
     match node.ending {
         Some(_) => Ok(()),
-        None => visit(alloc, limit, course, node),
+        None => visit(alloc, book, node),
     }
 }
 
@@ -167,16 +161,11 @@ fn end_for_memory(node: &mut Progress)
 }
 
 /// One visit of a node that has no ending: an attempt, if one is left. If memory runs out, the visit does not count.
-fn visit(
-    alloc: Global,
-    limit: u64,
-    course: &mut Course,
-    node: &mut Progress,
-) -> Result<(), AllocError>
+fn visit(alloc: Global, book: &mut Book, node: &mut Progress) -> Result<(), AllocError>
     requires { node.old.ending ≡ None }
-    ensures execution { Continues limit course.old course.new }
-    ensures visited { OnOk result (visit limit (course_of course.old) (progress_of node.old)
-        ≡ (course_of course.new, progress_of node.new)) }
+    ensures one { IsOneRun book.old book.new }
+    ensures visited { OnOk result (visit book.old.limit (course_of book.old) (progress_of node.old)
+        ≡ (course_of book.new, progress_of node.new)) }
     ensures stopped { OnErr result (node.new.ending ≡ None) }
 {
     if node.attempts == 0 {
@@ -184,29 +173,45 @@ fn visit(
         return Ok(());
     }
     node.attempts -= 1;
-    attempt(alloc, limit, course, node)
+    attempt(alloc, book, node)
 }
 
-/// One attempt of a node: its turn on the present configurations, and the step of the action that it fires.
-fn attempt(
-    alloc: Global,
-    limit: u64,
-    course: &mut Course,
-    node: &mut Progress,
-) -> Result<(), AllocError>
+/// One attempt of a node: a look at it, and what follows from that. A node that is not there has no turn.
+fn attempt(alloc: Global, book: &mut Book, node: &mut Progress) -> Result<(), AllocError>
     requires { node.old.ending ≡ None }
-    ensures execution { Continues limit course.old course.new }
-    ensures attempted { OnOk result (attempt limit (course_of course.old) (progress_of node.old)
-        ≡ (course_of course.new, progress_of node.new)) }
+    ensures one { IsOneRun book.old book.new }
+    ensures attempted { OnOk result (attempt book.old.limit (course_of book.old) (progress_of node.old)
+        ≡ (course_of book.new, progress_of node.new)) }
     ensures stopped { OnErr result (node.new.ending ≡ None) }
 {
-    match turn_of(alloc, &course.states, node) {
+    match book.look(alloc, node.program.node()) {
+        Ok(snapshot) => attempt_on(alloc, book, &snapshot, node),
+        Err(LookFault::Memory) => Err(AllocError),
+        Err(LookFault::Unknown) => end_by_fault(node, NodeFault::Differs),
+    }
+}
+
+/// An attempt of a node on a look at it: its turn on what the look shows, and the step of the action that it fires.
+fn attempt_on(
+    alloc: Global,
+    book: &mut Book,
+    snapshot: &Snapshot,
+    node: &mut Progress,
+) -> Result<(), AllocError>
+    requires fresh { IsLookAt book.old node.old.program.now.node snapshot.now }
+    requires under_way { node.old.ending ≡ None }
+    ensures one { IsOneRun book.old book.new }
+    ensures attempted { OnOk result (attempt book.old.limit (course_of book.old) (progress_of node.old)
+        ≡ (course_of book.new, progress_of node.new)) }
+    ensures stopped { OnErr result (node.new.ending ≡ None) }
+{
+    match fresh_turn(alloc, book, snapshot, node) {
         Ok(Turn::Done) => {
             node.ending = Some(Ending::Done);
             Ok(())
         }
         Ok(Turn::Idle) => Ok(()),
-        Ok(Turn::Fire(fired)) => go_past(alloc, limit, course, node, fired),
+        Ok(Turn::Fire(fired)) => go_past(alloc, book, snapshot, node, fired),
         Err(fault) => end_by_fault(node, fault),
     }
 }
@@ -214,29 +219,29 @@ fn attempt(
 /// What follows from the fire at which a node stands: the block moves past it, unless the action meets a fault.
 fn go_past(
     alloc: Global,
-    limit: u64,
-    course: &mut Course,
+    book: &mut Book,
+    snapshot: &Snapshot,
     node: &mut Progress,
     fired: Fired,
 ) -> Result<(), AllocError>
     requires stands { IsAtFire (todo_of node.old.control) }
+    requires fresh { IsLookAt book.old node.old.program.now.node snapshot.now }
     requires under_way { node.old.ending ≡ None }
-    ensures execution { Continues limit course.old course.new }
-    ensures attempted { OnOk result (after_end limit (course_of course.old) (progress_of node.old)
+    ensures one { IsOneRun book.old book.new }
+    ensures attempted { OnOk result (after_end book.old.limit (course_of book.old) (progress_of node.old)
         (fires (firing_of fired.entry.firing.now).kind (firing_of fired.entry.firing.now).action
         fired.entry.arguments.items)
-        ≡ (course_of course.new, progress_of node.new)) }
+        ≡ (course_of book.new, progress_of node.new)) }
     ensures stopped { OnErr result (node.new.ending ≡ None) }
 {
     let Fired { firing, arguments } = fired;
     let action = action_fired(alloc, node.program, &firing.action, arguments)?;
-    match fire(alloc, limit, course, node.program.node(), action) {
+    match fire(alloc, book, snapshot, node.program.node(), action) {
         Ok(FireOutcome::Missed) => {
             passed(&mut node.control);
             Ok(())
         }
-        Ok(FireOutcome::Taken(action, changed)) => {
-            commit(course, action, changed)?;
+        Ok(FireOutcome::Taken) => {
             passed(&mut node.control);
             Ok(())
         }
@@ -256,19 +261,6 @@ fn end_by_fault(node: &mut Progress, fault: NodeFault) -> Result<(), AllocError>
             Ok(())
         }
     }
-}
-
-/// Adds an action to the schedule, and replaces the configurations of its participants. If there is no memory for that,
-/// both stay as they were.
-fn commit(course: &mut Course, action: Action, changed: Vec<Conf>) -> Result<(), AllocError>
-    ensures schedule { OnOk result (course.new.schedule.items ≡ course.old.schedule.items ++ action ∷ []) }
-    ensures states { OnOk result (course.new.states.items ≡ put_confs changed.items course.old.states.items) }
-    ensures same_schedule { OnErr result (course.new.schedule.items ≡ course.old.schedule.items) }
-    ensures same_states { OnErr result (course.new.states.items ≡ course.old.states.items) }
-{
-    course.schedule.push(action)?;
-    put_confs(&mut course.states, changed);
-    Ok(())
 }
 
 /// The endings of the nodes, in order.

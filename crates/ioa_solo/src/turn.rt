@@ -1,7 +1,8 @@
 //! The turns of a node.
 
 ghost use Rattle.std.specs.Prelude.{◌≡◌, IfOk, OnErr, Some, is_some, length};
-ghost use Rattle.std.specs.Option.{option_map};
+ghost use Rattle.std.specs.Option.{option_copied, option_map};
+ghost use Rattle.ioa_compose.specs.Composition as conf;
 ghost use Rattle.ioa_values.specs.Outcome.{Answers};
 ghost use Rattle.ioa_terms.specs.Inboxes.{inboxes_of};
 ghost use Rattle.ioa_system.specs.InView.{block_own_names, block_statement, declared_names, scope_at};
@@ -12,10 +13,13 @@ ghost use Rattle.ioa_solo.specs.Inboxes.{inbox_at, inbox_of, inboxes_in, inboxes
 ghost use Rattle.ioa_solo.specs.NodeTurns as spec;
 ghost use Rattle.ioa_solo.specs.NodeTurns.{end_of, progress_of};
 ghost use Rattle.ioa_solo.specs.Solo.{progress_at};
+ghost use Rattle.ioa_book.specs.Books.{IsLookAt, states_held};
+ghost use Rattle.ioa_book.specs.Versions.{read_confs};
 
 use crate::progress::Progress;
 use ioa_actions::Component;
-use ioa_compose::{Conf, find_conf};
+use ioa_book::{Book, Snapshot, VersionedConf};
+use ioa_compose::Conf;
 use ioa_record::NodeFault;
 use ioa_schedules::{Control, Turn, View, next};
 use ioa_system::Program;
@@ -101,55 +105,88 @@ fn inbox_of(node: i64, messages: &[Value], component: Component) -> Option<Inbox
     }
 }
 
-/// The inboxes of a node, in the order of the configurations. No message is copied.
-fn inboxes_to(alloc: Global, states: &[Conf], node: i64) -> Result<Vec<Inbox<'_>>, AllocError>
-    ensures { IfOk result (λ v. inboxes_of v.items ≡ inboxes_in node states.now) }
+/// The inboxes of a node, in the order of what was read. No message is copied.
+fn inboxes_to(
+    alloc: Global,
+    reads: &[VersionedConf],
+    node: i64,
+) -> Result<Vec<Inbox<'_>>, AllocError>
+    ensures { IfOk result (λ v. inboxes_of v.items ≡ inboxes_in node (read_confs reads.now)) }
 {
     let mut inboxes = Vec::new(alloc);
-    for conf in states {
-        if let Some(inbox) = inbox_at(conf, node) {
+    for read in reads {
+        if let Some(inbox) = inbox_at(&read.conf, node) {
             inboxes.push(inbox)?;
         }
     }
     Ok(inboxes)
 }
 
-/// The turn of a node on the present configurations (profile). `Differs (51)` if they show no configuration that may be
-/// the node's; else the fault of its block, if that meets one. After a fault the node is as it was.
-pub(crate) fn turn_of<'a>(
+/// The configuration of a component, if it was read.
+fn find_conf(reads: &[VersionedConf], component: Component) -> Option<&Conf>
+    ensures { option_copied result ≡ conf.find_conf component (read_confs reads.now) }
+{
+    for read in reads {
+        if component == read.component() {
+            return Some(&read.conf);
+        }
+    }
+    None
+}
+
+/// The turn of a node on a look at it in the book as it is (profile): the turn on the present configurations.
+pub(crate) fn fresh_turn<'a>(
     alloc: Global,
-    states: &[Conf],
+    book: &Book,
+    snapshot: &Snapshot,
     node: &mut Progress<'a>,
 ) -> Result<Turn<'a>, NodeFault>
+    requires { IsLookAt book.now node.old.program.now.node snapshot.now }
     ensures turn { Answers NodeFault.Memory (λ t. (end_of t, progress_of node.new)) result
-        (spec.turn_at states.now (progress_of node.old)) }
+        (spec.turn_at (states_held book.now) (progress_of node.old)) }
     ensures stands { IfOk result (StandsAt (todo_of node.new.control)) }
     ensures same_ending { node.new.ending ≡ node.old.ending }
     ensures unchanged { OnErr result (progress_of node.new ≡ progress_of node.old) }
 {
-    match find_conf(states, Component::Node(node.program.node())) {
-        Some(Conf::Node(conf)) => turn_on(alloc, states, conf, node),
+    turn_of(alloc, snapshot.reads(), node)
+}
+
+/// The turn of a node on what a look at it has read (profile). `Differs (51)` if that shows no configuration that may
+/// be the node's; else the fault of its block, if that meets one. After a fault the node is as it was.
+fn turn_of<'a>(
+    alloc: Global,
+    reads: &[VersionedConf],
+    node: &mut Progress<'a>,
+) -> Result<Turn<'a>, NodeFault>
+    ensures turn { Answers NodeFault.Memory (λ t. (end_of t, progress_of node.new)) result
+        (spec.turn_at (read_confs reads.now) (progress_of node.old)) }
+    ensures stands { IfOk result (StandsAt (todo_of node.new.control)) }
+    ensures same_ending { node.new.ending ≡ node.old.ending }
+    ensures unchanged { OnErr result (progress_of node.new ≡ progress_of node.old) }
+{
+    match find_conf(reads, Component::Node(node.program.node())) {
+        Some(Conf::Node(conf)) => turn_on(alloc, reads, conf, node),
         Some(Conf::Queue(_)) => Err(NodeFault::Differs),
         None => Err(NodeFault::Differs),
     }
 }
 
-/// The turn of a node on a configuration, among the present ones.
+/// The turn of a node on a configuration, among those that were read.
 fn turn_on<'a>(
     alloc: Global,
-    states: &[Conf],
+    reads: &[VersionedConf],
     conf: &NodeConf,
     node: &mut Progress<'a>,
 ) -> Result<Turn<'a>, NodeFault>
     ensures turn { Answers NodeFault.Memory (λ t. (end_of t, progress_of node.new)) result
-        (spec.turn_on (progress_of node.old) (inboxes_seen node.old.program.now states.now)
+        (spec.turn_on (progress_of node.old) (inboxes_seen node.old.program.now (read_confs reads.now))
         (Some (Conf.Node conf.now))) }
     ensures stands { IfOk result (StandsAt (todo_of node.new.control)) }
     ensures same_ending { node.new.ending ≡ node.old.ending }
     ensures unchanged { OnErr result (progress_of node.new ≡ progress_of node.old) }
 {
     if shows_program(node.program, conf) {
-        turn_among(alloc, states, conf, node)
+        turn_among(alloc, reads, conf, node)
     } else {
         Err(NodeFault::Differs)
     }
@@ -162,23 +199,24 @@ fn shows_program(program: &Program, conf: &NodeConf) -> bool
     conf.variables().as_slice().len() == program.automaton().variables().len()
 }
 
-/// The turn of a node on a configuration that may be its own, among the present ones. Its inboxes are looked up only if
-/// its automaton takes messages.
+/// The turn of a node on a configuration that may be its own, among those that were read. Its inboxes are looked up only
+/// if its automaton takes messages.
 fn turn_among<'a>(
     alloc: Global,
-    states: &[Conf],
+    reads: &[VersionedConf],
     conf: &NodeConf,
     node: &mut Progress<'a>,
 ) -> Result<Turn<'a>, NodeFault>
     requires { length conf.now.variables ≡ length node.old.program.now.automaton.variables }
     ensures turn { Answers NodeFault.Memory (λ t. (end_of t, progress_of node.new)) result
-        (spec.block_turn (progress_of node.old) (inboxes_seen node.old.program.now states.now) conf.now.variables) }
+        (spec.block_turn (progress_of node.old) (inboxes_seen node.old.program.now (read_confs reads.now))
+        conf.now.variables) }
     ensures stands { IfOk result (StandsAt (todo_of node.new.control)) }
     ensures same_ending { node.new.ending ≡ node.old.ending }
     ensures unchanged { OnErr result (progress_of node.new ≡ progress_of node.old) }
 {
     if node.program.automaton().takes_messages() {
-        let Ok(inboxes) = inboxes_to(alloc, states, node.program.node()) else {
+        let Ok(inboxes) = inboxes_to(alloc, reads, node.program.node()) else {
             return Err(NodeFault::Memory);
         };
         block_turn(alloc, Some(inboxes.as_slice()), conf, node)

@@ -10,16 +10,16 @@ returns-then-is_err-clause-solo c =
 
 pub returns-then-have_all_ended-clause-solo : goal.returns-then-have_all_ended-clause-solo
 returns-then-have_all_ended-clause-solo c =
-    let gone = rw c.steps.ensures.value at (on_ok c.go_round.result (sym c.is_err.ensures.value ∙ c.if-is_err.false) c.go_round.ensures.round) in
+    let gone = rw c.loop-round.invariant.one.limit at (on_ok c.go_round.result (sym c.is_err.ensures.value ∙ c.if-is_err.false) c.go_round.ensures.round) in
     inr (sym (rounds_ended _ _ _ _ (sym c.have_all_ended.ensures ∙ c.if-have_all_ended.true))
     ∙ rounds_on _ _ _ _ _ _ _ c.loop-round-test.true gone
     ∙ c.loop-round.invariant.rest)
 
 pub loop-round-preserved : goal.loop-round-preserved
 loop-round-preserved c =
-    let gone = rw c.steps.ensures.value at (on_ok c.go_round.result (sym c.is_err.ensures.value ∙ c.if-is_err.false) c.go_round.ensures.round) in
+    let gone = rw c.loop-round.invariant.one.limit at (on_ok c.go_round.result (sym c.is_err.ensures.value ∙ c.if-is_err.false) c.go_round.ensures.round) in
     record {
-      execution = λ from h. (rw c.steps.ensures.value at c.go_round.ensures.execution) from (c.loop-round.invariant.execution from h);
+      one = record { start = c.go_round.ensures.one.start ∙ c.loop-round.invariant.one.start; limit = c.go_round.ensures.one.limit ∙ c.loop-round.invariant.one.limit };
       rest = rounds_on _ _ _ _ _ _ _ c.loop-round-test.true gone ∙ c.loop-round.invariant.rest;
     }
 

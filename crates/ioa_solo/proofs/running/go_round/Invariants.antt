@@ -1,15 +1,15 @@
 use Rattle.std.proofs.Common.{◌≡◌, map, take, drop}
 use Rattle.ioa_solo.specs.NodeTurns.{progress_of}
-use Rattle.ioa_solo.specs.Recorded.{Continues}
+use Rattle.ioa_solo.specs.Recorded.{IsOneRun}
 use Rattle.ioa_solo.specs.Solo.{round, course_of}
 use Rattle.ioa_solo.proofs.Rounds.{prepend_nodes}
 use Rattle.ioa_solo.proofs.running.go_round.Given as goal
 
--- the schedule goes on from that of the beginning of the round, and the nodes gone by come before the rest of the round
+-- the book goes on from that of the beginning of the round, and the nodes gone by come before the rest of the round
 abbrev pub invariant-loop-position : goal.invariant-loop-position
 invariant-loop-position l = record {
-  execution : Continues l.limit l.initial.course l.course;
+  one : IsOneRun l.initial.book l.book;
   rest : prepend_nodes (map progress_of (take l.position l.nodes))
-      (round l.limit (course_of l.course) (map progress_of (drop l.position l.nodes)))
-      ≡ round l.limit (course_of l.initial.course) (map progress_of l.initial.nodes);
+      (round l.book.limit (course_of l.book) (map progress_of (drop l.position l.nodes)))
+      ≡ round l.initial.book.limit (course_of l.initial.book) (map progress_of l.initial.nodes);
 }

@@ -1,23 +1,25 @@
-use Rattle.std.proofs.Common.{◌∙◌, ap, refl, rules, map}
-use Rattle.std.proofs.lemmas.List.{length-map}
-use Rattle.ioa_compose.specs.Start.{start}
+use Rattle.std.proofs.Common.{◌≡◌, ◌∙◌, ap, refl, rules, map}
 use Rattle.ioa_solo.specs.NodeTurns.{progress_of}
 use Rattle.ioa_solo.specs.Solo.{ending_of, course_of}
-use Rattle.ioa_solo.proofs.Runs.{is_run_of}
+use Rattle.ioa_solo.proofs.Runs.{as_many_endings, book_replays, book_states, is_run_of}
 use Rattle.ioa_solo.proofs.Termination.{all_written, solo_from}
 use Rattle.ioa_solo.proofs.running.run.Goals as goal
 
 pub returns-clause-left : goal.returns-clause-left
-returns-clause-left c = record {
-  replayed = c.go_on.ensures.execution (start c.args.system.now) (record { leads = search rules; within = search rules });
-  counted = search rules;
-  ended = rw (c.in_ok-endings.ensures, length-map) (search (rules, length-map));
-}
+returns-clause-left c =
+    let now : c.deref.result.now ≡ c.go_on.new.nodes = c.deref.ensures.value ∙ all_written c.in_ok-nodes.nodes.len c.go_on.new.nodes c.in_ok-nodes.nodes.items (search rules) (search rules) in
+    record {
+      replayed = book_replays c.args.system.now c.args.options.now.steps c.in_ok-book.book c.go_on.new.book _ _ (search rules) (search rules) c.go_on.ensures.one c.in_ok-left.ensures.execution;
+      counted = c.in_ok-left.ensures.counted;
+      ended = as_many_endings c.args.system.now c.args.options.now.attempts _ c.deref.result.now c.go_on.new.nodes c.in_ok-nodes.nodes.items c.in_ok-left.ensures.endings now (search rules) (search rules);
+    }
 
 pub returns-clause-run : goal.returns-clause-run
 returns-clause-run c = λ w. is_run_of c.args.system.now _ _ _ w (returns-clause-left c)
 
 pub returns-clause-solo : goal.returns-clause-solo
 returns-clause-solo c =
-    solo_from c.args.system.now c.args.options.now _ _ _ (course_of c.go_on.new.course) (map progress_of c.go_on.new.nodes) _ _ c.go_on.ensures.solo
-    (search rules) (search rules) (search rules) refl refl (c.in_ok-endings.ensures ∙ ap (λ ps. map ending_of (map progress_of ps)) (c.deref.ensures.value ∙ all_written c.in_ok-nodes.nodes.len c.go_on.new.nodes c.in_ok-nodes.nodes.items (search rules) (search rules)))
+    let left = c.in_ok-left.ensures.execution in
+    solo_from c.args.system.now c.args.options.now _ _ _ (course_of c.go_on.new.book) (map progress_of c.go_on.new.nodes) _ _ (rw (c.in_ok-book.ensures, c.steps.ensures.value) at c.go_on.ensures.solo)
+    refl refl (search rules) left.schedule_is (book_states c.go_on.new.book _ _ left)
+    (c.in_ok-left.ensures.endings ∙ ap (λ ps. map ending_of (map progress_of ps)) (c.deref.ensures.value ∙ all_written c.in_ok-nodes.nodes.len c.go_on.new.nodes c.in_ok-nodes.nodes.items (search rules) (search rules)))
