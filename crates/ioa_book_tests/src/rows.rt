@@ -11,48 +11,42 @@ use ioa_values::{Names, Value, Word};
 use std::alloc::{AllocError, Global};
 use std::test::Fail;
 
-/// Node 0 sends what it counts, and node 1 keeps the last message.
-const LIST: &str = "automaton Src
+/// A sender of what it counts.
+const COUNTER: &str = "automaton Src
   signature output send(m: Int, const 0, const 1)
   states n: Int := 7
   transitions output send(m, 0, 1) pre m = n eff n := n + 1
-automaton Dst
-  signature input receive(m: Int, const 0, const 1)
-  states last: Int := 0
-  transitions input receive(m, 0, 1) eff last := m
-system
-  node 0: Src
-  node 1: Dst
-  channel 0 -> 1
 ";
 
-/// The same text without its channel.
-const WITHOUT_CHANNEL: &str = "automaton Src
-  signature output send(m: Int, const 0, const 1)
-  states n: Int := 7
-  transitions output send(m, 0, 1) pre m = n eff n := n + 1
-automaton Dst
-  signature input receive(m: Int, const 0, const 1)
-  states last: Int := 0
-  transitions input receive(m, 0, 1) eff last := m
-system
-  node 0: Src
-  node 1: Dst
-";
-
-/// The same text as `LIST` with a sender that has no state, and always sends 5.
-const PING: &str = "automaton Ping
+/// A sender that has no state, and always sends 5.
+const PINGER: &str = "automaton Ping
   signature output send(m: Int, const 0, const 1)
   transitions output send(m, 0, 1) pre m = 5
-automaton Dst
+";
+
+/// A receiver that keeps the last message.
+const RECEIVER: &str = "automaton Dst
   signature input receive(m: Int, const 0, const 1)
   states last: Int := 0
   transitions input receive(m, 0, 1) eff last := m
-system
-  node 0: Ping
-  node 1: Dst
-  channel 0 -> 1
 ";
+
+/// Node 0 sends what it counts, and node 1 keeps the last message.
+static LIST: [&str; 3] = [
+    COUNTER,
+    RECEIVER,
+    "system node 0: Src node 1: Dst channel 0 -> 1",
+];
+
+/// The same without the channel.
+static WITHOUT_CHANNEL: [&str; 3] = [COUNTER, RECEIVER, "system node 0: Src node 1: Dst"];
+
+/// The same as `LIST` with the sender that always sends 5.
+static PING: [&str; 3] = [
+    PINGER,
+    RECEIVER,
+    "system node 0: Ping node 1: Dst channel 0 -> 1",
+];
 
 /// Two nodes that count on their own.
 const TICK: &str = "automaton Tick(c: Nat)
@@ -70,9 +64,21 @@ const ONE: &str = "automaton A states x: Int := 3 system node 0: A";
 /// The channel of `LIST` and of `PING`.
 const CHANNEL: Component = Component::Channel { from: 0, to: 1 };
 
-/// The system of a text.
-fn system_of(alloc: Global, text: &str) -> Result<System, Fail> {
-    let source = parse(alloc, text).ok().ok_or("the text can't be read")?;
+/// The parts of a text, one behind the other.
+fn text_of(alloc: Global, parts: &[&str]) -> Result<String, AllocError> {
+    let mut text = String::new(alloc);
+    for part in parts {
+        text.push_str(part)?;
+    }
+    Ok(text)
+}
+
+/// The system of a text that has these parts.
+fn system_of(alloc: Global, parts: &[&str]) -> Result<System, Fail> {
+    let text = text_of(alloc, parts)?;
+    let source = parse(alloc, text.as_str())
+        .ok()
+        .ok_or("the text can't be read")?;
     let system = check(alloc, source.text())
         .ok()
         .ok_or("the text is refused")?;
@@ -80,10 +86,10 @@ fn system_of(alloc: Global, text: &str) -> Result<System, Fail> {
 }
 
 /// The book of a text's system, in which nothing is recorded, and in which at most so many actions may be.
-fn book_of(alloc: Global, text: &str, limit: usize) -> Result<Book, Fail>
+fn book_of(alloc: Global, parts: &[&str], limit: usize) -> Result<Book, Fail>
     requires { limit ≤ 1000000 }
 {
-    let system = system_of(alloc, text)?;
+    let system = system_of(alloc, parts)?;
     let book = Book::new(alloc, &system, limit)?;
     Ok(book)
 }
@@ -227,7 +233,7 @@ fn read_the_same(look: &Snapshot, other: &Snapshot, component: Component) -> boo
 #[test]
 fn of_two_proposals_on_the_same_state_the_second_is_stale(rt: HostRuntime) -> Result<(), Fail> {
     let alloc = rt.alloc();
-    let mut book = book_of(alloc, LIST, 10)?;
+    let mut book = book_of(alloc, &LIST, 10)?;
     let first = proposal_of(alloc, &book, sent(7))?;
     let second = proposal_of(alloc, &book, sent(7))?;
     assert!(rt; commits(alloc, &mut book, first, "0 send(7, 0, 1)")?);
@@ -240,7 +246,7 @@ fn of_two_proposals_on_the_same_state_the_second_is_stale(rt: HostRuntime) -> Re
 #[test]
 fn a_book_of_no_actions_is_full(rt: HostRuntime) -> Result<(), Fail> {
     let alloc = rt.alloc();
-    let mut book = book_of(alloc, LIST, 0)?;
+    let mut book = book_of(alloc, &LIST, 0)?;
     assert!(rt; takes(alloc, &mut book, sent(7), "52 Full; back send(7, 0, 1)")?);
     assert!(rt; records(alloc, &book, "")?);
     Ok(())
@@ -249,8 +255,8 @@ fn a_book_of_no_actions_is_full(rt: HostRuntime) -> Result<(), Fail> {
 #[test]
 fn a_proposal_of_another_program_differs(rt: HostRuntime) -> Result<(), Fail> {
     let alloc = rt.alloc();
-    let other = book_of(alloc, PING, 10)?;
-    let mut book = book_of(alloc, LIST, 10)?;
+    let other = book_of(alloc, &PING, 10)?;
+    let mut book = book_of(alloc, &LIST, 10)?;
     let proposal = proposal_of(alloc, &other, sent(5))?;
     assert!(rt;
         commits(
@@ -267,8 +273,8 @@ fn a_proposal_of_another_program_differs(rt: HostRuntime) -> Result<(), Fail> {
 #[test]
 fn a_proposal_of_a_node_that_is_not_there_is_unknown(rt: HostRuntime) -> Result<(), Fail> {
     let alloc = rt.alloc();
-    let other = book_of(alloc, TICK, 10)?;
-    let mut book = book_of(alloc, ONE, 10)?;
+    let other = book_of(alloc, &[TICK], 10)?;
+    let mut book = book_of(alloc, &[ONE], 10)?;
     let proposal = proposal_of(alloc, &other, tick_at(alloc, 1)?)?;
     assert!(rt; commits(alloc, &mut book, proposal, "53 Unknown node 1; back tick@1")?);
     assert!(rt; records(alloc, &book, "")?);
@@ -278,7 +284,7 @@ fn a_proposal_of_a_node_that_is_not_there_is_unknown(rt: HostRuntime) -> Result<
 #[test]
 fn a_node_that_is_not_there_is_unknown(rt: HostRuntime) -> Result<(), Fail> {
     let alloc = rt.alloc();
-    let book = book_of(alloc, LIST, 10)?;
+    let book = book_of(alloc, &LIST, 10)?;
     assert!(rt; looks(alloc, &book, 7, "53 Unknown")?);
     assert!(rt; looks(alloc, &book, 1, "node 1")?);
     Ok(())
@@ -287,7 +293,7 @@ fn a_node_that_is_not_there_is_unknown(rt: HostRuntime) -> Result<(), Fail> {
 #[test]
 fn actions_of_another_node_or_not_enabled_are_not_proposed(rt: HostRuntime) -> Result<(), Fail> {
     let alloc = rt.alloc();
-    let book = book_of(alloc, LIST, 10)?;
+    let book = book_of(alloc, &LIST, 10)?;
     let look = book.look(alloc, 0)?;
     assert!(rt; proposes(alloc, &look, received(7), "41 NotMine")?);
     assert!(rt; proposes(alloc, &look, sent(8), "40 NotEnabled")?);
@@ -297,7 +303,7 @@ fn actions_of_another_node_or_not_enabled_are_not_proposed(rt: HostRuntime) -> R
 #[test]
 fn a_send_without_its_channel_is_not_proposed(rt: HostRuntime) -> Result<(), Fail> {
     let alloc = rt.alloc();
-    let book = book_of(alloc, WITHOUT_CHANNEL, 10)?;
+    let book = book_of(alloc, &WITHOUT_CHANNEL, 10)?;
     let look = book.look(alloc, 0)?;
     assert!(rt; proposes(alloc, &look, sent(7), "42 NoChannel")?);
     Ok(())
@@ -308,7 +314,7 @@ fn an_old_proposal_is_stale_though_the_states_are_as_it_read_them(
     rt: HostRuntime,
 ) -> Result<(), Fail> {
     let alloc = rt.alloc();
-    let mut book = book_of(alloc, PING, 10)?;
+    let mut book = book_of(alloc, &PING, 10)?;
     let look = book.look(alloc, 0)?;
     let old = look.propose(alloc, sent(5))?;
     assert!(rt; takes(alloc, &mut book, sent(5), "0 send(5, 0, 1)")?);
@@ -325,7 +331,7 @@ fn an_old_proposal_is_stale_though_the_states_are_as_it_read_them(
 #[test]
 fn a_look_shows_the_state_that_it_read(rt: HostRuntime) -> Result<(), Fail> {
     let alloc = rt.alloc();
-    let mut book = book_of(alloc, LIST, 10)?;
+    let mut book = book_of(alloc, &LIST, 10)?;
     let look = book.look(alloc, 0)?;
     assert!(rt; takes(alloc, &mut book, sent(7), "0 send(7, 0, 1)")?);
     assert!(rt; proposes(alloc, &look, sent(7), "send(7, 0, 1)")?);
@@ -340,7 +346,7 @@ fn a_look_shows_the_state_that_it_read(rt: HostRuntime) -> Result<(), Fail> {
 #[test]
 fn a_new_look_shows_the_state_after_a_commit(rt: HostRuntime) -> Result<(), Fail> {
     let alloc = rt.alloc();
-    let mut book = book_of(alloc, LIST, 10)?;
+    let mut book = book_of(alloc, &LIST, 10)?;
     assert!(rt; takes(alloc, &mut book, sent(7), "0 send(7, 0, 1)")?);
     let sender = book.look(alloc, 0)?;
     assert_eq!(rt; sender.length(), 1);
@@ -355,7 +361,7 @@ fn a_new_look_shows_the_state_after_a_commit(rt: HostRuntime) -> Result<(), Fail
 #[test]
 fn a_look_reads_the_node_its_channels_and_its_script(rt: HostRuntime) -> Result<(), Fail> {
     let alloc = rt.alloc();
-    let book = book_of(alloc, LIST, 10)?;
+    let book = book_of(alloc, &LIST, 10)?;
     let look = book.look(alloc, 1)?;
     assert_eq!(rt; look.node(), 1);
     let rows = [
@@ -374,7 +380,7 @@ fn a_look_reads_the_node_its_channels_and_its_script(rt: HostRuntime) -> Result<
 #[test]
 fn an_execution_has_the_log_and_a_state_for_each_component(rt: HostRuntime) -> Result<(), Fail> {
     let alloc = rt.alloc();
-    let mut book = book_of(alloc, PING, 10)?;
+    let mut book = book_of(alloc, &PING, 10)?;
     let old = proposal_of(alloc, &book, sent(5))?;
     assert!(rt; takes(alloc, &mut book, sent(5), "0 send(5, 0, 1)")?);
     assert!(rt; takes(alloc, &mut book, received(5), "1 receive(5, 0, 1)")?);
