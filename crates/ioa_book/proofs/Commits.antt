@@ -32,7 +32,7 @@ use Rattle.ioa_book.proofs.Puts.{put_all_versions}
 use Rattle.ioa_book.proofs.Raises.{raised}
 
 -- the first of several reasons is none if there is none
-none_first : {A : Type 0} (x y : Option A) → option_or x y ≡ None → (x ≡ None) × (y ≡ None)
+pub none_first : {A : Type 0} (x y : Option A) → option_or x y ≡ None → (x ≡ None) × (y ≡ None)
 none_first None y h = (refl, h)
 none_first (Some a) y h = absurd (cc)
 
@@ -50,7 +50,7 @@ no_absent [] = refl
 no_absent (c ∷ cs) = no_absent cs
 
 -- a book that isn't full has room
-room_left : (b : PlainBook) → full b ≡ None → length b.log < b.limit
+pub room_left : (b : PlainBook) → full b ≡ None → length b.log < b.limit
 room_left b h = by_test (nat_lt (length b.log) b.limit) refl h
   where
     by_test : (t : Bool) → nat_lt (length b.log) b.limit ≡ t → (if t then None else Some Full) ≡ None → length b.log < b.limit

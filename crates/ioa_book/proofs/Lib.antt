@@ -7,3 +7,4 @@ pub mod FoundReads
 pub mod Commits
 pub mod BookLaws
 pub mod FreshLooks
+pub mod StandsExactly

@@ -11,7 +11,7 @@ use Rattle.ioa_compose.specs.Composition.{component_names, component_of, find_co
 use Rattle.ioa_compose.specs.Executions.{replay}
 use Rattle.ioa_compose.specs.contracts.configuration.Conf as conf
 use Rattle.ioa_compose.specs.declared.configuration.Conf.{Conf}
-use Rattle.ioa_book.specs.Versions.{read_confs, version, with_version}
+use Rattle.ioa_book.specs.Versions.{read_confs, with_version}
 use Rattle.ioa_book.specs.contracts.versioned.VersionedConf as versioned
 use Rattle.ioa_book.specs.declared.versioned.VersionedConf.{VersionedConf}
 use Rattle.ioa_book.specs.declared.outcome.LookFault.{LookFault}

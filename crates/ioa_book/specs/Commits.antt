@@ -2,11 +2,12 @@
 use Rattle.std.specs.Prelude.{◌≡◌, ◌⊎◌, ℕ, nat_eq, nat_lt, if◌then◌else◌, List, [], ◌∷◌, ◌++◌, length, Option, Some, None, Ok}
 use Rattle.std.specs.Option.{option_or}
 use Rattle.ioa_actions.specs.declared.action.Action.{Action}
-use Rattle.ioa_compose.specs.Composition.{joint_answer}
+use Rattle.ioa_compose.specs.Composition.{find_conf, joint_answer}
 use Rattle.ioa_compose.specs.SameConfs.{same_conf}
+use Rattle.ioa_compose.specs.declared.configuration.Conf.{Conf}
 use Rattle.ioa_book.specs.Books.{PlainBook, held_of, states_held}
 use Rattle.ioa_book.specs.Proposals.{PlainProposal}
-use Rattle.ioa_book.specs.Versions.{read_component}
+use Rattle.ioa_book.specs.Versions.{read_component, version}
 use Rattle.ioa_book.specs.declared.outcome.Refusal.{Refusal}
 use Rattle.ioa_book.specs.declared.outcome.Refusal.TheVariants.{Unknown, Stale, Differs, Full, Memory}
 use Rattle.ioa_book.specs.declared.standing.Test.{Test}
@@ -49,6 +50,14 @@ abbrev pub refusal_of : PlainBook → List VersionedConf → Option Refusal
 refusal_of b rs =
     option_or (first_refusal Known b rs)
     (option_or (first_refusal Current b rs) (option_or (first_refusal Same b rs) (full b)))
+
+-- what was read of a participant still stands: it is a component of the book, which holds it with the version and in
+-- the configuration that were read
+pub record StandsIn (b : PlainBook) (r : VersionedConf) : Type 0 where
+  pub held : Conf
+  pub there : find_conf (read_component r) (states_held b) ≡ Some held
+  pub version_read : r.version ≡ version (read_component r) b.log
+  pub conf_read : r.conf ≡ held
 
 -- a commit that is made: nothing was against it, its index is the length of the log, the log has the action more, and
 -- the configurations held are those after the joint step by it (Lynch 8.2)

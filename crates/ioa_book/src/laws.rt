@@ -1,6 +1,7 @@
 //! Laws of looks and proposals. Each law is the contract of a function that does nothing.
 
-ghost use Rattle.std.specs.Prelude.{◌≡◌, true, ℤ, List, Ok, filter, length};
+ghost use Rattle.std.specs.Prelude.{◌≡◌, ◌<◌, ◌↔◌, true, ℤ, List, None, Ok, filter, length};
+ghost use Rattle.std.specs.List.{AllByRecursion};
 ghost use Rattle.std.specs.Ordering.{int_eq};
 ghost use Rattle.ioa_values.specs.Outcome.{and_then};
 ghost use Rattle.ioa_actions.specs.ActionParts.{node_of};
@@ -10,9 +11,10 @@ ghost use Rattle.ioa_index.specs.Own.{concerns};
 ghost use Rattle.ioa_compose.specs.Composition.{changes_of, component_of, find_conf, find_confs};
 ghost use Rattle.ioa_compose.specs.Participants.{participants_of};
 ghost use Rattle.ioa_book.specs.Books.{PlainBook, snapshot_after, states_held};
-ghost use Rattle.ioa_book.specs.Commits.{full, refusal_of};
+ghost use Rattle.ioa_book.specs.Commits.{StandsIn, full, refusal_of};
 ghost use Rattle.ioa_book.specs.Proposals.{plain_proposal, proposal_answer, reads_held};
 ghost use Rattle.ioa_book.specs.Versions.{read_confs};
+ghost use Rattle.ioa_book.specs.declared.versioned.VersionedConf.{VersionedConf};
 
 /// A look at a node shows of each component that the node has to do with what the book holds. So a proposal of one of
 /// the node's actions has the steps of the participants from the configurations held (Lynch 8.2), or the fault that
@@ -28,4 +30,11 @@ pub fn fresh_look_law()
         ≡ and_then (changes_of a (find_confs (participants_of a) (states_held b)))
         (λ ds. Ok (plain_proposal a (length b.log) (reads_held b (participants_of a)))) }
     ensures stands { (b : PlainBook) (ks : List Component) → refusal_of b (reads_held b ks) ≡ full b }
+{}
+
+/// A proposal is refused for no reason exactly if all that was read of its participants still stands in the book, and the
+/// log is shorter than the limit (profile).
+pub fn stands_law()
+    ensures { (b : PlainBook) (rs : List VersionedConf) →
+        (refusal_of b rs ≡ None) ↔ (AllByRecursion (StandsIn b) rs × (length b.log < b.limit)) }
 {}

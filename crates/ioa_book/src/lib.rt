@@ -11,7 +11,7 @@ mod standing;
 mod versioned;
 
 pub use book::Book;
-pub use laws::fresh_look_law;
+pub use laws::{fresh_look_law, stands_law};
 pub use outcome::{Committed, Execution, LookFault, Refusal, Refused};
 pub use proposal::Proposal;
 pub use snapshot::Snapshot;
