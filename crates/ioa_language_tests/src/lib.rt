@@ -3,6 +3,7 @@
 
 #[cfg(test)]
 mod operators;
+pub mod resolved;
 #[cfg(test)]
 mod sorts;
 #[cfg(test)]

@@ -1,13 +1,12 @@
 //! The value of each operator, function and display at a case of its own, what statements leave, and how
 //! actions of one node are shown. Terms are written with each operator behind its parts.
 
-ghost use Rattle.std.specs.Prelude.{◌≡◌, ◌≤◌, IsTrue, Some, map, length};
-ghost use Rattle.ioa_terms.specs.Bindings.{slot_in};
-ghost use Rattle.ioa_terms.specs.Resolved.{IsResolved, AreTermsResolved, IsResolvedTarget};
-ghost use Rattle.ioa_terms.specs.Resolved.{IsResolvedStatement, AreArmsResolved, AreAllResolved};
-ghost use Rattle.ioa_terms.specs.PlainTerm.{terms_of, statements_of, arms_of};
-ghost use Rattle.ioa_terms.specs.View.{term_of, target_of, statement_of, arm_of};
+ghost use Rattle.std.specs.Prelude.{◌≡◌, ◌≤◌, map, length};
+ghost use Rattle.ioa_terms.specs.Resolved.{IsResolved, AreAllResolved};
+ghost use Rattle.ioa_terms.specs.PlainTerm.{statements_of};
+ghost use Rattle.ioa_terms.specs.View.{term_of, statement_of};
 
+use crate::resolved::{are_resolved_statements, is_resolved};
 use ioa_actions::{Action, NodeAction, Values, push_listed, show_action, show_node_action};
 use ioa_terms::{
     Arm, BinaryOperator, Checked, DisplayForm, Env, Name, NameLists, Names, Shape, ShapeForm,
@@ -327,47 +326,6 @@ fn term(alloc: Global, text: &str, names: &[Word]) -> Result<Checked, Fail> {
     Ok(stack.pop().ok_or("a term is missing")?)
 }
 
-/// Whether a slot is the first one of a name.
-fn is_first(name: &Word, slot: usize, names: &[Word]) -> bool
-    ensures { IsTrue result → slot_in (Name.Word name.now) (map Name.Word names.now) ≡ Some slot }
-{
-    for (at, other) in names.iter().enumerate() {
-        if name == other {
-            return at == slot;
-        }
-    }
-    false
-}
-
-/// Whether each name of a term has its slot.
-#[cycle(resolving)]
-fn is_resolved(term: &Checked, names: &[Word]) -> bool
-    ensures { IsTrue result → IsResolved (term_of term.now) (map Name.Word names.now) }
-{
-    match term {
-        Checked::Number(_) => true,
-        Checked::Truth(_) => true,
-        Checked::Name(Name::Word(word), slot) => is_first(word, *slot, names),
-        Checked::One(_, a) => is_resolved(a, names),
-        Checked::Two(_, a, b) => is_resolved(a, names) && is_resolved(b, names),
-        Checked::Call(_, parts) => are_resolved(parts, names),
-        Checked::Display(_, _, parts) => are_resolved(parts, names),
-        Checked::Field(whole, _, _) => is_resolved(whole, names),
-    }
-}
-
-#[cycle(resolving)]
-fn are_resolved(parts: &Vec<Checked>, names: &[Word]) -> bool
-    ensures { IsTrue result → AreTermsResolved (terms_of (map term_of parts.now.items)) (map Name.Word names.now) }
-{
-    for part in parts {
-        if !is_resolved(part, names) {
-            return false;
-        }
-    }
-    true
-}
-
 /// The text of a term's value, or the name of its fault. In view are variables with these values, and
 /// constants behind them.
 fn answer(
@@ -388,72 +346,6 @@ fn answer(
         Err(TermFault::Range) => String::from_str(alloc, "Range"),
         Err(TermFault::Memory) => Err(AllocError),
     }
-}
-
-/// Whether the name of a target has its slot among the variables, and the key's names have theirs.
-fn is_resolved_target(target: &Target<usize, Shape>, variables: &[Word], names: &[Word]) -> bool
-    ensures { IsTrue result → IsResolvedTarget (target_of target.now) (map Name.Word variables.now)
-        (map Name.Word names.now) }
-{
-    match target {
-        Target::Variable(name, at, _) => is_first(name, *at, variables),
-        Target::At(name, at, _, key) => is_first(name, *at, variables) && is_resolved(key, names),
-        Target::Field(name, at, _, _) => is_first(name, *at, variables),
-    }
-}
-
-/// Whether each name of a statement of an effect has its slot. No effect has a loop or a firing.
-#[cycle(resolving_statements)]
-fn is_resolved_statement(
-    statement: &Statement<usize, Shape>,
-    variables: &[Word],
-    names: &[Word],
-) -> bool
-    ensures { IsTrue result → IsResolvedStatement (statement_of statement.now)
-        (map Name.Word variables.now) (map Name.Word names.now) }
-{
-    match statement {
-        Statement::Assign(target, term) => {
-            is_resolved_target(target, variables, names) && is_resolved(term, names)
-        }
-        Statement::If(arms, rest) => {
-            are_resolved_arms(arms, variables, names)
-                && are_resolved_statements(rest, variables, names)
-        }
-        Statement::While(_, _) => false,
-        Statement::Fire(_) => false,
-    }
-}
-
-#[cycle(resolving_statements)]
-fn are_resolved_arms(arms: &Vec<Arm<usize, Shape>>, variables: &[Word], names: &[Word]) -> bool
-    ensures { IsTrue result → AreArmsResolved (arms_of (map arm_of arms.now.items))
-        (map Name.Word variables.now) (map Name.Word names.now) }
-{
-    for arm in arms {
-        if !is_resolved(&arm.test, names) || !are_resolved_statements(&arm.body, variables, names) {
-            return false;
-        }
-    }
-    true
-}
-
-#[cycle(resolving_statements)]
-fn are_resolved_statements(
-    statements: &Vec<Statement<usize, Shape>>,
-    variables: &[Word],
-    names: &[Word],
-) -> bool
-    ensures { IsTrue result →
-        AreAllResolved (statements_of (map statement_of statements.now.items))
-        (map Name.Word variables.now) (map Name.Word names.now) }
-{
-    for statement in statements {
-        if !is_resolved_statement(statement, variables, names) {
-            return false;
-        }
-    }
-    true
 }
 
 /// The words of a text.
