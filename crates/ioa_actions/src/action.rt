@@ -51,7 +51,7 @@ impl Values {
         self.items.as_slice()
     }
 
-    /// Equal values with their own memory.
+    /// The same values once more, each sharing its collections.
     pub fn try_copy(&self, alloc: Global) -> Result<Self, AllocError>
         ensures { IfOk result (λ v. v ≡ self.now) }
     {
@@ -178,7 +178,7 @@ impl NodeAction {
         self.cmp(other)
     }
 
-    /// An equal action with its own memory.
+    /// The same action once more, whose values share their collections with this one's.
     pub fn try_copy(&self, alloc: Global) -> Result<Self, AllocError>
         ensures { IfOk result (λ a. a ≡ self.now) }
     {
@@ -205,7 +205,7 @@ impl Action {
     {
         if let Some((message, from, to)) = message_and_ends(&arguments) {
             if name.as_str() == RECEIVE {
-                let message = message.try_copy(alloc)?;
+                let message = message.try_copy()?;
                 return Ok(Action::Receive { message, from, to });
             }
         }
@@ -224,7 +224,7 @@ impl Action {
     {
         if let Some((message, from, to)) = message_and_ends(&arguments) {
             if name.as_str() == SEND {
-                let message = message.try_copy(alloc)?;
+                let message = message.try_copy()?;
                 return Ok(Action::Send { message, from, to });
             }
         }
@@ -304,13 +304,13 @@ impl Action {
         self.cmp(other)
     }
 
-    /// An equal action with its own memory.
+    /// The same action once more, whose values share their collections with this one's.
     pub fn try_copy(&self, alloc: Global) -> Result<Self, AllocError>
         ensures { IfOk result (λ a. a ≡ self.now) }
     {
         match self {
             Action::Send { message, from, to } => {
-                let message = message.try_copy(alloc)?;
+                let message = message.try_copy()?;
                 Ok(Action::Send {
                     message,
                     from: *from,
@@ -318,7 +318,7 @@ impl Action {
                 })
             }
             Action::Receive { message, from, to } => {
-                let message = message.try_copy(alloc)?;
+                let message = message.try_copy()?;
                 Ok(Action::Receive {
                     message,
                     from: *from,
@@ -351,7 +351,7 @@ fn message_arguments(
     ensures { IfOk result (λ v. v.items ≡ message.now ∷ number from ∷ number to ∷ []) }
 {
     let mut arguments = Vec::new(alloc);
-    arguments.push(message.try_copy(alloc)?)?;
+    arguments.push(message.try_copy()?)?;
     arguments.push(Value::number(from))?;
     arguments.push(Value::number(to))?;
     Ok(arguments)

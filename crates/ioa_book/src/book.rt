@@ -81,7 +81,7 @@ impl Book {
     }
 
     /// A look at a node: it reads the configurations of the node, of the channels to it and from it, and of its script,
-    /// with their versions, and how long the log is. `Unknown` (53) if there is no such node. Copies what it reads.
+    /// with their versions, and how long the log is. `Unknown` (53) if there is no such node. Copies what it reads, each value by sharing.
     pub fn look(&self, alloc: Global, node: i64) -> Result<Snapshot, LookFault>
         ensures { Answers LookFault.Memory (λ s. s) result (spec.look_answer self.now node) }
     {

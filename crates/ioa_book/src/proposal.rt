@@ -1,6 +1,6 @@
 //! Proposals of actions.
 
-ghost use Rattle.std.specs.Prelude.{◌≡◌, [], ◌∷◌, Some, Ok};
+ghost use Rattle.std.specs.Prelude.{◌≡◌, [], ◌∷◌, IfOk, Some, Ok};
 ghost use Rattle.ioa_values.specs.Outcome.{Answers, and_then};
 ghost use Rattle.ioa_compose.specs.Composition.{own_steps};
 ghost use Rattle.ioa_compose.specs.Participants.{participants_of};
@@ -10,7 +10,7 @@ ghost use Rattle.ioa_book.specs.Versions.{read_component};
 use crate::versioned::VersionedConf;
 use ioa_actions::{Action, StepFault};
 use ioa_compose::Conf;
-use std::alloc::Global;
+use std::alloc::{AllocError, Global};
 use std::marker::Model;
 
 /// An action with what was read of its participants, and their new configurations. The type keeps that these are the
@@ -94,13 +94,9 @@ impl Proposal {
             (and_then (own_steps action (Some queue.now.conf ∷ Some node.now.conf ∷ []))
             (λ ds. Ok (plain_proposal action length (queue.now ∷ node.now ∷ [])))) }
     {
-        let mut changed = Vec::new(alloc);
-        changed.push(queue.conf.step(alloc, &action)?)?;
-        changed.push(node.conf.step(alloc, &action)?)?;
+        let changed = steps_of_two(alloc, &action, queue, node)?;
+        let reads = copies_of_two(alloc, queue, node)?;
         let entry = action.try_copy(alloc)?;
-        let mut reads = Vec::new(alloc);
-        reads.push(queue.try_copy(alloc)?)?;
-        reads.push(node.try_copy(alloc)?)?;
         Ok(Proposal {
             action,
             entry,
@@ -109,4 +105,34 @@ impl Proposal {
             changed,
         })
     }
+}
+
+/// The own steps of two participants by an action. The first fault is returned, the queue's first.
+fn steps_of_two(
+    alloc: Global,
+    action: &Action,
+    queue: &VersionedConf,
+    node: &VersionedConf,
+) -> Result<Vec<Conf>, StepFault>
+    ensures { Answers StepFault.Memory (λ v. v.items) result
+        (own_steps action.now (Some queue.now.conf ∷ Some node.now.conf ∷ [])) }
+{
+    let mut changed = Vec::new(alloc);
+    changed.push(queue.conf.step(alloc, action)?)?;
+    changed.push(node.conf.step(alloc, action)?)?;
+    Ok(changed)
+}
+
+/// Copies of what was read of two components.
+fn copies_of_two(
+    alloc: Global,
+    queue: &VersionedConf,
+    node: &VersionedConf,
+) -> Result<Vec<VersionedConf>, AllocError>
+    ensures { IfOk result (λ v. v.items ≡ queue.now ∷ node.now ∷ []) }
+{
+    let mut reads = Vec::new(alloc);
+    reads.push(queue.try_copy(alloc)?)?;
+    reads.push(node.try_copy(alloc)?)?;
+    Ok(reads)
 }

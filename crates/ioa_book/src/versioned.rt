@@ -24,7 +24,7 @@ impl VersionedConf {
         self.conf.component()
     }
 
-    /// An equal one with its own memory.
+    /// The same once more, whose values share their collections with this one's.
     pub fn try_copy(&self, alloc: Global) -> Result<Self, AllocError>
         ensures { IfOk result (λ r. r ≡ self.now) }
     {

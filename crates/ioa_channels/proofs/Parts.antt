@@ -1,8 +1,10 @@
 -- The stimuli and the messages of a queue.
-use Rattle.std.proofs.Common.{◌≡◌, ◌∙◌, ◌+◌, ◌<◌, ◌≤◌, List, [], ◌∷◌, ◌++◌, Some, None, Err, length, map, refl, sym, ap, append_assoc, arith}
+use Rattle.std.proofs.Common.{◌≡◌, ◌∙◌, ℕ, zero, suc, ◌+◌, ◌<◌, ◌≤◌, false, List, [], ◌∷◌, ◌++◌, Some, None, Err, drop, length, map, refl, sym, ap, append_assoc, add-one, arith}
+use Rattle.std.specs.Prelude.{slice_get}
 use Rattle.std.specs.Option.{option_map}
 use Rattle.std.proofs.lemmas.List.{map-append, length-append, length-map}
 use Rattle.ioa_values.specs.Data.{Data}
+use Rattle.ioa_values.specs.DataOrder.{same}
 use Rattle.ioa_actions.specs.declared.action.NodeAction.{NodeAction}
 use Rattle.ioa_actions.specs.declared.fault.StepFault.TheVariants.{NotEnabled}
 use Rattle.ioa_channels.specs.declared.queue.Item.TheVariants.{Message, Stimulus}
@@ -46,3 +48,24 @@ no_stimulus a (b ∷ more) messages none = absurd (omega arith)
 pub no_message : (m : Data) (stimuli : List NodeAction) (messages : List Data) → 1 ≤ length stimuli → items_behind (Message m) (queue_items stimuli messages) ≡ Err NotEnabled
 no_message m [] messages some = absurd (omega arith)
 no_message m (a ∷ more) messages some = refl
+
+-- no message comes out if there is none, or another is the first
+pub no_first : (m : Data) (stimuli : List NodeAction) (messages : List Data) → length stimuli < 1 → slice_get messages 0 ≡ None → items_behind (Message m) (queue_items stimuli messages) ≡ Err NotEnabled
+no_first m [] [] none nothing = refl
+no_first m [] (n ∷ more) none nothing = absurd (cc)
+no_first m (b ∷ more) messages none nothing = absurd (omega arith)
+
+pub another_first : (m d : Data) (stimuli : List NodeAction) (messages : List Data) → length stimuli < 1 → slice_get messages 0 ≡ Some d → same d m ≡ false → items_behind (Message m) (queue_items stimuli messages) ≡ Err NotEnabled
+another_first m d [] [] none first other = absurd (cc)
+another_first m d [] (n ∷ more) none first other = let this : n ≡ d = cc in rw (this, other) refl
+another_first m d (b ∷ more) messages none first other = absurd (omega arith)
+
+-- what is left behind one item more
+drop_next : {A : Type 0} (xs : List A) (n : ℕ) → drop (suc n) xs ≡ drop 1 (drop n xs)
+drop_next [] zero = refl
+drop_next [] (suc n) = refl
+drop_next (x ∷ xs) zero = refl
+drop_next (x ∷ xs) (suc n) = drop_next xs n
+
+pub drop_further : {A : Type 0} (xs : List A) (n : ℕ) → drop (n + 1) xs ≡ drop 1 (drop n xs)
+drop_further xs n = rw add-one (drop_next xs n)

@@ -3,3 +3,4 @@ pub mod Queues
 pub mod QueueSteps
 pub mod SameItems
 pub mod SameQueues
+pub mod Stimuli

@@ -3,6 +3,7 @@
 
 mod laws;
 mod queue;
+mod stimuli;
 
 pub use laws::queue_step_law;
 pub use queue::{Item, Queue, copy_stimuli};

@@ -7,8 +7,9 @@ ghost use Rattle.ioa_channels.specs.Queues.{queue_state, queue_items, messages_o
 ghost use Rattle.ioa_channels.specs.Queues.{with_last, without_first, queue_answer};
 ghost use Rattle.ioa_channels.specs.SameQueues.{same_queue};
 
+use crate::stimuli::Stimuli;
 use ioa_actions::{Action, Component, NodeAction, StepFault};
-use ioa_values::{Value, copies};
+use ioa_values::{Sequence, Value};
 use std::alloc::{AllocError, Global};
 use std::marker::Model;
 
@@ -38,8 +39,8 @@ pub fn copy_stimuli(alloc: Global, stimuli: &[NodeAction]) -> Result<Vec<NodeAct
 #[derive(Debug, Drop)]
 pub struct Queue {
     component: Component,
-    stimuli: Vec<NodeAction>,
-    messages: Vec<Value>,
+    stimuli: Stimuli,
+    messages: Sequence,
 }
 
 impl Model for Queue {
@@ -49,30 +50,34 @@ impl Model for Queue {
 
     ghost coded = { queue_state_code };
 
-    ghost view = { λ q. queue_state q.component (queue_items q.stimuli.items q.messages.items) };
+    ghost view = { λ q. queue_state q.component (queue_items q.stimuli q.messages) };
 }
 
 impl Queue {
     /// The queue of a component with nothing in it; takes no memory.
-    pub fn empty(alloc: Global, component: Component) -> Self
+    pub fn empty(component: Component) -> Self
         ensures { result ≡ queue_state component [] }
     {
         Queue {
             component,
-            stimuli: Vec::new(alloc),
-            messages: Vec::new(alloc),
+            stimuli: Stimuli::none(),
+            messages: Sequence::new(),
         }
     }
 
-    /// The queue of a component with these stimuli, first to last; takes no memory.
-    pub fn of_stimuli(alloc: Global, component: Component, stimuli: Vec<NodeAction>) -> Self
-        ensures { result ≡ queue_state component (map Item.Stimulus stimuli.items) }
+    /// The queue of a component with these stimuli, first to last.
+    pub fn of_stimuli(
+        alloc: Global,
+        component: Component,
+        stimuli: Vec<NodeAction>,
+    ) -> Result<Self, AllocError>
+        ensures { IfOk result (λ q. q ≡ queue_state component (map Item.Stimulus stimuli.items)) }
     {
-        Queue {
+        Ok(Queue {
             component,
-            stimuli,
-            messages: Vec::new(alloc),
-        }
+            stimuli: Stimuli::of(alloc, stimuli)?,
+            messages: Sequence::new(),
+        })
     }
 
     /// The name of its component.
@@ -87,23 +92,23 @@ impl Queue {
     pub fn len(&self) -> usize
         ensures { result ≡ length self.now.items }
     {
-        self.stimuli.len() + self.messages.len()
+        self.stimuli.as_slice().len() + self.messages.len()
     }
 
-    /// Its items in two slices: the stimuli that are left, and the messages behind them, each first to last.
-    pub fn parts(&self) -> (&[NodeAction], &[Value])
+    /// Its items in two lists: the stimuli that are left, and the messages behind them, each first to last.
+    pub fn parts(&self) -> (&[NodeAction], &Sequence)
         ensures { self.now.items ≡ queue_items result.0.now result.1.now }
     {
-        (self.stimuli.as_slice(), self.messages.as_slice())
+        (self.stimuli.as_slice(), &self.messages)
     }
 
     /// Its messages, first to last, if no stimulus is left in it.
-    pub fn messages(&self) -> Option<&[Value]>
+    pub fn messages(&self) -> Option<&Sequence>
         ensures exact { option_map (λ m. m.now) result ≡ messages_of self.now.items }
         ensures items { IfSome result (λ m. self.now.items ≡ map Item.Message m.now) }
     {
         match self.stimuli.as_slice() {
-            [] => Some(self.messages.as_slice()),
+            [] => Some(&self.messages),
             [_, ..] => None,
         }
     }
@@ -123,32 +128,19 @@ impl Queue {
         ensures { result ≡ same_queue self.now other.now }
     {
         self.component == other.component
-            && self.stimuli == other.stimuli
-            && self.messages == other.messages
+            && self.stimuli.as_slice() == other.stimuli.as_slice()
+            && self.messages.equals(&other.messages)
     }
 
-    /// An equal queue with its own memory.
-    pub fn try_copy(&self, alloc: Global) -> Result<Self, AllocError>
+    /// The same queue once more, which shares its items with this one. Costs the same at any length, and takes
+    /// no memory.
+    pub fn try_copy(&self) -> Result<Self, AllocError>
         ensures { IfOk result (λ q. q ≡ self.now) }
     {
-        self.with_parts(alloc, self.stimuli.as_slice(), self.messages.as_slice())
-    }
-
-    /// The queue of the same component with copies of these stimuli and, behind them, of these messages.
-    fn with_parts(
-        &self,
-        alloc: Global,
-        stimuli: &[NodeAction],
-        messages: &[Value],
-    ) -> Result<Self, AllocError>
-        ensures { IfOk result (λ q. q ≡ queue_state self.now.component (queue_items stimuli.now messages.now)) }
-    {
-        let stimuli = copy_stimuli(alloc, stimuli)?;
-        let messages = copies(alloc, messages)?;
         Ok(Queue {
             component: self.component,
-            stimuli,
-            messages,
+            stimuli: self.stimuli.try_clone()?,
+            messages: self.messages.try_clone()?,
         })
     }
 
@@ -157,13 +149,10 @@ impl Queue {
     pub fn after_send(&self, alloc: Global, message: Value) -> Result<Self, AllocError>
         ensures { IfOk result (λ q. q ≡ with_last (Item.Message message) self.now) }
     {
-        let stimuli = copy_stimuli(alloc, self.stimuli.as_slice())?;
-        let mut messages = copies(alloc, self.messages.as_slice())?;
-        messages.push(message)?;
         Ok(Queue {
             component: self.component,
-            stimuli,
-            messages,
+            stimuli: self.stimuli.try_clone()?,
+            messages: self.messages.append(alloc, message)?,
         })
     }
 
@@ -184,7 +173,7 @@ impl Queue {
     {
         match item {
             Item::Message(message) => self.after_message(alloc, message),
-            Item::Stimulus(action) => self.after_stimulus(alloc, action),
+            Item::Stimulus(action) => self.after_stimulus(action),
         }
     }
 
@@ -192,29 +181,37 @@ impl Queue {
     fn after_message(&self, alloc: Global, message: &Value) -> Result<Self, StepFault>
         ensures { Answers StepFault.Memory (λ q. q) result (without_first (Item.Message message.now) self.now) }
     {
-        match (self.stimuli.as_slice(), self.messages.as_slice()) {
-            ([], [first, rest @ ..]) => {
+        match (self.stimuli.as_slice(), self.messages.first()) {
+            ([], Some(first)) => {
                 if !first.equals(message) {
                     return Err(StepFault::NotEnabled);
                 }
-                Ok(self.with_parts(alloc, &[], rest)?)
+                Ok(Queue {
+                    component: self.component,
+                    stimuli: Stimuli::none(),
+                    messages: self.messages.without_first(alloc)?,
+                })
             }
-            ([], []) => Err(StepFault::NotEnabled),
+            ([], None) => Err(StepFault::NotEnabled),
             ([_, ..], _) => Err(StepFault::NotEnabled),
         }
     }
 
-    /// The queue without its first item, which is to be this stimulus.
-    fn after_stimulus(&self, alloc: Global, action: &NodeAction) -> Result<Self, StepFault>
+    /// The queue without its first item, which is to be this stimulus; takes no memory.
+    fn after_stimulus(&self, action: &NodeAction) -> Result<Self, StepFault>
         ensures { Answers StepFault.Memory (λ q. q) result (without_first (Item.Stimulus action.now) self.now) }
     {
         match self.stimuli.as_slice() {
             [] => Err(StepFault::NotEnabled),
-            [first, rest @ ..] => {
+            [first, ..] => {
                 if !first.equals(action) {
                     return Err(StepFault::NotEnabled);
                 }
-                Ok(self.with_parts(alloc, rest, self.messages.as_slice())?)
+                Ok(Queue {
+                    component: self.component,
+                    stimuli: self.stimuli.behind_first()?,
+                    messages: self.messages.try_clone()?,
+                })
             }
         }
     }
@@ -227,12 +224,12 @@ impl Queue {
     {
         match action {
             Action::Send { message, .. } => {
-                let message = message.try_copy(alloc)?;
+                let message = message.try_copy()?;
                 Ok(self.after_send(alloc, message)?)
             }
             Action::Receive { message, .. } => self.after_message(alloc, message),
             Action::Local(_) => Err(StepFault::NotMine),
-            Action::Stimulus(stimulus) => self.after_stimulus(alloc, stimulus),
+            Action::Stimulus(stimulus) => self.after_stimulus(stimulus),
         }
     }
 }

@@ -75,7 +75,7 @@ pub fn put_confs(confs: &mut Vec<Conf>, changed: Vec<Conf>)
     }
 }
 
-/// Equal configurations with their own memory.
+/// The same configurations once more, whose values share their collections with those of these.
 pub fn copy_confs(alloc: Global, confs: &[Conf]) -> Result<Vec<Conf>, AllocError>
     ensures { IfOk result (λ v. v.items ≡ confs.now) }
 {

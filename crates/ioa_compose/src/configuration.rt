@@ -49,13 +49,14 @@ impl Conf {
         }
     }
 
-    /// An equal configuration with its own memory.
+    /// The same configuration once more, whose values share their collections with this one's. Costs time in
+    /// proportion to the number of variables.
     pub fn try_copy(&self, alloc: Global) -> Result<Self, AllocError>
         ensures { IfOk result (λ c. c ≡ self.now) }
     {
         match self {
             Conf::Node(node) => Ok(Conf::Node(node.try_copy(alloc)?)),
-            Conf::Queue(queue) => Ok(Conf::Queue(queue.try_copy(alloc)?)),
+            Conf::Queue(queue) => Ok(Conf::Queue(queue.try_copy()?)),
         }
     }
 

@@ -22,7 +22,7 @@ pub fn start(alloc: Global, system: &System) -> Result<Vec<Conf>, AllocError>
 {
     let mut confs = Vec::new(alloc);
     start_nodes(alloc, &mut confs, system.programs())?;
-    start_channels(alloc, &mut confs, system.channels())?;
+    start_channels(&mut confs, system.channels())?;
     start_scripts(alloc, &mut confs, system)?;
     Ok(confs)
 }
@@ -42,11 +42,7 @@ fn start_nodes(
 }
 
 /// Adds the empty queues of channels at the end.
-fn start_channels(
-    alloc: Global,
-    confs: &mut Vec<Conf>,
-    channels: &[Channel],
-) -> Result<(), AllocError>
+fn start_channels(confs: &mut Vec<Conf>, channels: &[Channel]) -> Result<(), AllocError>
     ensures { OnOk result (confs.new.items ≡ confs.old.items ++ map channel_start channels.now) }
 {
     for channel in channels {
@@ -54,7 +50,7 @@ fn start_channels(
             from: channel.from,
             to: channel.to,
         };
-        confs.push(Conf::Queue(Queue::empty(alloc, component)))?;
+        confs.push(Conf::Queue(Queue::empty(component)))?;
     }
     Ok(())
 }
@@ -80,6 +76,6 @@ fn start_script(alloc: Global, system: &System, node: i64) -> Result<Conf, Alloc
         None => Vec::new(alloc),
         Some(script) => copy_stimuli(alloc, script.stimuli())?,
     };
-    let queue = Queue::of_stimuli(alloc, Component::Script(node), stimuli);
+    let queue = Queue::of_stimuli(alloc, Component::Script(node), stimuli)?;
     Ok(Conf::Queue(queue))
 }

@@ -4,7 +4,7 @@ use ioa_operators::{
     BinaryOperator, DisplayForm, Function, Shape, ShapeForm, TermFault, UnaryOperator, binary,
     call, display, field, left_decision, replace_field, unary,
 };
-use ioa_values::{Names, Value, Word, show};
+use ioa_values::{Names, Sequence, Value, Word, show};
 use std::alloc::{AllocError, Global};
 use std::sync::Arc;
 use std::test::Fail;
@@ -68,7 +68,8 @@ fn values(alloc: Global, numbers: &[i64]) -> Result<Vec<Value>, AllocError> {
 }
 
 fn sequence(alloc: Global, numbers: &[i64]) -> Result<Value, AllocError> {
-    Ok(Value::sequence(values(alloc, numbers)?))
+    let items = Sequence::from_vec(alloc, values(alloc, numbers)?)?;
+    Ok(Value::sequence(items))
 }
 
 /// The set of numbers, as its display gives it.
@@ -303,9 +304,9 @@ fn tuples(rt: HostRuntime) -> Result<(), Fail> {
     let parts = vec![in alloc; Value::number(7), Value::truth(true)]?;
     let whole = display(alloc, DisplayForm::Brackets, &shape, parts)?;
     assert!(rt; shape.admits(&whole));
-    let again = whole.try_copy(alloc)?;
+    let again = whole.try_copy()?;
     assert!(rt; shows(alloc, field(&shape, &name, whole), "7")?);
-    let other = replace_field(&shape, &name, Value::number(8), again);
+    let other = replace_field(alloc, &shape, &name, Value::number(8), again);
     assert!(rt; shows(alloc, other, "[8, true]")?);
     let parts = vec![in alloc; Value::number(-7), Value::truth(true)]?;
     let refused = display(alloc, DisplayForm::Brackets, &shape, parts);

@@ -12,6 +12,7 @@ use ioa_terms::{
     Arm, BinaryOperator, Checked, DisplayForm, Env, Name, NameLists, Names, Shape, ShapeForm,
     Statement, Target, TermFault, UnaryOperator, Value, Word, eval, perform, show,
 };
+use ioa_values::Sequence;
 use std::alloc::{AllocError, Global};
 use std::sync::Arc;
 use std::test::Fail;
@@ -456,8 +457,8 @@ fn values(alloc: Global) -> Result<Vec<Value>, Fail> {
     values.push(Value::number(1))?;
     values.push(Value::number(2))?;
     values.push(Value::number(0))?;
-    values.push(Value::map(Vec::new(alloc)))?;
-    values.push(Value::tuple(pair))?;
+    values.push(Value::map(alloc, Vec::new(alloc))?)?;
+    values.push(Value::tuple(alloc, pair)?)?;
     Ok(values)
 }
 
@@ -517,6 +518,7 @@ fn node_action(alloc: Global, node: i64, has_arguments: bool) -> Result<NodeActi
         let mut items = Vec::new(alloc);
         items.push(Value::number(2))?;
         arguments.push(Value::number(1))?;
+        let items = Sequence::from_vec(alloc, items)?;
         arguments.push(Value::sequence(items))?;
     }
     Ok(NodeAction {

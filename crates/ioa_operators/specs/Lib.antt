@@ -6,6 +6,7 @@ pub mod CallParts
 pub mod Shapes
 pub mod ShapeCode
 pub mod ShapeHeight
+pub mod ShapeKinds
 pub mod ShapeView
 pub mod PartHeights
 pub mod SameShapes

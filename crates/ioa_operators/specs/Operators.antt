@@ -198,9 +198,13 @@ call_value f (x ∷ y ∷ z ∷ u ∷ more) = None
 
 -- whether a function asks for memory beyond that of its parts
 abbrev pub call_takes_memory : Function → Bool
+call_takes_memory fun.Head = true
+call_takes_memory fun.Tail = true
 call_takes_memory fun.Insert = true
+call_takes_memory fun.Delete = true
 call_takes_memory fun.Union = true
 call_takes_memory fun.Update = true
+call_takes_memory fun.Remove = true
 call_takes_memory _ = false
 
 -- the function of a name

@@ -119,7 +119,10 @@ display_value Brackets (tuples type names ss) ds =
     if have_shapes ss (items_of ds) then Some (tuple (items_of ds)) else None
 display_value _ _ _ = None
 
--- whether a display asks for memory beyond that of its parts: that of a set, to put its members in order
+-- whether a display asks for memory
 abbrev pub display_takes_memory : DisplayForm → PlainShape → Bool
+display_takes_memory Braces (sequences s) = true
 display_takes_memory Braces (sets s) = true
+display_takes_memory Braces (maps k v) = true
+display_takes_memory Brackets (tuples type names ss) = true
 display_takes_memory _ _ = false

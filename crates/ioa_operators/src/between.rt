@@ -38,9 +38,9 @@ fn before_value(operator: UnaryOperator, value: &Value) -> Result<Value, TermFau
 
 /// The value of an operator between two values (profile). Returns `Undefined (1)` if a value is of another
 /// kind than the operator takes or a map lacks the key, `Range (2)` if the result lies outside 64 bits, and
-/// `Memory (3)` if no memory is left for `-|`, `|-`, `||` or the copy that `m[k]` makes. The values are
-/// used up, and the result is made of their memory if it can be. Costs time in proportion to the values,
-/// and `|-` that of one more item.
+/// `Memory (3)` if no memory is left for `-|`, `|-` or `||`, or if the value of `m[k]` has too many owners
+/// to be shared. The values are used up. Comparisons, `\in` and `m[k]` cost time in proportion to the
+/// values; all else costs the same whatever the values hold.
 pub fn binary(
     alloc: Global,
     operator: BinaryOperator,
@@ -75,12 +75,12 @@ fn between_values(
         BinaryOperator::Greater => greater(&left, &right),
         BinaryOperator::AtLeast => at_least(&left, &right),
         BinaryOperator::Member => membership(&left, &right),
-        BinaryOperator::Prepend => prepend(left, right),
-        BinaryOperator::Append => append(left, right),
-        BinaryOperator::Concatenate => concatenate(left, right),
+        BinaryOperator::Prepend => prepend(alloc, left, right),
+        BinaryOperator::Append => append(alloc, left, right),
+        BinaryOperator::Concatenate => concatenate(alloc, left, right),
         BinaryOperator::Plus => sum(&left, &right),
         BinaryOperator::Minus => difference(&left, &right),
         BinaryOperator::Times => product(&left, &right),
-        BinaryOperator::At => at_key(alloc, &left, &right),
+        BinaryOperator::At => at_key(&left, &right),
     }
 }

@@ -9,14 +9,14 @@ ghost use Rattle.ioa_operators.specs.Shapes.{display_value, display_takes_memory
 use crate::fault::TermFault;
 use crate::sets::set_of_values;
 use crate::shape::{DisplayForm, Shape, ShapeForm, each_admits};
-use ioa_values::Value;
+use ioa_values::{Sequence, Value};
 use std::alloc::Global;
 
 /// The value of a display of these parts that has a shape (profile). Returns `Undefined (1)` if no such
 /// display has the shape, if the display of a map has parts, or if the parts of a tuple are not as many as
-/// its fields or lack their shapes. Returns `Memory (3)` if no memory is left to put a set in order. The
-/// shapes of the items of a sequence or a set are not checked. The parts are used up, and the value is made
-/// of their memory. Costs time in proportion to the parts, and for a set what `collections::set_of` costs.
+/// its fields or lack their shapes. Returns `Memory (3)` if no memory is left for the value. The shapes of
+/// the items of a sequence or a set are not checked. The parts are used up. Costs time in proportion to the
+/// parts, and for a set what `collections::set_of` costs.
 pub fn display(
     alloc: Global,
     form: DisplayForm,
@@ -44,7 +44,7 @@ fn make_display(
 {
     match form {
         DisplayForm::Braces => braces(alloc, shape, parts),
-        DisplayForm::Brackets => brackets(shape, parts),
+        DisplayForm::Brackets => brackets(alloc, shape, parts),
     }
 }
 
@@ -54,10 +54,10 @@ fn braces(alloc: Global, shape: &Shape, parts: Vec<Value>) -> Result<Value, Term
         (display_value DisplayForm.Braces shape.now parts.items) }
 {
     match &shape.form {
-        ShapeForm::Sequences(_) => Ok(Value::sequence(parts)),
+        ShapeForm::Sequences(_) => Ok(Value::sequence(Sequence::from_vec(alloc, parts)?)),
         ShapeForm::Sets(_) => set_of_values(alloc, parts),
         ShapeForm::Maps(_, _) => match parts.as_slice() {
-            [] => Ok(Value::map(Vec::new(alloc))),
+            [] => Ok(Value::map(alloc, Vec::new(alloc))?),
             [_, ..] => Err(TermFault::Undefined),
         },
         _ => Err(TermFault::Undefined),
@@ -65,14 +65,14 @@ fn braces(alloc: Global, shape: &Shape, parts: Vec<Value>) -> Result<Value, Term
 }
 
 /// The value of `[..]`: a tuple whose parts have the shapes of its fields.
-fn brackets(shape: &Shape, parts: Vec<Value>) -> Result<Value, TermFault>
+fn brackets(alloc: Global, shape: &Shape, parts: Vec<Value>) -> Result<Value, TermFault>
     ensures { AnswersOrLacks (display_takes_memory DisplayForm.Brackets shape.now) result
         (display_value DisplayForm.Brackets shape.now parts.items) }
 {
     match &shape.form {
         ShapeForm::Tuples(_, _, shapes) => {
             if each_admits(shapes, &parts) {
-                Ok(Value::tuple(parts))
+                Ok(Value::tuple(alloc, parts)?)
             } else {
                 Err(TermFault::Undefined)
             }

@@ -1,25 +1,26 @@
 //! The fields of tuples.
 
-ghost use Rattle.std.specs.Prelude.{◌≡◌, IfOk, slice_set, ◌<◌, length, false};
+ghost use Rattle.std.specs.Prelude.{◌≡◌, IfOk, slice_set, ◌<◌, length, true};
 ghost use Rattle.ioa_values.specs.Canonical.{IsCanonical};
 ghost use Rattle.ioa_values.specs.Outcome.{Answers};
 ghost use Rattle.ioa_operators.specs.RangeCheck.{AnswersOrLacks, LacksMemoryOnlyIf, checked_result};
 ghost use Rattle.ioa_operators.specs.Shapes.{field_position, field_value, part_named, with_field, with_part};
 
 use crate::fault::TermFault;
-use crate::parts::{part, parts_of_tuple};
+use crate::parts::parts_of_tuple;
 use crate::shape::{Shape, ShapeForm};
-use ioa_values::{Value, Word};
+use ioa_values::{Value, Word, collections};
+use std::alloc::Global;
 use std::mem;
 
 /// The field of a name, of a value of a tuple type (profile). Returns `Undefined (1)` if the shape is no
-/// tuple type's or has no such field, or if the value is no tuple or ends before that field. The value is
-/// used up, and its other fields are dropped. Takes no memory. Costs time in proportion to the names of the
-/// fields and the value.
+/// tuple type's or has no such field, or if the value is no tuple or ends before that field. Returns
+/// `Memory (3)` if the field has too many owners to be shared. The value is used up. Costs time in
+/// proportion to the names of the fields.
 pub fn field(shape: &Shape, name: &Word, value: Value) -> Result<Value, TermFault>
     ensures value { Answers TermFault.Memory (λ v. v) result
         (checked_result (field_value shape.now name.now value)) }
-    ensures memory { LacksMemoryOnlyIf false result (field_value shape.now name.now value) }
+    ensures memory { LacksMemoryOnlyIf true result (field_value shape.now name.now value) }
     ensures canonical { IsCanonical value → IfOk result IsCanonical }
 {
     field_of(shape, name, value)
@@ -27,7 +28,7 @@ pub fn field(shape: &Shape, name: &Word, value: Value) -> Result<Value, TermFaul
 
 /// The field of a name, in one exact clause.
 fn field_of(shape: &Shape, name: &Word, value: Value) -> Result<Value, TermFault>
-    ensures { AnswersOrLacks false result (field_value shape.now name.now value) }
+    ensures { AnswersOrLacks true result (field_value shape.now name.now value) }
 {
     match &shape.form {
         ShapeForm::Tuples(_, names, _) => field_among(names, name, value),
@@ -37,9 +38,10 @@ fn field_of(shape: &Shape, name: &Word, value: Value) -> Result<Value, TermFault
 
 /// The tuple in which the field of a name has another value (profile). Returns `Undefined (1)` if the shape
 /// is no tuple type's or has no such field, or if the value is no tuple or ends before that field. The
-/// shape of the new value is not checked. The values are used up, and the result has the tuple's memory.
-/// Costs time in proportion to the names of the fields and to the value that is replaced.
+/// shape of the new value is not checked. Returns `Memory (3)` if no memory is left. The values are used up.
+/// Costs time in proportion to the fields, which are copied if others share the tuple.
 pub fn replace_field(
+    alloc: Global,
     shape: &Shape,
     name: &Word,
     new: Value,
@@ -47,47 +49,55 @@ pub fn replace_field(
 ) -> Result<Value, TermFault>
     ensures value { Answers TermFault.Memory (λ v. v) result
         (checked_result (with_field shape.now name.now new value)) }
-    ensures memory { LacksMemoryOnlyIf false result (with_field shape.now name.now new value) }
+    ensures memory { LacksMemoryOnlyIf true result (with_field shape.now name.now new value) }
     ensures canonical { IsCanonical new → IsCanonical value → IfOk result IsCanonical }
 {
-    put_field(shape, name, new, value)
+    put_field(alloc, shape, name, new, value)
 }
 
 /// The tuple in which the field of a name has another value, in one exact clause.
-fn put_field(shape: &Shape, name: &Word, new: Value, value: Value) -> Result<Value, TermFault>
-    ensures { AnswersOrLacks false result (with_field shape.now name.now new value) }
+fn put_field(
+    alloc: Global,
+    shape: &Shape,
+    name: &Word,
+    new: Value,
+    value: Value,
+) -> Result<Value, TermFault>
+    ensures { AnswersOrLacks true result (with_field shape.now name.now new value) }
 {
     match &shape.form {
-        ShapeForm::Tuples(_, names, _) => replace_among(names, name, new, value),
+        ShapeForm::Tuples(_, names, _) => replace_among(alloc, names, name, new, value),
         _ => Err(TermFault::Undefined),
     }
 }
 
 /// The part of a tuple whose parts have these names.
 fn field_among(names: &Vec<Word>, name: &Word, value: Value) -> Result<Value, TermFault>
-    ensures { AnswersOrLacks false result (part_named names.now.items name.now value) }
+    ensures { AnswersOrLacks true result (part_named names.now.items name.now value) }
 {
-    let mut parts = parts_of_tuple(value)?;
+    let parts = parts_of_tuple(value)?;
     match position_of(names, name) {
-        Some(position) if position < parts.len() => part(parts.swap_remove(position)),
+        Some(position) if position < parts.len() => Ok(parts[position].try_copy()?),
         _ => Err(TermFault::Undefined),
     }
 }
 
 /// The tuple, whose parts have these names, with another value for one of them.
 fn replace_among(
+    alloc: Global,
     names: &Vec<Word>,
     name: &Word,
     new: Value,
     value: Value,
 ) -> Result<Value, TermFault>
-    ensures { AnswersOrLacks false result (with_part names.now.items name.now new value) }
+    ensures { AnswersOrLacks true result (with_part names.now.items name.now new value) }
 {
-    let mut parts = parts_of_tuple(value)?;
+    let parts = parts_of_tuple(value)?;
     match position_of(names, name) {
         Some(position) if position < parts.len() => {
+            let mut parts = collections::unshare(alloc, parts)?;
             put_at(&mut parts, position, new);
-            Ok(Value::tuple(parts))
+            Ok(Value::tuple(alloc, parts)?)
         }
         _ => Err(TermFault::Undefined),
     }

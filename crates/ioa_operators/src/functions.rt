@@ -51,8 +51,9 @@ enum CallParts {
 /// The value of a function of the values of its parts (profile). Returns `Undefined (1)` if there are more
 /// or fewer parts than the function takes, one is of another kind than it takes, the sequence of `head` or
 /// `tail` is empty, or a divisor is below 1. Returns `Range (2)` if the result lies outside 64 bits, and
-/// `Memory (3)` if no memory is left for `insert`, `union` or `update`. The values are used up, and the
-/// result is made of their memory if it can be. Costs time in proportion to the values.
+/// `Memory (3)` if no memory is left for `head`, `tail` or a function that changes a set or a map. The
+/// values are used up. The functions of sequences and `size` cost the same whatever the values hold, the
+/// others time in proportion to the values.
 pub fn call(alloc: Global, function: Function, parts: Vec<Value>) -> Result<Value, TermFault>
     ensures value { Answers TermFault.Memory (λ v. v) result (checked_result (call_value function parts.items)) }
     ensures memory { LacksMemoryOnlyIf (call_takes_memory function) result (call_value function parts.items) }
@@ -66,10 +67,10 @@ fn apply_function(alloc: Global, function: Function, parts: Vec<Value>) -> Resul
     ensures { AnswersOrLacks (call_takes_memory function) result (call_value function parts.items) }
 {
     match few(parts) {
-        Some(CallParts::One(value)) => call_of_one(function, value),
+        Some(CallParts::One(value)) => call_of_one(alloc, function, value),
         Some(CallParts::Two(left, right)) => call_of_two(alloc, function, left, right),
         Some(CallParts::Three(first, second, third)) => {
-            call_of_three(function, first, second, third)
+            call_of_three(alloc, function, first, second, third)
         }
         None => Err(TermFault::Undefined),
     }
@@ -95,12 +96,12 @@ fn few(parts: Vec<Value>) -> Option<CallParts>
 }
 
 /// The value of a function of one value.
-fn call_of_one(function: Function, value: Value) -> Result<Value, TermFault>
+fn call_of_one(alloc: Global, function: Function, value: Value) -> Result<Value, TermFault>
     ensures { AnswersOrLacks (call_takes_memory function) result (call_one function value) }
 {
     match function {
         Function::Head => head(value),
-        Function::Tail => tail(value),
+        Function::Tail => tail(alloc, value),
         Function::Length => length(value),
         Function::Size => size(&value),
         _ => Err(TermFault::Undefined),
@@ -119,10 +120,10 @@ fn call_of_two(
     match function {
         Function::Quotient => quotient(&left, &right),
         Function::Remainder => remainder(&left, &right),
-        Function::Insert => insert(left, right),
-        Function::Delete => delete(&left, right),
+        Function::Insert => insert(alloc, left, right),
+        Function::Delete => delete(alloc, &left, right),
         Function::Union => unite(alloc, left, right),
-        Function::Remove => remove(left, &right),
+        Function::Remove => remove(alloc, left, &right),
         Function::Defined => key_membership(&left, &right),
         _ => Err(TermFault::Undefined),
     }
@@ -130,6 +131,7 @@ fn call_of_two(
 
 /// The value of a function of three values.
 fn call_of_three(
+    alloc: Global,
     function: Function,
     first: Value,
     second: Value,
@@ -138,7 +140,7 @@ fn call_of_three(
     ensures { AnswersOrLacks (call_takes_memory function) result (call_three function first second third) }
 {
     match function {
-        Function::Update => update(first, second, third),
+        Function::Update => update(alloc, first, second, third),
         _ => Err(TermFault::Undefined),
     }
 }

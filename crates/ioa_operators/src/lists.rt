@@ -6,36 +6,33 @@ ghost use Rattle.ioa_operators.specs.Operators.{binary_value, call_one};
 
 use crate::fault::TermFault;
 use crate::operator::{BinaryOperator, Function};
-use crate::parts::{count_value, items_of_sequence, part};
+use crate::parts::{count_value, sequence_of};
 use ioa_values::{Value, ValueForm, collections};
+use std::alloc::Global;
 
-/// A value, and then the items of a sequence. Costs time in proportion to the sequence.
-pub(crate) fn prepend(item: Value, sequence: Value) -> Result<Value, TermFault>
+/// A value, and then the items of a sequence. Costs the same at any length.
+pub(crate) fn prepend(alloc: Global, item: Value, sequence: Value) -> Result<Value, TermFault>
     ensures { AnswersOrLacks true result (binary_value BinaryOperator.Prepend item sequence) }
 {
-    let mut items = items_of_sequence(sequence)?;
-    items.insert(0, item)?;
-    Ok(Value::sequence(items))
+    let items = sequence_of(sequence)?;
+    Ok(Value::sequence(items.prepend(alloc, item)?))
 }
 
-/// The items of a sequence, and then a value. The result has the sequence's memory.
-pub(crate) fn append(sequence: Value, item: Value) -> Result<Value, TermFault>
+/// The items of a sequence, and then a value. Costs the same at any length.
+pub(crate) fn append(alloc: Global, sequence: Value, item: Value) -> Result<Value, TermFault>
     ensures { AnswersOrLacks true result (binary_value BinaryOperator.Append sequence item) }
 {
-    let mut items = items_of_sequence(sequence)?;
-    items.push(item)?;
-    Ok(Value::sequence(items))
+    let items = sequence_of(sequence)?;
+    Ok(Value::sequence(items.append(alloc, item)?))
 }
 
-/// The items of two sequences. Costs time in proportion to the second one. The result has the memory
-/// of the first.
-pub(crate) fn concatenate(left: Value, right: Value) -> Result<Value, TermFault>
+/// The items of two sequences. Costs the same at any length.
+pub(crate) fn concatenate(alloc: Global, left: Value, right: Value) -> Result<Value, TermFault>
     ensures { AnswersOrLacks true result (binary_value BinaryOperator.Concatenate left right) }
 {
-    let mut items = items_of_sequence(left)?;
-    let mut more = items_of_sequence(right)?;
-    items.append(&mut more)?;
-    Ok(Value::sequence(items))
+    let items = sequence_of(left)?;
+    let more = sequence_of(right)?;
+    Ok(Value::sequence(items.join(alloc, &more)?))
 }
 
 /// Whether a value is an item of a sequence or a member of a set. Costs one comparison an item.
@@ -44,7 +41,7 @@ pub(crate) fn membership(value: &Value, whole: &Value) -> Result<Value, TermFaul
     ensures { AnswersOrLacks false result (binary_value BinaryOperator.Member value.now whole.now) }
 {
     match &whole.form {
-        ValueForm::Sequence(items) => Ok(Value::truth(collections::contains(items, value))),
+        ValueForm::Sequence(items) => Ok(Value::truth(items.contains(value))),
         ValueForm::Set(members) => Ok(Value::truth(collections::contains(members, value))),
         _ => Err(TermFault::Undefined),
     }
@@ -52,34 +49,32 @@ pub(crate) fn membership(value: &Value, whole: &Value) -> Result<Value, TermFaul
 
 /// The first item of a sequence that is not empty.
 pub(crate) fn head(sequence: Value) -> Result<Value, TermFault>
-    ensures { AnswersOrLacks false result (call_one Function.Head sequence) }
+    ensures { AnswersOrLacks true result (call_one Function.Head sequence) }
 {
-    let items = items_of_sequence(sequence)?;
-    match items.into_iter().next() {
-        Some(item) => part(item),
+    let items = sequence_of(sequence)?;
+    match items.first() {
+        Some(item) => Ok(item.try_copy()?),
         None => Err(TermFault::Undefined),
     }
 }
 
-/// The items but the first of a sequence that is not empty. Costs time in proportion to the sequence,
-/// whose memory the result has.
+/// The items but the first of a sequence that is not empty. Costs the same at any length.
 #[tactic(auto, using(crate::proofs::ItemLists::rest_of_some))]
-pub(crate) fn tail(sequence: Value) -> Result<Value, TermFault>
-    ensures { AnswersOrLacks false result (call_one Function.Tail sequence) }
+pub(crate) fn tail(alloc: Global, sequence: Value) -> Result<Value, TermFault>
+    ensures { AnswersOrLacks true result (call_one Function.Tail sequence) }
 {
-    let mut items = items_of_sequence(sequence)?;
+    let items = sequence_of(sequence)?;
     if items.is_empty() {
         return Err(TermFault::Undefined);
     }
-    let _first = items.remove(0);
-    Ok(Value::sequence(items))
+    Ok(Value::sequence(items.without_first(alloc)?))
 }
 
 /// How many items a sequence has.
 pub(crate) fn length(sequence: Value) -> Result<Value, TermFault>
     ensures { AnswersOrLacks false result (call_one Function.Length sequence) }
 {
-    let items = items_of_sequence(sequence)?;
+    let items = sequence_of(sequence)?;
     count_value(items.len())
 }
 

@@ -10,35 +10,42 @@ use crate::parts::entries_of_map;
 use ioa_values::{Value, ValueForm, collections};
 use std::alloc::Global;
 
-/// A copy of the value of a map at a key. Costs time in proportion to the map's entries and to that value.
+/// The value of a map at a key. Costs time in proportion to the map's entries.
 #[tactic(auto, using(ioa_values::proofs::ItemLists::pairs_of_entries))]
-pub(crate) fn at_key(alloc: Global, whole: &Value, key: &Value) -> Result<Value, TermFault>
+pub(crate) fn at_key(whole: &Value, key: &Value) -> Result<Value, TermFault>
     ensures { AnswersOrLacks true result (binary_value BinaryOperator.At whole.now key.now) }
 {
     match &whole.form {
         ValueForm::Map(entries) => match collections::get(entries, key) {
-            Some(value) => Ok(value.try_copy(alloc)?),
+            Some(value) => Ok(value.try_copy()?),
             None => Err(TermFault::Undefined),
         },
         _ => Err(TermFault::Undefined),
     }
 }
 
-/// A map in which a key has a value. Costs time in proportion to the map, whose memory the result has.
-pub(crate) fn update(whole: Value, key: Value, value: Value) -> Result<Value, TermFault>
+/// A map in which a key has a value. Costs time in proportion to the map, which is copied if others share it.
+pub(crate) fn update(
+    alloc: Global,
+    whole: Value,
+    key: Value,
+    value: Value,
+) -> Result<Value, TermFault>
     ensures { AnswersOrLacks true result (call_three Function.Update whole key value) }
 {
     let entries = entries_of_map(whole)?;
+    let entries = collections::unshare_entries(alloc, entries)?;
     let entries = collections::update(entries, key, value)?;
-    Ok(Value::map(entries))
+    Ok(Value::map(alloc, entries)?)
 }
 
-/// A map without a key. Costs time in proportion to the map, and takes no memory.
-pub(crate) fn remove(whole: Value, key: &Value) -> Result<Value, TermFault>
-    ensures { AnswersOrLacks false result (call_two Function.Remove whole key.now) }
+/// A map without a key. Costs time in proportion to the map, which is copied if others share it.
+pub(crate) fn remove(alloc: Global, whole: Value, key: &Value) -> Result<Value, TermFault>
+    ensures { AnswersOrLacks true result (call_two Function.Remove whole key.now) }
 {
     let entries = entries_of_map(whole)?;
-    Ok(Value::map(collections::remove_key(entries, key)))
+    let entries = collections::unshare_entries(alloc, entries)?;
+    Ok(Value::map(alloc, collections::remove_key(entries, key))?)
 }
 
 /// Whether a map has a key. Costs time in proportion to the map's entries.

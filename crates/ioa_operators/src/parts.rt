@@ -8,7 +8,8 @@ ghost use Rattle.ioa_operators.specs.RangeCheck.{AnswersOrLacks};
 ghost use Rattle.ioa_operators.specs.CallParts.{Takes};
 
 use crate::fault::TermFault;
-use ioa_values::{Value, ValueForm};
+use ioa_values::{Sequence, Value, ValueForm};
+use std::sync::Arc;
 
 /// The number that a part is.
 pub(crate) fn number_of(value: &Value) -> Result<i64, TermFault>
@@ -24,10 +25,10 @@ pub(crate) fn truth_of(value: &Value) -> Result<bool, TermFault>
     value.as_truth().ok_or(TermFault::Undefined)
 }
 
-/// The items of a sequence, with their memory.
+/// The sequence that a part is.
 #[tactic(auto, using(ioa_values::proofs::ItemLists::list_of_items))]
-pub(crate) fn items_of_sequence(value: Value) -> Result<Vec<Value>, TermFault>
-    ensures { Takes (λ v. v.items) result (as_sequence value) }
+pub(crate) fn sequence_of(value: Value) -> Result<Sequence, TermFault>
+    ensures { Takes (λ s. s) result (as_sequence value) }
 {
     match value.form {
         ValueForm::Sequence(items) => Ok(items),
@@ -35,11 +36,11 @@ pub(crate) fn items_of_sequence(value: Value) -> Result<Vec<Value>, TermFault>
     }
 }
 
-/// The members of a set, with their memory. They ascend, as every set keeps them.
+/// The members of a set, which others may share. They ascend, as every set keeps them.
 #[tactic(auto, using(ioa_values::proofs::ItemLists::list_of_items))]
-pub(crate) fn members_of_set(value: Value) -> Result<Vec<Value>, TermFault>
-    ensures members { Takes (λ v. v.items) result (as_set value) }
-    ensures ascending { IfOk result (λ v. IsAscending v.items) }
+pub(crate) fn members_of_set(value: Value) -> Result<Arc<Vec<Value>>, TermFault>
+    ensures members { Takes (λ v. v.value.items) result (as_set value) }
+    ensures ascending { IfOk result (λ v. IsAscending v.value.items) }
 {
     match value.form {
         ValueForm::Set(members) => Ok(members),
@@ -47,11 +48,11 @@ pub(crate) fn members_of_set(value: Value) -> Result<Vec<Value>, TermFault>
     }
 }
 
-/// The entries of a map, with their memory. Their keys ascend, as every map keeps them.
+/// The entries of a map, which others may share. Their keys ascend, as every map keeps them.
 #[tactic(auto, using(ioa_values::proofs::ItemLists::pairs_of_entries))]
-pub(crate) fn entries_of_map(value: Value) -> Result<Vec<(Value, Value)>, TermFault>
-    ensures entries { Takes (λ v. v.items) result (as_map value) }
-    ensures ascending { IfOk result (λ v. IsAscending (keys_of v.items)) }
+pub(crate) fn entries_of_map(value: Value) -> Result<Arc<Vec<(Value, Value)>>, TermFault>
+    ensures entries { Takes (λ v. v.value.items) result (as_map value) }
+    ensures ascending { IfOk result (λ v. IsAscending (keys_of v.value.items)) }
 {
     match value.form {
         ValueForm::Map(entries) => Ok(entries),
@@ -59,10 +60,10 @@ pub(crate) fn entries_of_map(value: Value) -> Result<Vec<(Value, Value)>, TermFa
     }
 }
 
-/// The parts of a tuple, with their memory.
+/// The parts of a tuple, which others may share.
 #[tactic(auto, using(ioa_values::proofs::ItemLists::list_of_items))]
-pub(crate) fn parts_of_tuple(value: Value) -> Result<Vec<Value>, TermFault>
-    ensures { Takes (λ v. v.items) result (as_tuple value) }
+pub(crate) fn parts_of_tuple(value: Value) -> Result<Arc<Vec<Value>>, TermFault>
+    ensures { Takes (λ v. v.value.items) result (as_tuple value) }
 {
     match value.form {
         ValueForm::Tuple(parts) => Ok(parts),

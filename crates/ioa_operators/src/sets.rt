@@ -1,6 +1,6 @@
 //! Functions of finite sets.
 
-ghost use Rattle.std.specs.Prelude.{Some, true, false};
+ghost use Rattle.std.specs.Prelude.{Some, true};
 ghost use Rattle.ioa_values.specs.Collections.{set_of};
 ghost use Rattle.ioa_operators.specs.RangeCheck.{AnswersOrLacks};
 ghost use Rattle.ioa_operators.specs.Operators.{call_two, finite_set_of};
@@ -11,21 +11,23 @@ use crate::parts::members_of_set;
 use ioa_values::{Value, collections};
 use std::alloc::Global;
 
-/// A set with one more member. Costs time in proportion to the set, whose memory the result has.
-pub(crate) fn insert(member: Value, whole: Value) -> Result<Value, TermFault>
+/// A set with one more member. Costs time in proportion to the set, which is copied if others share it.
+pub(crate) fn insert(alloc: Global, member: Value, whole: Value) -> Result<Value, TermFault>
     ensures { AnswersOrLacks true result (call_two Function.Insert member whole) }
 {
     let members = members_of_set(whole)?;
+    let members = collections::unshare(alloc, members)?;
     let members = collections::insert(members, member)?;
-    Ok(Value::set(members))
+    Ok(Value::set(alloc, members)?)
 }
 
-/// A set without a member. Costs time in proportion to the set, and takes no memory.
-pub(crate) fn delete(member: &Value, whole: Value) -> Result<Value, TermFault>
-    ensures { AnswersOrLacks false result (call_two Function.Delete member.now whole) }
+/// A set without a member. Costs time in proportion to the set, which is copied if others share it.
+pub(crate) fn delete(alloc: Global, member: &Value, whole: Value) -> Result<Value, TermFault>
+    ensures { AnswersOrLacks true result (call_two Function.Delete member.now whole) }
 {
     let members = members_of_set(whole)?;
-    Ok(Value::set(collections::remove(members, member)))
+    let members = collections::unshare(alloc, members)?;
+    Ok(Value::set(alloc, collections::remove(members, member))?)
 }
 
 /// The members of either of two sets. Costs time in proportion to both, as their members ascend.
@@ -34,8 +36,10 @@ pub(crate) fn unite(alloc: Global, left: Value, right: Value) -> Result<Value, T
 {
     let left = members_of_set(left)?;
     let right = members_of_set(right)?;
+    let left = collections::unshare(alloc, left)?;
+    let right = collections::unshare(alloc, right)?;
     let members = collections::union(alloc, left, right)?;
-    Ok(Value::set(members))
+    Ok(Value::set(alloc, members)?)
 }
 
 /// The set of values, without doubles. Costs what `collections::set_of` costs.
@@ -43,5 +47,5 @@ pub(crate) fn set_of_values(alloc: Global, values: Vec<Value>) -> Result<Value, 
     ensures { AnswersOrLacks true result (Some (finite_set_of (set_of values.items))) }
 {
     let members = collections::set_of(alloc, values)?;
-    Ok(Value::set(members))
+    Ok(Value::set(alloc, members)?)
 }

@@ -6,9 +6,10 @@ ghost use lib.Pointwise.{pointwise};
 ghost use Rattle.ioa_values.specs.Data.{items_of};
 ghost use Rattle.ioa_operators.specs.Shapes.{naturals, constants, shapes_of, has_shape, have_shapes, all_have};
 ghost use Rattle.ioa_operators.specs.Shapes.{wide_shape, wide_shape_if, wide_shapes_if};
+ghost use Rattle.ioa_operators.specs.ShapeKinds.{AdmitsKind};
 ghost use Rattle.ioa_operators.specs.ShapeView.{shape_of};
 
-use ioa_values::{Value, ValueForm, Word};
+use ioa_values::{ItemKind, Sequence, Value, ValueForm, Word};
 use std::alloc::{AllocError, Global};
 use std::marker::Model;
 use std::sync::Arc;
@@ -63,6 +64,7 @@ impl Model for Shape {
     ghost coded = { shape_code };
 
     ghost use Rattle.ioa_operators.specs.ShapeHeight.{height};
+    ghost use Rattle.ioa_operators.specs.ShapeKinds.{AdmitsKind};
     ghost use Rattle.ioa_operators.specs.ShapeView.{shape_of};
 
     ghost view = { λ s. shape_of s.form };
@@ -110,7 +112,8 @@ impl Shape {
         Ok(Shape { form })
     }
 
-    /// Whether a value has the shape. Costs time in proportion to the value.
+    /// Whether a value has the shape. Costs time in proportion to the value, but looks at no item of a sequence
+    /// of numbers, truth values or constants that has the shape.
     #[tactic(auto, using(crate::proofs::WideShapes::narrow))]
     pub fn admits(&self, value: &Value) -> bool
         ensures { result ≡ has_shape self.now value.now }
@@ -119,7 +122,7 @@ impl Shape {
     }
 
     /// Whether a value has the shape if signs do not matter: a negative number passes for a natural too,
-    /// at any depth. Costs time in proportion to the value.
+    /// at any depth. Costs what `admits` costs.
     pub fn admits_negative(&self, value: &Value) -> bool
         ensures { result ≡ has_shape (wide_shape self.now) value.now }
     {
@@ -142,7 +145,7 @@ impl Shape {
                 _ => false,
             },
             ShapeForm::Sequences(items) => match &value.form {
-                ValueForm::Sequence(values) => all_fit(items, values, negative),
+                ValueForm::Sequence(values) => all_items_fit(items, values, negative),
                 _ => false,
             },
             ShapeForm::Sets(members) => match &value.form {
@@ -151,7 +154,7 @@ impl Shape {
             },
             ShapeForm::Maps(keys, values) => match &value.form {
                 ValueForm::Map(entries) => {
-                    for (key, value) in entries {
+                    for (key, value) in entries.iter() {
                         if !keys.fits(key, negative) || !values.fits(value, negative) {
                             return false;
                         }
@@ -160,6 +163,24 @@ impl Shape {
                 }
                 _ => false,
             },
+        }
+    }
+
+    /// Whether all values of a kind have the shape, as far as the kind alone tells; if `negative` is true, a
+    /// negative number passes for a natural too. Costs the same for each shape.
+    fn fits_kind(&self, kind: ItemKind, negative: bool) -> bool
+        ensures { IsTrue result → AdmitsKind (wide_shape_if negative self.now) kind }
+    {
+        match (&self.form, kind) {
+            (ShapeForm::Truths, ItemKind::Truths) => true,
+            (ShapeForm::Integers, ItemKind::Naturals) => true,
+            (ShapeForm::Integers, ItemKind::Integers) => true,
+            (ShapeForm::Naturals, ItemKind::Naturals) => true,
+            (ShapeForm::Naturals, ItemKind::Integers) => negative,
+            (ShapeForm::Constants(_, from, many), ItemKind::Constants(least, greatest)) => {
+                lies_among(least, *from, *many) && lies_among(greatest, *from, *many)
+            }
+            _ => false,
         }
     }
 
@@ -286,6 +307,23 @@ fn all_fit(shape: &Shape, values: &Vec<Value>, negative: bool) -> bool
 {
     for value in values {
         if !shape.fits(value, negative) {
+            return false;
+        }
+    }
+    true
+}
+
+/// Whether the items of a sequence all have a shape; if `negative` is true, negative numbers pass for
+/// naturals too. Looks at each item only if what the sequence knows of all its items does not tell.
+#[cycle(admitting)]
+fn all_items_fit(shape: &Shape, items: &Sequence, negative: bool) -> bool
+    ensures { result ≡ all_have (wide_shape_if negative shape.now) (items_of items.now) }
+{
+    if shape.fits_kind(items.kind(), negative) {
+        return true;
+    }
+    for position in 0..items.len() {
+        if !shape.fits(items.at(position), negative) {
             return false;
         }
     }

@@ -44,7 +44,7 @@ impl<'a> Control<'a> {
         })
     }
 
-    /// The same block with its own memory.
+    /// The same block once more, whose values share their collections with this one's.
     fn try_copy(&self, alloc: Global) -> Result<Control<'a>, AllocError>
         ensures todo { IfOk result (λ c. todo_of c ≡ todo_of self.now) }
         ensures values { IfOk result (λ c. values_of c ≡ values_of self.now) }

@@ -23,8 +23,9 @@ use ioa_compose::Conf;
 use ioa_record::NodeFault;
 use ioa_schedules::{Control, Turn, View, next};
 use ioa_system::Program;
-use ioa_terms::{Inbox, LentValues, Value};
+use ioa_terms::{Inbox, LentValues};
 use ioa_transitions::NodeConf;
+use ioa_values::Sequence;
 use std::alloc::{AllocError, Global};
 
 impl<'a> Progress<'a> {
@@ -86,7 +87,7 @@ fn inbox_at(conf: &Conf, node: i64) -> Option<Inbox<'_>>
 }
 
 /// The inbox of a node that a component with these messages is, if it is a channel to the node.
-fn inbox_of(node: i64, messages: &[Value], component: Component) -> Option<Inbox<'_>>
+fn inbox_of(node: i64, messages: &Sequence, component: Component) -> Option<Inbox<'_>>
     ensures { inboxes_of (one_or_none result) ≡ inbox_of node (Some messages.now) component }
 {
     match component {

@@ -8,7 +8,7 @@ ghost use Rattle.ioa_terms.specs.Slots.{index_within, slot_or_behind, slot_value
 ghost use Rattle.ioa_values.specs.Data.{constant};
 
 use crate::name::Name;
-use ioa_values::{Value, Word};
+use ioa_values::{Sequence, Value, Word};
 use std::alloc::{AllocError, Global};
 use std::marker::Model;
 
@@ -63,7 +63,7 @@ pub struct Inbox<'a> {
     /// The number of the node that sends.
     pub sender: i64,
     /// The messages, first to last.
-    pub messages: &'a [Value],
+    pub messages: &'a Sequence,
 }
 
 /// Values that two owners keep and lend, and the inboxes of a node: a term may read them, and no statement assigns

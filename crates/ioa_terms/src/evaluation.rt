@@ -24,13 +24,13 @@ use ioa_operators::{
     BinaryOperator, Function, TermFault, binary, call, display, field, left_decision, unary,
 };
 use ioa_values::collections::update;
-use ioa_values::{Value, Word, copies};
+use ioa_values::{Value, Word};
 use std::alloc::{AllocError, Global};
 
 /// The value of a term in an environment (profile). Parts are evaluated from left to right, and the first
 /// fault is returned: `Undefined (1)` if a part has no value, `Range (2)` if a number lies outside 64 bits,
 /// an intermediate one too, and `Memory (3)` if no memory is left. Costs time in proportion to the term and
-/// to the values that it reads and makes.
+/// to the sets and maps that it changes and the values that it compares.
 #[tactic(auto, using(crate::proofs::Stepwise::stepwise_is))]
 pub fn eval(alloc: Global, term: &Checked, env: &Env) -> Result<Value, TermFault>
     requires { IsResolved (term_of term.now) (names_of env.now) }
@@ -127,7 +127,7 @@ pub(crate) fn read(alloc: Global, env: &Env, name: &Word, slot: usize) -> Result
     ensures within { IfOk result (λ v. is_within v ≡ true) }
 {
     match env.get(slot) {
-        Some(Slot::Variable(value)) => Ok(value.try_copy(alloc)?),
+        Some(Slot::Variable(value)) => Ok(value.try_copy()?),
         Some(Slot::Constant(constant)) => Ok(Value::constant(constant)),
         Some(Slot::Inboxes(inboxes)) => Ok(map_of(alloc, inboxes)?),
         None => Err(TermFault::Undefined),
@@ -138,7 +138,7 @@ pub(crate) fn read(alloc: Global, env: &Env, name: &Word, slot: usize) -> Result
 fn map_of(alloc: Global, inboxes: &[Inbox]) -> Result<Value, AllocError>
     ensures { IfOk result (λ v. v ≡ inboxes_value (inboxes_of inboxes.now)) }
 {
-    Ok(Value::map(entries_of(alloc, inboxes)?))
+    Value::map(alloc, entries_of(alloc, inboxes)?)
 }
 
 /// The entries of the map of the inboxes.
@@ -152,7 +152,7 @@ fn entries_of(alloc: Global, inboxes: &[Inbox]) -> Result<Vec<(Value, Value)>, A
     while left > 0 {
         left -= 1;
         let inbox = inboxes[left];
-        let messages = copies(alloc, inbox.messages)?;
+        let messages = inbox.messages.try_clone()?;
         entries = update(
             entries,
             Value::number(inbox.sender),
@@ -194,7 +194,7 @@ pub fn is_inbox(name: &Word) -> bool
     }
 }
 
-/// The value of `inbox`: a copy of what waits from the node of this number, if the inboxes are in view.
+/// The value of `inbox`: what waits from the node of this number, if the inboxes are in view.
 fn inbox(alloc: Global, env: &Env, values: &[Value]) -> Result<Value, TermFault>
     ensures { Answers TermFault.Memory (λ v. v) result (checked_result (inbox_value values.now env.now)) }
 {
@@ -213,8 +213,8 @@ fn inbox_at(alloc: Global, env: &Env, sender: &Value) -> Result<Value, TermFault
     match env.inboxes()? {
         Some(Slot::Inboxes(inboxes)) => messages_from(alloc, inboxes, sender),
         Some(Slot::Variable(map)) => {
-            let map = map.try_copy(alloc)?;
-            let sender = sender.try_copy(alloc)?;
+            let map = map.try_copy()?;
+            let sender = sender.try_copy()?;
             binary(alloc, BinaryOperator::At, map, sender)
         }
         Some(Slot::Constant(_)) | None => Err(TermFault::Undefined),
@@ -228,7 +228,7 @@ fn is_number(value: &Value, number: i64) -> bool
     value.equals(&Value::number(number))
 }
 
-/// A copy of the messages of a sender, if there is an inbox of it.
+/// The messages of a sender, if there is an inbox of it.
 #[tactic(auto, using(crate::proofs::Inboxes::found_here, crate::proofs::Inboxes::found_later))]
 fn messages_from(alloc: Global, inboxes: &[Inbox], sender: &Value) -> Result<Value, TermFault>
     ensures { Answers TermFault.Memory (λ v. v) result
@@ -236,7 +236,7 @@ fn messages_from(alloc: Global, inboxes: &[Inbox], sender: &Value) -> Result<Val
 {
     for inbox in inboxes {
         if is_number(sender, inbox.sender) {
-            return Ok(Value::sequence(copies(alloc, inbox.messages)?));
+            return Ok(Value::sequence(inbox.messages.try_clone()?));
         }
     }
     Err(TermFault::Undefined)

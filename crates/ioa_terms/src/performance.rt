@@ -29,7 +29,7 @@ use std::mem;
 /// terms may read too. The first fault is returned, and the values are dropped then: `Undefined (1)` if a
 /// term has no value, a test has no truth value, or a new value has not the variable's shape, `Range (2)`
 /// if a number lies outside 64 bits, an intermediate one too, and `Memory (3)` if no memory is left. Costs
-/// time in proportion to the statements performed and to the values that they read and make.
+/// time in proportion to the statements performed, and to what their terms and the tests of shapes cost.
 #[tactic(auto, using(crate::proofs::Performed::stepwise_by_is, crate::proofs::Performed::all_resolved))]
 pub fn perform(
     alloc: Global,
@@ -127,8 +127,8 @@ fn assign(
 
 /// The values after an assignment to one of them, whose terms may read what is lent as well (profile). `names` are the
 /// names of these values and then of what is lent, in the same order; `constants` are those of the text's constants.
-/// The first fault is returned, and the values are dropped then. Costs time in proportion to the values that the terms
-/// read and make.
+/// The first fault is returned, and the values are dropped then. Costs what its terms and the test of the variable's
+/// shape cost.
 #[tactic(auto, using(crate::proofs::Slots::target_among_all))]
 pub fn perform_assignment(
     alloc: Global,
@@ -248,7 +248,7 @@ fn replace(
         (lookup (Name.Word name.now) env.now))) }
 {
     let whole = read(alloc, env, name, at)?;
-    replace_field(shape, field, value, whole)
+    replace_field(alloc, shape, field, value, whole)
 }
 
 /// The values with another one for a variable; `Undefined (1)` if it has not the variable's shape.

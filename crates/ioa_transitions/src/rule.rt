@@ -306,7 +306,7 @@ fn fixed_values(
     let mut values = copies(alloc, given)?;
     let count = entry.parameters.len().min(arguments.len());
     for i in 0..count {
-        push_own(alloc, &mut values, &entry.parameters[i], &arguments[i])?;
+        push_own(&mut values, &entry.parameters[i], &arguments[i])?;
     }
     Ok(values)
 }
@@ -326,7 +326,6 @@ fn all_values(
 
 /// Adds the argument at the end if the parameter has a name of its own.
 fn push_own(
-    alloc: Global,
     values: &mut Vec<Value>,
     parameter: &Parameter<usize, Shape>,
     argument: &Value,
@@ -337,7 +336,7 @@ fn push_own(
     match parameter {
         Parameter::Const(_) => Ok(()),
         Parameter::Declared(_) => {
-            values.push(argument.try_copy(alloc)?)?;
+            values.push(argument.try_copy()?)?;
             Ok(())
         }
     }

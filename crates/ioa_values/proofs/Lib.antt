@@ -8,9 +8,10 @@ pub mod Endings
 pub mod Equality
 pub mod Falls
 pub mod Halves
+pub mod ItemKinds
 pub mod ItemLists
 pub mod Members
 pub mod Merging
-pub mod Outcomes
 pub mod Positions
 pub mod Rules
+pub mod Steps

@@ -79,12 +79,12 @@ abbrev mutual
   entries_digits no_entries r = pos 0 ∷ r
   entries_digits (entry k v more) r = pos 1 ∷ digits k (digits v (entries_digits more r))
 
-then_equal : (o : Ordering) → ordering_then o Equal ≡ o
+pub then_equal : (o : Ordering) → ordering_then o Equal ≡ o
 then_equal Less = refl
 then_equal Equal = refl
 then_equal Greater = refl
 
-then_then : (a b c : Ordering) → ordering_then (ordering_then a b) c ≡ ordering_then a (ordering_then b c)
+pub then_then : (a b c : Ordering) → ordering_then (ordering_then a b) c ≡ ordering_then a (ordering_then b c)
 then_then Less b c = refl
 then_then Equal b c = refl
 then_then Greater b c = refl

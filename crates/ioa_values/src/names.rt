@@ -3,10 +3,11 @@
 ghost use Rattle.std.specs.Prelude.{◌≡◌, ◌++◌, IfOk, OnOk, [], string_bytes, codes, get_or};
 ghost use Rattle.std.specs.Fmt.{signed_decimal};
 ghost use Rattle.ioa_values.specs.Data.{items_of, entries_of};
-ghost use Rattle.ioa_values.specs.Canonical.{IsCanonical, AllCanonical, AllEntriesCanonical};
+ghost use Rattle.ioa_values.specs.Canonical.{IsCanonical};
 ghost use Rattle.ioa_values.specs.Outcome.{Writes};
 ghost use Rattle.ioa_values.specs.Text.{text, texts, entry_texts, with_commas, separator};
 
+use crate::sequence::Sequence;
 use crate::value::{Value, ValueForm};
 use crate::word::Word;
 use std::alloc::{AllocError, Global};
@@ -59,7 +60,7 @@ impl Names {
 /// If memory runs out, nothing is said of what lies inside the value.
 pub fn show(alloc: Global, names: &Names, value: &Value) -> Result<String, AllocError>
     ensures text { IfOk result (λ s. string_bytes s ≡ text names.now value.now) }
-    ensures ascending { OnOk result (IsCanonical value.now) }
+    ensures ascending { IsCanonical value.now }
 {
     let mut output = String::new(alloc);
     push_shown(&mut output, names, value)?;
@@ -67,19 +68,27 @@ pub fn show(alloc: Global, names: &Names, value: &Value) -> Result<String, Alloc
 }
 
 /// Writes the text of a value behind what is already written. If memory runs out, a part of the text
-/// may have been written, and nothing is said of what lies inside the value.
-#[cycle(showing)]
-#[tactic(auto, using(crate::proofs::Falls::most_items, crate::proofs::Falls::most_entries))]
+/// may have been written.
 pub fn push_shown(output: &mut String, names: &Names, value: &Value) -> Result<(), AllocError>
     ensures text { OnOk result (Writes output.old output.new (text names.now value.now)) }
-    ensures ascending { OnOk result (IsCanonical value.now) }
+    ensures ascending { IsCanonical value.now }
+{
+    value.canonical_law();
+    push_value(output, names, value)
+}
+
+/// Writes the text of a value.
+#[cycle(showing)]
+#[tactic(auto, using(crate::proofs::Falls::most_items, crate::proofs::Falls::most_entries))]
+fn push_value(output: &mut String, names: &Names, value: &Value) -> Result<(), AllocError>
+    ensures { OnOk result (Writes output.old output.new (text names.now value.now)) }
 {
     match &value.form {
         ValueForm::Number(n) => push_number(output, *n),
         ValueForm::Truth(b) => output.push_str(if *b { "true" } else { "false" }),
         ValueForm::Constant(index) => push_name(output, names, *index),
         ValueForm::Tuple(parts) => push_enclosed(output, names, "[", parts, "]"),
-        ValueForm::Sequence(items) => push_enclosed(output, names, "{", items, "}"),
+        ValueForm::Sequence(items) => push_sequence(output, names, items),
         ValueForm::Set(members) => push_enclosed(output, names, "{", members, "}"),
         ValueForm::Map(entries) => push_map(output, names, entries),
     }
@@ -112,9 +121,8 @@ fn push_enclosed(
     values: &Vec<Value>,
     right: &str,
 ) -> Result<(), AllocError>
-    ensures text { OnOk result (Writes output.old output.new
+    ensures { OnOk result (Writes output.old output.new
         (left.now ++ with_commas (texts names.now (items_of values.now.items)) ++ right.now)) }
-    ensures ascending { OnOk result (AllCanonical values.now.items) }
 {
     output.push_str(left)?;
     push_values(output, names, values)?;
@@ -124,13 +132,36 @@ fn push_enclosed(
 /// Writes values with commas between them.
 #[cycle(showing)]
 fn push_values(output: &mut String, names: &Names, values: &Vec<Value>) -> Result<(), AllocError>
-    ensures text { OnOk result (Writes output.old output.new
+    ensures { OnOk result (Writes output.old output.new
         (with_commas (texts names.now (items_of values.now.items)))) }
-    ensures ascending { OnOk result (AllCanonical values.now.items) }
 {
     for (position, value) in values.iter().enumerate() {
         push_separator(output, position)?;
-        push_shown(output, names, value)?;
+        push_value(output, names, value)?;
+    }
+    Ok(())
+}
+
+/// Writes a sequence.
+#[cycle(showing)]
+fn push_sequence(output: &mut String, names: &Names, items: &Sequence) -> Result<(), AllocError>
+    ensures { OnOk result (Writes output.old output.new
+        (codes "{" ++ with_commas (texts names.now (items_of items.now)) ++ codes "}")) }
+{
+    output.push_str("{")?;
+    push_items(output, names, items)?;
+    output.push_str("}")
+}
+
+/// Writes items with commas between them.
+#[cycle(showing)]
+fn push_items(output: &mut String, names: &Names, items: &Sequence) -> Result<(), AllocError>
+    ensures { OnOk result (Writes output.old output.new
+        (with_commas (texts names.now (items_of items.now)))) }
+{
+    for position in 0..items.len() {
+        push_separator(output, position)?;
+        push_value(output, names, items.at(position))?;
     }
     Ok(())
 }
@@ -142,9 +173,8 @@ fn push_map(
     names: &Names,
     entries: &Vec<(Value, Value)>,
 ) -> Result<(), AllocError>
-    ensures text { OnOk result (Writes output.old output.new
+    ensures { OnOk result (Writes output.old output.new
         (codes "{" ++ with_commas (entry_texts names.now (entries_of entries.now.items)) ++ codes "}")) }
-    ensures ascending { OnOk result (AllEntriesCanonical entries.now.items) }
 {
     output.push_str("{")?;
     push_entries(output, names, entries)?;
@@ -158,15 +188,14 @@ fn push_entries(
     names: &Names,
     entries: &Vec<(Value, Value)>,
 ) -> Result<(), AllocError>
-    ensures text { OnOk result (Writes output.old output.new
+    ensures { OnOk result (Writes output.old output.new
         (with_commas (entry_texts names.now (entries_of entries.now.items)))) }
-    ensures ascending { OnOk result (AllEntriesCanonical entries.now.items) }
 {
     for (position, entry) in entries.iter().enumerate() {
         push_separator(output, position)?;
-        push_shown(output, names, &entry.0)?;
+        push_value(output, names, &entry.0)?;
         output.push_str(" -> ")?;
-        push_shown(output, names, &entry.1)?;
+        push_value(output, names, &entry.1)?;
     }
     Ok(())
 }

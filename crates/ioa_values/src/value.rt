@@ -8,13 +8,16 @@ ghost use Rattle.ioa_values.specs.Collections.{IsAscending, keys_of};
 ghost use Rattle.ioa_values.specs.Canonical.{IsCanonical, AllCanonical, AllEntriesCanonical};
 ghost use Rattle.ioa_values.specs.DataOrder.{same, data_cmp, items_cmp, entries_cmp, kind};
 
+use crate::sequence::Sequence;
 use std::alloc::{AllocError, Global};
 use std::cmp::Ordering;
 use std::marker::Model;
+use std::sync::Arc;
 
 /// A value of the language: a number, a truth value, a constant, a tuple, a sequence, a finite set or
 /// a finite map. Numbers are kept in 64 bits; a contract sees the number itself. Every value keeps that
-/// the members of a set and the keys of a map ascend without doubles, and so does each value inside it.
+/// the members of a set and the keys of a map ascend without doubles, at any depth. Collections are shared,
+/// so that a value is copied in constant time.
 #[cycle(value)]
 #[derive(Debug, Drop)]
 pub struct Value {
@@ -34,13 +37,13 @@ pub enum ValueForm {
     /// A constant, by its index among the text's constants.
     Constant(usize),
     /// A tuple of its parts.
-    Tuple(Vec<Value>),
+    Tuple(Arc<Vec<Value>>),
     /// A sequence of its items.
-    Sequence(Vec<Value>),
+    Sequence(Sequence),
     /// A finite set of its members.
-    Set(Vec<Value>),
+    Set(Arc<Vec<Value>>),
     /// A finite map, as pairs of a key and its value.
-    Map(Vec<(Value, Value)>),
+    Map(Arc<Vec<(Value, Value)>>),
 }
 
 impl Model for Value {
@@ -51,18 +54,18 @@ impl Model for Value {
 
     ghost coded = { data_code };
 
-    ghost use Rattle.ioa_values.specs.Depth.{depth};
-    ghost use Rattle.ioa_values.specs.ValueForm.{data_of, IsAscendingForm};
+    ghost use Rattle.ioa_values.specs.Weight.{weight};
+    ghost use Rattle.ioa_values.specs.ValueForm.{data_of, IsCanonicalForm};
 
     ghost view = { λ v. data_of v.form };
 
-    ghost invariant = { λ v. IsAscendingForm v.form };
+    ghost invariant = { λ v. IsCanonicalForm v.form };
 
-    ghost size = { depth };
+    ghost size = { weight };
 
-    ghost use Rattle.ioa_values.specs.PartDepths.{deep-le-depth};
+    ghost use Rattle.ioa_values.specs.ValueWeights.{deep-le-weight};
 
-    ghost size_decreases = { λ v h. deep-le-depth v.form };
+    ghost size_decreases = { λ v h. deep-le-weight v.form };
 }
 
 impl Value {
@@ -94,41 +97,42 @@ impl Value {
     }
 
     /// A tuple of its parts.
-    pub fn tuple(parts: Vec<Value>) -> Self
-        ensures { result ≡ tuple (items_of parts.items) }
+    pub fn tuple(alloc: Global, parts: Vec<Value>) -> Result<Self, AllocError>
+        ensures { IfOk result (λ v. v ≡ tuple (items_of parts.items)) }
     {
-        Value {
-            form: ValueForm::Tuple(parts),
-        }
+        canonical_values(&parts);
+        let form = ValueForm::Tuple(Arc::new(alloc, parts)?);
+        Ok(Value { form })
     }
 
-    /// A sequence of its items.
-    pub fn sequence(items: Vec<Value>) -> Self
-        ensures { result ≡ sequence (items_of items.items) }
+    /// A sequence of its items; takes no memory.
+    pub fn sequence(items: Sequence) -> Self
+        ensures { result ≡ sequence (items_of items) }
     {
+        items.items_law();
         Value {
             form: ValueForm::Sequence(items),
         }
     }
 
     /// A set of its members, which ascend without doubles.
-    pub fn set(members: Vec<Value>) -> Self
+    pub fn set(alloc: Global, members: Vec<Value>) -> Result<Self, AllocError>
         requires { IsAscending members.items }
-        ensures { result ≡ finite_set (items_of members.items) }
+        ensures { IfOk result (λ v. v ≡ finite_set (items_of members.items)) }
     {
-        Value {
-            form: ValueForm::Set(members),
-        }
+        canonical_values(&members);
+        let form = ValueForm::Set(Arc::new(alloc, members)?);
+        Ok(Value { form })
     }
 
     /// A map of its entries, whose keys ascend without doubles.
-    pub fn map(entries: Vec<(Value, Value)>) -> Self
+    pub fn map(alloc: Global, entries: Vec<(Value, Value)>) -> Result<Self, AllocError>
         requires { IsAscending (keys_of entries.items) }
-        ensures { result ≡ finite_map (entries_of entries.items) }
+        ensures { IfOk result (λ v. v ≡ finite_map (entries_of entries.items)) }
     {
-        Value {
-            form: ValueForm::Map(entries),
-        }
+        canonical_entries(&entries);
+        let form = ValueForm::Map(Arc::new(alloc, entries)?);
+        Ok(Value { form })
     }
 
     /// The number, if the value is one.
@@ -151,26 +155,32 @@ impl Value {
         }
     }
 
-    /// An equal value with its own memory. Costs time and memory in proportion to the value. If the
-    /// value is a number, it lies within 64 bits, whether the copy succeeds or not. If the copy succeeds,
-    /// every set and every map in it, at any depth, ascends; of a value that is not copied to its end
-    /// nothing is said of what lies inside.
-    #[cycle(copying)]
-    #[tactic(auto, using(crate::proofs::Falls::most_items, crate::proofs::Falls::most_entries))]
-    pub fn try_copy(&self, alloc: Global) -> Result<Self, AllocError>
+    /// What every value keeps: its sets and maps ascend, at any depth. Does nothing.
+    pub fn canonical_law(&self)
+        ensures { IsCanonical self.now }
+    {
+        let _form = &self.form;
+    }
+
+    /// The same value once more, which shares its collections with this one. Costs the same whatever the
+    /// value holds, and takes no memory. A number lies within 64 bits, and every set and every map in the
+    /// value, at any depth, ascends, whether the copy succeeds or not.
+    pub fn try_copy(&self) -> Result<Self, AllocError>
         ensures equal { IfOk result (λ v. v ≡ self.now) }
         ensures within { is_within self.now ≡ true }
-        ensures ascending { IfOk result IsCanonical }
+        ensures ascending { IsCanonical self.now }
     {
-        match &self.form {
-            ValueForm::Number(n) => Ok(Value::number(*n)),
-            ValueForm::Truth(b) => Ok(Value::truth(*b)),
-            ValueForm::Constant(index) => Ok(Value::constant(*index)),
-            ValueForm::Tuple(parts) => Ok(Value::tuple(copy_values(alloc, parts)?)),
-            ValueForm::Sequence(items) => Ok(Value::sequence(copy_values(alloc, items)?)),
-            ValueForm::Set(members) => Ok(Value::set(copy_values(alloc, members)?)),
-            ValueForm::Map(entries) => Ok(Value::map(copy_entries(alloc, entries)?)),
-        }
+        self.canonical_law();
+        let form = match &self.form {
+            ValueForm::Number(n) => ValueForm::Number(*n),
+            ValueForm::Truth(b) => ValueForm::Truth(*b),
+            ValueForm::Constant(index) => ValueForm::Constant(*index),
+            ValueForm::Tuple(parts) => ValueForm::Tuple(Arc::try_clone(parts)?),
+            ValueForm::Sequence(items) => ValueForm::Sequence(items.try_clone()?),
+            ValueForm::Set(members) => ValueForm::Set(Arc::try_clone(members)?),
+            ValueForm::Map(entries) => ValueForm::Map(Arc::try_clone(entries)?),
+        };
+        Ok(Value { form })
     }
 
     /// The position of the value's kind in the order of kinds.
@@ -193,7 +203,7 @@ impl Value {
     /// values of two kinds by their kinds, in the order of `ValueForm`.
     #[cycle(comparing)]
     #[tactic(auto, using(crate::proofs::Falls::most_items, crate::proofs::Falls::most_entries))]
-    fn compare(&self, other: &Self) -> Ordering
+    pub(crate) fn compare(&self, other: &Self) -> Ordering
         ensures { result ≡ data_cmp self.now other.now }
     {
         match (&self.form, &other.form) {
@@ -201,7 +211,7 @@ impl Value {
             (ValueForm::Truth(a), ValueForm::Truth(b)) => a.cmp(b),
             (ValueForm::Constant(k), ValueForm::Constant(l)) => k.cmp(l),
             (ValueForm::Tuple(xs), ValueForm::Tuple(ys)) => compare_values(xs, ys),
-            (ValueForm::Sequence(xs), ValueForm::Sequence(ys)) => compare_values(xs, ys),
+            (ValueForm::Sequence(xs), ValueForm::Sequence(ys)) => xs.compare(ys),
             (ValueForm::Set(xs), ValueForm::Set(ys)) => compare_values(xs, ys),
             (ValueForm::Map(xs), ValueForm::Map(ys)) => compare_entries(xs, ys),
             _ => self.kind().cmp(&other.kind()),
@@ -217,48 +227,34 @@ impl Value {
     }
 }
 
-/// Equal values with their own memory, in order.
+/// The same values once more, in order, each sharing its collections.
 pub fn copies(alloc: Global, values: &[Value]) -> Result<Vec<Value>, AllocError>
     ensures { IfOk result (λ v. v.items ≡ values.now) }
 {
     let mut items = Vec::new(alloc);
     for value in values {
-        items.push(value.try_copy(alloc)?)?;
+        items.push(value.try_copy()?)?;
     }
     Ok(items)
 }
 
-/// Copies of values, in order.
-#[cycle(copying)]
-#[tactic(auto, using(crate::proofs::AllOf::all_pushed))]
-fn copy_values(alloc: Global, values: &Vec<Value>) -> Result<Vec<Value>, AllocError>
-    ensures equal { IfOk result (λ v. v.items ≡ values.now.items) }
-    ensures ascending { IfOk result (λ v. AllCanonical v.items) }
+/// What every value of a list keeps; changes nothing.
+fn canonical_values(values: &Vec<Value>)
+    ensures { AllCanonical values.now.items }
 {
-    let mut copies = Vec::new(alloc);
     for value in values {
-        let copy = value.try_copy(alloc)?;
-        copies.push(copy)?;
+        value.canonical_law();
     }
-    Ok(copies)
 }
 
-/// Copies of entries, in order.
-#[cycle(copying)]
-fn copy_entries(
-    alloc: Global,
-    entries: &Vec<(Value, Value)>,
-) -> Result<Vec<(Value, Value)>, AllocError>
-    ensures equal { IfOk result (λ v. v.items ≡ entries.now.items) }
-    ensures ascending { IfOk result (λ v. AllEntriesCanonical v.items) }
+/// What every entry of a list keeps; changes nothing.
+fn canonical_entries(entries: &Vec<(Value, Value)>)
+    ensures { AllEntriesCanonical entries.now.items }
 {
-    let mut copies = Vec::new(alloc);
     for (key, value) in entries {
-        let key = key.try_copy(alloc)?;
-        let value = value.try_copy(alloc)?;
-        copies.push((key, value))?;
+        key.canonical_law();
+        value.canonical_law();
     }
-    Ok(copies)
 }
 
 /// The order of lists of values: the first two items that differ decide, and else the lengths.

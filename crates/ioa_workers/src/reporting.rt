@@ -189,8 +189,8 @@ fn show_items(alloc: Global, names: &Names, queue: &Queue) -> Result<String, All
         let text = show_node_action(alloc, names, stimulus)?;
         push_listed(&mut list, position, text.as_str())?;
     }
-    for (position, message) in messages.iter().enumerate() {
-        let text = show(alloc, names, message)?;
+    for position in 0..messages.len() {
+        let text = show(alloc, names, messages.at(position))?;
         push_listed(&mut list, stimuli.len() + position, text.as_str())?;
     }
     Ok(list)

@@ -285,7 +285,7 @@ fn a_schedule_is_projected(rt: HostRuntime) -> Result<(), Fail> {
 #[test]
 fn queues_hand_out_their_first(rt: HostRuntime) -> Result<(), Fail> {
     let alloc = rt.alloc();
-    let queue = Queue::empty(alloc, Component::Channel { from: 0, to: 1 });
+    let queue = Queue::empty(Component::Channel { from: 0, to: 1 });
     let queue = queue.after_send(alloc, Value::number(7))?;
     let queue = queue.after_send(alloc, Value::number(8))?;
     assert_eq!(rt; queue.len(), 2);

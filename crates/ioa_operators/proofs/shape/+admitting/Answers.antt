@@ -1,5 +1,7 @@
-use Rattle.std.proofs.Common.{◌≡◌, min, length, arith}
-use Rattle.ioa_operators.proofs.ShapeLists.{have_shapes_ended}
+use Rattle.std.proofs.Common.{◌≡◌, ◌∙◌, true, false, min, length, sym, arith, rules}
+use Rattle.ioa_operators.specs.Shapes.{has_shape, wide_shape_if}
+use Rattle.ioa_operators.specs.ShapeKinds.{AdmitsKind}
+use Rattle.ioa_operators.proofs.ShapeLists.{all_of_kind, have_shapes_ended, one_lacks, others_have}
 use Rattle.ioa_operators.proofs.shape.+admitting.Goals as goal
 
 -- the shorter list has ended
@@ -8,3 +10,21 @@ each_fits-returns t c =
     let at_end : c.loop-position.position ≡ min (length c.args.shapes.now.items) (length c.args.values.now.items) = omega arith in
     let ended = have_shapes_ended c.args.negative c.args.shapes.now.items c.args.values.now.items c.loop-position.position at_end in
     cc (c.args.shapes.now.ok.0, c.args.values.now.ok.0)
+
+pub all_items_fit-returns-then-fits_kind : goal.all_items_fit-returns-then-fits_kind
+all_items_fit-returns-then-fits_kind t c =
+    let shape = wide_shape_if c.args.negative c.args.shape.now in
+    let admits : AdmitsKind shape c.kind.result = c.fits_kind.ensures c.if-fits_kind.true in
+    sym (all_of_kind shape c.kind.result c.args.items.now admits c.kind.ensures)
+
+pub all_items_fit-returns-then-not-fits : goal.all_items_fit-returns-then-not-fits
+all_items_fit-returns-then-not-fits t c =
+    let shape = wide_shape_if c.args.negative c.args.shape.now in
+    let lacks : has_shape shape c.at.result.now ≡ false = search rules in
+    sym (c.loop-position.invariant ∙ one_lacks shape c.args.items.now c.loop-position.position c.at.result.now c.at.ensures lacks)
+
+pub all_items_fit-loop-position-preserved : goal.all_items_fit-loop-position-preserved
+all_items_fit-loop-position-preserved t c =
+    let shape = wide_shape_if c.args.negative c.args.shape.now in
+    let has : has_shape shape c.at.result.now ≡ true = search rules in
+    c.loop-position.invariant ∙ others_have shape c.args.items.now c.loop-position.position c.at.result.now c.at.ensures has

@@ -14,6 +14,11 @@ invariant-all_fit-loop-value l =
     all_have (wide_shape_if l.negative l.shape) (items_of l.values.items)
     ≡ all_have (wide_shape_if l.negative l.shape) (items_of (drop l.value-index l.values.items))
 
+abbrev pub invariant-all_items_fit-loop-position : goal.invariant-all_items_fit-loop-position
+invariant-all_items_fit-loop-position l =
+    all_have (wide_shape_if l.negative l.shape) (items_of l.items)
+    ≡ all_have (wide_shape_if l.negative l.shape) (items_of (drop l.position l.items))
+
 abbrev pub invariant-Shape::fits-loop-key : goal.invariant-Shape::fits-loop-key
 invariant-Shape::fits-loop-key l =
     has_shape (wide_shape_if l.negative l.self) l.value

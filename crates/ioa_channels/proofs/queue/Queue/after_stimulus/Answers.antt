@@ -4,5 +4,5 @@ use Rattle.ioa_channels.proofs.queue.Queue.after_stimulus.Goals as goal
 
 pub returns-in-empty : goal.returns-in-empty
 returns-in-empty c =
-    let none : length c.self.inside.stimuli.items < 1 = search rules in
-    inr (rw (← c.self.view_is, no_stimulus c.args.action.now c.self.inside.stimuli.items c.self.inside.messages.items none) refl)
+    let none : length c.self.inside.stimuli < 1 = search rules in
+    inr (rw (← c.self.view_is, no_stimulus c.args.action.now c.self.inside.stimuli c.self.inside.messages none) refl)

@@ -1,0 +1,83 @@
+-- How two lists of items compare, one item after another.
+use Rattle.std.proofs.Common.{◌≡◌, ◌∙◌, ℕ, zero, suc, ◌+◌, ◌<◌, ◌++◌, List, [], ◌∷◌, Option, Some, None, Bool, ◌&&◌, length, drop, true, false, refl, sym, ap, add-one, arith}
+use Rattle.std.specs.Prelude.{slice_get}
+use Rattle.std.specs.Option.{IfSome}
+use lib.Pointwise.{pointwise}
+use Rattle.std.specs.Ordering.{is_eq, ordering_then}
+use Rattle.std.specs.declared.cmp.Ordering.{Ordering}
+use Rattle.std.specs.declared.cmp.Ordering.TheVariants.{Less, Equal, Greater}
+use Rattle.ioa_values.specs.Data.{Data, items_of}
+use Rattle.ioa_values.specs.Collections.{is_member}
+use Rattle.ioa_values.specs.DataOrder.{data_cmp, items_cmp, same, then_equal, then_then}
+
+-- an item and what is behind it
+drop_next : {A : Type 0} (xs : List A) (i : ℕ) (x : A) → slice_get xs i ≡ Some x → drop i xs ≡ x ∷ drop (suc i) xs
+drop_next [] i x h = absurd (cc)
+drop_next (y ∷ xs) zero x h = let same : y ≡ x = cc in rw (← same) refl
+drop_next (y ∷ xs) (suc i) x h = drop_next xs i x h
+
+pub drop_from : {A : Type 0} (xs : List A) (i : ℕ) (x : A) → slice_get xs i ≡ Some x → drop i xs ≡ x ∷ drop (i + 1) xs
+drop_from xs i x h = rw add-one (drop_next xs i x h)
+
+left_out : (o r : Ordering) → o ≡ Equal → ordering_then o r ≡ r
+left_out o r e = rw e refl
+
+decided : (o r : Ordering) → (o ≡ Equal → ⊥) → ordering_then o r ≡ o
+decided Less r h = refl
+decided Equal r h = absurd (h refl)
+decided Greater r h = refl
+
+-- two equal items decide nothing
+pub items_alike : (xs ys : List Data) (i : ℕ) (x y : Data) → slice_get xs i ≡ Some x → slice_get ys i ≡ Some y → data_cmp x y ≡ Equal →
+    items_cmp (items_of (drop i xs)) (items_of (drop i ys)) ≡ items_cmp (items_of (drop (i + 1) xs)) (items_of (drop (i + 1) ys))
+items_alike xs ys i x y h k e =
+    rw (drop_from xs i x h, drop_from ys i y k) (left_out (data_cmp x y) (items_cmp (items_of (drop (i + 1) xs)) (items_of (drop (i + 1) ys))) e)
+
+-- two others decide
+pub items_apart : (xs ys : List Data) (i : ℕ) (x y : Data) → slice_get xs i ≡ Some x → slice_get ys i ≡ Some y → (data_cmp x y ≡ Equal → ⊥) →
+    items_cmp (items_of (drop i xs)) (items_of (drop i ys)) ≡ data_cmp x y
+items_apart xs ys i x y h k n =
+    rw (drop_from xs i x h, drop_from ys i y k) (decided (data_cmp x y) (items_cmp (items_of (drop (i + 1) xs)) (items_of (drop (i + 1) ys))) n)
+
+-- an item is the value, or one behind it may be
+pub member_here : (d : Data) (xs : List Data) (i : ℕ) (x : Data) → slice_get xs i ≡ Some x → same d x ≡ true → is_member d (drop i xs) ≡ true
+member_here d xs i x h e = rw (drop_from xs i x h, e) refl
+
+pub member_later : (d : Data) (xs : List Data) (i : ℕ) (x : Data) → slice_get xs i ≡ Some x → same d x ≡ false → is_member d (drop i xs) ≡ is_member d (drop (i + 1) xs)
+member_later d xs i x h e = rw (drop_from xs i x h, e) refl
+
+-- two lists are the same if the order finds them equal
+both_equal : (o p : Ordering) → is_eq (ordering_then o p) ≡ (is_eq o && is_eq p)
+both_equal Less p = refl
+both_equal Equal p = refl
+both_equal Greater p = refl
+
+pub same_by_order : (xs ys : List Data) → pointwise same xs ys ≡ is_eq (items_cmp (items_of xs) (items_of ys))
+same_by_order [] [] = refl
+same_by_order [] (y ∷ ys) = refl
+same_by_order (x ∷ xs) [] = refl
+same_by_order (x ∷ xs) (y ∷ ys) = ap (λ (b : Bool). same x y && b) (same_by_order xs ys) ∙ sym (both_equal (data_cmp x y) (items_cmp (items_of xs) (items_of ys)))
+
+-- lists in two parts, of which the first two are as long, compare part by part
+pub parts_order : (xs ys more others : List Data) → length xs ≡ length ys →
+    items_cmp (items_of (xs ++ more)) (items_of (ys ++ others)) ≡ ordering_then (items_cmp (items_of xs) (items_of ys)) (items_cmp (items_of more) (items_of others))
+parts_order [] [] more others h = refl
+parts_order [] (y ∷ ys) more others h = absurd (omega arith)
+parts_order (x ∷ xs) [] more others h = absurd (omega arith)
+parts_order (x ∷ xs) (y ∷ ys) more others h =
+    ap (ordering_then (data_cmp x y)) (parts_order xs ys more others (omega arith))
+    ∙ sym (then_then (data_cmp x y) (items_cmp (items_of xs) (items_of ys)) (items_cmp (items_of more) (items_of others)))
+
+pub one_order : (x y : Data) → items_cmp (items_of (x ∷ [])) (items_of (y ∷ [])) ≡ data_cmp x y
+one_order x y = then_equal (data_cmp x y)
+
+-- if the first parts are as long, they decide if they are not alike, and else what is behind them does
+pub told_behind : (told : Option Ordering) (xs ys more others : List Data) → length xs ≡ length ys → items_cmp (items_of xs) (items_of ys) ≡ Equal →
+    IfSome told (λ o. o ≡ items_cmp (items_of more) (items_of others)) → IfSome told (λ o. o ≡ items_cmp (items_of (xs ++ more)) (items_of (ys ++ others)))
+told_behind None xs ys more others h e t = tt
+told_behind (Some o) xs ys more others h e t =
+    t ∙ sym (parts_order xs ys more others h ∙ left_out (items_cmp (items_of xs) (items_of ys)) (items_cmp (items_of more) (items_of others)) e)
+
+pub told_first : (o : Ordering) (xs ys more others : List Data) → length xs ≡ length ys → (o ≡ Equal → ⊥) → o ≡ items_cmp (items_of xs) (items_of ys) → o ≡ items_cmp (items_of (xs ++ more)) (items_of (ys ++ others))
+told_first o xs ys more others h n t =
+    t ∙ sym (parts_order xs ys more others h ∙ decided (items_cmp (items_of xs) (items_of ys)) (items_cmp (items_of more) (items_of others)) (λ e. n (t ∙ e)))

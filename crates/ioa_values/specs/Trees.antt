@@ -1,0 +1,24 @@
+-- What a tree of items means (view), and what it keeps (form).
+use Rattle.std.specs.Prelude.{◌≡◌, ℕ, ◌+◌, List, [], ◌∷◌, ◌++◌, length}
+use Rattle.ioa_values.specs.Canonical.{IsCanonical}
+use Rattle.ioa_values.specs.Data.{Data}
+use Rattle.ioa_values.specs.ItemKinds.{AreOfKind}
+use Rattle.ioa_values.specs.ItemLists.{AreItems}
+use Rattle.ioa_values.specs.declared.item_kind.ItemKind.{ItemKind}
+use Rattle.ioa_values.specs.declared.tree.TreeForm.{TreeForm}
+use Rattle.ioa_values.specs.declared.tree.TreeForm.TheVariants.{Item, Pair}
+
+abbrev pub tree_items : TreeForm → List Data
+tree_items (Item d) = d ∷ []
+tree_items (Pair left right len kind is_link) = left.value ++ right.value
+
+-- both trees have items, the number is how many there are in both, and all of these are of the kind
+pub record ArePaired (left right : List Data) (len : ℕ) (kind : ItemKind) : Type 0 where
+  pub counted : len ≡ length left + length right
+  pub of_kind : AreOfKind kind (left ++ right)
+  pub left_items : AreItems left
+  pub right_items : AreItems right
+
+abbrev pub IsTree : TreeForm → Type 0
+IsTree (Item d) = IsCanonical d
+IsTree (Pair left right len kind is_link) = ArePaired left.value right.value len kind

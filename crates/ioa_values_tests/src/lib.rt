@@ -1,0 +1,7 @@
+//! Tests of values that share their parts.
+#![tactic(auto)]
+
+#[cfg(test)]
+mod sequences;
+#[cfg(test)]
+mod sets;
