@@ -8,11 +8,10 @@ use Rattle.ioa_compose.proofs.Deliveries.{hands_out_prefix, takes_in_order}
 use Rattle.ioa_compose.proofs.Projections.{replay_projects, replays}
 use Rattle.ioa_book.specs.Books.{IsKept, plain_book, states_after}
 use Rattle.ioa_book.specs.BookLaws.{IsLawful}
-use Rattle.ioa_book.specs.Versions.{read_confs}
-use Rattle.ioa_book.specs.declared.versioned.VersionedConf.{VersionedConf}
+use Rattle.ioa_book.specs.Versions.{PlainVersionedConf, read_confs}
 use Rattle.ioa_book.proofs.Commits.{held_is}
 
-pub lawful : (start : List Conf) (held : List VersionedConf) (indexed : List Component) (log : List Action) (limit : ℕ) → IsKept start held indexed log limit → IsLawful (plain_book start log limit)
+pub lawful : (start : List Conf) (held : List PlainVersionedConf) (indexed : List Component) (log : List Action) (limit : ℕ) → IsKept start held indexed log limit → IsLawful (plain_book start log limit)
 lawful start held indexed log limit kept =
     let leads : replay log start ≡ Some (states_after start log) = rw (held_is start (read_confs held) log kept.replayed) kept.replayed in
     record {

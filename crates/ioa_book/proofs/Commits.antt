@@ -1,5 +1,5 @@
 -- What a commit that is accepted leaves.
-use Rattle.std.proofs.Common.{◌≡◌, ◌+◌, ◌≤◌, ◌<◌, ℕ, Bool, true, false, ℤ, List, [], ◌∷◌, ◌++◌, Option, Some, None, Ok, if◌then◌else◌, refl, sym, ap, subst, ◌∙◌, map, length, arith}
+use Rattle.std.proofs.Common.{◌≡◌, ◌≤◌, ◌<◌, ℕ, Bool, true, false, ℤ, List, [], ◌∷◌, ◌++◌, Option, Some, None, Ok, if◌then◌else◌, refl, sym, ap, subst, ◌∙◌, map, length, arith}
 use Rattle.std.specs.Prelude.{filter, is_none, is_some, nat_lt, slice_get}
 use Rattle.std.specs.List.{list_any, position_from}
 use Rattle.std.specs.Option.{option_map, option_or, unwrap_or}
@@ -23,10 +23,9 @@ use Rattle.ioa_book.specs.Books.{IsKept, PlainBook, held_of, look_answer, plain_
 use Rattle.ioa_book.specs.Commits.{IsCommitted, differs_by, first_refusal, full, refusal_by, refusal_of, unknown_by}
 use Rattle.ioa_book.specs.Proposals.{IsTrueProposal, plain_proposal}
 use Rattle.ioa_book.specs.Slots.{items_at, put_all_held, raise_at}
-use Rattle.ioa_book.specs.Versions.{read_component, read_confs, with_version}
+use Rattle.ioa_book.specs.Versions.{PlainVersionedConf, read_component, read_confs, with_version}
 use Rattle.ioa_book.specs.declared.outcome.Refusal.TheVariants.{Differs, Full}
 use Rattle.ioa_book.specs.declared.standing.Test.TheVariants.{Known, Current, Same}
-use Rattle.ioa_book.specs.declared.versioned.VersionedConf.{VersionedConf}
 use Rattle.ioa_book.proofs.Lookups.{found_at, held_components, none_found, own_read}
 use Rattle.ioa_book.proofs.Puts.{put_all_versions}
 use Rattle.ioa_book.proofs.Raises.{raised}
@@ -58,7 +57,7 @@ room_left b h = by_test (nat_lt (length b.log) b.limit) refl h
     by_test false e g = absurd (cc)
 
 -- what nothing is against is as it is held
-one_held : (b : PlainBook) (r : VersionedConf) (k : Component) (o : Option Conf) → unknown_by r (option_map (with_version b.log) o) ≡ None → differs_by r (option_map (with_version b.log) o) ≡ None → o ≡ Some r.conf
+one_held : (b : PlainBook) (r : PlainVersionedConf) (k : Component) (o : Option Conf) → unknown_by r (option_map (with_version b.log) o) ≡ None → differs_by r (option_map (with_version b.log) o) ≡ None → o ≡ Some r.conf
 one_held b r k None h g = absurd (cc)
 one_held b r k (Some c) h g = by_test (same_conf r.conf c) refl g
   where
@@ -66,7 +65,7 @@ one_held b r k (Some c) h g = by_test (same_conf r.conf c) refl g
     by_test true e g = ap Some (sym ((same_conf_is r.conf c).0 e))
     by_test false e g = absurd (cc)
 
-all_held : (b : PlainBook) (rs : List VersionedConf) → first_refusal Known b rs ≡ None → first_refusal Same b rs ≡ None → find_confs (map read_component rs) (states_held b) ≡ map Some (read_confs rs)
+all_held : (b : PlainBook) (rs : List PlainVersionedConf) → first_refusal Known b rs ≡ None → first_refusal Same b rs ≡ None → find_confs (map read_component rs) (states_held b) ≡ map Some (read_confs rs)
 all_held b [] h g = refl
 all_held b (r ∷ rs) h g =
     let known = none_first (refusal_by Known r (held_of b (read_component r))) (first_refusal Known b rs) h in
@@ -74,7 +73,7 @@ all_held b (r ∷ rs) h g =
     λ i. one_held b r (read_component r) (find_conf (read_component r) (states_held b)) known.0 same.0 i ∷ all_held b rs known.1 same.1 i
 
 -- the step of a proposal that nothing is against is the joint step of its action
-pub step_made : (b : PlainBook) (a entry : Action) (rs : List VersionedConf) (changed : List Conf) → IsTrueProposal a entry rs changed → refusal_of b rs ≡ None → joint_answer a (states_held b) ≡ Ok (put_confs changed (states_held b))
+pub step_made : (b : PlainBook) (a entry : Action) (rs : List PlainVersionedConf) (changed : List Conf) → IsTrueProposal a entry rs changed → refusal_of b rs ≡ None → joint_answer a (states_held b) ≡ Ok (put_confs changed (states_held b))
 step_made b a entry rs changed true_proposal accepted =
     let first = none_first (first_refusal Known b rs) (option_or (first_refusal Current b rs) (option_or (first_refusal Same b rs) (full b))) accepted in
     let second = none_first (first_refusal Current b rs) (option_or (first_refusal Same b rs) (full b)) first.1 in
@@ -84,7 +83,7 @@ step_made b a entry rs changed true_proposal accepted =
     rw (same, no_absent (read_confs rs), true_proposal.steps) refl
 
 -- it leaves room for its action
-pub room_for : (b : PlainBook) (rs : List VersionedConf) → refusal_of b rs ≡ None → length b.log < b.limit
+pub room_for : (b : PlainBook) (rs : List PlainVersionedConf) → refusal_of b rs ≡ None → length b.log < b.limit
 room_for b rs accepted =
     let first = none_first (first_refusal Known b rs) (option_or (first_refusal Current b rs) (option_or (first_refusal Same b rs) (full b))) accepted in
     let second = none_first (first_refusal Current b rs) (option_or (first_refusal Same b rs) (full b)) first.1 in
@@ -92,7 +91,7 @@ room_for b rs accepted =
     room_left b third.1
 
 -- a book in which nothing is recorded yet
-pub kept_new : (start : List Conf) (held : List VersionedConf) (indexed : List Component) (log : List Action) (limit : ℕ) → log ≡ [] → held ≡ map (with_version []) start → indexed ≡ component_names start → limit ≤ 1000000 → IsKept start held indexed log limit
+pub kept_new : (start : List Conf) (held : List PlainVersionedConf) (indexed : List Component) (log : List Action) (limit : ℕ) → log ≡ [] → held ≡ map (with_version []) start → indexed ≡ component_names start → limit ≤ 1000000 → IsKept start held indexed log limit
 kept_new start held indexed log limit none first components small =
     let confs : read_confs held ≡ start = ap read_confs first ∙ confs_among [] start in
     rw none (record {
@@ -103,14 +102,14 @@ kept_new start held indexed log limit none first components small =
       limited = small;
     })
 
-module _ (start : List Conf) (held : List VersionedConf) (indexed : List Component) (log : List Action) (limit : ℕ) (kept : IsKept start held indexed log limit) where
+module _ (start : List Conf) (held : List PlainVersionedConf) (indexed : List Component) (log : List Action) (limit : ℕ) (kept : IsKept start held indexed log limit) where
   states : states_after start log ≡ read_confs held
   states = held_is start (read_confs held) log kept.replayed
 
   -- what the book holds of a component is in its slot
   pub some_held : (k : Component) (m : ℕ) → Some m ≡ position_from (λ j. same_component k j) 0 indexed → slice_get held m ≡ held_of (plain_book start log limit) k
   some_held k m found =
-      rw states (ap (λ (hs : List VersionedConf). slice_get hs m) kept.versions ∙ found_at log k (read_confs held) m (rw kept.components at (sym found)))
+      rw states (ap (λ (hs : List PlainVersionedConf). slice_get hs m) kept.versions ∙ found_at log k (read_confs held) m (rw kept.components at (sym found)))
 
   pub none_held : (k : Component) → None ≡ position_from (λ j. same_component k j) 0 indexed → None ≡ held_of (plain_book start log limit) k
   none_held k found = rw states (none_found log k (read_confs held) (rw kept.components at (sym found)))
@@ -118,11 +117,11 @@ module _ (start : List Conf) (held : List VersionedConf) (indexed : List Compone
   -- what is in the slots of a node is what a look at it reads
   own_held : (n : ℤ) → items_at (own_slots n 0 indexed) held ≡ map (with_version log) (filter (λ c. concerns n (component_of c)) (states_after start log))
   own_held n =
-      rw states (ap (λ (hs : List VersionedConf). items_at (own_slots n 0 indexed) hs) kept.versions
+      rw states (ap (λ (hs : List PlainVersionedConf). items_at (own_slots n 0 indexed) hs) kept.versions
       ∙ ap (λ (ks : List Component). items_at (own_slots n 0 ks) (map (with_version log) (read_confs held))) kept.components
       ∙ own_read n log (read_confs held))
 
-  pub look_made : (n : ℤ) (l : ℕ) (rs : List VersionedConf) → is_some (held_of (plain_book start log limit) (Node n)) ≡ true → l ≡ length log → rs ≡ items_at (own_slots n 0 indexed) held →
+  pub look_made : (n : ℤ) (l : ℕ) (rs : List PlainVersionedConf) → is_some (held_of (plain_book start log limit) (Node n)) ≡ true → l ≡ length log → rs ≡ items_at (own_slots n 0 indexed) held →
       look_answer (plain_book start log limit) n ≡ Ok (plain_snapshot n l rs)
   look_made n l rs there long found = rw (there, long, found, own_held n) refl
 
@@ -131,12 +130,12 @@ module _ (start : List Conf) (held : List VersionedConf) (indexed : List Compone
   raised_components a =
       let small : length log ≤ 1000000 = omega (arith, kept.within, kept.limited) in
       let all : raise_at a (own_slots (node_of a) 0 indexed) held ≡ map (with_version (log ++ a ∷ [])) (read_confs held) =
-      ap (λ (hs : List VersionedConf). raise_at a (own_slots (node_of a) 0 indexed) hs) kept.versions
+      ap (λ (hs : List PlainVersionedConf). raise_at a (own_slots (node_of a) 0 indexed) hs) kept.versions
       ∙ ap (λ (ks : List Component). raise_at a (own_slots (node_of a) 0 ks) (map (with_version log) (read_confs held))) kept.components
       ∙ raised a log small (read_confs held) in
-      kept.components ∙ sym (ap (λ (hs : List VersionedConf). map read_component hs) all ∙ held_components (log ++ a ∷ []) (read_confs held))
+      kept.components ∙ sym (ap (λ (hs : List PlainVersionedConf). map read_component hs) all ∙ held_components (log ++ a ∷ []) (read_confs held))
 
-  module _ (a entry : Action) (rs : List VersionedConf) (changed : List Conf) (true_proposal : IsTrueProposal a entry rs changed) (accepted : refusal_of (plain_book start log limit) rs ≡ None) where
+  module _ (a entry : Action) (rs : List PlainVersionedConf) (changed : List Conf) (true_proposal : IsTrueProposal a entry rs changed) (accepted : refusal_of (plain_book start log limit) rs ≡ None) where
     abbrev pub confs : List Conf
     confs = read_confs held
 
@@ -154,8 +153,8 @@ module _ (start : List Conf) (held : List VersionedConf) (indexed : List Compone
     held_then =
         let small : length log ≤ 1000000 = omega (arith, kept.within, kept.limited) in
         subst (λ (ks : List Component). put_all_held changed (raise_at a (own_slots (node_of a) 0 ks) held) ≡ map (with_version (log ++ a ∷ [])) (put_confs changed confs)) (sym kept.components)
-        (ap (λ (hs : List VersionedConf). put_all_held changed (raise_at a (own_slots (node_of a) 0 (component_names confs)) hs)) kept.versions
-        ∙ ap (λ (hs : List VersionedConf). put_all_held changed hs) (raised a log small confs)
+        (ap (λ (hs : List PlainVersionedConf). put_all_held changed (raise_at a (own_slots (node_of a) 0 (component_names confs)) hs)) kept.versions
+        ∙ ap (λ (hs : List PlainVersionedConf). put_all_held changed hs) (raised a log small confs)
         ∙ put_all_versions (log ++ a ∷ []) changed confs)
 
     -- the law of the book holds of it

@@ -12,11 +12,10 @@ use Rattle.ioa_compose.specs.Composition.{find_conf, own_steps}
 use Rattle.ioa_compose.specs.Participants.{participants_of}
 use Rattle.ioa_book.specs.Books.{PlainSnapshot}
 use Rattle.ioa_book.specs.Proposals.{find_read, plain_proposal, step_answer}
-use Rattle.ioa_book.specs.Versions.{read_component, read_confs}
-use Rattle.ioa_book.specs.declared.versioned.VersionedConf.{VersionedConf}
+use Rattle.ioa_book.specs.Versions.{PlainVersionedConf, read_component, read_confs}
 
 -- what was read of a component is of that component
-pub found_component : (k : Component) (rs : List VersionedConf) (r : VersionedConf) → find_read k rs ≡ Some r → read_component r ≡ k
+pub found_component : (k : Component) (rs : List PlainVersionedConf) (r : PlainVersionedConf) → find_read k rs ≡ Some r → read_component r ≡ k
 found_component k [] r h = absurd (cc)
 found_component k (x ∷ rs) r h = by_test (same_component k (read_component x)) refl h (λ g. found_component k rs r g)
   where
@@ -25,7 +24,7 @@ found_component k (x ∷ rs) r h = by_test (same_component k (read_component x))
     by_test false e g further = further g
 
 -- its configuration is the one that is found
-pub found_conf : (k : Component) (rs : List VersionedConf) → find_conf k (read_confs rs) ≡ option_map (λ r. r.conf) (find_read k rs)
+pub found_conf : (k : Component) (rs : List PlainVersionedConf) → find_conf k (read_confs rs) ≡ option_map (λ r. r.conf) (find_read k rs)
 found_conf k [] = refl
 found_conf k (x ∷ rs) = by_test (same_component k (read_component x)) (found_conf k rs)
   where
@@ -34,22 +33,22 @@ found_conf k (x ∷ rs) = by_test (same_component k (read_component x)) (found_c
     by_test false further = further
 
 -- what was read of the participants bears their names
-pub found_part : (a : Action) (k : Component) (rs : List VersionedConf) (r : VersionedConf) → participants_of a ≡ k ∷ [] → Some r ≡ find_read k rs → participants_of a ≡ read_component r ∷ []
+pub found_part : (a : Action) (k : Component) (rs : List PlainVersionedConf) (r : PlainVersionedConf) → participants_of a ≡ k ∷ [] → Some r ≡ find_read k rs → participants_of a ≡ read_component r ∷ []
 found_part a k rs r parts found = parts ∙ ap (λ (j : Component). j ∷ []) (sym (found_component k rs r (sym found)))
 
-pub found_first : (a : Action) (k j : Component) (rs : List VersionedConf) (q : VersionedConf) → participants_of a ≡ k ∷ j ∷ [] → Some q ≡ find_read k rs → participants_of a ≡ read_component q ∷ j ∷ []
+pub found_first : (a : Action) (k j : Component) (rs : List PlainVersionedConf) (q : PlainVersionedConf) → participants_of a ≡ k ∷ j ∷ [] → Some q ≡ find_read k rs → participants_of a ≡ read_component q ∷ j ∷ []
 found_first a k j rs q parts found = parts ∙ ap (λ (i : Component). i ∷ j ∷ []) (sym (found_component k rs q (sym found)))
 
-pub found_second : (a : Action) (k j : Component) (rs : List VersionedConf) (r : VersionedConf) → participants_of a ≡ k ∷ j ∷ [] → Some r ≡ find_read j rs → participants_of a ≡ k ∷ read_component r ∷ []
+pub found_second : (a : Action) (k j : Component) (rs : List PlainVersionedConf) (r : PlainVersionedConf) → participants_of a ≡ k ∷ j ∷ [] → Some r ≡ find_read j rs → participants_of a ≡ k ∷ read_component r ∷ []
 found_second a k j rs r parts found = parts ∙ ap (λ (i : Component). k ∷ i ∷ []) (sym (found_component j rs r (sym found)))
 
 -- and is found by its own name
-pub found_queue : (k : Component) (rs : List VersionedConf) (q : VersionedConf) → Some q ≡ find_read k rs → Some q ≡ find_read (read_component q) rs
+pub found_queue : (k : Component) (rs : List PlainVersionedConf) (q : PlainVersionedConf) → Some q ≡ find_read k rs → Some q ≡ find_read (read_component q) rs
 found_queue k rs q found = found ∙ ap (λ (i : Component). find_read i rs) (sym (found_component k rs q (sym found)))
 
 module _ (a : Action) (s : PlainSnapshot) where
   -- the proposal of an action in which a node alone takes part
-  pub alone : (k : Component) (r : VersionedConf) → participants_of a ≡ k ∷ [] → find_read k s.reads ≡ Some r →
+  pub alone : (k : Component) (r : PlainVersionedConf) → participants_of a ≡ k ∷ [] → find_read k s.reads ≡ Some r →
       step_answer a s ≡ and_then (own_steps a (Some r.conf ∷ [])) (λ ds. Ok (plain_proposal a s.length (r ∷ [])))
   alone k r parts found = rw (parts, found_conf k s.reads, found) refl
 
@@ -57,12 +56,12 @@ module _ (a : Action) (s : PlainSnapshot) where
   alone_missing k parts found = rw (parts, found_conf k s.reads, found) refl
 
   -- and of one in which a queue and a node take part
-  pub with_queue : (k j : Component) (q r : VersionedConf) → participants_of a ≡ k ∷ j ∷ [] → find_read k s.reads ≡ Some q → find_read j s.reads ≡ Some r →
+  pub with_queue : (k j : Component) (q r : PlainVersionedConf) → participants_of a ≡ k ∷ j ∷ [] → find_read k s.reads ≡ Some q → find_read j s.reads ≡ Some r →
       step_answer a s ≡ and_then (own_steps a (Some q.conf ∷ Some r.conf ∷ [])) (λ ds. Ok (plain_proposal a s.length (q ∷ r ∷ [])))
   with_queue k j q r parts first second = rw (parts, found_conf k s.reads, found_conf j s.reads, first, second) refl
 
   pub queue_missing : (k j : Component) → participants_of a ≡ k ∷ j ∷ [] → find_read k s.reads ≡ None → step_answer a s ≡ Err NoChannel
   queue_missing k j parts first = rw (parts, found_conf k s.reads, found_conf j s.reads, first) refl
 
-  pub node_missing : (k j : Component) (q : VersionedConf) → participants_of a ≡ k ∷ j ∷ [] → find_read k s.reads ≡ Some q → find_read j s.reads ≡ None → step_answer a s ≡ Err NoChannel
+  pub node_missing : (k j : Component) (q : PlainVersionedConf) → participants_of a ≡ k ∷ j ∷ [] → find_read k s.reads ≡ Some q → find_read j s.reads ≡ None → step_answer a s ≡ Err NoChannel
   node_missing k j q parts first second = rw (parts, found_conf k s.reads, found_conf j s.reads, first, second) refl

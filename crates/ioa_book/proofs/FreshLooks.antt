@@ -22,10 +22,9 @@ use Rattle.ioa_compose.proofs.SameConfs.{same_conf_is}
 use Rattle.ioa_book.specs.Books.{PlainBook, held_of, snapshot_after, states_held}
 use Rattle.ioa_book.specs.Commits.{first_refusal, full, refusal_by, refusal_of}
 use Rattle.ioa_book.specs.Proposals.{find_read, one_or_none, plain_proposal, proposal_answer, reads_at, reads_held}
-use Rattle.ioa_book.specs.Versions.{read_confs, with_version}
+use Rattle.ioa_book.specs.Versions.{PlainVersionedConf, read_confs, with_version}
 use Rattle.ioa_book.specs.declared.standing.Test.{Test}
 use Rattle.ioa_book.specs.declared.standing.Test.TheVariants.{Known, Current, Same}
-use Rattle.ioa_book.specs.declared.versioned.VersionedConf.{VersionedConf}
 use Rattle.ioa_book.proofs.Commits.{confs_among}
 use Rattle.ioa_book.proofs.FoundReads.{found_conf}
 
@@ -63,7 +62,7 @@ conf_of_read log (Some c) = refl
 pub conf_seen : (b : PlainBook) (n : ℤ) (k : Component) → concerns n k ≡ true → find_conf k (read_confs (snapshot_after n b.start b.log).reads) ≡ find_conf k (states_held b)
 conf_seen b n k own =
     found_conf k (snapshot_after n b.start b.log).reads
-    ∙ ap (λ (o : Option VersionedConf). option_map (λ r. r.conf) o) (read_seen n b.log k (states_held b) own)
+    ∙ ap (λ (o : Option PlainVersionedConf). option_map (λ r. r.conf) o) (read_seen n b.log k (states_held b) own)
     ∙ conf_of_read b.log (find_conf k (states_held b))
 
 or_true : (s t : Bool) → t ≡ true → (s || t) ≡ true

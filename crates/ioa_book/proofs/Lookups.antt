@@ -13,8 +13,7 @@ use Rattle.ioa_compose.specs.Composition.{component_names, component_of, find_co
 use Rattle.ioa_compose.specs.declared.configuration.Conf.{Conf}
 use Rattle.ioa_book.specs.Proposals.{one_or_none}
 use Rattle.ioa_book.specs.Slots.{items_at}
-use Rattle.ioa_book.specs.Versions.{read_component, with_version}
-use Rattle.ioa_book.specs.declared.versioned.VersionedConf.{VersionedConf}
+use Rattle.ioa_book.specs.Versions.{PlainVersionedConf, read_component, with_version}
 
 -- an item behind others is in the slot of their number
 pub get_behind : {A : Type 0} (front : List A) (x : A) (more : List A) → slice_get (front ++ x ∷ more) (length front) ≡ Some x
@@ -77,14 +76,14 @@ none_found log k cs h =
     ∙ held_found log k cs
 
 -- what is in the slots of a node is what the node has to do with
-own_items : (n : ℤ) (log : List Action) (front : List VersionedConf) (cs : List Conf) → items_at (own_slots n (length front) (component_names cs)) (front ++ map (with_version log) cs) ≡ map (with_version log) (filter (λ c. concerns n (component_of c)) cs)
+own_items : (n : ℤ) (log : List Action) (front : List PlainVersionedConf) (cs : List Conf) → items_at (own_slots n (length front) (component_names cs)) (front ++ map (with_version log) cs) ≡ map (with_version log) (filter (λ c. concerns n (component_of c)) cs)
 own_items n log front [] = refl
 own_items n log front (c ∷ cs) = by_test (concerns n (component_of c)) (own_items n log (front ++ with_version log c ∷ []) cs)
   where
-    all : List VersionedConf
+    all : List PlainVersionedConf
     all = front ++ with_version log c ∷ map (with_version log) cs
 
-    rest : List VersionedConf
+    rest : List PlainVersionedConf
     rest = map (with_version log) (filter (λ d. concerns n (component_of d)) cs)
 
     slots : List ℕ
@@ -99,7 +98,7 @@ own_items n log front (c ∷ cs) = by_test (concerns n (component_of c)) (own_it
       where
         by_case : (b : Bool) → items_at slots all ≡ rest →
             items_at (if b then length front ∷ slots else slots) all ≡ map (with_version log) (if b then c ∷ filter (λ d. concerns n (component_of d)) cs else filter (λ d. concerns n (component_of d)) cs)
-        by_case true moved = rw (get_behind front (with_version log c) (map (with_version log) cs)) (ap (λ (rs : List VersionedConf). with_version log c ∷ rs) moved)
+        by_case true moved = rw (get_behind front (with_version log c) (map (with_version log) cs)) (ap (λ (rs : List PlainVersionedConf). with_version log c ∷ rs) moved)
         by_case false moved = moved
 
 pub own_read : (n : ℤ) (log : List Action) (cs : List Conf) → items_at (own_slots n 0 (component_names cs)) (map (with_version log) cs) ≡ map (with_version log) (filter (λ c. concerns n (component_of c)) cs)

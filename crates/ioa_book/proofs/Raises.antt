@@ -1,5 +1,5 @@
 -- Versions rise as a component takes part in an action.
-use Rattle.std.proofs.Common.{◌≡◌, ◌+◌, ◌-◌, ◌≤◌, ◌<◌, ℕ, suc, Bool, true, false, List, [], ◌∷◌, ◌++◌, Option, if◌then◌else◌, refl, sym, ap, subst, ◌∙◌, map, length, set, get_or, append_assoc, arith}
+use Rattle.std.proofs.Common.{◌≡◌, ◌+◌, ◌≤◌, ◌<◌, ℕ, suc, Bool, true, false, List, [], ◌∷◌, ◌++◌, Option, if◌then◌else◌, refl, sym, ap, subst, ◌∙◌, map, length, set, get_or, append_assoc, arith}
 use Rattle.std.specs.Prelude.{◌&&◌, ◌||◌, filter, slice_get}
 use Rattle.std.specs.Ordering.{int_eq}
 use Rattle.std.proofs.Math.Seq.{set-append_seam}
@@ -16,8 +16,7 @@ use Rattle.ioa_compose.specs.Composition.{component_names, component_of}
 use Rattle.ioa_compose.specs.Participants.{takes_part}
 use Rattle.ioa_compose.specs.declared.configuration.Conf.{Conf}
 use Rattle.ioa_book.specs.Slots.{next_version, raise_at, raise_found, raise_one}
-use Rattle.ioa_book.specs.Versions.{read_component, version, with_version}
-use Rattle.ioa_book.specs.declared.versioned.VersionedConf.{VersionedConf}
+use Rattle.ioa_book.specs.Versions.{PlainVersionedConf, read_component, version, with_version}
 use Rattle.ioa_book.proofs.Lookups.{get_behind, one_more}
 
 -- the version after one more action
@@ -93,14 +92,14 @@ module _ (a : Action) (log : List Action) (small : length log ≤ 1000000) where
       by_test false t e = ap (λ (v : ℕ). record { conf = c; version = v }) (sym e)
 
   -- the versions of all components rise as they should, if those of the action's node are raised
-  own_raised : (front : List VersionedConf) (cs : List Conf) → raise_at a (own_slots (node_of a) (length front) (component_names cs)) (front ++ map (with_version log) cs) ≡ front ++ map (with_version after) cs
+  own_raised : (front : List PlainVersionedConf) (cs : List Conf) → raise_at a (own_slots (node_of a) (length front) (component_names cs)) (front ++ map (with_version log) cs) ≡ front ++ map (with_version after) cs
   own_raised front [] = refl
   own_raised front (c ∷ cs) = by_test (concerns (node_of a) (component_of c)) refl (own_raised (front ++ with_version after c ∷ []) cs)
     where
       slots : List ℕ
       slots = own_slots (node_of a) (suc (length front)) (component_names cs)
 
-      all : List VersionedConf
+      all : List PlainVersionedConf
       all = front ++ with_version log c ∷ map (with_version log) cs
 
       by_test : (b : Bool) → concerns (node_of a) (component_of c) ≡ b →
@@ -112,20 +111,20 @@ module _ (a : Action) (log : List Action) (small : length log ≤ 1000000) where
           by_case : (b : Bool) → concerns (node_of a) (component_of c) ≡ b → raise_at a slots (front ++ with_version after c ∷ map (with_version log) cs) ≡ front ++ with_version after c ∷ map (with_version after) cs →
               raise_at a (if b then length front ∷ slots else slots) all ≡ front ++ with_version after c ∷ map (with_version after) cs
           by_case true e moved =
-              ap (λ (o : Option VersionedConf). raise_at a slots (raise_found a (length front) o all)) (get_behind front (with_version log c) (map (with_version log) cs))
-              ∙ ap (λ (hs : List VersionedConf). raise_at a slots hs) (ap (λ (h : VersionedConf). set all (length front) h) (raised_one c) ∙ set-append_seam front (with_version log c) (map (with_version log) cs) (with_version after c))
+              ap (λ (o : Option PlainVersionedConf). raise_at a slots (raise_found a (length front) o all)) (get_behind front (with_version log c) (map (with_version log) cs))
+              ∙ ap (λ (hs : List PlainVersionedConf). raise_at a slots hs) (ap (λ (h : PlainVersionedConf). set all (length front) h) (raised_one c) ∙ set-append_seam front (with_version log c) (map (with_version log) cs) (with_version after c))
               ∙ moved
-          by_case false e moved = subst (λ (h : VersionedConf). raise_at a slots (front ++ h ∷ map (with_version log) cs) ≡ front ++ with_version after c ∷ map (with_version after) cs) (sym (unconcerned c e)) moved
+          by_case false e moved = subst (λ (h : PlainVersionedConf). raise_at a slots (front ++ h ∷ map (with_version log) cs) ≡ front ++ with_version after c ∷ map (with_version after) cs) (sym (unconcerned c e)) moved
 
   pub raised : (cs : List Conf) → raise_at a (own_slots (node_of a) 0 (component_names cs)) (map (with_version log) cs) ≡ map (with_version after) cs
   raised cs = own_raised [] cs
 
 -- a slot that is not there is not raised
-pub nothing_there : (a : Action) (held : List VersionedConf) (slot : ℕ) → length held ≤ slot → held ≡ raise_found a slot (slice_get held slot) held
+pub nothing_there : (a : Action) (held : List PlainVersionedConf) (slot : ℕ) → length held ≤ slot → held ≡ raise_found a slot (slice_get held slot) held
 nothing_there a held slot past = rw (slice_get_past held slot past) refl
 
 -- nor is a component that takes no part
-pub not_raised : (a : Action) (held : List VersionedConf) (slot : ℕ) (h : VersionedConf) → slot < length held → h ≡ get_or held slot h → takes_part (read_component h) a ≡ false → held ≡ raise_found a slot (slice_get held slot) held
+pub not_raised : (a : Action) (held : List PlainVersionedConf) (slot : ℕ) (h : PlainVersionedConf) → slot < length held → h ≡ get_or held slot h → takes_part (read_component h) a ≡ false → held ≡ raise_found a slot (slice_get held slot) held
 not_raised a held slot h within is e =
     rw (slice_get_read held (length held) slot h refl within is, e)
-    (subst (λ (x : VersionedConf). held ≡ set held slot x) (sym is) (sym (set-get_or held slot h)))
+    (subst (λ (x : PlainVersionedConf). held ≡ set held slot x) (sym is) (sym (set-get_or held slot h)))

@@ -13,21 +13,20 @@ use Rattle.ioa_compose.proofs.Components.{component_of-find_conf}
 use Rattle.ioa_compose.proofs.SameConfs.{same_conf_is}
 use Rattle.ioa_book.specs.Books.{PlainBook, held_of, states_held}
 use Rattle.ioa_book.specs.Commits.{StandsIn, differs_by, first_refusal, full, refusal_by, refusal_of, stale_by, unknown_by}
-use Rattle.ioa_book.specs.Versions.{read_component, version, with_version}
+use Rattle.ioa_book.specs.Versions.{PlainVersionedConf, read_component, version, with_version}
 use Rattle.ioa_book.specs.declared.outcome.Refusal.TheVariants.{Differs, Stale}
 use Rattle.ioa_book.specs.declared.standing.Test.{Test}
 use Rattle.ioa_book.specs.declared.standing.Test.TheVariants.{Known, Current, Same}
-use Rattle.ioa_book.specs.declared.versioned.VersionedConf.{VersionedConf}
 use Rattle.ioa_book.proofs.Commits.{none_first, room_left}
 
 -- the three tests have nothing against what was read
-record ArePassed (b : PlainBook) (r : VersionedConf) : Type 0 where
+record ArePassed (b : PlainBook) (r : PlainVersionedConf) : Type 0 where
   known : refusal_by Known r (held_of b (read_component r)) ≡ None
   current : refusal_by Current r (held_of b (read_component r)) ≡ None
   same : refusal_by Same r (held_of b (read_component r)) ≡ None
 
 -- so it stands
-stands_passed : (b : PlainBook) (r : VersionedConf) → ArePassed b r → StandsIn b r
+stands_passed : (b : PlainBook) (r : PlainVersionedConf) → ArePassed b r → StandsIn b r
 stands_passed b r passed = by_found (find_conf (read_component r) (states_held b)) refl passed.known passed.current passed.same
   where
     same_by : (c : Conf) (t : Bool) → same_conf r.conf c ≡ t → (if t then None else Some (Differs (read_component r))) ≡ None → r.conf ≡ c
@@ -47,7 +46,7 @@ stands_passed b r passed = by_found (find_conf (read_component r) (states_held b
         record { held = c; there = e; version_read = held ∙ ap (λ (d : Conf). version (component_of d) b.log) (sym one); conf_read = one }
 
 -- and what stands passes the tests
-passed_stands : (b : PlainBook) (r : VersionedConf) → StandsIn b r → (test : Test) → refusal_by test r (held_of b (read_component r)) ≡ None
+passed_stands : (b : PlainBook) (r : PlainVersionedConf) → StandsIn b r → (test : Test) → refusal_by test r (held_of b (read_component r)) ≡ None
 passed_stands b r s Known = rw s.there refl
 passed_stands b r s Current =
     let named : component_of s.held ≡ read_component r = component_of-find_conf (read_component r) (states_held b) s.held s.there in
@@ -56,11 +55,11 @@ passed_stands b r s Current =
     rw (s.there, equal) refl
 passed_stands b r s Same = rw (s.there, (same_conf_is r.conf s.held).1 s.conf_read) refl
 
-all_pass : (b : PlainBook) (rs : List VersionedConf) → AllByRecursion (StandsIn b) rs → (test : Test) → first_refusal test b rs ≡ None
+all_pass : (b : PlainBook) (rs : List PlainVersionedConf) → AllByRecursion (StandsIn b) rs → (test : Test) → first_refusal test b rs ≡ None
 all_pass b [] all test = refl
 all_pass b (r ∷ rs) all test = rw (passed_stands b r all.0 test, all_pass b rs all.1 test) refl
 
-all_stand : (b : PlainBook) (rs : List VersionedConf) → first_refusal Known b rs ≡ None → first_refusal Current b rs ≡ None → first_refusal Same b rs ≡ None → AllByRecursion (StandsIn b) rs
+all_stand : (b : PlainBook) (rs : List PlainVersionedConf) → first_refusal Known b rs ≡ None → first_refusal Current b rs ≡ None → first_refusal Same b rs ≡ None → AllByRecursion (StandsIn b) rs
 all_stand b [] h k l = tt
 all_stand b (r ∷ rs) h k l =
     let known = none_first (refusal_by Known r (held_of b (read_component r))) (first_refusal Known b rs) h in
@@ -72,7 +71,7 @@ all_stand b (r ∷ rs) h k l =
 not_full : (b : PlainBook) → length b.log < b.limit → full b ≡ None
 not_full b room = rw (lt-ltb (length b.log) b.limit room) refl
 
-pub stands_exactly : (b : PlainBook) (rs : List VersionedConf) → (refusal_of b rs ≡ None) ↔ (AllByRecursion (StandsIn b) rs × (length b.log < b.limit))
+pub stands_exactly : (b : PlainBook) (rs : List PlainVersionedConf) → (refusal_of b rs ≡ None) ↔ (AllByRecursion (StandsIn b) rs × (length b.log < b.limit))
 stands_exactly b rs = (forth, back)
   where
     forth : refusal_of b rs ≡ None → AllByRecursion (StandsIn b) rs × (length b.log < b.limit)

@@ -11,9 +11,7 @@ use Rattle.ioa_compose.specs.Composition.{component_names, component_of, find_co
 use Rattle.ioa_compose.specs.Executions.{replay}
 use Rattle.ioa_compose.specs.contracts.configuration.Conf as conf
 use Rattle.ioa_compose.specs.declared.configuration.Conf.{Conf}
-use Rattle.ioa_book.specs.Versions.{read_confs, with_version}
-use Rattle.ioa_book.specs.contracts.versioned.VersionedConf as versioned
-use Rattle.ioa_book.specs.declared.versioned.VersionedConf.{VersionedConf}
+use Rattle.ioa_book.specs.Versions.{PlainVersionedConf, versioned_conf_code, read_confs, with_version}
 use Rattle.ioa_book.specs.declared.outcome.LookFault.{LookFault}
 use Rattle.ioa_book.specs.declared.outcome.LookFault.TheVariants.{Unknown}
 
@@ -41,12 +39,12 @@ abbrev pub states_held : PlainBook → List Conf
 states_held b = states_after b.start b.log
 
 -- what a book holds of a component: its configuration, with its version
-abbrev pub held_of : PlainBook → Component → Option VersionedConf
+abbrev pub held_of : PlainBook → Component → Option PlainVersionedConf
 held_of b k = option_map (with_version b.log) (find_conf k (states_held b))
 
 -- the law of a book: its log replays from the start to the configurations held (Lynch 8.1), each has its version, the
 -- index is of their components, and the log is no longer than the limit, which is at most a million
-pub record IsKept (start : List Conf) (held : List VersionedConf) (indexed : List Component) (log : List Action)
+pub record IsKept (start : List Conf) (held : List PlainVersionedConf) (indexed : List Component) (log : List Action)
     (limit : ℕ) : Type 0 where
   pub replayed : replay log start ≡ Some (read_confs held)
   pub versions : held ≡ map (with_version log) (read_confs held)
@@ -58,14 +56,14 @@ pub record IsKept (start : List Conf) (held : List VersionedConf) (indexed : Lis
 pub record PlainSnapshot : Type 0 where
   pub node : ℤ
   pub length : ℕ
-  pub reads : List VersionedConf
+  pub reads : List PlainVersionedConf
 
-abbrev pub plain_snapshot : ℤ → ℕ → List VersionedConf → PlainSnapshot
+abbrev pub plain_snapshot : ℤ → ℕ → List PlainVersionedConf → PlainSnapshot
 plain_snapshot n l rs = record { node = n; length = l; reads = rs }
 
 abbrev pub plain_snapshot_code : Coded PlainSnapshot
 plain_snapshot_code =
-    code_by (ℤ × (ℕ × List VersionedConf)) (coded× coded_ℤ (coded× coded_ℕ (coded_list versioned.the_row.coded)))
+    code_by (ℤ × (ℕ × List PlainVersionedConf)) (coded× coded_ℤ (coded× coded_ℕ (coded_list versioned_conf_code)))
     (λ s. (s.node, (s.length, s.reads))) (λ t. plain_snapshot t.0 t.1.0 t.1.1) (λ _. refl)
 
 -- the look at a node after a schedule

@@ -7,37 +7,36 @@ use Rattle.ioa_compose.specs.SameConfs.{same_conf}
 use Rattle.ioa_compose.specs.declared.configuration.Conf.{Conf}
 use Rattle.ioa_book.specs.Books.{PlainBook, held_of, states_held}
 use Rattle.ioa_book.specs.Proposals.{PlainProposal}
-use Rattle.ioa_book.specs.Versions.{read_component, version}
+use Rattle.ioa_book.specs.Versions.{PlainVersionedConf, read_component, version}
 use Rattle.ioa_book.specs.declared.outcome.Refusal.{Refusal}
 use Rattle.ioa_book.specs.declared.outcome.Refusal.TheVariants.{Unknown, Stale, Differs, Full, Memory}
 use Rattle.ioa_book.specs.declared.standing.Test.{Test}
 use Rattle.ioa_book.specs.declared.standing.Test.TheVariants.{Known, Current, Same}
-use Rattle.ioa_book.specs.declared.versioned.VersionedConf.{VersionedConf}
 
 -- a component of which the book holds nothing
-abbrev pub unknown_by : VersionedConf → Option VersionedConf → Option Refusal
+abbrev pub unknown_by : PlainVersionedConf → Option PlainVersionedConf → Option Refusal
 unknown_by r None = Some (Unknown (read_component r))
 unknown_by r (Some held) = None
 
 -- a component that took a step since it was read: its version is another one now
-abbrev pub stale_by : VersionedConf → Option VersionedConf → Option Refusal
+abbrev pub stale_by : PlainVersionedConf → Option PlainVersionedConf → Option Refusal
 stale_by r None = None
 stale_by r (Some held) =
     if nat_eq r.version held.version then None else Some (Stale (read_component r) r.version held.version)
 
 -- a component whose configuration is another one than was read
-abbrev pub differs_by : VersionedConf → Option VersionedConf → Option Refusal
+abbrev pub differs_by : PlainVersionedConf → Option PlainVersionedConf → Option Refusal
 differs_by r None = None
 differs_by r (Some held) = if same_conf r.conf held.conf then None else Some (Differs (read_component r))
 
 -- each test of what was read, by what is held
-abbrev pub refusal_by : Test → VersionedConf → Option VersionedConf → Option Refusal
+abbrev pub refusal_by : Test → PlainVersionedConf → Option PlainVersionedConf → Option Refusal
 refusal_by Known r held = unknown_by r held
 refusal_by Current r held = stale_by r held
 refusal_by Same r held = differs_by r held
 
 -- the first that a test refuses of what was read
-abbrev pub first_refusal : Test → PlainBook → List VersionedConf → Option Refusal
+abbrev pub first_refusal : Test → PlainBook → List PlainVersionedConf → Option Refusal
 first_refusal test b [] = None
 first_refusal test b (r ∷ rs) = option_or (refusal_by test r (held_of b (read_component r))) (first_refusal test b rs)
 
@@ -46,14 +45,14 @@ abbrev pub full : PlainBook → Option Refusal
 full b = if nat_lt (length b.log) b.limit then None else Some Full
 
 -- why a proposal on what was read is refused: the first reason in this order, of the first participant
-abbrev pub refusal_of : PlainBook → List VersionedConf → Option Refusal
+abbrev pub refusal_of : PlainBook → List PlainVersionedConf → Option Refusal
 refusal_of b rs =
     option_or (first_refusal Known b rs)
     (option_or (first_refusal Current b rs) (option_or (first_refusal Same b rs) (full b)))
 
 -- what was read of a participant still stands: it is a component of the book, which holds it with the version and in
 -- the configuration that were read
-pub record StandsIn (b : PlainBook) (r : VersionedConf) : Type 0 where
+pub record StandsIn (b : PlainBook) (r : PlainVersionedConf) : Type 0 where
   pub held : Conf
   pub there : find_conf (read_component r) (states_held b) ≡ Some held
   pub version_read : r.version ≡ version (read_component r) b.log

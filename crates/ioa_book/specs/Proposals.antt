@@ -14,27 +14,25 @@ use Rattle.ioa_compose.specs.Composition.{changes_of, find_confs, own_steps}
 use Rattle.ioa_compose.specs.Participants.{participants_of}
 use Rattle.ioa_compose.specs.declared.configuration.Conf.{Conf}
 use Rattle.ioa_book.specs.Books.{PlainBook, PlainSnapshot, held_of}
-use Rattle.ioa_book.specs.Versions.{read_component, read_confs}
-use Rattle.ioa_book.specs.contracts.versioned.VersionedConf as versioned
-use Rattle.ioa_book.specs.declared.versioned.VersionedConf.{VersionedConf}
+use Rattle.ioa_book.specs.Versions.{PlainVersionedConf, versioned_conf_code, read_component, read_confs}
 
 -- a proposal: the action, how long the log was at the look, and what was read of the action's participants
 pub record PlainProposal : Type 0 where
   pub action : Action
   pub length : ℕ
-  pub reads : List VersionedConf
+  pub reads : List PlainVersionedConf
 
-abbrev pub plain_proposal : Action → ℕ → List VersionedConf → PlainProposal
+abbrev pub plain_proposal : Action → ℕ → List PlainVersionedConf → PlainProposal
 plain_proposal a l rs = record { action = a; length = l; reads = rs }
 
 abbrev pub plain_proposal_code : Coded PlainProposal
 plain_proposal_code =
-    code_by (Action × (ℕ × List VersionedConf))
-    (coded× action.the_row.coded (coded× coded_ℕ (coded_list versioned.the_row.coded)))
+    code_by (Action × (ℕ × List PlainVersionedConf))
+    (coded× action.the_row.coded (coded× coded_ℕ (coded_list versioned_conf_code)))
     (λ p. (p.action, (p.length, p.reads))) (λ t. plain_proposal t.0 t.1.0 t.1.1) (λ _. refl)
 
 -- what was read of a component, if it was
-abbrev pub find_read : Component → List VersionedConf → Option VersionedConf
+abbrev pub find_read : Component → List PlainVersionedConf → Option PlainVersionedConf
 find_read k rs = find (λ r. same_component k (read_component r)) rs
 
 -- what there is, as a list
@@ -43,13 +41,13 @@ one_or_none None = []
 one_or_none (Some x) = x ∷ []
 
 -- what was read of each of these components
-abbrev pub reads_at : List Component → List VersionedConf → List VersionedConf
+abbrev pub reads_at : List Component → List PlainVersionedConf → List PlainVersionedConf
 reads_at [] rs = []
 reads_at (k ∷ ks) rs = one_or_none (find_read k rs) ++ reads_at ks rs
 
 -- the law of a proposal: what goes into the log is its action, the action's participants were read, and the new
 -- configurations are those of their own steps
-pub record IsTrueProposal (a entry : Action) (rs : List VersionedConf) (changed : List Conf) : Type 0 where
+pub record IsTrueProposal (a entry : Action) (rs : List PlainVersionedConf) (changed : List Conf) : Type 0 where
   pub entry_is : entry ≡ a
   pub participants : map read_component rs ≡ participants_of a
   pub steps : own_steps a (map Some (read_confs rs)) ≡ Ok changed
@@ -66,6 +64,6 @@ abbrev pub proposal_answer : Action → PlainSnapshot → Result PlainProposal S
 proposal_answer a s = if int_eq (node_of a) s.node then step_answer a s else Err NotMine
 
 -- what a book holds of each of these components
-abbrev pub reads_held : PlainBook → List Component → List VersionedConf
+abbrev pub reads_held : PlainBook → List Component → List PlainVersionedConf
 reads_held b [] = []
 reads_held b (k ∷ ks) = one_or_none (held_of b k) ++ reads_held b ks

@@ -21,6 +21,7 @@ use crate::versioned::VersionedConf;
 use ioa_actions::{Action, Component};
 use ioa_compose::{Conf, start};
 use ioa_index::Index;
+use ioa_sharing::{MakerOf, Origin};
 use ioa_system::System;
 use std::alloc::{AllocError, Global};
 use std::marker::Model;
@@ -28,17 +29,19 @@ use std::marker::Model;
 /// A run under way: the configurations at its start, those held now with their versions, and the actions recorded in
 /// between. A contract sees the start, the log and the limit. The type keeps that the log replays from the start to the
 /// configurations held, that each version held is how often its component has taken part, and that the log is no longer
-/// than the limit.
+/// than the limit. What the book holds is shared with whoever looks at it, and bears numbers of the book's maker: by
+/// these a commit tells in constant time that a configuration is the one that was read. `O` stands for the maker.
 #[derive(Drop)]
-pub struct Book {
+pub struct Book<O: Origin> {
     start: Vec<Conf>,
-    held: Vec<VersionedConf>,
+    held: Vec<VersionedConf<O>>,
     index: Index,
     log: Vec<Action>,
     limit: usize,
+    maker: MakerOf<O>,
 }
 
-impl Model for Book {
+impl<O: Origin> Model for Book<O> {
     ghost use Rattle.ioa_book.specs.Books.{PlainBook, plain_book, plain_book_code};
 
     ghost Value = { PlainBook };
@@ -52,14 +55,20 @@ impl Model for Book {
     ghost invariant = { λ b. IsKept b.start.items b.held.items b.index b.log.items b.limit };
 }
 
-impl Book {
-    /// The book of a system in which nothing is recorded yet, and in which at most so many actions may be.
-    pub fn new(alloc: Global, system: &System, limit: usize) -> Result<Self, AllocError>
+impl<O: Origin> Book<O> {
+    /// The book of a system in which nothing is recorded yet, and in which at most so many actions may be. The maker
+    /// gives what the book holds its numbers.
+    pub fn new(
+        alloc: Global,
+        mut maker: MakerOf<O>,
+        system: &System,
+        limit: usize,
+    ) -> Result<Self, AllocError>
         requires { limit ≤ 1000000 }
         ensures { IfOk result (λ b. b ≡ plain_book (start system.now) [] limit) }
     {
         let start = start(alloc, system)?;
-        let held = first_versions(alloc, &start)?;
+        let held = first_versions(alloc, &mut maker, &start)?;
         let components = components_of(alloc, &start)?;
         let index = Index::new(alloc, components)?;
         Ok(Book {
@@ -68,6 +77,7 @@ impl Book {
             index,
             log: Vec::new(alloc),
             limit,
+            maker,
         })
     }
 
@@ -81,8 +91,9 @@ impl Book {
     }
 
     /// A look at a node: it reads the configurations of the node, of the channels to it and from it, and of its script,
-    /// with their versions, and how long the log is. `Unknown` (53) if there is no such node. Copies what it reads, each value by sharing.
-    pub fn look(&self, alloc: Global, node: i64) -> Result<Snapshot, LookFault>
+    /// with their versions, and how long the log is. `Unknown` (53) if there is no such node. Nothing is copied: the
+    /// look owns what it reads together with the book.
+    pub fn look(&self, alloc: Global, node: i64) -> Result<Snapshot<O>, LookFault>
         ensures { Answers LookFault.Memory (λ s. s) result (spec.look_answer self.now node) }
     {
         if self.has_node(node) {
@@ -101,7 +112,7 @@ impl Book {
     }
 
     /// What is held of a component.
-    fn find(&self, component: Component) -> Option<&VersionedConf>
+    fn find(&self, component: Component) -> Option<&VersionedConf<O>>
         ensures { option_copied result ≡ spec.held_of self.now component }
     {
         let slot = self.index.slot_of(component)?;
@@ -109,7 +120,7 @@ impl Book {
     }
 
     /// The first of what was read that a test refuses.
-    fn first_refusal(&self, test: Test, reads: &[VersionedConf]) -> Option<Refusal>
+    fn first_refusal(&self, test: Test, reads: &[VersionedConf<O>]) -> Option<Refusal>
         ensures { result ≡ commits.first_refusal test self.now reads.now }
     {
         for read in reads {
@@ -122,7 +133,7 @@ impl Book {
     }
 
     /// Why a proposal on what was read is refused, if it is.
-    fn refusal(&self, reads: &[VersionedConf]) -> Option<Refusal>
+    fn refusal(&self, reads: &[VersionedConf<O>]) -> Option<Refusal>
         ensures { result ≡ commits.refusal_of self.now reads.now }
     {
         let unknown = self.first_refusal(Test::Known, reads);
@@ -155,7 +166,7 @@ impl Book {
     /// action is recorded. The reasons to refuse it are tested in this order: `Unknown` (53), `Stale` (50), `Differs`
     /// (51), each of the first participant that it applies to, `Full` (52), and `Memory` (3). After a refusal the book
     /// is as it was.
-    pub fn commit(&mut self, proposal: Proposal) -> Result<Committed, Refused>
+    pub fn commit(&mut self, proposal: Proposal<O>) -> Result<Committed, Refused<O>>
         ensures committed { IfOk result (λ c. commits.IsCommitted self.old proposal c.index c.action self.new) }
         ensures refused { IfErr result (λ r. commits.IsRefused self.old proposal r.refusal r.proposal self.new) }
     {
@@ -173,7 +184,7 @@ impl Book {
         match self.log.push(entry) {
             Ok(()) => {
                 raise_at(&mut self.held, self.index.own(action.node()), &action);
-                put_all(&mut self.held, &self.index, changed);
+                put_all(&mut self.held, &self.index, &mut self.maker, changed);
                 Ok(Committed { index, action })
             }
             Err(failed) => Err(Refused {
@@ -189,14 +200,20 @@ impl Book {
         }
     }
 
-    /// Takes the book apart: what is recorded, and the configurations held.
-    pub fn into_execution(self, alloc: Global) -> Result<Execution, AllocError>
+    /// Takes the book apart: what is recorded, copies of the configurations held, and the maker.
+    pub fn into_execution(self, alloc: Global) -> Result<Execution<O>, AllocError>
         ensures { IfOk result (λ e. spec.IsExecutionOf self e.schedule.items e.states.items) }
     {
-        let Book { held, log, .. } = self;
+        let Book {
+            held,
+            log,
+            maker,
+            ..
+        } = self;
         Ok(Execution {
             schedule: log,
-            states: states_of(alloc, held)?,
+            states: states_of(alloc, &held)?,
+            maker,
         })
     }
 }

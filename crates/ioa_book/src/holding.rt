@@ -1,6 +1,7 @@
 //! The configurations that a book holds, by their slots.
 
 ghost use Rattle.std.specs.Prelude.{◌≡◌, ◌<◌, ◌++◌, [], IfOk, OnOk, length, map, slice_get};
+ghost use Rattle.std.specs.Arc.{arc_value};
 ghost use Rattle.std.specs.Option.{option_copied};
 ghost use Rattle.ioa_compose.specs.Composition.{component_names};
 ghost use Rattle.ioa_book.specs.Proposals.{one_or_none};
@@ -11,22 +12,22 @@ use crate::versioned::VersionedConf;
 use ioa_actions::{Action, Component};
 use ioa_compose::{Conf, takes_part_in};
 use ioa_index::Index;
+use ioa_sharing::{MakerOf, Origin};
 use std::alloc::{AllocError, Global};
+use std::sync::Arc;
 
-/// Configurations before any action, each with its version: 0.
-pub(crate) fn first_versions(
+/// Copies of configurations before any action, each with its version: 0.
+pub(crate) fn first_versions<O: Origin>(
     alloc: Global,
+    maker: &mut MakerOf<O>,
     confs: &[Conf],
-) -> Result<Vec<VersionedConf>, AllocError>
+) -> Result<Vec<VersionedConf<O>>, AllocError>
     ensures { IfOk result (λ v. v.items ≡ map (with_version []) confs.now) }
 {
     let mut held = Vec::new(alloc);
     for conf in confs {
-        let first = VersionedConf {
-            conf: conf.try_copy(alloc)?,
-            version: 0,
-        };
-        held.push(first)?;
+        let copy = Arc::new(alloc, conf.try_copy(alloc)?)?;
+        held.push(VersionedConf::first(maker, copy))?;
     }
     Ok(held)
 }
@@ -42,44 +43,50 @@ pub(crate) fn components_of(alloc: Global, confs: &[Conf]) -> Result<Vec<Compone
     Ok(components)
 }
 
-/// Copies of what is held in these slots.
-pub(crate) fn copies_at(
+/// Copies of what is held in these slots, which own the same configurations.
+pub(crate) fn copies_at<O: Origin>(
     alloc: Global,
     slots: &[usize],
-    held: &[VersionedConf],
-) -> Result<Vec<VersionedConf>, AllocError>
+    held: &[VersionedConf<O>],
+) -> Result<Vec<VersionedConf<O>>, AllocError>
     ensures { IfOk result (λ v. v.items ≡ spec.items_at slots.now held.now) }
 {
     let mut copies = Vec::new(alloc);
     for slot in slots {
-        push_found(alloc, &mut copies, at_slot(held, *slot))?;
+        push_found(&mut copies, at_slot(held, *slot))?;
     }
     Ok(copies)
 }
 
 /// What is held in a slot, if there is one.
-pub(crate) fn at_slot(held: &[VersionedConf], slot: usize) -> Option<&VersionedConf>
+pub(crate) fn at_slot<O: Origin>(
+    held: &[VersionedConf<O>],
+    slot: usize,
+) -> Option<&VersionedConf<O>>
     ensures { option_copied result ≡ slice_get held.now slot }
 {
     held.get(slot)
 }
 
 /// Adds a copy of what is found, if that is anything.
-fn push_found(
-    alloc: Global,
-    copies: &mut Vec<VersionedConf>,
-    found: Option<&VersionedConf>,
+fn push_found<O: Origin>(
+    copies: &mut Vec<VersionedConf<O>>,
+    found: Option<&VersionedConf<O>>,
 ) -> Result<(), AllocError>
     ensures { OnOk result (copies.new.items ≡ copies.old.items ++ one_or_none (option_copied found.entry)) }
 {
     if let Some(found) = found {
-        copies.push(found.try_copy(alloc)?)?;
+        copies.push(found.try_copy()?)?;
     }
     Ok(())
 }
 
 /// Raises the version of each component in these slots that takes part in an action.
-pub(crate) fn raise_at(held: &mut Vec<VersionedConf>, slots: &[usize], action: &Action)
+pub(crate) fn raise_at<O: Origin>(
+    held: &mut Vec<VersionedConf<O>>,
+    slots: &[usize],
+    action: &Action,
+)
     ensures { held.new.items ≡ spec.raise_at action.now slots.now held.old.items }
 {
     for slot in slots {
@@ -88,7 +95,7 @@ pub(crate) fn raise_at(held: &mut Vec<VersionedConf>, slots: &[usize], action: &
 }
 
 /// The same for the component in one slot, if there is one.
-fn raise_in(held: &mut Vec<VersionedConf>, slot: usize, action: &Action)
+fn raise_in<O: Origin>(held: &mut Vec<VersionedConf<O>>, slot: usize, action: &Action)
     ensures { held.new.items ≡ spec.raise_found action.now slot (slice_get held.old.items slot) held.old.items }
 {
     if slot < held.len() {
@@ -97,43 +104,56 @@ fn raise_in(held: &mut Vec<VersionedConf>, slot: usize, action: &Action)
 }
 
 /// The same for the component in a slot that there is. No version is above the length of the log, so the sum is exact.
-fn raise_within(held: &mut Vec<VersionedConf>, slot: usize, action: &Action)
+fn raise_within<O: Origin>(held: &mut Vec<VersionedConf<O>>, slot: usize, action: &Action)
     requires { slot < length held.old.items }
     ensures { held.new.items ≡ spec.raise_found action.now slot (slice_get held.old.items slot) held.old.items }
 {
     if takes_part_in(held[slot].component(), action) {
-        held[slot].version = held[slot].version.saturating_add(1);
+        held[slot].raise();
     }
 }
 
 /// Replaces the configurations of the components of these.
-pub(crate) fn put_all(held: &mut Vec<VersionedConf>, index: &Index, changed: Vec<Conf>)
+pub(crate) fn put_all<O: Origin>(
+    held: &mut Vec<VersionedConf<O>>,
+    index: &Index,
+    maker: &mut MakerOf<O>,
+    changed: Vec<Arc<Conf>>,
+)
     requires { index.now ≡ map read_component held.old.items }
-    ensures { held.new.items ≡ spec.put_all_held changed.items held.old.items }
+    ensures { held.new.items ≡ spec.put_all_held (map arc_value changed.items) held.old.items }
 {
     for conf in changed {
-        put(held, index, conf);
+        put(held, index, maker, conf);
     }
 }
 
 /// Replaces the configuration of a component; its version stays as it is.
-fn put(held: &mut Vec<VersionedConf>, index: &Index, conf: Conf)
+fn put<O: Origin>(
+    held: &mut Vec<VersionedConf<O>>,
+    index: &Index,
+    maker: &mut MakerOf<O>,
+    conf: Arc<Conf>,
+)
     requires { index.now ≡ map read_component held.old.items }
-    ensures put { held.new.items ≡ spec.put_held conf held.old.items }
+    ensures put { held.new.items ≡ spec.put_held (arc_value conf) held.old.items }
     ensures components { map read_component held.new.items ≡ map read_component held.old.items }
 {
     if let Some(slot) = index.slot_of(conf.component()) {
-        held[slot].conf = conf;
+        held[slot].put(maker.share(conf));
     }
 }
 
-/// The configurations alone.
-pub(crate) fn states_of(alloc: Global, held: Vec<VersionedConf>) -> Result<Vec<Conf>, AllocError>
-    ensures { IfOk result (λ v. v.items ≡ read_confs held.items) }
+/// Copies of the configurations alone.
+pub(crate) fn states_of<O: Origin>(
+    alloc: Global,
+    held: &[VersionedConf<O>],
+) -> Result<Vec<Conf>, AllocError>
+    ensures { IfOk result (λ v. v.items ≡ read_confs held.now) }
 {
     let mut states = Vec::new(alloc);
-    for VersionedConf { conf, .. } in held {
-        states.push(conf)?;
+    for read in held {
+        states.push(read.conf().try_copy(alloc)?)?;
     }
     Ok(states)
 }

@@ -13,8 +13,7 @@ ghost use Rattle.ioa_compose.specs.Participants.{participants_of};
 ghost use Rattle.ioa_book.specs.Books.{PlainBook, snapshot_after, states_held};
 ghost use Rattle.ioa_book.specs.Commits.{StandsIn, full, refusal_of};
 ghost use Rattle.ioa_book.specs.Proposals.{plain_proposal, proposal_answer, reads_held};
-ghost use Rattle.ioa_book.specs.Versions.{read_confs};
-ghost use Rattle.ioa_book.specs.declared.versioned.VersionedConf.{VersionedConf};
+ghost use Rattle.ioa_book.specs.Versions.{PlainVersionedConf, read_confs};
 
 /// A look at a node shows of each component that the node has to do with what the book holds. So a proposal of one of
 /// the node's actions has the steps of the participants from the configurations held (Lynch 8.2), or the fault that
@@ -32,9 +31,9 @@ pub fn fresh_look_law()
     ensures stands { (b : PlainBook) (ks : List Component) → refusal_of b (reads_held b ks) ≡ full b }
 {}
 
-/// A proposal is refused for no reason exactly if all that was read of its participants still stands in the book, and the
-/// log is shorter than the limit (profile).
+/// A proposal is refused for no reason exactly if all that was read of its participants still stands in the book, and
+/// the log is shorter than the limit (profile).
 pub fn stands_law()
-    ensures { (b : PlainBook) (rs : List VersionedConf) →
+    ensures { (b : PlainBook) (rs : List PlainVersionedConf) →
         (refusal_of b rs ≡ None) ↔ (AllByRecursion (StandsIn b) rs × (length b.log < b.limit)) }
 {}

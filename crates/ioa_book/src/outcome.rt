@@ -3,6 +3,7 @@
 use crate::proposal::Proposal;
 use ioa_actions::{Action, Component};
 use ioa_compose::Conf;
+use ioa_sharing::{MakerOf, Origin};
 use std::alloc::{AllocError, AllocFailed};
 use std::fmt;
 use thiserror::Error;
@@ -107,18 +108,21 @@ pub struct Committed {
 
 /// A commit that was refused. Nothing is lost: the proposal is handed back.
 #[derive(Drop)]
-pub struct Refused {
+pub struct Refused<O: Origin> {
     /// Why.
     pub refusal: Refusal,
     /// The proposal.
-    pub proposal: Proposal,
+    pub proposal: Proposal<O>,
 }
 
-/// What a book has recorded when it is taken apart: the schedule, and the states that it leads to.
+/// What a book leaves when it is taken apart: the schedule, the states that it leads to, and the maker, with which
+/// another book of the same origin can be made.
 #[derive(Drop)]
-pub struct Execution {
+pub struct Execution<O: Origin> {
     /// The actions, in order.
     pub schedule: Vec<Action>,
     /// The configurations that they lead to.
     pub states: Vec<Conf>,
+    /// What gave the book's configurations their numbers.
+    pub maker: MakerOf<O>,
 }

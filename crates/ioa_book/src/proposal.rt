@@ -1,8 +1,9 @@
 //! Proposals of actions.
 
-ghost use Rattle.std.specs.Prelude.{◌≡◌, [], ◌∷◌, IfOk, Some, Ok};
+ghost use Rattle.std.specs.Prelude.{◌≡◌, [], ◌∷◌, IfOk, Some, Ok, map};
+ghost use Rattle.std.specs.Arc.{arc_value};
 ghost use Rattle.ioa_values.specs.Outcome.{Answers, and_then};
-ghost use Rattle.ioa_compose.specs.Composition.{own_steps};
+ghost use Rattle.ioa_compose.specs.Composition.{conf_answer, own_steps};
 ghost use Rattle.ioa_compose.specs.Participants.{participants_of};
 ghost use Rattle.ioa_book.specs.Proposals.{plain_proposal};
 ghost use Rattle.ioa_book.specs.Versions.{read_component};
@@ -10,22 +11,24 @@ ghost use Rattle.ioa_book.specs.Versions.{read_component};
 use crate::versioned::VersionedConf;
 use ioa_actions::{Action, StepFault};
 use ioa_compose::Conf;
+use ioa_sharing::Origin;
 use std::alloc::{AllocError, Global};
 use std::marker::Model;
+use std::sync::Arc;
 
 /// An action with what was read of its participants, and their new configurations. The type keeps that these are the
 /// participants' own steps from what was read.
 #[derive(Drop)]
-pub struct Proposal {
+pub struct Proposal<O: Origin> {
     pub(crate) action: Action,
     /// The same action, for the log.
     pub(crate) entry: Action,
     pub(crate) length: usize,
-    pub(crate) reads: Vec<VersionedConf>,
-    pub(crate) changed: Vec<Conf>,
+    pub(crate) reads: Vec<VersionedConf<O>>,
+    pub(crate) changed: Vec<Arc<Conf>>,
 }
 
-impl Model for Proposal {
+impl<O: Origin> Model for Proposal<O> {
     ghost use Rattle.ioa_book.specs.Proposals.{PlainProposal, plain_proposal, plain_proposal_code};
 
     ghost Value = { PlainProposal };
@@ -34,12 +37,14 @@ impl Model for Proposal {
 
     ghost view = { λ p. plain_proposal p.action p.length p.reads.items };
 
+    ghost use Rattle.std.specs.Arc.{arc_value};
+    ghost use Rattle.std.specs.Prelude.{map};
     ghost use Rattle.ioa_book.specs.Proposals.{IsTrueProposal};
 
-    ghost invariant = { λ p. IsTrueProposal p.action p.entry p.reads.items p.changed.items };
+    ghost invariant = { λ p. IsTrueProposal p.action p.entry p.reads.items (map arc_value p.changed.items) };
 }
 
-impl Proposal {
+impl<O: Origin> Proposal<O> {
     /// The action.
     pub fn action(&self) -> &Action
         ensures { result.now ≡ self.now.action }
@@ -59,7 +64,7 @@ impl Proposal {
         alloc: Global,
         action: Action,
         length: usize,
-        node: &VersionedConf,
+        node: &VersionedConf<O>,
     ) -> Result<Self, StepFault>
         requires { participants_of action ≡ read_component node.now ∷ [] }
         ensures { Answers StepFault.Memory (λ p. p) result
@@ -67,10 +72,10 @@ impl Proposal {
             (λ ds. Ok (plain_proposal action length (node.now ∷ [])))) }
     {
         let mut changed = Vec::new(alloc);
-        changed.push(node.conf.step(alloc, &action)?)?;
+        changed.push(step_of(alloc, &action, node)?)?;
         let entry = action.try_copy(alloc)?;
         let mut reads = Vec::new(alloc);
-        reads.push(node.try_copy(alloc)?)?;
+        reads.push(node.try_copy()?)?;
         Ok(Proposal {
             action,
             entry,
@@ -86,8 +91,8 @@ impl Proposal {
         alloc: Global,
         action: Action,
         length: usize,
-        queue: &VersionedConf,
-        node: &VersionedConf,
+        queue: &VersionedConf<O>,
+        node: &VersionedConf<O>,
     ) -> Result<Self, StepFault>
         requires { participants_of action ≡ read_component queue.now ∷ read_component node.now ∷ [] }
         ensures { Answers StepFault.Memory (λ p. p) result
@@ -107,32 +112,44 @@ impl Proposal {
     }
 }
 
-/// The own steps of two participants by an action. The first fault is returned, the queue's first.
-fn steps_of_two(
+/// The own step of a participant by an action, or its fault.
+fn step_of<O: Origin>(
     alloc: Global,
     action: &Action,
-    queue: &VersionedConf,
-    node: &VersionedConf,
-) -> Result<Vec<Conf>, StepFault>
-    ensures { Answers StepFault.Memory (λ v. v.items) result
+    read: &VersionedConf<O>,
+) -> Result<Arc<Conf>, StepFault>
+    ensures { Answers StepFault.Memory arc_value result (conf_answer action.now read.now.conf) }
+{
+    let next = read.conf().step(alloc, action)?;
+    Ok(Arc::new(alloc, next)?)
+}
+
+/// The own steps of two participants by an action. The first fault is returned, the queue's first.
+fn steps_of_two<O: Origin>(
+    alloc: Global,
+    action: &Action,
+    queue: &VersionedConf<O>,
+    node: &VersionedConf<O>,
+) -> Result<Vec<Arc<Conf>>, StepFault>
+    ensures { Answers StepFault.Memory (λ v. map arc_value v.items) result
         (own_steps action.now (Some queue.now.conf ∷ Some node.now.conf ∷ [])) }
 {
     let mut changed = Vec::new(alloc);
-    changed.push(queue.conf.step(alloc, action)?)?;
-    changed.push(node.conf.step(alloc, action)?)?;
+    changed.push(step_of(alloc, action, queue)?)?;
+    changed.push(step_of(alloc, action, node)?)?;
     Ok(changed)
 }
 
 /// Copies of what was read of two components.
-fn copies_of_two(
+fn copies_of_two<O: Origin>(
     alloc: Global,
-    queue: &VersionedConf,
-    node: &VersionedConf,
-) -> Result<Vec<VersionedConf>, AllocError>
+    queue: &VersionedConf<O>,
+    node: &VersionedConf<O>,
+) -> Result<Vec<VersionedConf<O>>, AllocError>
     ensures { IfOk result (λ v. v.items ≡ queue.now ∷ node.now ∷ []) }
 {
     let mut reads = Vec::new(alloc);
-    reads.push(queue.try_copy(alloc)?)?;
-    reads.push(node.try_copy(alloc)?)?;
+    reads.push(queue.try_copy()?)?;
+    reads.push(node.try_copy()?)?;
     Ok(reads)
 }

@@ -14,19 +14,20 @@ use crate::proposal::Proposal;
 use crate::versioned::VersionedConf;
 use ioa_actions::{Action, Component, StepFault};
 use ioa_compose::{Parties, participants};
+use ioa_sharing::Origin;
 use std::alloc::Global;
 use std::marker::Model;
 
 /// What a look at a node has read: the configurations of the node, of the channels to it and from it, and of its
 /// script, each with its version, and how long the log was.
 #[derive(Drop)]
-pub struct Snapshot {
+pub struct Snapshot<O: Origin> {
     node: i64,
     length: usize,
-    reads: Vec<VersionedConf>,
+    reads: Vec<VersionedConf<O>>,
 }
 
-impl Model for Snapshot {
+impl<O: Origin> Model for Snapshot<O> {
     ghost use Rattle.ioa_book.specs.Books.{PlainSnapshot, plain_snapshot, plain_snapshot_code};
 
     ghost Value = { PlainSnapshot };
@@ -36,9 +37,9 @@ impl Model for Snapshot {
     ghost view = { λ s. plain_snapshot s.node s.length s.reads.items };
 }
 
-impl Snapshot {
+impl<O: Origin> Snapshot<O> {
     /// The look at a node that has read this.
-    pub(crate) fn new(node: i64, length: usize, reads: Vec<VersionedConf>) -> Self
+    pub(crate) fn new(node: i64, length: usize, reads: Vec<VersionedConf<O>>) -> Self
         ensures { result ≡ plain_snapshot node length reads.items }
     {
         Snapshot {
@@ -63,14 +64,14 @@ impl Snapshot {
     }
 
     /// What was read, in the order of the components.
-    pub fn reads(&self) -> &[VersionedConf]
+    pub fn reads(&self) -> &[VersionedConf<O>]
         ensures { result.now ≡ self.now.reads }
     {
         self.reads.as_slice()
     }
 
     /// What was read of a component, if it was.
-    pub fn read_of(&self, component: Component) -> Option<&VersionedConf>
+    pub fn read_of(&self, component: Component) -> Option<&VersionedConf<O>>
         ensures { option_copied result ≡ spec.find_read component self.now.reads }
     {
         self.reads.iter().find(|read| component == read.component())
@@ -79,7 +80,7 @@ impl Snapshot {
     /// A proposal to take an action on what was read. `NotMine` (41) if the action is another node's than the one
     /// looked at; `NoChannel` (42) if a participant was not read; else the first fault of the participants' own steps,
     /// the queue's first. The snapshot stays as it is; an action that is no step is dropped.
-    pub fn propose(&self, alloc: Global, action: Action) -> Result<Proposal, StepFault>
+    pub fn propose(&self, alloc: Global, action: Action) -> Result<Proposal<O>, StepFault>
         ensures { Answers StepFault.Memory (λ p. p) result (spec.proposal_answer action self.now) }
     {
         if is_own(&action, self.node) {
@@ -90,7 +91,7 @@ impl Snapshot {
     }
 
     /// A proposal to take an action of the node that was looked at.
-    fn propose_step(&self, alloc: Global, action: Action) -> Result<Proposal, StepFault>
+    fn propose_step(&self, alloc: Global, action: Action) -> Result<Proposal<O>, StepFault>
         ensures { Answers StepFault.Memory (λ p. p) result (spec.step_answer action self.now) }
     {
         match participants(&action) {
@@ -105,7 +106,7 @@ impl Snapshot {
         alloc: Global,
         action: Action,
         node: Component,
-    ) -> Result<Proposal, StepFault>
+    ) -> Result<Proposal<O>, StepFault>
         requires { participants_of action ≡ node ∷ [] }
         ensures { Answers StepFault.Memory (λ p. p) result (spec.step_answer action self.now) }
     {
@@ -122,7 +123,7 @@ impl Snapshot {
         action: Action,
         queue: Component,
         node: Component,
-    ) -> Result<Proposal, StepFault>
+    ) -> Result<Proposal<O>, StepFault>
         requires { participants_of action ≡ queue ∷ node ∷ [] }
         ensures { Answers StepFault.Memory (λ p. p) result (spec.step_answer action self.now) }
     {
@@ -137,9 +138,9 @@ impl Snapshot {
         &self,
         alloc: Global,
         action: Action,
-        queue: &VersionedConf,
+        queue: &VersionedConf<O>,
         node: Component,
-    ) -> Result<Proposal, StepFault>
+    ) -> Result<Proposal<O>, StepFault>
         requires parts { participants_of action ≡ read_component queue.now ∷ node ∷ [] }
         requires found { Some queue.now ≡ spec.find_read (read_component queue.now) self.now.reads }
         ensures { Answers StepFault.Memory (λ p. p) result (spec.step_answer action self.now) }

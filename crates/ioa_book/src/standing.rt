@@ -7,7 +7,7 @@ ghost use Rattle.ioa_book.specs.Commits as spec;
 
 use crate::outcome::Refusal;
 use crate::versioned::VersionedConf;
-use ioa_compose::Conf;
+use ioa_sharing::Origin;
 
 /// What is tested of a component that was read.
 #[derive(Clone, Copy, Debug)]
@@ -21,10 +21,10 @@ pub(crate) enum Test {
 }
 
 /// What a test has against what was read of a component, by what is held of it.
-pub(crate) fn refusal_by(
+pub(crate) fn refusal_by<O: Origin>(
     test: Test,
-    read: &VersionedConf,
-    held: Option<&VersionedConf>,
+    read: &VersionedConf<O>,
+    held: Option<&VersionedConf<O>>,
 ) -> Option<Refusal>
     ensures { result ≡ spec.refusal_by test read.now (option_copied held.entry) }
 {
@@ -36,7 +36,10 @@ pub(crate) fn refusal_by(
 }
 
 /// `Unknown` (53) if nothing is held of the component.
-fn unknown_by(read: &VersionedConf, held: Option<&VersionedConf>) -> Option<Refusal>
+fn unknown_by<O: Origin>(
+    read: &VersionedConf<O>,
+    held: Option<&VersionedConf<O>>,
+) -> Option<Refusal>
     ensures { result ≡ spec.unknown_by read.now (option_copied held.entry) }
 {
     match held {
@@ -46,35 +49,38 @@ fn unknown_by(read: &VersionedConf, held: Option<&VersionedConf>) -> Option<Refu
 }
 
 /// `Stale` (50) if the version is another one now.
-fn stale_by(read: &VersionedConf, held: &VersionedConf) -> Option<Refusal>
+fn stale_by<O: Origin>(read: &VersionedConf<O>, held: &VersionedConf<O>) -> Option<Refusal>
     ensures { result ≡ spec.stale_by read.now (Some held.now) }
 {
-    if read.version == held.version {
+    if read.version() == held.version() {
         None
     } else {
         Some(Refusal::Stale {
             component: read.component(),
-            read: read.version,
-            held: held.version,
+            read: read.version(),
+            held: held.version(),
         })
     }
 }
 
 /// `Differs` (51) if the configuration is another one than was read.
-fn differs_by(read: &VersionedConf, held: &VersionedConf) -> Option<Refusal>
+fn differs_by<O: Origin>(read: &VersionedConf<O>, held: &VersionedConf<O>) -> Option<Refusal>
     ensures { result ≡ spec.differs_by read.now (Some held.now) }
 {
-    if is_same(&read.conf, &held.conf) {
+    if is_same(read, held) {
         None
     } else {
         Some(Refusal::Differs(read.component()))
     }
 }
 
-/// Whether two configurations are the same.
-#[tactic(auto, using(crate::proofs::SameConfs::same_by))]
-fn is_same(conf: &Conf, other: &Conf) -> bool
-    ensures { result ≡ same_conf conf.now other.now }
+/// Whether a configuration is held as it was read. Mostly both own the same one, and then this takes constant time;
+/// only configurations that were made apart are compared by value.
+fn is_same<O: Origin>(read: &VersionedConf<O>, held: &VersionedConf<O>) -> bool
+    ensures { result ≡ same_conf read.now.conf held.now.conf }
 {
-    conf.equals(other)
+    if read.shares_conf(held) {
+        return true;
+    }
+    read.conf().equals(held.conf())
 }

@@ -1,14 +1,18 @@
 //! Looks, proposals and commits.
 
-ghost use Rattle.std.specs.Prelude.{◌≤◌};
+ghost use Rattle.std.specs.Prelude.{◌≡◌, ◌≤◌};
+ghost use Rattle.ioa_sharing.specs.Shared.{maker_name};
 
 use ioa_actions::{Action, Component, NodeAction, push_listed, show_action};
 use ioa_book::{Book, Committed, Proposal, Refused, Snapshot};
 use ioa_check::check;
+use ioa_sharing::{Maker, MakerOf, Origin};
 use ioa_system::System;
 use ioa_text_reader::parse;
 use ioa_values::{Names, Value, Word};
 use std::alloc::{AllocError, Global};
+use std::marker::Brand;
+use std::process::Abort;
 use std::test::Fail;
 
 /// A sender of what it counts.
@@ -86,12 +90,23 @@ fn system_of(alloc: Global, parts: &[&str]) -> Result<System, Fail> {
 }
 
 /// The book of a text's system, in which nothing is recorded, and in which at most so many actions may be.
-fn book_of(alloc: Global, parts: &[&str], limit: usize) -> Result<Book, Fail>
+fn book_of<O: Origin>(
+    alloc: Global,
+    maker: MakerOf<O>,
+    parts: &[&str],
+    limit: usize,
+) -> Result<Book<O>, Fail>
     requires { limit ≤ 1000000 }
 {
     let system = system_of(alloc, parts)?;
-    let book = Book::new(alloc, &system, limit)?;
+    let book = Book::new(alloc, maker, &system, limit)?;
     Ok(book)
+}
+
+/// The book of a text's system by the maker of another book, which is taken apart. At most ten actions may be recorded.
+fn book_after<O: Origin>(alloc: Global, other: Book<O>, parts: &[&str]) -> Result<Book<O>, Fail> {
+    let left = other.into_execution(alloc)?;
+    book_of(alloc, left.maker, parts, 10)
 }
 
 /// `send(n, 0, 1)`.
@@ -141,14 +156,18 @@ fn committed_text(alloc: Global, committed: &Committed) -> Result<String, AllocE
 }
 
 /// The refusal of a commit, and the action of the proposal that came back.
-fn refused_text(alloc: Global, refused: &Refused) -> Result<String, AllocError> {
+fn refused_text<O: Origin>(alloc: Global, refused: &Refused<O>) -> Result<String, AllocError> {
     let refusal = refused.refusal;
     let action = action_text(alloc, refused.proposal.action())?;
     format!(in alloc; "{refusal}; back {action}")
 }
 
 /// What comes of a commit, as text.
-fn commit_text(alloc: Global, book: &mut Book, proposal: Proposal) -> Result<String, AllocError> {
+fn commit_text<O: Origin>(
+    alloc: Global,
+    book: &mut Book<O>,
+    proposal: Proposal<O>,
+) -> Result<String, AllocError> {
     match book.commit(proposal) {
         Ok(committed) => committed_text(alloc, &committed),
         Err(refused) => refused_text(alloc, &refused),
@@ -156,30 +175,43 @@ fn commit_text(alloc: Global, book: &mut Book, proposal: Proposal) -> Result<Str
 }
 
 /// Whether this comes of a commit.
-fn commits(
+fn commits<O: Origin>(
     alloc: Global,
-    book: &mut Book,
-    proposal: Proposal,
+    book: &mut Book<O>,
+    proposal: Proposal<O>,
     expected: &str,
 ) -> Result<bool, AllocError> {
     Ok(commit_text(alloc, book, proposal)?.as_str() == expected)
 }
 
 /// The proposal of an action on a look at its node.
-fn proposal_of(alloc: Global, book: &Book, action: Action) -> Result<Proposal, Fail> {
+fn proposal_of<O: Origin>(
+    alloc: Global,
+    book: &Book<O>,
+    action: Action,
+) -> Result<Proposal<O>, Fail> {
     let look = book.look(alloc, action.node())?;
     let proposal = look.propose(alloc, action)?;
     Ok(proposal)
 }
 
 /// Whether this comes of a look at an action's node, its proposal and the commit of that.
-fn takes(alloc: Global, book: &mut Book, action: Action, expected: &str) -> Result<bool, Fail> {
+fn takes<O: Origin>(
+    alloc: Global,
+    book: &mut Book<O>,
+    action: Action,
+    expected: &str,
+) -> Result<bool, Fail> {
     let proposal = proposal_of(alloc, book, action)?;
     Ok(commits(alloc, book, proposal, expected)?)
 }
 
 /// The action of a proposal on a look, or the fault, as text.
-fn proposal_text(alloc: Global, look: &Snapshot, action: Action) -> Result<String, AllocError> {
+fn proposal_text<O: Origin>(
+    alloc: Global,
+    look: &Snapshot<O>,
+    action: Action,
+) -> Result<String, AllocError> {
     match look.propose(alloc, action) {
         Ok(proposal) => action_text(alloc, proposal.action()),
         Err(fault) => format!(in alloc; "{fault}"),
@@ -187,9 +219,9 @@ fn proposal_text(alloc: Global, look: &Snapshot, action: Action) -> Result<Strin
 }
 
 /// Whether this comes of a proposal on a look.
-fn proposes(
+fn proposes<O: Origin>(
     alloc: Global,
-    look: &Snapshot,
+    look: &Snapshot<O>,
     action: Action,
     expected: &str,
 ) -> Result<bool, AllocError> {
@@ -197,7 +229,7 @@ fn proposes(
 }
 
 /// The node of a look, or the fault, as text.
-fn look_text(alloc: Global, book: &Book, node: i64) -> Result<String, AllocError> {
+fn look_text<O: Origin>(alloc: Global, book: &Book<O>, node: i64) -> Result<String, AllocError> {
     match book.look(alloc, node) {
         Ok(look) => {
             let node = look.node();
@@ -208,32 +240,84 @@ fn look_text(alloc: Global, book: &Book, node: i64) -> Result<String, AllocError
 }
 
 /// Whether this comes of a look at a node.
-fn looks(alloc: Global, book: &Book, node: i64, expected: &str) -> Result<bool, AllocError> {
+fn looks<O: Origin>(
+    alloc: Global,
+    book: &Book<O>,
+    node: i64,
+    expected: &str,
+) -> Result<bool, AllocError> {
     Ok(look_text(alloc, book, node)?.as_str() == expected)
 }
 
 /// Whether these actions are recorded in a book.
-fn records(alloc: Global, book: &Book, expected: &str) -> Result<bool, AllocError> {
+fn records<O: Origin>(alloc: Global, book: &Book<O>, expected: &str) -> Result<bool, AllocError> {
     Ok(log_text(alloc, book.log())?.as_str() == expected)
 }
 
 /// The version that a look has read of a component, if it has read the component.
-fn version_of(look: &Snapshot, component: Component) -> Option<usize> {
-    Some(look.read_of(component)?.version)
+fn version_of<O: Origin>(look: &Snapshot<O>, component: Component) -> Option<usize> {
+    Some(look.read_of(component)?.version())
 }
 
 /// Whether two looks have read the same configuration of a component.
-fn read_the_same(look: &Snapshot, other: &Snapshot, component: Component) -> bool {
+fn read_the_same<O: Origin>(look: &Snapshot<O>, other: &Snapshot<O>, component: Component) -> bool {
     match (look.read_of(component), other.read_of(component)) {
-        (Some(read), Some(second)) => read.conf.equals(&second.conf),
+        (Some(read), Some(second)) => read.conf().equals(second.conf()),
         _ => false,
     }
 }
 
-#[test]
-fn of_two_proposals_on_the_same_state_the_second_is_stale(rt: HostRuntime) -> Result<(), Fail> {
-    let alloc = rt.alloc();
-    let mut book = book_of(alloc, &LIST, 10)?;
+/// What is tested, each with a maker of its own.
+#[derive(Clone, Copy)]
+enum Row {
+    SecondProposal,
+    FullBook,
+    AnotherProgram,
+    EqualBook,
+    UnknownParticipant,
+    UnknownNode,
+    NoProposal,
+    NoChannel,
+    OldProposal,
+    OldLook,
+    NewLook,
+    OwnComponents,
+    TakenApart,
+}
+
+/// Tests a row with a maker that is made for it.
+fn passes<R: Abort>(rt: &R, alloc: Global, row: Row) -> Result<(), Fail> {
+    passes_by::<Brand, R>(rt, alloc, Maker::new(), row)
+}
+
+/// Tests a row with a maker of this origin.
+fn passes_by<O: Origin, R: Abort>(rt: &R, alloc: Global, maker: Maker, row: Row) -> Result<(), Fail>
+    requires { maker_name maker ≡ O.name }
+{
+    let maker: MakerOf<O> = MakerOf::of(maker);
+    match row {
+        Row::SecondProposal => second_is_stale(rt, alloc, maker),
+        Row::FullBook => book_is_full(rt, alloc, maker),
+        Row::AnotherProgram => another_program_differs(rt, alloc, maker),
+        Row::EqualBook => another_book_agrees(rt, alloc, maker),
+        Row::UnknownParticipant => participant_is_unknown(rt, alloc, maker),
+        Row::UnknownNode => node_is_unknown(rt, alloc, maker),
+        Row::NoProposal => step_has_fault(rt, alloc, maker),
+        Row::NoChannel => channel_is_missing(rt, alloc, maker),
+        Row::OldProposal => old_proposal_is_stale(rt, alloc, maker),
+        Row::OldLook => look_is_as_it_was(rt, alloc, maker),
+        Row::NewLook => look_is_new(rt, alloc, maker),
+        Row::OwnComponents => look_reads_own(rt, alloc, maker),
+        Row::TakenApart => execution_is_whole(rt, alloc, maker),
+    }
+}
+
+fn second_is_stale<O: Origin, R: Abort>(
+    rt: &R,
+    alloc: Global,
+    maker: MakerOf<O>,
+) -> Result<(), Fail> {
+    let mut book = book_of(alloc, maker, &LIST, 10)?;
     let first = proposal_of(alloc, &book, sent(7))?;
     let second = proposal_of(alloc, &book, sent(7))?;
     assert!(rt; commits(alloc, &mut book, first, "0 send(7, 0, 1)")?);
@@ -243,21 +327,21 @@ fn of_two_proposals_on_the_same_state_the_second_is_stale(rt: HostRuntime) -> Re
     Ok(())
 }
 
-#[test]
-fn a_book_of_no_actions_is_full(rt: HostRuntime) -> Result<(), Fail> {
-    let alloc = rt.alloc();
-    let mut book = book_of(alloc, &LIST, 0)?;
+fn book_is_full<O: Origin, R: Abort>(rt: &R, alloc: Global, maker: MakerOf<O>) -> Result<(), Fail> {
+    let mut book = book_of(alloc, maker, &LIST, 0)?;
     assert!(rt; takes(alloc, &mut book, sent(7), "52 Full; back send(7, 0, 1)")?);
     assert!(rt; records(alloc, &book, "")?);
     Ok(())
 }
 
-#[test]
-fn a_proposal_of_another_program_differs(rt: HostRuntime) -> Result<(), Fail> {
-    let alloc = rt.alloc();
-    let other = book_of(alloc, &PING, 10)?;
-    let mut book = book_of(alloc, &LIST, 10)?;
+fn another_program_differs<O: Origin, R: Abort>(
+    rt: &R,
+    alloc: Global,
+    maker: MakerOf<O>,
+) -> Result<(), Fail> {
+    let other = book_of(alloc, maker, &PING, 10)?;
     let proposal = proposal_of(alloc, &other, sent(5))?;
+    let mut book = book_after(alloc, other, &LIST)?;
     assert!(rt;
         commits(
             alloc,
@@ -270,51 +354,72 @@ fn a_proposal_of_another_program_differs(rt: HostRuntime) -> Result<(), Fail> {
     Ok(())
 }
 
-#[test]
-fn a_proposal_of_a_node_that_is_not_there_is_unknown(rt: HostRuntime) -> Result<(), Fail> {
-    let alloc = rt.alloc();
-    let other = book_of(alloc, &[TICK], 10)?;
-    let mut book = book_of(alloc, &[ONE], 10)?;
+fn another_book_agrees<O: Origin, R: Abort>(
+    rt: &R,
+    alloc: Global,
+    maker: MakerOf<O>,
+) -> Result<(), Fail> {
+    let other = book_of(alloc, maker, &LIST, 10)?;
+    let proposal = proposal_of(alloc, &other, sent(7))?;
+    let mut book = book_after(alloc, other, &LIST)?;
+    assert!(rt; commits(alloc, &mut book, proposal, "0 send(7, 0, 1)")?);
+    assert!(rt; records(alloc, &book, "send(7, 0, 1)")?);
+    Ok(())
+}
+
+fn participant_is_unknown<O: Origin, R: Abort>(
+    rt: &R,
+    alloc: Global,
+    maker: MakerOf<O>,
+) -> Result<(), Fail> {
+    let other = book_of(alloc, maker, &[TICK], 10)?;
     let proposal = proposal_of(alloc, &other, tick_at(alloc, 1)?)?;
+    let mut book = book_after(alloc, other, &[ONE])?;
     assert!(rt; commits(alloc, &mut book, proposal, "53 Unknown node 1; back tick@1")?);
     assert!(rt; records(alloc, &book, "")?);
     Ok(())
 }
 
-#[test]
-fn a_node_that_is_not_there_is_unknown(rt: HostRuntime) -> Result<(), Fail> {
-    let alloc = rt.alloc();
-    let book = book_of(alloc, &LIST, 10)?;
+fn node_is_unknown<O: Origin, R: Abort>(
+    rt: &R,
+    alloc: Global,
+    maker: MakerOf<O>,
+) -> Result<(), Fail> {
+    let book = book_of(alloc, maker, &LIST, 10)?;
     assert!(rt; looks(alloc, &book, 7, "53 Unknown")?);
     assert!(rt; looks(alloc, &book, 1, "node 1")?);
     Ok(())
 }
 
-#[test]
-fn actions_of_another_node_or_not_enabled_are_not_proposed(rt: HostRuntime) -> Result<(), Fail> {
-    let alloc = rt.alloc();
-    let book = book_of(alloc, &LIST, 10)?;
+fn step_has_fault<O: Origin, R: Abort>(
+    rt: &R,
+    alloc: Global,
+    maker: MakerOf<O>,
+) -> Result<(), Fail> {
+    let book = book_of(alloc, maker, &LIST, 10)?;
     let look = book.look(alloc, 0)?;
     assert!(rt; proposes(alloc, &look, received(7), "41 NotMine")?);
     assert!(rt; proposes(alloc, &look, sent(8), "40 NotEnabled")?);
     Ok(())
 }
 
-#[test]
-fn a_send_without_its_channel_is_not_proposed(rt: HostRuntime) -> Result<(), Fail> {
-    let alloc = rt.alloc();
-    let book = book_of(alloc, &WITHOUT_CHANNEL, 10)?;
+fn channel_is_missing<O: Origin, R: Abort>(
+    rt: &R,
+    alloc: Global,
+    maker: MakerOf<O>,
+) -> Result<(), Fail> {
+    let book = book_of(alloc, maker, &WITHOUT_CHANNEL, 10)?;
     let look = book.look(alloc, 0)?;
     assert!(rt; proposes(alloc, &look, sent(7), "42 NoChannel")?);
     Ok(())
 }
 
-#[test]
-fn an_old_proposal_is_stale_though_the_states_are_as_it_read_them(
-    rt: HostRuntime,
+fn old_proposal_is_stale<O: Origin, R: Abort>(
+    rt: &R,
+    alloc: Global,
+    maker: MakerOf<O>,
 ) -> Result<(), Fail> {
-    let alloc = rt.alloc();
-    let mut book = book_of(alloc, &PING, 10)?;
+    let mut book = book_of(alloc, maker, &PING, 10)?;
     let look = book.look(alloc, 0)?;
     let old = look.propose(alloc, sent(5))?;
     assert!(rt; takes(alloc, &mut book, sent(5), "0 send(5, 0, 1)")?);
@@ -328,10 +433,12 @@ fn an_old_proposal_is_stale_though_the_states_are_as_it_read_them(
     Ok(())
 }
 
-#[test]
-fn a_look_shows_the_state_that_it_read(rt: HostRuntime) -> Result<(), Fail> {
-    let alloc = rt.alloc();
-    let mut book = book_of(alloc, &LIST, 10)?;
+fn look_is_as_it_was<O: Origin, R: Abort>(
+    rt: &R,
+    alloc: Global,
+    maker: MakerOf<O>,
+) -> Result<(), Fail> {
+    let mut book = book_of(alloc, maker, &LIST, 10)?;
     let look = book.look(alloc, 0)?;
     assert!(rt; takes(alloc, &mut book, sent(7), "0 send(7, 0, 1)")?);
     assert!(rt; proposes(alloc, &look, sent(7), "send(7, 0, 1)")?);
@@ -343,10 +450,8 @@ fn a_look_shows_the_state_that_it_read(rt: HostRuntime) -> Result<(), Fail> {
     Ok(())
 }
 
-#[test]
-fn a_new_look_shows_the_state_after_a_commit(rt: HostRuntime) -> Result<(), Fail> {
-    let alloc = rt.alloc();
-    let mut book = book_of(alloc, &LIST, 10)?;
+fn look_is_new<O: Origin, R: Abort>(rt: &R, alloc: Global, maker: MakerOf<O>) -> Result<(), Fail> {
+    let mut book = book_of(alloc, maker, &LIST, 10)?;
     assert!(rt; takes(alloc, &mut book, sent(7), "0 send(7, 0, 1)")?);
     let sender = book.look(alloc, 0)?;
     assert_eq!(rt; sender.length(), 1);
@@ -358,10 +463,12 @@ fn a_new_look_shows_the_state_after_a_commit(rt: HostRuntime) -> Result<(), Fail
     Ok(())
 }
 
-#[test]
-fn a_look_reads_the_node_its_channels_and_its_script(rt: HostRuntime) -> Result<(), Fail> {
-    let alloc = rt.alloc();
-    let book = book_of(alloc, &LIST, 10)?;
+fn look_reads_own<O: Origin, R: Abort>(
+    rt: &R,
+    alloc: Global,
+    maker: MakerOf<O>,
+) -> Result<(), Fail> {
+    let book = book_of(alloc, maker, &LIST, 10)?;
     let look = book.look(alloc, 1)?;
     assert_eq!(rt; look.node(), 1);
     let rows = [
@@ -377,10 +484,12 @@ fn a_look_reads_the_node_its_channels_and_its_script(rt: HostRuntime) -> Result<
     Ok(())
 }
 
-#[test]
-fn an_execution_has_the_log_and_a_state_for_each_component(rt: HostRuntime) -> Result<(), Fail> {
-    let alloc = rt.alloc();
-    let mut book = book_of(alloc, &PING, 10)?;
+fn execution_is_whole<O: Origin, R: Abort>(
+    rt: &R,
+    alloc: Global,
+    maker: MakerOf<O>,
+) -> Result<(), Fail> {
+    let mut book = book_of(alloc, maker, &PING, 10)?;
     let old = proposal_of(alloc, &book, sent(5))?;
     assert!(rt; takes(alloc, &mut book, sent(5), "0 send(5, 0, 1)")?);
     assert!(rt; takes(alloc, &mut book, received(5), "1 receive(5, 0, 1)")?);
@@ -391,4 +500,71 @@ fn an_execution_has_the_log_and_a_state_for_each_component(rt: HostRuntime) -> R
     assert_eq!(rt; schedule.as_str(), "send(5, 0, 1), receive(5, 0, 1)");
     assert_eq!(rt; execution.states.len(), 5);
     Ok(())
+}
+
+#[test]
+fn of_two_proposals_on_the_same_state_the_second_is_stale(rt: HostRuntime) -> Result<(), Fail> {
+    passes(&rt, rt.alloc(), Row::SecondProposal)
+}
+
+#[test]
+fn a_book_of_no_actions_is_full(rt: HostRuntime) -> Result<(), Fail> {
+    passes(&rt, rt.alloc(), Row::FullBook)
+}
+
+#[test]
+fn a_proposal_of_another_program_differs(rt: HostRuntime) -> Result<(), Fail> {
+    passes(&rt, rt.alloc(), Row::AnotherProgram)
+}
+
+#[test]
+fn a_proposal_of_a_node_that_is_not_there_is_unknown(rt: HostRuntime) -> Result<(), Fail> {
+    passes(&rt, rt.alloc(), Row::UnknownParticipant)
+}
+
+#[test]
+fn a_node_that_is_not_there_is_unknown(rt: HostRuntime) -> Result<(), Fail> {
+    passes(&rt, rt.alloc(), Row::UnknownNode)
+}
+
+#[test]
+fn actions_of_another_node_or_not_enabled_are_not_proposed(rt: HostRuntime) -> Result<(), Fail> {
+    passes(&rt, rt.alloc(), Row::NoProposal)
+}
+
+#[test]
+fn a_send_without_its_channel_is_not_proposed(rt: HostRuntime) -> Result<(), Fail> {
+    passes(&rt, rt.alloc(), Row::NoChannel)
+}
+
+#[test]
+fn an_old_proposal_is_stale_though_the_states_are_as_it_read_them(
+    rt: HostRuntime,
+) -> Result<(), Fail> {
+    passes(&rt, rt.alloc(), Row::OldProposal)
+}
+
+#[test]
+fn a_look_shows_the_state_that_it_read(rt: HostRuntime) -> Result<(), Fail> {
+    passes(&rt, rt.alloc(), Row::OldLook)
+}
+
+#[test]
+fn a_new_look_shows_the_state_after_a_commit(rt: HostRuntime) -> Result<(), Fail> {
+    passes(&rt, rt.alloc(), Row::NewLook)
+}
+
+#[test]
+fn a_look_reads_the_node_its_channels_and_its_script(rt: HostRuntime) -> Result<(), Fail> {
+    passes(&rt, rt.alloc(), Row::OwnComponents)
+}
+
+#[test]
+fn an_execution_has_the_log_and_a_state_for_each_component(rt: HostRuntime) -> Result<(), Fail> {
+    passes(&rt, rt.alloc(), Row::TakenApart)
+}
+
+#[test]
+fn a_proposal_on_an_equal_book_is_committed(rt: HostRuntime) -> Result<(), Fail> {
+    passes(&rt, rt.alloc(), Row::EqualBook)
 }

@@ -12,6 +12,7 @@ ghost use Rattle.ioa_solo.specs.Attempts.{IsRecordedBy, fire_answer, outcome_in}
 use ioa_actions::{Action, StepFault};
 use ioa_book::{Book, Proposal, Refusal, Snapshot};
 use ioa_record::NodeFault;
+use ioa_sharing::Origin;
 use ioa_system::{Program, Rule};
 use ioa_terms::{Kind, Value, Word};
 use std::alloc::{AllocError, Global};
@@ -55,10 +56,10 @@ fn is_input(rule: Option<&Rule>) -> bool
 /// The step of an action that a node fires, on a look at the node in the book as it is. The action is proposed and
 /// committed: `NotMine` (41) if it is another node's, else the joint step's fault, and `Full` (52) if the book is full.
 /// After a fault the book is as it was.
-pub(crate) fn fire(
+pub(crate) fn fire<O: Origin>(
     alloc: Global,
-    book: &mut Book,
-    snapshot: &Snapshot,
+    book: &mut Book<O>,
+    snapshot: &Snapshot<O>,
     node: i64,
     action: Action,
 ) -> Result<FireOutcome, NodeFault>
@@ -89,11 +90,11 @@ fn outcome_of(fault: StepFault) -> Result<FireOutcome, NodeFault>
 }
 
 /// Commits a proposal on a look at the book as it is. Nothing was committed since, so only a full book refuses it.
-fn commit(
-    book: &mut Book,
-    snapshot: &Snapshot,
+fn commit<O: Origin>(
+    book: &mut Book<O>,
+    snapshot: &Snapshot<O>,
     node: i64,
-    proposal: Proposal,
+    proposal: Proposal<O>,
 ) -> Result<FireOutcome, NodeFault>
     requires fresh { IsLookAt book.old node snapshot.now }
     requires proposed { proposal_answer proposal.action snapshot.now ≡ Ok proposal }

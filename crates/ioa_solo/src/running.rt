@@ -3,6 +3,7 @@
 ghost use Rattle.std.specs.Prelude.{◌≡◌, ◌⊎◌, ◌+◌, [], ◌∷◌, None, true, IfOk, OnOk, OnErr, length, map};
 ghost use Rattle.std.specs.List.{list_all, list_any};
 ghost use Rattle.std.specs.Arc.{arc_value};
+ghost use Rattle.ioa_sharing.specs.Shared.{maker_name};
 ghost use Rattle.ioa_system.specs.Declarations.{IsWellDeclared};
 ghost use Rattle.ioa_terms.specs.View.{firing_of};
 ghost use Rattle.ioa_book.specs.Books.{IsExecutionOf, IsLookAt};
@@ -21,8 +22,10 @@ use crate::turn::fresh_turn;
 use ioa_book::{Book, LookFault, Snapshot};
 use ioa_record::{Ending, NodeFault, Record};
 use ioa_schedules::{Fired, Turn, passed};
+use ioa_sharing::{Maker, MakerOf, Origin};
 use ioa_system::{Program, System};
 use std::alloc::{AllocError, Global};
+use std::marker::Brand;
 use std::sync::Arc;
 
 /// Runs a system by one worker (profile). The worker goes round the nodes in order until each has an ending. A visit of
@@ -39,7 +42,23 @@ pub fn run(
     ensures run { IfOk result (λ r. IsWellDeclared system.now → IsRunOf system.now options.now.steps r.0 r.1.items) }
     ensures solo { IfOk result (λ r. IsSoloRun system.now options.now r.0 r.1.items) }
 {
-    let mut book = Book::new(alloc, system, options.steps() as usize)?;
+    run_by::<Brand>(alloc, Maker::new(), system, options)
+}
+
+/// The same by a maker of this origin, which numbers what the book of commits holds.
+fn run_by<O: Origin>(
+    alloc: Global,
+    maker: Maker,
+    system: &System,
+    options: &Options,
+) -> Result<(Record, Vec<Ending>), AllocError>
+    requires { maker_name maker ≡ O.name }
+    ensures left { IfOk result (λ r. IsRecordOf system.now options.now.steps r.0 r.1.items) }
+    ensures run { IfOk result (λ r. IsWellDeclared system.now → IsRunOf system.now options.now.steps r.0 r.1.items) }
+    ensures solo { IfOk result (λ r. IsSoloRun system.now options.now r.0 r.1.items) }
+{
+    let maker: MakerOf<O> = MakerOf::of(maker);
+    let mut book = Book::new(alloc, maker, system, options.steps() as usize)?;
     let mut nodes = start_nodes(alloc, system.programs(), options.attempts())?;
     go_on(alloc, options, &mut book, &mut nodes);
     let left = record_of(alloc, book, &nodes)?;
@@ -47,9 +66,9 @@ pub fn run(
 }
 
 /// The record of a run that its book and its nodes leave, and the endings of the nodes, in order.
-fn record_of(
+fn record_of<O: Origin>(
     alloc: Global,
-    book: Book,
+    book: Book<O>,
     nodes: &[Progress],
 ) -> Result<(Record, Vec<Ending>), AllocError>
     ensures execution { IfOk result (λ r. IsExecutionOf book r.0.schedule.items r.0.states.items) }
@@ -70,7 +89,7 @@ fn record_of(
 
 /// Goes round the nodes until each has an ending, at most once more than they have attempts. If memory runs out, each
 /// node without an ending gets that fault.
-fn go_on(alloc: Global, options: &Options, book: &mut Book, nodes: &mut [Progress])
+fn go_on<O: Origin>(alloc: Global, options: &Options, book: &mut Book<O>, nodes: &mut [Progress])
     ensures one { IsOneRun book.old book.new }
     ensures solo { (list_any is_cut_short (map ending_of (map progress_of nodes.new)) ≡ true)
         ⊎ ((course_of book.new, map progress_of nodes.new)
@@ -116,7 +135,11 @@ fn start_nodes(
 }
 
 /// Visits each node that has no ending, in order, until memory runs out at one.
-fn go_round(alloc: Global, book: &mut Book, nodes: &mut [Progress]) -> Result<(), AllocError>
+fn go_round<O: Origin>(
+    alloc: Global,
+    book: &mut Book<O>,
+    nodes: &mut [Progress],
+) -> Result<(), AllocError>
     ensures one { IsOneRun book.old book.new }
     ensures round { OnOk result
         ((course_of book.new, map progress_of nodes.new)
@@ -130,7 +153,11 @@ fn go_round(alloc: Global, book: &mut Book, nodes: &mut [Progress]) -> Result<()
 }
 
 /// A visit of a node, unless it has an ending.
-fn visit_unless_ended(alloc: Global, book: &mut Book, node: &mut Progress) -> Result<(), AllocError>
+fn visit_unless_ended<O: Origin>(
+    alloc: Global,
+    book: &mut Book<O>,
+    node: &mut Progress,
+) -> Result<(), AllocError>
     ensures one { IsOneRun book.old book.new }
     ensures visited { OnOk result (visit_unless_ended book.old.limit (course_of book.old) (progress_of node.old)
         ≡ (course_of book.new, progress_of node.new)) }
@@ -161,7 +188,11 @@ fn end_for_memory(node: &mut Progress)
 }
 
 /// One visit of a node that has no ending: an attempt, if one is left. If memory runs out, the visit does not count.
-fn visit(alloc: Global, book: &mut Book, node: &mut Progress) -> Result<(), AllocError>
+fn visit<O: Origin>(
+    alloc: Global,
+    book: &mut Book<O>,
+    node: &mut Progress,
+) -> Result<(), AllocError>
     requires { node.old.ending ≡ None }
     ensures one { IsOneRun book.old book.new }
     ensures visited { OnOk result (visit book.old.limit (course_of book.old) (progress_of node.old)
@@ -177,7 +208,11 @@ fn visit(alloc: Global, book: &mut Book, node: &mut Progress) -> Result<(), Allo
 }
 
 /// One attempt of a node: a look at it, and what follows from that. A node that is not there has no turn.
-fn attempt(alloc: Global, book: &mut Book, node: &mut Progress) -> Result<(), AllocError>
+fn attempt<O: Origin>(
+    alloc: Global,
+    book: &mut Book<O>,
+    node: &mut Progress,
+) -> Result<(), AllocError>
     requires { node.old.ending ≡ None }
     ensures one { IsOneRun book.old book.new }
     ensures attempted { OnOk result (attempt book.old.limit (course_of book.old) (progress_of node.old)
@@ -192,10 +227,10 @@ fn attempt(alloc: Global, book: &mut Book, node: &mut Progress) -> Result<(), Al
 }
 
 /// An attempt of a node on a look at it: its turn on what the look shows, and the step of the action that it fires.
-fn attempt_on(
+fn attempt_on<O: Origin>(
     alloc: Global,
-    book: &mut Book,
-    snapshot: &Snapshot,
+    book: &mut Book<O>,
+    snapshot: &Snapshot<O>,
     node: &mut Progress,
 ) -> Result<(), AllocError>
     requires fresh { IsLookAt book.old node.old.program.now.node snapshot.now }
@@ -217,10 +252,10 @@ fn attempt_on(
 }
 
 /// What follows from the fire at which a node stands: the block moves past it, unless the action meets a fault.
-fn go_past(
+fn go_past<O: Origin>(
     alloc: Global,
-    book: &mut Book,
-    snapshot: &Snapshot,
+    book: &mut Book<O>,
+    snapshot: &Snapshot<O>,
     node: &mut Progress,
     fired: Fired,
 ) -> Result<(), AllocError>

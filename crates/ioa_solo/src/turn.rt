@@ -22,6 +22,7 @@ use ioa_book::{Book, Snapshot, VersionedConf};
 use ioa_compose::Conf;
 use ioa_record::NodeFault;
 use ioa_schedules::{Control, Turn, View, next};
+use ioa_sharing::Origin;
 use ioa_system::Program;
 use ioa_terms::{Inbox, LentValues};
 use ioa_transitions::NodeConf;
@@ -107,16 +108,16 @@ fn inbox_of(node: i64, messages: &Sequence, component: Component) -> Option<Inbo
 }
 
 /// The inboxes of a node, in the order of what was read. No message is copied.
-fn inboxes_to(
+fn inboxes_to<O: Origin>(
     alloc: Global,
-    reads: &[VersionedConf],
+    reads: &[VersionedConf<O>],
     node: i64,
 ) -> Result<Vec<Inbox<'_>>, AllocError>
     ensures { IfOk result (λ v. inboxes_of v.items ≡ inboxes_in node (read_confs reads.now)) }
 {
     let mut inboxes = Vec::new(alloc);
     for read in reads {
-        if let Some(inbox) = inbox_at(&read.conf, node) {
+        if let Some(inbox) = inbox_at(read.conf(), node) {
             inboxes.push(inbox)?;
         }
     }
@@ -124,22 +125,22 @@ fn inboxes_to(
 }
 
 /// The configuration of a component, if it was read.
-fn find_conf(reads: &[VersionedConf], component: Component) -> Option<&Conf>
+fn find_conf<O: Origin>(reads: &[VersionedConf<O>], component: Component) -> Option<&Conf>
     ensures { option_copied result ≡ conf.find_conf component (read_confs reads.now) }
 {
     for read in reads {
         if component == read.component() {
-            return Some(&read.conf);
+            return Some(read.conf());
         }
     }
     None
 }
 
 /// The turn of a node on a look at it in the book as it is (profile): the turn on the present configurations.
-pub(crate) fn fresh_turn<'a>(
+pub(crate) fn fresh_turn<'a, O: Origin>(
     alloc: Global,
-    book: &Book,
-    snapshot: &Snapshot,
+    book: &Book<O>,
+    snapshot: &Snapshot<O>,
     node: &mut Progress<'a>,
 ) -> Result<Turn<'a>, NodeFault>
     requires { IsLookAt book.now node.old.program.now.node snapshot.now }
@@ -154,9 +155,9 @@ pub(crate) fn fresh_turn<'a>(
 
 /// The turn of a node on what a look at it has read (profile). `Differs (51)` if that shows no configuration that may
 /// be the node's; else the fault of its block, if that meets one. After a fault the node is as it was.
-fn turn_of<'a>(
+fn turn_of<'a, O: Origin>(
     alloc: Global,
-    reads: &[VersionedConf],
+    reads: &[VersionedConf<O>],
     node: &mut Progress<'a>,
 ) -> Result<Turn<'a>, NodeFault>
     ensures turn { Answers NodeFault.Memory (λ t. (end_of t, progress_of node.new)) result
@@ -173,9 +174,9 @@ fn turn_of<'a>(
 }
 
 /// The turn of a node on a configuration, among those that were read.
-fn turn_on<'a>(
+fn turn_on<'a, O: Origin>(
     alloc: Global,
-    reads: &[VersionedConf],
+    reads: &[VersionedConf<O>],
     conf: &NodeConf,
     node: &mut Progress<'a>,
 ) -> Result<Turn<'a>, NodeFault>
@@ -202,9 +203,9 @@ fn shows_program(program: &Program, conf: &NodeConf) -> bool
 
 /// The turn of a node on a configuration that may be its own, among those that were read. Its inboxes are looked up only
 /// if its automaton takes messages.
-fn turn_among<'a>(
+fn turn_among<'a, O: Origin>(
     alloc: Global,
-    reads: &[VersionedConf],
+    reads: &[VersionedConf<O>],
     conf: &NodeConf,
     node: &mut Progress<'a>,
 ) -> Result<Turn<'a>, NodeFault>

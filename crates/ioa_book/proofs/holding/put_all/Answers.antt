@@ -1,9 +1,10 @@
 use Rattle.std.proofs.Common.{◌∙◌, refl}
+use Rattle.std.proofs.lemmas.List.{map-append}
 use Rattle.ioa_book.proofs.Puts.{put_all-push}
 use Rattle.ioa_book.proofs.holding.put_all.Goals as goal
 
 pub loop-conf-preserved : goal.loop-conf-preserved
-loop-conf-preserved c = record {
-  put = rw (c.put.ensures.put, c.loop-conf.invariant.put, put_all-push) refl;
+loop-conf-preserved g c = record {
+  put = rw (c.put.ensures.put, c.loop-conf.invariant.put, map-append, put_all-push) refl;
   components = c.put.ensures.components ∙ c.loop-conf.invariant.components;
 }

@@ -5,6 +5,6 @@ use Rattle.ioa_solo.proofs.FreshTurns.{turn_program}
 use Rattle.ioa_solo.proofs.running.attempt_on.Goals as goal
 
 pub go_past-requires-clause-fresh : goal.go_past-requires-clause-fresh
-go_past-requires-clause-fresh c =
+go_past-requires-clause-fresh g c =
     let same : c.fresh_turn.new.node.program.now ≡ c.args.node.now.program.now = turn_program (states_held c.args.book.now) (progress_of c.args.node.now) _ c.in-Ok-Fire.ensures.turn in
     rw same c.requires.fresh

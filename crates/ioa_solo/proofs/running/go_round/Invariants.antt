@@ -7,7 +7,7 @@ use Rattle.ioa_solo.proofs.running.go_round.Given as goal
 
 -- the book goes on from that of the beginning of the round, and the nodes gone by come before the rest of the round
 abbrev pub invariant-loop-position : goal.invariant-loop-position
-invariant-loop-position l = record {
+invariant-loop-position g l = record {
   one : IsOneRun l.initial.book l.book;
   rest : prepend_nodes (map progress_of (take l.position l.nodes))
       (round l.book.limit (course_of l.book) (map progress_of (drop l.position l.nodes)))

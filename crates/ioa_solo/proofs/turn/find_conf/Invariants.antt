@@ -5,5 +5,5 @@ use Rattle.ioa_solo.proofs.turn.find_conf.Given as goal
 
 -- the component is none of those gone by
 abbrev pub invariant-loop-read : goal.invariant-loop-read
-invariant-loop-read l =
+invariant-loop-read g l =
     find_conf l.component (read_confs (drop l.read-index l.reads)) ≡ find_conf l.component (read_confs l.reads)

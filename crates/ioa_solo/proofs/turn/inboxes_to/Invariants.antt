@@ -6,6 +6,6 @@ use Rattle.ioa_solo.proofs.turn.inboxes_to.Given as goal
 
 -- the inboxes so far, and then those of what is left of what was read
 abbrev pub invariant-loop-read : goal.invariant-loop-read
-invariant-loop-read l =
+invariant-loop-read g l =
     inboxes_of l.inboxes.items ++ inboxes_in l.node (read_confs (drop l.read-index l.reads))
     ≡ inboxes_in l.node (read_confs l.reads)

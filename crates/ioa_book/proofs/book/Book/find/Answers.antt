@@ -4,11 +4,11 @@ use Rattle.ioa_book.proofs.Commits.{none_held, some_held}
 use Rattle.ioa_book.proofs.book.Book.find.Goals as goal
 
 pub returns-in_err-slot : goal.returns-in_err-slot
-returns-in_err-slot c =
+returns-in_err-slot g c =
     let nothing : option_copied c.from_residual.result ≡ None = search rules in
     nothing ∙ rw (← c.self.view_is) (none_held _ _ _ _ _ c.self.invariant c.args.component (search rules))
 
 pub returns : goal.returns
-returns c =
+returns g c =
     let got = rw c.deref.ensures.value at c.at_slot.ensures in
     got ∙ rw (← c.self.view_is) (some_held _ _ _ _ _ c.self.invariant c.args.component c.in_ok-slot.slot (search rules))

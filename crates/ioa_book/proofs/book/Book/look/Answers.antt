@@ -7,7 +7,7 @@ use Rattle.ioa_book.proofs.Commits.{look_made}
 use Rattle.ioa_book.proofs.book.Book.look.Goals as goal
 
 pub returns-in_ok-reads : goal.returns-in_ok-reads
-returns-in_ok-reads c =
+returns-in_ok-reads g c =
     let own : c.own.result.now ≡ own_slots c.args.node 0 c.self.inside.index = search rules in
     let there : is_some (held_of c.args.self.now (Node c.args.node)) ≡ true = search rules in
     let made : c.new.result ≡ plain_snapshot c.args.node c.len.result c.in_ok-reads.reads.items = search rules in

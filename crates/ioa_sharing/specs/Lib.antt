@@ -1,0 +1,4 @@
+-- what the contracts of this crate cite
+pub mod Kept
+pub mod Shared
+pub mod Named
