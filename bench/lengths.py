@@ -1,10 +1,11 @@
 #!/usr/bin/env python3
 """Writes a text whose steps are made while a collection has about so many items: bench/lengths.py KIND LENGTH STEPS
 
-The kinds are: `beside`, a node that ticks and has a sequence and a set of LENGTH numbers, which no step touches; `append`,
-a node that puts one item more behind a sequence of LENGTH numbers in each step; `queue`, a node that sends to one that
-receives, while LENGTH messages wait on the channel, STEPS of each. So that it can be seen what a step costs, run the text
-with two numbers of steps and take the difference.
+The kinds are: `beside`, a node that ticks and has a sequence and a set of LENGTH numbers, which no step touches;
+`sequence`, a node that puts one item more behind a sequence of LENGTH numbers in each step, and takes the first one off;
+`queue`, a node that sends to one that receives, while LENGTH messages wait on the channel, STEPS of each. So that it can
+be seen what a step costs, run the text with two numbers of steps and take the difference: some thousands, since what a
+report costs differs a little with how its last sequence is kept.
 """
 import sys
 
@@ -28,13 +29,13 @@ system
   node 0: Ticker"""
 
 
-def append(length, steps):
-    """A node whose sequence grows by an item in each step."""
+def sequence(length, steps):
+    """A node whose sequence gets an item behind and loses the first one in each step."""
     return f"""\
 automaton Keeper
   signature internal keep
   states items: Seq[Int] := {numbers(length)}
-  transitions internal keep eff items := items |- 7
+  transitions internal keep eff items := tail(items |- 7)
   schedule
     states k: Int := 0
     do while k < {steps} do fire keep; k := k + 1 od od
@@ -69,7 +70,7 @@ system
   channel 0 -> 1"""
 
 
-KINDS = {kind.__name__: kind for kind in (beside, append, queue)}
+KINDS = {kind.__name__: kind for kind in (beside, sequence, queue)}
 
 if __name__ == "__main__":
     if len(sys.argv) != 4 or sys.argv[1] not in KINDS or not (sys.argv[2] + sys.argv[3]).isdigit():
