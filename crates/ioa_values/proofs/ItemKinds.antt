@@ -4,7 +4,7 @@ use Rattle.std.specs.Prelude.{max}
 use Rattle.std.specs.List.{list_all}
 use Rattle.std.proofs.lemmas.Bool.Decides.{nat_tests}
 use Rattle.std.proofs.lemmas.List.Folds.{list_all-append}
-use Rattle.ioa_values.specs.Data.{Data, number, truth, constant, tuple, sequence, finite_set, finite_map}
+use Rattle.ioa_values.specs.Data.{Data, number, constant}
 use Rattle.ioa_values.specs.ItemKinds.{AreOfKind, common_kind, is_of_kind}
 use Rattle.ioa_values.specs.declared.item_kind.ItemKind.{ItemKind}
 use Rattle.ioa_values.specs.declared.item_kind.ItemKind.TheVariants.{Truths, Naturals, Integers, Constants, Any}

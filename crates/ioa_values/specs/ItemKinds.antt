@@ -1,5 +1,5 @@
 -- What is known of all items of a sequence (form).
-use Rattle.std.specs.Prelude.{◌≡◌, ℤ, pos, int_le, nat_le, min, max, Bool, true, false, ◌&&◌, List}
+use Rattle.std.specs.Prelude.{◌≡◌, pos, int_le, nat_le, min, max, Bool, true, false, ◌&&◌, List}
 use Rattle.std.specs.List.{list_all}
 use Rattle.ioa_values.specs.Data.{Data, number, truth, constant}
 use Rattle.ioa_values.specs.declared.item_kind.ItemKind.{ItemKind}

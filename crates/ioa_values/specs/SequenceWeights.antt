@@ -1,5 +1,5 @@
 -- The trees of a sequence weigh less than the sequence (form).
-use Rattle.std.specs.Prelude.{◌+◌, ◌≤◌, ◌++◌, List, Option, Some, None}
+use Rattle.std.specs.Prelude.{◌≤◌, ◌++◌, List, Option, Some, None}
 use Rattle.std.specs.declared.alloc.Global.{Global}
 use Rattle.std.specs.declared.sync.Arc.{Arc}
 use Rattle.std.proofs.Common.{arith}

@@ -1,4 +1,4 @@
-use Rattle.std.proofs.Common.{◌≡◌, ◌∙◌, ◌++◌, ◌<◌, Equal, min, length, refl, sym, arith, rules}
+use Rattle.std.proofs.Common.{◌≡◌, ◌∙◌, ◌++◌, Equal, min, length, refl, sym, arith, rules}
 use Rattle.ioa_values.specs.Data.{items_of, entries_of}
 use Rattle.ioa_values.specs.DataOrder.{items_cmp, entries_cmp}
 use Rattle.ioa_values.specs.ItemLists.{items_in}
