@@ -51,36 +51,37 @@ pub fn binary(
     ensures memory { LacksMemoryOnlyIf (operator_takes_memory operator) result (binary_value operator left right) }
     ensures canonical { IsCanonical left → IsCanonical right → IfOk result IsCanonical }
 {
-    between_values(alloc, operator, left, right)
+    between_values(alloc, operator, &left, &right)
 }
 
-/// The value of an operator between two values, in one exact clause.
+/// The value of an operator between two values, in one exact clause. It only looks at the values, since an
+/// owned value would be dropped on each way out.
 fn between_values(
     alloc: Global,
     operator: BinaryOperator,
-    left: Value,
-    right: Value,
+    left: &Value,
+    right: &Value,
 ) -> Result<Value, TermFault>
-    ensures { AnswersOrLacks (operator_takes_memory operator) result (binary_value operator left right) }
+    ensures { AnswersOrLacks (operator_takes_memory operator) result (binary_value operator left.now right.now) }
 {
     match operator {
-        BinaryOperator::Equivalent => equivalence(&left, &right),
-        BinaryOperator::Implies => implication(&left, &right),
-        BinaryOperator::Or => disjunction(&left, &right),
-        BinaryOperator::And => conjunction(&left, &right),
-        BinaryOperator::Equal => Ok(Value::truth(left.equals(&right))),
-        BinaryOperator::NotEqual => Ok(Value::truth(!left.equals(&right))),
-        BinaryOperator::Less => less(&left, &right),
-        BinaryOperator::AtMost => at_most(&left, &right),
-        BinaryOperator::Greater => greater(&left, &right),
-        BinaryOperator::AtLeast => at_least(&left, &right),
-        BinaryOperator::Member => membership(&left, &right),
+        BinaryOperator::Equivalent => equivalence(left, right),
+        BinaryOperator::Implies => implication(left, right),
+        BinaryOperator::Or => disjunction(left, right),
+        BinaryOperator::And => conjunction(left, right),
+        BinaryOperator::Equal => Ok(Value::truth(left.equals(right))),
+        BinaryOperator::NotEqual => Ok(Value::truth(!left.equals(right))),
+        BinaryOperator::Less => less(left, right),
+        BinaryOperator::AtMost => at_most(left, right),
+        BinaryOperator::Greater => greater(left, right),
+        BinaryOperator::AtLeast => at_least(left, right),
+        BinaryOperator::Member => membership(left, right),
         BinaryOperator::Prepend => prepend(alloc, left, right),
         BinaryOperator::Append => append(alloc, left, right),
         BinaryOperator::Concatenate => concatenate(alloc, left, right),
-        BinaryOperator::Plus => sum(&left, &right),
-        BinaryOperator::Minus => difference(&left, &right),
-        BinaryOperator::Times => product(&left, &right),
-        BinaryOperator::At => at_key(&left, &right),
+        BinaryOperator::Plus => sum(left, right),
+        BinaryOperator::Minus => difference(left, right),
+        BinaryOperator::Times => product(left, right),
+        BinaryOperator::At => at_key(left, right),
     }
 }

@@ -11,28 +11,42 @@ use ioa_values::{Value, ValueForm, collections};
 use std::alloc::Global;
 
 /// A value, and then the items of a sequence. Costs the same at any length.
-pub(crate) fn prepend(alloc: Global, item: Value, sequence: Value) -> Result<Value, TermFault>
-    ensures { AnswersOrLacks true result (binary_value BinaryOperator.Prepend item sequence) }
+#[tactic(auto, using(ioa_values::proofs::ItemLists::list_of_items))]
+pub(crate) fn prepend(alloc: Global, item: &Value, sequence: &Value) -> Result<Value, TermFault>
+    ensures { AnswersOrLacks true result (binary_value BinaryOperator.Prepend item.now sequence.now) }
 {
-    let items = sequence_of(sequence)?;
-    Ok(Value::sequence(items.prepend(alloc, item)?))
+    match &sequence.form {
+        ValueForm::Sequence(items) => {
+            Ok(Value::sequence(items.prepend(alloc, item.try_copy()?)?))
+        }
+        _ => Err(TermFault::Undefined),
+    }
 }
 
 /// The items of a sequence, and then a value. Costs the same at any length.
-pub(crate) fn append(alloc: Global, sequence: Value, item: Value) -> Result<Value, TermFault>
-    ensures { AnswersOrLacks true result (binary_value BinaryOperator.Append sequence item) }
+#[tactic(auto, using(ioa_values::proofs::ItemLists::list_of_items))]
+pub(crate) fn append(alloc: Global, sequence: &Value, item: &Value) -> Result<Value, TermFault>
+    ensures { AnswersOrLacks true result (binary_value BinaryOperator.Append sequence.now item.now) }
 {
-    let items = sequence_of(sequence)?;
-    Ok(Value::sequence(items.append(alloc, item)?))
+    match &sequence.form {
+        ValueForm::Sequence(items) => {
+            Ok(Value::sequence(items.append(alloc, item.try_copy()?)?))
+        }
+        _ => Err(TermFault::Undefined),
+    }
 }
 
 /// The items of two sequences. Costs the same at any length.
-pub(crate) fn concatenate(alloc: Global, left: Value, right: Value) -> Result<Value, TermFault>
-    ensures { AnswersOrLacks true result (binary_value BinaryOperator.Concatenate left right) }
+#[tactic(auto, using(ioa_values::proofs::ItemLists::list_of_items))]
+pub(crate) fn concatenate(alloc: Global, left: &Value, right: &Value) -> Result<Value, TermFault>
+    ensures { AnswersOrLacks true result (binary_value BinaryOperator.Concatenate left.now right.now) }
 {
-    let items = sequence_of(left)?;
-    let more = sequence_of(right)?;
-    Ok(Value::sequence(items.join(alloc, &more)?))
+    match (&left.form, &right.form) {
+        (ValueForm::Sequence(items), ValueForm::Sequence(more)) => {
+            Ok(Value::sequence(items.join(alloc, more)?))
+        }
+        _ => Err(TermFault::Undefined),
+    }
 }
 
 /// Whether a value is an item of a sequence or a member of a set. Costs one comparison an item.

@@ -14,7 +14,7 @@ pub(crate) fn negative(value: &Value) -> Result<Value, TermFault>
     ensures { AnswersOrLacks false result (unary_value UnaryOperator.Negative value.now) }
 {
     let n = number_of(value)?;
-    match n.checked_neg() {
+    match ioa_numbers::negative(n) {
         Some(other) => Ok(Value::number(other)),
         None => Err(TermFault::Range),
     }
@@ -26,7 +26,7 @@ pub(crate) fn sum(left: &Value, right: &Value) -> Result<Value, TermFault>
 {
     let m = number_of(left)?;
     let n = number_of(right)?;
-    match m.checked_add(n) {
+    match ioa_numbers::sum(m, n) {
         Some(total) => Ok(Value::number(total)),
         None => Err(TermFault::Range),
     }
@@ -38,7 +38,7 @@ pub(crate) fn difference(left: &Value, right: &Value) -> Result<Value, TermFault
 {
     let m = number_of(left)?;
     let n = number_of(right)?;
-    match m.checked_sub(n) {
+    match ioa_numbers::difference(m, n) {
         Some(rest) => Ok(Value::number(rest)),
         None => Err(TermFault::Range),
     }
@@ -50,7 +50,7 @@ pub(crate) fn product(left: &Value, right: &Value) -> Result<Value, TermFault>
 {
     let m = number_of(left)?;
     let n = number_of(right)?;
-    match m.checked_mul(n) {
+    match ioa_numbers::product(m, n) {
         Some(total) => Ok(Value::number(total)),
         None => Err(TermFault::Range),
     }
@@ -98,10 +98,9 @@ pub(crate) fn quotient(left: &Value, right: &Value) -> Result<Value, TermFault>
 {
     let m = number_of(left)?;
     let n = number_of(right)?;
-    if 1 <= n {
-        Ok(Value::number(m.div_euclid(n)))
-    } else {
-        Err(TermFault::Undefined)
+    match ioa_numbers::quotient(m, n) {
+        Some(found) => Ok(Value::number(found)),
+        None => Err(TermFault::Undefined),
     }
 }
 
@@ -111,9 +110,8 @@ pub(crate) fn remainder(left: &Value, right: &Value) -> Result<Value, TermFault>
 {
     let m = number_of(left)?;
     let n = number_of(right)?;
-    if 1 <= n {
-        Ok(Value::number(m.rem_euclid(n)))
-    } else {
-        Err(TermFault::Undefined)
+    match ioa_numbers::remainder(m, n) {
+        Some(found) => Ok(Value::number(found)),
+        None => Err(TermFault::Undefined),
     }
 }
