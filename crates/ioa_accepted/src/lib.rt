@@ -1,4 +1,11 @@
-//! Laws of accepted systems: no value of a wrong sort is met, and no unknown slot.
+//! Laws of systems that the check accepted, and no code: no term meets a value of a wrong sort or a name without a
+//! slot, and what a node can rely on.
+//!
+//! **A crate of its own**, since it needs the check and the run, and nothing waits for it.
+//!
+//! **Must not know**: texts, and reports.
+//!
+//! **Laws**: `block_law`, `inbox_term_law`, `receive_law`, `shapes_kept_law`, `well_sorted_law`.
 #![tactic(auto)]
 
 mod laws;

@@ -1,4 +1,12 @@
-//! The actions of a system and its components: their order, their text, and why an action is no step.
+//! Actions and components of a system: their order, their text, what an action has (its node, its name, its
+//! arguments, its message), and why an action is no step.
+//!
+//! **A crate of its own**, since nodes, queues and the composition share it and are proved side by side; the words
+//! `send` and `receive` stand here and nowhere else.
+//!
+//! **Must not know**: terms and programs.
+//!
+//! **Laws**: `parts_law`.
 #![tactic(auto)]
 
 mod action;

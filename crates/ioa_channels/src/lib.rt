@@ -1,4 +1,10 @@
-//! Queues: of the messages under way on a channel, and of the stimuli left in a script.
+//! Queues, of the messages under way on a channel and of the stimuli left in a script, and their steps.
+//!
+//! **A crate of its own**, since it is proved beside nodes, and small, since two wrong bodies are tried in it.
+//!
+//! **Must not know**: terms, programs, nodes' states, and other components.
+//!
+//! **Laws**: `queue_step_law`.
 #![tactic(auto)]
 
 mod laws;

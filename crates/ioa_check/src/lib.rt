@@ -1,4 +1,11 @@
-//! From a text to its system: types and automata with sorts, nodes with their values, channels and scripts.
+//! From the tree of a source to its system: types and automata with sorts, nodes with their values, channels and
+//! scripts; or the refusal with the index of its declaration.
+//!
+//! **A crate of its own**, since the rules of the system section are proved over what automata have become.
+//!
+//! **Must not know**: tokens, the reader, and how a term or an automaton gets its sorts.
+//!
+//! **Laws**: `check_law`.
 #![tactic(auto)]
 
 mod channels;

@@ -1,4 +1,11 @@
-//! The composition of a system's nodes and queues: joint steps, replay, projection.
+//! The composition: configurations of components, who takes part in an action, the start of a system, the joint
+//! step, replay and projection.
+//!
+//! **A crate of its own**, since the laws of executions are proved here once, for whoever makes them.
+//!
+//! **Must not know**: schedule blocks.
+//!
+//! **Laws**: `execution_law`, `joint_step_law`, `prefix_law`, `projection_law`, `signature_law`, `start_law`.
 #![tactic(auto)]
 
 mod composition;

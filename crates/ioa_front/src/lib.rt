@@ -1,4 +1,8 @@
-//! Texts of the language, read and printed.
+//! The front of the language for tools: what the reader has, and sources printed as texts.
+//!
+//! **A crate of its own**, since the program does not print sources, so nothing of it waits for this.
+//!
+//! **Must not know**: shapes, and programs.
 #![tactic(auto)]
 
 mod declarations;

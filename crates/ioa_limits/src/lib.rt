@@ -1,6 +1,11 @@
 //! The numbers and the words that the language fixes, as one law. Definitions and code cite them by name, so no
-//! other contract notices if one of them changes; this law does. It has no code. It must not know how a limit is
-//! kept.
+//! other contract notices if one of them changes. It has no code.
+//!
+//! **A crate of its own**, since it stands on every crate that has such a number, and nothing waits for it.
+//!
+//! **Must not know**: how a limit is kept.
+//!
+//! **Laws**: `limits_law`.
 #![tactic(auto)]
 
 ghost use Rattle.std.specs.Prelude.{◌≡◌, codes};

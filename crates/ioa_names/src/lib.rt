@@ -1,4 +1,11 @@
-//! Names with their shapes: what terms may read.
+//! Names with their shapes: tables of them, and the view of what a term may read, which is three tables one behind
+//! the other.
+//!
+//! **A crate of its own**, since each table is made once and lent to all entries of an automaton.
+//!
+//! **Must not know**: what declares a name, and where a term is written.
+//!
+//! **Laws**: `names_law`.
 #![tactic(auto)]
 
 mod laws;

@@ -1,6 +1,10 @@
 //! Arithmetic of the numbers that the language has: whole numbers of 64 bits. A result is the exact number of
-//! mathematics, or there is none. It is a crate of its own, so that a wrong body of it is refused within
-//! seconds.
+//! mathematics, or there is none.
+//!
+//! **A crate of its own**, since a wrong body of it is refused within seconds here, and within minutes in a crate
+//! of values.
+//!
+//! **Must not know**: values, and what a fault is called.
 #![tactic(auto)]
 
 ghost use Rattle.std.specs.Prelude.{◌≡◌, ◌≤ℤ◌, ◌+ℤ◌, ◌-ℤ◌, ◌*ℤ◌, neg_ℤ, pos, FitsSigned, SomeIff};

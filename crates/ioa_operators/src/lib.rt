@@ -1,4 +1,12 @@
-//! What operators, functions and displays of the language do with values.
+//! What operators, functions and displays do with values, and the shapes of values: what sorts stand for, with
+//! tuple types and enumerations written out.
+//!
+//! **A crate of its own**, since the meaning of one operator is proved apart from trees and from the order in which
+//! parts are evaluated.
+//!
+//! **Must not know**: trees, and environments.
+//!
+//! **Laws**: `decision_law`.
 #![tactic(auto)]
 
 mod between;

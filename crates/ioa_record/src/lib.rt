@@ -1,4 +1,8 @@
-//! What a run leaves: a record of its schedule and its last configurations, and the endings of its nodes.
+//! What a run leaves: its schedule, its last configurations, the commits of its workers, and how its nodes ended.
+//!
+//! **A crate of its own**, since reports and runs share it, and neither stands on the other.
+//!
+//! **Must not know**: how a run was made.
 #![tactic(auto)]
 
 mod ending;

@@ -1,4 +1,10 @@
-//! Schedule blocks: what a turn of one performs, and at which `fire` it stands.
+//! Schedule blocks that run: what a turn of one performs, at which fire it stands, and how it moves past that.
+//!
+//! **A crate of its own**, since a turn is proved over what a block sees, whoever shows it.
+//!
+//! **Must not know**: nodes, channels, and which action a fire is.
+//!
+//! **Laws**: `turn_law`.
 #![tactic(auto)]
 
 mod control;

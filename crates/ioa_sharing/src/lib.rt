@@ -1,4 +1,9 @@
-//! Shared values that are told to be one value in constant time.
+//! Values with several owners, each with a number by which it is told in constant time that two owners own one
+//! value.
+//!
+//! **A crate of its own**, since it holds the project's only tokens whose proofs are by hand.
+//!
+//! **Must not know**: what is shared.
 #![tactic(auto)]
 
 mod named;

@@ -1,4 +1,11 @@
-//! The sorts that operators and functions take and give, by rows: what a sort checker reads.
+//! Which sorts operators and functions take and give, a row a kind, why two displays have no sort, and the refusals
+//! of the check with their numbers and names.
+//!
+//! **A crate of its own**, since the rows are proved to be the shapes of the language without a tree in sight.
+//!
+//! **Must not know**: trees, names in view, and where a term is written.
+//!
+//! **Laws**: `sort_rules_law`.
 #![tactic(auto)]
 
 mod kinds;

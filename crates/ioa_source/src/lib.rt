@@ -1,4 +1,11 @@
-//! Texts as trees: types, automata with their schedules, and the system section.
+//! The tree of a whole text: types, automata, schedule blocks and the system section, and sorts as they are
+//! spelled; and the text of a checked tree without its annotations.
+//!
+//! **A crate of its own**, since readers and check share it, and neither stands on the other.
+//!
+//! **Must not know**: tokens, and what number a slot is.
+//!
+//! **Laws**: `erasure_law`.
 #![tactic(auto)]
 
 mod declaration;

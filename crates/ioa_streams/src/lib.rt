@@ -1,4 +1,9 @@
-//! Streams: an input that is read whole as a text, and an output that takes a text piece by piece.
+//! An input that is read whole as a text, and an output that takes a text piece by piece and knows whether it ever
+//! failed.
+//!
+//! **A crate of its own**, since what goes in and out is proved without a word of the language.
+//!
+//! **Must not know**: texts of the language.
 #![tactic(auto)]
 
 mod input;

@@ -1,5 +1,10 @@
-//! Checked systems: the programs of nodes, in which names are resolved to the slots of their values,
-//! channels and scripts.
+//! Checked systems: a program for each node, which nodes of one automaton share, channels, and scripts; and what a
+//! term may read, by where it is written.
+//!
+//! **A crate of its own**, since what checks a text ends with a system and what runs begins with one, so either
+//! side changes without the other.
+//!
+//! **Must not know**: how it was checked.
 #![tactic(auto)]
 
 mod automaton;

@@ -1,4 +1,8 @@
-//! Terms: from tokens to trees, by precedence climbing.
+//! Terms: from tokens to trees, by precedence climbing, with the height of each tree.
+//!
+//! **A crate of its own**, since it is the cycle of the grammar, and one proof.
+//!
+//! **Must not know**: shapes, and programs.
 #![tactic(auto)]
 
 mod after;

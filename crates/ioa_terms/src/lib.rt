@@ -1,4 +1,11 @@
-//! Terms and statements with their meaning.
+//! Terms and statements as trees, environments, their evaluation, and whether two trees are the same. A tree has
+//! annotations: nothing in a text, slots and shapes in a checked system.
+//!
+//! **A crate of its own**, since readers, check and runs share the trees and their meaning.
+//!
+//! **Must not know**: byte offsets, and source texts.
+//!
+//! **Laws**: `ascending_law`, `defined_law`, `put_law`, `shapes_law`, `statements_law`.
 #![tactic(auto)]
 
 mod environment;

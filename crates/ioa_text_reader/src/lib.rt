@@ -1,4 +1,8 @@
-//! Texts: from a text to its tree.
+//! Texts: from a text to its tree, one small function for each production, or the refusal with its place.
+//!
+//! **A crate of its own**, since the grammar above terms has no cycle but that of statements.
+//!
+//! **Must not know**: shapes, and programs.
 #![tactic(auto)]
 
 mod automaton;

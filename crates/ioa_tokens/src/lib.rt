@@ -1,5 +1,9 @@
-//! The tokens of the language: names, numbers, signs, reserved words and left-out words, each with its
-//! offset, and how they are written.
+//! A text cut into tokens with their offsets, and tokens written as text: names, numbers, signs, reserved words and
+//! left-out words.
+//!
+//! **A crate of its own**, since the characters of a text end here.
+//!
+//! **Must not know**: shapes, and programs.
 #![tactic(auto)]
 
 mod cut;

@@ -1,4 +1,10 @@
-//! The types that a text declares: from sorts as spelled to their shapes.
+//! The types that a text declares, their enumerations' constants, and the shapes of sorts.
+//!
+//! **A crate of its own**, since it is proved beside the sorts of terms.
+//!
+//! **Must not know**: terms, automata, and which declaration a type stands in.
+//!
+//! **Laws**: `declarations_law`, `text_types_law`, `types_law`.
 #![tactic(auto)]
 
 mod height;

@@ -1,5 +1,12 @@
-//! Words and values of the language, and the definitions by which most contracts say what a call
-//! returns.
+//! Words and values: the order and the text of values, sequences, finite sets and finite maps, whose copies share
+//! what they hold, and the words by which most contracts say what a call returns.
+//!
+//! **A crate of its own**, since every other crate of the language sees a value as its plain data, whatever memory
+//! it is kept in.
+//!
+//! **Must not know**: operators, and the names of the language.
+//!
+//! **Laws**: `canonical_law`, `maps_law`, `sets_law`.
 #![tactic(auto)]
 
 pub mod collections;

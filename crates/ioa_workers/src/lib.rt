@@ -1,4 +1,8 @@
-//! Whole runs of a system by one worker: from a text to its report.
+//! Whole runs: from a text to its report. Reading, checking and running meet here and nowhere else.
+//!
+//! **A crate of its own**, since it alone stands on all three.
+//!
+//! **Must not know**: threads, and the command line.
 #![tactic(auto)]
 
 mod reporting;

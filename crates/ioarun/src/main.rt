@@ -1,4 +1,8 @@
 //! The program `ioarun`: system text on standard input, report on standard output.
+//!
+//! **A crate of its own**, since it has the standard streams and nothing else.
+//!
+//! **Must not know**: what is written and when.
 #![tactic(auto)]
 
 use ioa_command::{BAD_WORDS, FAILED, command};
