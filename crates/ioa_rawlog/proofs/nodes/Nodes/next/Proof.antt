@@ -1,0 +1,84 @@
+-- `next` reads the pointer of a node that is lent. Assumes `Logic`.
+use Rattle.ioa_rawlog.proofs.Walks.{◌≡◌, refl, sym, ap, ◌∙◌, List, [], ◌∷◌, ℕ, suc, ◌+◌, ◌<◌, ◌^◌, arith, length, length-map, Ura, SProp, ent, Lft, Share, Calls, Loops, WpFn, WpFn-mono, Logic, fact, ⋆, ◌$◌, ◌∵◌, !, qed, move, keep, join, fjoin, suffices, done, stop, fld, of_opd, returns, enter, alloc_all, pass_all, free_all, look_at, get, through, sets, yes, RefOf, plain, nothing, Clauses, Ended, Meets, says, Stays, stay_dropped, walk_of, ends_at, Goes-dropped, walk_Meets, word-Good, RawPtr, agg, look, load, and_then, no_more, Ptr-Good, word_made, no, usize, never, fst∗, sem, ‵, use1, drop, fsplit, whole, sub, first, blocks, exec, after, at_ret, Env, env, get_in, sets_last, is, ptr_val, in_a_block, ◌+ₚ◌, shared_of, hide, lent_at, needs, Val, vint, vptr, w64, word, Fn, inst_fn, Tables, tables, tables_of, spared, entered, run_framed, triple_of, closing, Bx, args}
+use Rattle.ioa_rawlog.specs.declared.nodes.Place.{Place}
+use Rattle.ioa_rawlog.specs.contracts.nodes.Place as Pl
+use Rattle.ioa_rawlog.specs.Links.{Link, links_of, place_of}
+use Rattle.ioa_rawlog.specs.Places.{IsAt}
+use Rattle.ioa_rawlog.proofs.Chained.{chain_had, link_at, place_is, next_is}
+use Rattle.ioa_rawlog.proofs.Owned.{D, Nr}
+use Rattle.ioa_rawlog.proofs.Seen.{nodes_seen, pointer_seen, pointer_shut, link_at_seen}
+use Rattle.ioa_rawlog.proofs.Entries.{lent_self, Lent, lent_at_place}
+use Rattle.ioa_rawlog.specs.contracts.nodes.Nodes.next.Key.{name as #self}
+use Rattle.ioa_rawlog.proofs.nodes.Nodes.next.Statement as stated
+use Rattle.ioa_rawlog.proofs.nodes.Nodes.next.Code as code
+
+module _ (E : Bx) where
+  abbrev function : Fn
+  function = inst_fn (args E) code.function
+
+  abbrev ended : Ended
+  ended = record { signature = record { lifetimes = 1; outlives = []; params = RefOf (0 ∷ []) tt (plain (λ _. Nr E)) (λ _. tt) ∷ plain (λ _. Pl.the_row) ∷ plain (λ _. usize) ∷ []; result = plain (λ _. Pl.the_row) }; kept = (yes, (no, (no, tt))) }
+
+  abbrev stayed : Stays ended.signature.params ended.kept
+  stayed = (stay_dropped (RefOf (0 ∷ []) tt (plain (λ _. Nr E)) (λ _. tt)) yes, (stay_dropped (plain (λ _. Pl.the_row)) no, (stay_dropped (plain (λ _. usize)) no, tt)))
+
+  abbrev spec : {M : Type 1} {𝓤 : Ura M} (𝓛 : Logic 𝓤) → Clauses 𝓤 ended
+  spec {𝓤 = 𝓤} 𝓛 κs a = record {
+    ghost = Unit {0};
+    requires = λ _. fact 𝓤 (IsAt a.0.now a.1.1.0 a.1.0);
+    ensures = λ _ r _. fact 𝓤 (a.1.1.0 + 1 < length a.0.now.items → IsAt a.0.now (a.1.1.0 + 1) r);
+  }
+
+module _ (E : Bx) {M : Type 1} {𝓤 : Ura M} (𝓛 : Logic 𝓤) (C : Calls 𝓤 𝓛.H) (Λ : Loops 𝓤 𝓛.H) (κ : Lft) (q : Share) (b o : ℕ) (d : D E) (at : Place) (i : ℕ) (ps us vs : List Val) where
+  abbrev bound : (walk_of 𝓛 (ended E) (stayed E) (spec E 𝓛)).Ghost
+  bound = (((κ, tt), (q, tt), tt, (lent_self E κ q b o d, (at, (i, tt))), (ps, (us, (vs, tt)))), tt)
+
+  abbrev Post : Val → SProp 𝓤
+  Post = (walk_of 𝓛 (ended E) (stayed E) (spec E 𝓛)).post bound
+
+  walk : i < 2 ^ 64 → IsAt d i at → ent 𝓤 (⋆ 𝓛 (Lent E κ q 𝓛 b o d)) (WpFn 𝓤 𝓛.H C Λ (function E) (vptr b o ∷ word at.pointer ∷ vint w64 i ∷ []) Post)
+  walk fits asked =
+      let ls : List Link = links_of d.frames in
+      let same = length-map d.frames (λ n. n.0) in
+      let matched = d.matched in
+      let within = asked.0 in
+      let n : Link = link_at ls i in
+      let here : at.pointer ≡ n.0 = asked.1 ∙ place_is ls i in
+      qed 𝓛 (Lent E κ q 𝓛 b o d) ∵ enter ! C Λ (function E) (vptr b o ∷ word at.pointer ∷ vint w64 i ∷ []) _ $
+      alloc_all ! (λ l. pass_all ! refl ((tt, tt), (word-Good Pl.the_type.name at.pointer, ((tt, record { fits = fits }), tt))) $
+      let En : Env 𝓤 𝓛.H = env (function E).locals l in
+      -- [`first`; `last`; the items; the pointers; the token]
+      nodes_seen ! E d b o $
+      let linked = chain_had d.first d.last ls d.chained in
+      move ! (3 ∷ []) $ use1 𝓛 (‵ (lent_at RawPtr (n.0 +ₚ 0) n.1 κ)) (link_at_seen 𝓛 κ ls i (omega arith)) $
+      in_a_block ! n.0 (λ p. lent_at RawPtr (p +ₚ 0) n.1 κ) (fst∗ 𝓤 (never 𝓤) (sem 𝓛 (shared_of RawPtr n.1 0 0 κ))) (λ nb no e. fsplit ! $ drop ! $ hide ! $
+      -- [the node's pointer; `first`; `last`; the items; the token]
+      move ! (0 ∷ 4 ∷ []) $ pointer_seen ! tt n.1 nb (no + 0) (λ s.
+      sets ! (is ! (of_opd ! (get_in ! (fld ! refl (stop !)) (sub ! 0 refl (whole !)))) (ap ptr_val (here ∙ e))) refl (tt, tt) $ sets ! (of_opd ! (get ! refl)) refl (tt, tt) $ first ! $ blocks ! $
+      sets_last ! (of_opd ! (load ! (through ! refl (fld ! refl (stop !))) (look ! 0 refl))) refl (Ptr-Good n.1) $ exec ! C Λ En (after 3 (function E).body) (at_ret En Post) $
+      sets ! (of_opd ! (get ! refl)) refl (Ptr-Good n.1) $ sets ! (of_opd ! (get ! refl)) refl (Ptr-Good n.1) $
+      sets ! (agg ! (and_then ! (get ! refl) (no_more !))) refl (word-Good Pl.the_type.name n.1) $ pointer_shut ! tt n.1 nb (no + 0) $
+      returns ! (look_at ! 0 refl) $ free_all ! refl $ keep ! (0 ∷ []) $
+      suffices ! _ (ends_at 𝓛 (ended E) (stayed E) (spec E 𝓛) bound (word n.1) (record { pointer = n.1 }) (tt, (tt, (tt, tt))) (tt, (tt, (tt, tt)))) $
+      says ! (λ more. let behind : suc i ≡ i + 1 = omega arith in (more, next_is d.first ls i (omega arith) linked.0 ∙ sym (place_is ls (suc i)) ∙ ap (place_of ls) behind)) $
+      word_made ! n.1 $ nothing ! $ nothing ! $ fjoin ! $ nothing ! $ fjoin ! $ nothing ! $ fjoin ! $ join ! $ nothing ! $ move ! (2 ∷ 0 ∷ []) $ join ! $ join ! $ done !)))
+
+meets : (E : Bx) {M : Type 1} {𝓤 : Ura M} (𝓛 : Logic 𝓤) (𝓣 : Tables 𝓤 𝓛.H)
+    → Meets 𝓛 (ended E).signature (WpFn 𝓤 𝓛.H 𝓣.C 𝓣.Λ (function E)) (closing 𝓛 (ended E) (spec E 𝓛))
+meets E {𝓤 = 𝓤} 𝓛 𝓣 =
+    walk_Meets 𝓛 (ended E) (stayed E) (Goes-dropped 𝓛 1 (RefOf (0 ∷ []) tt (plain (λ _. Nr E)) (λ _. tt)) yes (λ κs x f. refl), (Goes-dropped 𝓛 1 (plain (λ _. Pl.the_row)) no (λ κs x f. refl), (Goes-dropped 𝓛 1 (plain (λ _. usize)) no (λ κs x f. refl), tt))) (spec E 𝓛) (WpFn 𝓤 𝓛.H 𝓣.C 𝓣.Λ (function E)) (WpFn-mono 𝓤 𝓛.H 𝓛.laws 𝓣 (function E))
+    (λ z. let a = z.0.3 in let s = a.0 in let b = s.ref_ptr.0 in let o = s.ref_ptr.1 in let vss = z.0.4 in needs 𝓤 (IsAt s.now a.1.1.0 a.1.0) _ (λ asked.
+    lent_at_place E z.0.0.0 z.0.1.0 𝓛 (λ vs. WpFn 𝓤 𝓛.H 𝓣.C 𝓣.Λ (function E) vs (Post E 𝓛 𝓣.C 𝓣.Λ z.0.0.0 z.0.1.0 b o s.now a.1.0 a.1.1.0 vss.0 vss.1.0 vss.1.1.0))
+    b o s.now a.1.0 a.1.1.0 vss.0 vss.1.0 vss.1.1.0 (λ fits. walk E 𝓛 𝓣.C 𝓣.Λ z.0.0.0 z.0.1.0 b o s.now a.1.0 a.1.1.0 vss.0 vss.1.0 vss.1.1.0 fits asked)))
+
+pub next_spec : {M : Type 1} → stated.statement M
+unfolding tables_of
+next_spec 𝓤 𝓛 𝓜 𝓡 wired Y Z L LZ g d dd met md y =
+    let E : Bx = record { row = Y; laws = L; al = record { row = Z; laws = LZ; g = g; d = d; drops = dd } } in
+    let A = 𝓛.A in
+    let 𝓣 : Tables 𝓤 𝓛.H = tables_of 𝓤 𝓛.H 𝓜 (tables 𝓤 𝓛.H 𝓜 𝓡 𝓡.env) in
+    let key = #self (args E) in
+    let closed = closing 𝓛 (ended E) (spec E 𝓛) in
+    spared 𝓛 (ended E).signature (𝓡.run (𝓡.env key)) (run_framed 𝓤 𝓛.H 𝓜 𝓡 (𝓡.env key)) 2 (Y.lives, (Z.lives, tt)) closed
+    (entered 𝓤 𝓛.H (triple_of 𝓛 (ended E).signature closed) 𝓣.C 𝓣.Λ key (function E) (code.unfolded 𝓤 𝓛.H 𝓜 𝓡 wired (Y, (Z, tt)) d dd) (meets E 𝓛 𝓣))
+    ((y.0.0, y.0.1, tt, y.0.3, y.0.4), y.1)
