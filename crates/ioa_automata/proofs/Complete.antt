@@ -16,7 +16,7 @@ use Rattle.ioa_source.specs.Sides.{SourceTerm, SourceDeclared, SourceParameter, 
 use Rattle.ioa_system.specs.InView.{entry_condition, guard_or_effect, own_names}
 use Rattle.ioa_system.specs.Parts.{AutomatonParts, PlainRule}
 use Rattle.ioa_sort_rules.specs.declared.refusal.Refusal.{Refusal}
-use Rattle.ioa_sorts.specs.Sorting.{PlainTyped, typed}
+use Rattle.ioa_typed.specs.Parts.{PlainTyped, typed}
 use Rattle.ioa_sorts.specs.Statements.{all_ok, statement_sorting, statement_sortings}
 use Rattle.ioa_sorts.specs.SortedStatements.{IsStatementOf}
 use Rattle.ioa_sorts.proofs.Complete.{fit_complete, infer_complete}

@@ -12,7 +12,8 @@ use Rattle.ioa_terms.specs.Sorted.{NameShapes, shape_in_terms}
 use Rattle.ioa_source.specs.PlainText.{const, named}
 use Rattle.ioa_source.specs.Sides.{SourceTerm, SourceDeclared, SourceParameter, SourceVariable, SourceTransition, SourceStatement, CheckedTerm, CheckedDeclared, CheckedVariable, CheckedTransition, CheckedStatement}
 use Rattle.ioa_sort_rules.specs.DeclaredTypes.{TupleTypes, IsDeclared, AreAllDeclared}
-use Rattle.ioa_sorts.specs.Sorting.{PlainTyped, typed, infer, fit, sorting}
+use Rattle.ioa_typed.specs.Parts.{PlainTyped, typed}
+use Rattle.ioa_sorts.specs.Sorting.{infer, fit, sorting}
 use Rattle.ioa_sorts.specs.Statements.{all_ok, statement_sorting, statement_sortings}
 use Rattle.ioa_sorts.specs.SortedStatements.{IsStatementOf}
 use Rattle.ioa_sorts.specs.StatementSites.{PlainStatementSite, IsDeclaredSite, effect_site}

@@ -15,7 +15,8 @@ use Rattle.ioa_source.specs.Sides.{CheckedTerm, CheckedDeclared, CheckedParamete
 use Rattle.ioa_source.specs.Sides.{CheckedTransition}
 use Rattle.ioa_sort_rules.specs.declared.refusal.Refusal.{Refusal}
 use Rattle.ioa_sort_rules.specs.declared.refusal.Refusal.TheVariants.{NoInitial, EmptyOfWhat, InputWhere}
-use Rattle.ioa_sorts.specs.Sorting.{PlainTyped, infer, fit, sorting}
+use Rattle.ioa_typed.specs.Parts.{PlainTyped}
+use Rattle.ioa_sorts.specs.Sorting.{infer, fit, sorting}
 use Rattle.ioa_sorts.specs.Statements.{all_ok, statement_sortings}
 use Rattle.ioa_sorts.specs.StatementSites.{effect_site}
 use Rattle.ioa_types.specs.TypeTables.{TypeTable, shape_of_sort}

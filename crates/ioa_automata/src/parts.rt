@@ -6,7 +6,7 @@ ghost use Rattle.ioa_values.specs.Outcome.{Answers};
 ghost use Rattle.ioa_terms.specs.PlainTerm.{statements_of};
 ghost use Rattle.ioa_terms.specs.View.{statement_of, term_of};
 ghost use Rattle.ioa_source.specs.TextView.{declared_of, parameter_of, entry_of, transition_of, variable_of};
-ghost use Rattle.ioa_sorts.specs.SortingView.{typed_of};
+ghost use Rattle.ioa_typed.specs.PartsView.{typed_of};
 ghost use Rattle.ioa_sorts.specs.StatementSites.{effect_site};
 ghost use Rattle.ioa_sorts.specs.Statements.{all_ok, statement_sortings};
 ghost use Rattle.ioa_automata.specs.Parts as spec;
@@ -14,9 +14,10 @@ ghost use Rattle.ioa_automata.specs.SortedView.{sorted_parameter_of, sorted_para
 
 use ioa_names::View;
 use ioa_sort_rules::{Refusal, shape_in_terms};
-use ioa_sorts::{Actions, StatementSite, Typed, fit, infer, sort_statements};
+use ioa_sorts::{Actions, StatementSite, fit, infer, sort_statements};
 use ioa_source::{Declared, Entry, Parameter, Transition, Variable};
 use ioa_terms::{Checked, Kind, Shape, ShapeForm, Statement, Term};
+use ioa_typed::Typed;
 use ioa_types::Types;
 use std::alloc::Global;
 

@@ -30,7 +30,8 @@ use Rattle.ioa_sort_rules.proofs.Rules.{unary_from}
 use Rattle.ioa_operators.specs.declared.shape.Shape.{Shape}
 use Rattle.ioa_sort_rules.specs.declared.kinds.Single.TheVariants as single
 use Rattle.ioa_sort_rules.specs.declared.kinds.Alike.TheVariants.{Numbers, Union}
-use Rattle.ioa_sorts.specs.Sorting.{SortedTerm, PlainTyped, typed, PlainPair, pair, PlainUpdate, update, Sorting, own, infer, fit, fit_typed, part_known, one_part, right_tells, left_tells, left_known, right_known, two_parts, map_known, key_known, three_parts, call_one, call_two, call_three, inbox_of, inbox_known, call_of_none, call_of_arity, call_of_function, all_fit, each_fit, display_parts, display_at, field_known, name_known, sorting, sortings}
+use Rattle.ioa_typed.specs.Parts.{SortedTerm, PlainTyped, typed, PlainPair, pair, PlainUpdate, update, fit_typed, part_known, right_tells, field_known}
+use Rattle.ioa_sorts.specs.Sorting.{Sorting, own, infer, fit, one_part, left_tells, left_known, right_known, two_parts, map_known, key_known, three_parts, call_one, call_two, call_three, inbox_of, inbox_known, call_of_none, call_of_arity, call_of_function, all_fit, each_fit, display_parts, display_at, name_known, sorting, sortings}
 use Rattle.ioa_names.specs.Views.{declared_at, named}
 use Rattle.ioa_sorts.specs.Determined.{is_display, displays, tells, tells_update, tells_parts, tells_call, IsDetermined, AreDetermined}
 use Rattle.ioa_sorts.specs.SortedTerms.{IsTermOf}

@@ -1,6 +1,7 @@
 -- the lemmas of this crate
 pub mod Lookups
-pub mod Calls
+pub mod ListedParts
+pub mod ArgumentLists
 pub mod Chains
 pub mod Types
 pub mod Sound

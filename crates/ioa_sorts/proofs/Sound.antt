@@ -30,7 +30,8 @@ use Rattle.ioa_sort_rules.specs.Kinds.{single_of, pairing_of, arity_of}
 use Rattle.ioa_sort_rules.specs.Rows.{PlainSides, sides, value_of_one, other_of_left, other_of_right, entry_of, declared_field, value_of_field}
 use Rattle.ioa_sort_rules.specs.SameSorts.{same_sort}
 use Rattle.ioa_sort_rules.proofs.Rules.{unary_is, left_is, right_is, one_is, two_left_is, two_right_is, update_is}
-use Rattle.ioa_sorts.specs.Sorting.{SortedTerm, PlainTyped, typed, PlainPair, pair, PlainUpdate, update, Sorting, own, given, infer, fit, fit_typed, part_known, one_part, right_tells, left_tells, left_known, right_known, right_first, left_first, two_parts, map_known, value_first, key_known, key_first, map_first, three_parts, call_one, call_two, call_three, inbox_of, inbox_known, call_of_none, call_of_arity, call_of_function, all_fit, each_fit, display_parts, display_at, field_known, name_known, sorting, sortings}
+use Rattle.ioa_typed.specs.Parts.{SortedTerm, PlainTyped, typed, PlainPair, pair, PlainUpdate, update, fit_typed, part_known, right_tells, field_known}
+use Rattle.ioa_sorts.specs.Sorting.{Sorting, own, given, infer, fit, one_part, left_tells, left_known, right_known, right_first, left_first, two_parts, map_known, value_first, key_known, key_first, map_first, three_parts, call_one, call_two, call_three, inbox_of, inbox_known, call_of_none, call_of_arity, call_of_function, all_fit, each_fit, display_parts, display_at, name_known, sorting, sortings}
 use Rattle.ioa_names.specs.Views.{declared_at, named}
 use Rattle.ioa_sorts.specs.Determined.{is_display, tells, tells_update, AreDetermined}
 use Rattle.ioa_sort_rules.specs.DeclaredTypes.{TupleTypes, IsDeclared, AreAllDeclared}

@@ -15,7 +15,8 @@ use Rattle.ioa_source.specs.Sides.{SourceTarget, SourceTerm, SourceStatement, So
 use Rattle.ioa_sort_rules.specs.declared.refusal.Refusal.{Refusal}
 use Rattle.ioa_sort_rules.specs.declared.refusal.Refusal.TheVariants.{Unknown}
 use Rattle.ioa_sort_rules.specs.Rows.{entry_of, value_of_field}
-use Rattle.ioa_sorts.specs.Sorting.{SortedTerm, fit, sorting}
+use Rattle.ioa_typed.specs.Parts.{SortedTerm}
+use Rattle.ioa_sorts.specs.Sorting.{fit, sorting}
 use Rattle.ioa_names.specs.Views.{declared_at}
 use Rattle.ioa_sorts.specs.Statements.{SortedStatement, SortedStatements, PlainTypedTarget, typed_target, all_ok, assigned_or, assigned, if_in_block, whole_target, key_target, field_target, target_sorting, assignment_sorting, statement_sorting, statement_sortings, arm_sortings}
 use Rattle.ioa_sorts.specs.SortedStatements.{HoldsShape, NamesKind, IsFired, AreArmsSorted, AreSorted, IsDeterminedTarget, AreArmsDetermined, AreStatementsDetermined, IsStatementOf}

@@ -26,7 +26,8 @@ use Rattle.ioa_sort_rules.specs.SameSorts.{same_sort}
 use Rattle.ioa_sort_rules.specs.declared.kinds.Single.TheVariants as single
 use Rattle.ioa_sort_rules.specs.declared.kinds.Alike.{Alike}
 use Rattle.ioa_sort_rules.specs.declared.kinds.Alike.TheVariants as alike
-use Rattle.ioa_sorts.specs.Sorting.{PlainTyped, typed, pair, update, Sorting, own, given, infer, fit, fit_typed, part_known, one_part, right_tells, left_tells, left_known, right_known, right_first, left_first, two_parts, map_known, value_first, key_known, key_first, map_first, three_parts, call_one, call_two, call_three, inbox_of, inbox_known, call_of_none, call_of_arity, call_of_function, all_fit, each_fit, display_parts, field_known, name_known, sorting, sortings}
+use Rattle.ioa_typed.specs.Parts.{PlainTyped, typed, pair, update, fit_typed, part_known, right_tells, field_known}
+use Rattle.ioa_sorts.specs.Sorting.{Sorting, own, given, infer, fit, one_part, left_tells, left_known, right_known, right_first, left_first, two_parts, map_known, value_first, key_known, key_first, map_first, three_parts, call_one, call_two, call_three, inbox_of, inbox_known, call_of_none, call_of_arity, call_of_function, all_fit, each_fit, display_parts, name_known, sorting, sortings}
 use Rattle.ioa_names.specs.Views.{named}
 use Rattle.ioa_sorts.specs.Determined.{is_display, displays, tells, tells_update, tells_parts, tells_call, IsDetermined, AreDetermined}
 use Rattle.ioa_sorts.proofs.Complete.{none_told}

@@ -7,7 +7,7 @@ use Rattle.ioa_terms.specs.Sorted.{NameShapes, HasShape, shape_in_terms}
 use Rattle.ioa_source.specs.Erasure.{erase_term}
 use Rattle.ioa_source.specs.Sides.{SourceTerm}
 use Rattle.ioa_sorts.specs.Determined.{IsDetermined}
-use Rattle.ioa_sorts.specs.Sorting.{SortedTerm}
+use Rattle.ioa_typed.specs.Parts.{SortedTerm}
 
 -- the term is the text's, without slots and shapes; each name has its slot among the names in view; its value has the
 -- shape, in which naturals count as integers

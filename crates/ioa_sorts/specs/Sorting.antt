@@ -7,12 +7,11 @@ use Rattle.ioa_operators.specs.Shapes.{PlainShape, truths, integers, tuples, seq
 use Rattle.ioa_operators.specs.declared.operator.Function.{Function}
 use Rattle.ioa_operators.specs.declared.shape.DisplayForm.{DisplayForm}
 use Rattle.ioa_operators.specs.declared.shape.DisplayForm.TheVariants.{Braces, Brackets}
-use Rattle.ioa_operators.specs.declared.shape.Shape.{Shape}
 use Rattle.ioa_terms.specs.declared.name.Name.{Name}
 use Rattle.ioa_terms.specs.declared.name.Name.TheVariants.{Word}
 use Rattle.ioa_terms.specs.Inboxes.{inboxes_word}
 use Rattle.ioa_terms.specs.Meaning.{is_inbox_word}
-use Rattle.ioa_terms.specs.PlainTerm.{PlainTerm, number, truth, name, one, two, call, display, field}
+use Rattle.ioa_terms.specs.PlainTerm.{number, truth, name, one, two, call, display, field}
 use Rattle.ioa_terms.specs.PlainTerm.{no_terms, term, terms_of}
 use Rattle.ioa_terms.specs.Sorted.{NameShapes, shape_in_terms, listed_shapes}
 use Rattle.ioa_source.specs.Sides.{SourceTerm, SourceTerms}
@@ -23,41 +22,10 @@ use Rattle.ioa_sort_rules.specs.declared.kinds.Pairing.{Pairing}
 use Rattle.ioa_sort_rules.specs.declared.kinds.Arity.{Arity}
 use Rattle.ioa_sort_rules.specs.declared.kinds.Arity.TheVariants.{One, Two, Update}
 use Rattle.ioa_sort_rules.specs.Kinds.{single_of, pairing_of, arity_of}
-use Rattle.ioa_sort_rules.specs.Rows.{PlainSides, value_of_one, other_of_left, other_of_right, entry_of}
-use Rattle.ioa_sort_rules.specs.Rows.{value_of_field, undetermined, undetermined_alone}
-use Rattle.ioa_sort_rules.specs.SameSorts.{same_sort}
+use Rattle.ioa_sort_rules.specs.Rows.{PlainSides, other_of_left, other_of_right, entry_of, undetermined}
 use Rattle.ioa_names.specs.Views.{named}
-
--- a term with the slot of each name and the shape of each display
-abbrev pub SortedTerm : Type 0
-SortedTerm = PlainTerm ℕ Shape
-
--- such a term and the shape of its value
-pub record PlainTyped : Type 0 where
-  pub tree : SortedTerm
-  pub shape : PlainShape
-
-abbrev pub typed : SortedTerm → PlainShape → PlainTyped
-typed t s = record { tree = t; shape = s }
-
--- the parts of a form of two, and the shape of its value
-pub record PlainPair : Type 0 where
-  pub left : SortedTerm
-  pub right : SortedTerm
-  pub whole : PlainShape
-
-abbrev pub pair : SortedTerm → SortedTerm → PlainShape → PlainPair
-pair a b s = record { left = a; right = b; whole = s }
-
--- the parts of `update`, and the shape of its value
-pub record PlainUpdate : Type 0 where
-  pub map : SortedTerm
-  pub key : SortedTerm
-  pub value : SortedTerm
-  pub whole : PlainShape
-
-abbrev pub update : SortedTerm → SortedTerm → SortedTerm → PlainShape → PlainUpdate
-update m k v s = record { map = m; key = k; value = v; whole = s }
+use Rattle.ioa_typed.specs.Parts.{SortedTerm, PlainTyped, typed, PlainPair, pair, PlainUpdate, update}
+use Rattle.ioa_typed.specs.Parts.{fit_typed, part_known, right_tells, field_known}
 
 -- a term has a shape of its own or a refusal; a display is a term, or a refusal, by the shape that is asked of it
 pub data Sorting : Type 0 where
@@ -74,28 +42,14 @@ abbrev pub own_of : Sorting → Result PlainTyped Refusal
 own_of (own r) = r
 own_of (given f) = Err EmptyOfWhat
 
--- a term with its own shape, if that is the one asked
-unfoldable pub fit_typed : PlainShape → PlainTyped → Result SortedTerm Refusal
-fit_typed s t = if same_sort t.shape s then Ok t.tree else Err Sorts
-
 -- the term at a shape
 abbrev pub fit : Sorting → PlainShape → Result SortedTerm Refusal
 fit (own r) s = and_then r (fit_typed s)
 fit (given f) s = f s
 
 -- the part of a form of one
-unfoldable pub part_known : Single → Option PlainTyped → Result PlainTyped Refusal
-part_known k None = Err (undetermined_alone k)
-part_known k (Some t) = and_then (value_of_one k t.shape) (λ s. Ok (typed t.tree s))
-
 abbrev pub one_part : Single → Sorting → Result PlainTyped Refusal
 one_part k f = and_then (infer f) (part_known k)
-
--- the parts of a form of two, if the right one has to tell: it does by its own shape
-unfoldable pub right_tells : Pairing → PlainTyped → Option PlainTyped → Result PlainPair Refusal
-right_tells k l None = Err (undetermined k)
-right_tells k l (Some r) = and_then (other_of_right k r.shape)
-    (λ p. and_then (fit_typed p.other l) (λ t. Ok (pair t r.tree p.whole)))
 
 -- the parts, by what the left one tells
 abbrev pub left_tells : Pairing → PlainTyped → Sorting → Option PlainSides → Result PlainPair Refusal
@@ -208,11 +162,7 @@ display_parts form fs s = Err Sorts
 abbrev pub display_at : DisplayForm → List Sorting → PlainShape → Result SortedTerm Refusal
 display_at form fs s = and_then (display_parts form fs s) (λ ts. Ok (display form s (terms_of ts)))
 
--- a field of a tuple
-unfoldable pub field_known : List ℕ → Option PlainTyped → Result PlainTyped Refusal
-field_known w None = Err EmptyOfWhat
-field_known w (Some t) = and_then (value_of_field w t.shape) (λ s. Ok (typed (field t.tree w t.shape) s))
-
+-- a name that may be in view
 abbrev pub name_known : Name → Option (ℕ × PlainShape) → Result PlainTyped Refusal
 name_known x None = Err Unknown
 name_known x (Some p) = Ok (typed (name x p.0) p.1)

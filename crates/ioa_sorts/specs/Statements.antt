@@ -13,7 +13,8 @@ use Rattle.ioa_source.specs.Sides.{SourceTarget, SourceTerm, SourceStatement, So
 use Rattle.ioa_sort_rules.specs.declared.refusal.Refusal.{Refusal}
 use Rattle.ioa_sort_rules.specs.declared.refusal.Refusal.TheVariants.{Unknown, ScheduleAssignsState}
 use Rattle.ioa_sort_rules.specs.Rows.{entry_of, value_of_field}
-use Rattle.ioa_sorts.specs.Sorting.{SortedTerm, fit, sorting}
+use Rattle.ioa_typed.specs.Parts.{SortedTerm}
+use Rattle.ioa_sorts.specs.Sorting.{fit, sorting}
 use Rattle.ioa_names.specs.Views.{declared_at}
 use Rattle.ioa_sorts.specs.Firings.{firing_at}
 use Rattle.ioa_sorts.specs.StatementSites.{PlainStatementSite}

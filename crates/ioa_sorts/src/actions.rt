@@ -10,9 +10,9 @@ ghost use Rattle.ioa_terms.specs.View.{firing_of, term_of};
 ghost use Rattle.ioa_sorts.specs.Firings as spec;
 ghost use Rattle.ioa_sorts.specs.Indexes.{AreIndexed};
 
-use crate::sorting::fit;
+use crate::displays::fit_each;
 use ioa_names::View;
-use ioa_sort_rules::{Refusal, shape_in_terms};
+use ioa_sort_rules::Refusal;
 use ioa_system::{Rule, Scope};
 use ioa_terms::{Checked, Firing, Kind, Shape, Term};
 use std::alloc::Global;
@@ -108,20 +108,7 @@ pub fn sort_arguments(
     ensures { Answers Refusal.Memory (λ ts. map term_of ts.items) result
         (spec.arguments_at view.now shapes.now.items (map term_of arguments.now.items)) }
 {
-    let mut sorted = Vec::new(alloc);
-    for (position, argument) in arguments.iter().enumerate() {
-        match shapes.get(position) {
-            None => return Err(Refusal::Sorts),
-            Some(shape) => {
-                let found = fit(alloc, view, argument, &shape_in_terms(alloc, shape)?)?;
-                sorted.push(found)?;
-            }
-        }
-    }
-    match shapes.get(arguments.len()) {
-        None => Ok(sorted),
-        Some(_) => Err(Refusal::Sorts),
-    }
+    fit_each(alloc, view, arguments, shapes)
 }
 
 /// A firing: its arguments are of the shapes of its entry.
@@ -136,8 +123,8 @@ pub(crate) fn sort_firing(
         (spec.firing_at view.now actions.now.rules.items (firing_of firing.now)) }
 {
     let shapes = shapes_fired(actions, firing)?;
-    let arguments = sort_arguments(alloc, view, shapes, &firing.arguments)?;
     let action = firing.action.try_copy(alloc)?;
+    let arguments = sort_arguments(alloc, view, shapes, &firing.arguments)?;
     Ok(Firing {
         kind: firing.kind,
         action,

@@ -2,6 +2,8 @@
 #![tactic(auto)]
 
 mod actions;
+mod calls;
+mod displays;
 mod laws;
 mod parts;
 mod site;
@@ -10,7 +12,6 @@ mod statements;
 
 pub use actions::{Actions, sort_arguments};
 pub use laws::{sorts_law, statements_law};
-pub use parts::Typed;
 pub use site::StatementSite;
 pub use sorting::{fit, infer};
 pub use statements::sort_statements;

@@ -1,198 +1,195 @@
-//! Terms made of terms, each with the shape of its value.
+//! The parts of forms of two and of `update`, where one part tells the sort of another.
 
-ghost use Rattle.std.specs.Prelude.{◌≡◌, IfOk, map};
-ghost use Rattle.std.specs.Option.{option_map};
-ghost use Rattle.ioa_values.specs.Outcome.{Answers};
-ghost use Rattle.ioa_terms.specs.PlainTerm as plain;
-ghost use Rattle.ioa_terms.specs.PlainTerm.{terms_of};
+ghost use Rattle.std.specs.Prelude.{Ok};
+ghost use Rattle.ioa_values.specs.Outcome.{Answers, and_then};
 ghost use Rattle.ioa_terms.specs.View.{term_of};
-ghost use Rattle.ioa_names.specs.Views.{named};
+ghost use Rattle.ioa_typed.specs.Parts.{pair, update};
+ghost use Rattle.ioa_typed.specs.PartsView.{typed_of, pair_of, update_of};
 ghost use Rattle.ioa_sorts.specs.Sorting as spec;
-ghost use Rattle.ioa_sorts.specs.SortingView.{typed_of};
 
+use crate::sorting::{fit, infer_part};
 use ioa_names::View;
 use ioa_sort_rules::{
-    Refusal, Single, is_same_sort, undetermined_alone, value_of_field, value_of_one,
+    Pairing, Refusal, Sides, entry_of, other_of_left, other_of_right, undetermined,
 };
-use ioa_terms::{BinaryOperator, Checked, DisplayForm, Name, Shape, UnaryOperator, Word};
-use std::alloc::{AllocError, Global};
+use ioa_terms::Term;
+use ioa_typed::{
+    Pair, Typed, Update, entry_known, pair_by_left, pair_by_right, right_tells, update_by_entry,
+    update_by_map,
+};
+use std::alloc::Global;
 
-/// A term with the slot of each name and the shape of each display, and the shape of its value.
-#[derive(Drop)]
-pub struct Typed {
-    /// The term.
-    pub tree: Checked,
-    /// The shape of its value.
-    pub shape: Shape,
-}
-
-/// The parts of a form of two, and the shape of its value.
-#[derive(Drop)]
-pub(crate) struct Pair {
-    pub left: Checked,
-    pub right: Checked,
-    pub whole: Shape,
-}
-
-/// The parts of `update`, and the shape of its value.
-#[derive(Drop)]
-pub(crate) struct Update {
-    pub map: Checked,
-    pub key: Checked,
-    pub value: Checked,
-    pub whole: Shape,
-}
-
-/// The term that a name is.
-pub(crate) fn name_known(alloc: Global, view: &View, name: &Name) -> Result<Typed, Refusal>
-    ensures { Answers Refusal.Memory typed_of result (spec.name_known name.now (named name.now view.now)) }
+/// The parts of a form of two.
+#[cycle(sorting)]
+pub(crate) fn two_parts(
+    alloc: Global,
+    view: &View,
+    a: &Term,
+    b: &Term,
+    kind: Pairing,
+) -> Result<Box<Pair>, Refusal>
+    ensures { Answers Refusal.Memory (λ p. pair_of p.value) result (spec.two_parts kind
+        (spec.sorting view.now (term_of a.now)) (spec.sorting view.now (term_of b.now))) }
 {
-    match view.find(name) {
-        Some((slot, shape)) => {
-            let tree = Checked::Name(name.try_copy(alloc)?, slot);
-            let shape = shape.try_copy(alloc)?;
-            Ok(Typed { tree, shape })
+    match infer_part(alloc, view, a)? {
+        Some(left) => left_known(alloc, view, b, kind, left),
+        None => match infer_part(alloc, view, b)? {
+            Some(right) => right_known(alloc, view, a, kind, right),
+            None => Err(undetermined(kind)),
+        },
+    }
+}
+
+/// The parts of a form of two, if the left one has a shape of its own.
+#[cycle(sorting)]
+#[tactic(auto, unfolding(crate::specs::Sorting::left_known))]
+fn left_known(
+    alloc: Global,
+    view: &View,
+    b: &Term,
+    kind: Pairing,
+    left: Box<Typed>,
+) -> Result<Box<Pair>, Refusal>
+    ensures { Answers Refusal.Memory (λ p. pair_of p.value) result
+        (spec.left_known kind (typed_of left.value) (spec.sorting view.now (term_of b.now))) }
+{
+    match other_of_left(alloc, kind, &left.shape)? {
+        Some(sides) => left_by(alloc, view, b, left, &sides),
+        None => {
+            let right = infer_part(alloc, view, b)?;
+            right_tells(alloc, kind, left, right)
         }
-        None => Err(Refusal::Unknown),
     }
 }
 
-/// The part of a form of one, with the shape of the form's value.
-#[tactic(auto, unfolding(crate::specs::Sorting::part_known))]
-pub(crate) fn part_known(alloc: Global, kind: Single, part: Option<Typed>) -> Result<Typed, Refusal>
-    ensures { Answers Refusal.Memory typed_of result (spec.part_known kind (option_map typed_of part)) }
+/// The parts of a form of two whose left one told the shapes of the right one and of the value.
+#[cycle(sorting)]
+fn left_by(
+    alloc: Global,
+    view: &View,
+    b: &Term,
+    left: Box<Typed>,
+    sides: &Sides,
+) -> Result<Box<Pair>, Refusal>
+    ensures { Answers Refusal.Memory (λ p. pair_of p.value) result
+        (and_then (spec.fit (spec.sorting view.now (term_of b.now)) sides.now.other)
+        (λ t. Ok (pair (term_of left.value.tree) t sides.now.whole))) }
 {
-    match part {
-        Some(part) => {
-            let shape = value_of_one(alloc, kind, &part.shape)?;
-            Ok(Typed {
-                tree: part.tree,
-                shape,
-            })
-        }
-        None => Err(undetermined_alone(kind)),
+    let right = fit(alloc, view, b, &sides.other)?;
+    Ok(pair_by_left(alloc, left, right, &sides.whole)?)
+}
+
+/// The parts of a form of two, if the left one is a display and the right one has a shape of its own.
+#[cycle(sorting)]
+#[tactic(auto, unfolding(crate::specs::Sorting::right_known))]
+fn right_known(
+    alloc: Global,
+    view: &View,
+    a: &Term,
+    kind: Pairing,
+    right: Box<Typed>,
+) -> Result<Box<Pair>, Refusal>
+    ensures { Answers Refusal.Memory (λ p. pair_of p.value) result
+        (spec.right_known kind (spec.sorting view.now (term_of a.now)) (typed_of right.value)) }
+{
+    let sides = other_of_right(alloc, kind, &right.shape)?;
+    right_by(alloc, view, a, right, &sides)
+}
+
+/// The parts of a form of two whose right one told the shapes of the left one and of the value.
+#[cycle(sorting)]
+fn right_by(
+    alloc: Global,
+    view: &View,
+    a: &Term,
+    right: Box<Typed>,
+    sides: &Sides,
+) -> Result<Box<Pair>, Refusal>
+    ensures { Answers Refusal.Memory (λ p. pair_of p.value) result
+        (and_then (spec.fit (spec.sorting view.now (term_of a.now)) sides.now.other)
+        (λ t. Ok (pair t (term_of right.value.tree) sides.now.whole))) }
+{
+    let left = fit(alloc, view, a, &sides.other)?;
+    Ok(pair_by_right(alloc, left, right, &sides.whole)?)
+}
+
+/// The parts of `update`.
+#[cycle(sorting)]
+pub(crate) fn three_parts(
+    alloc: Global,
+    view: &View,
+    a: &Term,
+    b: &Term,
+    d: &Term,
+) -> Result<Box<Update>, Refusal>
+    ensures { Answers Refusal.Memory (λ u. update_of u.value) result (spec.three_parts
+        (spec.sorting view.now (term_of a.now)) (spec.sorting view.now (term_of b.now))
+        (spec.sorting view.now (term_of d.now))) }
+{
+    match infer_part(alloc, view, a)? {
+        Some(map) => map_known(alloc, view, b, d, map),
+        None => match infer_part(alloc, view, b)? {
+            Some(key) => key_known(alloc, view, a, d, key),
+            None => Err(Refusal::EmptyOfWhat),
+        },
     }
 }
 
-/// The term, if its shape is the one asked.
-#[tactic(auto, unfolding(crate::specs::Sorting::fit_typed))]
-pub(crate) fn fit_typed(want: &Shape, typed: Typed) -> Result<Checked, Refusal>
-    ensures { Answers Refusal.Memory term_of result (spec.fit_typed want.now (typed_of typed)) }
-{
-    if is_same_sort(&typed.shape, want) {
-        Ok(typed.tree)
-    } else {
-        Err(Refusal::Sorts)
-    }
-}
-
-/// An operator before a term.
-pub(crate) fn one_term(
+/// The parts of `update`, if the map has a shape of its own.
+#[cycle(sorting)]
+#[tactic(auto, unfolding(crate::specs::Sorting::map_known))]
+fn map_known(
     alloc: Global,
-    operator: UnaryOperator,
-    part: Typed,
-) -> Result<Typed, AllocError>
-    ensures { IfOk result (λ t. typed_of t ≡ spec.typed (plain.one operator (term_of part.tree)) part.shape) }
+    view: &View,
+    b: &Term,
+    d: &Term,
+    map: Box<Typed>,
+) -> Result<Box<Update>, Refusal>
+    ensures { Answers Refusal.Memory (λ u. update_of u.value) result (spec.map_known (typed_of map.value)
+        (spec.sorting view.now (term_of b.now)) (spec.sorting view.now (term_of d.now))) }
 {
-    let tree = Checked::One(operator, Box::new(alloc, part.tree)?);
-    Ok(Typed {
-        tree,
-        shape: part.shape,
-    })
+    let sides = entry_of(alloc, &map.shape)?;
+    map_by(alloc, view, b, d, map, &sides)
 }
 
-/// An operator between two terms.
-pub(crate) fn two_term(
+/// The parts of `update` whose map told the shapes of the key and of the value.
+#[cycle(sorting)]
+fn map_by(
     alloc: Global,
-    operator: BinaryOperator,
-    parts: Pair,
-) -> Result<Typed, AllocError>
-    ensures { IfOk result (λ t. typed_of t
-        ≡ spec.typed (plain.two operator (term_of parts.left) (term_of parts.right)) parts.whole) }
+    view: &View,
+    b: &Term,
+    d: &Term,
+    map: Box<Typed>,
+    sides: &Sides,
+) -> Result<Box<Update>, Refusal>
+    ensures { Answers Refusal.Memory (λ u. update_of u.value) result
+        (and_then (spec.fit (spec.sorting view.now (term_of b.now)) sides.now.other)
+        (λ k. and_then (spec.fit (spec.sorting view.now (term_of d.now)) sides.now.whole)
+        (λ v. Ok (update (term_of map.value.tree) k v map.value.shape)))) }
 {
-    let left = Box::new(alloc, parts.left)?;
-    let right = Box::new(alloc, parts.right)?;
-    Ok(Typed {
-        tree: Checked::Two(operator, left, right),
-        shape: parts.whole,
-    })
+    let key = Box::new(alloc, fit(alloc, view, b, &sides.other)?)?;
+    let value = fit(alloc, view, d, &sides.whole)?;
+    Ok(update_by_map(alloc, map, key, value)?)
 }
 
-/// A function of one term.
-pub(crate) fn call_of_part(alloc: Global, name: &Word, part: Typed) -> Result<Typed, AllocError>
-    ensures { IfOk result (λ t. typed_of t
-        ≡ spec.typed (plain.call name.now (plain.term (term_of part.tree) plain.no_terms)) part.shape) }
-{
-    let mut parts = Vec::new(alloc);
-    parts.push(part.tree)?;
-    Ok(Typed {
-        tree: Checked::Call(name.try_copy(alloc)?, parts),
-        shape: part.shape,
-    })
-}
-
-/// A function of two terms.
-pub(crate) fn call_of_pair(alloc: Global, name: &Word, pair: Pair) -> Result<Typed, AllocError>
-    ensures { IfOk result (λ t. typed_of t ≡ spec.typed (plain.call name.now
-        (plain.term (term_of pair.left) (plain.term (term_of pair.right) plain.no_terms))) pair.whole) }
-{
-    let mut parts = Vec::new(alloc);
-    parts.push(pair.left)?;
-    parts.push(pair.right)?;
-    Ok(Typed {
-        tree: Checked::Call(name.try_copy(alloc)?, parts),
-        shape: pair.whole,
-    })
-}
-
-/// The function `update` of a map, a key and a value.
-pub(crate) fn call_of_update(
+/// The parts of `update`, if the map is a display and the key has a shape of its own.
+#[cycle(sorting)]
+#[tactic(auto, unfolding(crate::specs::Sorting::key_known))]
+fn key_known(
     alloc: Global,
-    name: &Word,
-    update: Update,
-) -> Result<Typed, AllocError>
-    ensures { IfOk result (λ t. typed_of t ≡ spec.typed (plain.call name.now (plain.term (term_of update.map)
-        (plain.term (term_of update.key) (plain.term (term_of update.value) plain.no_terms)))) update.whole) }
+    view: &View,
+    a: &Term,
+    d: &Term,
+    key: Box<Typed>,
+) -> Result<Box<Update>, Refusal>
+    ensures { Answers Refusal.Memory (λ u. update_of u.value) result (spec.key_known (typed_of key.value)
+        (spec.sorting view.now (term_of a.now)) (spec.sorting view.now (term_of d.now))) }
 {
-    let mut parts = Vec::new(alloc);
-    parts.push(update.map)?;
-    parts.push(update.key)?;
-    parts.push(update.value)?;
-    Ok(Typed {
-        tree: Checked::Call(name.try_copy(alloc)?, parts),
-        shape: update.whole,
-    })
-}
-
-/// A display of parts, with the shape that it has.
-pub(crate) fn display_term(
-    alloc: Global,
-    form: DisplayForm,
-    shape: &Shape,
-    parts: Vec<Checked>,
-) -> Result<Checked, AllocError>
-    ensures { IfOk result (λ t. term_of t ≡ plain.display form shape.now (terms_of (map term_of parts.items))) }
-{
-    Ok(Checked::Display(form, shape.try_copy(alloc)?, parts))
-}
-
-/// A field of a term.
-#[tactic(auto, unfolding(crate::specs::Sorting::field_known))]
-pub(crate) fn field_known(
-    alloc: Global,
-    name: &Word,
-    whole: Option<Typed>,
-) -> Result<Typed, Refusal>
-    ensures { Answers Refusal.Memory typed_of result (spec.field_known name.now (option_map typed_of whole)) }
-{
-    match whole {
-        Some(whole) => {
-            let shape = value_of_field(alloc, name, &whole.shape)?;
-            let tuple = Box::new(alloc, whole.tree)?;
-            Ok(Typed {
-                tree: Checked::Field(tuple, name.try_copy(alloc)?, whole.shape),
-                shape,
-            })
+    match infer_part(alloc, view, d)? {
+        Some(value) => {
+            let entry = entry_known(alloc, key, value)?;
+            let map = fit(alloc, view, a, &entry.whole)?;
+            Ok(update_by_entry(alloc, map, entry)?)
         }
         None => Err(Refusal::EmptyOfWhat),
     }

@@ -1,11 +1,13 @@
 //! The sorts of statements.
 
-ghost use Rattle.std.specs.Prelude.{◌≡◌, Ok, map};
-ghost use Rattle.ioa_values.specs.Outcome.{Answers};
+ghost use Rattle.std.specs.Prelude.{◌≡◌, IfOk, Ok, map};
+ghost use Rattle.ioa_values.specs.Outcome.{Answers, and_then};
 ghost use Rattle.ioa_operators.specs.Shapes.{truths};
 ghost use Rattle.ioa_terms.specs.PlainTerm as plain;
 ghost use Rattle.ioa_terms.specs.PlainTerm.{arms_of, statements_of};
+ghost use Rattle.ioa_terms.specs.Sorted.{shape_in_terms};
 ghost use Rattle.ioa_terms.specs.View.{term_of, target_of, statement_of, arm_of, firing_of};
+ghost use Rattle.ioa_sort_rules.specs.Rows as rows;
 ghost use Rattle.ioa_sorts.specs.SiteView.{site_of};
 ghost use Rattle.ioa_sorts.specs.Sorting as sorting;
 ghost use Rattle.ioa_sorts.specs.SortingView.{typed_target_of};
@@ -15,9 +17,9 @@ use crate::actions::sort_firing;
 use crate::site::StatementSite;
 use crate::sorting::fit;
 use ioa_names::View;
-use ioa_sort_rules::{Refusal, entry_of, shape_in_terms, value_of_field};
+use ioa_sort_rules::{Refusal, Sides, entry_of, shape_in_terms, value_of_field};
 use ioa_terms::{Arm, Checked, Firing, Shape, ShapeForm, Statement, Target, Term, Word};
-use std::alloc::Global;
+use std::alloc::{AllocError, Global};
 
 /// A target with the slot and the declared shape of its variable, and the shape of what is assigned to it.
 #[derive(Drop)]
@@ -67,7 +69,7 @@ fn sort_statement(
             Ok(choice(arms, rest))
         }
         Statement::While(test, body) => {
-            let test = sort_loop_test(alloc, site, test)?;
+            let test = Box::new(alloc, sort_loop_test(alloc, site, test)?)?;
             let body = sort_statements(alloc, site, body)?;
             Ok(repetition(test, body))
         }
@@ -103,9 +105,21 @@ fn sort_arm(
     ensures { Answers Refusal.Memory arm_of result
         (spec.arm_sorting (site_of site.now) (arm_of arm.now)) }
 {
-    let test = fit(alloc, site.view, &arm.test, &Shape::of(ShapeForm::Truths))?;
+    let test = Box::new(alloc, truth_of(alloc, site.view, &arm.test)?)?;
     let body = sort_statements(alloc, site, &arm.body)?;
-    Ok(Arm { test, body })
+    Ok(Arm {
+        test: Box::into_inner(test),
+        body,
+    })
+}
+
+/// A test with slots and shapes: a truth value.
+fn truth_of(alloc: Global, view: &View, test: &Term) -> Result<Checked, Refusal>
+    ensures { Answers Refusal.Memory term_of result
+        (sorting.fit (sorting.sorting view.now (term_of test.now)) truths) }
+{
+    let want = Shape::of(ShapeForm::Truths);
+    fit(alloc, view, test, &want)
 }
 
 /// The test of a `while` with slots and shapes: a truth value. `Unknown` (20) outside of a schedule block.
@@ -115,7 +129,7 @@ fn sort_loop_test(alloc: Global, site: &StatementSite, test: &Term) -> Result<Ch
         (sorting.fit (sorting.sorting site.now.view.now (term_of test.now)) truths)) }
 {
     if site.in_block {
-        fit(alloc, site.view, test, &Shape::of(ShapeForm::Truths))
+        truth_of(alloc, site.view, test)
     } else {
         Err(Refusal::Unknown)
     }
@@ -135,10 +149,10 @@ fn sort_fire(
 }
 
 /// A `while` of a test and its body.
-fn repetition(test: Checked, body: Vec<Statement<usize, Shape>>) -> Statement<usize, Shape>
-    ensures { statement_of result ≡ plain.loop (term_of test) (statements_of (map statement_of body.items)) }
+fn repetition(test: Box<Checked>, body: Vec<Statement<usize, Shape>>) -> Statement<usize, Shape>
+    ensures { statement_of result ≡ plain.loop (term_of test.value) (statements_of (map statement_of body.items)) }
 {
-    Statement::While(test, body)
+    Statement::While(Box::into_inner(test), body)
 }
 
 /// An `if` of arms and the rest.
@@ -162,9 +176,9 @@ fn sort_assignment(
     ensures { Answers Refusal.Memory statement_of result (spec.assignment_sorting (site_of site.now)
         (target_of target.now) (term_of term.now)) }
 {
-    let target = sort_target(alloc, site, target)?;
+    let target = Box::new(alloc, sort_target(alloc, site, target)?)?;
     let value = fit(alloc, site.view, term, &target.shape)?;
-    Ok(Statement::Assign(target.target, value))
+    Ok(Statement::Assign(Box::into_inner(target).target, value))
 }
 
 /// A target with the slot and the declared shape of its variable.
@@ -214,8 +228,8 @@ fn whole_target(alloc: Global, name: &Word, found: (usize, &Shape)) -> Result<Ty
         (Ok (spec.whole_target name.now (found.entry.0, found.entry.1.now))) }
 {
     let (slot, declared) = found;
-    let shape = shape_in_terms(alloc, declared)?;
     let name = name.try_copy(alloc)?;
+    let shape = shape_in_terms(alloc, declared)?;
     let target = Target::Variable(name, slot, declared.try_copy(alloc)?);
     Ok(TypedTarget { target, shape })
 }
@@ -232,16 +246,53 @@ fn key_target(
     ensures { Answers Refusal.Memory typed_target_of result
         (spec.key_target view.now name.now (term_of key.now) (found.entry.0, found.entry.1.now)) }
 {
-    let (slot, declared) = found;
+    let sides = declared_entry(alloc, found.1)?;
+    key_by(alloc, view, name, key, found, &sides)
+}
+
+/// The shapes of the keys and of the values of a map, by its declared shape.
+fn declared_entry(alloc: Global, declared: &Shape) -> Result<Sides, Refusal>
+    ensures { Answers Refusal.Memory (λ p. rows.sides p.other p.whole) result
+        (rows.entry_of (shape_in_terms declared.now)) }
+{
     let shape = shape_in_terms(alloc, declared)?;
-    let sides = entry_of(alloc, &shape)?;
-    let key = fit(alloc, view, key, &sides.other)?;
+    entry_of(alloc, &shape)
+}
+
+/// The value of a variable at a key, by the shapes of the keys and of the values.
+fn key_by(
+    alloc: Global,
+    view: &View,
+    name: &Word,
+    key: &Term,
+    found: (usize, &Shape),
+    sides: &Sides,
+) -> Result<TypedTarget, Refusal>
+    ensures { Answers Refusal.Memory typed_target_of result
+        (and_then (sorting.fit (sorting.sorting view.now (term_of key.now)) sides.now.other)
+        (λ t. Ok (spec.typed_target (plain.at_key name.now found.entry.0 found.entry.1.now t) sides.now.whole))) }
+{
+    let key = Box::new(alloc, fit(alloc, view, key, &sides.other)?)?;
+    Ok(keyed(alloc, name, found, key, &sides.whole)?)
+}
+
+/// A target of a variable's slot and declared shape, a key, and the shape of the value there.
+fn keyed(
+    alloc: Global,
+    name: &Word,
+    found: (usize, &Shape),
+    key: Box<Checked>,
+    whole: &Shape,
+) -> Result<TypedTarget, AllocError>
+    ensures { IfOk result (λ t. typed_target_of t ≡ spec.typed_target
+        (plain.at_key name.now found.entry.0 found.entry.1.now (term_of key.value)) whole.now) }
+{
+    let (slot, declared) = found;
     let name = name.try_copy(alloc)?;
-    let target = Target::At(name, slot, declared.try_copy(alloc)?, key);
-    Ok(TypedTarget {
-        target,
-        shape: sides.whole,
-    })
+    let declared = declared.try_copy(alloc)?;
+    let shape = whole.try_copy(alloc)?;
+    let target = Target::At(name, slot, declared, Box::into_inner(key));
+    Ok(TypedTarget { target, shape })
 }
 
 /// A field of a variable.
@@ -256,8 +307,8 @@ fn field_target(
         (spec.field_target name.now field.now (found.entry.0, found.entry.1.now)) }
 {
     let (slot, declared) = found;
-    let shape = value_of_field(alloc, field, declared)?;
     let name = name.try_copy(alloc)?;
+    let shape = value_of_field(alloc, field, declared)?;
     let field = field.try_copy(alloc)?;
     let target = Target::Field(name, slot, declared.try_copy(alloc)?, field);
     Ok(TypedTarget { target, shape })

@@ -9,7 +9,8 @@ use Rattle.ioa_sort_rules.specs.declared.refusal.Refusal.TheVariants.{Sorts}
 use Rattle.ioa_sort_rules.specs.declared.kinds.Single.{Single}
 use Rattle.ioa_sort_rules.specs.declared.kinds.Pairing.{Pairing}
 use Rattle.ioa_sort_rules.specs.Rows.{PlainSides}
-use Rattle.ioa_sorts.specs.Sorting.{typed, fit, inbox_of, one_part, two_parts, three_parts, call_one, call_two, call_three, each_fit, sorting, sortings}
+use Rattle.ioa_typed.specs.Parts.{typed}
+use Rattle.ioa_sorts.specs.Sorting.{fit, inbox_of, one_part, two_parts, three_parts, call_one, call_two, call_three, each_fit, sorting, sortings}
 
 module _ {A : Type 0} (source : A → SourceTerm) (names : NameShapes) (w : List ℕ) where
   -- a call of one part
