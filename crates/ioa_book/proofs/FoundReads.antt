@@ -10,9 +10,10 @@ use Rattle.ioa_actions.specs.declared.fault.StepFault.TheVariants.{NoChannel}
 use Rattle.ioa_actions.proofs.SameComponents.{Decides-same_component}
 use Rattle.ioa_compose.specs.Composition.{find_conf, own_steps}
 use Rattle.ioa_compose.specs.Participants.{participants_of}
-use Rattle.ioa_book.specs.Books.{PlainSnapshot}
-use Rattle.ioa_book.specs.Proposals.{find_read, plain_proposal, step_answer}
-use Rattle.ioa_book.specs.Versions.{PlainVersionedConf, read_component, read_confs}
+use Rattle.ioa_book.specs.Looks.{PlainSnapshot}
+use Rattle.ioa_commits.specs.Proposals.{plain_proposal}
+use Rattle.ioa_book.specs.Proposals.{find_read, step_answer}
+use Rattle.ioa_commits.specs.Versions.{PlainVersionedConf, read_component, read_confs}
 
 -- what was read of a component is of that component
 pub found_component : (k : Component) (rs : List PlainVersionedConf) (r : PlainVersionedConf) → find_read k rs ≡ Some r → read_component r ≡ k

@@ -19,13 +19,15 @@ use Rattle.ioa_compose.specs.Participants.{participants_of}
 use Rattle.ioa_compose.specs.declared.configuration.Conf.{Conf}
 use Rattle.ioa_compose.proofs.Components.{component_of-find_conf}
 use Rattle.ioa_compose.proofs.SameConfs.{same_conf_is}
-use Rattle.ioa_book.specs.Books.{PlainBook, held_of, snapshot_after, states_held}
-use Rattle.ioa_book.specs.Commits.{first_refusal, full, refusal_by, refusal_of}
-use Rattle.ioa_book.specs.Proposals.{find_read, one_or_none, plain_proposal, proposal_answer, reads_at, reads_held}
-use Rattle.ioa_book.specs.Versions.{PlainVersionedConf, read_confs, with_version}
-use Rattle.ioa_book.specs.declared.standing.Test.{Test}
-use Rattle.ioa_book.specs.declared.standing.Test.TheVariants.{Known, Current, Same}
-use Rattle.ioa_book.proofs.Commits.{confs_among}
+use Rattle.ioa_commits.specs.Books.{PlainBook, held_of, states_held}
+use Rattle.ioa_book.specs.Looks.{snapshot_after}
+use Rattle.ioa_commits.specs.Commits.{first_refusal, full, refusal_by, refusal_of}
+use Rattle.ioa_commits.specs.Proposals.{plain_proposal}
+use Rattle.ioa_book.specs.Proposals.{find_read, one_or_none, proposal_answer, reads_at, reads_held}
+use Rattle.ioa_commits.specs.Versions.{PlainVersionedConf, read_confs, with_version}
+use Rattle.ioa_commits.specs.declared.standing.Test.{Test}
+use Rattle.ioa_commits.specs.declared.standing.Test.TheVariants.{Known, Current, Same}
+use Rattle.ioa_commits.proofs.Commits.{confs_among}
 use Rattle.ioa_book.proofs.FoundReads.{found_conf}
 
 -- the configurations that a look shows are those that the node has to do with

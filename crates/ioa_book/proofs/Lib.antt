@@ -1,10 +1,6 @@
 -- the lemmas of this crate
-pub mod SameConfs
-pub mod Lookups
-pub mod Raises
-pub mod Puts
+pub mod OwnReads
 pub mod FoundReads
-pub mod Commits
 pub mod BookLaws
 pub mod FreshLooks
 pub mod StandsExactly

@@ -11,13 +11,13 @@ use Rattle.ioa_compose.specs.SameConfs.{same_conf}
 use Rattle.ioa_compose.specs.declared.configuration.Conf.{Conf}
 use Rattle.ioa_compose.proofs.Components.{component_of-find_conf}
 use Rattle.ioa_compose.proofs.SameConfs.{same_conf_is}
-use Rattle.ioa_book.specs.Books.{PlainBook, held_of, states_held}
-use Rattle.ioa_book.specs.Commits.{StandsIn, differs_by, first_refusal, full, refusal_by, refusal_of, stale_by, unknown_by}
-use Rattle.ioa_book.specs.Versions.{PlainVersionedConf, read_component, version, with_version}
-use Rattle.ioa_book.specs.declared.outcome.Refusal.TheVariants.{Differs, Stale}
-use Rattle.ioa_book.specs.declared.standing.Test.{Test}
-use Rattle.ioa_book.specs.declared.standing.Test.TheVariants.{Known, Current, Same}
-use Rattle.ioa_book.proofs.Commits.{none_first, room_left}
+use Rattle.ioa_commits.specs.Books.{PlainBook, held_of, states_held}
+use Rattle.ioa_commits.specs.Commits.{StandsIn, differs_by, first_refusal, full, refusal_by, refusal_of, stale_by, unknown_by}
+use Rattle.ioa_commits.specs.Versions.{PlainVersionedConf, read_component, version, with_version}
+use Rattle.ioa_commits.specs.declared.outcome.Refusal.TheVariants.{Differs, Stale}
+use Rattle.ioa_commits.specs.declared.standing.Test.{Test}
+use Rattle.ioa_commits.specs.declared.standing.Test.TheVariants.{Known, Current, Same}
+use Rattle.ioa_commits.proofs.Commits.{none_first, room_left}
 
 -- the three tests have nothing against what was read
 record ArePassed (b : PlainBook) (r : PlainVersionedConf) : Type 0 where

@@ -1,8 +1,6 @@
 -- what the contracts of this crate and of those above it cite
-pub mod Versions
-pub mod Books
+pub mod Looks
 pub mod Proposals
-pub mod Commits
 pub mod BookLaws
 pub mod Slots
-pub mod Refusals
+pub mod LookFaults

@@ -10,10 +10,12 @@ ghost use Rattle.ioa_actions.specs.declared.component.Component.{Component};
 ghost use Rattle.ioa_index.specs.Own.{concerns};
 ghost use Rattle.ioa_compose.specs.Composition.{changes_of, component_of, find_conf, find_confs};
 ghost use Rattle.ioa_compose.specs.Participants.{participants_of};
-ghost use Rattle.ioa_book.specs.Books.{PlainBook, snapshot_after, states_held};
-ghost use Rattle.ioa_book.specs.Commits.{StandsIn, full, refusal_of};
-ghost use Rattle.ioa_book.specs.Proposals.{plain_proposal, proposal_answer, reads_held};
-ghost use Rattle.ioa_book.specs.Versions.{PlainVersionedConf, read_confs};
+ghost use Rattle.ioa_commits.specs.Books.{PlainBook, states_held};
+ghost use Rattle.ioa_commits.specs.Commits.{StandsIn, full, refusal_of};
+ghost use Rattle.ioa_commits.specs.Proposals.{plain_proposal};
+ghost use Rattle.ioa_commits.specs.Versions.{PlainVersionedConf, read_confs};
+ghost use Rattle.ioa_book.specs.Looks.{snapshot_after};
+ghost use Rattle.ioa_book.specs.Proposals.{proposal_answer, reads_held};
 
 /// A look at a node shows of each component that the node has to do with what the book holds. So a proposal of one of
 /// the node's actions has the steps of the participants from the configurations held (Lynch 8.2), or the fault that

@@ -2,17 +2,14 @@
 #![tactic(auto)]
 
 mod book;
-mod holding;
+mod copying;
 mod laws;
 mod outcome;
-mod proposal;
+mod proposing;
 mod snapshot;
-mod standing;
-mod versioned;
 
 pub use book::Book;
+pub use ioa_commits::{Committed, Proposal, Refusal, Refused, VersionedConf};
 pub use laws::{fresh_look_law, stands_law};
-pub use outcome::{Committed, Execution, LookFault, Refusal, Refused};
-pub use proposal::Proposal;
+pub use outcome::{Execution, LookFault};
 pub use snapshot::Snapshot;
-pub use versioned::VersionedConf;

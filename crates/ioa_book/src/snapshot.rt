@@ -6,13 +6,13 @@ ghost use Rattle.std.specs.Ordering.{int_eq};
 ghost use Rattle.ioa_values.specs.Outcome.{Answers};
 ghost use Rattle.ioa_actions.specs.ActionParts.{node_of};
 ghost use Rattle.ioa_compose.specs.Participants.{participants_of};
-ghost use Rattle.ioa_book.specs.Books.{plain_snapshot};
+ghost use Rattle.ioa_book.specs.Looks.{plain_snapshot};
 ghost use Rattle.ioa_book.specs.Proposals as spec;
-ghost use Rattle.ioa_book.specs.Versions.{read_component};
+ghost use Rattle.ioa_commits.specs.Versions.{read_component};
 
-use crate::proposal::Proposal;
-use crate::versioned::VersionedConf;
+use crate::proposing::{proposal_of_one, proposal_of_two};
 use ioa_actions::{Action, Component, StepFault};
+use ioa_commits::{Proposal, VersionedConf};
 use ioa_compose::{Parties, participants};
 use ioa_sharing::Origin;
 use std::alloc::Global;
@@ -28,7 +28,7 @@ pub struct Snapshot<O: Origin> {
 }
 
 impl<O: Origin> Model for Snapshot<O> {
-    ghost use Rattle.ioa_book.specs.Books.{PlainSnapshot, plain_snapshot, plain_snapshot_code};
+    ghost use Rattle.ioa_book.specs.Looks.{PlainSnapshot, plain_snapshot, plain_snapshot_code};
 
     ghost Value = { PlainSnapshot };
 
@@ -111,7 +111,7 @@ impl<O: Origin> Snapshot<O> {
         ensures { Answers StepFault.Memory (λ p. p) result (spec.step_answer action self.now) }
     {
         match self.read_of(node) {
-            Some(node) => Proposal::of_one(alloc, action, self.length(), node),
+            Some(node) => proposal_of_one(alloc, action, self.length(), node),
             None => Err(StepFault::NoChannel),
         }
     }
@@ -146,7 +146,7 @@ impl<O: Origin> Snapshot<O> {
         ensures { Answers StepFault.Memory (λ p. p) result (spec.step_answer action self.now) }
     {
         match self.read_of(node) {
-            Some(node) => Proposal::of_two(alloc, action, self.length(), queue, node),
+            Some(node) => proposal_of_two(alloc, action, self.length(), queue, node),
             None => Err(StepFault::NoChannel),
         }
     }

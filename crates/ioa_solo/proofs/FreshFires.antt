@@ -10,11 +10,13 @@ use Rattle.ioa_actions.specs.declared.fault.StepFault.TheVariants as step
 use Rattle.ioa_compose.specs.Composition.{changes_of, find_confs, joint_answer, put_confs}
 use Rattle.ioa_compose.specs.Participants.{participants_of}
 use Rattle.ioa_compose.specs.declared.configuration.Conf.{Conf}
-use Rattle.ioa_book.specs.Books.{IsLookAt, PlainBook, PlainSnapshot, snapshot_after, states_held}
-use Rattle.ioa_book.specs.Commits.{IsCommitted, IsRefused, full, refusal_of}
-use Rattle.ioa_book.specs.Proposals.{PlainProposal, plain_proposal, proposal_answer, reads_held}
-use Rattle.ioa_book.specs.declared.outcome.Refusal.{Refusal}
-use Rattle.ioa_book.specs.declared.outcome.Refusal.TheVariants as refusal
+use Rattle.ioa_commits.specs.Books.{PlainBook, states_held}
+use Rattle.ioa_book.specs.Looks.{IsLookAt, PlainSnapshot, snapshot_after}
+use Rattle.ioa_commits.specs.Commits.{IsCommitted, IsRefused, full, refusal_of}
+use Rattle.ioa_commits.specs.Proposals.{PlainProposal, plain_proposal}
+use Rattle.ioa_book.specs.Proposals.{proposal_answer, reads_held}
+use Rattle.ioa_commits.specs.declared.outcome.Refusal.{Refusal}
+use Rattle.ioa_commits.specs.declared.outcome.Refusal.TheVariants as refusal
 use Rattle.ioa_book.proofs.FreshLooks.{fresh_proposal, held_stands}
 use Rattle.ioa_record.specs.declared.ending.NodeFault.TheVariants.{NotMine, Full}
 use Rattle.ioa_record.specs.declared.ending.NodeFault.TheVariants as fault

@@ -12,8 +12,9 @@ use Rattle.ioa_channels.specs.Queues.{messages_of}
 use Rattle.ioa_compose.specs.Composition.{component_of, find_conf}
 use Rattle.ioa_compose.specs.declared.configuration.Conf.{Conf}
 use Rattle.ioa_compose.specs.declared.configuration.Conf.TheVariants.{Node, Queue}
-use Rattle.ioa_book.specs.Books.{IsLookAt, PlainBook, PlainSnapshot, snapshot_after, states_held}
-use Rattle.ioa_book.specs.Versions.{read_confs}
+use Rattle.ioa_commits.specs.Books.{PlainBook, states_held}
+use Rattle.ioa_book.specs.Looks.{IsLookAt, PlainSnapshot, snapshot_after}
+use Rattle.ioa_commits.specs.Versions.{read_confs}
 use Rattle.ioa_book.proofs.FreshLooks.{conf_seen, confs_shown}
 use Rattle.ioa_solo.specs.Inboxes.{inbox_at, inbox_of, inboxes_in, inboxes_seen}
 use Rattle.ioa_operators.specs.declared.fault.TermFault.{TermFault}

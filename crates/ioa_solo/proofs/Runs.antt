@@ -24,7 +24,8 @@ use Rattle.ioa_compose.proofs.Deliveries.{hands_out_prefix, takes_in_order}
 use Rattle.ioa_compose.proofs.Starts.{is_start, start_state}
 use Rattle.ioa_record.specs.declared.ending.Ending.{Ending}
 use Rattle.ioa_record.specs.declared.record.Record.{Record}
-use Rattle.ioa_book.specs.Books.{IsExecutionOf, PlainBook, states_held}
+use Rattle.ioa_commits.specs.Books.{PlainBook, states_held}
+use Rattle.ioa_book.specs.BookLaws.{IsExecutionOf}
 use Rattle.ioa_compose.specs.Executions.{replay}
 use Rattle.std.proofs.lemmas.List.{length-map}
 use Rattle.ioa_solo.specs.NodeTurns.{PlainProgress, progress_of}

@@ -14,9 +14,9 @@ use Rattle.ioa_compose.specs.declared.configuration.Conf.{Conf}
 use Rattle.ioa_compose.specs.Composition.{joint_answer}
 use Rattle.ioa_record.specs.declared.ending.NodeFault.{NodeFault}
 use Rattle.ioa_record.specs.declared.ending.NodeFault.TheVariants.{Undefined, Range, Memory, NotMine, NoChannel, Differs, Full}
-use Rattle.ioa_book.specs.Books.{PlainBook, states_held}
-use Rattle.ioa_book.specs.declared.outcome.Refusal.{Refusal}
-use Rattle.ioa_book.specs.declared.outcome.Refusal.TheVariants as refusal
+use Rattle.ioa_commits.specs.Books.{PlainBook, states_held}
+use Rattle.ioa_commits.specs.declared.outcome.Refusal.{Refusal}
+use Rattle.ioa_commits.specs.declared.outcome.Refusal.TheVariants as refusal
 use Rattle.ioa_solo.specs.declared.firing.FireOutcome.{FireOutcome}
 use Rattle.ioa_solo.specs.declared.firing.FireOutcome.TheVariants as outcome
 

@@ -5,7 +5,7 @@ use Rattle.ioa_actions.specs.declared.action.Action.{Action}
 use Rattle.ioa_system.specs.Systems.{SystemParts}
 use Rattle.ioa_compose.specs.declared.configuration.Conf.{Conf}
 use Rattle.ioa_compose.specs.Executions.{replay}
-use Rattle.ioa_book.specs.Books.{PlainBook}
+use Rattle.ioa_commits.specs.Books.{PlainBook}
 use Rattle.ioa_compose.specs.Start.{start}
 use Rattle.ioa_compose.specs.IsStart.{IsStart}
 use Rattle.ioa_compose.specs.Automata.{IsExecution, ProjectsOnEach}

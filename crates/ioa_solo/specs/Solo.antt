@@ -5,7 +5,7 @@ use Rattle.std.specs.List.{list_any}
 use Rattle.std.specs.Option.{unwrap_or}
 use Rattle.ioa_actions.specs.declared.action.Action.{Action}
 use Rattle.ioa_terms.specs.PlainTerm.{statements_of}
-use Rattle.ioa_book.specs.Books.{PlainBook, states_held}
+use Rattle.ioa_commits.specs.Books.{PlainBook, states_held}
 use Rattle.ioa_compose.specs.declared.configuration.Conf.{Conf}
 use Rattle.ioa_system.specs.Parts.{Parts}
 use Rattle.ioa_compose.specs.Start.{start}

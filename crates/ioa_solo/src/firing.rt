@@ -2,8 +2,9 @@
 
 ghost use Rattle.std.specs.Prelude.{◌≡◌, ◌⊎◌, IfOk, OnErr, Ok};
 ghost use Rattle.std.specs.Option.{option_copied};
-ghost use Rattle.ioa_book.specs.Books.{IsLookAt, states_held};
-ghost use Rattle.ioa_book.specs.declared.outcome.Refusal.{Refusal};
+ghost use Rattle.ioa_commits.specs.Books.{states_held};
+ghost use Rattle.ioa_book.specs.Looks.{IsLookAt};
+ghost use Rattle.ioa_commits.specs.declared.outcome.Refusal.{Refusal};
 ghost use Rattle.ioa_book.specs.Proposals.{proposal_answer};
 ghost use Rattle.ioa_values.specs.Outcome.{Answers};
 ghost use Rattle.ioa_solo.specs.Attempts as spec;

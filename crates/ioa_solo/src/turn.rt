@@ -13,8 +13,9 @@ ghost use Rattle.ioa_solo.specs.Inboxes.{inbox_at, inbox_of, inboxes_in, inboxes
 ghost use Rattle.ioa_solo.specs.NodeTurns as spec;
 ghost use Rattle.ioa_solo.specs.NodeTurns.{end_of, progress_of};
 ghost use Rattle.ioa_solo.specs.Solo.{progress_at};
-ghost use Rattle.ioa_book.specs.Books.{IsLookAt, states_held};
-ghost use Rattle.ioa_book.specs.Versions.{read_confs};
+ghost use Rattle.ioa_commits.specs.Books.{states_held};
+ghost use Rattle.ioa_book.specs.Looks.{IsLookAt};
+ghost use Rattle.ioa_commits.specs.Versions.{read_confs};
 
 use crate::progress::Progress;
 use ioa_actions::Component;

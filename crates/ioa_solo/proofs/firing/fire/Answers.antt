@@ -1,6 +1,6 @@
 use Rattle.std.proofs.Common.{refl, rules}
 use Rattle.ioa_values.specs.Outcome.{Answers}
-use Rattle.ioa_book.specs.Books.{states_held}
+use Rattle.ioa_commits.specs.Books.{states_held}
 use Rattle.ioa_record.specs.declared.ending.NodeFault.TheVariants.{Memory}
 use Rattle.ioa_solo.specs.Attempts.{fire_answer, outcome_in}
 use Rattle.ioa_solo.proofs.FreshFires.{fault_answers, fault_recorded, proposed_action, proposed_own}

@@ -1,5 +1,5 @@
 use Rattle.std.proofs.Common.{◌≡◌}
-use Rattle.ioa_book.specs.Books.{states_held}
+use Rattle.ioa_commits.specs.Books.{states_held}
 use Rattle.ioa_solo.specs.NodeTurns.{progress_of}
 use Rattle.ioa_solo.proofs.FreshTurns.{turn_program}
 use Rattle.ioa_solo.proofs.running.attempt_on.Goals as goal

@@ -1,5 +1,5 @@
 use Rattle.std.proofs.Common.{◌≡◌, drop}
-use Rattle.ioa_book.specs.Versions.{read_confs}
+use Rattle.ioa_commits.specs.Versions.{read_confs}
 use Rattle.ioa_compose.specs.Composition.{find_conf}
 use Rattle.ioa_solo.proofs.turn.find_conf.Given as goal
 

@@ -1,6 +1,6 @@
 use Rattle.std.proofs.Common.{◌≡◌, ◌++◌, drop}
 use Rattle.ioa_terms.specs.Inboxes.{inboxes_of}
-use Rattle.ioa_book.specs.Versions.{read_confs}
+use Rattle.ioa_commits.specs.Versions.{read_confs}
 use Rattle.ioa_solo.specs.Inboxes.{inboxes_in}
 use Rattle.ioa_solo.proofs.turn.inboxes_to.Given as goal
 

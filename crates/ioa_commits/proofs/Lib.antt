@@ -1,0 +1,6 @@
+-- the lemmas of this crate
+pub mod SameConfs
+pub mod Lookups
+pub mod Raises
+pub mod Puts
+pub mod Commits

@@ -1,0 +1,98 @@
+//! Configurations with their versions.
+
+ghost use Rattle.std.specs.Prelude.{◌≡◌, [], IfOk, IsTrue};
+ghost use Rattle.std.specs.Arc.{arc_value};
+ghost use Rattle.ioa_sharing.specs.Named.{shared_of_value};
+ghost use Rattle.ioa_commits.specs.Slots.{next_version};
+ghost use Rattle.ioa_commits.specs.Versions.{read_component, versioned_conf, with_version};
+
+use ioa_actions::Component;
+use ioa_compose::Conf;
+use ioa_sharing::{MakerOf, Origin, SharedOf};
+use std::alloc::{AllocError, Global};
+use std::marker::Model;
+use std::sync::Arc;
+
+/// A configuration with the version of its component: how many steps the component has taken. The configuration is
+/// shared: the book holds it, and whoever has looked at it. Its number tells at once that two own the same one.
+#[derive(Drop)]
+pub struct VersionedConf<O: Origin> {
+    conf: SharedOf<O, Conf, Global>,
+    version: usize,
+}
+
+impl<O: Origin> Model for VersionedConf<O> {
+    ghost use Rattle.ioa_commits.specs.Versions.{PlainVersionedConf, versioned_conf, versioned_conf_code};
+
+    ghost Value = { PlainVersionedConf };
+
+    ghost coded = { versioned_conf_code };
+
+    ghost use Rattle.ioa_sharing.specs.Named.{shared_of_value};
+
+    ghost view = { λ r. versioned_conf (shared_of_value r.conf) r.version };
+}
+
+impl<O: Origin> VersionedConf<O> {
+    /// A configuration before any action.
+    pub(crate) fn first(maker: &mut MakerOf<O>, conf: Arc<Conf>) -> Self
+        ensures { result ≡ with_version [] (arc_value conf) }
+    {
+        VersionedConf {
+            conf: maker.share(conf),
+            version: 0,
+        }
+    }
+
+    /// The configuration.
+    pub fn conf(&self) -> &Conf
+        ensures { result.now ≡ self.now.conf }
+    {
+        self.conf.get()
+    }
+
+    /// The version of its component.
+    pub fn version(&self) -> usize
+        ensures { result ≡ self.now.version }
+    {
+        self.version
+    }
+
+    /// The component.
+    pub fn component(&self) -> Component
+        ensures { result ≡ read_component self.now }
+    {
+        self.conf().component()
+    }
+
+    /// The same once more, which owns the same configuration. Takes no memory; fails if the count of owners is full.
+    pub fn try_copy(&self) -> Result<Self, AllocError>
+        ensures { IfOk result (λ r. r ≡ self.now) }
+    {
+        Ok(VersionedConf {
+            conf: self.conf.try_clone()?,
+            version: self.version,
+        })
+    }
+
+    /// Whether both own one configuration, in constant time. It is false of equal configurations made apart.
+    pub(crate) fn shares_conf(&self, other: &VersionedConf<O>) -> bool
+        ensures { IsTrue result → self.now.conf ≡ other.now.conf }
+    {
+        self.conf.is_shared(&other.conf)
+    }
+
+    /// Raises the version by one, within the runtime's numbers.
+    pub(crate) fn raise(&mut self)
+        ensures { self.new ≡ versioned_conf self.old.conf (next_version self.old.version) }
+    {
+        self.version = self.version.saturating_add(1);
+    }
+
+    /// Puts another configuration in place of this one; the version stays as it is.
+    pub(crate) fn put(&mut self, conf: SharedOf<O, Conf, Global>)
+        ensures { self.new ≡ versioned_conf (shared_of_value conf) self.old.version }
+    {
+        self.conf = conf;
+    }
+}
