@@ -1,7 +1,9 @@
-//! Tests of the book of commits, and of the shared values that it holds.
+//! Tests of what no script of `checks/book/` shows of a book: whether two owners share one value.
+//!
+//! **A crate of its own**, since a crate with tests is proved twice, and nothing waits for this one.
+//!
+//! **Must not know**: private names.
 #![tactic(auto)]
 
-#[cfg(test)]
-mod rows;
 #[cfg(test)]
 mod sharing;

@@ -1,0 +1,53 @@
+//! The texts of what a book gives.
+
+use ioa_actions::{Action, push_listed, show_action};
+use ioa_book::{Committed, Refusal};
+use ioa_compose::Conf;
+use ioa_values::Names;
+use std::alloc::{AllocError, Global};
+
+/// The text of an action.
+pub(crate) fn action_text(alloc: Global, action: &Action) -> Result<String, AllocError> {
+    show_action(alloc, &Names::none(alloc), action)
+}
+
+/// The texts of actions, with a comma and a space between, or `no action`.
+pub(crate) fn log_text(alloc: Global, actions: &[Action]) -> Result<String, AllocError> {
+    if actions.is_empty() {
+        return String::from_str(alloc, "no action");
+    }
+    let mut list = String::new(alloc);
+    for (position, action) in actions.iter().enumerate() {
+        let item = action_text(alloc, action)?;
+        push_listed(&mut list, position, item.as_str())?;
+    }
+    Ok(list)
+}
+
+/// The index and the text of the action of a commit that was made.
+pub(crate) fn committed_text(alloc: Global, committed: &Committed) -> Result<String, AllocError> {
+    let index = committed.index;
+    let action = action_text(alloc, &committed.action)?;
+    format!(in alloc; "{index} {action}")
+}
+
+/// A refusal, and the action of the proposal that came back.
+pub(crate) fn refused_text(
+    alloc: Global,
+    refusal: Refusal,
+    action: &Action,
+) -> Result<String, AllocError> {
+    let action = action_text(alloc, action)?;
+    format!(in alloc; "{refusal}; back {action}")
+}
+
+/// The actions that were recorded, and how many states they lead to.
+pub(crate) fn execution_text(
+    alloc: Global,
+    schedule: &[Action],
+    states: &[Conf],
+) -> Result<String, AllocError> {
+    let count = states.len();
+    let actions = log_text(alloc, schedule)?;
+    format!(in alloc; "{actions}; {count} states")
+}

@@ -1,0 +1,52 @@
+//! The program of rows for the book of commits: it answers scripts that make books of texts, look at nodes, propose
+//! actions and commit them. The scripts are in `checks/book/`.
+//!
+//! **A crate of its own**, since it is proved once for all rows, over the readers, the check and the book.
+//!
+//! **Must not know**: what an answer is made of below the public calls of the book.
+#![tactic(auto)]
+
+ghost use Rattle.std.specs.Prelude.{◌≡◌};
+ghost use Rattle.ioa_sharing.specs.Shared.{maker_name};
+
+mod answers;
+mod reading;
+mod session;
+
+use ioa_rows::answer_script;
+use ioa_sharing::{Maker, MakerOf, Origin};
+use session::BookRows;
+use std::alloc::Global;
+use std::io::Write;
+use std::marker::Brand;
+use std::{env, io};
+
+fn main(rt: HostRuntime) -> io::Result<()> {
+    let words: Vec<String> = env::args(&rt)?.skip(1).collect(rt.alloc())?;
+    let script = io::read_to_string(rt.alloc(), rt.reader())?;
+    answer_once(rt.alloc(), &words, &script, &mut rt.stdout())
+}
+
+/// Answers a script with books of one maker.
+fn answer_once<W: Write>(
+    alloc: Global,
+    words: &[String],
+    script: &str,
+    out: &mut W,
+) -> io::Result<()> {
+    answer_by::<Brand, W>(alloc, Maker::new(), words, script, out)
+}
+
+/// The same by a maker of this origin.
+fn answer_by<O: Origin, W: Write>(
+    alloc: Global,
+    maker: Maker,
+    words: &[String],
+    script: &str,
+    out: &mut W,
+) -> io::Result<()>
+    requires { maker_name maker ≡ O.name }
+{
+    let maker: MakerOf<O> = MakerOf::of(maker);
+    answer_script(words, script, &mut BookRows::new(alloc, maker), out)
+}

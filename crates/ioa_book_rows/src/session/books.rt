@@ -1,0 +1,124 @@
+//! Texts, and books of their systems.
+
+ghost use Rattle.std.specs.Prelude.{◌≤◌};
+
+use super::BookRows;
+use crate::answers::{execution_text, log_text};
+use crate::reading::no_more;
+use ioa_book::{Book, Execution};
+use ioa_check::{CheckFault, check};
+use ioa_rows::CommandFault;
+use ioa_sharing::{MakerOf, Origin};
+use ioa_system::System;
+use ioa_text_reader::parse;
+use std::alloc::{AllocError, Global};
+
+/// The greatest limit of a book.
+const MOST_ACTIONS: usize = 1_000_000;
+
+impl<O: Origin> BookRows<O> {
+    /// Adds a line to the text, or begins a new one if a book was made of this one. There is no answer.
+    pub(super) fn add_line(&mut self, line: &str) -> Result<String, CommandFault> {
+        if self.is_read {
+            self.text = String::new(self.alloc);
+            self.is_read = false;
+        }
+        self.text.push_str(line)?;
+        self.text.push('\n')?;
+        Ok(String::new(self.alloc))
+    }
+
+    /// Makes a book of the text, with no looks and no proposals.
+    pub(super) fn begin(&mut self, limit: usize) -> Result<String, CommandFault> {
+        self.looks = Vec::new(self.alloc);
+        self.proposals = Vec::new(self.alloc);
+        self.open(limit)
+    }
+
+    /// Makes a book of the text, by the maker of the book before it, which is taken apart.
+    pub(super) fn open(&mut self, limit: usize) -> Result<String, CommandFault> {
+        if limit > MOST_ACTIONS {
+            return Err(CommandFault::Bad("the limit is above 1000000"));
+        }
+        self.is_read = true;
+        match parse(self.alloc, &self.text) {
+            Ok(source) => self.open_checked(check(self.alloc, source.text()), limit),
+            Err(fault) => Ok(format!(in self.alloc; "{fault}")?),
+        }
+    }
+
+    /// Makes a book of what the check of the text found.
+    fn open_checked(
+        &mut self,
+        found: Result<System, CheckFault>,
+        limit: usize,
+    ) -> Result<String, CommandFault>
+        requires { limit ≤ 1000000 }
+    {
+        match &found {
+            Ok(system) => self.open_system(system, limit),
+            Err(fault) => Ok(format!(in self.alloc; "{fault}")?),
+        }
+    }
+
+    /// Makes a book of a system.
+    fn open_system(&mut self, system: &System, limit: usize) -> Result<String, CommandFault>
+        requires { limit ≤ 1000000 }
+    {
+        self.close()?;
+        match self.maker.take() {
+            Some(maker) => {
+                self.book = Some(book_of(self.alloc, maker, system, limit)?);
+                Ok(String::from_str(self.alloc, "a book")?)
+            }
+            None => Err(CommandFault::Bad("there is no maker")),
+        }
+    }
+
+    /// Takes the book apart, if there is one.
+    fn close(&mut self) -> Result<(), AllocError> {
+        if let Some(book) = self.book.take() {
+            self.take_apart(book)?;
+        }
+        Ok(())
+    }
+
+    /// The actions that are recorded.
+    pub(super) fn log(&self, words: &[&str]) -> Result<String, CommandFault> {
+        no_more(words)?;
+        Ok(log_text(self.alloc, self.book()?.log())?)
+    }
+
+    /// Takes the book apart, and tells what it leaves.
+    pub(super) fn end(&mut self, words: &[&str]) -> Result<String, CommandFault> {
+        no_more(words)?;
+        match self.book.take() {
+            Some(book) => Ok(self.take_apart(book)?),
+            None => Err(CommandFault::Bad("there is no book")),
+        }
+    }
+
+    /// Takes a book apart, tells what it leaves, and keeps its maker.
+    fn take_apart(&mut self, book: Box<Book<O>>) -> Result<String, AllocError> {
+        let Execution {
+            schedule,
+            states,
+            maker,
+        } = Box::into_inner(book).into_execution(self.alloc)?;
+        self.maker = Some(maker);
+        execution_text(self.alloc, &schedule, &states)
+    }
+}
+
+/// The book of a system, in which nothing is recorded.
+fn book_of<O: Origin>(
+    alloc: Global,
+    maker: MakerOf<O>,
+    system: &System,
+    limit: usize,
+) -> Result<Box<Book<O>>, AllocError>
+    requires { limit ≤ 1000000 }
+{
+    let book = Book::new(alloc, maker, system, limit)?;
+    Ok(Box::new(alloc, book)?)
+}
