@@ -1,5 +1,6 @@
-//! Tests of what `eval` and `perform` require: that each name has beside it its slot among the names in view. The tests
-//! of terms and statements make their trees by hand, and call these before they evaluate.
+//! Tests of what `eval` and `perform` require: that each name has beside it its slot among the names in view. The terms
+//! and the statements of a script are resolved with no look at their sorts, and are tested by these before they are
+//! evaluated.
 
 ghost use Rattle.std.specs.Prelude.{◌≡◌, IsTrue, Some, map};
 ghost use Rattle.ioa_terms.specs.Bindings.{slot_in};

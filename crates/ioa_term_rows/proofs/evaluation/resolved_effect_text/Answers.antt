@@ -2,7 +2,7 @@ use Rattle.std.proofs.Common.{map, append-nil}
 use Rattle.ioa_terms.specs.declared.name.Name.TheVariants.{Word}
 use Rattle.ioa_terms.specs.View.{statement_of}
 use Rattle.ioa_terms.proofs.Performed.{resolved_all}
-use Rattle.ioa_language_tests.proofs.terms.effect_text.Goals as goal
+use Rattle.ioa_term_rows.proofs.evaluation.resolved_effect_text.Goals as goal
 
 pub perform-requires-clause-resolved : goal.perform-requires-clause-resolved
 perform-requires-clause-resolved c =

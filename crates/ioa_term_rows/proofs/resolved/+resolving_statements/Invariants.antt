@@ -3,7 +3,7 @@ use Rattle.ioa_terms.specs.declared.name.Name.TheVariants.{Word}
 use Rattle.ioa_terms.specs.Resolved.{AreArmsResolved, AreAllResolved}
 use Rattle.ioa_terms.specs.PlainTerm.{statements_of, arms_of}
 use Rattle.ioa_terms.specs.View.{statement_of, arm_of}
-use Rattle.ioa_language_tests.proofs.resolved.+resolving_statements.Given as goal
+use Rattle.ioa_term_rows.proofs.resolved.+resolving_statements.Given as goal
 
 -- where those that are left are placed all are
 abbrev pub invariant-are_resolved_statements-loop-statement : goal.invariant-are_resolved_statements-loop-statement

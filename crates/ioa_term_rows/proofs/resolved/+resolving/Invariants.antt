@@ -3,7 +3,7 @@ use Rattle.ioa_terms.specs.declared.name.Name.TheVariants.{Word}
 use Rattle.ioa_terms.specs.Resolved.{AreTermsResolved}
 use Rattle.ioa_terms.specs.PlainTerm.{terms_of}
 use Rattle.ioa_terms.specs.View.{term_of}
-use Rattle.ioa_language_tests.proofs.resolved.+resolving.Given as goal
+use Rattle.ioa_term_rows.proofs.resolved.+resolving.Given as goal
 
 -- where the parts that are left are placed all are
 abbrev pub invariant-are_resolved-loop-part : goal.invariant-are_resolved-loop-part
