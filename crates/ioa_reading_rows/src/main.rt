@@ -1,0 +1,26 @@
+//! The program of rows for the readers and the printer: it reads a script of rows on standard input, and writes it
+//! anew with the answers that they give.
+#![tactic(auto)]
+
+mod asked;
+mod cursor_rows;
+mod help;
+mod refusal;
+mod session;
+mod short_term;
+mod short_text;
+mod source_rows;
+mod token_rows;
+mod unfolded;
+
+use crate::session::ReadingSession;
+use ioa_rows::answer_script;
+use std::{env, io};
+
+fn main(rt: HostRuntime) -> io::Result<()> {
+    let alloc = rt.alloc();
+    let words: Vec<String> = env::args(&rt)?.skip(1).collect(alloc)?;
+    let script = io::read_to_string(alloc, &mut rt.reader())?;
+    let mut session = ReadingSession::new(alloc);
+    answer_script(&words, script.as_str(), &mut session, &mut rt.stdout())
+}
