@@ -1,4 +1,10 @@
-//! The book of commits: looks at a node, proposals of actions, and their commits.
+//! The book of commits: looks at a node, proposals of actions on what a look shows, and their commits.
+//!
+//! **A crate of its own**, since what computes proposals is checked apart from what tests and records them.
+//!
+//! **Must not know**: threads and locks, schedule blocks, and who commits.
+//!
+//! **Laws**: `fresh_look_law`, `stands_law`.
 #![tactic(auto)]
 
 mod book;

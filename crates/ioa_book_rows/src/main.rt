@@ -1,9 +1,8 @@
-//! The program of rows for the book of commits: it answers scripts that make books of texts, look at nodes, propose
-//! actions and commit them. The scripts are in `checks/book/`.
+//! The program of rows for the book of commits: looks, proposals and commits on a book of a text, in any order.
 //!
-//! **A crate of its own**, since it is proved once for all rows, over the readers, the check and the book.
+//! **A crate of its own**, since it is proved once for all rows of `checks/book/`.
 //!
-//! **Must not know**: what an answer is made of below the public calls of the book.
+//! **Must not know**: how a commit is tested.
 #![tactic(auto)]
 
 ghost use Rattle.std.specs.Prelude.{◌≡◌};

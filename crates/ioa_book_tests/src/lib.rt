@@ -1,6 +1,6 @@
-//! Tests of what no script of `checks/book/` shows of a book: whether two owners share one value.
+//! Tests of shared values: whether two owners own one, and what a value costs that is shared.
 //!
-//! **A crate of its own**, since a crate with tests is proved twice, and nothing waits for this one.
+//! **A crate of its own**, since a crate with tests is proved twice, and no program shows who owns what.
 //!
 //! **Must not know**: private names.
 #![tactic(auto)]

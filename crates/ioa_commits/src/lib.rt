@@ -1,4 +1,9 @@
-//! Commits: what a book holds and has recorded, and the commit of a proposal.
+//! Commits: the configurations held with their versions, the log of what was recorded, the tests of what a proposal
+//! read, and the commit of a proposal.
+//!
+//! **A crate of its own**, since seven wrong bodies of a commit are tried in it, each over a check of this crate.
+//!
+//! **Must not know**: how a node is looked at and how a proposal is computed, threads and locks.
 #![tactic(auto)]
 
 mod holding;

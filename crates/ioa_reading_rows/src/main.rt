@@ -1,5 +1,9 @@
-//! The program of rows for the readers and the printer: it reads a script of rows on standard input, and writes it
-//! anew with the answers that they give.
+//! The program of rows for the readers and the printer: tokens, terms, texts and steps of the cursor, as they are
+//! read, refused and printed.
+//!
+//! **A crate of its own**, since it is proved once for all rows of `checks/reading/`.
+//!
+//! **Must not know**: how a text is read.
 #![tactic(auto)]
 
 mod asked;

@@ -1,4 +1,11 @@
-//! The sorts of terms: from a term as spelled and the names in view, the term with slots and shapes, or the refusal.
+//! The sorts of terms and statements: from a term as spelled and the names in view, the term with slots and shapes,
+//! or the refusal; so of statements, of the arguments of firings, nodes and scripts.
+//!
+//! **A crate of its own**, since it is one cycle of calls, and one proof.
+//!
+//! **Must not know**: what an automaton declares, and what a value of a shape is.
+//!
+//! **Laws**: `sorts_law`, `statements_law`.
 #![tactic(auto)]
 
 mod actions;

@@ -1,6 +1,9 @@
-//! The program of rows for terms and sorts: a script of commands on standard input, and on standard output the script
-//! with the answers that the layers give. It is a crate of its own since it is proved once for all rows, and nothing
-//! stands on it. It must not know automata, configurations, and how a layer comes to its answer.
+//! The program of rows for terms and sorts: what a term, a statement or an operator comes to, and which sort a term
+//! has.
+//!
+//! **A crate of its own**, since it is proved once for all rows of `checks/terms/`.
+//!
+//! **Must not know**: automata, configurations, and how an answer is found.
 #![tactic(auto)]
 
 mod actions;

@@ -1,4 +1,9 @@
-//! Terms with their shapes, and what is made of such parts.
+//! Terms with their shapes, and what is made of such parts: displays that have got their sort, operators and
+//! functions over parts whose shapes are known.
+//!
+//! **A crate of its own**, since it is no part of the cycle of sorts, and is proved beside types.
+//!
+//! **Must not know**: how a term is gone through.
 #![tactic(auto)]
 
 mod calls;
