@@ -6,8 +6,9 @@ Rows of the readers and the printer. Standard input is a script: each line is a 
 (`= ..`), or a remark (empty, or `# ..`). The script comes out with the answers that the commands give.
 
 A text is the rest of a command's line. In it, the picture of a control character or of a space stands for that
-character: `␊` for a line feed, `␉` for a tab, `␍` for a carriage return, `␠` for a space at an end. A piece that
-comes several times is written `⟨3×piece⟩`. A command with no text reads the text that `new` and `line` wrote.
+character: `␊` for a line feed, `␉` for a tab, `␌` for a form feed, `␍` for a carriage return, `␠` for a space at an
+end. A piece that comes several times is written `⟨3×piece⟩`. A command with no text reads the text that `new` and
+`line` wrote.
 
   new               the text that is written has no line
   line LINE         adds a line to it
@@ -16,8 +17,8 @@ comes several times is written `⟨3×piece⟩`. A command with no text reads th
   written GAPS TEXT the tokens of TEXT written anew. GAPS has a letter for each: `-` joined to what is before it,
                     `s` behind a space, a digit behind a line feed and so many spaces
   cursor TEXT       for each token and for the end, what is refused there, and what is refused there as too deep
-  looks TEXT        for each token and for the end, what each look ahead says of it; and what is refused there at the
-                    greatest depth, if a part begins and if none does
+  looks TEXT        for each token and for the end: what the looks ahead say of it; what is refused there at the
+                    greatest depth, if a part begins or if none does; and how it is passed
   node-line TEXT    the number and the words of a line `node NUMBER: WORD, WORD fire`, read token by token
   term TEXT         the term that it spells, with brackets about each operator and its terms
   height TEXT       how high that term is
