@@ -1,16 +1,19 @@
 //! Automata with slots and shapes.
 
-ghost use Rattle.std.specs.Prelude.{◌≡◌, ◌++◌, IfOk, map};
+ghost use Rattle.std.specs.Prelude.{◌≡◌, ◌⊎◌, true, false, [], ◌∷◌, ◌++◌, Ok, Err, IfErr, IfOk, OnOk, map};
+ghost use Rattle.std.specs.List.{IsDistinct, list_any};
 ghost use Rattle.std.specs.Arc.{arc_value};
 ghost use Rattle.std.specs.Option.{option_copied, option_map};
-ghost use Rattle.ioa_values.specs.Outcome.{Answers};
-ghost use Rattle.ioa_source.specs.TextView.{automaton_of, entry_of, transition_of, variable_of};
+ghost use Rattle.ioa_values.specs.Outcome.{Answers, and_then};
+ghost use Rattle.ioa_terms.specs.Bindings.{same_word};
+ghost use Rattle.ioa_source.specs.TextView.{automaton_of, declared_of, entry_of, transition_of, variable_of};
 ghost use Rattle.ioa_names.specs.NameTables.{words};
 ghost use Rattle.ioa_types.specs.Meanings.{AreTextTypes};
 ghost use Rattle.ioa_automata.specs.Automata as spec;
 ghost use Rattle.ioa_sorts.specs.Indexes.{AreIndexed};
-ghost use Rattle.ioa_automata.specs.Parts.{variables_at};
-ghost use Rattle.ioa_automata.specs.Rules.{entry_for, has_entry, have_entries, names_or};
+ghost use Rattle.ioa_automata.specs.NamesInView.{given_names_or};
+ghost use Rattle.ioa_automata.specs.Parts.{all_declared_at, variables_at};
+ghost use Rattle.ioa_automata.specs.Rules.{entry_for, has_entry, have_entries, names_or, rules_at};
 ghost use Rattle.ioa_automata.specs.SortedView.{body_of, heading_of, surroundings_of};
 
 use crate::names::{given_names, outer_names};
@@ -22,7 +25,7 @@ use ioa_sort_rules::Refusal;
 use ioa_sorts::Actions;
 use ioa_source::{Automaton, Declared, Entry, Schedule, Transition, Variable};
 use ioa_system::{CompiledAutomaton, Rule, Scope};
-use ioa_terms::{Names, Shape};
+use ioa_terms::{Names, Shape, Word};
 use ioa_types::TextTypes;
 use std::alloc::Global;
 use std::sync::Arc;
@@ -38,6 +41,13 @@ pub(crate) struct Heading {
     pub outer: NameTable,
 }
 
+/// The parameters of an automaton, and their names.
+#[derive(Drop)]
+struct Given {
+    parameters: Vec<Declared<Shape>>,
+    names: NameTable,
+}
+
 /// What an automaton has behind its heading: its entries with their transitions, and its schedule block.
 #[derive(Drop)]
 pub(crate) struct Body {
@@ -51,21 +61,42 @@ fn sort_heading(
     alloc: Global,
     types: &TextTypes,
     automaton: &Automaton<(), ()>,
-) -> Result<Heading, Refusal>
-    ensures exact { Answers Refusal.Memory heading_of result
+) -> Result<Box<Heading>, Refusal>
+    ensures exact { Answers Refusal.Memory (λ h. heading_of h.value) result
         (spec.heading_at types.now (automaton_of automaton.now)) }
     ensures declared { IfOk result (λ _. AreTextTypes types.now) }
 {
-    let parameters = sort_all_declared(alloc, types.types(), &automaton.parameters)?;
-    let given = given_names(alloc, types.constants(), &parameters)?;
-    let variables = sort_states(alloc, types, &given, &automaton.states)?;
-    let outer = outer_names(alloc, types.constants(), &parameters, &variables)?;
-    Ok(Heading {
+    let given = sort_given(alloc, types, automaton)?;
+    let variables = sort_states(alloc, types, &given.names, &automaton.states)?;
+    let outer = outer_names(alloc, types.constants(), &given.parameters, &variables)?;
+    let Given { parameters, names } = Box::into_inner(given);
+    let heading = Heading {
         parameters,
         variables,
-        given,
+        given: names,
         outer,
-    })
+    };
+    Ok(Box::new(alloc, heading)?)
+}
+
+/// The parameters of an automaton, and their names.
+#[tactic(auto, unfolding(crate::specs::Automata::heading_at))]
+fn sort_given(
+    alloc: Global,
+    types: &TextTypes,
+    automaton: &Automaton<(), ()>,
+) -> Result<Box<Given>, Refusal>
+    ensures parameters { IfOk result (λ g.
+        all_declared_at types.now.types (automaton_of automaton.now).parameters
+        ≡ Ok (map declared_of g.value.parameters.items)) }
+    ensures names { IfOk result (λ g.
+        given_names_or types.now.constants (map declared_of g.value.parameters.items) ≡ Ok g.value.names) }
+    ensures refused { IfErr result (λ e.
+        (e ≡ Refusal.Memory) ⊎ (spec.heading_at types.now (automaton_of automaton.now) ≡ Err e)) }
+{
+    let parameters = sort_all_declared(alloc, types.types(), &automaton.parameters)?;
+    let names = given_names(alloc, types.constants(), &parameters)?;
+    Ok(Box::new(alloc, Given { parameters, names })?)
 }
 
 /// State variables with their initial terms, which read these names.
@@ -83,6 +114,21 @@ fn sort_states(
     sort_variables(alloc, types.types(), &view, states)
 }
 
+/// Declares a name behind others. `Twice` (21) if it is one of them.
+fn declare_new(alloc: Global, names: &mut Scope, name: &Word) -> Result<(), Refusal>
+    ensures declared { OnOk result (names.new ≡ names.old ++ name.now ∷ []) }
+    ensures fresh { OnOk result (list_any (same_word name.now) names.old ≡ false) }
+    ensures differ { OnOk result (IsDistinct same_word names.old → IsDistinct same_word names.new) }
+    ensures refused { IfErr result (λ e. (e ≡ Refusal.Memory)
+        ⊎ ((e ≡ Refusal.Twice) × (list_any (same_word name.now) names.old ≡ true))) }
+{
+    if names.declare(name.try_copy(alloc)?)? {
+        Ok(())
+    } else {
+        Err(Refusal::Twice)
+    }
+}
+
 /// The names of entries. `Twice` (21) if two are the same.
 fn entry_names(alloc: Global, entries: &Vec<Entry<(), ()>>) -> Result<Scope, Refusal>
     ensures { Answers Refusal.Memory (λ ns. ns) result
@@ -90,9 +136,7 @@ fn entry_names(alloc: Global, entries: &Vec<Entry<(), ()>>) -> Result<Scope, Ref
 {
     let mut names = Scope::new(alloc);
     for entry in entries {
-        if !names.declare(entry.name.try_copy(alloc)?)? {
-            return Err(Refusal::Twice);
-        }
+        declare_new(alloc, &mut names, &entry.name)?;
     }
     Ok(names)
 }
@@ -104,9 +148,7 @@ fn transition_names(alloc: Global, transitions: &Vec<Transition<(), ()>>) -> Res
 {
     let mut names = Scope::new(alloc);
     for transition in transitions {
-        if !names.declare(transition.name.try_copy(alloc)?)? {
-            return Err(Refusal::Twice);
-        }
+        declare_new(alloc, &mut names, &transition.name)?;
     }
     Ok(names)
 }
@@ -170,14 +212,33 @@ fn sort_actions(
         (spec.actions_at (surroundings_of around.now) (automaton_of automaton.now)) }
 {
     let names = entry_names(alloc, &automaton.signature)?;
+    let rules = sort_entries(alloc, around, &names, automaton)?;
+    Ok(Actions::new(rules, names))
+}
+
+/// The entries of an automaton with their transitions. `names` are those of the entries.
+fn sort_entries(
+    alloc: Global,
+    around: &Surroundings,
+    names: &Scope,
+    automaton: &Automaton<(), ()>,
+) -> Result<Vec<Rule>, Refusal>
+    requires { AreIndexed names.now (map (λ e. e.name) (automaton_of automaton.now).signature) }
+    ensures exact { Answers Refusal.Memory (λ rs. rs.items) result
+        (and_then (names_or (map (λ t. t.name) (automaton_of automaton.now).transitions))
+        (λ _. and_then (have_entries (automaton_of automaton.now).signature (automaton_of automaton.now).transitions)
+        (λ _. rules_at (surroundings_of around.now) (automaton_of automaton.now).transitions
+        (automaton_of automaton.now).signature))) }
+    ensures rules { IfOk result (λ rs. rules_at (surroundings_of around.now) (automaton_of automaton.now).transitions
+        (automaton_of automaton.now).signature ≡ Ok rs.items) }
+{
     let transition_names = transition_names(alloc, &automaton.transitions)?;
-    have_entries(&names, &automaton.signature, &automaton.transitions)?;
+    have_entries(names, &automaton.signature, &automaton.transitions)?;
     let transitions = Transitions {
         items: &automaton.transitions,
         names: &transition_names,
     };
-    let rules = sort_rules(alloc, around, &transitions, &automaton.signature)?;
-    Ok(Actions::new(rules, names))
+    sort_rules(alloc, around, &transitions, &automaton.signature)
 }
 
 /// The automaton with slots and shapes, in a text that declares these types, made ready to step. `constants` are the
@@ -200,6 +261,8 @@ pub fn sort_automaton(
     let own = block_own_words(alloc, &body.schedule.variables, &body.rules)?;
     let name = automaton.name.try_copy(alloc)?;
     let constants = Arc::try_clone(constants)?;
+    let heading = Box::into_inner(heading);
+    let body = Box::into_inner(body);
     Ok(CompiledAutomaton::new(
         name,
         constants,
@@ -218,8 +281,8 @@ fn sort_body(
     types: &TextTypes,
     heading: &Heading,
     automaton: &Automaton<(), ()>,
-) -> Result<Body, Refusal>
-    ensures { Answers Refusal.Memory body_of result
+) -> Result<Box<Body>, Refusal>
+    ensures { Answers Refusal.Memory (λ b. body_of b.value) result
         (spec.body_at (spec.surroundings types.now (heading_of heading.now)) (automaton_of automaton.now)) }
 {
     let around = Surroundings {
@@ -231,8 +294,6 @@ fn sort_body(
     };
     let actions = sort_actions(alloc, &around, automaton)?;
     let schedule = sort_schedule(alloc, &around, &actions, &automaton.schedule)?;
-    Ok(Body {
-        rules: actions.into_rules(),
-        schedule,
-    })
+    let rules = actions.into_rules();
+    Ok(Box::new(alloc, Body { rules, schedule })?)
 }

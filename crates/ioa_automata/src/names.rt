@@ -1,8 +1,9 @@
 //! The names in view at the sites of an automaton.
 
-ghost use Rattle.std.specs.Prelude.{◌≡◌, IfOk, map};
+ghost use Rattle.std.specs.Prelude.{◌≡◌, IfOk, Some, map};
 ghost use Rattle.std.specs.Option.{option_copied};
 ghost use Rattle.ioa_operators.specs.Shapes.{integers, maps, sequences};
+ghost use Rattle.ioa_terms.specs.Inboxes.{inboxes_word};
 ghost use Rattle.ioa_values.specs.Outcome.{Answers};
 ghost use Rattle.ioa_source.specs.TextView.{declared_of, parameter_of, variable_of};
 ghost use Rattle.ioa_names.specs.NameTables.{with_names};
@@ -12,9 +13,19 @@ use ioa_names::NameTable;
 use ioa_sort_rules::{Refusal, map_of};
 use ioa_source::{Declared, Parameter, Variable};
 use ioa_system::{Rule, message_shape};
-use ioa_terms::{Shape, ShapeForm, inboxes_word};
+use ioa_terms::{Shape, ShapeForm, Word, inboxes_word};
 use std::alloc::{AllocError, Global};
 use std::sync::Arc;
+
+/// A declared name and its shape, with their own memory.
+fn copy_declared(alloc: Global, declared: &Declared<Shape>) -> Result<(Word, Shape), AllocError>
+    ensures name { IfOk result (λ d. d.0 ≡ declared.now.name) }
+    ensures shape { IfOk result (λ d. d.1 ≡ declared.now.shape) }
+{
+    let name = declared.name.try_copy(alloc)?;
+    let shape = declared.shape.try_copy(alloc)?;
+    Ok((name, shape))
+}
 
 /// A table with one more declared name. `Twice` (21) if it is in the table.
 fn with_declared(
@@ -25,8 +36,7 @@ fn with_declared(
     ensures { Answers Refusal.Memory (λ t. t) result
         (spec.with_declared table (declared_of declared.now)) }
 {
-    let name = declared.name.try_copy(alloc)?;
-    let shape = declared.shape.try_copy(alloc)?;
+    let (name, shape) = copy_declared(alloc, declared)?;
     table.with(alloc, name, shape)
 }
 
@@ -138,12 +148,27 @@ fn with_inboxes(
 {
     match message {
         None => Ok(table),
-        Some(message) => table.with(
-            alloc,
-            inboxes_word(alloc)?,
-            shape_of_inboxes(alloc, message)?,
-        ),
+        Some(message) => with_inboxes_of(alloc, table, message),
     }
+}
+
+/// A table with the inboxes behind it, for messages of this shape.
+fn with_inboxes_of(alloc: Global, table: NameTable, message: &Shape) -> Result<NameTable, Refusal>
+    ensures { Answers Refusal.Memory (λ t. t) result
+        (with_names table (spec.inbox_shapes_of (Some message.now))) }
+{
+    let (word, shape) = named_inboxes(alloc, message)?;
+    table.with(alloc, word, shape)
+}
+
+/// The name of the inboxes, and their shape, if messages have this shape.
+fn named_inboxes(alloc: Global, message: &Shape) -> Result<(Word, Shape), AllocError>
+    ensures word { IfOk result (λ n. n.0 ≡ inboxes_word) }
+    ensures shape { IfOk result (λ n. n.1 ≡ maps integers (sequences message.now)) }
+{
+    let word = inboxes_word(alloc)?;
+    let shape = shape_of_inboxes(alloc, message)?;
+    Ok((word, shape))
 }
 
 /// The shape of the inboxes, if messages have this shape: a map from the numbers of nodes to sequences.

@@ -1,12 +1,16 @@
 //! The declarations of an automaton, with the slot of each name and the shape of each sort and display.
 
-ghost use Rattle.std.specs.Prelude.{◌≡◌, map, take};
+ghost use Rattle.std.specs.Prelude.{◌≡◌, ◌++◌, [], ◌∷◌, Ok, OnOk, map, take};
 ghost use Rattle.std.specs.Option.{option_map};
-ghost use Rattle.ioa_values.specs.Outcome.{Answers};
+ghost use Rattle.ioa_operators.specs.Shapes.{truths};
+ghost use Rattle.ioa_values.specs.Outcome.{Answers, and_then};
 ghost use Rattle.ioa_terms.specs.PlainTerm.{statements_of};
+ghost use Rattle.ioa_terms.specs.Sorted.{shape_in_terms};
 ghost use Rattle.ioa_terms.specs.View.{statement_of, term_of};
+ghost use Rattle.ioa_source.specs.PlainText.{const, named};
 ghost use Rattle.ioa_source.specs.TextView.{declared_of, parameter_of, entry_of, transition_of, variable_of};
 ghost use Rattle.ioa_typed.specs.PartsView.{typed_of};
+ghost use Rattle.ioa_sorts.specs.Sorting as sorts;
 ghost use Rattle.ioa_sorts.specs.StatementSites.{effect_site};
 ghost use Rattle.ioa_sorts.specs.Statements.{all_ok, statement_sortings};
 ghost use Rattle.ioa_automata.specs.Parts as spec;
@@ -19,7 +23,7 @@ use ioa_source::{Declared, Entry, Parameter, Transition, Variable};
 use ioa_terms::{Checked, Kind, Shape, ShapeForm, Statement, Term};
 use ioa_typed::Typed;
 use ioa_types::Types;
-use std::alloc::Global;
+use std::alloc::{AllocError, Global};
 
 /// A parameter of an entry, and the shape of the arguments that it takes.
 #[derive(Drop)]
@@ -52,10 +56,14 @@ fn sort_declared(
     ensures { Answers Refusal.Memory declared_of result
         (spec.declared_at types.now (declared_of declared.now)) }
 {
-    let shape = types.shape_of(alloc, &declared.sort)?.into_shape();
+    let shape = Box::new(alloc, types.shape_of(alloc, &declared.sort)?.into_shape())?;
     let name = declared.name.try_copy(alloc)?;
     let sort = declared.sort.try_copy(alloc)?;
-    Ok(Declared { name, sort, shape })
+    Ok(Declared {
+        name,
+        sort,
+        shape: Box::into_inner(shape),
+    })
 }
 
 /// Declared names with the shapes of their sorts.
@@ -93,6 +101,15 @@ fn own_or(found: Option<Typed>) -> Result<Typed, Refusal>
     }
 }
 
+/// A term that has a shape of its own, without the shape. `EmptyOfWhat` (32) if it is a display.
+fn infer_tree(alloc: Global, view: &View, term: &Term) -> Result<Checked, Refusal>
+    ensures { Answers Refusal.Memory term_of result (spec.own_term view.now (term_of term.now)) }
+{
+    let Typed { tree, shape } = infer_own(alloc, view, term)?;
+    drop(shape);
+    Ok(tree)
+}
+
 /// Terms that have shapes of their own.
 fn infer_terms(alloc: Global, view: &View, terms: &Vec<Term>) -> Result<Vec<Checked>, Refusal>
     ensures { Answers Refusal.Memory (λ ts. map term_of ts.items) result
@@ -100,8 +117,8 @@ fn infer_terms(alloc: Global, view: &View, terms: &Vec<Term>) -> Result<Vec<Chec
 {
     let mut sorted = Vec::new(alloc);
     for term in terms {
-        let found = infer_own(alloc, view, term)?;
-        sorted.push(found.tree)?;
+        let found = infer_tree(alloc, view, term)?;
+        sorted.push(found)?;
     }
     Ok(sorted)
 }
@@ -118,8 +135,19 @@ fn sort_condition(
 {
     match condition {
         None => Ok(None),
-        Some(term) => Ok(Some(fit(alloc, view, term, &Shape::of(ShapeForm::Truths))?)),
+        Some(term) => Ok(Some(fit_truths(alloc, view, term)?)),
     }
+}
+
+/// A term that is a truth value.
+fn fit_truths(alloc: Global, view: &View, term: &Term) -> Result<Checked, Refusal>
+    ensures { Answers Refusal.Memory term_of result
+        (sorts.fit (sorts.sorting view.now (term_of term.now)) truths) }
+{
+    let truths = Shape::of(ShapeForm::Truths);
+    let found = fit(alloc, view, term, &truths);
+    drop(truths);
+    found
 }
 
 /// The initial term of a state variable of a shape. `NoInitial` (23) if there is none.
@@ -135,8 +163,19 @@ fn sort_initial(
 {
     match initial {
         None => Err(Refusal::NoInitial),
-        Some(term) => fit(alloc, view, term, &shape_in_terms(alloc, shape)?),
+        Some(term) => fit_declared(alloc, view, term, shape),
     }
+}
+
+/// A term that has the shape of a name that is declared to have this one.
+fn fit_declared(alloc: Global, view: &View, term: &Term, shape: &Shape) -> Result<Checked, Refusal>
+    ensures { Answers Refusal.Memory term_of result
+        (sorts.fit (sorts.sorting view.now (term_of term.now)) (shape_in_terms shape.now)) }
+{
+    let want = shape_in_terms(alloc, shape)?;
+    let found = fit(alloc, view, term, &want);
+    drop(want);
+    found
 }
 
 /// A state variable with its initial term.
@@ -150,10 +189,10 @@ fn sort_variable(
     ensures { Answers Refusal.Memory variable_of result
         (spec.variable_at types.now view.now (variable_of variable.now)) }
 {
-    let declared = sort_declared(alloc, types, &variable.declared)?;
+    let declared = Box::new(alloc, sort_declared(alloc, types, &variable.declared)?)?;
     let initial = sort_initial(alloc, view, &declared.shape, &variable.initial)?;
     Ok(Variable {
-        declared,
+        declared: Box::into_inner(declared),
         initial: Some(initial),
     })
 }
@@ -188,22 +227,49 @@ fn sort_parameter(
         (spec.parameter_at types.now view.now (parameter_of parameter.now)) }
 {
     match parameter {
-        Parameter::Const(term) => {
-            let typed = infer_own(alloc, view, term)?;
-            Ok(SortedParameter {
-                parameter: Parameter::Const(typed.tree),
-                shape: typed.shape,
-            })
-        }
-        Parameter::Declared(declared) => {
-            let declared = sort_declared(alloc, types, declared)?;
-            let shape = declared.shape.try_copy(alloc)?;
-            Ok(SortedParameter {
-                parameter: Parameter::Declared(declared),
-                shape,
-            })
-        }
+        Parameter::Const(term) => sort_constant(alloc, view, term),
+        Parameter::Declared(declared) => sort_own(alloc, types, declared),
     }
+}
+
+/// A parameter that is a constant. `EmptyOfWhat` (32) if it is a display.
+fn sort_constant(alloc: Global, view: &View, term: &Term) -> Result<SortedParameter, Refusal>
+    ensures { Answers Refusal.Memory sorted_parameter_of result (and_then
+        (spec.infer_own view.now (term_of term.now)) (λ u. Ok (spec.sorted_parameter (const u.tree) u.shape))) }
+{
+    let typed = infer_own(alloc, view, term)?;
+    Ok(SortedParameter {
+        parameter: Parameter::Const(typed.tree),
+        shape: typed.shape,
+    })
+}
+
+/// A parameter that is a name of the entry's own.
+fn sort_own(
+    alloc: Global,
+    types: &Types,
+    declared: &Declared<()>,
+) -> Result<SortedParameter, Refusal>
+    ensures { Answers Refusal.Memory sorted_parameter_of result (and_then
+        (spec.declared_at types.now (declared_of declared.now)) (λ d. Ok (spec.sorted_parameter (named d) d.shape))) }
+{
+    let declared = Box::new(alloc, sort_declared(alloc, types, declared)?)?;
+    let shape = declared.shape.try_copy(alloc)?;
+    Ok(SortedParameter {
+        parameter: Parameter::Declared(Box::into_inner(declared)),
+        shape,
+    })
+}
+
+/// Parameters with one more behind them.
+fn push_parameter(sorted: &mut SortedParameters, found: SortedParameter) -> Result<(), AllocError>
+    ensures parameters { OnOk result
+        (sorted.new.parameters.items ≡ sorted.old.parameters.items ++ found.parameter ∷ []) }
+    ensures shapes { OnOk result (sorted.new.shapes.items ≡ sorted.old.shapes.items ++ found.shape ∷ []) }
+{
+    sorted.parameters.push(found.parameter)?;
+    sorted.shapes.push(found.shape)?;
+    Ok(())
 }
 
 /// The parameters of an entry, and the shapes of its arguments.
@@ -212,21 +278,20 @@ pub(crate) fn sort_parameters(
     types: &Types,
     view: &View,
     parameters: &Vec<Parameter<(), ()>>,
-) -> Result<SortedParameters, Refusal>
-    ensures { Answers Refusal.Memory sorted_parameters_of result
+) -> Result<Box<SortedParameters>, Refusal>
+    ensures { Answers Refusal.Memory (λ ps. sorted_parameters_of ps.value) result
         (spec.parameters_at types.now view.now (map parameter_of parameters.now.items)) }
 {
-    let mut sorted = Vec::new(alloc);
-    let mut shapes = Vec::new(alloc);
+    let none = SortedParameters {
+        parameters: Vec::new(alloc),
+        shapes: Vec::new(alloc),
+    };
+    let mut sorted = Box::new(alloc, none)?;
     for parameter in parameters {
         let found = sort_parameter(alloc, types, view, parameter)?;
-        sorted.push(found.parameter)?;
-        shapes.push(found.shape)?;
+        push_parameter(&mut sorted, found)?;
     }
-    Ok(SortedParameters {
-        parameters: sorted,
-        shapes,
-    })
+    Ok(sorted)
 }
 
 /// The condition of an entry. `InputWhere` (33) if an input has one.
@@ -256,22 +321,21 @@ pub(crate) fn sort_entry(
     alloc: Global,
     view: &View,
     entry: &Entry<(), ()>,
-    sorted: SortedParameters,
-) -> Result<SortedEntry, Refusal>
-    ensures { Answers Refusal.Memory sorted_entry_of result
-        (spec.entry_at view.now (entry_of entry.now) (sorted_parameters_of sorted)) }
+    sorted: Box<SortedParameters>,
+) -> Result<Box<SortedEntry>, Refusal>
+    ensures { Answers Refusal.Memory (λ e. sorted_entry_of e.value) result
+        (spec.entry_at view.now (entry_of entry.now) (sorted_parameters_of sorted.value)) }
 {
-    let condition = sort_where(alloc, view, entry.kind, &entry.condition)?;
     let name = entry.name.try_copy(alloc)?;
-    Ok(SortedEntry {
-        entry: Entry {
-            kind: entry.kind,
-            name,
-            parameters: sorted.parameters,
-            condition,
-        },
-        shapes: sorted.shapes,
-    })
+    let condition = sort_where(alloc, view, entry.kind, &entry.condition)?;
+    let SortedParameters { parameters, shapes } = Box::into_inner(sorted);
+    let entry = Entry {
+        kind: entry.kind,
+        name,
+        parameters,
+        condition,
+    };
+    Ok(Box::new(alloc, SortedEntry { entry, shapes })?)
 }
 
 /// The statements of an effect, which may assign the first `variables` names in view.
@@ -302,14 +366,14 @@ pub(crate) fn sort_transition(
         (spec.transition_at view.now variables (transition_of transition.now)) }
 {
     let arguments = infer_terms(alloc, view, &transition.arguments)?;
-    let pre = sort_condition(alloc, view, &transition.pre)?;
+    let pre = Box::new(alloc, sort_condition(alloc, view, &transition.pre)?)?;
     let effect = sort_effect(alloc, view, variables, &transition.effect)?;
     let name = transition.name.try_copy(alloc)?;
     Ok(Transition {
         kind: transition.kind,
         name,
         arguments,
-        pre,
+        pre: Box::into_inner(pre),
         effect,
     })
 }

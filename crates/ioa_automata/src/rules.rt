@@ -3,17 +3,18 @@
 ghost use Rattle.std.specs.Prelude.{◌≡◌, ◌&&◌, ◌++◌, IfOk, map, slice_get};
 ghost use Rattle.std.specs.Option.{option_copied, option_map, is_some};
 ghost use lib.Pointwise.{pointwise};
-ghost use Rattle.ioa_values.specs.Outcome.{Answers};
+ghost use Rattle.ioa_values.specs.Outcome.{Answers, and_then};
 ghost use Rattle.ioa_terms.specs.SameTerms.{same_kind};
 ghost use Rattle.ioa_terms.specs.View.{term_of};
 ghost use Rattle.ioa_source.specs.TextView.{parameter_of, entry_of, transition_of};
 ghost use Rattle.ioa_system.specs.InView.{own_names};
 ghost use Rattle.ioa_automata.specs.Rules as spec;
 ghost use Rattle.ioa_sorts.specs.Indexes.{AreIndexed};
-ghost use Rattle.ioa_automata.specs.SortedView.{sorted_entry_of, surroundings_of, transitions_of};
+ghost use Rattle.ioa_automata.specs.Parts.{entry_at, transition_at};
+ghost use Rattle.ioa_automata.specs.SortedView.{sorted_entry_of, sorted_parameters_of, surroundings_of, transitions_of};
 
 use crate::names::own_names;
-use crate::parts::{SortedEntry, sort_entry, sort_parameters, sort_transition};
+use crate::parts::{SortedEntry, SortedParameters, sort_entry, sort_parameters, sort_transition};
 use ioa_actions::{RECEIVE, SEND};
 use ioa_names::{NameTable, View};
 use ioa_sort_rules::Refusal;
@@ -194,13 +195,14 @@ fn may_have_name(sorted: &SortedEntry) -> bool
         && (sorted.entry.name.as_str() != RECEIVE || is_receive(sorted))
 }
 
-/// The transition of a sorted entry, whose name it may have. `BadArgument` (34) if it may not.
+/// Passes if a sorted entry may have its name. Else `BadArgument` (34).
 #[tactic(auto, unfolding(crate::specs::Rules::message_at))]
-fn pass_name(sorted: SortedEntry) -> Result<SortedEntry, Refusal>
-    ensures { Answers Refusal.Memory sorted_entry_of result (spec.message_at (sorted_entry_of sorted)) }
+fn pass_name(sorted: &SortedEntry) -> Result<(), Refusal>
+    ensures { Answers Refusal.Memory (λ _. sorted_entry_of sorted.now) result
+        (spec.message_at (sorted_entry_of sorted.now)) }
 {
-    if may_have_name(&sorted) {
-        Ok(sorted)
+    if may_have_name(sorted) {
+        Ok(())
     } else {
         Err(Refusal::BadArgument)
     }
@@ -213,20 +215,36 @@ fn rule_of(
     around: &Surroundings,
     own: &NameTable,
     transition: &Transition<(), ()>,
-    sorted: SortedEntry,
+    sorted: Box<SortedEntry>,
 ) -> Result<Rule, Refusal>
     ensures { Answers Refusal.Memory (λ r. r) result
-        (spec.rule_of (surroundings_of around.now) own.now (transition_of transition.now) (sorted_entry_of sorted)) }
+        (spec.rule_of (surroundings_of around.now) own.now (transition_of transition.now)
+        (sorted_entry_of sorted.value)) }
+{
+    let words = own_words(alloc, &sorted.entry.parameters)?;
+    let transition = sort_step(alloc, around, own, transition)?;
+    let SortedEntry { entry, shapes } = Box::into_inner(sorted);
+    Ok(Rule {
+        entry,
+        shapes,
+        transition,
+        own: words,
+    })
+}
+
+/// The transition of an entry whose own parameters have these names.
+fn sort_step(
+    alloc: Global,
+    around: &Surroundings,
+    own: &NameTable,
+    transition: &Transition<(), ()>,
+) -> Result<Transition<usize, Shape>, Refusal>
+    ensures { Answers Refusal.Memory transition_of result
+        (transition_at (around.now.outer.now ++ (own.now ++ around.now.constants.now)) around.now.variables
+        (transition_of transition.now)) }
 {
     let view = View::new(around.outer, own, around.constants)?;
-    let transition = sort_transition(alloc, &view, around.variables, transition)?;
-    let own = own_words(alloc, &sorted.entry.parameters)?;
-    Ok(Rule {
-        entry: sorted.entry,
-        shapes: sorted.shapes,
-        transition,
-        own,
-    })
+    sort_transition(alloc, &view, around.variables, transition)
 }
 
 /// The names of an entry's own parameters, with their own memory.
@@ -262,10 +280,27 @@ fn sort_rule(
     let transition = transition_of_entry(transitions, entry)?;
     let sorted = sort_parameters(alloc, around.types, view, &entry.parameters)?;
     let own = own_names(alloc, around.outer, around.constants, &sorted.parameters)?;
-    let view = View::new(around.given, &own, around.constants)?;
+    rule_with(alloc, around, &own, transition, entry, sorted)
+}
+
+/// An entry of these parameters, whose names are `own`, with its transition.
+fn rule_with(
+    alloc: Global,
+    around: &Surroundings,
+    own: &NameTable,
+    transition: &Transition<(), ()>,
+    entry: &Entry<(), ()>,
+    sorted: Box<SortedParameters>,
+) -> Result<Rule, Refusal>
+    ensures { Answers Refusal.Memory (λ r. r) result (and_then
+        (entry_at (around.now.given.now ++ (own.now ++ around.now.constants.now)) (entry_of entry.now)
+        (sorted_parameters_of sorted.value)) (λ x. and_then (spec.message_at x)
+        (spec.rule_of (surroundings_of around.now) own.now (transition_of transition.now)))) }
+{
+    let view = View::new(around.given, own, around.constants)?;
     let sorted = sort_entry(alloc, &view, entry, sorted)?;
-    let sorted = pass_name(sorted)?;
-    rule_of(alloc, around, &own, transition, sorted)
+    pass_name(&sorted)?;
+    rule_of(alloc, around, own, transition, sorted)
 }
 
 /// The entries of an automaton with their transitions.
@@ -282,9 +317,26 @@ pub(crate) fn sort_rules(
 {
     let none = NameTable::new(alloc);
     let view = View::new(around.given, &none, around.constants)?;
+    rules_in_view(alloc, around, &view, transitions, entries)
+}
+
+/// Entries with their transitions. `view` has the names in view of their constants.
+fn rules_in_view(
+    alloc: Global,
+    around: &Surroundings,
+    view: &View,
+    transitions: &Transitions,
+    entries: &Vec<Entry<(), ()>>,
+) -> Result<Vec<Rule>, Refusal>
+    requires constants { view.now ≡ around.now.given.now ++ around.now.constants.now }
+    requires transitions { AreIndexed transitions.now.names.now (map (λ t. t.name) (transitions_of transitions.now)) }
+    ensures { Answers Refusal.Memory (λ rs. rs.items) result
+        (spec.rules_at (surroundings_of around.now) (transitions_of transitions.now)
+        (map entry_of entries.now.items)) }
+{
     let mut rules = Vec::new(alloc);
     for entry in entries {
-        let rule = sort_rule(alloc, around, &view, transitions, entry)?;
+        let rule = sort_rule(alloc, around, view, transitions, entry)?;
         rules.push(rule)?;
     }
     Ok(rules)

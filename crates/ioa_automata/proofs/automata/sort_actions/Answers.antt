@@ -5,4 +5,4 @@ use Rattle.ioa_automata.proofs.automata.sort_actions.Goals as goal
 
 pub new-requires : goal.new-requires
 new-requires c =
-    rules_indexed _ _ (map entry_of c.args.automaton.now.signature.items) c.in_ok-names.names c.in_ok-rules.rules.items c.in_ok-names.ensures c.in_ok-rules.ensures
+    rules_indexed _ _ (map entry_of c.args.automaton.now.signature.items) c.in_ok-names.names c.in_ok-rules.rules.items c.in_ok-names.ensures c.in_ok-rules.ensures.rules

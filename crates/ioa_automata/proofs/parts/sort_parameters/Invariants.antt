@@ -8,4 +8,4 @@ use Rattle.ioa_automata.proofs.parts.sort_parameters.Given as goal
 abbrev pub invariant-loop-parameter : goal.invariant-loop-parameter
 invariant-loop-parameter l =
     parameters_at l.types l.view (map parameter_of l.parameters.items)
-    ≡ and_then (parameters_at l.types l.view (map parameter_of (drop l.parameter-index l.parameter-items))) (λ qs. Ok (sorted_parameters (map parameter_of l.sorted.items ++ qs.parameters) (l.shapes.items ++ qs.shapes)))
+    ≡ and_then (parameters_at l.types l.view (map parameter_of (drop l.parameter-index l.parameter-items))) (λ qs. Ok (sorted_parameters (map parameter_of l.sorted.value.parameters.items ++ qs.parameters) (l.sorted.value.shapes.items ++ qs.shapes)))

@@ -3,7 +3,7 @@ use Rattle.ioa_values.specs.Outcome.{and_then}
 use Rattle.ioa_source.specs.TextView.{entry_of}
 use Rattle.ioa_automata.specs.SortedView.{surroundings_of, transitions_of}
 use Rattle.ioa_automata.specs.Rules.{rules_at}
-use Rattle.ioa_automata.proofs.rules.sort_rules.Given as goal
+use Rattle.ioa_automata.proofs.rules.rules_in_view.Given as goal
 
 -- all are those so far and then those that are left
 abbrev pub invariant-loop-entry : goal.invariant-loop-entry

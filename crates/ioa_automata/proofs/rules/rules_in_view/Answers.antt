@@ -3,7 +3,7 @@ use Rattle.ioa_source.specs.TextView.{entry_of}
 use Rattle.ioa_automata.specs.Rules.{rule_at}
 use Rattle.ioa_automata.specs.SortedView.{surroundings_of, transitions_of}
 use Rattle.ioa_automata.proofs.Loops.{all_ok_more_same}
-use Rattle.ioa_automata.proofs.rules.sort_rules.Goals as goal
+use Rattle.ioa_automata.proofs.rules.rules_in_view.Goals as goal
 
 pub loop-entry-preserved : goal.loop-entry-preserved
 loop-entry-preserved c =
