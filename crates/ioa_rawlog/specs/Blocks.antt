@@ -1,4 +1,4 @@
--- How the items of a log lie in its blocks.
+-- How the items of a log lie in its blocks (profile).
 use Rattle.core.specs.Prelude.{◌≡◌, ◌<◌, ◌≤◌, List, [], ◌∷◌, ◌++◌, length}
 use Rattle.std_alloc.specs.Vec.{vec_capacity}
 use Rattle.std_alloc.specs.declared.vec.Vec.{Vec}

@@ -1,4 +1,4 @@
--- What becomes of a row of nodes once a loan of an item ends.
+-- What becomes of a row of nodes once a loan of its last item ends (form).
 use Rattle.core.specs.Prelude.{ℕ, ◌-◌, length, slice_set}
 use mathlib.Core.Path.{◌∙◌}
 use lib.ListN.{length-set}

@@ -1,4 +1,4 @@
--- How the nodes of a log point on to one another.
+-- How the nodes of a log point on to one another (form).
 use Rattle.core.specs.Prelude.{◌≡◌, ℕ, List, [], ◌∷◌, map, slice_index_or}
 use denote.RawPtr.{Ptr, null_ptr}
 

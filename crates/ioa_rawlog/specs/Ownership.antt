@@ -1,4 +1,4 @@
--- What a row of nodes owns and lends, at items of the row R and an allocator of the row A.
+-- What a row of nodes owns and lends, at items of the row R and an allocator of the row A (form).
 use Rattle.core.specs.Prelude.{ℕ, ◌+◌, List, [], ◌∷◌, map}
 use base.Fraction.{full_share}
 use base.Fml.{Lft, Fml, ftrue, fsep, fwand}

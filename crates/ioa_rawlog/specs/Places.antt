@@ -1,4 +1,4 @@
--- Where the nodes of a row lie, as a walk over them knows it.
+-- Where the nodes of a row lie, as a walk over them knows it (form).
 use Rattle.core.specs.Prelude.{◌≡◌, ℕ, ◌<◌, ◌≤◌, length}
 use Rattle.ioa_rawlog.specs.declared.nodes.Nodes.{Nodes}
 use Rattle.ioa_rawlog.specs.declared.nodes.Place.{Place}

@@ -1,7 +1,5 @@
-//! The log: a row of blocks, all full but the last.
-//!
-//! `RawLog` states a law of the field (`Model`): to a clause it is the list of its items, and its blocks are laid as
-//! `IsLaid` says.
+//! The log (profile). To a clause it is the list of its items. Inside it is a row of blocks of 64, all full but the last,
+//! and only a push at a block's edge links another.
 ghost use Rattle.core.specs.Prelude.{◌≡◌, ◌↔◌, ℕ, ◌+◌, ◌%◌, ◌^◌, ◌<◌, ◌≤◌, if◌then◌else◌, [], ◌∷◌, ◌++◌, length, slice_get, OnOk, OnErr, IfOk, IfErr, IsErr, IsTrue};
 ghost use Rattle.core.specs.List.{AllByRecursion};
 ghost use Rattle.core.specs.Option.{option_copied};
@@ -78,6 +76,7 @@ impl<T> RawLog<T> {
         ensures runs { ShowsInOrder (deref {X = T}) }
         ensures fits { length self.now < 2 ^ 64 }
     {
+        // It is a number of 64 bits, which `fits` tells.
         let _len = self.len;
         Walk::over(self.blocks())
     }

@@ -1,6 +1,4 @@
-//! Walks over a log: block by block, and item by item.
-//!
-//! `BlocksLeft` and `Walk` state a law of the field (`Model`): to a clause each is the list of what it has left.
+//! Walks over a log, block by block and item by item (profile). To a clause each is the list of what it has left.
 ghost use Rattle.core.specs.Prelude.{◌≡◌, ◌≤◌, ◌<◌, ◌^◌, length};
 ghost use Rattle.core.specs.Iterator.{at_most};
 ghost use Rattle.core.specs.List.{AllByRecursion};

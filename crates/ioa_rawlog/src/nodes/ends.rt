@@ -1,5 +1,4 @@
-//! What changes a row of nodes: a node is linked in, taken out, or its item is lent to be written. No law or profile
-//! is stated here.
+//! What changes a row of nodes: a node is linked in, taken out, or its item is lent to be written.
 ghost use types.Logic.{sem};
 ghost use Rattle.core.specs.Prelude.{◌≡◌, ◌↔◌, ◌-◌, ◌<◌, [], ◌∷◌, ◌++◌, length, slice_index_or, IsTrue};
 ghost use Rattle.ioa_rawlog.specs.Lending.{last_follows};

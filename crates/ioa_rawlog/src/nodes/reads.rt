@@ -1,5 +1,5 @@
 //! What is read of a row of nodes behind a `&`. `index` is the place in the row of the node that lies at `at`; only the
-//! proofs need it. No law or profile is stated here.
+//! proofs need it.
 ghost use Rattle.core.specs.Prelude.{◌≡◌, ◌+◌, ◌<◌, length, slice_index_or};
 ghost use Rattle.ioa_rawlog.specs.Places.{IsAt};
 
