@@ -15,8 +15,9 @@ use denote.Param.Send.{IsSend, IsSync, Quiet, Common, AllSend, part_keyless, own
 use Rattle.core.specs.declared.alloc.Allocator.{Ghosts}
 use Rattle.std_alloc.proofs.SendSync.{FreesAnywhere}
 use Rattle.std_collections.specs.Btree.Lent.{spread}
+use Rattle.std_collections.specs.LinkedList.Ownership.{spread_lent}
 use Rattle.ioa_rawlog.specs.Links.{Link, links_of}
-use Rattle.ioa_rawlog.specs.Ownership.{item_places, frames_own, links_lent, items_lent}
+use Rattle.ioa_rawlog.specs.Ownership.{item_places, frames_own, links_lent}
 use Rattle.ioa_rawlog.specs.contracts.nodes.Nodes as N
 
 -- ---- of one place
@@ -56,7 +57,7 @@ links_common : (ls : List Link) → Common (links_lent ls)
 links_common [] κ = tt
 links_common (l ∷ ls) κ = (seen RawPtr pointer_sync _ l.1 κ, links_common ls κ)
 
-items_common : (R : RattleType) → IsSync R → (ps : List Ptr) (xs : List R.Denot) → Common (items_lent R ps xs)
+items_common : (R : RattleType) → IsSync R → (ps : List Ptr) (xs : List R.Denot) → Common (spread_lent R ps xs)
 items_common R y [] xs κ = tt
 items_common R y (p ∷ ps) [] κ = tt
 items_common R y (p ∷ ps) (x ∷ xs) κ = (seen R y p x κ, items_common R y ps xs κ)

@@ -3,7 +3,7 @@
 --     cons_out, cons_in, snoc_out, snoc_in       one node at an end, beside the others
 --     one_opens, one_closes                      a node is [its item; `next`; what frees it]
 use mathlib.Core.Path.{◌≡◌, refl, ap, ◌∙◌}
-use Prim.Native.Nat.{ℕ, ◌+◌, ◌<◌}
+use Prim.Native.Nat.{ℕ, ◌+◌}
 use native.Mathlib.Omega.{arith}
 use mathlib.Core.List.{List, [], ◌∷◌, ◌++◌}
 use lib.ListN.{length}
@@ -30,18 +30,6 @@ use Rattle.ioa_rawlog.specs.declared.nodes.Nodes.{Nodes}
 use Rattle.ioa_rawlog.specs.contracts.nodes.Nodes as N
 use Rattle.ioa_rawlog.specs.Links.{Link}
 use Rattle.ioa_rawlog.specs.Ownership.{item_offset, handle_offset, node_type, frees, frame, nodes_own}
-
-pub uncons : {Y : Type 0} (xs : List Y) → 0 < length xs → (y : Y) × (ys : List Y) × (xs ≡ y ∷ ys)
-uncons [] more = absurd (omega arith)
-uncons (y ∷ ys) more = (y, ys, refl)
-
-last_of : {Y : Type 0} (x : Y) (xs : List Y) → (ys : List Y) × (y : Y) × (x ∷ xs ≡ ys ++ y ∷ [])
-last_of x [] = ([], x, refl)
-last_of x (z ∷ zs) = let behind = last_of z zs in (x ∷ behind.0, behind.1, ap (λ l. x ∷ l) behind.2)
-
-pub unsnoc : {Y : Type 0} (xs : List Y) → 0 < length xs → (ys : List Y) × (y : Y) × (xs ≡ ys ++ y ∷ [])
-unsnoc [] more = absurd (omega arith)
-unsnoc (x ∷ xs) more = last_of x xs
 
 -- the machine's value of the nodes, of a node, and the cell of a pointer
 abbrev pub ends : Ptr → Ptr → Val

@@ -53,3 +53,5 @@ pub use Rattle.std_alloc.proofs.BoxSteps.Steps.{el_tells}
 pub use Rattle.std_alloc.proofs.OfVacant.{Vacant, vacant_val, vacant_ty, vacant_typed, Vacant-had, Vacant-made}
 pub use Rattle.std_alloc.proofs.Pairs.{pair_val, pair_Typed, pair_of}
 pub use Rattle.std_collections.proofs.TreeMemory.Owned.{word_had, word_made}
+pub use Rattle.std_collections.proofs.ListMemory.Steps.{uncons, unsnoc}
+pub use Rattle.std_collections.proofs.ListMemory.Seen.{pointer_in, pointer_out}

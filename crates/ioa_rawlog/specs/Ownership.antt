@@ -11,6 +11,7 @@ use denote.Sharing.{nothing, beside}
 use denote.RawPtr.{Ptr, RawPtr, lies_at, room_for, ◌+ₚ◌}
 use denote.Struct.Lending.{lent_at}
 use Rattle.std_collections.specs.Btree.Lent.{spread}
+use Rattle.std_collections.specs.LinkedList.Ownership.{spread_lent}
 use Rattle.ioa_rawlog.specs.Links.{Link, links_of}
 
 -- where the item lies in a node, behind the pointer
@@ -61,12 +62,6 @@ abbrev pub links_lent : List Link → Lft → Fml
 links_lent [] = nothing
 links_lent (l ∷ ls) = beside (lent_at RawPtr (l.0 +ₚ 0) l.1) (links_lent ls)
 
--- of the items at their places
-abbrev pub items_lent : (R : RattleType) → List Ptr → List R.Denot → Lft → Fml
-items_lent R [] xs = nothing
-items_lent R (p ∷ ps) [] = nothing
-items_lent R (p ∷ ps) (x ∷ xs) = beside (lent_at R p x) (items_lent R ps xs)
-
--- and of both
+-- what it holds of the items at their places, and of the pointers
 abbrev pub nodes_lent : (R : RattleType) → List Link → List R.Denot → Lft → Fml
-nodes_lent R ls xs = beside (items_lent R (item_places R ls) xs) (links_lent ls)
+nodes_lent R ls xs = beside (spread_lent R (item_places R ls) xs) (links_lent ls)

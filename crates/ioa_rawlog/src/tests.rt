@@ -121,8 +121,13 @@ fn crosses<T: Send>(value: T) -> T {
     value
 }
 
+/// What threads ask of a value that they share.
+fn is_lent<T: Sync>(value: &T) -> &T {
+    value
+}
+
 #[test]
 fn a_log_crosses_threads(rt: HostRuntime) {
     let log: RawLog<usize> = crosses(RawLog::new());
-    assert!(rt; log.len() == 0);
+    assert!(rt; is_lent(&log).len() == 0);
 }

@@ -1,11 +1,11 @@
 -- `first` reads a pointer through a `&`. Assumes `Logic`.
-use Rattle.ioa_rawlog.proofs.Walks.{refl, sym, ◌∙◌, List, [], ◌∷◌, ℕ, ◌+◌, ◌<◌, arith, length, length-map, Ura, SProp, ent, Lft, Share, Calls, Loops, WpFn, WpFn-mono, Logic, fact, ⋆, ◌$◌, ◌∵◌, !, qed, move, keep, join, fjoin, suffices, done, stop, fld, of_opd, returns, enter, alloc_all, pass_all, free_all, look_at, get, through, sets, yes, RefOf, plain, nothing, Clauses, Ended, Meets, says, Stays, stay_dropped, walk_of, ends_at, Goes-dropped, walk_Meets, word-Good, emp, via, fst∗, Val, vptr, agg, look, load, and_then, no_more, Ptr-Good, word, word_made, Fn, inst_fn, Tables, tables, tables_of, spared, entered, run_framed, triple_of, closing, Bx, args}
+use Rattle.ioa_rawlog.proofs.Walks.{pointer_in, pointer_out, refl, sym, ◌∙◌, List, [], ◌∷◌, ℕ, ◌+◌, ◌<◌, arith, length, length-map, Ura, SProp, ent, Lft, Share, Calls, Loops, WpFn, WpFn-mono, Logic, fact, ⋆, ◌$◌, ◌∵◌, !, qed, move, keep, join, fjoin, suffices, done, stop, fld, of_opd, returns, enter, alloc_all, pass_all, free_all, look_at, get, through, sets, yes, RefOf, plain, nothing, Clauses, Ended, Meets, says, Stays, stay_dropped, walk_of, ends_at, Goes-dropped, walk_Meets, word-Good, emp, via, fst∗, Val, vptr, agg, look, load, and_then, no_more, Ptr-Good, word, word_made, Fn, inst_fn, Tables, tables, tables_of, spared, entered, run_framed, triple_of, closing, Bx, args}
 use Rattle.ioa_rawlog.specs.contracts.nodes.Place as Pl
 use Rattle.ioa_rawlog.specs.Links.{Link, links_of}
 use Rattle.ioa_rawlog.specs.Places.{IsAt}
 use Rattle.ioa_rawlog.proofs.Chained.{chain_had, place_is, first_is}
 use Rattle.ioa_rawlog.proofs.Owned.{D, Nr}
-use Rattle.ioa_rawlog.proofs.Seen.{nodes_seen, pointer_seen, pointer_shut}
+use Rattle.ioa_rawlog.proofs.Seen.{nodes_seen}
 use Rattle.ioa_rawlog.proofs.Entries.{lent_self, Lent, lent}
 use Rattle.ioa_rawlog.specs.contracts.nodes.Nodes.first.Key.{name as #self}
 use Rattle.ioa_rawlog.proofs.nodes.Nodes.first.Statement as stated
@@ -39,9 +39,9 @@ module _ (E : Bx) {M : Type 1} {𝓤 : Ura M} (𝓛 : Logic 𝓤) (C : Calls �
       let linked = chain_had d.first d.last ls d.chained in
       qed 𝓛 (Lent E κ q 𝓛 b o d) ∵ enter ! C Λ (function E) (vptr b o ∷ []) _ $ alloc_all ! (λ l. pass_all ! refl ((tt, tt), tt) $
       -- [`first`; `last`; the items; the pointers; the token]
-      nodes_seen ! E d b o $ move ! (0 ∷ 4 ∷ []) $ pointer_seen ! tt d.first b (o + 0) (λ s.
+      nodes_seen ! E d b o $ move ! (0 ∷ 4 ∷ []) $ pointer_in ! tt d.first b (o + 0) (λ s.
       sets ! (of_opd ! (load ! (through ! refl (fld ! refl (stop !))) (look ! 0 refl))) refl (Ptr-Good d.first) $ sets ! (of_opd ! (get ! refl)) refl (Ptr-Good d.first) $
-      sets ! (agg ! (and_then ! (get ! refl) (no_more !))) refl (word-Good Pl.the_type.name d.first) $ pointer_shut ! tt d.first b (o + 0) $
+      sets ! (agg ! (and_then ! (get ! refl) (no_more !))) refl (word-Good Pl.the_type.name d.first) $ pointer_out ! tt d.first b (o + 0) $
       returns ! (look_at ! 0 refl) $ free_all ! refl $ keep ! (0 ∷ []) $
       suffices ! _ (ends_at 𝓛 (ended E) (stayed E) (spec E 𝓛) bound (word d.first) (record { pointer = d.first }) (tt, tt) (tt, tt)) $
       says ! (λ more. (more, first_is d.first ls (omega arith) linked.0 ∙ sym (place_is ls 0))) $

@@ -1,12 +1,12 @@
 -- `item` shows an item that is lent. Assumes `Logic`.
-use Rattle.ioa_rawlog.proofs.Walks.{◌≡◌, refl, ap, ◌∙◌, List, [], ◌∷◌, ℕ, ◌+◌, ◌<◌, ◌^◌, arith, length-map, Ura, SProp, ent, Lft, Share, Calls, Loops, WpFn, WpFn-mono, Logic, fact, ⋆, ◌$◌, ◌∵◌, !, qed, move, keep, join, fjoin, suffices, done, stop, fld, of_opd, returns, enter, alloc_all, pass_all, free_all, look_at, get, through, sets, yes, RefOf, plain, nothing, Clauses, Ended, Meets, says, Stays, stay_dropped, walk_of, ends_at, Goes-dropped, walk_Meets, word-Good, addr, feq_i, any-default, get_or, X, R, no, usize, never, fst∗, sem, ‵, use1, drop, fsplit, whole, sub, first, blocks, exec, after, at_ret, Env, env, get_in, sets_last, is, ptr_val, in_a_block, ◌+ₚ◌, shared_of, hide, lent_at, needs, Val, vint, vptr, w64, word, Fn, inst_fn, Tables, tables, tables_of, spared, entered, run_framed, triple_of, closing, Bx, args}
+use Rattle.ioa_rawlog.proofs.Walks.{uncons, ◌≡◌, refl, ap, ◌∙◌, List, [], ◌∷◌, ℕ, ◌+◌, ◌<◌, ◌^◌, arith, length-map, Ura, SProp, ent, Lft, Share, Calls, Loops, WpFn, WpFn-mono, Logic, fact, ⋆, ◌$◌, ◌∵◌, !, qed, move, keep, join, fjoin, suffices, done, stop, fld, of_opd, returns, enter, alloc_all, pass_all, free_all, look_at, get, through, sets, yes, RefOf, plain, nothing, Clauses, Ended, Meets, says, Stays, stay_dropped, walk_of, ends_at, Goes-dropped, walk_Meets, word-Good, addr, feq_i, any-default, get_or, X, R, no, usize, never, fst∗, sem, ‵, use1, drop, fsplit, whole, sub, first, blocks, exec, after, at_ret, Env, env, get_in, sets_last, is, ptr_val, in_a_block, ◌+ₚ◌, shared_of, hide, lent_at, needs, Val, vint, vptr, w64, word, Fn, inst_fn, Tables, tables, tables_of, spared, entered, run_framed, triple_of, closing, Bx, args}
 use Rattle.ioa_rawlog.specs.declared.nodes.Place.{Place}
 use Rattle.ioa_rawlog.specs.contracts.nodes.Place as Pl
 use Rattle.ioa_rawlog.specs.Links.{Link, links_of}
 use Rattle.ioa_rawlog.specs.Places.{IsAt}
 use Rattle.ioa_rawlog.specs.Ownership.{item_offset}
 use Rattle.ioa_rawlog.proofs.Chained.{link_at, place_is}
-use Rattle.ioa_rawlog.proofs.Owned.{uncons, D, Nr}
+use Rattle.ioa_rawlog.proofs.Owned.{D, Nr}
 use Rattle.ioa_rawlog.proofs.Seen.{nodes_seen, item_at}
 use Rattle.ioa_rawlog.proofs.Entries.{lent_self, Lent, lent_at_place}
 use Rattle.ioa_rawlog.specs.contracts.nodes.Nodes.item.Key.{name as #self}

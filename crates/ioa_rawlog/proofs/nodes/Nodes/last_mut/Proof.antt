@@ -1,10 +1,10 @@
 -- `last_mut` lends the last item, and the nodes follow it. Assumes `Logic`.
-use Rattle.ioa_rawlog.proofs.Walks.{◌≡◌, refl, sym, ap, subst, ◌∙◌, List, [], ◌∷◌, ◌++◌, ℕ, ◌+◌, ◌<◌, arith, length, Ura, SProp, ent, sep, Lft, GName, Share, flft, Env, Calls, Loops, WpFn, WpFn-mono, Logic, sem, fact, ⋆, ‵, ◌⊛◌, at_ret, ◌$◌, ◌∵◌, !, qed, by, move, keep, use1, use2, split, join, rewrite, fjoin, fjoin3, suffices, frame, done, whole, sub, look_in, stop, fld, load, of_opd, addr, first, blocks, exec, returns, enter, alloc_all, pass_all, free_all, look_at, get, through, sets, sets_last, is, env, after, mem, block_ptr, ptr_val, MutRef, named, Val, vptr, RefMutOf, plain, nothing, Clauses, Ended, Meets, says, needs, Stays, walk_of, ends_at, walk_Meets, X, R, ◌-◌, map-append, length-append, get_or, set, full_share, Fml, fsep, Ptr, raw, some, later, await, pick, group, fsplit, fsplit3, fpack, cell_at, part_at, part_of, no, mut_ref_to, stay_dropped, Goes-spent_ref, follows, Part, lends_Part, Fn, inst_fn, Tables, tables, tables_of, spared, entered, run_framed, triple_of, closing, Bx, args}
+use Rattle.ioa_rawlog.proofs.Walks.{unsnoc, ◌≡◌, refl, sym, ap, subst, ◌∙◌, List, [], ◌∷◌, ◌++◌, ℕ, ◌+◌, ◌<◌, arith, length, Ura, SProp, ent, sep, Lft, GName, Share, flft, Env, Calls, Loops, WpFn, WpFn-mono, Logic, sem, fact, ⋆, ‵, ◌⊛◌, at_ret, ◌$◌, ◌∵◌, !, qed, by, move, keep, use1, use2, split, join, rewrite, fjoin, fjoin3, suffices, frame, done, whole, sub, look_in, stop, fld, load, of_opd, addr, first, blocks, exec, returns, enter, alloc_all, pass_all, free_all, look_at, get, through, sets, sets_last, is, env, after, mem, block_ptr, ptr_val, MutRef, named, Val, vptr, RefMutOf, plain, nothing, Clauses, Ended, Meets, says, needs, Stays, walk_of, ends_at, walk_Meets, X, R, ◌-◌, map-append, length-append, get_or, set, full_share, Fml, fsep, Ptr, raw, some, later, await, pick, group, fsplit, fsplit3, fpack, cell_at, part_at, part_of, no, mut_ref_to, stay_dropped, Goes-spent_ref, follows, Part, lends_Part, Fn, inst_fn, Tables, tables, tables_of, spared, entered, run_framed, triple_of, closing, Bx, args}
 use lib.Seq.{set_at, get_or_at}
 use Rattle.ioa_rawlog.specs.Lending.{with_item}
 use Rattle.ioa_rawlog.specs.Links.{Link, links_of, IsChained}
 use Rattle.ioa_rawlog.proofs.Chained.{chain_had, last_is}
-use Rattle.ioa_rawlog.proofs.Owned.{unsnoc, ends, Hd, D, Nr, io, Held, One, snoc_out, snoc_in, nodes_made, nodes_opens, one_opens, one_closes, pointer, Frees}
+use Rattle.ioa_rawlog.proofs.Owned.{ends, Hd, D, Nr, io, Held, One, snoc_out, snoc_in, nodes_made, nodes_opens, one_opens, one_closes, pointer, Frees}
 use Rattle.ioa_rawlog.proofs.Entries.{held_self, Had, held}
 use Rattle.ioa_rawlog.specs.contracts.nodes.Nodes.last_mut.Key.{name as #self}
 use Rattle.ioa_rawlog.proofs.nodes.Nodes.last_mut.Statement as stated

@@ -1,9 +1,9 @@
 -- `link_last` fills the block, and the last node points on to it. Assumes `Logic`.
-use Rattle.ioa_rawlog.proofs.Walks.{◌≡◌, refl, sym, ap, subst, ◌∙◌, List, [], ◌∷◌, ◌++◌, ℕ, ◌<◌, arith, length, Ura, Lft, GName, Share, Env, WpFn, Logic, ‵, at_ret, ◌$◌, ◌∵◌, !, qed, by, move, keep, use1, use2, group, whole, sub, agg, store_in, init, stop, fld, unit_lit, of_opd, and_then, no_more, assigns, assigns_last, first, blocks, exec, returns, enter, alloc_all, pass_all, free_all, look_at, get, get_in, through, sets, env, after, lone, Ptr, block_ptr, ptr_val, ty_ptr, Val, vptr, as_fields, α, Good, Ptr-Good, X, τ, R, P, Meets, as_written, vacant_val, vacant_typed, map-append, length-append, ◌⊛◌, split, rewrite, look_in, store, load, is, Fn, inst_fn, Tables, tables, tables_of, spared, entered, run_framed, triple_of, closing, Bx, args}
+use Rattle.ioa_rawlog.proofs.Walks.{unsnoc, ◌≡◌, refl, sym, ap, subst, ◌∙◌, List, [], ◌∷◌, ◌++◌, ℕ, ◌<◌, arith, length, Ura, Lft, GName, Share, Env, WpFn, Logic, ‵, at_ret, ◌$◌, ◌∵◌, !, qed, by, move, keep, use1, use2, group, whole, sub, agg, store_in, init, stop, fld, unit_lit, of_opd, and_then, no_more, assigns, assigns_last, first, blocks, exec, returns, enter, alloc_all, pass_all, free_all, look_at, get, get_in, through, sets, env, after, lone, Ptr, block_ptr, ptr_val, ty_ptr, Val, vptr, as_fields, α, Good, Ptr-Good, X, τ, R, P, Meets, as_written, vacant_val, vacant_typed, map-append, length-append, ◌⊛◌, split, rewrite, look_in, store, load, is, Fn, inst_fn, Tables, tables, tables_of, spared, entered, run_framed, triple_of, closing, Bx, args}
 use Rattle.ioa_rawlog.specs.contracts.nodes.Node as Block
 use Rattle.ioa_rawlog.specs.Links.{Link, links_of, IsChained}
 use Rattle.ioa_rawlog.proofs.Chained.{chain_had, last_is, chain_longer}
-use Rattle.ioa_rawlog.proofs.Owned.{unsnoc, node_val, Hd, D, Held, One, snoc_out, snoc_in, nodes_opens, nodes_closes, one_opens, one_closes}
+use Rattle.ioa_rawlog.proofs.Owned.{node_val, Hd, D, Held, One, snoc_out, snoc_in, nodes_opens, nodes_closes, one_opens, one_closes}
 use Rattle.ioa_rawlog.proofs.Written.{node_made}
 use Rattle.ioa_rawlog.proofs.Linking.{NodeRow, Room, ended, spec, Had, Post, Walk, exits, meets_by}
 use Rattle.ioa_rawlog.specs.contracts.nodes.Nodes.link_last.Key.{name as #self}

@@ -1,12 +1,12 @@
 -- `next` reads the pointer of a node that is lent. Assumes `Logic`.
-use Rattle.ioa_rawlog.proofs.Walks.{◌≡◌, refl, sym, ap, ◌∙◌, List, [], ◌∷◌, ℕ, suc, ◌+◌, ◌<◌, ◌^◌, arith, length, length-map, Ura, SProp, ent, Lft, Share, Calls, Loops, WpFn, WpFn-mono, Logic, fact, ⋆, ◌$◌, ◌∵◌, !, qed, move, keep, join, fjoin, suffices, done, stop, fld, of_opd, returns, enter, alloc_all, pass_all, free_all, look_at, get, through, sets, yes, RefOf, plain, nothing, Clauses, Ended, Meets, says, Stays, stay_dropped, walk_of, ends_at, Goes-dropped, walk_Meets, word-Good, RawPtr, agg, look, load, and_then, no_more, Ptr-Good, word_made, no, usize, never, fst∗, sem, ‵, use1, drop, fsplit, whole, sub, first, blocks, exec, after, at_ret, Env, env, get_in, sets_last, is, ptr_val, in_a_block, ◌+ₚ◌, shared_of, hide, lent_at, needs, Val, vint, vptr, w64, word, Fn, inst_fn, Tables, tables, tables_of, spared, entered, run_framed, triple_of, closing, Bx, args}
+use Rattle.ioa_rawlog.proofs.Walks.{pointer_in, pointer_out, ◌≡◌, refl, sym, ap, ◌∙◌, List, [], ◌∷◌, ℕ, suc, ◌+◌, ◌<◌, ◌^◌, arith, length, length-map, Ura, SProp, ent, Lft, Share, Calls, Loops, WpFn, WpFn-mono, Logic, fact, ⋆, ◌$◌, ◌∵◌, !, qed, move, keep, join, fjoin, suffices, done, stop, fld, of_opd, returns, enter, alloc_all, pass_all, free_all, look_at, get, through, sets, yes, RefOf, plain, nothing, Clauses, Ended, Meets, says, Stays, stay_dropped, walk_of, ends_at, Goes-dropped, walk_Meets, word-Good, RawPtr, agg, look, load, and_then, no_more, Ptr-Good, word_made, no, usize, never, fst∗, sem, ‵, use1, drop, fsplit, whole, sub, first, blocks, exec, after, at_ret, Env, env, get_in, sets_last, is, ptr_val, in_a_block, ◌+ₚ◌, shared_of, hide, lent_at, needs, Val, vint, vptr, w64, word, Fn, inst_fn, Tables, tables, tables_of, spared, entered, run_framed, triple_of, closing, Bx, args}
 use Rattle.ioa_rawlog.specs.declared.nodes.Place.{Place}
 use Rattle.ioa_rawlog.specs.contracts.nodes.Place as Pl
 use Rattle.ioa_rawlog.specs.Links.{Link, links_of, place_of}
 use Rattle.ioa_rawlog.specs.Places.{IsAt}
 use Rattle.ioa_rawlog.proofs.Chained.{chain_had, link_at, place_is, next_is}
 use Rattle.ioa_rawlog.proofs.Owned.{D, Nr}
-use Rattle.ioa_rawlog.proofs.Seen.{nodes_seen, pointer_seen, pointer_shut, link_at_seen}
+use Rattle.ioa_rawlog.proofs.Seen.{nodes_seen, link_at_seen}
 use Rattle.ioa_rawlog.proofs.Entries.{lent_self, Lent, lent_at_place}
 use Rattle.ioa_rawlog.specs.contracts.nodes.Nodes.next.Key.{name as #self}
 use Rattle.ioa_rawlog.proofs.nodes.Nodes.next.Statement as stated
@@ -53,11 +53,11 @@ module _ (E : Bx) {M : Type 1} {𝓤 : Ura M} (𝓛 : Logic 𝓤) (C : Calls �
       move ! (3 ∷ []) $ use1 𝓛 (‵ (lent_at RawPtr (n.0 +ₚ 0) n.1 κ)) (link_at_seen 𝓛 κ ls i (omega arith)) $
       in_a_block ! n.0 (λ p. lent_at RawPtr (p +ₚ 0) n.1 κ) (fst∗ 𝓤 (never 𝓤) (sem 𝓛 (shared_of RawPtr n.1 0 0 κ))) (λ nb no e. fsplit ! $ drop ! $ hide ! $
       -- [the node's pointer; `first`; `last`; the items; the token]
-      move ! (0 ∷ 4 ∷ []) $ pointer_seen ! tt n.1 nb (no + 0) (λ s.
+      move ! (0 ∷ 4 ∷ []) $ pointer_in ! tt n.1 nb (no + 0) (λ s.
       sets ! (is ! (of_opd ! (get_in ! (fld ! refl (stop !)) (sub ! 0 refl (whole !)))) (ap ptr_val (here ∙ e))) refl (tt, tt) $ sets ! (of_opd ! (get ! refl)) refl (tt, tt) $ first ! $ blocks ! $
       sets_last ! (of_opd ! (load ! (through ! refl (fld ! refl (stop !))) (look ! 0 refl))) refl (Ptr-Good n.1) $ exec ! C Λ En (after 3 (function E).body) (at_ret En Post) $
       sets ! (of_opd ! (get ! refl)) refl (Ptr-Good n.1) $ sets ! (of_opd ! (get ! refl)) refl (Ptr-Good n.1) $
-      sets ! (agg ! (and_then ! (get ! refl) (no_more !))) refl (word-Good Pl.the_type.name n.1) $ pointer_shut ! tt n.1 nb (no + 0) $
+      sets ! (agg ! (and_then ! (get ! refl) (no_more !))) refl (word-Good Pl.the_type.name n.1) $ pointer_out ! tt n.1 nb (no + 0) $
       returns ! (look_at ! 0 refl) $ free_all ! refl $ keep ! (0 ∷ []) $
       suffices ! _ (ends_at 𝓛 (ended E) (stayed E) (spec E 𝓛) bound (word n.1) (record { pointer = n.1 }) (tt, (tt, (tt, tt))) (tt, (tt, (tt, tt)))) $
       says ! (λ more. let behind : suc i ≡ i + 1 = omega arith in (more, next_is d.first ls i (omega arith) linked.0 ∙ sym (place_is ls (suc i)) ∙ ap (place_of ls) behind)) $

@@ -1,9 +1,9 @@
 -- `unlink_first` moves the item and the handle out of the first node. Assumes `Logic`.
-use Rattle.ioa_rawlog.proofs.Walks.{◌≡◌, refl, ap, subst, ◌∙◌, List, [], ◌∷◌, ℕ, ◌<◌, arith, length, Ura, SProp, ent, sep, Lft, GName, Share, flft, fobs, fbor, Env, Calls, Loops, WpFn, WpFn-mono, Logic, sem, fact, Borrowed, ⋆, ‵, ◌⊛◌, at_ret, ◌$◌, ◌∵◌, !, qed, by, move, keep, use1, use2, split, join, rewrite, fjoin, fjoin3, suffices, frame, done, whole, sub, look_in, stop, fld, load, of_opd, addr, first, blocks, exec, returns, enter, alloc_all, pass_all, free_all, look_at, get, through, sets, sets_last, is, env, after, mem, block_ptr, ptr_val, Val, vptr, RefMutOf, plain, nothing, Clauses, Ended, Meets, says, needs, Stays, walk_of, ends_at, walk_Meets, X, R, P, τ, feq_i, agg, store_in, look, and_then, no_more, assigns, yes, RattleType, stay_ref, Goes-ref, Ptr-Good, Vacant, vacant_val, vacant_ty, vacant_typed, Vacant-made, pair_val, pair_Typed, pair_of, Tuple, Fn, inst_fn, Tables, tables, tables_of, spared, entered, run_framed, triple_of, closing, Bx, args}
+use Rattle.ioa_rawlog.proofs.Walks.{uncons, ◌≡◌, refl, ap, subst, ◌∙◌, List, [], ◌∷◌, ℕ, ◌<◌, arith, length, Ura, SProp, ent, sep, Lft, GName, Share, flft, fobs, fbor, Env, Calls, Loops, WpFn, WpFn-mono, Logic, sem, fact, Borrowed, ⋆, ‵, ◌⊛◌, at_ret, ◌$◌, ◌∵◌, !, qed, by, move, keep, use1, use2, split, join, rewrite, fjoin, fjoin3, suffices, frame, done, whole, sub, look_in, stop, fld, load, of_opd, addr, first, blocks, exec, returns, enter, alloc_all, pass_all, free_all, look_at, get, through, sets, sets_last, is, env, after, mem, block_ptr, ptr_val, Val, vptr, RefMutOf, plain, nothing, Clauses, Ended, Meets, says, needs, Stays, walk_of, ends_at, walk_Meets, X, R, P, τ, feq_i, agg, store_in, look, and_then, no_more, assigns, yes, RattleType, stay_ref, Goes-ref, Ptr-Good, Vacant, vacant_val, vacant_ty, vacant_typed, Vacant-made, pair_val, pair_Typed, pair_of, Tuple, Fn, inst_fn, Tables, tables, tables_of, spared, entered, run_framed, triple_of, closing, Bx, args}
 use Rattle.ioa_rawlog.specs.contracts.nodes.Node as Block
 use Rattle.ioa_rawlog.specs.Links.{Link, links_of, IsChained}
 use Rattle.ioa_rawlog.proofs.Chained.{chain_had, chain_rest}
-use Rattle.ioa_rawlog.proofs.Owned.{uncons, Hd, D, Nr, Held, One, cons_out, nodes_opens, nodes_closes, one_opens}
+use Rattle.ioa_rawlog.proofs.Owned.{Hd, D, Nr, Held, One, cons_out, nodes_opens, nodes_closes, one_opens}
 use Rattle.ioa_rawlog.proofs.Written.{node_unmade, block_back}
 use Rattle.ioa_rawlog.proofs.Entries.{held_self, Had, held}
 use Rattle.ioa_rawlog.specs.contracts.nodes.Nodes.unlink_first.Key.{name as #self}
