@@ -16,7 +16,7 @@ use ioa_rows::answer_script;
 use ioa_sharing::{Maker, MakerOf, Origin};
 use session::BookRows;
 use std::alloc::Global;
-use std::io::Write;
+use std::io::Stdout;
 use std::marker::Brand;
 use std::{env, io};
 
@@ -27,22 +27,17 @@ fn main(rt: HostRuntime) -> io::Result<()> {
 }
 
 /// Answers a script with books of one maker.
-fn answer_once<W: Write>(
-    alloc: Global,
-    words: &[String],
-    script: &str,
-    out: &mut W,
-) -> io::Result<()> {
-    answer_by::<Brand, W>(alloc, Maker::new(), words, script, out)
+fn answer_once(alloc: Global, words: &[String], script: &str, out: &mut Stdout) -> io::Result<()> {
+    answer_by::<Brand>(alloc, Maker::new(), words, script, out)
 }
 
 /// The same by a maker of this origin.
-fn answer_by<O: Origin, W: Write>(
+fn answer_by<O: Origin>(
     alloc: Global,
     maker: Maker,
     words: &[String],
     script: &str,
-    out: &mut W,
+    out: &mut Stdout,
 ) -> io::Result<()>
     requires { maker_name maker ≡ O.name }
 {
