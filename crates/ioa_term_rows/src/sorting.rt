@@ -7,8 +7,9 @@ use crate::terms::{around_at, whole_term};
 use crate::written::{push_sort, push_term};
 use ioa_rows::CommandFault;
 use ioa_sort_rules::Refusal;
-use ioa_sorts::{Typed, fit, infer};
+use ioa_sorts::{fit, infer};
 use ioa_terms::{Checked, Shape};
+use ioa_typed::Typed;
 use std::alloc::{AllocError, Global};
 
 /// The sort that a term has of its own, or its refusal.
