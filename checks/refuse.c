@@ -1,0 +1,50 @@
+// Stands before the C library's memory, as LD_PRELOAD: refuses one request of the program, the one whose number the
+// variable REFUSE has, counted from 1. At the end it writes `requests N live M` on standard error: how many requests
+// there were, and how many blocks were not given back.
+#define _GNU_SOURCE
+#include <dlfcn.h>
+#include <stdlib.h>
+#include <unistd.h>
+#include <stdio.h>
+#include <string.h>
+
+static long requests, live, refused;
+
+static int is_refused(void) { return ++requests == refused; }
+
+void *malloc(size_t size) {
+    static void *(*next)(size_t);
+    if (!next) next = dlsym(RTLD_NEXT, "malloc");
+    if (is_refused()) return NULL;
+    void *block = next(size);
+    live += block != NULL;
+    return block;
+}
+
+void *realloc(void *block, size_t size) {
+    static void *(*next)(void *, size_t);
+    if (!next) next = dlsym(RTLD_NEXT, "realloc");
+    if (is_refused()) return NULL;
+    void *moved = next(block, size);
+    live += block == NULL && moved != NULL;
+    return moved;
+}
+
+void free(void *block) {
+    static void (*next)(void *);
+    if (!next) next = dlsym(RTLD_NEXT, "free");
+    live -= block != NULL;
+    next(block);
+}
+
+__attribute__((constructor)) static void begin(void) {
+    const char *number = getenv("REFUSE");
+    requests = live = 0;
+    refused = number ? strtol(number, NULL, 10) : 0;
+}
+
+__attribute__((destructor)) static void end(void) {
+    char line[64];
+    int length = snprintf(line, sizeof line, "requests %ld live %ld\n", requests, live);
+    if (write(2, line, (size_t)length) != length) _exit(3);
+}
