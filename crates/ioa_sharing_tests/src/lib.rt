@@ -1,4 +1,4 @@
-//! Tests of shared values: whether two owners own one, and what a value costs that is shared.
+//! Tests of shared values: whether two owners own one value.
 //!
 //! **A crate of its own**, since a crate with tests is proved twice, and no program shows who owns what.
 //!
