@@ -27,16 +27,21 @@ fn main(rt: HostRuntime) -> io::Result<()> {
 }
 
 /// Answers a script with books of one maker.
-fn answer_once(alloc: Global, words: &[String], script: &str, out: &mut Stdout) -> io::Result<()> {
+fn answer_once(
+    alloc: Global,
+    words: &[String],
+    script: &String,
+    out: &mut Stdout,
+) -> io::Result<()> {
     answer_by::<Brand>(alloc, Maker::new(), words, script, out)
 }
 
-/// The same by a maker of this origin.
+/// The same by a maker of this origin. It takes no `&str`, since its caller could not say then what the origin is.
 fn answer_by<O: Origin>(
     alloc: Global,
     maker: Maker,
     words: &[String],
-    script: &str,
+    script: &String,
     out: &mut Stdout,
 ) -> io::Result<()>
     requires { maker_name maker ≡ O.name }
