@@ -25,7 +25,7 @@ use std::alloc::{AllocError, Global};
 use std::sync::Arc;
 
 /// The greatest number of channels.
-pub(crate) const MOST_CHANNELS: usize = 256;
+pub const MOST_CHANNELS: usize = 256;
 
 /// The channels of a system section, in the order of their declaration. `Limit` (31) if there are more than
 /// `MOST_CHANNELS`, `Twice` (21) if two are between the same nodes in the same direction.

@@ -17,6 +17,8 @@ mod nodes;
 mod scripts;
 mod values;
 
+pub use channels::MOST_CHANNELS;
 pub use checking::check;
 pub use fault::CheckFault;
 pub use laws::check_law;
+pub use nodes::MOST_NODES;

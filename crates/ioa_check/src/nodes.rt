@@ -28,7 +28,7 @@ use std::alloc::{AllocError, Global};
 use std::sync::Arc;
 
 /// The greatest number of nodes.
-pub(crate) const MOST_NODES: usize = 64;
+pub const MOST_NODES: usize = 64;
 
 /// What the nodes and scripts of a system section read.
 #[derive(Drop)]

@@ -14,6 +14,8 @@ ghost use Rattle.ioa_text_reader.specs.Texts.{length_limit};
 ghost use Rattle.ioa_term_reader.specs.declared.reading.TheConstants.{BRACKET_LIMIT};
 ghost use Rattle.ioa_source.specs.declared.height.TheConstants.{HEIGHT_LIMIT};
 ghost use Rattle.ioa_types.specs.declared.height.TheConstants.{SHAPE_LIMIT};
+ghost use Rattle.ioa_check.specs.declared.channels.TheConstants.{MOST_CHANNELS};
+ghost use Rattle.ioa_check.specs.declared.nodes.TheConstants.{MOST_NODES};
 ghost use Rattle.ioa_schedules.specs.declared.turn.TheConstants.{TURN_LIMIT};
 ghost use Rattle.ioa_solo.specs.declared.options.TheConstants.{GREATEST_STEPS, GREATEST_ATTEMPTS};
 ghost use Rattle.ioa_solo.specs.declared.options.TheConstants.{DEFAULT_STEPS, DEFAULT_ATTEMPTS};
@@ -27,6 +29,8 @@ pub fn limits_law()
     ensures brackets { BRACKET_LIMIT ≡ 128 }
     ensures heights { HEIGHT_LIMIT ≡ 64 }
     ensures shapes { SHAPE_LIMIT ≡ 64 }
+    ensures nodes { MOST_NODES ≡ 64 }
+    ensures channels { MOST_CHANNELS ≡ 256 }
     ensures turn { TURN_LIMIT ≡ 1000 }
     ensures steps { GREATEST_STEPS ≡ 1000000 }
     ensures default_steps { DEFAULT_STEPS ≡ 10000 }
