@@ -33,8 +33,8 @@ use Rattle.ioa_compose.specs.declared.configuration.Conf.{Conf}
 use Rattle.ioa_compose.specs.declared.configuration.Conf.TheVariants.{Node, Queue}
 use Rattle.ioa_compose.proofs.Components.{component_of-find_conf}
 use Rattle.ioa_sorts.proofs.Lookups.{found_has}
-use Rattle.ioa_solo.specs.Inboxes.{inboxes_in}
-use Rattle.ioa_solo.proofs.SeenInboxes.{inbox_waits, no_inbox}
+use Rattle.ioa_turns.specs.Inboxes.{inboxes_in}
+use Rattle.ioa_turns.proofs.SeenInboxes.{inbox_waits, no_inbox}
 use Rattle.ioa_accepted.specs.Inboxes.{queue_messages, channel_messages, inbox_term, block_reads}
 use Rattle.ioa_accepted.specs.Shaped.{FitsVariable, IsItemTo, IsShapedQueue, IsShapedConf, AreShaped}
 use Rattle.ioa_accepted.proofs.Accepted.{is_accepted}

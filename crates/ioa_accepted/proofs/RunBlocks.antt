@@ -35,9 +35,9 @@ use Rattle.ioa_compose.proofs.Starts.{start_state}
 use Rattle.ioa_record.specs.declared.ending.NodeFault.{NodeFault}
 use Rattle.ioa_record.specs.declared.ending.NodeFault.TheVariants.{Differs}
 use Rattle.ioa_schedules.specs.Turns.{TurnEnd, TurnResult, turn, turn_answer, turn_limit, numbers_met_by_turn}
-use Rattle.ioa_solo.specs.Inboxes.{inboxes_seen}
-use Rattle.ioa_solo.specs.NodeTurns.{PlainProgress, own_values, reached, block_turn, shows_program, turn_on, turn_at}
-use Rattle.ioa_solo.specs.Solo.{progress_at, rounds}
+use Rattle.ioa_turns.specs.Inboxes.{inboxes_seen}
+use Rattle.ioa_turns.specs.NodeTurns.{progress_at, PlainProgress, own_values, reached, block_turn, shows_program, turn_on, turn_at}
+use Rattle.ioa_solo.specs.Solo.{rounds}
 use Rattle.ioa_solo.proofs.KeptByRuns.{AreKept, rounds_keep}
 use Rattle.ioa_accepted.specs.BlockStates.{IsBlockState, AreBlockStates}
 use Rattle.ioa_accepted.specs.Shaped.{FitsVariable, FitInboxes, IsShapedNode, IsShapedConf, AreShaped}
@@ -138,11 +138,11 @@ module _ (x : SourceText) (s : SystemParts) (h : IsSystemOf x s) where
 
   blocks_are_kept : AreKept HoldsStates HoldsNode
   blocks_are_kept = record {
-    step = λ a cs ds k e. record {
-      joint = joint_state_after a cs ds k.joint (is_joint_step a cs ds k.joint e).0;
-      shaped = joint_shaped x s h a cs ds k.joint k.shaped (is_joint_step a cs ds k.joint e).0;
+    step = λ entry cs ds k e. record {
+      joint = joint_state_after entry cs ds k.joint (is_joint_step entry cs ds k.joint e).0;
+      shaped = joint_shaped x s h entry cs ds k.joint k.shaped (is_joint_step entry cs ds k.joint e).0;
     };
-    beside = λ a cs ds p k e n. record { present = n.present; block = n.block };
+    beside = λ entry cs ds p k e n. record { present = n.present; block = n.block };
     turn = turn_kept;
     fault = λ cs p f k n e. record { present = n.present; block = n.block };
     past = λ cs p n. record { present = n.present; block = block_passes p.program p.todo p.own n.block };

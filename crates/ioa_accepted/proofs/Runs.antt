@@ -12,6 +12,7 @@ use Rattle.ioa_source.specs.Sides.{SourceText}
 use Rattle.ioa_system.specs.Systems.{SystemParts}
 use Rattle.ioa_check.specs.Systems.{IsSystemOf}
 use Rattle.ioa_check.proofs.Declared.{declared_once}
+use Rattle.ioa_transitions.specs.Entries.{PlainEntry, entry_of}
 use Rattle.ioa_compose.specs.Automata.{IsExecution}
 use Rattle.ioa_compose.specs.Composition.{component_of, component_names, find_conf}
 use Rattle.ioa_compose.specs.Executions.{replay}
@@ -57,66 +58,66 @@ all_found P (c ∷ cs) d f = (f c (rw (same_component-itself (component_of c)) r
         rw (turned (component_of c) (component_of e) apart) found
 
 module _ (x : SourceText) (s : SystemParts) (h : IsSystemOf x s) where
-  module _ (a : Action) (cs next : List Conf) (state : IsJointState cs) (g : AreShaped s cs) (step : IsJointStep IsStep a cs next) where
+  module _ (entry : PlainEntry) (cs next : List Conf) (state : IsJointState cs) (g : AreShaped s cs) (step : IsJointStep IsStep entry cs next) where
     old_shaped : (k : Component) (c : Conf) → find_conf k cs ≡ Some c → IsShapedConf s c
     old_shaped k c found = found_has (IsShapedConf s) (λ b. same_component k (component_of b)) cs c g found
 
     -- a message that is sent
-    message_sent : (m : Data) (i j : ℤ) → a ≡ Send m i j → (c : declaration.Channel) → Contains s.channels c → c.from ≡ i → c.to ≡ j → IsMessageTo s j m
+    message_sent : (m : Data) (i j : ℤ) → entry.action ≡ Send m i j → (c : declaration.Channel) → Contains s.channels c → c.from ≡ i → c.to ≡ j → IsMessageTo s j m
     message_sent m i j e c present from to = sender (step.participants (component.Node i) own)
       where
-        own : takes_part (component.Node i) a ≡ true
+        own : takes_part (component.Node i) entry.action ≡ true
         own = rw (e, (Decides-int_eq i i).1 refl) refl
 
-        by_node : (o n : Conf) → component_of o ≡ component.Node i → IsShapedConf s o → IsStep (Send m i j) o n → IsMessageTo s j m
+        by_node : (o n : Conf) → component_of o ≡ component.Node i → IsShapedConf s o → IsStep (entry_of (Send m i j)) o n → IsMessageTo s j m
         by_node (Node o) (Node n) name shaped sent =
             let number : o.program.node ≡ i = cc in
             message_fits x s h m i j c present from to o n shaped number sent
         by_node (Node o) (Queue r) name shaped sent = absurd sent
         by_node (Queue q) n name shaped sent = absurd (subst (λ (k : Component). IsShapedQueue s k q.items) name shaped)
 
-        sender : TakesStep IsStep a (component.Node i) cs next → IsMessageTo s j m
+        sender : TakesStep IsStep entry (component.Node i) cs next → IsMessageTo s j m
         sender t =
             by_node t.old t.new (component_of-find_conf (component.Node i) cs t.old t.before) (old_shaped (component.Node i) t.old t.before)
-            (subst (λ (b : Action). IsStep b t.old t.new) e t.step_of)
+            (subst (λ (b : Action). IsStep (entry_of b) t.old t.new) e t.step_of)
 
     -- a step of any component
-    conf_shaped : (c d : Conf) → takes_part (component_of c) a ≡ true → IsShapedConf s c → IsStep a c d → IsShapedConf s d
-    conf_shaped (Node c) (Node d) part shaped taken = step_shaped x s a c d h shaped taken
+    conf_shaped : (c d : Conf) → takes_part (component_of c) entry.action ≡ true → IsShapedConf s c → IsStep entry c d → IsShapedConf s d
+    conf_shaped (Node c) (Node d) part shaped taken = step_shaped x s entry.action c d h shaped taken
     conf_shaped (Node c) (Queue r) part shaped taken = absurd taken
     conf_shaped (Queue q) (Node d) part shaped taken = absurd taken
-    conf_shaped (Queue q) (Queue r) part shaped taken = queue_shaped s a q r part message_sent shaped taken
+    conf_shaped (Queue q) (Queue r) part shaped taken = queue_shaped s entry.action q r part message_sent shaped taken
 
     -- a joint step
     pub joint_shaped : AreShaped s next
-    joint_shaped = all_found (IsShapedConf s) next (joint_state_after a cs next state step).once (λ d found. at d found (takes_part (component_of d) a) refl)
+    joint_shaped = all_found (IsShapedConf s) next (joint_state_after entry cs next state step).once (λ d found. at d found (takes_part (component_of d) entry.action) refl)
       where
         of_some : (c d : Conf) → Some c ≡ Some d → c ≡ d
         of_some c d e = cc
 
-        own : (d : Conf) → takes_part (component_of d) a ≡ true → find_conf (component_of d) next ≡ Some d → TakesStep IsStep a (component_of d) cs next → IsShapedConf s d
+        own : (d : Conf) → takes_part (component_of d) entry.action ≡ true → find_conf (component_of d) next ≡ Some d → TakesStep IsStep entry (component_of d) cs next → IsShapedConf s d
         own d part found t =
             let same : t.new ≡ d = of_some t.new d (sym t.after ∙ found) in
             let name : component_of t.old ≡ component_of d = component_of-find_conf (component_of d) cs t.old t.before in
             subst (λ (c : Conf). IsShapedConf s c) same
-            (conf_shaped t.old t.new (subst (λ (k : Component). takes_part k a ≡ true) (sym name) part) (old_shaped (component_of d) t.old t.before) t.step_of)
+            (conf_shaped t.old t.new (subst (λ (k : Component). takes_part k entry.action ≡ true) (sym name) part) (old_shaped (component_of d) t.old t.before) t.step_of)
 
-        at : (d : Conf) → find_conf (component_of d) next ≡ Some d → (b : Bool) → takes_part (component_of d) a ≡ b → IsShapedConf s d
+        at : (d : Conf) → find_conf (component_of d) next ≡ Some d → (b : Bool) → takes_part (component_of d) entry.action ≡ b → IsShapedConf s d
         at d found true part = own d part found (step.participants (component_of d) part)
         at d found false apart = old_shaped (component_of d) d (sym (step.others (component_of d) apart) ∙ found)
 
   -- an execution
-  pub execution_shaped : (actions : List Action) (cs next : List Conf) → IsJointState cs → AreShaped s cs → IsExecution (IsJointStep IsStep) cs actions next → AreShaped s next
+  pub execution_shaped : (entries : List PlainEntry) (cs next : List Conf) → IsJointState cs → AreShaped s cs → IsExecution (IsJointStep IsStep) cs entries next → AreShaped s next
   execution_shaped [] cs next state g e = subst (λ (ds : List Conf). AreShaped s ds) e g
-  execution_shaped (a ∷ more) cs next state g e =
-      execution_shaped more e.0 next (joint_state_after a cs e.0 state e.1) (joint_shaped a cs e.0 state g e.1) e.2
+  execution_shaped (entry ∷ more) cs next state g e =
+      execution_shaped more e.0 next (joint_state_after entry cs e.0 state e.1) (joint_shaped entry cs e.0 state g e.1) e.2
 
 -- a replay from the start
-pub replay_shaped : (x : SourceText) (s : SystemParts) (actions : List Action) (cs : List Conf) → IsSystemOf x s → replay actions (start s) ≡ Some cs → AreShaped s cs
-replay_shaped x s actions cs h e =
+pub replay_shaped : (x : SourceText) (s : SystemParts) (entries : List PlainEntry) (cs : List Conf) → IsSystemOf x s → replay entries (start s) ≡ Some cs → AreShaped s cs
+replay_shaped x s entries cs h e =
     let state = start_state s (declared_once x s h) in
-    execution_shaped x s h actions (start s) cs state (start_shaped x s h) (replays actions (start s) cs state e)
+    execution_shaped x s h entries (start s) cs state (start_shaped x s h) (replays entries (start s) cs state e)
 
 -- and an execution from it
-pub run_shaped : (x : SourceText) (s : SystemParts) (actions : List Action) (cs : List Conf) → IsSystemOf x s → IsExecution (IsJointStep IsStep) (start s) actions cs → AreShaped s cs
-run_shaped x s actions cs h e = execution_shaped x s h actions (start s) cs (start_state s (declared_once x s h)) (start_shaped x s h) e
+pub run_shaped : (x : SourceText) (s : SystemParts) (entries : List PlainEntry) (cs : List Conf) → IsSystemOf x s → IsExecution (IsJointStep IsStep) (start s) entries cs → AreShaped s cs
+run_shaped x s entries cs h e = execution_shaped x s h entries (start s) cs (start_state s (declared_once x s h)) (start_shaped x s h) e

@@ -31,7 +31,7 @@ use Rattle.ioa_channels.specs.declared.queue.Item.{Item}
 use Rattle.ioa_channels.specs.declared.queue.Item.TheVariants.{Message, Stimulus}
 use Rattle.ioa_compose.specs.declared.configuration.Conf.{Conf}
 use Rattle.ioa_compose.specs.declared.configuration.Conf.TheVariants.{Node, Queue}
-use Rattle.ioa_solo.specs.Inboxes.{inbox_of, inbox_at, inboxes_in, inboxes_seen}
+use Rattle.ioa_turns.specs.Inboxes.{inbox_of, inbox_at, inboxes_in, inboxes_seen}
 use Rattle.ioa_accepted.specs.Shaped.{FitInboxes, IsMessageTo, IsItemTo, IsShapedQueue, IsShapedConf, AreShaped}
 use Rattle.ioa_accepted.proofs.Accepted.{IsAcceptedProgram, is_accepted}
 use Rattle.ioa_accepted.proofs.Messages.{first_named}

@@ -6,7 +6,7 @@ use Rattle.ioa_operators.specs.declared.shape.Shape.{Shape}
 use Rattle.ioa_terms.specs.PlainTerm.{PlainStatements}
 use Rattle.ioa_system.specs.InView.{block_bindings}
 use Rattle.ioa_system.specs.Parts.{Parts, message_shape}
-use Rattle.ioa_solo.specs.NodeTurns.{PlainProgress}
+use Rattle.ioa_turns.specs.NodeTurns.{PlainProgress}
 use Rattle.ioa_accepted.specs.Shaped.{FitsVariable, FitInboxes}
 use Rattle.ioa_accepted.specs.WellSorted.{AreBlockWellSorted}
 

@@ -13,7 +13,7 @@ use Rattle.ioa_channels.specs.Queues.{messages_of}
 use Rattle.ioa_compose.specs.Composition.{find_conf}
 use Rattle.ioa_compose.specs.declared.configuration.Conf.{Conf}
 use Rattle.ioa_compose.specs.declared.configuration.Conf.TheVariants.{Node, Queue}
-use Rattle.ioa_solo.specs.Inboxes.{inboxes_seen}
+use Rattle.ioa_turns.specs.Inboxes.{inboxes_seen}
 
 -- the messages in a queue that has no others, from the first to be taken to the last (Lynch 14.1)
 abbrev pub queue_messages : Conf → Option Data

@@ -17,14 +17,16 @@ ghost use Rattle.ioa_check.specs.Systems.{IsSystemOf};
 ghost use Rattle.ioa_compose.specs.Automata.{IsExecution};
 ghost use Rattle.ioa_compose.specs.Executions.{replay};
 ghost use Rattle.ioa_compose.specs.JointStep.{IsJointStep};
+ghost use Rattle.ioa_transitions.specs.Entries.{PlainEntry};
 ghost use Rattle.ioa_transitions.specs.NodeState.{NodeState};
 ghost use Rattle.ioa_transitions.specs.NodeStep.{IsNodeStep};
 ghost use Rattle.ioa_compose.specs.Start.{start};
 ghost use Rattle.ioa_compose.specs.Steps.{IsStep};
 ghost use Rattle.ioa_compose.specs.declared.configuration.Conf.{Conf};
 ghost use Rattle.ioa_accepted.specs.Awaited.{AreMessagesAwaited};
-ghost use Rattle.ioa_solo.specs.Inboxes.{inboxes_seen};
-ghost use Rattle.ioa_solo.specs.Solo.{progress_at, rounds};
+ghost use Rattle.ioa_turns.specs.Inboxes.{inboxes_seen};
+ghost use Rattle.ioa_turns.specs.NodeTurns.{progress_at};
+ghost use Rattle.ioa_solo.specs.Solo.{rounds};
 ghost use Rattle.ioa_accepted.specs.BlockStates.{AreBlockStates, IsBlockState};
 ghost use Rattle.ioa_accepted.specs.Inboxes.{block_reads, channel_messages, inbox_term};
 ghost use Rattle.ioa_accepted.specs.Shaped.{FitsVariable, FitInboxes, IsShapedNode, AreShaped};
@@ -37,10 +39,10 @@ pub fn shapes_kept_law()
     ensures start { (x : SourceText) (s : SystemParts) → IsSystemOf x s → AreShaped s (start s) }
     ensures step { (x : SourceText) (s : SystemParts) (a : Action) (c d : NodeState) → IsSystemOf x s →
         IsShapedNode s c → IsNodeStep a c d → IsShapedNode s d }
-    ensures execution { (x : SourceText) (s : SystemParts) (actions : List Action) (cs : List Conf) →
-        IsSystemOf x s → IsExecution (IsJointStep IsStep) (start s) actions cs → AreShaped s cs }
-    ensures replay { (x : SourceText) (s : SystemParts) (actions : List Action) (cs : List Conf) →
-        IsSystemOf x s → replay actions (start s) ≡ Some cs → AreShaped s cs }
+    ensures execution { (x : SourceText) (s : SystemParts) (entries : List PlainEntry) (cs : List Conf) →
+        IsSystemOf x s → IsExecution (IsJointStep IsStep) (start s) entries cs → AreShaped s cs }
+    ensures replay { (x : SourceText) (s : SystemParts) (entries : List PlainEntry) (cs : List Conf) →
+        IsSystemOf x s → replay entries (start s) ≡ Some cs → AreShaped s cs }
 {}
 
 /// An accepted system meets no value of a wrong sort and no name without a slot. At a node with its declared shapes
@@ -49,8 +51,8 @@ pub fn shapes_kept_law()
 pub fn well_sorted_law()
     ensures node { (x : SourceText) (s : SystemParts) (c : NodeState) → IsSystemOf x s → IsShapedNode s c →
         IsNodeWellSorted c }
-    ensures replay { (x : SourceText) (s : SystemParts) (actions : List Action) (cs : List Conf) →
-        IsSystemOf x s → replay actions (start s) ≡ Some cs → AreConfsWellSorted cs }
+    ensures replay { (x : SourceText) (s : SystemParts) (entries : List PlainEntry) (cs : List Conf) →
+        IsSystemOf x s → replay entries (start s) ≡ Some cs → AreConfsWellSorted cs }
 {}
 
 /// A node of an accepted system has a rule for each message on a channel to it, which takes the message whatever the
@@ -59,8 +61,8 @@ pub fn well_sorted_law()
 pub fn receive_law()
     ensures shaped { (x : SourceText) (s : SystemParts) (cs : List Conf) → IsSystemOf x s → AreShaped s cs →
         AreMessagesAwaited cs }
-    ensures replay { (x : SourceText) (s : SystemParts) (actions : List Action) (cs : List Conf) →
-        IsSystemOf x s → replay actions (start s) ≡ Some cs → AreMessagesAwaited cs }
+    ensures replay { (x : SourceText) (s : SystemParts) (entries : List PlainEntry) (cs : List Conf) →
+        IsSystemOf x s → replay entries (start s) ≡ Some cs → AreMessagesAwaited cs }
 {}
 
 /// The variables of a schedule block keep the shapes of their sorts (profile). At the start of an accepted system they

@@ -8,7 +8,7 @@ use Rattle.ioa_actions.specs.declared.action.Action.{Action}
 use Rattle.ioa_actions.specs.declared.component.Component.{Component}
 use Rattle.ioa_actions.specs.declared.fault.StepFault.TheVariants.{NoChannel}
 use Rattle.ioa_actions.proofs.SameComponents.{Decides-same_component}
-use Rattle.ioa_compose.specs.Composition.{find_conf, own_steps}
+use Rattle.ioa_compose.specs.Composition.{find_conf, picks_of}
 use Rattle.ioa_compose.specs.Participants.{participants_of}
 use Rattle.ioa_book.specs.Looks.{PlainSnapshot}
 use Rattle.ioa_commits.specs.Proposals.{plain_proposal}
@@ -50,7 +50,7 @@ found_queue k rs q found = found ∙ ap (λ (i : Component). find_read i rs) (sy
 module _ (a : Action) (s : PlainSnapshot) where
   -- the proposal of an action in which a node alone takes part
   pub alone : (k : Component) (r : PlainVersionedConf) → participants_of a ≡ k ∷ [] → find_read k s.reads ≡ Some r →
-      step_answer a s ≡ and_then (own_steps a (Some r.conf ∷ [])) (λ ds. Ok (plain_proposal a s.length (r ∷ [])))
+      step_answer a s ≡ and_then (picks_of a (Some r.conf ∷ [])) (λ t. Ok (plain_proposal t.0 s.length (r ∷ [])))
   alone k r parts found = rw (parts, found_conf k s.reads, found) refl
 
   pub alone_missing : (k : Component) → participants_of a ≡ k ∷ [] → find_read k s.reads ≡ None → step_answer a s ≡ Err NoChannel
@@ -58,7 +58,7 @@ module _ (a : Action) (s : PlainSnapshot) where
 
   -- and of one in which a queue and a node take part
   pub with_queue : (k j : Component) (q r : PlainVersionedConf) → participants_of a ≡ k ∷ j ∷ [] → find_read k s.reads ≡ Some q → find_read j s.reads ≡ Some r →
-      step_answer a s ≡ and_then (own_steps a (Some q.conf ∷ Some r.conf ∷ [])) (λ ds. Ok (plain_proposal a s.length (q ∷ r ∷ [])))
+      step_answer a s ≡ and_then (picks_of a (Some q.conf ∷ Some r.conf ∷ [])) (λ t. Ok (plain_proposal t.0 s.length (q ∷ r ∷ [])))
   with_queue k j q r parts first second = rw (parts, found_conf k s.reads, found_conf j s.reads, first, second) refl
 
   pub queue_missing : (k j : Component) → participants_of a ≡ k ∷ j ∷ [] → find_read k s.reads ≡ None → step_answer a s ≡ Err NoChannel

@@ -13,8 +13,8 @@ use Rattle.ioa_actions.specs.declared.action.Action.TheVariants.{Send, Receive, 
 use Rattle.ioa_actions.specs.declared.component.Component.{Component}
 use Rattle.ioa_actions.specs.declared.component.Component.TheVariants as component
 use Rattle.ioa_actions.proofs.SameComponents.{Decides-same_component, same_component-itself}
-use Rattle.ioa_index.specs.Own.{concerns}
-use Rattle.ioa_compose.specs.Composition.{changes_of, component_of, find_conf, find_confs}
+use Rattle.ioa_transitions.specs.Entries.{PlainEntry}
+use Rattle.ioa_compose.specs.Composition.{component_of, find_conf, find_confs, picks_of}
 use Rattle.ioa_compose.specs.Participants.{participants_of}
 use Rattle.ioa_compose.specs.declared.configuration.Conf.{Conf}
 use Rattle.ioa_compose.proofs.Components.{component_of-find_conf}
@@ -22,6 +22,7 @@ use Rattle.ioa_compose.proofs.SameConfs.{same_conf_is}
 use Rattle.ioa_commits.specs.Books.{PlainBook, held_of, states_held}
 use Rattle.ioa_book.specs.Looks.{snapshot_after}
 use Rattle.ioa_commits.specs.Commits.{first_refusal, full, refusal_by, refusal_of}
+use Rattle.ioa_commits.specs.Own.{concerns}
 use Rattle.ioa_commits.specs.Proposals.{plain_proposal}
 use Rattle.ioa_book.specs.Proposals.{find_read, one_or_none, proposal_answer, reads_at, reads_held}
 use Rattle.ioa_commits.specs.Versions.{PlainVersionedConf, read_confs, with_version}
@@ -35,7 +36,7 @@ pub confs_shown : (b : PlainBook) (n : ℤ) → read_confs (snapshot_after n b.s
 confs_shown b n = confs_among b.log (filter (λ c. concerns n (component_of c)) (states_held b))
 
 -- each component that the node has to do with is read as it is
-read_seen : (n : ℤ) (log : List Action) (k : Component) (cs : List Conf) → concerns n k ≡ true → find_read k (map (with_version log) (filter (λ c. concerns n (component_of c)) cs)) ≡ option_map (with_version log) (find_conf k cs)
+read_seen : (n : ℤ) (log : List PlainEntry) (k : Component) (cs : List Conf) → concerns n k ≡ true → find_read k (map (with_version log) (filter (λ c. concerns n (component_of c)) cs)) ≡ option_map (with_version log) (find_conf k cs)
 read_seen n log k [] own = refl
 read_seen n log k (c ∷ cs) own = by_own (concerns n (component_of c)) refl (read_seen n log k cs own)
   where
@@ -57,7 +58,7 @@ read_seen n log k (c ∷ cs) own = by_own (concerns n (component_of c)) refl (re
         by_other false same = further
 
 -- the configuration is that of what was read
-conf_of_read : (log : List Action) (o : Option Conf) → option_map (λ r. r.conf) (option_map (with_version log) o) ≡ o
+conf_of_read : (log : List PlainEntry) (o : Option Conf) → option_map (λ r. r.conf) (option_map (with_version log) o) ≡ o
 conf_of_read log None = refl
 conf_of_read log (Some c) = refl
 
@@ -88,7 +89,7 @@ all_read b n (k ∷ ks) own = λ i. one_or_none (read_seen n b.log k (states_hel
 
 -- so a proposal is made of what the book holds
 pub fresh_proposal : (b : PlainBook) (n : ℤ) (a : Action) → int_eq (node_of a) n ≡ true →
-    proposal_answer a (snapshot_after n b.start b.log) ≡ and_then (changes_of a (find_confs (participants_of a) (states_held b))) (λ ds. Ok (plain_proposal a (length b.log) (reads_held b (participants_of a))))
+    proposal_answer a (snapshot_after n b.start b.log) ≡ and_then (picks_of a (find_confs (participants_of a) (states_held b))) (λ t. Ok (plain_proposal t.0 (length b.log) (reads_held b (participants_of a))))
 fresh_proposal b n a h =
     let one : node_of a ≡ n = by_node ((Decides-same_component (component.Node (node_of a)) (component.Node n)).0 h) in
     let own : AllByRecursion (λ k. concerns n k ≡ true) (participants_of a) = subst (λ (m : ℤ). AllByRecursion (λ k. concerns m k ≡ true) (participants_of a)) one (own_parts a) in
@@ -98,7 +99,7 @@ fresh_proposal b n a h =
     by_node e = cc
 
 -- what is held stands
-one_stands : (test : Test) (log : List Action) (c : Conf) → refusal_by test (with_version log c) (Some (with_version log c)) ≡ None
+one_stands : (test : Test) (log : List PlainEntry) (c : Conf) → refusal_by test (with_version log c) (Some (with_version log c)) ≡ None
 one_stands Known log c = refl
 one_stands Current log c = rw (nat_eq_equiv.refl (with_version log c).version) refl
 one_stands Same log c = rw ((same_conf_is c c).1 refl) refl

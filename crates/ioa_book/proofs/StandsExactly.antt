@@ -14,7 +14,7 @@ use Rattle.ioa_compose.proofs.SameConfs.{same_conf_is}
 use Rattle.ioa_commits.specs.Books.{PlainBook, held_of, states_held}
 use Rattle.ioa_commits.specs.Commits.{StandsIn, differs_by, first_refusal, full, refusal_by, refusal_of, stale_by, unknown_by}
 use Rattle.ioa_commits.specs.Versions.{PlainVersionedConf, read_component, version, with_version}
-use Rattle.ioa_commits.specs.declared.outcome.Refusal.TheVariants.{Differs, Stale}
+use Rattle.ioa_commits.specs.declared.outcome.CommitRefusal.TheVariants.{Differs, Stale}
 use Rattle.ioa_commits.specs.declared.standing.Test.{Test}
 use Rattle.ioa_commits.specs.declared.standing.Test.TheVariants.{Known, Current, Same}
 use Rattle.ioa_commits.proofs.Commits.{none_first, room_left}

@@ -1,13 +1,11 @@
 -- What is true of every book (Lynch 8.1, 8.2 and 14.1).
-use Rattle.std.specs.Prelude.{◌≡◌, ◌≤◌, List, length, Some}
-use Rattle.ioa_actions.specs.declared.action.Action.{Action}
+use Rattle.std.specs.Prelude.{◌≡◌, ◌≤◌, length, Some}
 use Rattle.ioa_compose.specs.Automata.{IsExecution, ProjectsOnEach}
 use Rattle.ioa_compose.specs.Channels.{HandsOutPrefix}
 use Rattle.ioa_compose.specs.Executions.{replay}
 use Rattle.ioa_compose.specs.JointStep.{HasAnswer, IsJointState, IsJointStep}
 use Rattle.ioa_compose.specs.Scripts.{TakesInOrder}
 use Rattle.ioa_compose.specs.Steps.{IsStep}
-use Rattle.ioa_compose.specs.declared.configuration.Conf.{Conf}
 use Rattle.ioa_commits.specs.Books.{PlainBook, states_held}
 
 -- the log of a book
@@ -24,10 +22,3 @@ pub record IsLawful (b : PlainBook) : Type 0 where
   pub channels : IsJointState b.start → HandsOutPrefix b.start b.log (states_held b)
   -- and each script a beginning of what was in it (profile)
   pub scripts : IsJointState b.start → TakesInOrder b.start b.log (states_held b)
-
--- an execution that a book has recorded (Lynch 8.1): its schedule, which is no longer than the limit, leads from the
--- start to these states
-pub record IsExecutionOf (b : PlainBook) (schedule : List Action) (states : List Conf) : Type 0 where
-  pub schedule_is : schedule ≡ b.log
-  pub leads : replay schedule b.start ≡ Some states
-  pub within : length schedule ≤ b.limit

@@ -1,12 +1,12 @@
 -- Looks at a node (profile): what a node has to do with, as a book holds it.
 use Rattle.std.specs.Prelude.{◌≡◌, ℕ, ℤ, if◌then◌else◌, List, length, map, filter, is_some, Result, Ok, Err, refl}
 use Rattle.std.specs.Coded.{Coded, code_by, coded×, coded_ℕ, coded_ℤ, coded_list}
-use Rattle.ioa_actions.specs.declared.action.Action.{Action}
 use Rattle.ioa_actions.specs.declared.component.Component.TheVariants.{Node}
-use Rattle.ioa_index.specs.Own.{concerns}
+use Rattle.ioa_transitions.specs.Entries.{PlainEntry}
 use Rattle.ioa_compose.specs.Composition.{component_of}
 use Rattle.ioa_compose.specs.declared.configuration.Conf.{Conf}
 use Rattle.ioa_commits.specs.Books.{PlainBook, held_of, states_after}
+use Rattle.ioa_commits.specs.Own.{concerns}
 use Rattle.ioa_commits.specs.Versions.{PlainVersionedConf, versioned_conf_code, with_version}
 use Rattle.ioa_book.specs.declared.outcome.LookFault.{LookFault}
 use Rattle.ioa_book.specs.declared.outcome.LookFault.TheVariants.{Unknown}
@@ -26,11 +26,11 @@ plain_snapshot_code =
     (λ s. (s.node, (s.length, s.reads))) (λ t. plain_snapshot t.0 t.1.0 t.1.1) (λ _. refl)
 
 -- the configurations after a schedule that a node has to do with, with their versions
-abbrev pub reads_after : ℤ → List Conf → List Action → List PlainVersionedConf
+abbrev pub reads_after : ℤ → List Conf → List PlainEntry → List PlainVersionedConf
 reads_after n start log = map (with_version log) (filter (λ c. concerns n (component_of c)) (states_after start log))
 
 -- the look at a node after a schedule
-abbrev pub snapshot_after : ℤ → List Conf → List Action → PlainSnapshot
+abbrev pub snapshot_after : ℤ → List Conf → List PlainEntry → PlainSnapshot
 snapshot_after n start log = plain_snapshot n (length log) (reads_after n start log)
 
 -- a look at a node of a book as it is

@@ -8,7 +8,7 @@ use Rattle.ioa_actions.specs.declared.action.Action.{Action}
 use Rattle.ioa_actions.specs.declared.component.Component.{Component}
 use Rattle.ioa_actions.specs.declared.fault.StepFault.{StepFault}
 use Rattle.ioa_actions.specs.declared.fault.StepFault.TheVariants.{NotMine}
-use Rattle.ioa_compose.specs.Composition.{changes_of, find_confs}
+use Rattle.ioa_compose.specs.Composition.{find_confs, picks_of}
 use Rattle.ioa_compose.specs.Participants.{participants_of}
 use Rattle.ioa_commits.specs.Books.{PlainBook, held_of}
 use Rattle.ioa_commits.specs.Proposals.{PlainProposal, plain_proposal}
@@ -30,11 +30,11 @@ reads_at [] rs = []
 reads_at (k ∷ ks) rs = one_or_none (find_read k rs) ++ reads_at ks rs
 
 -- the result of proposing an action of the node that was looked at: each participant has to be there and to have a step
--- (Lynch 8.2)
+-- (Lynch 8.2); it is of the entry that they pick
 abbrev pub step_answer : Action → PlainSnapshot → Result PlainProposal StepFault
 step_answer a s =
-    and_then (changes_of a (find_confs (participants_of a) (read_confs s.reads)))
-    (λ ds. Ok (plain_proposal a s.length (reads_at (participants_of a) s.reads)))
+    and_then (picks_of a (find_confs (participants_of a) (read_confs s.reads)))
+    (λ t. Ok (plain_proposal t.0 s.length (reads_at (participants_of a) s.reads)))
 
 -- the result of proposing an action on a look: it has to be the node's own
 abbrev pub proposal_answer : Action → PlainSnapshot → Result PlainProposal StepFault

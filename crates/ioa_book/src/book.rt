@@ -1,22 +1,25 @@
 //! The book of commits.
 
-ghost use Rattle.std.specs.Prelude.{◌≡◌, ◌≤◌, [], IfOk, IfErr, is_some};
+ghost use Rattle.std.specs.Prelude.{◌≡◌, ◌≤◌, ◌%◌, [], IfOk, IfErr, OnOk, Some, None, if◌then◌else◌, is_some, length, nat_eq};
 ghost use Rattle.ioa_values.specs.Outcome.{Answers};
 ghost use Rattle.ioa_actions.specs.declared.component.Component.{Component};
 ghost use Rattle.ioa_compose.specs.Start.{start};
-ghost use Rattle.ioa_commits.specs.Books.{held_of, plain_book};
+ghost use Rattle.ioa_commits.specs.Books.{held_of, plain_book, states_held};
 ghost use Rattle.ioa_commits.specs.Commits as commits;
-ghost use Rattle.ioa_book.specs.BookLaws.{IsExecutionOf, IsLawful};
+ghost use Rattle.ioa_commits.specs.Proposals.{reads_of};
+ghost use Rattle.ioa_commits.specs.Versions.{read_confs};
+ghost use Rattle.ioa_book.specs.BookLaws.{IsLawful};
 ghost use Rattle.ioa_book.specs.Looks as spec;
 
-use crate::copying::{copies_at, states_of};
-use crate::outcome::{Execution, LookFault};
+use crate::outcome::LookFault;
 use crate::snapshot::Snapshot;
-use ioa_actions::{Action, Component};
-use ioa_commits::{Committed, Journal, Proposal, Refused};
-use ioa_compose::start;
+use ioa_actions::Component;
+use ioa_commits::{Committed, Journal, Proposal, Refused, VersionedConf};
+use ioa_compose::{Conf, start};
+use ioa_rawlog::{RawLog, Spare};
 use ioa_sharing::{MakerOf, Origin};
 use ioa_system::System;
+use ioa_transitions::Entry;
 use std::alloc::{AllocError, Global};
 use std::marker::Model;
 
@@ -59,56 +62,118 @@ impl<O: Origin> Book<O> {
 
     /// The actions recorded so far. They are an execution that leads to the configurations held, whatever was looked
     /// at, proposed and refused in between.
-    pub fn log(&self) -> &[Action]
+    pub fn log(&self) -> &RawLog<Entry>
         ensures value { result.now ≡ self.now.log }
         ensures law { IsLawful self.now }
     {
         self.journal.log()
     }
 
+    /// The configurations at the start.
+    pub fn start(&self) -> &[Conf]
+        ensures { result.now ≡ self.now.start }
+    {
+        self.journal.start()
+    }
+
+    /// How many actions may be recorded.
+    pub fn limit(&self) -> usize
+        ensures { result ≡ self.now.limit }
+    {
+        self.journal.limit()
+    }
+
     /// A look at a node: it reads the configurations of the node, of the channels to it and from it, and of its script,
     /// with their versions, and how long the log is. `Unknown` (53) if there is no such node. Nothing is copied: the
-    /// look owns what it reads together with the book.
+    /// look owns what it reads together with the book. It asks for memory only if it reads more than 128 components.
     pub fn look(&self, alloc: Global, node: i64) -> Result<Snapshot<O>, LookFault>
         ensures { Answers LookFault.Memory (λ s. s) result (spec.look_answer self.now node) }
     {
-        if self.has_node(node) {
-            let slots = self.journal.index().own(node);
-            let reads = copies_at(alloc, slots, self.journal.held())?;
-            Ok(Snapshot::new(node, self.log().len(), reads))
+        let mut look = Snapshot::of_nothing(alloc, node);
+        self.look_again(&mut look)?;
+        Ok(look)
+    }
+
+    /// The same look once more, in its place: it shows the book as it is now. What is held as it was read stays; only of
+    /// what is another one now a new owner is taken. `Unknown` (53) if there is no such node, and then the look is as it
+    /// was. After `Memory` (3) it may be partly of before and partly of now.
+    pub fn look_again(&self, look: &mut Snapshot<O>) -> Result<(), LookFault>
+        ensures again { Answers LookFault.Memory (λ _. look.new) result (spec.look_answer self.now look.old.node) }
+        ensures node { look.new.node ≡ look.old.node }
+        ensures unknown { IfErr result (λ f. f ≡ LookFault.Unknown → look.new ≡ look.old) }
+    {
+        if self.has_node(look.node()) {
+            self.refresh(look)?;
+            Ok(())
         } else {
             Err(LookFault::Unknown)
         }
     }
 
-    /// Whether there is a node of this number.
+    /// Reads what the node of a look has to do with.
+    #[tactic(auto, using(crate::proofs::OwnReads::look_made))]
+    fn refresh(&self, look: &mut Snapshot<O>) -> Result<(), AllocError>
+        ensures again { OnOk result (spec.IsLookAt self.now look.old.node look.new) }
+        ensures node { look.new.node ≡ look.old.node }
+    {
+        let slots = self.journal.index().own(look.node());
+        look.refresh(self.log().len(), slots, self.journal.held())?;
+        Ok(())
+    }
+
+    /// Whether there is a node of this number. Mostly it stands in the slot of its number.
     fn has_node(&self, node: i64) -> bool
         ensures { result ≡ is_some (held_of self.now (Component.Node node)) }
     {
-        self.journal.find(Component::Node(node)).is_some()
+        let near = usize::try_from(node).unwrap_or(0);
+        let slot = self.journal.index().slot_of(Component::Node(node), near);
+        slot.is_some()
     }
 
     /// Commits a proposal: the new configurations are held, the versions of the participants rise by one, and the
     /// action is recorded. The reasons to refuse it are tested in this order: `Unknown` (53), `Stale` (50), `Differs`
-    /// (51), each of the first participant that it applies to, `Full` (52), and `Memory` (3). After a refusal the book
-    /// is as it was.
-    pub fn commit(&mut self, proposal: Proposal<O>) -> Result<Committed, Refused<O>>
-        ensures committed { IfOk result (λ c. commits.IsCommitted self.old proposal c.index c.action self.new) }
-        ensures refused { IfErr result (λ r. commits.IsRefused self.old proposal r.refusal r.proposal self.new) }
+    /// (51), each of the first participant that it applies to, and `Full` (52). After a refusal the book is as it was.
+    /// A commit takes no memory: the spare is linked to the log if its last block is full, and else comes back.
+    pub fn commit(
+        &mut self,
+        proposal: Proposal<O>,
+        spare: Spare<Entry>,
+    ) -> (Result<Committed<O>, Refused<O>>, Option<Spare<Entry>>)
+        ensures committed { IfOk result.0 (λ c. commits.IsCommitted self.old proposal c.index c.entry self.new) }
+        ensures reads { IfOk result.0 (λ c. reads_of c.queue c.node ≡ proposal.reads) }
+        ensures refused { IfErr result.0 (λ r. commits.IsRefused self.old proposal r.refusal r.proposal self.new) }
+        ensures linked { IfOk result.0 (λ _.
+            result.1 ≡ (if nat_eq (length self.old.log % 64) 0 then None else Some spare)) }
+        ensures kept { IfErr result.0 (λ _. result.1 ≡ Some spare) }
     {
-        self.journal.commit(proposal)
+        self.journal.commit(proposal, spare)
     }
 
-    /// Takes the book apart: what is recorded, copies of the configurations held, and the maker.
-    pub fn into_execution(self, alloc: Global) -> Result<Execution<O>, AllocError>
-        ensures { IfOk result (λ e. IsExecutionOf self e.schedule.items e.states.items) }
+    /// Copies of the configurations held.
+    pub fn states(&self, alloc: Global) -> Result<Vec<Conf>, AllocError>
+        ensures { IfOk result (λ v. v.items ≡ states_held self.now) }
     {
-        let states = states_of(alloc, self.journal.held())?;
-        let (schedule, maker) = self.journal.into_log();
-        Ok(Execution {
-            schedule,
-            states,
-            maker,
-        })
+        states_of(alloc, self.journal.held())
     }
+
+    /// Takes the book apart: what is recorded, and the maker, with which another book of the same origin can be made.
+    /// This can't fail, so whoever also wants the configurations held asks for their memory first.
+    pub fn into_parts(self) -> (RawLog<Entry>, MakerOf<O>)
+        ensures log { result.0 ≡ self.log }
+        ensures law { IsLawful self }
+    {
+        let _log = self.log();
+        self.journal.into_parts()
+    }
+}
+
+/// Copies of the configurations alone.
+fn states_of<O: Origin>(alloc: Global, held: &[VersionedConf<O>]) -> Result<Vec<Conf>, AllocError>
+    ensures { IfOk result (λ v. v.items ≡ read_confs held.now) }
+{
+    let mut states = Vec::new(alloc);
+    for read in held {
+        states.push(read.conf().try_copy(alloc)?)?;
+    }
+    Ok(states)
 }

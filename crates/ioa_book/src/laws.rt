@@ -7,8 +7,8 @@ ghost use Rattle.ioa_values.specs.Outcome.{and_then};
 ghost use Rattle.ioa_actions.specs.ActionParts.{node_of};
 ghost use Rattle.ioa_actions.specs.declared.action.Action.{Action};
 ghost use Rattle.ioa_actions.specs.declared.component.Component.{Component};
-ghost use Rattle.ioa_index.specs.Own.{concerns};
-ghost use Rattle.ioa_compose.specs.Composition.{changes_of, component_of, find_conf, find_confs};
+ghost use Rattle.ioa_commits.specs.Own.{concerns};
+ghost use Rattle.ioa_compose.specs.Composition.{component_of, find_conf, find_confs, picks_of};
 ghost use Rattle.ioa_compose.specs.Participants.{participants_of};
 ghost use Rattle.ioa_commits.specs.Books.{PlainBook, states_held};
 ghost use Rattle.ioa_commits.specs.Commits.{StandsIn, full, refusal_of};
@@ -28,8 +28,8 @@ pub fn fresh_look_law()
         find_conf k (read_confs (snapshot_after n b.start b.log).reads) ≡ find_conf k (states_held b) }
     ensures proposal { (b : PlainBook) (n : ℤ) (a : Action) → int_eq (node_of a) n ≡ true →
         proposal_answer a (snapshot_after n b.start b.log)
-        ≡ and_then (changes_of a (find_confs (participants_of a) (states_held b)))
-        (λ ds. Ok (plain_proposal a (length b.log) (reads_held b (participants_of a)))) }
+        ≡ and_then (picks_of a (find_confs (participants_of a) (states_held b)))
+        (λ t. Ok (plain_proposal t.0 (length b.log) (reads_held b (participants_of a)))) }
     ensures stands { (b : PlainBook) (ks : List Component) → refusal_of b (reads_held b ks) ≡ full b }
 {}
 

@@ -8,14 +8,16 @@
 #![tactic(auto)]
 
 mod book;
-mod copying;
 mod laws;
 mod outcome;
 mod proposing;
+mod reading;
+mod reads;
 mod snapshot;
 
 pub use book::Book;
-pub use ioa_commits::{Committed, Proposal, Refusal, Refused, VersionedConf};
+pub use ioa_commits::{CommitRefusal, Committed, Proposal, Refused, VersionedConf};
 pub use laws::{fresh_look_law, stands_law};
-pub use outcome::{Execution, LookFault};
+pub use outcome::LookFault;
+pub use reads::Reads;
 pub use snapshot::Snapshot;

@@ -1,9 +1,6 @@
-//! What comes of looks, and what a book leaves.
+//! What comes of looks.
 
-use ioa_actions::Action;
-use ioa_compose::Conf;
-use ioa_sharing::{MakerOf, Origin};
-use std::alloc::{AllocError, AllocFailed};
+use std::alloc::AllocError;
 use std::fmt;
 use thiserror::Error;
 
@@ -39,27 +36,4 @@ impl From<AllocError> for LookFault {
     fn from(_error: AllocError) -> Self {
         LookFault::Memory
     }
-}
-
-impl<T: Drop> From<AllocFailed<T>> for LookFault {
-    ghost use Rattle.std.specs.Prelude.{◌≡◌};
-    ghost use Rattle.ioa_book.specs.declared.outcome.LookFault.TheVariants.{Memory};
-
-    ghost from_gives = { λ _ e. e ≡ Memory };
-
-    fn from(_failed: AllocFailed<T>) -> Self {
-        LookFault::Memory
-    }
-}
-
-/// What a book leaves when it is taken apart: the schedule, the states that it leads to, and the maker, with which
-/// another book of the same origin can be made.
-#[derive(Drop)]
-pub struct Execution<O: Origin> {
-    /// The actions, in order.
-    pub schedule: Vec<Action>,
-    /// The configurations that they lead to.
-    pub states: Vec<Conf>,
-    /// What gave the book's configurations their numbers.
-    pub maker: MakerOf<O>,
 }

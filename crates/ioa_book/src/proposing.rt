@@ -1,69 +1,80 @@
 //! Proposals of an action on what was read of its participants.
 
-ghost use Rattle.std.specs.Prelude.{◌≡◌, [], ◌∷◌, IfOk, Some, Ok, map};
+ghost use Rattle.std.specs.Prelude.{◌≡◌, [], ◌∷◌, IfOk, Some, Ok};
 ghost use Rattle.std.specs.Arc.{arc_value};
 ghost use Rattle.ioa_values.specs.Outcome.{Answers, and_then};
-ghost use Rattle.ioa_compose.specs.Composition.{conf_answer, own_steps};
+ghost use Rattle.ioa_transitions.specs.Entries.{entry_of};
+ghost use Rattle.ioa_compose.specs.Composition.{conf_answer, picks_of};
 ghost use Rattle.ioa_compose.specs.Participants.{participants_of};
 ghost use Rattle.ioa_commits.specs.Proposals.{plain_proposal};
 ghost use Rattle.ioa_commits.specs.Versions.{read_component};
 
 use ioa_actions::{Action, StepFault};
-use ioa_commits::{Proposal, VersionedConf};
+use ioa_commits::{Participant, Proposal, VersionedConf};
 use ioa_compose::Conf;
 use ioa_sharing::Origin;
+use ioa_transitions::Entry;
 use std::alloc::{AllocError, Global};
 use std::sync::Arc;
 
 /// The proposal of an action whose one participant was read so. A fault of the participant's own step is returned.
 pub(crate) fn proposal_of_one<O: Origin>(
     alloc: Global,
-    action: Action,
+    action: &Arc<Action>,
     length: usize,
     node: &VersionedConf<O>,
 ) -> Result<Proposal<O>, StepFault>
-    requires { participants_of action ≡ read_component node.now ∷ [] }
+    requires { participants_of (arc_value action.now) ≡ read_component node.now ∷ [] }
     ensures { Answers StepFault.Memory (λ p. p) result
-        (and_then (own_steps action (Some node.now.conf ∷ []))
-        (λ ds. Ok (plain_proposal action length (node.now ∷ [])))) }
+        (and_then (picks_of (arc_value action.now) (Some node.now.conf ∷ []))
+        (λ t. Ok (plain_proposal t.0 length (node.now ∷ [])))) }
 {
-    let mut changed = Vec::new(alloc);
-    changed.push(step_of(alloc, &action, node)?)?;
-    let entry = action.try_copy(alloc)?;
-    let mut reads = Vec::new(alloc);
-    reads.push(node.try_copy()?)?;
-    Ok(Proposal::new(action, entry, length, reads, changed))
+    let node = participant(alloc, action, node)?;
+    let entry = shared_entry(action)?;
+    let again = entry.try_clone()?;
+    Ok(Proposal::new(entry, again, length, None, node))
 }
 
 /// The proposal of an action whose two participants were read so. The first fault of their own steps is returned,
 /// the queue's first.
 pub(crate) fn proposal_of_two<O: Origin>(
     alloc: Global,
-    action: Action,
+    action: &Arc<Action>,
     length: usize,
     queue: &VersionedConf<O>,
     node: &VersionedConf<O>,
 ) -> Result<Proposal<O>, StepFault>
-    requires { participants_of action ≡ read_component queue.now ∷ read_component node.now ∷ [] }
+    requires { participants_of (arc_value action.now) ≡ read_component queue.now ∷ read_component node.now ∷ [] }
     ensures { Answers StepFault.Memory (λ p. p) result
-        (and_then (own_steps action (Some queue.now.conf ∷ Some node.now.conf ∷ []))
-        (λ ds. Ok (plain_proposal action length (queue.now ∷ node.now ∷ [])))) }
+        (and_then (picks_of (arc_value action.now) (Some queue.now.conf ∷ Some node.now.conf ∷ []))
+        (λ t. Ok (plain_proposal t.0 length (queue.now ∷ node.now ∷ [])))) }
 {
-    let changed = steps_of_two(alloc, &action, queue, node)?;
-    let reads = copies_of_two(alloc, queue, node)?;
-    let entry = action.try_copy(alloc)?;
-    Ok(Proposal::new(action, entry, length, reads, changed))
+    let queue = participant(alloc, action, queue)?;
+    let node = participant(alloc, action, node)?;
+    let entry = shared_entry(action)?;
+    let again = entry.try_clone()?;
+    Ok(Proposal::new(entry, again, length, Some(queue), node))
 }
 
-/// The own step of a participant by an action, or its fault.
-fn step_of<O: Origin>(
+/// A participant that was read so, with its configuration after its own step by an action, or the step's fault.
+fn participant<O: Origin>(
     alloc: Global,
     action: &Action,
     read: &VersionedConf<O>,
-) -> Result<Arc<Conf>, StepFault>
-    ensures { Answers StepFault.Memory arc_value result (conf_answer action.now read.now.conf) }
+) -> Result<Participant<O>, StepFault>
+    ensures step { Answers StepFault.Memory (λ p. p.next) result (conf_answer (entry_of action.now) read.now.conf) }
+    ensures read { IfOk result (λ p. p.read ≡ read.now) }
 {
-    let next = read.conf().step(alloc, action)?;
+    let next = step_of(alloc, action, read.conf())?;
+    let read = read.try_copy()?;
+    Ok(Participant { read, next })
+}
+
+/// The own step of a configuration by an action, or its fault.
+fn step_of(alloc: Global, action: &Action, conf: &Conf) -> Result<Arc<Conf>, StepFault>
+    ensures { Answers StepFault.Memory arc_value result (conf_answer (entry_of action.now) conf.now) }
+{
+    let next = conf.step(alloc, action)?;
     Ok(share(alloc, next)?)
 }
 
@@ -74,32 +85,9 @@ fn share(alloc: Global, conf: Conf) -> Result<Arc<Conf>, AllocError>
     Ok(Arc::new(alloc, conf)?)
 }
 
-/// The own steps of two participants by an action. The first fault is returned, the queue's first.
-fn steps_of_two<O: Origin>(
-    alloc: Global,
-    action: &Action,
-    queue: &VersionedConf<O>,
-    node: &VersionedConf<O>,
-) -> Result<Vec<Arc<Conf>>, StepFault>
-    ensures { Answers StepFault.Memory (λ v. map arc_value v.items) result
-        (own_steps action.now (Some queue.now.conf ∷ Some node.now.conf ∷ [])) }
+/// The entry of a step by an action, which owns the action beside whoever lent it.
+fn shared_entry(action: &Arc<Action>) -> Result<Entry, AllocError>
+    ensures { IfOk result (λ e. e ≡ entry_of (arc_value action.now)) }
 {
-    let mut changed = Vec::new(alloc);
-    changed.push(step_of(alloc, action, queue)?)?;
-    changed.push(step_of(alloc, action, node)?)?;
-    Ok(changed)
-}
-
-/// Copies of what was read of two components.
-fn copies_of_two<O: Origin>(
-    alloc: Global,
-    queue: &VersionedConf<O>,
-    node: &VersionedConf<O>,
-) -> Result<Vec<VersionedConf<O>>, AllocError>
-    ensures { IfOk result (λ v. v.items ≡ queue.now ∷ node.now ∷ []) }
-{
-    let mut reads = Vec::new(alloc);
-    reads.push(queue.try_copy()?)?;
-    reads.push(node.try_copy()?)?;
-    Ok(reads)
+    Ok(Entry::of(Arc::try_clone(action)?))
 }

@@ -1,52 +1,76 @@
 //! Looks at a node.
 
-ghost use Rattle.std.specs.Prelude.{◌≡◌, [], ◌∷◌, Some};
+ghost use Rattle.std.specs.Prelude.{◌≡◌, [], ◌∷◌, OnOk, Some};
+ghost use Rattle.std.specs.Arc.{arc_value};
 ghost use Rattle.std.specs.Option.{option_copied};
 ghost use Rattle.std.specs.Ordering.{int_eq};
 ghost use Rattle.ioa_values.specs.Outcome.{Answers};
 ghost use Rattle.ioa_actions.specs.ActionParts.{node_of};
 ghost use Rattle.ioa_compose.specs.Participants.{participants_of};
+ghost use Rattle.ioa_commits.specs.Versions.{read_component};
 ghost use Rattle.ioa_book.specs.Looks.{plain_snapshot};
 ghost use Rattle.ioa_book.specs.Proposals as spec;
-ghost use Rattle.ioa_commits.specs.Versions.{read_component};
+ghost use Rattle.ioa_book.specs.Slots.{items_at};
 
 use crate::proposing::{proposal_of_one, proposal_of_two};
+use crate::reading::{ROOM, read_again};
+use crate::reads::Reads;
 use ioa_actions::{Action, Component, StepFault};
 use ioa_commits::{Proposal, VersionedConf};
 use ioa_compose::{Parties, participants};
 use ioa_sharing::Origin;
-use std::alloc::Global;
+use smallvec::SmallVec;
+use std::alloc::{AllocError, Global};
 use std::marker::Model;
+use std::sync::Arc;
 
 /// What a look at a node has read: the configurations of the node, of the channels to it and from it, and of its
-/// script, each with its version, and how long the log was.
+/// script, each with its version, and how long the log was. It has room for as many as a node of a system of 64 nodes can
+/// have to do with, so it asks for no memory; more go to the heap. What is read stands in an `Option`, since a place in
+/// which nothing is read yet has a blank.
 #[derive(Drop)]
 pub struct Snapshot<O: Origin> {
     node: i64,
     length: usize,
-    reads: Vec<VersionedConf<O>>,
+    reads: SmallVec<Option<VersionedConf<O>>, ROOM>,
 }
 
 impl<O: Origin> Model for Snapshot<O> {
     ghost use Rattle.ioa_book.specs.Looks.{PlainSnapshot, plain_snapshot, plain_snapshot_code};
+    ghost use Rattle.ioa_book.specs.Slots.{those_there};
 
     ghost Value = { PlainSnapshot };
 
     ghost coded = { plain_snapshot_code };
 
-    ghost view = { λ s. plain_snapshot s.node s.length s.reads.items };
+    ghost view = { λ s. plain_snapshot s.node s.length (those_there s.reads.items) };
 }
 
 impl<O: Origin> Snapshot<O> {
-    /// The look at a node that has read this.
-    pub(crate) fn new(node: i64, length: usize, reads: Vec<VersionedConf<O>>) -> Self
-        ensures { result ≡ plain_snapshot node length reads.items }
+    /// A look at a node that has read nothing yet.
+    pub(crate) fn of_nothing(alloc: Global, node: i64) -> Self
+        ensures { result ≡ plain_snapshot node 0 [] }
     {
         Snapshot {
             node,
-            length,
-            reads,
+            length: 0,
+            reads: SmallVec::new(alloc),
         }
+    }
+
+    /// Reads what is held in these slots, while the log is so long.
+    pub(crate) fn refresh(
+        &mut self,
+        length: usize,
+        slots: &[usize],
+        held: &[VersionedConf<O>],
+    ) -> Result<(), AllocError>
+        ensures again { OnOk result (self.new ≡ plain_snapshot self.old.node length (items_at slots.now held.now)) }
+        ensures node { self.new.node ≡ self.old.node }
+    {
+        read_again(&mut self.reads, slots, held)?;
+        self.length = length;
+        Ok(())
     }
 
     /// The node that was looked at.
@@ -64,26 +88,32 @@ impl<O: Origin> Snapshot<O> {
     }
 
     /// What was read, in the order of the components.
-    pub fn reads(&self) -> &[VersionedConf<O>]
-        ensures { result.now ≡ self.now.reads }
+    pub fn reads(&self) -> Reads<'_, O>
+        ensures { result ≡ self.now.reads }
     {
-        self.reads.as_slice()
+        Reads::over(self.reads.as_slice())
     }
 
     /// What was read of a component, if it was.
     pub fn read_of(&self, component: Component) -> Option<&VersionedConf<O>>
         ensures { option_copied result ≡ spec.find_read component self.now.reads }
     {
-        self.reads.iter().find(|read| component == read.component())
+        for read in self.reads() {
+            if component == read.component() {
+                return Some(read);
+            }
+        }
+        None
     }
 
     /// A proposal to take an action on what was read. `NotMine` (41) if the action is another node's than the one
     /// looked at; `NoChannel` (42) if a participant was not read; else the first fault of the participants' own steps,
-    /// the queue's first. The snapshot stays as it is; an action that is no step is dropped.
-    pub fn propose(&self, alloc: Global, action: Action) -> Result<Proposal<O>, StepFault>
-        ensures { Answers StepFault.Memory (λ p. p) result (spec.proposal_answer action self.now) }
+    /// the queue's first. The snapshot stays as it is. The action is only lent: the proposal and the log own it beside
+    /// whoever lent it, and of one that is no step nothing is copied.
+    pub fn propose(&self, alloc: Global, action: &Arc<Action>) -> Result<Proposal<O>, StepFault>
+        ensures { Answers StepFault.Memory (λ p. p) result (spec.proposal_answer (arc_value action.now) self.now) }
     {
-        if is_own(&action, self.node) {
+        if is_own(action, self.node) {
             self.propose_step(alloc, action)
         } else {
             Err(StepFault::NotMine)
@@ -91,10 +121,10 @@ impl<O: Origin> Snapshot<O> {
     }
 
     /// A proposal to take an action of the node that was looked at.
-    fn propose_step(&self, alloc: Global, action: Action) -> Result<Proposal<O>, StepFault>
-        ensures { Answers StepFault.Memory (λ p. p) result (spec.step_answer action self.now) }
+    fn propose_step(&self, alloc: Global, action: &Arc<Action>) -> Result<Proposal<O>, StepFault>
+        ensures { Answers StepFault.Memory (λ p. p) result (spec.step_answer (arc_value action.now) self.now) }
     {
-        match participants(&action) {
+        match participants(action) {
             Parties::One(node) => self.propose_alone(alloc, action, node),
             Parties::Two(queue, node) => self.propose_with(alloc, action, queue, node),
         }
@@ -104,11 +134,11 @@ impl<O: Origin> Snapshot<O> {
     fn propose_alone(
         &self,
         alloc: Global,
-        action: Action,
+        action: &Arc<Action>,
         node: Component,
     ) -> Result<Proposal<O>, StepFault>
-        requires { participants_of action ≡ node ∷ [] }
-        ensures { Answers StepFault.Memory (λ p. p) result (spec.step_answer action self.now) }
+        requires { participants_of (arc_value action.now) ≡ node ∷ [] }
+        ensures { Answers StepFault.Memory (λ p. p) result (spec.step_answer (arc_value action.now) self.now) }
     {
         match self.read_of(node) {
             Some(node) => proposal_of_one(alloc, action, self.length(), node),
@@ -120,12 +150,12 @@ impl<O: Origin> Snapshot<O> {
     fn propose_with(
         &self,
         alloc: Global,
-        action: Action,
+        action: &Arc<Action>,
         queue: Component,
         node: Component,
     ) -> Result<Proposal<O>, StepFault>
-        requires { participants_of action ≡ queue ∷ node ∷ [] }
-        ensures { Answers StepFault.Memory (λ p. p) result (spec.step_answer action self.now) }
+        requires { participants_of (arc_value action.now) ≡ queue ∷ node ∷ [] }
+        ensures { Answers StepFault.Memory (λ p. p) result (spec.step_answer (arc_value action.now) self.now) }
     {
         match self.read_of(queue) {
             Some(queue) => self.propose_beside(alloc, action, queue, node),
@@ -137,13 +167,13 @@ impl<O: Origin> Snapshot<O> {
     fn propose_beside(
         &self,
         alloc: Global,
-        action: Action,
+        action: &Arc<Action>,
         queue: &VersionedConf<O>,
         node: Component,
     ) -> Result<Proposal<O>, StepFault>
-        requires parts { participants_of action ≡ read_component queue.now ∷ node ∷ [] }
+        requires parts { participants_of (arc_value action.now) ≡ read_component queue.now ∷ node ∷ [] }
         requires found { Some queue.now ≡ spec.find_read (read_component queue.now) self.now.reads }
-        ensures { Answers StepFault.Memory (λ p. p) result (spec.step_answer action self.now) }
+        ensures { Answers StepFault.Memory (λ p. p) result (spec.step_answer (arc_value action.now) self.now) }
     {
         match self.read_of(node) {
             Some(node) => proposal_of_two(alloc, action, self.length(), queue, node),

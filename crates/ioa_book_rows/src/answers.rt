@@ -1,8 +1,11 @@
 //! The texts of what a book gives.
 
 use ioa_actions::{Action, push_listed, show_action};
-use ioa_book::{Committed, Refusal};
+use ioa_book::{CommitRefusal, Committed};
 use ioa_compose::Conf;
+use ioa_rawlog::RawLog;
+use ioa_sharing::Origin;
+use ioa_transitions::Entry;
 use ioa_values::Names;
 use std::alloc::{AllocError, Global};
 
@@ -11,30 +14,33 @@ pub(crate) fn action_text(alloc: Global, action: &Action) -> Result<String, Allo
     show_action(alloc, &Names::none(alloc), action)
 }
 
-/// The texts of actions, with a comma and a space between, or `no action`.
-pub(crate) fn log_text(alloc: Global, actions: &[Action]) -> Result<String, AllocError> {
-    if actions.is_empty() {
+/// The texts of the actions of entries, with a comma and a space between, or `no action`.
+pub(crate) fn log_text(alloc: Global, log: &RawLog<Entry>) -> Result<String, AllocError> {
+    if log.len() == 0 {
         return String::from_str(alloc, "no action");
     }
     let mut list = String::new(alloc);
-    for (position, action) in actions.iter().enumerate() {
-        let item = action_text(alloc, action)?;
+    for (position, entry) in log.walk().enumerate() {
+        let item = action_text(alloc, entry.action())?;
         push_listed(&mut list, position, item.as_str())?;
     }
     Ok(list)
 }
 
 /// The index and the text of the action of a commit that was made.
-pub(crate) fn committed_text(alloc: Global, committed: &Committed) -> Result<String, AllocError> {
+pub(crate) fn committed_text<O: Origin>(
+    alloc: Global,
+    committed: &Committed<O>,
+) -> Result<String, AllocError> {
     let index = committed.index;
-    let action = action_text(alloc, &committed.action)?;
+    let action = action_text(alloc, committed.entry.action())?;
     format!(in alloc; "{index} {action}")
 }
 
 /// A refusal, and the action of the proposal that came back.
 pub(crate) fn refused_text(
     alloc: Global,
-    refusal: Refusal,
+    refusal: CommitRefusal,
     action: &Action,
 ) -> Result<String, AllocError> {
     let action = action_text(alloc, action)?;
@@ -44,10 +50,10 @@ pub(crate) fn refused_text(
 /// The actions that were recorded, and how many states they lead to.
 pub(crate) fn execution_text(
     alloc: Global,
-    schedule: &[Action],
+    log: &RawLog<Entry>,
     states: &[Conf],
 ) -> Result<String, AllocError> {
     let count = states.len();
-    let actions = log_text(alloc, schedule)?;
+    let actions = log_text(alloc, log)?;
     format!(in alloc; "{actions}; {count} states")
 }

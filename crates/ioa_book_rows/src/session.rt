@@ -6,8 +6,10 @@ mod proposals;
 
 use crate::reading::{count_of, only_count, only_number};
 use ioa_book::{Book, Proposal, Snapshot};
+use ioa_rawlog::Spare;
 use ioa_rows::{CommandFault, Session};
 use ioa_sharing::{MakerOf, Origin};
+use ioa_transitions::Entry;
 use std::alloc::{AllocError, Global};
 
 /// The help of the program.
@@ -20,11 +22,13 @@ book LIMIT                makes a book of the text, in which at most LIMIT actio
                           and proposals: a book; or why the text is refused
 another LIMIT             the same, but all looks and proposals stay, so those of the book before can be tried on it
 look NODE                 looks at a node: look NUMBER at node NODE; or 53 Unknown
+again LOOK                looks again at the node of a look, in its place: look NUMBER at node NODE; or 53 Unknown
 propose LOOK ACTION       proposes an action on a look: proposal NUMBER of ACTION; or why it is no step
 commit PROPOSAL           commits a proposal: INDEX ACTION; or the refusal, and the action of the proposal, which stays
 log                       the actions that are recorded, or: no action
 length look LOOK          how long the log was at a look
 length proposal PROPOSAL  how long the log was at the look of a proposal
+count LOOK                how many components a look has read
 version LOOK COMPONENT    the version that a look has read of a component, or: not read
 same LOOK LOOK COMPONENT  whether two looks have read equal configurations of a component: equal, different, or: not read
 end                       takes the book apart: the actions that are recorded, and how many states they lead to
@@ -46,6 +50,8 @@ pub(crate) struct BookRows<O: Origin> {
     looks: Vec<Snapshot<O>>,
     /// The proposals; none in the place of one that is committed.
     proposals: Vec<Option<Proposal<O>>>,
+    /// The spare for the next commit, if one is left.
+    spare: Option<Spare<Entry>>,
 }
 
 impl<O: Origin> BookRows<O> {
@@ -59,6 +65,7 @@ impl<O: Origin> BookRows<O> {
             book: None,
             looks: Vec::new(alloc),
             proposals: Vec::new(alloc),
+            spare: None,
         }
     }
 
@@ -85,10 +92,12 @@ impl<O: Origin> BookRows<O> {
             b"book" => self.begin(only_count(words)?),
             b"another" => self.open(only_count(words)?),
             b"look" => self.look(only_number(words)?),
+            b"again" => self.again(only_count(words)?),
             b"propose" => self.propose(words),
             b"commit" => self.commit(only_count(words)?),
             b"log" => self.log(words),
             b"length" => self.length(words),
+            b"count" => self.count(only_count(words)?),
             b"version" => self.version(words),
             b"same" => self.same(words),
             b"end" => self.end(words),

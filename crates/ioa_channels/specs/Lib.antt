@@ -1,4 +1,5 @@
 -- what the contracts of this crate and of those above it cite
+pub mod Fronts
 pub mod Queues
 pub mod QueueSteps
 pub mod SameItems

@@ -50,7 +50,7 @@ same_item (Stimulus a) (Stimulus b) = same_node_action a b
 
 -- the queue with one more item at the end (Lynch 14.1)
 abbrev pub with_last : Item → QueueState → QueueState
-with_last x q = queue_state q.component (q.items ++ x ∷ [])
+with_last x q = record q { items = q.items ++ x ∷ [] }
 
 -- the items behind this item, if it is the first (Lynch 14.1)
 abbrev pub items_behind : Item → List Item → Result (List Item) StepFault
@@ -59,7 +59,7 @@ items_behind x (y ∷ more) = if same_item y x then Ok more else Err NotEnabled
 
 -- the queue without this item, if it is the first
 abbrev pub without_first : Item → QueueState → Result QueueState StepFault
-without_first x q = and_then (items_behind x q.items) (λ items. Ok (queue_state q.component items))
+without_first x q = and_then (items_behind x q.items) (λ items. Ok (record q { items = items }))
 
 -- the result of an action at a queue: its new state, or why there is none (Lynch 8.1 and 14.1)
 abbrev pub queue_answer : QueueState → Action → Result QueueState StepFault

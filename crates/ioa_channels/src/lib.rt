@@ -12,4 +12,4 @@ mod queue;
 mod stimuli;
 
 pub use laws::queue_step_law;
-pub use queue::{Item, Queue, copy_stimuli};
+pub use queue::{Front, Item, Queue, copy_stimuli};

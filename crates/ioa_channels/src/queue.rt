@@ -1,10 +1,12 @@
 //! Queues of channels and scripts, and their steps.
 
 ghost use Rattle.std.specs.Prelude.{◌≡◌, ◌≢◌, [], ◌∷◌, ◌↔◌, IsTrue, IfOk, IfSome, IsErrOf, List, length, map};
+ghost use Rattle.std.specs.Prelude.{slice_get};
 ghost use Rattle.std.specs.Option.{option_map};
 ghost use Rattle.ioa_values.specs.Outcome.{Answers};
 ghost use Rattle.ioa_channels.specs.Queues.{queue_state, queue_items, messages_of};
 ghost use Rattle.ioa_channels.specs.Queues.{with_last, without_first, queue_answer};
+ghost use Rattle.ioa_channels.specs.Fronts.{front_item};
 ghost use Rattle.ioa_channels.specs.SameQueues.{same_queue};
 
 use crate::stimuli::Stimuli;
@@ -20,6 +22,15 @@ pub enum Item {
     Message(Value),
     /// A stimulus that a script has left.
     Stimulus(NodeAction),
+}
+
+/// The first item of a queue, which the queue lends.
+#[derive(Clone, Copy, Debug)]
+pub enum Front<'a> {
+    /// A message.
+    Message(&'a Value),
+    /// A stimulus.
+    Stimulus(&'a NodeAction),
 }
 
 /// Equal stimuli with their own memory, in order.
@@ -93,6 +104,19 @@ impl Queue {
         ensures { result ≡ length self.now.items }
     {
         self.stimuli.as_slice().len() + self.messages.len()
+    }
+
+    /// Its first item, if it has one: what comes out next.
+    pub fn front(&self) -> Option<Front<'_>>
+        ensures { option_map front_item result ≡ slice_get self.now.items 0 }
+    {
+        match self.stimuli.as_slice() {
+            [] => match self.messages.first() {
+                Some(message) => Some(Front::Message(message)),
+                None => None,
+            },
+            [stimulus, ..] => Some(Front::Stimulus(stimulus)),
+        }
     }
 
     /// Its items in two lists: the stimuli that are left, and the messages behind them, each first to last.

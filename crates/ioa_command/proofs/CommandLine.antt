@@ -10,7 +10,7 @@ use Rattle.clap.specs.declared.error.Error.{Error}
 use Rattle.clap.specs.declared.parser.matches.Found.{Found}
 use Rattle.clap.proofs.WalkLemmas.{one_text-rows}
 use Rattle.ioa_command.specs.CommandLine.{IsNumberOf, IsChosenBy, program_app}
-use Rattle.ioa_solo.specs.Options.{PlainOptions}
+use Rattle.ioa_record.specs.Options.{PlainOptions}
 use Rattle.ioa_command.specs.declared.words.Subcommand.TheVariants.{Run}
 
 -- what a typed getter reads is the number of the option

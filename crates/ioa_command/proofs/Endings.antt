@@ -12,9 +12,9 @@ use Rattle.clap.specs.declared.error.kind.ErrorKind.TheVariants.{DisplayHelp, Di
 use Rattle.clap.specs.declared.error.kind.ErrorKind.TheVariants.{OutOfMemory, ValueValidation}
 use Rattle.ioa_streams.specs.declared.input.InputFault.{InputFault}
 use Rattle.ioa_streams.specs.declared.input.InputFault.TheVariants as input
-use Rattle.ioa_workers.specs.declared.whole_run.RunFault.{RunFault}
-use Rattle.ioa_workers.specs.declared.whole_run.RunFault.TheVariants as run
-use Rattle.ioa_solo.specs.Options.{PlainOptions}
+use Rattle.ioa_pipeline.specs.declared.whole_run.RunFault.{RunFault}
+use Rattle.ioa_pipeline.specs.declared.whole_run.RunFault.TheVariants as run
+use Rattle.ioa_record.specs.Options.{PlainOptions}
 use Rattle.ioa_command.specs.declared.command_line.TextFault.{TextFault}
 use Rattle.ioa_command.specs.declared.command_line.TextFault.TheVariants.{Input, Run}
 use Rattle.ioa_command.specs.Command.{Ends, EndsText, IsDone, Output, RunsText, ShowsWords, input_status, run_status}

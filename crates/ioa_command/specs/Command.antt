@@ -10,15 +10,15 @@ use Rattle.clap.specs.declared.error.kind.ErrorKind.{ErrorKind}
 use Rattle.ioa_streams.specs.declared.input.TheConstants.{INPUT_LIMIT}
 use Rattle.ioa_streams.specs.declared.input.InputFault.{InputFault}
 use Rattle.ioa_streams.specs.declared.input.InputFault.TheVariants as input
-use Rattle.ioa_workers.specs.declared.whole_run.RunFault.{RunFault}
-use Rattle.ioa_workers.specs.declared.whole_run.RunFault.TheVariants as run
+use Rattle.ioa_pipeline.specs.declared.whole_run.RunFault.{RunFault}
+use Rattle.ioa_pipeline.specs.declared.whole_run.RunFault.TheVariants as run
 use Rattle.ioa_command.specs.declared.words.Subcommand.TheVariants as subcommand
 use Rattle.ioa_command.specs.declared.command_line.TextFault.{TextFault}
 use Rattle.ioa_command.specs.declared.command_line.TextFault.TheVariants.{Input, Run}
 use Rattle.ioa_streams.specs.Input.{IsFaultOf, input_fault_text}
-use Rattle.ioa_solo.specs.Options.{PlainOptions}
+use Rattle.ioa_record.specs.Options.{PlainOptions}
 use Rattle.ioa_streams.specs.Output.{AppendsBeginning}
-use Rattle.ioa_workers.specs.WholeRun.{IsExactFor, IsRefusalOf, WritesReport, run_fault_text}
+use Rattle.ioa_pipeline.specs.WholeRun.{IsExactFor, IsRefusalOf, WritesReport, run_fault_text}
 use Rattle.ioa_command.specs.CommandLine.{AsksForText, Chooses, IsErrorOf, words_status}
 
 -- an output before and after: its bytes, if they are known, and whether it has failed

@@ -12,7 +12,7 @@ use Rattle.clap.specs.declared.error.Error.{Error}
 use Rattle.clap.specs.declared.error.kind.ErrorKind.{ErrorKind}
 use Rattle.clap.specs.declared.error.kind.ErrorKind.TheVariants.{DisplayHelp, DisplayVersion}
 use Rattle.clap.specs.declared.error.kind.ErrorKind.TheVariants.{OutOfMemory, ValueValidation}
-use Rattle.ioa_solo.specs.declared.options.TheConstants.{GREATEST_STEPS, GREATEST_ATTEMPTS}
+use Rattle.ioa_record.specs.declared.options.TheConstants.{GREATEST_STEPS, GREATEST_ATTEMPTS}
 use Rattle.ioa_command.specs.declared.words.Subcommand.{Subcommand}
 use Rattle.ioa_command.specs.declared.words.Subcommand.TheVariants.{Run}
 

@@ -13,8 +13,8 @@ ghost use Rattle.ioa_command.specs.CommandLine.{words_status};
 use crate::words::options;
 use clap::Error;
 use clap::error::ErrorKind;
+use ioa_pipeline::{Options, RunFault, run_system};
 use ioa_streams::{InputFault, Out, put_all, read_input};
-use ioa_workers::{Options, RunFault, run_system};
 use std::alloc::{AllocError, Global};
 use std::io::Read;
 

@@ -10,7 +10,7 @@ ghost use Rattle.ioa_command.specs.CommandLine.{Chooses, IsChosenBy, IsErrorOf};
 use clap::builder::ValueParser;
 use clap::error::ErrorKind;
 use clap::{Arg, ArgMatches, Command, Error, value_parser};
-use ioa_workers::{GREATEST_ATTEMPTS, GREATEST_STEPS, Options};
+use ioa_pipeline::{GREATEST_ATTEMPTS, GREATEST_STEPS, Options};
 use std::alloc::{AllocError, Global};
 
 /// What is shown before the list of subcommands.

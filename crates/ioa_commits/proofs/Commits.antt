@@ -4,12 +4,13 @@ use Rattle.std.specs.Prelude.{is_none, nat_lt, slice_get}
 use Rattle.std.specs.List.{list_any, position_from}
 use Rattle.std.specs.Option.{option_map, option_or, unwrap_or}
 use Rattle.std.proofs.lemmas.Bool.{ltb-true}
+use Rattle.std.proofs.lemmas.Bool.Decides.{Decides-eqb}
 use Rattle.std.proofs.lemmas.List.{length-append}
 use Rattle.ioa_actions.specs.ActionParts.{node_of}
-use Rattle.ioa_actions.specs.declared.action.Action.{Action}
 use Rattle.ioa_actions.specs.ComponentOrder.{same_component}
 use Rattle.ioa_actions.specs.declared.component.Component.{Component}
-use Rattle.ioa_index.specs.Own.{own_slots}
+use Rattle.ioa_commits.specs.Own.{own_slots}
+use Rattle.ioa_transitions.specs.Entries.{PlainEntry}
 use Rattle.ioa_compose.specs.Composition.{component_names, find_conf, find_confs, joint_answer, put_confs}
 use Rattle.ioa_compose.specs.Executions.{replay}
 use Rattle.ioa_compose.specs.Participants.{participants_of}
@@ -19,11 +20,12 @@ use Rattle.ioa_compose.proofs.Components.{component_names-put_confs}
 use Rattle.ioa_compose.proofs.Replays.{replay-push}
 use Rattle.ioa_compose.proofs.SameConfs.{same_conf_is}
 use Rattle.ioa_commits.specs.Books.{IsKept, PlainBook, held_of, plain_book, states_after, states_held}
-use Rattle.ioa_commits.specs.Commits.{IsCommitted, differs_by, first_refusal, full, refusal_by, refusal_of, unknown_by}
+use Rattle.ioa_commits.specs.Commits.{AllHeld, IsCommitted, differs_by, first_refusal, full, refusal_by, refusal_of, unknown_by}
 use Rattle.ioa_commits.specs.Proposals.{IsTrueProposal, plain_proposal}
 use Rattle.ioa_commits.specs.Slots.{put_all_held, raise_at}
 use Rattle.ioa_commits.specs.Versions.{PlainVersionedConf, read_component, read_confs, with_version}
-use Rattle.ioa_commits.specs.declared.outcome.Refusal.TheVariants.{Differs, Full}
+use Rattle.ioa_commits.specs.declared.outcome.CommitRefusal.TheVariants.{Differs, Full}
+use Rattle.ioa_commits.specs.declared.standing.Test.{Test}
 use Rattle.ioa_commits.specs.declared.standing.Test.TheVariants.{Known, Current, Same}
 use Rattle.ioa_commits.proofs.Lookups.{found_at, held_components, none_found}
 use Rattle.ioa_commits.proofs.Puts.{put_all_versions}
@@ -35,11 +37,11 @@ none_first None y h = (refl, h)
 none_first (Some a) y h = absurd (cc)
 
 -- the configurations that a schedule leads to
-pub held_is : (start confs : List Conf) (log : List Action) → replay log start ≡ Some confs → states_after start log ≡ confs
+pub held_is : (start confs : List Conf) (log : List PlainEntry) → replay log start ≡ Some confs → states_after start log ≡ confs
 held_is start confs log h = ap (λ (o : Option (List Conf)). unwrap_or o []) h
 
 -- the configurations among those that have their versions
-pub confs_among : (log : List Action) (cs : List Conf) → read_confs (map (with_version log) cs) ≡ cs
+pub confs_among : (log : List PlainEntry) (cs : List Conf) → read_confs (map (with_version log) cs) ≡ cs
 confs_among log [] = refl
 confs_among log (c ∷ cs) = λ i. c ∷ confs_among log cs i
 
@@ -71,17 +73,17 @@ all_held b (r ∷ rs) h g =
     let same = none_first (refusal_by Same r (held_of b (read_component r))) (first_refusal Same b rs) g in
     λ i. one_held b r (read_component r) (find_conf (read_component r) (states_held b)) known.0 same.0 i ∷ all_held b rs known.1 same.1 i
 
--- the step of a proposal that nothing is against is the joint step of its action
-pub step_made : (b : PlainBook) (a entry : Action) (rs : List PlainVersionedConf) (changed : List Conf) → IsTrueProposal a entry rs changed → refusal_of b rs ≡ None → joint_answer a (states_held b) ≡ Ok (put_confs changed (states_held b))
-step_made b a entry rs changed true_proposal accepted =
+-- the step of a proposal that nothing is against is the joint step of its entry
+pub step_made : (b : PlainBook) (e again : PlainEntry) (rs : List PlainVersionedConf) (changed : List Conf) → IsTrueProposal e again rs changed → refusal_of b rs ≡ None → joint_answer e (states_held b) ≡ Ok (put_confs changed (states_held b))
+step_made b e again rs changed true_proposal accepted =
     let first = none_first (first_refusal Known b rs) (option_or (first_refusal Current b rs) (option_or (first_refusal Same b rs) (full b))) accepted in
     let second = none_first (first_refusal Current b rs) (option_or (first_refusal Same b rs) (full b)) first.1 in
     let third = none_first (first_refusal Same b rs) (full b) second.1 in
-    let same : find_confs (participants_of a) (states_held b) ≡ map Some (read_confs rs) =
+    let same : find_confs (participants_of e.action) (states_held b) ≡ map Some (read_confs rs) =
     subst (λ (ks : List Component). find_confs ks (states_held b) ≡ map Some (read_confs rs)) true_proposal.participants (all_held b rs first.0 third.0) in
     rw (same, no_absent (read_confs rs), true_proposal.steps) refl
 
--- it leaves room for its action
+-- it leaves room for its entry
 pub room_for : (b : PlainBook) (rs : List PlainVersionedConf) → refusal_of b rs ≡ None → length b.log < b.limit
 room_for b rs accepted =
     let first = none_first (first_refusal Known b rs) (option_or (first_refusal Current b rs) (option_or (first_refusal Same b rs) (full b))) accepted in
@@ -90,7 +92,7 @@ room_for b rs accepted =
     room_left b third.1
 
 -- a book in which nothing is recorded yet
-pub kept_new : (start : List Conf) (held : List PlainVersionedConf) (indexed : List Component) (log : List Action) (limit : ℕ) → log ≡ [] → held ≡ map (with_version []) start → indexed ≡ component_names start → limit ≤ 1000000 → IsKept start held indexed log limit
+pub kept_new : (start : List Conf) (held : List PlainVersionedConf) (indexed : List Component) (log : List PlainEntry) (limit : ℕ) → log ≡ [] → held ≡ map (with_version []) start → indexed ≡ component_names start → limit ≤ 1000000 → IsKept start held indexed log limit
 kept_new start held indexed log limit none first components small =
     let confs : read_confs held ≡ start = ap read_confs first ∙ confs_among [] start in
     rw none (record {
@@ -101,7 +103,7 @@ kept_new start held indexed log limit none first components small =
       limited = small;
     })
 
-module _ (start : List Conf) (held : List PlainVersionedConf) (indexed : List Component) (log : List Action) (limit : ℕ) (kept : IsKept start held indexed log limit) where
+module _ (start : List Conf) (held : List PlainVersionedConf) (indexed : List Component) (log : List PlainEntry) (limit : ℕ) (kept : IsKept start held indexed log limit) where
   states : states_after start log ≡ read_confs held
   states = held_is start (read_confs held) log kept.replayed
 
@@ -123,59 +125,73 @@ module _ (start : List Conf) (held : List PlainVersionedConf) (indexed : List Co
   pub log_leads : replay log start ≡ Some (states_after start log)
   log_leads = rw states kept.replayed
 
-  -- the components are the same when the versions of an action are raised
-  pub raised_components : (a : Action) → indexed ≡ map read_component (raise_at a (own_slots (node_of a) 0 indexed) held)
-  raised_components a =
+  -- the components are the same when the versions for an action are raised
+  pub raised_components : (e : PlainEntry) → indexed ≡ map read_component (raise_at e.action (own_slots (node_of e.action) 0 indexed) held)
+  raised_components e =
       let small : length log ≤ 1000000 = omega (arith, kept.within, kept.limited) in
-      let all : raise_at a (own_slots (node_of a) 0 indexed) held ≡ map (with_version (log ++ a ∷ [])) (read_confs held) =
-      ap (λ (hs : List PlainVersionedConf). raise_at a (own_slots (node_of a) 0 indexed) hs) kept.versions
-      ∙ ap (λ (ks : List Component). raise_at a (own_slots (node_of a) 0 ks) (map (with_version log) (read_confs held))) kept.components
-      ∙ raised a log small (read_confs held) in
-      kept.components ∙ sym (ap (λ (hs : List PlainVersionedConf). map read_component hs) all ∙ held_components (log ++ a ∷ []) (read_confs held))
+      let all : raise_at e.action (own_slots (node_of e.action) 0 indexed) held ≡ map (with_version (log ++ e ∷ [])) (read_confs held) =
+      ap (λ (hs : List PlainVersionedConf). raise_at e.action (own_slots (node_of e.action) 0 indexed) hs) kept.versions
+      ∙ ap (λ (ks : List Component). raise_at e.action (own_slots (node_of e.action) 0 ks) (map (with_version log) (read_confs held))) kept.components
+      ∙ raised e log small (read_confs held) in
+      kept.components ∙ sym (ap (λ (hs : List PlainVersionedConf). map read_component hs) all ∙ held_components (log ++ e ∷ []) (read_confs held))
 
-  module _ (a entry : Action) (rs : List PlainVersionedConf) (changed : List Conf) (true_proposal : IsTrueProposal a entry rs changed) (accepted : refusal_of (plain_book start log limit) rs ≡ None) where
+  module _ (e again : PlainEntry) (rs : List PlainVersionedConf) (changed : List Conf) (true_proposal : IsTrueProposal e again rs changed) (accepted : refusal_of (plain_book start log limit) rs ≡ None) where
     abbrev pub confs : List Conf
     confs = read_confs held
 
     -- the joint step from what is held
-    step_held : joint_answer a confs ≡ Ok (put_confs changed confs)
+    step_held : joint_answer e confs ≡ Ok (put_confs changed confs)
     step_held =
         let are : states_after start log ≡ confs = held_is start confs log kept.replayed in
-        rw (are) at (step_made (plain_book start log limit) a entry rs changed true_proposal accepted)
+        rw (are) at (step_made (plain_book start log limit) e again rs changed true_proposal accepted)
 
-    replay_made : replay (log ++ a ∷ []) start ≡ Some (put_confs changed confs)
-    replay_made = replay-push log a start confs (put_confs changed confs) kept.replayed step_held
+    replay_made : replay (log ++ e ∷ []) start ≡ Some (put_confs changed confs)
+    replay_made = replay-push log e start confs (put_confs changed confs) kept.replayed step_held
 
     -- what is held then
-    held_then : put_all_held changed (raise_at a (own_slots (node_of a) 0 indexed) held) ≡ map (with_version (log ++ a ∷ [])) (put_confs changed confs)
+    held_then : put_all_held changed (raise_at e.action (own_slots (node_of e.action) 0 indexed) held) ≡ map (with_version (log ++ e ∷ [])) (put_confs changed confs)
     held_then =
         let small : length log ≤ 1000000 = omega (arith, kept.within, kept.limited) in
-        subst (λ (ks : List Component). put_all_held changed (raise_at a (own_slots (node_of a) 0 ks) held) ≡ map (with_version (log ++ a ∷ [])) (put_confs changed confs)) (sym kept.components)
-        (ap (λ (hs : List PlainVersionedConf). put_all_held changed (raise_at a (own_slots (node_of a) 0 (component_names confs)) hs)) kept.versions
-        ∙ ap (λ (hs : List PlainVersionedConf). put_all_held changed hs) (raised a log small confs)
-        ∙ put_all_versions (log ++ a ∷ []) changed confs)
+        subst (λ (ks : List Component). put_all_held changed (raise_at e.action (own_slots (node_of e.action) 0 ks) held) ≡ map (with_version (log ++ e ∷ [])) (put_confs changed confs)) (sym kept.components)
+        (ap (λ (hs : List PlainVersionedConf). put_all_held changed (raise_at e.action (own_slots (node_of e.action) 0 (component_names confs)) hs)) kept.versions
+        ∙ ap (λ (hs : List PlainVersionedConf). put_all_held changed hs) (raised e log small confs)
+        ∙ put_all_versions (log ++ e ∷ []) changed confs)
 
     -- the law of the book holds of it
-    pub kept_commit : IsKept start (put_all_held changed (raise_at a (own_slots (node_of a) 0 indexed) held)) indexed (log ++ entry ∷ []) limit
+    pub kept_commit : IsKept start (put_all_held changed (raise_at e.action (own_slots (node_of e.action) 0 indexed) held)) indexed (log ++ again ∷ []) limit
     kept_commit =
         let room : length log < limit = room_for (plain_book start log limit) rs accepted in
-        let then_confs : read_confs (put_all_held changed (raise_at a (own_slots (node_of a) 0 indexed) held)) ≡ put_confs changed confs = ap read_confs held_then ∙ confs_among (log ++ a ∷ []) (put_confs changed confs) in
-        rw (true_proposal.entry_is) (record {
+        let then_confs : read_confs (put_all_held changed (raise_at e.action (own_slots (node_of e.action) 0 indexed) held)) ≡ put_confs changed confs = ap read_confs held_then ∙ confs_among (log ++ e ∷ []) (put_confs changed confs) in
+        rw (true_proposal.same) (record {
           replayed = rw then_confs replay_made;
           versions = rw then_confs held_then;
           components = rw (then_confs, component_names-put_confs changed confs) kept.components;
-          within = omega (arith, room, length-append log (a ∷ []));
+          within = omega (arith, room, length-append log (e ∷ []));
           limited = kept.limited;
         })
 
     -- the step leads to the configurations held then
-    pub step_kept : joint_answer a (states_after start log) ≡ Ok (states_after start (log ++ a ∷ []))
+    pub step_kept : joint_answer e (states_after start log) ≡ Ok (states_after start (log ++ e ∷ []))
     step_kept =
-        rw (held_is start confs log kept.replayed, held_is start (put_confs changed confs) (log ++ a ∷ []) replay_made) step_held
+        rw (held_is start confs log kept.replayed, held_is start (put_confs changed confs) (log ++ e ∷ []) replay_made) step_held
 
     -- so the commit is made
-    pub committed : (l index : ℕ) (new : List Action) → index ≡ length log → new ≡ log ++ entry ∷ [] →
-        IsCommitted (plain_book start log limit) (plain_proposal a l rs) index a (plain_book start new limit)
+    pub committed : (l index : ℕ) (new : List PlainEntry) → index ≡ length log → new ≡ log ++ again ∷ [] →
+        IsCommitted (plain_book start log limit) (plain_proposal e l rs) index e (plain_book start new limit)
     committed l index new at appended =
-        let same : new ≡ log ++ a ∷ [] = appended ∙ ap (λ (x : Action). log ++ x ∷ []) true_proposal.entry_is in
-        rw same (record { accepted = accepted; at = at; action = refl; recorded = refl; step = step_kept })
+        let same : new ≡ log ++ e ∷ [] = appended ∙ ap (λ (x : PlainEntry). log ++ x ∷ []) true_proposal.same in
+        rw same (record { accepted = accepted; at = at; entry = refl; recorded = refl; step = step_kept })
+
+-- what is held as it was read passes each test
+passed_held : (b : PlainBook) (r : PlainVersionedConf) → held_of b (read_component r) ≡ Some r → (test : Test) → refusal_by test r (held_of b (read_component r)) ≡ None
+passed_held b r h Known = rw h refl
+passed_held b r h Current = rw (h, (Decides-eqb r.version r.version).1 refl) refl
+passed_held b r h Same = rw (h, (same_conf_is r.conf r.conf).1 refl) refl
+
+all_passed : (b : PlainBook) (rs : List PlainVersionedConf) → AllHeld b rs → (test : Test) → first_refusal test b rs ≡ None
+all_passed b [] all test = refl
+all_passed b (r ∷ rs) all test = rw (passed_held b r all.0 test, all_passed b rs all.1 test) refl
+
+-- so a proposal whose reads are held so stands, if there is room
+pub held_stands : (b : PlainBook) (rs : List PlainVersionedConf) → AllHeld b rs → nat_lt (length b.log) b.limit ≡ true → refusal_of b rs ≡ None
+held_stands b rs all room = rw (all_passed b rs all Known, all_passed b rs all Current, all_passed b rs all Same, room) refl

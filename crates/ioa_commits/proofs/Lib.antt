@@ -1,4 +1,5 @@
 -- the lemmas of this crate
+pub mod Indexes
 pub mod SameConfs
 pub mod Lookups
 pub mod Raises

@@ -5,9 +5,9 @@ use Rattle.std.specs.List.{position_from}
 use Rattle.std.proofs.Math.Seq.{set-append_seam}
 use Rattle.std.proofs.lemmas.List.{length-append}
 use Rattle.ioa_actions.specs.ComponentOrder.{same_component}
-use Rattle.ioa_actions.specs.declared.action.Action.{Action}
 use Rattle.ioa_actions.specs.declared.component.Component.{Component}
 use Rattle.ioa_actions.proofs.SameComponents.{Decides-same_component}
+use Rattle.ioa_transitions.specs.Entries.{PlainEntry}
 use Rattle.ioa_compose.specs.Composition.{component_of, put_conf, put_confs}
 use Rattle.ioa_compose.specs.declared.configuration.Conf.{Conf}
 use Rattle.ioa_commits.specs.Slots.{put_all_held, put_held}
@@ -73,7 +73,7 @@ put_all-push [] d held = refl
 put_all-push (e ∷ ds) d held = put_all-push ds d (put_held e held)
 
 -- a configuration that is put has the version of its component
-put_version : (log : List Action) (d : Conf) (cs : List Conf) → put_held d (map (with_version log) cs) ≡ map (with_version log) (put_conf d cs)
+put_version : (log : List PlainEntry) (d : Conf) (cs : List Conf) → put_held d (map (with_version log) cs) ≡ map (with_version log) (put_conf d cs)
 put_version log d [] = refl
 put_version log d (c ∷ cs) = by_test (same_component (component_of d) (component_of c)) refl (put_version log d cs)
   where
@@ -83,7 +83,7 @@ put_version log d (c ∷ cs) = by_test (same_component (component_of d) (compone
     by_test true e further = ap (λ (k : Component). record { conf = d; version = version k log } ∷ map (with_version log) cs) (sym ((Decides-same_component (component_of d) (component_of c)).0 e))
     by_test false e further = ap (λ (hs : List PlainVersionedConf). with_version log c ∷ hs) further
 
-pub put_all_versions : (log : List Action) (ds cs : List Conf) → put_all_held ds (map (with_version log) cs) ≡ map (with_version log) (put_confs ds cs)
+pub put_all_versions : (log : List PlainEntry) (ds cs : List Conf) → put_all_held ds (map (with_version log) cs) ≡ map (with_version log) (put_confs ds cs)
 put_all_versions log [] cs = refl
 put_all_versions log (d ∷ ds) cs = ap (λ (hs : List PlainVersionedConf). put_all_held ds hs) (put_version log d cs) ∙ put_all_versions log ds (put_conf d cs)
 

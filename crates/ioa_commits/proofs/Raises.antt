@@ -11,7 +11,8 @@ use Rattle.ioa_actions.specs.declared.action.Action.{Action}
 use Rattle.ioa_actions.specs.declared.action.Action.TheVariants.{Send, Receive, Local, Stimulus}
 use Rattle.ioa_actions.specs.declared.component.Component.{Component}
 use Rattle.ioa_actions.specs.declared.component.Component.TheVariants.{Node, Channel, Script}
-use Rattle.ioa_index.specs.Own.{concerns, own_slots}
+use Rattle.ioa_commits.specs.Own.{concerns, own_slots}
+use Rattle.ioa_transitions.specs.Entries.{PlainEntry}
 use Rattle.ioa_compose.specs.Composition.{component_names, component_of}
 use Rattle.ioa_compose.specs.Participants.{takes_part}
 use Rattle.ioa_compose.specs.declared.configuration.Conf.{Conf}
@@ -19,23 +20,23 @@ use Rattle.ioa_commits.specs.Slots.{next_version, raise_at, raise_found, raise_o
 use Rattle.ioa_commits.specs.Versions.{PlainVersionedConf, read_component, version, with_version}
 use Rattle.ioa_commits.proofs.Lookups.{get_behind, one_more}
 
--- the version after one more action
-version_push : (k : Component) (log : List Action) (a : Action) → version k (log ++ a ∷ []) ≡ (if takes_part k a then version k log + 1 else version k log)
-version_push k log a =
-    ap length (filter-append (takes_part k) log (a ∷ []))
-    ∙ length-append (filter (takes_part k) log) (filter (takes_part k) (a ∷ []))
-    ∙ by_test (takes_part k a)
+-- the version after one more entry
+version_push : (k : Component) (log : List PlainEntry) (e : PlainEntry) → version k (log ++ e ∷ []) ≡ (if takes_part k e.action then version k log + 1 else version k log)
+version_push k log e =
+    ap length (filter-append (λ d. takes_part k d.action) log (e ∷ []))
+    ∙ length-append (filter (λ d. takes_part k d.action) log) (filter (λ d. takes_part k d.action) (e ∷ []))
+    ∙ by_test (takes_part k e.action)
   where
-    by_test : (b : Bool) → length (filter (takes_part k) log) + length (if b then a ∷ [] else []) ≡ (if b then version k log + 1 else version k log)
+    by_test : (b : Bool) → length (filter (λ d. takes_part k d.action) log) + length (if b then e ∷ [] else []) ≡ (if b then version k log + 1 else version k log)
     by_test true = refl
     by_test false = omega arith
 
 -- no version is above the length of the log
-filter_within : (p : Action → Bool) (log : List Action) → length (filter p log) ≤ length log
+filter_within : (p : PlainEntry → Bool) (log : List PlainEntry) → length (filter p log) ≤ length log
 filter_within p [] = omega arith
-filter_within p (a ∷ log) = by_test (p a) (filter_within p log)
+filter_within p (e ∷ log) = by_test (p e) (filter_within p log)
   where
-    by_test : (b : Bool) → length (filter p log) ≤ length log → length (if b then a ∷ filter p log else filter p log) ≤ suc (length log)
+    by_test : (b : Bool) → length (filter p log) ≤ length log → length (if b then e ∷ filter p log else filter p log) ≤ suc (length log)
     by_test true h = omega (arith, h)
     by_test false h = omega (arith, h)
 
@@ -71,52 +72,52 @@ part_concerns (Script k) (Receive m from to) h = absurd (cc)
 part_concerns (Script k) (Local a) h = absurd (cc)
 part_concerns (Script k) (Stimulus a) h = h
 
-module _ (a : Action) (log : List Action) (small : length log ≤ 1000000) where
-  abbrev pub after : List Action
-  after = log ++ a ∷ []
+module _ (entry : PlainEntry) (log : List PlainEntry) (small : length log ≤ 1000000) where
+  abbrev pub after : List PlainEntry
+  after = log ++ entry ∷ []
 
   -- a component that takes part gets its version, and one that does not keeps it
-  raised_one : (c : Conf) → raise_one a (with_version log c) ≡ with_version after c
-  raised_one c = by_test (takes_part (component_of c) a) (version_push (component_of c) log a)
+  raised_one : (c : Conf) → raise_one entry.action (with_version log c) ≡ with_version after c
+  raised_one c = by_test (takes_part (component_of c) entry.action) (version_push (component_of c) log entry)
     where
       by_test : (b : Bool) → version (component_of c) after ≡ (if b then version (component_of c) log + 1 else version (component_of c) log) →
           (if b then record { conf = c; version = next_version (version (component_of c) log) } else with_version log c) ≡ with_version after c
-      by_test true e = ap (λ (v : ℕ). record { conf = c; version = v }) (next_is (version (component_of c) log) (length log) (filter_within (takes_part (component_of c)) log) small ∙ sym e)
+      by_test true e = ap (λ (v : ℕ). record { conf = c; version = v }) (next_is (version (component_of c) log) (length log) (filter_within (λ d. takes_part (component_of c) d.action) log) small ∙ sym e)
       by_test false e = ap (λ (v : ℕ). record { conf = c; version = v }) (sym e)
 
-  unconcerned : (c : Conf) → concerns (node_of a) (component_of c) ≡ false → with_version log c ≡ with_version after c
-  unconcerned c h = by_test (takes_part (component_of c) a) refl (version_push (component_of c) log a)
+  unconcerned : (c : Conf) → concerns (node_of entry.action) (component_of c) ≡ false → with_version log c ≡ with_version after c
+  unconcerned c h = by_test (takes_part (component_of c) entry.action) refl (version_push (component_of c) log entry)
     where
-      by_test : (b : Bool) → takes_part (component_of c) a ≡ b → version (component_of c) after ≡ (if b then version (component_of c) log + 1 else version (component_of c) log) → with_version log c ≡ with_version after c
-      by_test true t e = let own = part_concerns (component_of c) a t in absurd (cc)
+      by_test : (b : Bool) → takes_part (component_of c) entry.action ≡ b → version (component_of c) after ≡ (if b then version (component_of c) log + 1 else version (component_of c) log) → with_version log c ≡ with_version after c
+      by_test true t e = let own = part_concerns (component_of c) entry.action t in absurd (cc)
       by_test false t e = ap (λ (v : ℕ). record { conf = c; version = v }) (sym e)
 
-  -- the versions of all components rise as they should, if those of the action's node are raised
-  own_raised : (front : List PlainVersionedConf) (cs : List Conf) → raise_at a (own_slots (node_of a) (length front) (component_names cs)) (front ++ map (with_version log) cs) ≡ front ++ map (with_version after) cs
+  -- the versions of all components rise as they should, if those of the entry's node are raised
+  own_raised : (front : List PlainVersionedConf) (cs : List Conf) → raise_at entry.action (own_slots (node_of entry.action) (length front) (component_names cs)) (front ++ map (with_version log) cs) ≡ front ++ map (with_version after) cs
   own_raised front [] = refl
-  own_raised front (c ∷ cs) = by_test (concerns (node_of a) (component_of c)) refl (own_raised (front ++ with_version after c ∷ []) cs)
+  own_raised front (c ∷ cs) = by_test (concerns (node_of entry.action) (component_of c)) refl (own_raised (front ++ with_version after c ∷ []) cs)
     where
       slots : List ℕ
-      slots = own_slots (node_of a) (suc (length front)) (component_names cs)
+      slots = own_slots (node_of entry.action) (suc (length front)) (component_names cs)
 
       all : List PlainVersionedConf
       all = front ++ with_version log c ∷ map (with_version log) cs
 
-      by_test : (b : Bool) → concerns (node_of a) (component_of c) ≡ b →
-          raise_at a (own_slots (node_of a) (length (front ++ with_version after c ∷ [])) (component_names cs)) ((front ++ with_version after c ∷ []) ++ map (with_version log) cs) ≡ (front ++ with_version after c ∷ []) ++ map (with_version after) cs →
-          raise_at a (if b then length front ∷ slots else slots) all ≡ front ++ with_version after c ∷ map (with_version after) cs
+      by_test : (b : Bool) → concerns (node_of entry.action) (component_of c) ≡ b →
+          raise_at entry.action (own_slots (node_of entry.action) (length (front ++ with_version after c ∷ [])) (component_names cs)) ((front ++ with_version after c ∷ []) ++ map (with_version log) cs) ≡ (front ++ with_version after c ∷ []) ++ map (with_version after) cs →
+          raise_at entry.action (if b then length front ∷ slots else slots) all ≡ front ++ with_version after c ∷ map (with_version after) cs
       by_test b e further =
           by_case b e (rw (one_more front (with_version after c), append_assoc front (with_version after c ∷ []) (map (with_version log) cs), append_assoc front (with_version after c ∷ []) (map (with_version after) cs)) at further)
         where
-          by_case : (b : Bool) → concerns (node_of a) (component_of c) ≡ b → raise_at a slots (front ++ with_version after c ∷ map (with_version log) cs) ≡ front ++ with_version after c ∷ map (with_version after) cs →
-              raise_at a (if b then length front ∷ slots else slots) all ≡ front ++ with_version after c ∷ map (with_version after) cs
+          by_case : (b : Bool) → concerns (node_of entry.action) (component_of c) ≡ b → raise_at entry.action slots (front ++ with_version after c ∷ map (with_version log) cs) ≡ front ++ with_version after c ∷ map (with_version after) cs →
+              raise_at entry.action (if b then length front ∷ slots else slots) all ≡ front ++ with_version after c ∷ map (with_version after) cs
           by_case true e moved =
-              ap (λ (o : Option PlainVersionedConf). raise_at a slots (raise_found a (length front) o all)) (get_behind front (with_version log c) (map (with_version log) cs))
-              ∙ ap (λ (hs : List PlainVersionedConf). raise_at a slots hs) (ap (λ (h : PlainVersionedConf). set all (length front) h) (raised_one c) ∙ set-append_seam front (with_version log c) (map (with_version log) cs) (with_version after c))
+              ap (λ (o : Option PlainVersionedConf). raise_at entry.action slots (raise_found entry.action (length front) o all)) (get_behind front (with_version log c) (map (with_version log) cs))
+              ∙ ap (λ (hs : List PlainVersionedConf). raise_at entry.action slots hs) (ap (λ (h : PlainVersionedConf). set all (length front) h) (raised_one c) ∙ set-append_seam front (with_version log c) (map (with_version log) cs) (with_version after c))
               ∙ moved
-          by_case false e moved = subst (λ (h : PlainVersionedConf). raise_at a slots (front ++ h ∷ map (with_version log) cs) ≡ front ++ with_version after c ∷ map (with_version after) cs) (sym (unconcerned c e)) moved
+          by_case false e moved = subst (λ (h : PlainVersionedConf). raise_at entry.action slots (front ++ h ∷ map (with_version log) cs) ≡ front ++ with_version after c ∷ map (with_version after) cs) (sym (unconcerned c e)) moved
 
-  pub raised : (cs : List Conf) → raise_at a (own_slots (node_of a) 0 (component_names cs)) (map (with_version log) cs) ≡ map (with_version after) cs
+  pub raised : (cs : List Conf) → raise_at entry.action (own_slots (node_of entry.action) 0 (component_names cs)) (map (with_version log) cs) ≡ map (with_version after) cs
   raised cs = own_raised [] cs
 
 -- a slot that is not there is not raised

@@ -2,14 +2,13 @@
 use Rattle.std.specs.Prelude.{ℕ, List, ◌++◌, codes}
 use Rattle.std.specs.Fmt.{decimal}
 use Rattle.ioa_actions.specs.ComponentText.{component_text}
-use Rattle.ioa_commits.specs.declared.outcome.Refusal.{Refusal}
-use Rattle.ioa_commits.specs.declared.outcome.Refusal.TheVariants as refusal
+use Rattle.ioa_commits.specs.declared.outcome.CommitRefusal.{CommitRefusal}
+use Rattle.ioa_commits.specs.declared.outcome.CommitRefusal.TheVariants as refusal
 
 -- why a proposal is not committed
-abbrev pub refusal_text : Refusal → List ℕ
+abbrev pub refusal_text : CommitRefusal → List ℕ
 refusal_text (refusal.Unknown k) = codes "53 Unknown " ++ component_text k
 refusal_text (refusal.Stale k read held) =
     codes "50 Stale " ++ (component_text k ++ (codes ": read " ++ (decimal read ++ (codes ", held " ++ decimal held))))
 refusal_text (refusal.Differs k) = codes "51 Differs " ++ component_text k
 refusal_text refusal.Full = codes "52 Full"
-refusal_text refusal.Memory = codes "3 Memory"

@@ -1,8 +1,8 @@
 -- Versions of components (profile): how often a component has taken a step.
 use Rattle.std.specs.Prelude.{ℕ, List, length, map, refl}
 use Rattle.std.specs.Coded.{Coded, code_by, coded×, coded_ℕ}
-use Rattle.ioa_actions.specs.declared.action.Action.{Action}
 use Rattle.ioa_actions.specs.declared.component.Component.{Component}
+use Rattle.ioa_transitions.specs.Entries.{PlainEntry}
 use Rattle.ioa_compose.specs.Composition.{component_of}
 use Rattle.ioa_compose.specs.Executions.{projection_of}
 use Rattle.ioa_compose.specs.contracts.configuration.Conf as conf
@@ -22,11 +22,11 @@ versioned_conf_code =
     (λ r. (r.conf, r.version)) (λ t. versioned_conf t.0 t.1) (λ _. refl)
 
 -- the version of a component after a schedule: the length of the schedule's projection on it (Lynch 8.2)
-abbrev pub version : Component → List Action → ℕ
+abbrev pub version : Component → List PlainEntry → ℕ
 version k log = length (projection_of k log)
 
 -- a configuration with the version that its component has after a schedule
-abbrev pub with_version : List Action → Conf → PlainVersionedConf
+abbrev pub with_version : List PlainEntry → Conf → PlainVersionedConf
 with_version log c = record { conf = c; version = version (component_of c) log }
 
 -- the component of what was read

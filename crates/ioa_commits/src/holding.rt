@@ -2,15 +2,20 @@
 
 ghost use Rattle.std.specs.Prelude.{◌≡◌, ◌<◌, [], IfOk, length, map, slice_get};
 ghost use Rattle.std.specs.Arc.{arc_value};
+ghost use Rattle.std.specs.List.{list_any};
 ghost use Rattle.std.specs.Option.{option_copied};
+ghost use Rattle.ioa_actions.specs.ComponentOrder.{same_component};
 ghost use Rattle.ioa_compose.specs.Composition.{component_names};
+ghost use Rattle.ioa_compose.specs.Participants.{participant_list, participants_of, takes_part};
+ghost use Rattle.ioa_commits.specs.Proposals.{participants_next, participants_read, reads_of};
 ghost use Rattle.ioa_commits.specs.Slots as spec;
 ghost use Rattle.ioa_commits.specs.Versions.{read_component, with_version};
 
+use crate::index::Index;
+use crate::proposal::Participant;
 use crate::versioned::VersionedConf;
 use ioa_actions::{Action, Component};
-use ioa_compose::{Conf, takes_part_in};
-use ioa_index::Index;
+use ioa_compose::{Conf, Parties, participants};
 use ioa_sharing::{MakerOf, Origin};
 use std::alloc::{AllocError, Global};
 use std::sync::Arc;
@@ -24,9 +29,9 @@ pub(crate) fn first_versions<O: Origin>(
     ensures { IfOk result (λ v. v.items ≡ map (with_version []) confs.now) }
 {
     let mut held = Vec::new(alloc);
-    for conf in confs {
+    for (slot, conf) in confs.iter().enumerate() {
         let copy = Arc::new(alloc, conf.try_copy(alloc)?)?;
-        held.push(VersionedConf::first(maker, copy))?;
+        held.push(VersionedConf::first(maker, copy, slot))?;
     }
     Ok(held)
 }
@@ -52,6 +57,16 @@ pub(crate) fn at_slot<O: Origin>(
     held.get(slot)
 }
 
+/// Whether a component is one of these.
+fn is_among(component: Component, parties: Parties) -> bool
+    ensures { result ≡ list_any (λ k. same_component component k) (participant_list parties) }
+{
+    match parties {
+        Parties::One(node) => component == node,
+        Parties::Two(queue, node) => component == queue || component == node,
+    }
+}
+
 /// Raises the version of each component in these slots that takes part in an action.
 pub(crate) fn raise_at<O: Origin>(
     held: &mut Vec<VersionedConf<O>>,
@@ -60,57 +75,102 @@ pub(crate) fn raise_at<O: Origin>(
 )
     ensures { held.new.items ≡ spec.raise_at action.now slots.now held.old.items }
 {
+    let parties = participants(action);
     for slot in slots {
-        raise_in(held, *slot, action);
+        raise_in(held, *slot, action, parties);
     }
 }
 
 /// The same for the component in one slot, if there is one.
-fn raise_in<O: Origin>(held: &mut Vec<VersionedConf<O>>, slot: usize, action: &Action)
+fn raise_in<O: Origin>(
+    held: &mut Vec<VersionedConf<O>>,
+    slot: usize,
+    action: &Action,
+    parties: Parties,
+)
+    requires { participant_list parties ≡ participants_of action.now }
     ensures { held.new.items ≡ spec.raise_found action.now slot (slice_get held.old.items slot) held.old.items }
 {
     if slot < held.len() {
-        raise_within(held, slot, action);
+        raise_within(held, slot, action, parties);
     }
 }
 
 /// The same for the component in a slot that there is. No version is above the length of the log, so the sum is exact.
-fn raise_within<O: Origin>(held: &mut Vec<VersionedConf<O>>, slot: usize, action: &Action)
-    requires { slot < length held.old.items }
+fn raise_within<O: Origin>(
+    held: &mut Vec<VersionedConf<O>>,
+    slot: usize,
+    action: &Action,
+    parties: Parties,
+)
+    requires within { slot < length held.old.items }
+    requires parties { participant_list parties ≡ participants_of action.now }
     ensures { held.new.items ≡ spec.raise_found action.now slot (slice_get held.old.items slot) held.old.items }
 {
-    if takes_part_in(held[slot].component(), action) {
+    if is_party(held[slot].component(), action, parties) {
         held[slot].raise();
     }
 }
 
-/// Replaces the configurations of the components of these.
+/// Whether a component takes part in an action, whose participants are these.
+fn is_party(component: Component, _action: &Action, parties: Parties) -> bool
+    requires { participant_list parties ≡ participants_of _action.now }
+    ensures { result ≡ takes_part component _action.now }
+{
+    is_among(component, parties)
+}
+
+/// Replaces the configurations of the participants. What was read of them comes back.
 pub(crate) fn put_all<O: Origin>(
     held: &mut Vec<VersionedConf<O>>,
     index: &Index,
     maker: &mut MakerOf<O>,
-    changed: Vec<Arc<Conf>>,
-)
+    queue: Option<Participant<O>>,
+    node: Participant<O>,
+) -> (Option<VersionedConf<O>>, VersionedConf<O>)
     requires { index.now ≡ map read_component held.old.items }
-    ensures { held.new.items ≡ spec.put_all_held (map arc_value changed.items) held.old.items }
+    ensures put { held.new.items ≡ spec.put_all_held (participants_next queue node) held.old.items }
+    ensures reads { reads_of result.0 result.1 ≡ participants_read queue node }
 {
-    for conf in changed {
-        put(held, index, maker, conf);
+    match queue {
+        None => (None, put(held, index, maker, node)),
+        Some(queue) => {
+            let queue = put(held, index, maker, queue);
+            (Some(queue), put(held, index, maker, node))
+        }
     }
 }
 
-/// Replaces the configuration of a component; its version stays as it is.
+/// Replaces the configuration of a participant; its version stays as it is. What was read of it comes back.
 fn put<O: Origin>(
     held: &mut Vec<VersionedConf<O>>,
     index: &Index,
     maker: &mut MakerOf<O>,
+    participant: Participant<O>,
+) -> VersionedConf<O>
+    requires { index.now ≡ map read_component held.old.items }
+    ensures put { held.new.items ≡ spec.put_held participant.next held.old.items }
+    ensures components { map read_component held.new.items ≡ map read_component held.old.items }
+    ensures read { result ≡ participant.read }
+{
+    let Participant { read, next } = participant;
+    put_conf(held, index, maker, next, read.slot());
+    read
+}
+
+/// Replaces the configuration of a component, which is mostly held in the slot `near`; its version stays as it is.
+fn put_conf<O: Origin>(
+    held: &mut Vec<VersionedConf<O>>,
+    index: &Index,
+    maker: &mut MakerOf<O>,
     conf: Arc<Conf>,
+    near: usize,
 )
     requires { index.now ≡ map read_component held.old.items }
     ensures put { held.new.items ≡ spec.put_held (arc_value conf) held.old.items }
     ensures components { map read_component held.new.items ≡ map read_component held.old.items }
 {
-    if let Some(slot) = index.slot_of(conf.component()) {
+    if let Some(slot) = index.slot_of(conf.component(), near) {
         held[slot].put(maker.share(conf));
     }
 }

@@ -1,20 +1,22 @@
-//! Commits: the configurations held with their versions, the log of what was recorded, the tests of what a proposal
-//! read, and the commit of a proposal.
+//! Commits: the configurations held with their versions and an index of their components, the log of what was recorded,
+//! the tests of what a proposal read, and the commit of a proposal.
 //!
-//! **A crate of its own**, since seven wrong bodies of a commit are tried in it, each over a check of this crate.
+//! **A crate of its own**, since eight wrong bodies of a commit are tried in it, each over a check of this crate.
 //!
 //! **Must not know**: how a node is looked at and how a proposal is computed, threads and locks.
 #![tactic(auto)]
 
 mod holding;
+mod index;
 mod journal;
 mod outcome;
 mod proposal;
 mod standing;
 mod versioned;
 
+pub use index::Index;
 pub use journal::Journal;
-pub use outcome::{Committed, Refusal, Refused};
-pub use proposal::Proposal;
+pub use outcome::{CommitRefusal, Committed, Refused};
+pub use proposal::{Participant, Proposal};
 pub use standing::Test;
 pub use versioned::VersionedConf;

@@ -1,14 +1,16 @@
 //! What comes of commits.
 
 use crate::proposal::Proposal;
-use ioa_actions::{Action, Component};
+use crate::versioned::VersionedConf;
+use ioa_actions::Component;
 use ioa_sharing::Origin;
+use ioa_transitions::Entry;
 use std::fmt;
 use thiserror::Error;
 
 /// Why a proposal is not committed, in the order in which the reasons are tested.
 #[derive(Clone, Copy, Debug, PartialEq, Eq, Error)]
-pub enum Refusal {
+pub enum CommitRefusal {
     /// `Unknown` (53): the participant is no component of the book.
     Unknown(Component),
     /// `Stale` (50): the participant took a step since the look.
@@ -23,13 +25,11 @@ pub enum Refusal {
     /// `Differs` (51): the participant's configuration is another one than was read, though its version is the same. So
     /// the proposal is of another book.
     Differs(Component),
-    /// `Full` (52): the log has as many actions as the limit allows.
+    /// `Full` (52): the log has as many entries as the limit allows.
     Full,
-    /// `Memory` (3): memory ran out.
-    Memory,
 }
 
-impl fmt::Display for Refusal {
+impl fmt::Display for CommitRefusal {
     ghost use Rattle.std.specs.Prelude.{Some};
     ghost use Rattle.ioa_commits.specs.Refusals.{refusal_text};
 
@@ -37,33 +37,36 @@ impl fmt::Display for Refusal {
 
     fn fmt<W: fmt::Write>(&self, f: &mut fmt::Formatter<W>) -> fmt::Result {
         match self {
-            Refusal::Unknown(component) => write!(f, "53 Unknown {component}"),
-            Refusal::Stale {
+            CommitRefusal::Unknown(component) => write!(f, "53 Unknown {component}"),
+            CommitRefusal::Stale {
                 component,
                 read,
                 held,
             } => write!(f, "50 Stale {component}: read {read}, held {held}"),
-            Refusal::Differs(component) => write!(f, "51 Differs {component}"),
-            Refusal::Full => f.write_str("52 Full"),
-            Refusal::Memory => f.write_str("3 Memory"),
+            CommitRefusal::Differs(component) => write!(f, "51 Differs {component}"),
+            CommitRefusal::Full => f.write_str("52 Full"),
         }
     }
 }
 
-/// A commit that was made.
+/// A commit that was made. What was read goes out with it, so that what the book lets go is freed outside of a lock.
 #[derive(Drop)]
-pub struct Committed {
-    /// The index of the action in the log.
+pub struct Committed<O: Origin> {
+    /// The index of the entry in the log.
     pub index: usize,
-    /// The action.
-    pub action: Action,
+    /// The entry.
+    pub entry: Entry,
+    /// What was read of the queue, if one took part.
+    pub queue: Option<VersionedConf<O>>,
+    /// What was read of the node.
+    pub node: VersionedConf<O>,
 }
 
 /// A commit that was refused. Nothing is lost: the proposal is handed back.
 #[derive(Drop)]
 pub struct Refused<O: Origin> {
     /// Why.
-    pub refusal: Refusal,
+    pub refusal: CommitRefusal,
     /// The proposal.
     pub proposal: Proposal<O>,
 }

@@ -1,26 +1,47 @@
-//! Proposals of actions.
+//! Proposals of entries.
 
-ghost use Rattle.std.specs.Prelude.{◌≡◌, map};
-ghost use Rattle.std.specs.Arc.{arc_value};
-ghost use Rattle.ioa_commits.specs.Proposals.{IsTrueProposal, plain_proposal};
+ghost use Rattle.std.specs.Prelude.{◌≡◌, Some};
+ghost use Rattle.std.specs.Option.{option_copied};
+ghost use Rattle.ioa_commits.specs.Proposals.{IsTrueProposal, node_read, participants_next, participants_read};
+ghost use Rattle.ioa_commits.specs.Proposals.{plain_proposal, queue_read, reads_of};
 
 use crate::versioned::VersionedConf;
-use ioa_actions::Action;
 use ioa_compose::Conf;
 use ioa_sharing::Origin;
+use ioa_transitions::Entry;
 use std::marker::Model;
 use std::sync::Arc;
 
-/// An action with what was read of its participants, and their new configurations. The type keeps that these are the
-/// participants' own steps from what was read.
+/// What was read of a participant, and its configuration after its own step.
+#[derive(Drop)]
+pub struct Participant<O: Origin> {
+    /// What was read.
+    pub read: VersionedConf<O>,
+    /// The configuration after the step.
+    pub next: Arc<Conf>,
+}
+
+impl<O: Origin> Model for Participant<O> {
+    ghost use Rattle.std.specs.Arc.{arc_value};
+    ghost use Rattle.ioa_commits.specs.Proposals.{PlainParticipant, plain_participant, plain_participant_code};
+
+    ghost Value = { PlainParticipant };
+
+    ghost coded = { plain_participant_code };
+
+    ghost view = { λ p. plain_participant p.read (arc_value p.next) };
+}
+
+/// An entry with what was read of its participants, and their new configurations. The type keeps that these are the
+/// participants' own steps from what was read. It is a few words, so that it is moved at little cost.
 #[derive(Drop)]
 pub struct Proposal<O: Origin> {
-    pub(crate) action: Action,
-    /// The same action, for the log.
-    pub(crate) entry: Action,
+    pub(crate) entry: Entry,
+    /// The same entry, for the log.
+    pub(crate) again: Entry,
     pub(crate) length: usize,
-    pub(crate) reads: Vec<VersionedConf<O>>,
-    pub(crate) changed: Vec<Arc<Conf>>,
+    pub(crate) queue: Option<Participant<O>>,
+    pub(crate) node: Participant<O>,
 }
 
 impl<O: Origin> Model for Proposal<O> {
@@ -30,42 +51,41 @@ impl<O: Origin> Model for Proposal<O> {
 
     ghost coded = { plain_proposal_code };
 
-    ghost view = { λ p. plain_proposal p.action p.length p.reads.items };
+    ghost use Rattle.ioa_commits.specs.Proposals.{IsTrueProposal, participants_next, participants_read};
 
-    ghost use Rattle.std.specs.Arc.{arc_value};
-    ghost use Rattle.std.specs.Prelude.{map};
-    ghost use Rattle.ioa_commits.specs.Proposals.{IsTrueProposal};
+    ghost view = { λ p. plain_proposal p.entry p.length (participants_read p.queue p.node) };
 
-    ghost invariant = { λ p. IsTrueProposal p.action p.entry p.reads.items (map arc_value p.changed.items) };
+    ghost invariant = { λ p.
+        IsTrueProposal p.entry p.again (participants_read p.queue p.node) (participants_next p.queue p.node) };
 }
 
 impl<O: Origin> Proposal<O> {
-    /// The proposal of an action whose participants were read so, and whose own steps lead to these configurations. The
-    /// entry is the action once more, for the log.
+    /// The proposal of an entry whose participants were read so, and whose own steps lead to these configurations: a
+    /// queue, if one takes part, and a node. `again` is the entry once more, for the log.
     pub fn new(
-        action: Action,
-        entry: Action,
+        entry: Entry,
+        again: Entry,
         length: usize,
-        reads: Vec<VersionedConf<O>>,
-        changed: Vec<Arc<Conf>>,
+        queue: Option<Participant<O>>,
+        node: Participant<O>,
     ) -> Self
-        requires { IsTrueProposal action entry reads.items (map arc_value changed.items) }
-        ensures { result ≡ plain_proposal action length reads.items }
+        requires { IsTrueProposal entry again (participants_read queue node) (participants_next queue node) }
+        ensures { result ≡ plain_proposal entry length (participants_read queue node) }
     {
         Proposal {
-            action,
             entry,
+            again,
             length,
-            reads,
-            changed,
+            queue,
+            node,
         }
     }
 
-    /// The action.
-    pub fn action(&self) -> &Action
-        ensures { result.now ≡ self.now.action }
+    /// The entry.
+    pub fn entry(&self) -> &Entry
+        ensures { result.now ≡ self.now.entry }
     {
-        &self.action
+        &self.entry
     }
 
     /// How long the log was at the look.
@@ -73,5 +93,23 @@ impl<O: Origin> Proposal<O> {
         ensures { result ≡ self.now.length }
     {
         self.length
+    }
+
+    /// What was read of the queue, if one takes part.
+    pub fn queue(&self) -> Option<&VersionedConf<O>>
+        ensures { option_copied result ≡ queue_read self.now.reads }
+    {
+        match &self.queue {
+            Some(queue) => Some(&queue.read),
+            None => None,
+        }
+    }
+
+    /// What was read of the node.
+    pub fn node(&self) -> &VersionedConf<O>
+        ensures node { Some result.now ≡ node_read self.now.reads }
+        ensures reads { reads_of (queue_read self.now.reads) result.now ≡ self.now.reads }
+    {
+        &self.node.read
     }
 }

@@ -5,7 +5,7 @@ ghost use Rattle.std.specs.Option.{option_copied};
 ghost use Rattle.ioa_compose.specs.SameConfs.{same_conf};
 ghost use Rattle.ioa_commits.specs.Commits as spec;
 
-use crate::outcome::Refusal;
+use crate::outcome::CommitRefusal;
 use crate::versioned::VersionedConf;
 use ioa_sharing::Origin;
 
@@ -25,7 +25,7 @@ pub(crate) fn refusal_by<O: Origin>(
     test: Test,
     read: &VersionedConf<O>,
     held: Option<&VersionedConf<O>>,
-) -> Option<Refusal>
+) -> Option<CommitRefusal>
     ensures { result ≡ spec.refusal_by test read.now (option_copied held.entry) }
 {
     match test {
@@ -39,23 +39,23 @@ pub(crate) fn refusal_by<O: Origin>(
 fn unknown_by<O: Origin>(
     read: &VersionedConf<O>,
     held: Option<&VersionedConf<O>>,
-) -> Option<Refusal>
+) -> Option<CommitRefusal>
     ensures { result ≡ spec.unknown_by read.now (option_copied held.entry) }
 {
     match held {
-        None => Some(Refusal::Unknown(read.component())),
+        None => Some(CommitRefusal::Unknown(read.component())),
         Some(_) => None,
     }
 }
 
 /// `Stale` (50) if the version is another one now.
-fn stale_by<O: Origin>(read: &VersionedConf<O>, held: &VersionedConf<O>) -> Option<Refusal>
+fn stale_by<O: Origin>(read: &VersionedConf<O>, held: &VersionedConf<O>) -> Option<CommitRefusal>
     ensures { result ≡ spec.stale_by read.now (Some held.now) }
 {
     if read.version() == held.version() {
         None
     } else {
-        Some(Refusal::Stale {
+        Some(CommitRefusal::Stale {
             component: read.component(),
             read: read.version(),
             held: held.version(),
@@ -64,13 +64,13 @@ fn stale_by<O: Origin>(read: &VersionedConf<O>, held: &VersionedConf<O>) -> Opti
 }
 
 /// `Differs` (51) if the configuration is another one than was read.
-fn differs_by<O: Origin>(read: &VersionedConf<O>, held: &VersionedConf<O>) -> Option<Refusal>
+fn differs_by<O: Origin>(read: &VersionedConf<O>, held: &VersionedConf<O>) -> Option<CommitRefusal>
     ensures { result ≡ spec.differs_by read.now (Some held.now) }
 {
     if is_same(read, held) {
         None
     } else {
-        Some(Refusal::Differs(read.component()))
+        Some(CommitRefusal::Differs(read.component()))
     }
 }
 

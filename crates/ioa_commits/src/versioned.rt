@@ -1,6 +1,6 @@
 //! Configurations with their versions.
 
-ghost use Rattle.std.specs.Prelude.{◌≡◌, [], IfOk, IsTrue};
+ghost use Rattle.std.specs.Prelude.{◌≡◌, [], IfOk, IsTrue, OnOk};
 ghost use Rattle.std.specs.Arc.{arc_value};
 ghost use Rattle.ioa_sharing.specs.Named.{shared_of_value};
 ghost use Rattle.ioa_commits.specs.Slots.{next_version};
@@ -14,11 +14,13 @@ use std::marker::Model;
 use std::sync::Arc;
 
 /// A configuration with the version of its component: how many steps the component has taken. The configuration is
-/// shared: the book holds it, and whoever has looked at it. Its number tells at once that two own the same one.
+/// shared: the book holds it, and whoever has looked at it. Its number tells at once that two own the same one. It also
+/// says in which slot the book that gave it holds it. That is a hint, of which no contract speaks.
 #[derive(Drop)]
 pub struct VersionedConf<O: Origin> {
     conf: SharedOf<O, Conf, Global>,
     version: usize,
+    slot: usize,
 }
 
 impl<O: Origin> Model for VersionedConf<O> {
@@ -34,13 +36,14 @@ impl<O: Origin> Model for VersionedConf<O> {
 }
 
 impl<O: Origin> VersionedConf<O> {
-    /// A configuration before any action.
-    pub(crate) fn first(maker: &mut MakerOf<O>, conf: Arc<Conf>) -> Self
+    /// A configuration before any action, which is held in a slot.
+    pub(crate) fn first(maker: &mut MakerOf<O>, conf: Arc<Conf>, slot: usize) -> Self
         ensures { result ≡ with_version [] (arc_value conf) }
     {
         VersionedConf {
             conf: maker.share(conf),
             version: 0,
+            slot,
         }
     }
 
@@ -65,6 +68,11 @@ impl<O: Origin> VersionedConf<O> {
         self.conf().component()
     }
 
+    /// The slot in which the book that gave it holds it.
+    pub(crate) fn slot(&self) -> usize {
+        self.slot
+    }
+
     /// The same once more, which owns the same configuration. Takes no memory; fails if the count of owners is full.
     pub fn try_copy(&self) -> Result<Self, AllocError>
         ensures { IfOk result (λ r. r ≡ self.now) }
@@ -72,7 +80,21 @@ impl<O: Origin> VersionedConf<O> {
         Ok(VersionedConf {
             conf: self.conf.try_clone()?,
             version: self.version,
+            slot: self.slot,
         })
+    }
+
+    /// Makes it what is held now. Takes no memory, and one owner more only if the two do not share one configuration;
+    /// fails if the count of owners is full.
+    pub fn refresh(&mut self, held: &VersionedConf<O>) -> Result<(), AllocError>
+        ensures { OnOk result (self.new ≡ held.now) }
+    {
+        if !self.shares_conf(held) {
+            self.conf = held.conf.try_clone()?;
+        }
+        self.version = held.version;
+        self.slot = held.slot;
+        Ok(())
     }
 
     /// Whether both own one configuration, in constant time. It is false of equal configurations made apart.

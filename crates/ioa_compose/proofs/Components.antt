@@ -12,6 +12,7 @@ use Rattle.ioa_compose.specs.declared.configuration.Conf.{Conf}
 use Rattle.ioa_compose.specs.declared.configuration.Conf.TheVariants as conf
 use Rattle.ioa_actions.specs.declared.fault.StepFault.{StepFault}
 use Rattle.ioa_system.specs.Parts.{Parts}
+use Rattle.ioa_transitions.specs.Entries.{PlainEntry}
 use Rattle.ioa_transitions.specs.NodeState.{NodeState}
 use Rattle.ioa_transitions.specs.NodeAnswers.{node_answer}
 use Rattle.ioa_channels.specs.Queues.{QueueState, queue_answer}
@@ -42,17 +43,17 @@ takes_part-is (Script k) (Local a) = refl
 takes_part-is (Script k) (Stimulus a) = sym (or_false (int_eq k a.node))
 
 -- a component's step keeps its name
-pub component_of-conf_answer : (a : Action) (c d : Conf) → conf_answer a c ≡ Ok d → component_of d ≡ component_of c
+pub component_of-conf_answer : (entry : PlainEntry) (c d : Conf) → conf_answer entry c ≡ Ok d → component_of d ≡ component_of c
 unfolding conf_answer
-component_of-conf_answer a (conf.Node c) d h = kept (node_answer c a) refl h
+component_of-conf_answer entry (conf.Node c) d h = kept (node_answer c entry.action) refl h
   where
-    kept : (r : Result NodeState StepFault) → node_answer c a ≡ r → and_then r (λ s. Ok (conf.Node s)) ≡ Ok d → component_of d ≡ Node c.program.node
-    kept (Ok s) e h = let same_state : conf.Node s ≡ d = cc in rw (← same_state) (ap (λ (p : Parts). Node p.node) (program-node_answer c a s e))
+    kept : (r : Result NodeState StepFault) → node_answer c entry.action ≡ r → and_then r (λ s. Ok (conf.Node s)) ≡ Ok d → component_of d ≡ Node c.program.node
+    kept (Ok s) e h = let same_state : conf.Node s ≡ d = cc in rw (← same_state) (ap (λ (p : Parts). Node p.node) (program-node_answer c entry.action s e))
     kept (Err f) e h = absurd (cc)
-component_of-conf_answer a (conf.Queue q) d h = kept (queue_answer q a) refl h
+component_of-conf_answer entry (conf.Queue q) d h = kept (queue_answer q entry.action) refl h
   where
-    kept : (r : Result QueueState StepFault) → queue_answer q a ≡ r → and_then r (λ s. Ok (conf.Queue s)) ≡ Ok d → component_of d ≡ q.component
-    kept (Ok s) e h = let same_state : conf.Queue s ≡ d = cc in rw (← same_state) (component-queue_answer q a s e)
+    kept : (r : Result QueueState StepFault) → queue_answer q entry.action ≡ r → and_then r (λ s. Ok (conf.Queue s)) ≡ Ok d → component_of d ≡ q.component
+    kept (Ok s) e h = let same_state : conf.Queue s ≡ d = cc in rw (← same_state) (component-queue_answer q entry.action s e)
     kept (Err f) e h = absurd (cc)
 
 -- the configuration that is found has the name

@@ -3,7 +3,7 @@ use Rattle.std.proofs.Common.{◌≡◌, Bool, true, false, List, [], ◌∷◌,
 use Rattle.std.specs.List.{AllByRecursion, IsDistinct}
 use Rattle.ioa_values.specs.Outcome.{and_then}
 use Rattle.ioa_actions.specs.declared.component.Component.{Component}
-use Rattle.ioa_actions.specs.declared.action.Action.{Action}
+use Rattle.ioa_transitions.specs.Entries.{PlainEntry}
 use Rattle.ioa_compose.specs.declared.configuration.Conf.{Conf}
 use Rattle.ioa_compose.specs.declared.configuration.Conf.TheVariants.{Node, Queue}
 use Rattle.ioa_actions.specs.declared.fault.StepFault.{StepFault}
@@ -32,67 +32,67 @@ state_of cs s k (Node c) h = s.nodes k c h
 state_of cs s k (Queue q) h = tt
 
 -- what the runtime returns for a component is its step, and what the step meets lies within 64 bits
-pub is_step : (a : Action) (c d : Conf) → IsStateOf c → conf_answer a c ≡ Ok d → IsStep a c d × FitsStep a c
+pub is_step : (entry : PlainEntry) (c d : Conf) → IsStateOf c → conf_answer entry c ≡ Ok d → IsStep entry c d × FitsStep entry c
 unfolding conf_answer
-is_step a (Node c) d state h = of_node (node_answer c a) refl d h
+is_step entry (Node c) d state h = of_node (node_answer c entry.action) refl d h
   where
-    of_node : (r : Result NodeState StepFault) → node_answer c a ≡ r → (d : Conf) → and_then r (λ s. Ok (Node s)) ≡ Ok d → IsStep a (Node c) d × FitsStep a (Node c)
+    of_node : (r : Result NodeState StepFault) → node_answer c entry.action ≡ r → (d : Conf) → and_then r (λ s. Ok (Node s)) ≡ Ok d → IsStep entry (Node c) d × FitsStep entry (Node c)
     of_node (Ok s) e (Node d) h =
         let same_state : s ≡ d = cc in
-        let step = is_node_step c a s state e in
-        (subst (λ (x : NodeState). IsNodeStep a c x) same_state step.0, step.1)
+        let step = is_node_step c entry.action s state e in
+        (subst (λ (x : NodeState). IsNodeStep entry.action c x) same_state step.0, step.1)
     of_node (Ok s) e (Queue r) h = absurd (cc)
     of_node (Err f) e d h = absurd (cc)
-is_step a (Queue q) d state h = of_queue (queue_answer q a) refl d h
+is_step entry (Queue q) d state h = of_queue (queue_answer q entry.action) refl d h
   where
-    of_queue : (r : Result QueueState StepFault) → queue_answer q a ≡ r → (d : Conf) → and_then r (λ s. Ok (Queue s)) ≡ Ok d → IsStep a (Queue q) d × FitsStep a (Queue q)
+    of_queue : (r : Result QueueState StepFault) → queue_answer q entry.action ≡ r → (d : Conf) → and_then r (λ s. Ok (Queue s)) ≡ Ok d → IsStep entry (Queue q) d × FitsStep entry (Queue q)
     of_queue (Ok s) e (Queue r) h =
         let same_state : s ≡ r = cc in
-        (queue_answer-is q a r (e ∙ ap Ok same_state), tt)
+        (queue_answer-is q entry.action r (e ∙ ap Ok same_state), tt)
     of_queue (Ok s) e (Node d) h = absurd (cc)
     of_queue (Err f) e d h = absurd (cc)
 
 -- and each step of a component is returned, if what it meets lies within 64 bits
-pub conf_answer-from : (a : Action) (c d : Conf) → IsStateOf c → IsStep a c d → FitsStep a c → conf_answer a c ≡ Ok d
+pub conf_answer-from : (entry : PlainEntry) (c d : Conf) → IsStateOf c → IsStep entry c d → FitsStep entry c → conf_answer entry c ≡ Ok d
 unfolding conf_answer
-conf_answer-from a (Node c) (Node d) state step fits = rw (node_answer_is c a d state step fits) refl
-conf_answer-from a (Node c) (Queue r) state step fits = absurd step
-conf_answer-from a (Queue q) (Node d) state step fits = absurd step
-conf_answer-from a (Queue q) (Queue r) state step fits = rw (queue_answer-from q a r step) refl
+conf_answer-from entry (Node c) (Node d) state step fits = rw (node_answer_is c entry.action d state step fits) refl
+conf_answer-from entry (Node c) (Queue r) state step fits = absurd step
+conf_answer-from entry (Queue q) (Node d) state step fits = absurd step
+conf_answer-from entry (Queue q) (Queue r) state step fits = rw (queue_answer-from q entry.action r step) refl
 
--- a component has one step by an action
-pub one_step : (a : Action) (c d e : Conf) → IsStateOf c → IsStep a c d → IsStep a c e → d ≡ e
-one_step a (Node c) (Node d) (Node e) state p q = ap Node (one_node_step a c d e state p q)
-one_step a (Node c) (Node d) (Queue s) state p q = absurd q
-one_step a (Node c) (Queue r) e state p q = absurd p
-one_step a (Queue c) (Node d) e state p q = absurd p
-one_step a (Queue c) (Queue r) (Node e) state p q = absurd q
-one_step a (Queue c) (Queue r) (Queue s) state p q =
-    let both : Ok r ≡ Ok s = sym (queue_answer-from c a r p) ∙ queue_answer-from c a s q in
+-- a component has one step by an entry
+pub one_step : (entry : PlainEntry) (c d e : Conf) → IsStateOf c → IsStep entry c d → IsStep entry c e → d ≡ e
+one_step entry (Node c) (Node d) (Node e) state p q = ap Node (one_node_step entry.action c d e state p q)
+one_step entry (Node c) (Node d) (Queue s) state p q = absurd q
+one_step entry (Node c) (Queue r) e state p q = absurd p
+one_step entry (Queue c) (Node d) e state p q = absurd p
+one_step entry (Queue c) (Queue r) (Node e) state p q = absurd q
+one_step entry (Queue c) (Queue r) (Queue s) state p q =
+    let both : Ok r ≡ Ok s = sym (queue_answer-from c entry.action r p) ∙ queue_answer-from c entry.action s q in
     let same_state : r ≡ s = cc in ap Queue same_state
 
 -- a joint step by other steps of its participants
-pub joint_step-map : (S T : Action → Conf → Conf → Type 0) (a : Action) (cs next : List Conf) →
-    ((k : Component) (c d : Conf) → takes_part k a ≡ true → find_conf k cs ≡ Some c → S a c d → T a c d) → IsJointStep S a cs next → IsJointStep T a cs next
-joint_step-map S T a cs next f p = record {
+pub joint_step-map : (S T : PlainEntry → Conf → Conf → Type 0) (entry : PlainEntry) (cs next : List Conf) →
+    ((k : Component) (c d : Conf) → takes_part k entry.action ≡ true → find_conf k cs ≡ Some c → S entry c d → T entry c d) → IsJointStep S entry cs next → IsJointStep T entry cs next
+joint_step-map S T entry cs next f p = record {
   participants = λ k part. at k part (p.participants k part);
   others = p.others;
   same_names = p.same_names;
 }
   where
-    at : (k : Component) → takes_part k a ≡ true → TakesStep S a k cs next → TakesStep T a k cs next
+    at : (k : Component) → takes_part k entry.action ≡ true → TakesStep S entry k cs next → TakesStep T entry k cs next
     at k part t = record { old = t.old; new = t.new; before = t.before; step_of = f k t.old t.new part t.before t.step_of; after = t.after }
 
 -- what the runtime returns is a joint step
-pub is_joint_step : (a : Action) (cs next : List Conf) → IsJointState cs → joint_answer a cs ≡ Ok next → IsJointStep IsStep a cs next × FitsJointStep a cs
-is_joint_step a cs next state h =
-    let p : IsJointStep HasAnswer a cs next = joint_answer-is a cs next h in
-    (joint_step-map HasAnswer IsStep a cs next (λ k c d part found e. (is_step a c d (state_of cs state k c found) e).0) p, λ k c part found. fits k c found (p.participants k part))
+pub is_joint_step : (entry : PlainEntry) (cs next : List Conf) → IsJointState cs → joint_answer entry cs ≡ Ok next → IsJointStep IsStep entry cs next × FitsJointStep entry cs
+is_joint_step entry cs next state h =
+    let p : IsJointStep HasAnswer entry cs next = joint_answer-is entry cs next h in
+    (joint_step-map HasAnswer IsStep entry cs next (λ k c d part found e. (is_step entry c d (state_of cs state k c found) e).0) p, λ k c part found. fits k c found (p.participants k part))
   where
-    fits : (k : Component) (c : Conf) → find_conf k cs ≡ Some c → TakesStep HasAnswer a k cs next → FitsStep a c
+    fits : (k : Component) (c : Conf) → find_conf k cs ≡ Some c → TakesStep HasAnswer entry k cs next → FitsStep entry c
     fits k c found t =
         let one : t.old ≡ c = of_some t.old c (sym t.before ∙ found) in
-        subst (λ (x : Conf). FitsStep a x) one (is_step a t.old t.new (state_of cs state k t.old t.before) t.step_of).1
+        subst (λ (x : Conf). FitsStep entry x) one (is_step entry t.old t.new (state_of cs state k t.old t.before) t.step_of).1
       where
         of_some : {A : Type 0} (x y : A) → Some x ≡ Some y → x ≡ y
         of_some x y h = cc
@@ -134,54 +134,54 @@ same_lists (c ∷ cs) (d ∷ ds) differ names found =
         let not_d : same_component k (component_of d) ≡ false = rw (← name) e in
         rw (e, not_d) at at
 
--- from a state there is one joint step by an action
-pub one_joint_step : (a : Action) (cs next other : List Conf) → IsJointState cs → IsJointStep IsStep a cs next → IsJointStep IsStep a cs other → next ≡ other
-one_joint_step a cs next other state p q =
-    same_lists next other (subst (λ (ks : List Component). IsDistinct same_component ks) (sym p.same_names) state.once) (p.same_names ∙ sym q.same_names) (λ k. at k (takes_part k a) refl)
+-- from a state there is one joint step by an entry
+pub one_joint_step : (entry : PlainEntry) (cs next other : List Conf) → IsJointState cs → IsJointStep IsStep entry cs next → IsJointStep IsStep entry cs other → next ≡ other
+one_joint_step entry cs next other state p q =
+    same_lists next other (subst (λ (ks : List Component). IsDistinct same_component ks) (sym p.same_names) state.once) (p.same_names ∙ sym q.same_names) (λ k. at k (takes_part k entry.action) refl)
   where
     of_some : {A : Type 0} (x y : A) → Some x ≡ Some y → x ≡ y
     of_some x y h = cc
 
-    own : (k : Component) → TakesStep IsStep a k cs next → TakesStep IsStep a k cs other → find_conf k next ≡ find_conf k other
+    own : (k : Component) → TakesStep IsStep entry k cs next → TakesStep IsStep entry k cs other → find_conf k next ≡ find_conf k other
     own k s t =
         let old : t.old ≡ s.old = of_some t.old s.old (sym t.before ∙ s.before) in
-        let new : s.new ≡ t.new = one_step a s.old s.new t.new (state_of cs state k s.old s.before) s.step_of (subst (λ (c : Conf). IsStep a c t.new) old t.step_of) in
+        let new : s.new ≡ t.new = one_step entry s.old s.new t.new (state_of cs state k s.old s.before) s.step_of (subst (λ (c : Conf). IsStep entry c t.new) old t.step_of) in
         s.after ∙ ap Some new ∙ sym t.after
 
-    at : (k : Component) (t : Bool) → takes_part k a ≡ t → find_conf k next ≡ find_conf k other
+    at : (k : Component) (t : Bool) → takes_part k entry.action ≡ t → find_conf k next ≡ find_conf k other
     at k true part = own k (p.participants k part) (q.participants k part)
     at k false apart = p.others k apart ∙ sym (q.others k apart)
 
 -- from a state a joint step is returned if every number that it meets lies within 64 bits
-pub joint_answer-from : (a : Action) (cs next : List Conf) → IsJointState cs → IsJointStep IsStep a cs next → FitsJointStep a cs → joint_answer a cs ≡ Ok next
-joint_answer-from a cs next state p fits =
-    let answered : IsJointStep HasAnswer a cs next = joint_step-map IsStep HasAnswer a cs next (λ k c d part found step. conf_answer-from a c d (state_of cs state k c found) step (fits k c part found)) p in
-    let there = joint_answer-exists a cs (λ k part. has (answered.participants k part)) in
-    let same_next : there.0 ≡ next = one_joint_step a cs there.0 next state (is_joint_step a cs there.0 state there.1).0 p in
+pub joint_answer-from : (entry : PlainEntry) (cs next : List Conf) → IsJointState cs → IsJointStep IsStep entry cs next → FitsJointStep entry cs → joint_answer entry cs ≡ Ok next
+joint_answer-from entry cs next state p fits =
+    let answered : IsJointStep HasAnswer entry cs next = joint_step-map IsStep HasAnswer entry cs next (λ k c d part found step. conf_answer-from entry c d (state_of cs state k c found) step (fits k c part found)) p in
+    let there = joint_answer-exists entry cs (λ k part. has (answered.participants k part)) in
+    let same_next : there.0 ≡ next = one_joint_step entry cs there.0 next state (is_joint_step entry cs there.0 state there.1).0 p in
     there.1 ∙ ap Ok same_next
   where
-    has : {k : Component} → TakesStep HasAnswer a k cs next → HasStep HasAnswer a k cs
+    has : {k : Component} → TakesStep HasAnswer entry k cs next → HasStep HasAnswer entry k cs
     has t = record { old = t.old; new = t.new; before = t.before; step_of = t.step_of }
 
 -- a joint step leads from a state to a state
-pub joint_state_after : (a : Action) (cs next : List Conf) → IsJointState cs → IsJointStep IsStep a cs next → IsJointState next
-joint_state_after a cs next state p = record {
+pub joint_state_after : (entry : PlainEntry) (cs next : List Conf) → IsJointState cs → IsJointStep IsStep entry cs next → IsJointState next
+joint_state_after entry cs next state p = record {
   once = subst (λ (ks : List Component). IsDistinct same_component ks) (sym p.same_names) state.once;
-  nodes = λ k d found. at k d found (takes_part k a) refl;
+  nodes = λ k d found. at k d found (takes_part k entry.action) refl;
 }
   where
-    by_old : (k : Component) (c : Conf) (d : NodeState) → find_conf k cs ≡ Some c → IsStep a c (Node d) → IsState d
-    by_old k (Node c) d before step = state_after a c d (state.nodes k c before) step
+    by_old : (k : Component) (c : Conf) (d : NodeState) → find_conf k cs ≡ Some c → IsStep entry c (Node d) → IsState d
+    by_old k (Node c) d before step = state_after entry.action c d (state.nodes k c before) step
     by_old k (Queue q) d before step = absurd step
 
-    own : (k : Component) (d : NodeState) → find_conf k next ≡ Some (Node d) → TakesStep IsStep a k cs next → IsState d
+    own : (k : Component) (d : NodeState) → find_conf k next ≡ Some (Node d) → TakesStep IsStep entry k cs next → IsState d
     own k d found t =
         let new : t.new ≡ Node d = of_some t.new (Node d) (sym t.after ∙ found) in
-        by_old k t.old d t.before (subst (λ (c : Conf). IsStep a t.old c) new t.step_of)
+        by_old k t.old d t.before (subst (λ (c : Conf). IsStep entry t.old c) new t.step_of)
       where
         of_some : (x y : Conf) → Some x ≡ Some y → x ≡ y
         of_some x y h = cc
 
-    at : (k : Component) (d : NodeState) → find_conf k next ≡ Some (Node d) → (t : Bool) → takes_part k a ≡ t → IsState d
+    at : (k : Component) (d : NodeState) → find_conf k next ≡ Some (Node d) → (t : Bool) → takes_part k entry.action ≡ t → IsState d
     at k d found true part = own k d found (p.participants k part)
     at k d found false apart = state.nodes k d (sym (p.others k apart) ∙ found)

@@ -1,11 +1,14 @@
 -- What channels and scripts hand out in executions.
 use Rattle.std.proofs.Common.{◌≡◌, ℤ, Bool, true, false, List, [], ◌∷◌, ◌++◌, Some, None, ap, sym, ◌∙◌, map, append_assoc, if◌then◌else◌}
+use Rattle.std.specs.Prelude.{filter}
 use Rattle.std.specs.List.{cons_option}
 use Rattle.std.proofs.lemmas.List.{append-nil}
 use Rattle.std.specs.Ordering.{int_eq}
+use Rattle.ioa_actions.specs.declared.component.Component.{Component}
 use Rattle.ioa_actions.specs.declared.component.Component.TheVariants.{Channel, Script}
 use Rattle.ioa_actions.specs.declared.action.Action.{Action}
 use Rattle.ioa_actions.specs.declared.action.Action.TheVariants.{Send, Receive, Local, Stimulus}
+use Rattle.ioa_transitions.specs.Entries.{PlainEntry, entry_of, actions_of}
 use Rattle.ioa_channels.specs.declared.queue.Item.{Item}
 use Rattle.ioa_channels.specs.declared.queue.Item.TheVariants.{Message}
 use Rattle.ioa_channels.specs.declared.queue.Item.TheVariants as item
@@ -13,6 +16,7 @@ use Rattle.ioa_compose.specs.declared.configuration.Conf.{Conf}
 use Rattle.ioa_compose.specs.declared.configuration.Conf.TheVariants.{Node, Queue}
 use Rattle.ioa_channels.specs.Queues.{QueueState, queue_state}
 use Rattle.ioa_actions.specs.ComponentOrder.{same_component}
+use Rattle.ioa_compose.specs.Participants.{takes_part}
 use Rattle.ioa_compose.specs.Executions.{projection_of}
 use Rattle.ioa_compose.specs.Automata.{IsExecution}
 use Rattle.ioa_compose.specs.JointStep.{IsJointStep}
@@ -20,6 +24,25 @@ use Rattle.ioa_compose.specs.Steps.{IsStep}
 use Rattle.ioa_compose.specs.Channels.{messages_sent, messages_received, HandsOutInOrder, HandsOutPrefix}
 use Rattle.ioa_compose.specs.Scripts.{stimuli_taken, TakesInOrder}
 use Rattle.ioa_compose.proofs.Projections.{projects}
+
+-- a step of a component by an action
+abbrev StepsBy : Action → Conf → Conf → Type 0
+StepsBy a = IsStep (entry_of a)
+
+-- the actions in which a component takes part
+abbrev own_actions : Component → List Action → List Action
+own_actions k actions = filter (takes_part k) actions
+
+-- a component's own execution by entries is one by their actions
+by_actions : (k : Component) (entries : List PlainEntry) (c d : Conf) → IsExecution IsStep c (projection_of k entries) d → IsExecution StepsBy c (own_actions k (actions_of entries)) d
+by_actions k [] c d h = h
+by_actions k (entry ∷ more) c d h = by_test (takes_part k entry.action) h (λ mid rest. by_actions k more mid d rest)
+  where
+    by_test : (t : Bool) → IsExecution IsStep c (if t then entry ∷ projection_of k more else projection_of k more) d →
+        ((mid : Conf) → IsExecution IsStep mid (projection_of k more) d → IsExecution StepsBy mid (own_actions k (actions_of more)) d) →
+        IsExecution StepsBy c (if t then entry.action ∷ own_actions k (actions_of more) else own_actions k (actions_of more)) d
+    by_test true h further = (h.0, h.1, further h.0 h.2)
+    by_test false h further = further c h
 
 -- a queue that takes items in and hands items out, in order
 record HandsOut (q : QueueState) (ins outs : List Item) (d : Conf) : Type 0 where
@@ -44,31 +67,31 @@ handed_out x ins outs q r d e p = record {
 }
 
 -- a channel's own execution hands out what it takes in, in order
-hands_out : (i j : ℤ) (actions : List Action) (q : QueueState) (d : Conf) → IsExecution IsStep (Queue q) (projection_of (Channel i j) actions) d → HandsOut q (map Message (messages_sent i j actions)) (map Message (messages_received i j actions)) d
+hands_out : (i j : ℤ) (actions : List Action) (q : QueueState) (d : Conf) → IsExecution StepsBy (Queue q) (own_actions (Channel i j) actions) d → HandsOut q (map Message (messages_sent i j actions)) (map Message (messages_received i j actions)) d
 hands_out i j [] q d h = record { rest = q; held = sym h; order = append-nil q.items }
 hands_out i j (Send m from to ∷ more) q d h = by_test (same_component (Channel i j) (Channel from to)) h (λ r e. hands_out i j more r d e)
   where
     Further : Type 0
-    Further = (r : QueueState) → IsExecution IsStep (Queue r) (projection_of (Channel i j) more) d → HandsOut r (map Message (messages_sent i j more)) (map Message (messages_received i j more)) d
+    Further = (r : QueueState) → IsExecution StepsBy (Queue r) (own_actions (Channel i j) more) d → HandsOut r (map Message (messages_sent i j more)) (map Message (messages_received i j more)) d
 
-    sends : (mid : Conf) → IsStep (Send m from to) (Queue q) mid → IsExecution IsStep mid (projection_of (Channel i j) more) d → Further → HandsOut q (Message m ∷ map Message (messages_sent i j more)) (map Message (messages_received i j more)) d
+    sends : (mid : Conf) → StepsBy (Send m from to) (Queue q) mid → IsExecution StepsBy mid (own_actions (Channel i j) more) d → Further → HandsOut q (Message m ∷ map Message (messages_sent i j more)) (map Message (messages_received i j more)) d
     sends (Node c) step rest further = absurd step
     sends (Queue r) step rest further = taken_in (Message m) (map Message (messages_sent i j more)) (map Message (messages_received i j more)) q r d step (further r rest)
 
-    by_test : (t : Bool) → IsExecution IsStep (Queue q) (if t then Send m from to ∷ projection_of (Channel i j) more else projection_of (Channel i j) more) d → Further →
+    by_test : (t : Bool) → IsExecution StepsBy (Queue q) (if t then Send m from to ∷ own_actions (Channel i j) more else own_actions (Channel i j) more) d → Further →
         HandsOut q (map Message (cons_option (if t then Some m else None) (messages_sent i j more))) (map Message (messages_received i j more)) d
     by_test true h further = sends h.0 h.1 h.2 further
     by_test false h further = further q h
 hands_out i j (Receive m from to ∷ more) q d h = by_test (same_component (Channel i j) (Channel from to)) h (λ r e. hands_out i j more r d e)
   where
     Further : Type 0
-    Further = (r : QueueState) → IsExecution IsStep (Queue r) (projection_of (Channel i j) more) d → HandsOut r (map Message (messages_sent i j more)) (map Message (messages_received i j more)) d
+    Further = (r : QueueState) → IsExecution StepsBy (Queue r) (own_actions (Channel i j) more) d → HandsOut r (map Message (messages_sent i j more)) (map Message (messages_received i j more)) d
 
-    receives : (mid : Conf) → IsStep (Receive m from to) (Queue q) mid → IsExecution IsStep mid (projection_of (Channel i j) more) d → Further → HandsOut q (map Message (messages_sent i j more)) (Message m ∷ map Message (messages_received i j more)) d
+    receives : (mid : Conf) → StepsBy (Receive m from to) (Queue q) mid → IsExecution StepsBy mid (own_actions (Channel i j) more) d → Further → HandsOut q (map Message (messages_sent i j more)) (Message m ∷ map Message (messages_received i j more)) d
     receives (Node c) step rest further = absurd step
     receives (Queue r) step rest further = handed_out (Message m) (map Message (messages_sent i j more)) (map Message (messages_received i j more)) q r d step (further r rest)
 
-    by_test : (t : Bool) → IsExecution IsStep (Queue q) (if t then Receive m from to ∷ projection_of (Channel i j) more else projection_of (Channel i j) more) d → Further →
+    by_test : (t : Bool) → IsExecution StepsBy (Queue q) (if t then Receive m from to ∷ own_actions (Channel i j) more else own_actions (Channel i j) more) d → Further →
         HandsOut q (map Message (messages_sent i j more)) (map Message (cons_option (if t then Some m else None) (messages_received i j more))) d
     by_test true h further = receives h.0 h.1 h.2 further
     by_test false h further = further q h
@@ -76,21 +99,22 @@ hands_out i j (Local a ∷ more) q d h = hands_out i j more q d h
 hands_out i j (Stimulus a ∷ more) q d h = hands_out i j more q d h
 
 -- in an execution each channel hands out what was in it and what is sent on it, in order
-pub hands_out_in_order : (actions : List Action) (start confs : List Conf) → IsExecution (IsJointStep IsStep) start actions confs → HandsOutInOrder start actions confs
-hands_out_in_order actions start confs h i j q found =
-    let end = projects IsStep actions start confs h (Channel i j) (Queue q) found in
-    let p : HandsOut q (map Message (messages_sent i j actions)) (map Message (messages_received i j actions)) end.0 = hands_out i j actions q end.0 end.2 in
+pub hands_out_in_order : (entries : List PlainEntry) (start confs : List Conf) → IsExecution (IsJointStep IsStep) start entries confs → HandsOutInOrder start entries confs
+hands_out_in_order entries start confs h i j q found =
+    let end = projects IsStep entries start confs h (Channel i j) (Queue q) found in
+    let actions = actions_of entries in
+    let p : HandsOut q (map Message (messages_sent i j actions)) (map Message (messages_received i j actions)) end.0 = hands_out i j actions q end.0 (by_actions (Channel i j) entries (Queue q) end.0 end.2) in
     (p.rest, end.1 ∙ ap Some p.held, p.order)
 
 -- in an execution each channel that was empty hands out a prefix of what is sent on it
-pub hands_out_prefix : (actions : List Action) (start confs : List Conf) → IsExecution (IsJointStep IsStep) start actions confs → HandsOutPrefix start actions confs
-hands_out_prefix actions start confs h i j q found empty =
-    let end = hands_out_in_order actions start confs h i j q found in
-    let messages = map Message (messages_sent i j actions) in
+pub hands_out_prefix : (entries : List PlainEntry) (start confs : List Conf) → IsExecution (IsJointStep IsStep) start entries confs → HandsOutPrefix start entries confs
+hands_out_prefix entries start confs h i j q found empty =
+    let end = hands_out_in_order entries start confs h i j q found in
+    let messages = map Message (messages_sent i j (actions_of entries)) in
     (end.0, end.1, sym (ap (λ (items : List Item). items ++ messages) empty) ∙ end.2)
 
 -- a script's own execution hands out what it holds, in order
-gives_out : (k : ℤ) (actions : List Action) (q : QueueState) (d : Conf) → IsExecution IsStep (Queue q) (projection_of (Script k) actions) d → HandsOut q [] (map item.Stimulus (stimuli_taken k actions)) d
+gives_out : (k : ℤ) (actions : List Action) (q : QueueState) (d : Conf) → IsExecution StepsBy (Queue q) (own_actions (Script k) actions) d → HandsOut q [] (map item.Stimulus (stimuli_taken k actions)) d
 gives_out k [] q d h = record { rest = q; held = sym h; order = append-nil q.items }
 gives_out k (Send m from to ∷ more) q d h = gives_out k more q d h
 gives_out k (Receive m from to ∷ more) q d h = gives_out k more q d h
@@ -98,20 +122,21 @@ gives_out k (Local a ∷ more) q d h = gives_out k more q d h
 gives_out k (Stimulus a ∷ more) q d h = by_test (int_eq k a.node) h (λ r e. gives_out k more r d e)
   where
     Further : Type 0
-    Further = (r : QueueState) → IsExecution IsStep (Queue r) (projection_of (Script k) more) d → HandsOut r [] (map item.Stimulus (stimuli_taken k more)) d
+    Further = (r : QueueState) → IsExecution StepsBy (Queue r) (own_actions (Script k) more) d → HandsOut r [] (map item.Stimulus (stimuli_taken k more)) d
 
-    takes : (mid : Conf) → IsStep (Stimulus a) (Queue q) mid → IsExecution IsStep mid (projection_of (Script k) more) d → Further → HandsOut q [] (item.Stimulus a ∷ map item.Stimulus (stimuli_taken k more)) d
+    takes : (mid : Conf) → StepsBy (Stimulus a) (Queue q) mid → IsExecution StepsBy mid (own_actions (Script k) more) d → Further → HandsOut q [] (item.Stimulus a ∷ map item.Stimulus (stimuli_taken k more)) d
     takes (Node c) step rest further = absurd step
     takes (Queue r) step rest further = handed_out (item.Stimulus a) [] (map item.Stimulus (stimuli_taken k more)) q r d step (further r rest)
 
-    by_test : (t : Bool) → IsExecution IsStep (Queue q) (if t then Stimulus a ∷ projection_of (Script k) more else projection_of (Script k) more) d → Further →
+    by_test : (t : Bool) → IsExecution StepsBy (Queue q) (if t then Stimulus a ∷ own_actions (Script k) more else own_actions (Script k) more) d → Further →
         HandsOut q [] (map item.Stimulus (cons_option (if t then Some a else None) (stimuli_taken k more))) d
     by_test true h further = takes h.0 h.1 h.2 further
     by_test false h further = further q h
 
 -- in an execution each script hands out what was in it, in order
-pub takes_in_order : (actions : List Action) (start confs : List Conf) → IsExecution (IsJointStep IsStep) start actions confs → TakesInOrder start actions confs
-takes_in_order actions start confs h k q found =
-    let end = projects IsStep actions start confs h (Script k) (Queue q) found in
-    let p : HandsOut q [] (map item.Stimulus (stimuli_taken k actions)) end.0 = gives_out k actions q end.0 end.2 in
+pub takes_in_order : (entries : List PlainEntry) (start confs : List Conf) → IsExecution (IsJointStep IsStep) start entries confs → TakesInOrder start entries confs
+takes_in_order entries start confs h k q found =
+    let end = projects IsStep entries start confs h (Script k) (Queue q) found in
+    let actions = actions_of entries in
+    let p : HandsOut q [] (map item.Stimulus (stimuli_taken k actions)) end.0 = gives_out k actions q end.0 (by_actions (Script k) entries (Queue q) end.0 end.2) in
     (p.rest, end.1 ∙ ap Some p.held, sym (append-nil q.items) ∙ p.order)

@@ -3,6 +3,7 @@ pub mod Components
 pub mod Compositions
 pub mod Deliveries
 pub mod JointSteps
+pub mod Picks
 pub mod Positions
 pub mod Projections
 pub mod Replays

@@ -6,7 +6,9 @@ use Rattle.ioa_actions.specs.declared.component.Component.TheVariants.{Channel}
 use Rattle.ioa_actions.specs.declared.action.Action.{Action}
 use Rattle.ioa_actions.specs.declared.action.Action.TheVariants.{Send, Receive, Local, Stimulus}
 use Rattle.ioa_source.specs.declared.declaration.Channel as declaration
+use Rattle.ioa_channels.specs.declared.queue.Item.{Item}
 use Rattle.ioa_channels.specs.declared.queue.Item.TheVariants.{Message}
+use Rattle.ioa_transitions.specs.Entries.{PlainEntry, actions_of}
 use Rattle.ioa_compose.specs.declared.configuration.Conf.{Conf}
 use Rattle.ioa_compose.specs.declared.configuration.Conf.TheVariants.{Queue}
 use Rattle.ioa_channels.specs.Queues.{QueueState}
@@ -35,25 +37,30 @@ messages_sent i j actions = filter_map (message_sent i j) actions
 abbrev pub messages_received : ℤ → ℤ → List Action → List Data
 messages_received i j actions = filter_map (message_received i j) actions
 
+-- a channel has handed out, in order, a first part of what it held and what was then sent on it, and the rest is left
+-- (Lynch 14.1)
+abbrev pub IsHandedOut : List Item → List Data → List Data → List Item → Type 0
+IsHandedOut held sent received left = held ++ map Message sent ≡ map Message received ++ left
+
 -- each channel has handed out, in order, a first part of what it held at the start and what was then sent on it, and
 -- holds the rest (Lynch 14.1)
-abbrev pub HandsOutInOrder : List Conf → List Action → List Conf → Type 0
-HandsOutInOrder start actions confs =
+abbrev pub HandsOutInOrder : List Conf → List PlainEntry → List Conf → Type 0
+HandsOutInOrder start entries confs =
     (i j : ℤ) (q : QueueState) → find_conf (Channel i j) start ≡ Some (Queue q) →
     (r : QueueState) × (find_conf (Channel i j) confs ≡ Some (Queue r))
-    × (q.items ++ map Message (messages_sent i j actions) ≡ map Message (messages_received i j actions) ++ r.items)
+    × IsHandedOut q.items (messages_sent i j (actions_of entries)) (messages_received i j (actions_of entries)) r.items
 
 -- each channel that was empty has handed out a first part of what was sent on it, and holds the rest (Lynch 14.1)
-abbrev pub HandsOutPrefix : List Conf → List Action → List Conf → Type 0
-HandsOutPrefix start actions confs =
+abbrev pub HandsOutPrefix : List Conf → List PlainEntry → List Conf → Type 0
+HandsOutPrefix start entries confs =
     (i j : ℤ) (q : QueueState) → find_conf (Channel i j) start ≡ Some (Queue q) → q.items ≡ [] →
     (r : QueueState) × (find_conf (Channel i j) confs ≡ Some (Queue r))
-    × (map Message (messages_sent i j actions) ≡ map Message (messages_received i j actions) ++ r.items)
+    × IsHandedOut [] (messages_sent i j (actions_of entries)) (messages_received i j (actions_of entries)) r.items
 
--- a declared channel has handed out, in order, a beginning of what was sent on it, and its queue holds the rest (Lynch
--- 14.1)
-pub record HandsOutBeginning (actions : List Action) (confs : List Conf) (c : declaration.Channel) : Type 0 where
+-- a declared channel delivers: it has handed out, in order, a beginning of what was sent on it, and its queue holds the
+-- rest (Lynch 14.1)
+pub record Delivers (entries : List PlainEntry) (confs : List Conf) (c : declaration.Channel) : Type 0 where
   pub queue : QueueState
   pub held : find_conf (Channel c.from c.to) confs ≡ Some (Queue queue)
-  pub order : map Message (messages_sent c.from c.to actions)
-      ≡ map Message (messages_received c.from c.to actions) ++ queue.items
+  pub order : IsHandedOut [] (messages_sent c.from c.to (actions_of entries))
+      (messages_received c.from c.to (actions_of entries)) queue.items

@@ -1,5 +1,6 @@
 -- The composition of a system's components (Lynch 8.2). A configuration bears its component's name, and a list of
--- configurations is the map from names to them: of two with one name the first counts.
+-- configurations is the map from names to them: of two with one name the first counts. A step is by an entry, which
+-- tells all that is to be taken again; an action alone is what an entry is picked for.
 use Rattle.std.specs.Prelude.{if◌then◌else◌, List, [], ◌∷◌, map, find}
 use Rattle.std.specs.Prelude.{Option, Some, None, Result, Ok, Err, is_none}
 use Rattle.std.specs.List.{list_any}
@@ -11,6 +12,7 @@ use Rattle.ioa_compose.specs.declared.configuration.Conf.{Conf}
 use Rattle.ioa_compose.specs.declared.configuration.Conf.TheVariants.{Node, Queue}
 use Rattle.ioa_actions.specs.declared.fault.StepFault.{StepFault}
 use Rattle.ioa_actions.specs.declared.fault.StepFault.TheVariants.{NoChannel}
+use Rattle.ioa_transitions.specs.Entries.{PlainEntry, entry_of}
 use Rattle.ioa_transitions.specs.NodeAnswers.{node_answer}
 use Rattle.ioa_channels.specs.Queues.{queue_answer}
 use Rattle.ioa_compose.specs.Participants.{participants_of}
@@ -25,10 +27,10 @@ component_of (Queue q) = q.component
 abbrev pub component_names : List Conf → List Component
 component_names cs = map component_of cs
 
--- the result of an action at a component: its configuration after its own step, or why there is no step (Lynch 8.1)
-unfoldable pub conf_answer : Action → Conf → Result Conf StepFault
-conf_answer a (Node c) = and_then (node_answer c a) (λ d. Ok (Node d))
-conf_answer a (Queue q) = and_then (queue_answer q a) (λ r. Ok (Queue r))
+-- the result of an entry at a component: its configuration after its own step, or why there is no step (Lynch 8.1)
+unfoldable pub conf_answer : PlainEntry → Conf → Result Conf StepFault
+conf_answer e (Node c) = and_then (node_answer c e.action) (λ d. Ok (Node d))
+conf_answer e (Queue q) = and_then (queue_answer q e.action) (λ r. Ok (Queue r))
 
 -- the configuration of a component, if there is one
 abbrev pub find_conf : Component → List Conf → Option Conf
@@ -48,16 +50,24 @@ put_confs (d ∷ ds) cs = put_confs ds (put_conf d cs)
 abbrev pub find_confs : List Component → List Conf → List (Option Conf)
 find_confs ks cs = map (λ k. find_conf k cs) ks
 
--- each component's own step by an action, or the first fault among them
-abbrev pub own_steps : Action → List (Option Conf) → Result (List Conf) StepFault
-own_steps a [] = Ok []
-own_steps a (None ∷ more) = Err NoChannel
-own_steps a (Some c ∷ more) = and_then (conf_answer a c) (λ d. and_then (own_steps a more) (λ ds. Ok (d ∷ ds)))
+-- each component's own step by an entry, or the first fault among them
+abbrev pub own_steps : PlainEntry → List (Option Conf) → Result (List Conf) StepFault
+own_steps e [] = Ok []
+own_steps e (None ∷ more) = Err NoChannel
+own_steps e (Some c ∷ more) = and_then (conf_answer e c) (λ d. and_then (own_steps e more) (λ ds. Ok (d ∷ ds)))
 
 -- the participants' new configurations; a missing component is the fault before any other
-abbrev pub changes_of : Action → List (Option Conf) → Result (List Conf) StepFault
-changes_of a rs = if list_any is_none rs then Err NoChannel else own_steps a rs
+abbrev pub changes_of : PlainEntry → List (Option Conf) → Result (List Conf) StepFault
+changes_of e rs = if list_any is_none rs then Err NoChannel else own_steps e rs
 
--- the result of an action in the composition: each participant takes its own step, and all others stay (Lynch 8.2)
-abbrev pub joint_answer : Action → List Conf → Result (List Conf) StepFault
-joint_answer a cs = and_then (changes_of a (find_confs (participants_of a) cs)) (λ ds. Ok (put_confs ds cs))
+-- the result of an entry in the composition: each participant takes its own step, and all others stay (Lynch 8.2)
+abbrev pub joint_answer : PlainEntry → List Conf → Result (List Conf) StepFault
+joint_answer e cs = and_then (changes_of e (find_confs (participants_of e.action) cs)) (λ ds. Ok (put_confs ds cs))
+
+-- what the participants of an action pick: the entry of a step by it, and their new configurations (form)
+abbrev pub picks_of : Action → List (Option Conf) → Result (PlainEntry × List Conf) StepFault
+picks_of a rs = and_then (changes_of (entry_of a) rs) (λ ds. Ok (entry_of a, ds))
+
+-- what the composition picks for an action: the entry of a joint step by it, and the configurations after that (form)
+abbrev pub joint_pick : Action → List Conf → Result (PlainEntry × List Conf) StepFault
+joint_pick a cs = and_then (picks_of a (find_confs (participants_of a) cs)) (λ t. Ok (t.0, put_confs t.1 cs))

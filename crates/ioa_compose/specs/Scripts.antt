@@ -7,6 +7,7 @@ use Rattle.ioa_actions.specs.declared.action.NodeAction.{NodeAction}
 use Rattle.ioa_actions.specs.declared.action.Action.{Action}
 use Rattle.ioa_actions.specs.declared.action.Action.TheVariants as action
 use Rattle.ioa_system.specs.Systems.{ScriptParts}
+use Rattle.ioa_transitions.specs.Entries.{PlainEntry, actions_of}
 use Rattle.ioa_channels.specs.declared.queue.Item.TheVariants.{Stimulus}
 use Rattle.ioa_channels.specs.Queues.{QueueState}
 use Rattle.ioa_compose.specs.declared.configuration.Conf.{Conf}
@@ -25,14 +26,14 @@ abbrev pub stimuli_taken : ℤ → List Action → List NodeAction
 stimuli_taken k actions = filter_map (stimulus_taken k) actions
 
 -- each script has handed out, in order, a first part of what it held at the start, and holds the rest
-abbrev pub TakesInOrder : List Conf → List Action → List Conf → Type 0
-TakesInOrder start actions confs =
+abbrev pub TakesInOrder : List Conf → List PlainEntry → List Conf → Type 0
+TakesInOrder start entries confs =
     (k : ℤ) (q : QueueState) → find_conf (Script k) start ≡ Some (Queue q) →
     (r : QueueState) × (find_conf (Script k) confs ≡ Some (Queue r))
-    × (q.items ≡ map Stimulus (stimuli_taken k actions) ++ r.items)
+    × (q.items ≡ map Stimulus (stimuli_taken k (actions_of entries)) ++ r.items)
 
 -- a declared script has handed out, in order, a beginning of its stimuli, and its queue holds the rest
-pub record TakesBeginning (actions : List Action) (confs : List Conf) (c : ScriptParts) : Type 0 where
+pub record TakesBeginning (entries : List PlainEntry) (confs : List Conf) (c : ScriptParts) : Type 0 where
   pub queue : QueueState
   pub held : find_conf (Script c.node) confs ≡ Some (Queue queue)
-  pub order : map Stimulus c.stimuli ≡ map Stimulus (stimuli_taken c.node actions) ++ queue.items
+  pub order : map Stimulus c.stimuli ≡ map Stimulus (stimuli_taken c.node (actions_of entries)) ++ queue.items

@@ -7,11 +7,13 @@ ghost use Rattle.ioa_values.specs.Outcome.{Answers};
 ghost use Rattle.ioa_compose.specs.Participants.{participants_of};
 ghost use Rattle.ioa_actions.specs.ComponentOrder.{same_component};
 ghost use Rattle.ioa_compose.specs.Composition.{component_of, find_conf, put_conf, put_confs};
-ghost use Rattle.ioa_compose.specs.Composition.{find_confs, changes_of, joint_answer};
+ghost use Rattle.ioa_compose.specs.Composition.{find_confs, changes_of, joint_answer, joint_pick};
+ghost use Rattle.ioa_transitions.specs.Entries.{entry_of};
 
 use crate::configuration::Conf;
 use crate::parties::{Parties, participants};
 use ioa_actions::{Action, Component, StepFault};
+use ioa_transitions::Entry;
 use std::alloc::{AllocError, Global};
 
 /// The configuration of a component; the first one if several bear its name.
@@ -25,7 +27,7 @@ pub fn find_conf(confs: &[Conf], component: Component) -> Option<&Conf>
 /// no configuration; else the first fault of their own steps, the queue's first.
 pub fn changes(alloc: Global, confs: &[Conf], action: &Action) -> Result<Vec<Conf>, StepFault>
     ensures { Answers StepFault.Memory (λ v. v.items) result
-        (changes_of action.now (find_confs (participants_of action.now) confs.now)) }
+        (changes_of (entry_of action.now) (find_confs (participants_of action.now) confs.now)) }
 {
     let mut changed = Vec::new(alloc);
     match participants(action) {
@@ -86,11 +88,25 @@ pub fn copy_confs(alloc: Global, confs: &[Conf]) -> Result<Vec<Conf>, AllocError
     Ok(copied)
 }
 
-/// The configurations after a joint step by an action: each participant takes its own step, and all others stay
-/// (Lynch 8.2). `NoChannel` (42) if a participant is no component; else the first fault of the participants' own
-/// steps, the queue's first.
+/// The configurations after a joint step that an action is picked for: each participant takes its own step, and all
+/// others stay (Lynch 8.2). `NoChannel` (42) if a participant is no component; else the first fault of the
+/// participants' own steps, the queue's first.
 pub fn joint_step(alloc: Global, confs: &[Conf], action: &Action) -> Result<Vec<Conf>, StepFault>
-    ensures { Answers StepFault.Memory (λ v. v.items) result (joint_answer action.now confs.now) }
+    ensures { Answers StepFault.Memory (λ v. (entry_of action.now, v.items)) result (joint_pick action.now confs.now) }
+{
+    all_after(alloc, confs, action)
+}
+
+/// The configurations after the joint step by an entry, which is taken again. The faults are those of `joint_step`.
+pub fn joint_redo(alloc: Global, confs: &[Conf], entry: &Entry) -> Result<Vec<Conf>, StepFault>
+    ensures { Answers StepFault.Memory (λ v. v.items) result (joint_answer entry.now confs.now) }
+{
+    all_after(alloc, confs, entry.action())
+}
+
+/// The configurations after the joint step by an action.
+fn all_after(alloc: Global, confs: &[Conf], action: &Action) -> Result<Vec<Conf>, StepFault>
+    ensures { Answers StepFault.Memory (λ v. v.items) result (joint_answer (entry_of action.now) confs.now) }
 {
     let changed = changes(alloc, confs, action)?;
     let mut next = copy_confs(alloc, confs)?;

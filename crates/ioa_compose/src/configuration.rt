@@ -2,12 +2,13 @@
 
 ghost use Rattle.std.specs.Prelude.{◌≡◌, ◌↔◌, IfOk, IsTrue};
 ghost use Rattle.ioa_values.specs.Outcome.{Answers};
+ghost use Rattle.ioa_transitions.specs.Entries.{entry_of};
 ghost use Rattle.ioa_compose.specs.Composition.{component_of, conf_answer};
 ghost use Rattle.ioa_compose.specs.SameConfs.{same_conf};
 
 use ioa_actions::{Action, Component, StepFault};
 use ioa_channels::Queue;
-use ioa_transitions::NodeConf;
+use ioa_transitions::{Entry, NodeConf};
 use std::alloc::{AllocError, Global};
 
 /// The configuration of a component, which bears the component's name.
@@ -64,11 +65,19 @@ impl Conf {
     /// meant for an action in which the component takes part, and does not test that.
     #[tactic(auto, unfolding(crate::specs::Composition::conf_answer))]
     pub fn step(&self, alloc: Global, action: &Action) -> Result<Self, StepFault>
-        ensures { Answers StepFault.Memory (λ c. c) result (conf_answer action.now self.now) }
+        ensures { Answers StepFault.Memory (λ c. c) result (conf_answer (entry_of action.now) self.now) }
     {
         match self {
             Conf::Node(node) => Ok(Conf::Node(node.step(alloc, action)?)),
             Conf::Queue(queue) => Ok(Conf::Queue(queue.step(alloc, action)?)),
         }
+    }
+
+    /// The configuration after the component's own step by an entry, which is taken again, or the component's own
+    /// fault. It is meant for an entry in which the component takes part, and does not test that.
+    pub fn redo(&self, alloc: Global, entry: &Entry) -> Result<Self, StepFault>
+        ensures { Answers StepFault.Memory (λ c. c) result (conf_answer entry.now self.now) }
+    {
+        self.step(alloc, entry.action())
     }
 }

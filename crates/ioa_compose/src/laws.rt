@@ -1,6 +1,6 @@
 //! Laws of executions. Each law is the contract of a function that does nothing.
 
-ghost use Rattle.std.specs.Prelude.{◌≡◌, ◌↔◌, ◌||◌, ℤ, true, List, Some, Ok};
+ghost use Rattle.std.specs.Prelude.{◌≡◌, ◌↔◌, ◌||◌, ℤ, true, List, Option, Some, Ok};
 ghost use Rattle.std.specs.List.{list_any};
 ghost use Rattle.std.specs.Option.{is_some};
 ghost use Rattle.ioa_actions.specs.ActionParts.{node_of};
@@ -11,7 +11,8 @@ ghost use Rattle.ioa_compose.specs.Participants.{participants_of, takes_part};
 ghost use Rattle.ioa_actions.specs.ComponentOrder.{same_component};
 ghost use Rattle.ioa_compose.specs.Steps.{IsStep};
 ghost use Rattle.ioa_compose.specs.JointStep.{IsJointState, IsJointStep, FitsJointStep, AllHaveSteps, HasAnswer};
-ghost use Rattle.ioa_compose.specs.Composition.{joint_answer};
+ghost use Rattle.ioa_transitions.specs.Entries.{PlainEntry};
+ghost use Rattle.ioa_compose.specs.Composition.{changes_of, joint_answer, joint_pick, picks_of};
 ghost use Rattle.ioa_compose.specs.Executions.{replay};
 ghost use Rattle.ioa_system.specs.Declarations.{IsWellDeclared};
 ghost use Rattle.ioa_system.specs.Systems.{SystemParts};
@@ -21,21 +22,33 @@ ghost use Rattle.ioa_compose.specs.Automata.{IsExecution, ProjectsOnEach};
 ghost use Rattle.ioa_compose.specs.Channels.{HandsOutInOrder, HandsOutPrefix, message_sent, message_received};
 ghost use Rattle.ioa_compose.specs.Scripts.{TakesInOrder, stimulus_taken};
 
-/// From a state of the composition the code gives a list of configurations exactly if a joint step leads there and
-/// every number that the participants meet lies within 64 bits. In a joint step each component that has the action takes
-/// its own step, and all others stay (Lynch 8.2). There is one joint step by an action at most, and it leads to a state
-/// of the composition again. The code finds one if it finds a step of each component that has the action.
+/// From a state of the composition the code gives a list of configurations for an entry exactly if a joint step by it
+/// leads there and every number that the participants meet lies within 64 bits. In a joint step each component that has
+/// the entry's action takes its own step, and all others stay (Lynch 8.2). There is one joint step by an entry at most,
+/// and it leads to a state of the composition again. The code finds one if it finds a step of each component that has
+/// the action.
 pub fn joint_step_law()
-    ensures step { (action : Action) (confs next : List Conf) → IsJointState confs
-        → joint_answer action confs ≡ Ok next → IsJointStep IsStep action confs next × FitsJointStep action confs }
-    ensures answer { (action : Action) (confs next : List Conf) → IsJointState confs
-        → IsJointStep IsStep action confs next → FitsJointStep action confs → joint_answer action confs ≡ Ok next }
-    ensures one { (action : Action) (confs next other : List Conf) → IsJointState confs
-        → IsJointStep IsStep action confs next → IsJointStep IsStep action confs other → next ≡ other }
-    ensures state { (action : Action) (confs next : List Conf) → IsJointState confs
-        → IsJointStep IsStep action confs next → IsJointState next }
-    ensures enabled { (action : Action) (confs : List Conf) → AllHaveSteps HasAnswer action confs
-        → (next : List Conf) × (joint_answer action confs ≡ Ok next) }
+    ensures step { (entry : PlainEntry) (confs next : List Conf) → IsJointState confs
+        → joint_answer entry confs ≡ Ok next → IsJointStep IsStep entry confs next × FitsJointStep entry confs }
+    ensures answer { (entry : PlainEntry) (confs next : List Conf) → IsJointState confs
+        → IsJointStep IsStep entry confs next → FitsJointStep entry confs → joint_answer entry confs ≡ Ok next }
+    ensures one { (entry : PlainEntry) (confs next other : List Conf) → IsJointState confs
+        → IsJointStep IsStep entry confs next → IsJointStep IsStep entry confs other → next ≡ other }
+    ensures state { (entry : PlainEntry) (confs next : List Conf) → IsJointState confs
+        → IsJointStep IsStep entry confs next → IsJointState next }
+    ensures enabled { (entry : PlainEntry) (confs : List Conf) → AllHaveSteps HasAnswer entry confs
+        → (next : List Conf) × (joint_answer entry confs ≡ Ok next) }
+{}
+
+/// What is picked for an action is an entry of this action, and what is picked for its participants is what they come
+/// to if the entry is taken again. The same is true of the whole composition.
+pub fn pick_law()
+    ensures parts { (action : Action) (reads : List (Option Conf)) (entry : PlainEntry) (changed : List Conf)
+        → picks_of action reads ≡ Ok (entry, changed)
+        → (entry.action ≡ action) × (changes_of entry reads ≡ Ok changed) }
+    ensures joint { (action : Action) (confs : List Conf) (entry : PlainEntry) (next : List Conf)
+        → joint_pick action confs ≡ Ok (entry, next)
+        → (entry.action ≡ action) × (joint_answer entry confs ≡ Ok next) }
 {}
 
 /// The components that have an action in their signature are its participants (Lynch 8.2). An action is its own node's
@@ -62,29 +75,29 @@ pub fn start_law()
 /// A replay from a state of the composition is an execution of it (Lynch 8.1). An execution is a replay if every number
 /// that its steps meet lies within 64 bits.
 pub fn execution_law()
-    ensures execution { (actions : List Action) (start confs : List Conf) → IsJointState start
-        → replay actions start ≡ Some confs → IsExecution (IsJointStep IsStep) start actions confs }
-    ensures replay { (actions : List Action) (start confs : List Conf) → IsJointState start
-        → IsExecution (λ a s t. IsJointStep IsStep a s t × FitsJointStep a s) start actions confs
-        → replay actions start ≡ Some confs }
+    ensures execution { (entries : List PlainEntry) (start confs : List Conf) → IsJointState start
+        → replay entries start ≡ Some confs → IsExecution (IsJointStep IsStep) start entries confs }
+    ensures replay { (entries : List PlainEntry) (start confs : List Conf) → IsJointState start
+        → IsExecution (λ e s t. IsJointStep IsStep e s t × FitsJointStep e s) start entries confs
+        → replay entries start ≡ Some confs }
 {}
 
 /// The projection of an execution on a component is an execution of that component. It ends in the configuration that
 /// the component has at the end (Lynch 8.2). The same is true of a replay and the steps that the code finds.
 pub fn projection_law()
-    ensures execution { (actions : List Action) (start confs : List Conf) →
-        IsExecution (IsJointStep IsStep) start actions confs → ProjectsOnEach IsStep start actions confs }
-    ensures replay { (actions : List Action) (start confs : List Conf) → replay actions start ≡ Some confs
-        → ProjectsOnEach HasAnswer start actions confs }
+    ensures execution { (entries : List PlainEntry) (start confs : List Conf) →
+        IsExecution (IsJointStep IsStep) start entries confs → ProjectsOnEach IsStep start entries confs }
+    ensures replay { (entries : List PlainEntry) (start confs : List Conf) → replay entries start ≡ Some confs
+        → ProjectsOnEach HasAnswer start entries confs }
 {}
 
 /// In an execution each channel hands out its messages in the order in which they were sent, and keeps the rest: the
 /// messages received are a prefix of the messages sent (Lynch 14.1). So does each script with its stimuli (profile).
 pub fn prefix_law()
-    ensures queued { (actions : List Action) (start confs : List Conf) →
-        IsExecution (IsJointStep IsStep) start actions confs → HandsOutInOrder start actions confs }
-    ensures from_empty { (actions : List Action) (start confs : List Conf) →
-        IsExecution (IsJointStep IsStep) start actions confs → HandsOutPrefix start actions confs }
-    ensures scripts { (actions : List Action) (start confs : List Conf) →
-        IsExecution (IsJointStep IsStep) start actions confs → TakesInOrder start actions confs }
+    ensures queued { (entries : List PlainEntry) (start confs : List Conf) →
+        IsExecution (IsJointStep IsStep) start entries confs → HandsOutInOrder start entries confs }
+    ensures from_empty { (entries : List PlainEntry) (start confs : List Conf) →
+        IsExecution (IsJointStep IsStep) start entries confs → HandsOutPrefix start entries confs }
+    ensures scripts { (entries : List PlainEntry) (start confs : List Conf) →
+        IsExecution (IsJointStep IsStep) start entries confs → TakesInOrder start entries confs }
 {}

@@ -5,7 +5,8 @@
 //!
 //! **Must not know**: schedule blocks.
 //!
-//! **Laws**: `execution_law`, `joint_step_law`, `prefix_law`, `projection_law`, `signature_law`, `start_law`.
+//! **Laws**: `execution_law`, `joint_step_law`, `pick_law`, `prefix_law`, `projection_law`, `signature_law`,
+//! `start_law`.
 #![tactic(auto)]
 
 mod composition;
@@ -16,10 +17,12 @@ mod projection;
 mod replaying;
 mod starting;
 
-pub use composition::{changes, copy_confs, find_conf, joint_step, put_conf, put_confs};
+pub use composition::{
+    changes, copy_confs, find_conf, joint_redo, joint_step, put_conf, put_confs,
+};
 pub use configuration::Conf;
 pub use laws::{
-    execution_law, joint_step_law, prefix_law, projection_law, signature_law, start_law,
+    execution_law, joint_step_law, pick_law, prefix_law, projection_law, signature_law, start_law,
 };
 pub use parties::{Parties, participants, takes_part_in};
 pub use projection::project;

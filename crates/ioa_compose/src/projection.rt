@@ -4,21 +4,22 @@ ghost use Rattle.std.specs.Prelude.{◌≡◌, IfOk};
 ghost use Rattle.ioa_compose.specs.Executions.{projection_of};
 
 use crate::parties::takes_part_in;
-use ioa_actions::{Action, Component};
+use ioa_actions::Component;
+use ioa_transitions::Entry;
 use std::alloc::{AllocError, Global};
 
-/// The actions in which a component takes part, in order (Lynch 8.2).
+/// The entries in which a component takes part, in order (Lynch 8.2).
 pub fn project(
     alloc: Global,
-    actions: &[Action],
+    entries: &[Entry],
     component: Component,
-) -> Result<Vec<Action>, AllocError>
-    ensures { IfOk result (λ v. v.items ≡ projection_of component actions.now) }
+) -> Result<Vec<Entry>, AllocError>
+    ensures { IfOk result (λ v. v.items ≡ projection_of component entries.now) }
 {
     let mut kept = Vec::new(alloc);
-    for action in actions {
-        if takes_part_in(component, action) {
-            kept.push(action.try_copy(alloc)?)?;
+    for entry in entries {
+        if takes_part_in(component, entry.action()) {
+            kept.push(entry.try_clone()?)?;
         }
     }
     Ok(kept)

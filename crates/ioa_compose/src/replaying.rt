@@ -4,19 +4,20 @@ ghost use Rattle.std.specs.Prelude.{◌≡◌, ◌⊎◌, IfOk, IfErr};
 ghost use Rattle.ioa_compose.specs.Start.{start};
 ghost use Rattle.ioa_compose.specs.Executions.{replay, StopsAt};
 
-use crate::composition::joint_step;
+use crate::composition::joint_redo;
 use crate::configuration::Conf;
 use crate::starting::start;
-use ioa_actions::{Action, StepFault};
+use ioa_actions::StepFault;
 use ioa_system::System;
+use ioa_transitions::Entry;
 use std::alloc::Global;
 use std::fmt;
 use thiserror::Error;
 
-/// Why a list of actions has no execution.
+/// Why a list of entries has no execution.
 #[derive(Debug, Drop, Error)]
 pub struct ReplayFault {
-    /// The position of the first action that is no step, counted from 0.
+    /// The position of the first entry that is no step, counted from 0.
     pub position: usize,
     /// Why it is no step.
     pub fault: StepFault,
@@ -34,14 +35,14 @@ impl fmt::Display for ReplayFault {
     }
 }
 
-/// The configurations after the joint steps by a list of actions, one after another.
-fn steps(alloc: Global, start: Vec<Conf>, actions: &[Action]) -> Result<Vec<Conf>, ReplayFault>
-    ensures execution { IfOk result (λ v. replay actions.now start.items ≡ Some v.items) }
-    ensures stopped { IfErr result (StopsAt start.items actions.now) }
+/// The configurations after the joint steps by a list of entries, one after another.
+fn steps(alloc: Global, start: Vec<Conf>, entries: &[Entry]) -> Result<Vec<Conf>, ReplayFault>
+    ensures execution { IfOk result (λ v. replay entries.now start.items ≡ Some v.items) }
+    ensures stopped { IfErr result (StopsAt start.items entries.now) }
 {
     let mut confs = start;
-    for (position, action) in actions.iter().enumerate() {
-        match joint_step(alloc, confs.as_slice(), action) {
+    for (position, entry) in entries.iter().enumerate() {
+        match joint_redo(alloc, confs.as_slice(), entry) {
             Ok(next) => confs = next,
             Err(fault) => return Err(ReplayFault { position, fault }),
         }
@@ -49,31 +50,31 @@ fn steps(alloc: Global, start: Vec<Conf>, actions: &[Action]) -> Result<Vec<Conf
     Ok(confs)
 }
 
-/// The configurations after the joint steps by a list of actions (Lynch 8.1), or the position of the first action that
-/// is no step, with the fault of its joint step. If memory runs out it may stop at any action.
+/// The configurations after the joint steps by a list of entries (Lynch 8.1), or the position of the first entry that
+/// is no step, with the fault of its joint step. If memory runs out it may stop at any entry.
 pub fn replay_from(
     alloc: Global,
     start: Vec<Conf>,
-    actions: &[Action],
+    entries: &[Entry],
 ) -> Result<Vec<Conf>, ReplayFault>
-    ensures execution { IfOk result (λ v. replay actions.now start.items ≡ Some v.items) }
-    ensures stopped { IfErr result (StopsAt start.items actions.now) }
+    ensures execution { IfOk result (λ v. replay entries.now start.items ≡ Some v.items) }
+    ensures stopped { IfErr result (StopsAt start.items entries.now) }
     ensures no_execution { IfErr result
-        (λ e. (e.fault ≡ StepFault.Memory) ⊎ (replay actions.now start.items ≡ None)) }
+        (λ e. (e.fault ≡ StepFault.Memory) ⊎ (replay entries.now start.items ≡ None)) }
 {
-    steps(alloc, start, actions)
+    steps(alloc, start, entries)
 }
 
-/// The configurations after the joint steps by a list of actions from a system's start (Lynch 8.1), or the position of
-/// the first action that is no step, with the fault of its joint step. If memory runs out it may stop at any action.
-pub fn replay(alloc: Global, system: &System, actions: &[Action]) -> Result<Vec<Conf>, ReplayFault>
-    ensures execution { IfOk result (λ v. replay actions.now (start system.now) ≡ Some v.items) }
-    ensures stopped { IfErr result (StopsAt (start system.now) actions.now) }
+/// The configurations after the joint steps by a list of entries from a system's start (Lynch 8.1), or the position of
+/// the first entry that is no step, with the fault of its joint step. If memory runs out it may stop at any entry.
+pub fn replay(alloc: Global, system: &System, entries: &[Entry]) -> Result<Vec<Conf>, ReplayFault>
+    ensures execution { IfOk result (λ v. replay entries.now (start system.now) ≡ Some v.items) }
+    ensures stopped { IfErr result (StopsAt (start system.now) entries.now) }
     ensures no_execution { IfErr result
-        (λ e. (e.fault ≡ StepFault.Memory) ⊎ (replay actions.now (start system.now) ≡ None)) }
+        (λ e. (e.fault ≡ StepFault.Memory) ⊎ (replay entries.now (start system.now) ≡ None)) }
 {
     match start(alloc, system) {
-        Ok(confs) => replay_from(alloc, confs, actions),
+        Ok(confs) => replay_from(alloc, confs, entries),
         Err(_) => Err(ReplayFault {
             position: 0,
             fault: StepFault::Memory,

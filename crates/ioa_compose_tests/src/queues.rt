@@ -1,7 +1,7 @@
 //! Queues that hand out their first.
 
 use ioa_actions::Component;
-use ioa_channels::{Item, Queue};
+use ioa_channels::{Front, Item, Queue};
 use ioa_values::Value;
 use std::alloc::{AllocError, Global};
 use std::test::Fail;
@@ -23,12 +23,9 @@ fn is_received(alloc: Global, queue: &Queue, message: i64) -> bool {
 
 /// Whether this message is first.
 fn is_first(queue: &Queue, message: i64) -> bool {
-    let Some(messages) = queue.messages() else {
-        return false;
-    };
-    match messages.first() {
-        Some(first) => first.equals(&Value::number(message)),
-        None => false,
+    match queue.front() {
+        Some(Front::Message(first)) => first.equals(&Value::number(message)),
+        Some(Front::Stimulus(_)) | None => false,
     }
 }
 

@@ -2,11 +2,13 @@
 
 use ioa_actions::{Action, Component};
 use ioa_check::check;
-use ioa_compose::{Conf, project, replay};
+use ioa_compose::{Conf, joint_step, project, replay, start};
 use ioa_system::System;
 use ioa_text_reader::parse;
+use ioa_transitions::Entry;
 use ioa_values::Value;
 use std::alloc::{AllocError, Global};
+use std::sync::Arc;
 use std::test::Fail;
 
 /// A text whose node 0 sends 7, 8 and so on, and whose node 1 has two variables.
@@ -45,12 +47,17 @@ fn received(n: i64) -> Action {
     }
 }
 
+/// The entry of a step by an action.
+fn entry(alloc: Global, action: Action) -> Result<Entry, AllocError> {
+    Ok(Entry::of(Arc::new(alloc, action)?))
+}
+
 /// Two sends, and the receive of the message.
-fn two_sends_and_receive(alloc: Global, message: i64) -> Result<Vec<Action>, AllocError> {
+fn two_sends_and_receive(alloc: Global, message: i64) -> Result<Vec<Entry>, AllocError> {
     let mut schedule = Vec::new(alloc);
-    schedule.push(sent(7))?;
-    schedule.push(sent(8))?;
-    schedule.push(received(message))?;
+    schedule.push(entry(alloc, sent(7))?)?;
+    schedule.push(entry(alloc, sent(8))?)?;
+    schedule.push(entry(alloc, received(message))?)?;
     Ok(schedule)
 }
 
@@ -66,7 +73,7 @@ fn has_numbers(conf: &Conf, first: i64, second: i64) -> bool {
 }
 
 /// Whether the schedule is an execution that leaves five configurations, with 2 in both variables of node 1.
-fn is_replayed(alloc: Global, system: &System, schedule: &[Action]) -> bool {
+fn is_replayed(alloc: Global, system: &System, schedule: &[Entry]) -> bool {
     match replay(alloc, system, schedule) {
         Ok(states) => match states.as_slice() {
             [_, node, _, _, _] => has_numbers(node, 2, 2),
@@ -76,27 +83,44 @@ fn is_replayed(alloc: Global, system: &System, schedule: &[Action]) -> bool {
     }
 }
 
+/// Whether the system's start has a joint step by an action.
+fn begins_with(alloc: Global, system: &System, action: &Action) -> bool {
+    match start(alloc, system) {
+        Ok(states) => joint_step(alloc, states.as_slice(), action).is_ok(),
+        Err(_) => false,
+    }
+}
+
 /// Whether the schedule's first fault is at this position.
-fn stops_at(alloc: Global, system: &System, schedule: &[Action], position: usize) -> bool {
+fn stops_at(alloc: Global, system: &System, schedule: &[Entry], position: usize) -> bool {
     match replay(alloc, system, schedule) {
         Ok(_) => false,
         Err(fault) => fault.position == position,
     }
 }
 
-/// How many of the actions are the component's.
-fn count_of(alloc: Global, schedule: &[Action], of: Component) -> Result<usize, AllocError> {
+/// How many of the entries are the component's.
+fn count_of(alloc: Global, schedule: &[Entry], of: Component) -> Result<usize, AllocError> {
     Ok(project(alloc, schedule, of)?.len())
 }
 
-/// Whether the actions of node 0, of the channel and of node 0's script are so many.
-fn has_projections(alloc: Global, schedule: &[Action]) -> Result<bool, AllocError> {
+/// Whether the entries of node 0, of the channel and of node 0's script are so many.
+fn has_projections(alloc: Global, schedule: &[Entry]) -> Result<bool, AllocError> {
     let channel = Component::Channel { from: 0, to: 1 };
     Ok(
         count_of(alloc, schedule, Component::Node(0))? == 2
             && count_of(alloc, schedule, channel)? == 3
             && count_of(alloc, schedule, Component::Script(0))? == 0,
     )
+}
+
+#[test]
+fn an_enabled_action_has_a_joint_step(rt: HostRuntime) -> Result<(), Fail> {
+    let system = pair(rt.alloc())?;
+    let is_stepped = begins_with(rt.alloc(), &system, &sent(7))
+        && !begins_with(rt.alloc(), &system, &sent(8));
+    assert!(rt; is_stepped);
+    Ok(())
 }
 
 #[test]

@@ -17,8 +17,8 @@ ghost use Rattle.ioa_types.specs.declared.height.TheConstants.{SHAPE_LIMIT};
 ghost use Rattle.ioa_check.specs.declared.channels.TheConstants.{MOST_CHANNELS};
 ghost use Rattle.ioa_check.specs.declared.nodes.TheConstants.{MOST_NODES};
 ghost use Rattle.ioa_schedules.specs.declared.turn.TheConstants.{TURN_LIMIT};
-ghost use Rattle.ioa_solo.specs.declared.options.TheConstants.{GREATEST_STEPS, GREATEST_ATTEMPTS};
-ghost use Rattle.ioa_solo.specs.declared.options.TheConstants.{DEFAULT_STEPS, DEFAULT_ATTEMPTS};
+ghost use Rattle.ioa_record.specs.declared.options.TheConstants.{GREATEST_STEPS, GREATEST_ATTEMPTS};
+ghost use Rattle.ioa_record.specs.declared.options.TheConstants.{DEFAULT_STEPS, DEFAULT_ATTEMPTS};
 ghost use Rattle.ioa_actions.specs.declared.action.TheConstants.{SEND, RECEIVE};
 
 /// The limits, the defaults and the two words that the language gives a meaning are those of its reference

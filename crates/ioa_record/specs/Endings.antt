@@ -2,7 +2,7 @@
 use Rattle.std.specs.Prelude.{ℕ, List, ◌++◌, codes}
 use Rattle.ioa_record.specs.declared.ending.NodeFault.{NodeFault}
 use Rattle.ioa_record.specs.declared.ending.NodeFault.TheVariants.{Undefined, Range, Memory, NotMine, NoChannel}
-use Rattle.ioa_record.specs.declared.ending.NodeFault.TheVariants.{Differs, Full}
+use Rattle.ioa_record.specs.declared.ending.NodeFault.TheVariants.{Differs, Full, Unknown, Older, NoThread}
 use Rattle.ioa_record.specs.declared.ending.Ending.{Ending}
 use Rattle.ioa_record.specs.declared.ending.Ending.TheVariants as ending
 
@@ -15,6 +15,9 @@ fault_name NotMine = codes "NotMine"
 fault_name NoChannel = codes "NoChannel"
 fault_name Differs = codes "Differs"
 fault_name Full = codes "Full"
+fault_name Unknown = codes "Unknown"
+fault_name Older = codes "Older"
+fault_name NoThread = codes "NoThread"
 
 -- an ending
 abbrev pub ending_text : Ending → List ℕ

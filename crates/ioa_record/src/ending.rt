@@ -20,6 +20,12 @@ pub enum NodeFault {
     Differs,
     /// `Full` (52): the schedule has as many actions as the step limit allows.
     Full,
+    /// `Unknown` (53): there is no such node.
+    Unknown,
+    /// `Older` (54): the book shows an older state than this worker has seen.
+    Older,
+    /// The worker's thread could not be started.
+    NoThread,
 }
 
 impl fmt::Display for NodeFault {
@@ -37,6 +43,9 @@ impl fmt::Display for NodeFault {
             NodeFault::NoChannel => f.write_str("NoChannel"),
             NodeFault::Differs => f.write_str("Differs"),
             NodeFault::Full => f.write_str("Full"),
+            NodeFault::Unknown => f.write_str("Unknown"),
+            NodeFault::Older => f.write_str("Older"),
+            NodeFault::NoThread => f.write_str("NoThread"),
         }
     }
 }

@@ -7,51 +7,64 @@ use Rattle.ioa_actions.specs.ActionParts.{node_of}
 use Rattle.ioa_actions.specs.declared.action.Action.{Action}
 use Rattle.ioa_actions.specs.declared.fault.StepFault.{StepFault}
 use Rattle.ioa_actions.specs.declared.fault.StepFault.TheVariants as step
-use Rattle.ioa_compose.specs.Composition.{changes_of, find_confs, joint_answer, put_confs}
+use Rattle.ioa_transitions.specs.Entries.{PlainEntry}
+use Rattle.ioa_compose.specs.Composition.{find_confs, joint_answer, joint_pick, picks_of, put_confs}
 use Rattle.ioa_compose.specs.Participants.{participants_of}
 use Rattle.ioa_compose.specs.declared.configuration.Conf.{Conf}
+use Rattle.ioa_compose.proofs.Picks.{joint_pick-entry, picks_of-entry}
 use Rattle.ioa_commits.specs.Books.{PlainBook, states_held}
 use Rattle.ioa_book.specs.Looks.{IsLookAt, PlainSnapshot, snapshot_after}
 use Rattle.ioa_commits.specs.Commits.{IsCommitted, IsRefused, full, refusal_of}
 use Rattle.ioa_commits.specs.Proposals.{PlainProposal, plain_proposal}
 use Rattle.ioa_book.specs.Proposals.{proposal_answer, reads_held}
-use Rattle.ioa_commits.specs.declared.outcome.Refusal.{Refusal}
-use Rattle.ioa_commits.specs.declared.outcome.Refusal.TheVariants as refusal
+use Rattle.ioa_commits.specs.declared.outcome.CommitRefusal.{CommitRefusal}
+use Rattle.ioa_commits.specs.declared.outcome.CommitRefusal.TheVariants as refusal
 use Rattle.ioa_book.proofs.FreshLooks.{fresh_proposal, held_stands}
+use Rattle.ioa_record.specs.declared.ending.NodeFault.{NodeFault}
 use Rattle.ioa_record.specs.declared.ending.NodeFault.TheVariants.{NotMine, Full}
 use Rattle.ioa_record.specs.declared.ending.NodeFault.TheVariants as fault
-use Rattle.ioa_solo.specs.Attempts.{IsRecordedBy, fault_of_refusal, fault_outcome, fire_answer, outcome_in, step_outcome, taken}
+use Rattle.ioa_turns.specs.Faults.{fault_of_refusal}
+use Rattle.ioa_solo.specs.Attempts.{IsRecordedBy, fault_outcome, fire_answer, outcome_in, step_outcome, taken}
 
--- a proposal on a fresh look that is made: the action is the node's, the participants have steps, and what was read is
--- what the book holds
+-- a proposal on a fresh look that is made: the action is the node's, the participants pick an entry, and what was read
+-- is what the book holds
 record IsMade (b : PlainBook) (n : ℤ) (a : Action) (p : PlainProposal) : Type 0 where
   mine : int_eq (node_of a) n ≡ true
+  entry : PlainEntry
   changed : List Conf
-  steps : changes_of a (find_confs (participants_of a) (states_held b)) ≡ Ok changed
-  proposal : p ≡ plain_proposal a (length b.log) (reads_held b (participants_of a))
+  picks : picks_of a (find_confs (participants_of a) (states_held b)) ≡ Ok (entry, changed)
+  proposal : p ≡ plain_proposal entry (length b.log) (reads_held b (participants_of a))
 
 -- one result has one fault
 same_fault : (e f : StepFault) (r : Result PlainProposal StepFault) → r ≡ Err e → r ≡ Err f → e ≡ f
 same_fault e f r h k = cc
 
-module _ (b : PlainBook) (n : ℤ) (a : Action) where
-  abbrev changes : Result (List Conf) StepFault
-  changes = changes_of a (find_confs (participants_of a) (states_held b))
+-- one result has one value
+same_confs : (r : Result (List Conf) StepFault) (cs ds : List Conf) → r ≡ Ok cs → r ≡ Ok ds → cs ≡ ds
+same_confs r cs ds h k = cc
 
-  abbrev fresh_plain : PlainProposal
-  fresh_plain = plain_proposal a (length b.log) (reads_held b (participants_of a))
+-- what is picked, in the configurations that a book holds
+abbrev put_picked : PlainBook → PlainEntry × List Conf → Result (PlainEntry × List Conf) StepFault
+put_picked b t = Ok (t.0, put_confs t.1 (states_held b))
+
+module _ (b : PlainBook) (n : ℤ) (a : Action) where
+  abbrev picks : Result (PlainEntry × List Conf) StepFault
+  picks = picks_of a (find_confs (participants_of a) (states_held b))
+
+  abbrev fresh_plain : PlainEntry → PlainProposal
+  fresh_plain e = plain_proposal e (length b.log) (reads_held b (participants_of a))
 
   -- what a node fires by its proposal
-  fault_of_fresh : (f : StepFault) → proposal_answer a (snapshot_after n b.start b.log) ≡ Err f → fire_answer b.limit b.log (states_held b) n a ≡ step_outcome b.limit b.log a (Err f)
+  fault_of_fresh : (f : StepFault) → proposal_answer a (snapshot_after n b.start b.log) ≡ Err f → fire_answer b.limit b.log (states_held b) n a ≡ step_outcome b.limit b.log (Err f)
   fault_of_fresh f h = by_mine (int_eq (node_of a) n) refl
     where
-      by_steps : (r : Result (List Conf) StepFault) → and_then r (λ ds. Ok fresh_plain) ≡ Err f → and_then r (λ ds. Ok (put_confs ds (states_held b))) ≡ Err f
-      by_steps (Ok ds) g = absurd (cc)
-      by_steps (Err e) g = let same : e ≡ f = cc in ap (λ (x : StepFault). Err x) same
+      by_picks : (r : Result (PlainEntry × List Conf) StepFault) → and_then r (λ t. Ok (fresh_plain t.0)) ≡ Err f → and_then r (put_picked b) ≡ Err f
+      by_picks (Ok t) g = absurd (cc)
+      by_picks (Err e) g = let same : e ≡ f = cc in ap (λ (x : StepFault). Err x) same
 
-      by_mine : (t : Bool) → int_eq (node_of a) n ≡ t → fire_answer b.limit b.log (states_held b) n a ≡ step_outcome b.limit b.log a (Err f)
+      by_mine : (t : Bool) → int_eq (node_of a) n ≡ t → fire_answer b.limit b.log (states_held b) n a ≡ step_outcome b.limit b.log (Err f)
       by_mine true e =
-          let joint : joint_answer a (states_held b) ≡ Err f = by_steps changes (sym (fresh_proposal b n a e) ∙ h) in
+          let joint : joint_pick a (states_held b) ≡ Err f = by_picks picks (sym (fresh_proposal b n a e) ∙ h) in
           rw (e, joint) refl
       by_mine false e =
           let not_mine : proposal_answer a (snapshot_after n b.start b.log) ≡ Err step.NotMine = rw e refl in
@@ -61,76 +74,94 @@ module _ (b : PlainBook) (n : ℤ) (a : Action) where
   made : (p : PlainProposal) → proposal_answer a (snapshot_after n b.start b.log) ≡ Ok p → IsMade b n a p
   made p h = by_mine (int_eq (node_of a) n) refl
     where
-      by_steps : (r : Result (List Conf) StepFault) → changes ≡ r → int_eq (node_of a) n ≡ true → and_then r (λ ds. Ok fresh_plain) ≡ Ok p → IsMade b n a p
-      by_steps (Ok ds) e mine g = let same : fresh_plain ≡ p = cc in record { mine = mine; changed = ds; steps = e; proposal = sym same }
-      by_steps (Err f) e mine g = absurd (cc)
+      by_picks : (r : Result (PlainEntry × List Conf) StepFault) → picks ≡ r → int_eq (node_of a) n ≡ true → and_then r (λ t. Ok (fresh_plain t.0)) ≡ Ok p → IsMade b n a p
+      by_picks (Ok t) e mine g =
+          let same : fresh_plain t.0 ≡ p = cc in
+          record { mine = mine; entry = t.0; changed = t.1; picks = e; proposal = sym same }
+      by_picks (Err f) e mine g = absurd (cc)
 
       by_mine : (t : Bool) → int_eq (node_of a) n ≡ t → IsMade b n a p
-      by_mine true e = by_steps changes refl e (sym (fresh_proposal b n a e) ∙ h)
+      by_mine true e = by_picks picks refl e (sym (fresh_proposal b n a e) ∙ h)
       by_mine false e = let bad = rw e at h in absurd (cc)
 
 -- a fire of which the action is proposed
 module _ (b : PlainBook) (n : ℤ) (a : Action) (s : PlainSnapshot) (fresh : IsLookAt b n s) where
   -- a fault
-  pub fault_told : (f : StepFault) → proposal_answer a s ≡ Err f → fire_answer b.limit b.log (states_held b) n a ≡ step_outcome b.limit b.log a (Err f)
+  pub fault_told : (f : StepFault) → proposal_answer a s ≡ Err f → fire_answer b.limit b.log (states_held b) n a ≡ step_outcome b.limit b.log (Err f)
   fault_told f h = fault_of_fresh b n a f (rw fresh at h)
 
   module _ (p : PlainProposal) (proposed : proposal_answer a s ≡ Ok p) where
     is_made : IsMade b n a p
     is_made = made b n a p (rw fresh at proposed)
 
-    -- the proposal is of the action
-    pub proposed_action : p.action ≡ a
-    proposed_action = rw (is_made.proposal) refl
+    proposed_entry : p.entry ≡ is_made.entry
+    proposed_entry = ap (λ (q : PlainProposal). q.entry) is_made.proposal
 
-    pub proposed_own : proposal_answer p.action s ≡ Ok p
+    -- the proposal is of the action
+    pub proposed_action : p.entry.action ≡ a
+    proposed_action =
+        ap (λ (e : PlainEntry). e.action) proposed_entry
+        ∙ (picks_of-entry a (find_confs (participants_of a) (states_held b)) is_made.entry is_made.changed is_made.picks).0
+
+    pub proposed_own : proposal_answer p.entry.action s ≡ Ok p
     proposed_own = subst (λ (x : Action). proposal_answer x s ≡ Ok p) (sym proposed_action) proposed
 
     stands : refusal_of b p.reads ≡ full b
     stands = rw (is_made.proposal) (held_stands b (participants_of a))
 
-    joint_made : joint_answer a (states_held b) ≡ Ok (put_confs (is_made.changed) (states_held b))
-    joint_made = rw (is_made.steps) refl
+    joint_made : joint_pick a (states_held b) ≡ Ok (is_made.entry, put_confs is_made.changed (states_held b))
+    joint_made = rw (is_made.picks) refl
 
     by_room : (t : Bool) → nat_lt (length b.log) b.limit ≡ t → full b ≡ (if t then None else Some refusal.Full)
     by_room t e = rw e refl
 
     -- that is committed
-    pub committed_told : (index : ℕ) (handed_out : Action) (new : PlainBook) → IsCommitted b p index handed_out new → fire_answer b.limit b.log (states_held b) n a ≡ Ok (taken a (states_held new))
+    pub committed_told : (index : ℕ) (handed_out : PlainEntry) (new : PlainBook) → IsCommitted b p index handed_out new → fire_answer b.limit b.log (states_held b) n a ≡ Ok (taken handed_out (states_held new))
     committed_told index handed_out new h = at_room (nat_lt (length b.log) b.limit) refl
       where
-        joint : joint_answer a (states_held b) ≡ Ok (states_held new)
-        joint = subst (λ (x : Action). joint_answer x (states_held b) ≡ Ok (states_held new)) proposed_action h.step
+        entry : is_made.entry ≡ handed_out
+        entry = sym proposed_entry ∙ sym h.entry
 
-        at_room : (t : Bool) → nat_lt (length b.log) b.limit ≡ t → fire_answer b.limit b.log (states_held b) n a ≡ Ok (taken a (states_held new))
+        step_made : joint_answer is_made.entry (states_held b) ≡ Ok (put_confs is_made.changed (states_held b))
+        step_made = (joint_pick-entry a (states_held b) is_made.entry (put_confs is_made.changed (states_held b)) joint_made).1
+
+        step_taken : joint_answer is_made.entry (states_held b) ≡ Ok (states_held new)
+        step_taken = subst (λ (e : PlainEntry). joint_answer e (states_held b) ≡ Ok (states_held new)) proposed_entry h.step
+
+        left : put_confs is_made.changed (states_held b) ≡ states_held new
+        left = same_confs (joint_answer is_made.entry (states_held b)) (put_confs is_made.changed (states_held b)) (states_held new) step_made step_taken
+
+        joint : joint_pick a (states_held b) ≡ Ok (handed_out, states_held new)
+        joint = joint_made ∙ (λ i. Ok (entry i, left i))
+
+        at_room : (t : Bool) → nat_lt (length b.log) b.limit ≡ t → fire_answer b.limit b.log (states_held b) n a ≡ Ok (taken handed_out (states_held new))
         at_room true e = rw (is_made.mine, joint, e) refl
         at_room false e = let bad : None ≡ Some refusal.Full = sym h.accepted ∙ stands ∙ by_room false e in absurd (cc)
 
-    -- that is refused
-    pub refused_for : (why : Refusal) (back : PlainProposal) (new : PlainBook) → IsRefused b p why back new → (why ≡ refusal.Full) ⊎ (why ≡ refusal.Memory)
-    refused_for why back new h = by_reason h.reason
+    -- that is refused: only a full book refuses it
+    pub refused_for : (why : CommitRefusal) (back : PlainProposal) (new : PlainBook) → IsRefused b p why back new → why ≡ refusal.Full
+    refused_for why back new h = at_room (nat_lt (length b.log) b.limit) (sym stands ∙ h.reason)
       where
         at_room : (t : Bool) → (if t then None else Some refusal.Full) ≡ Some why → why ≡ refusal.Full
         at_room true e = absurd (cc)
         at_room false e = cc
 
-        by_reason : (refusal_of b p.reads ≡ Some why) ⊎ ((why ≡ refusal.Memory) × (refusal_of b p.reads ≡ None)) → (why ≡ refusal.Full) ⊎ (why ≡ refusal.Memory)
-        by_reason (inl e) = inl (at_room (nat_lt (length b.log) b.limit) (sym stands ∙ e))
-        by_reason (inr e) = inr e.0
-
-    pub full_told : (why : Refusal) (back : PlainProposal) (new : PlainBook) → IsRefused b p why back new → why ≡ refusal.Full → fire_answer b.limit b.log (states_held b) n a ≡ Err Full
-    full_told why back new h is_full = by_reason h.reason
+    pub full_told : (why : CommitRefusal) (back : PlainProposal) (new : PlainBook) → IsRefused b p why back new → fire_answer b.limit b.log (states_held b) n a ≡ Err Full
+    full_told why back new h = at_room (nat_lt (length b.log) b.limit) refl (sym stands ∙ h.reason)
       where
         at_room : (t : Bool) → nat_lt (length b.log) b.limit ≡ t → (if t then None else Some refusal.Full) ≡ Some why → fire_answer b.limit b.log (states_held b) n a ≡ Err Full
         at_room true e g = absurd (cc)
         at_room false e g = rw (is_made.mine, joint_made, e) refl
 
-        by_reason : (refusal_of b p.reads ≡ Some why) ⊎ ((why ≡ refusal.Memory) × (refusal_of b p.reads ≡ None)) → fire_answer b.limit b.log (states_held b) n a ≡ Err Full
-        by_reason (inl e) = at_room (nat_lt (length b.log) b.limit) refl (sym stands ∙ e)
-        by_reason (inr e) = let bad : refusal.Full ≡ refusal.Memory = sym is_full ∙ e.0 in absurd (cc)
+    -- what the code returns for a refusal
+    pub refused_answers : (why : CommitRefusal) (back : PlainProposal) (new : PlainBook) (f : NodeFault) → IsRefused b p why back new → fault_of_refusal why ≡ Some f → Answers fault.Memory (outcome_in new) (Err f) (fire_answer b.limit b.log (states_held b) n a)
+    refused_answers why back new f h told =
+        let full : why ≡ refusal.Full = refused_for why back new h in
+        let same : Full ≡ f = cc in
+        inr (full_told why back new h ∙ ap (λ (x : NodeFault). Err x) same)
 
-  -- what the code returns for a fault
-  pub fault_answers : (f : StepFault) → (f ≡ step.Memory) ⊎ (proposal_answer a s ≡ Err f) → Answers fault.Memory (outcome_in b a) (fault_outcome f) (fire_answer b.limit b.log (states_held b) n a)
+  -- and for a fault
+  pub fault_answers : (f : StepFault) → (f ≡ step.Memory) ⊎ (proposal_answer a s ≡ Err f) → Answers fault.Memory (outcome_in b) (fault_outcome f) (fire_answer b.limit b.log (states_held b) n a)
   fault_answers step.NotEnabled (inl e) = absurd (cc)
   fault_answers step.NotEnabled (inr e) = fault_told step.NotEnabled e
   fault_answers step.Undefined (inl e) = absurd (cc)
@@ -143,19 +174,11 @@ module _ (b : PlainBook) (n : ℤ) (a : Action) (s : PlainSnapshot) (fresh : IsL
   fault_answers step.NoChannel (inl e) = absurd (cc)
   fault_answers step.NoChannel (inr e) = inr (fault_told step.NoChannel e)
 
-  -- and for a refusal
-  pub refused_answers : (p : PlainProposal) (proposed : proposal_answer a s ≡ Ok p) (why : Refusal) (back : PlainProposal) (new : PlainBook) → IsRefused b p why back new → Answers fault.Memory (outcome_in new a) (Err (fault_of_refusal why)) (fire_answer b.limit b.log (states_held b) n a)
-  refused_answers p proposed why back new h = by_reason (refused_for p proposed why back new h)
-    where
-      by_reason : (why ≡ refusal.Full) ⊎ (why ≡ refusal.Memory) → (fault_of_refusal why ≡ fault.Memory) ⊎ (fire_answer b.limit b.log (states_held b) n a ≡ Err (fault_of_refusal why))
-      by_reason (inl is_full) = inr (full_told p proposed why back new h is_full ∙ ap (λ (w : Refusal). Err (fault_of_refusal w)) (sym is_full))
-      by_reason (inr is_memory) = inl (ap fault_of_refusal is_memory)
-
 -- a fault leaves the book as it was
-pub fault_recorded : (b : PlainBook) (a : Action) (f : StepFault) → IfOk (fault_outcome f) (λ outcome. IsRecordedBy b a outcome b)
-fault_recorded b a step.NotEnabled = refl
-fault_recorded b a step.Undefined = tt
-fault_recorded b a step.Range = tt
-fault_recorded b a step.Memory = tt
-fault_recorded b a step.NotMine = tt
-fault_recorded b a step.NoChannel = tt
+pub fault_recorded : (b : PlainBook) (f : StepFault) → IfOk (fault_outcome f) (λ outcome. IsRecordedBy b outcome b)
+fault_recorded b step.NotEnabled = refl
+fault_recorded b step.Undefined = tt
+fault_recorded b step.Range = tt
+fault_recorded b step.Memory = tt
+fault_recorded b step.NotMine = tt
+fault_recorded b step.NoChannel = tt

@@ -1,12 +1,12 @@
 -- A turn on a look at a node is one on the present configurations.
-use Rattle.std.proofs.Common.{◌≡◌, ℤ, Bool, true, false, List, [], ◌∷◌, ◌++◌, Option, Some, None, if◌then◌else◌, refl, sym, ap, ◌∙◌}
-use Rattle.std.specs.Prelude.{◌||◌, filter, length, Result, Ok, Err}
+use Rattle.std.proofs.Common.{◌≡◌, ℤ, Bool, true, false, List, [], ◌∷◌, ◌++◌, Option, Some, None, if◌then◌else◌, refl, ap, ◌∙◌}
+use Rattle.std.specs.Prelude.{◌||◌, filter}
 use Rattle.std.specs.Ordering.{int_eq}
 use Rattle.ioa_values.specs.Data.{Data}
 use Rattle.ioa_actions.specs.declared.component.Component.{Component}
 use Rattle.ioa_actions.specs.declared.component.Component.TheVariants as component
 use Rattle.ioa_actions.proofs.SameComponents.{same_component-itself}
-use Rattle.ioa_index.specs.Own.{concerns}
+use Rattle.ioa_commits.specs.Own.{concerns}
 use Rattle.ioa_terms.specs.Inboxes.{PlainInboxes}
 use Rattle.ioa_channels.specs.Queues.{messages_of}
 use Rattle.ioa_compose.specs.Composition.{component_of, find_conf}
@@ -16,11 +16,8 @@ use Rattle.ioa_commits.specs.Books.{PlainBook, states_held}
 use Rattle.ioa_book.specs.Looks.{IsLookAt, PlainSnapshot, snapshot_after}
 use Rattle.ioa_commits.specs.Versions.{read_confs}
 use Rattle.ioa_book.proofs.FreshLooks.{conf_seen, confs_shown}
-use Rattle.ioa_solo.specs.Inboxes.{inbox_at, inbox_of, inboxes_in, inboxes_seen}
-use Rattle.ioa_operators.specs.declared.fault.TermFault.{TermFault}
-use Rattle.ioa_record.specs.declared.ending.NodeFault.TheVariants.{Differs}
-use Rattle.ioa_schedules.specs.Turns.{TurnEnd, TurnResult}
-use Rattle.ioa_solo.specs.NodeTurns.{PlainProgress, block_turn, own_values, reached, shows_program, turn_at, turn_on}
+use Rattle.ioa_turns.specs.Inboxes.{inbox_at, inbox_of, inboxes_in}
+use Rattle.ioa_turns.specs.NodeTurns.{PlainProgress, turn_at}
 
 right_false : (s t : Bool) → (s || t) ≡ false → t ≡ false
 right_false true t h = absurd (cc)
@@ -56,22 +53,3 @@ turn_seen b p s fresh =
     let shown : inboxes_in n (read_confs (snapshot_after n b.start b.log).reads) ≡ inboxes_in n (states_held b) = ap (λ (cs : List Conf). inboxes_in n cs) (confs_shown b n) ∙ inboxes_own n (states_held b) in
     let own : find_conf (component.Node n) (read_confs (snapshot_after n b.start b.log).reads) ≡ find_conf (component.Node n) (states_held b) = conf_seen b n (component.Node n) (same_component-itself (component.Node n)) in
     rw (fresh, shown, own) refl
-
--- a turn leaves the node its program
-reached_program : (p : PlainProgress) (r : Result TurnResult TermFault) (t : TurnEnd × PlainProgress) → reached p r ≡ Ok t → t.1.program ≡ p.program
-reached_program p (Ok r) t h =
-    let same : (r.ending, record p { todo = r.todo; own = own_values (length p.own) r.bindings }) ≡ t = cc in
-    ap (λ (u : TurnEnd × PlainProgress). u.1.program) (sym same)
-reached_program p (Err f) t h = absurd (cc)
-
-turn_on_program : (p : PlainProgress) (seen : Option PlainInboxes) (o : Option Conf) (t : TurnEnd × PlainProgress) → turn_on p seen o ≡ Ok t → t.1.program ≡ p.program
-turn_on_program p seen (Some (Node c)) t h = by_test (shows_program p.program c) h
-  where
-    by_test : (b : Bool) → (if b then block_turn p seen c.variables else Err Differs) ≡ Ok t → t.1.program ≡ p.program
-    by_test true g = reached_program p _ t g
-    by_test false g = absurd (cc)
-turn_on_program p seen (Some (Queue q)) t h = absurd (cc)
-turn_on_program p seen None t h = absurd (cc)
-
-pub turn_program : (states : List Conf) (p : PlainProgress) (t : TurnEnd × PlainProgress) → turn_at states p ≡ Ok t → t.1.program ≡ p.program
-turn_program states p t h = turn_on_program p (inboxes_seen p.program states) (find_conf (component.Node p.program.node) states) t h

@@ -8,55 +8,63 @@ use Rattle.ioa_actions.specs.ActionParts.{node_of}
 use Rattle.ioa_actions.specs.declared.action.Action.{Action}
 use Rattle.ioa_actions.specs.declared.fault.StepFault.{StepFault}
 use Rattle.ioa_actions.specs.declared.fault.StepFault.TheVariants as step
-use Rattle.ioa_compose.specs.Composition.{joint_answer}
+use Rattle.ioa_transitions.specs.Entries.{PlainEntry}
+use Rattle.ioa_compose.specs.Composition.{joint_answer, joint_pick}
+use Rattle.ioa_compose.proofs.Picks.{joint_pick-entry}
 use Rattle.ioa_compose.specs.declared.configuration.Conf.{Conf}
 use Rattle.ioa_record.specs.declared.ending.Ending.{Ending}
 use Rattle.ioa_record.specs.declared.ending.Ending.TheVariants.{Done, Spent, Fault}
 use Rattle.ioa_record.specs.declared.ending.NodeFault.{NodeFault}
-use Rattle.ioa_record.specs.declared.ending.NodeFault.TheVariants.{NotMine, Differs, Full}
+use Rattle.ioa_record.specs.declared.ending.NodeFault.TheVariants.{NotMine, Differs, Full, Unknown}
 use Rattle.ioa_schedules.specs.Turns.{TurnEnd, fires, idle, done}
-use Rattle.ioa_solo.specs.Attempts.{PlainFireOutcome, missed, taken, action_fired, fire_answer, step_outcome}
-use Rattle.ioa_solo.specs.NodeTurns.{PlainProgress, turn_at}
-use Rattle.ioa_solo.specs.Solo.{PlainCourse, with_ending, past_fire, after_fire, after_end, after_turn, visit, visit_unless_ended, round, rounds}
+use Rattle.ioa_turns.specs.Fired.{action_fired}
+use Rattle.ioa_solo.specs.Attempts.{PlainFireOutcome, missed, taken, fire_answer, step_outcome}
+use Rattle.ioa_turns.specs.NodeTurns.{PlainProgress, past_fire, turn_at, with_ending}
+use Rattle.ioa_solo.specs.Solo.{PlainCourse, after_fire, after_end, after_turn, visit, visit_unless_ended, round, rounds}
+
+-- an ending that does not say that no configuration is the node's own: neither `Differs (51)` nor `Unknown (53)`
+pub record IsOnOwn (e : Ending) : Type 0 where
+  pub differs : e ≡ Fault Differs → ⊥
+  pub unknown : e ≡ Fault Unknown → ⊥
 
 -- a law of configurations, and one of a node among them, which each move of a run keeps: a joint step, a turn, the way
 -- past a fire, the use of an attempt, and an ending
 pub record AreKept (K : List Conf → Type 0) (N : List Conf → PlainProgress → Type 0) : Type 0 where
-  pub step : (a : Action) (s t : List Conf) → K s → joint_answer a s ≡ Ok t → K t
-  pub beside : (a : Action) (s t : List Conf) (p : PlainProgress) → K s → joint_answer a s ≡ Ok t → N s p → N t p
+  pub step : (e : PlainEntry) (s t : List Conf) → K s → joint_answer e s ≡ Ok t → K t
+  pub beside : (e : PlainEntry) (s t : List Conf) (p : PlainProgress) → K s → joint_answer e s ≡ Ok t → N s p → N t p
   pub turn : (s : List Conf) (p : PlainProgress) (t : TurnEnd × PlainProgress) → K s → N s p → turn_at s p ≡ Ok t → N s t.1
   pub fault : (s : List Conf) (p : PlainProgress) (f : NodeFault) → K s → N s p → turn_at s p ≡ Err f → N s (with_ending (Fault f) p)
   pub past : (s : List Conf) (p : PlainProgress) → N s p → N s (past_fire p)
   pub used : (s : List Conf) (p : PlainProgress) (n : ℕ) → N s p → N s (record p { attempts = n })
-  pub ended : (s : List Conf) (p : PlainProgress) (e : Ending) → (e ≡ Fault Differs → ⊥) → N s p → N s (with_ending e p)
+  pub ended : (s : List Conf) (p : PlainProgress) (e : Ending) → IsOnOwn e → N s p → N s (with_ending e p)
 
 -- what a fire comes to leads on by a step, and is another fault than that of a node without a configuration of its own
 LeadsToStep : List Conf → Result PlainFireOutcome NodeFault → Type 0
 LeadsToStep states (Ok missed) = Unit {0}
-LeadsToStep states (Ok (taken a next)) = joint_answer a states ≡ Ok next
-LeadsToStep states (Err f) = f ≡ Differs → ⊥
+LeadsToStep states (Ok (taken e next)) = joint_answer e states ≡ Ok next
+LeadsToStep states (Err f) = IsOnOwn (Fault f)
 
-outcome_leads : (limit : ℕ) (s : PlainCourse) (a : Action) (r : Result (List Conf) StepFault) → joint_answer a s.states ≡ r → LeadsToStep s.states (step_outcome limit s.schedule a r)
+outcome_leads : (limit : ℕ) (s : PlainCourse) (a : Action) (r : Result (PlainEntry × List Conf) StepFault) → joint_pick a s.states ≡ r → LeadsToStep s.states (step_outcome limit s.schedule r)
 unfolding LeadsToStep
-outcome_leads limit s a (Ok next) e = by_room (nat_lt (length s.schedule) limit)
+outcome_leads limit s a (Ok t) e = by_room (nat_lt (length s.schedule) limit)
   where
-    by_room : (b : Bool) → LeadsToStep s.states (if b then Ok (taken a next) else Err Full)
-    by_room true = e
-    by_room false = λ h. absurd (cc)
+    by_room : (b : Bool) → LeadsToStep s.states (if b then Ok (taken t.0 t.1) else Err Full)
+    by_room true = (joint_pick-entry a s.states t.0 t.1 e).1
+    by_room false = record { differs = λ h. absurd (cc); unknown = λ h. absurd (cc) }
 outcome_leads limit s a (Err step.NotEnabled) e = tt
-outcome_leads limit s a (Err step.Undefined) e = λ h. absurd (cc)
-outcome_leads limit s a (Err step.Range) e = λ h. absurd (cc)
-outcome_leads limit s a (Err step.Memory) e = λ h. absurd (cc)
-outcome_leads limit s a (Err step.NotMine) e = λ h. absurd (cc)
-outcome_leads limit s a (Err step.NoChannel) e = λ h. absurd (cc)
+outcome_leads limit s a (Err step.Undefined) e = record { differs = λ h. absurd (cc); unknown = λ h. absurd (cc) }
+outcome_leads limit s a (Err step.Range) e = record { differs = λ h. absurd (cc); unknown = λ h. absurd (cc) }
+outcome_leads limit s a (Err step.Memory) e = record { differs = λ h. absurd (cc); unknown = λ h. absurd (cc) }
+outcome_leads limit s a (Err step.NotMine) e = record { differs = λ h. absurd (cc); unknown = λ h. absurd (cc) }
+outcome_leads limit s a (Err step.NoChannel) e = record { differs = λ h. absurd (cc); unknown = λ h. absurd (cc) }
 
 fire_leads : (limit : ℕ) (s : PlainCourse) (k : ℤ) (a : Action) → LeadsToStep s.states (fire_answer limit s.schedule s.states k a)
 unfolding LeadsToStep
 fire_leads limit s k a = by_node (int_eq (node_of a) k)
   where
-    by_node : (b : Bool) → LeadsToStep s.states (if b then step_outcome limit s.schedule a (joint_answer a s.states) else Err NotMine)
-    by_node true = outcome_leads limit s a (joint_answer a s.states) refl
-    by_node false = λ h. absurd (cc)
+    by_node : (b : Bool) → LeadsToStep s.states (if b then step_outcome limit s.schedule (joint_pick a s.states) else Err NotMine)
+    by_node true = outcome_leads limit s a (joint_pick a s.states) refl
+    by_node false = record { differs = λ h. absurd (cc); unknown = λ h. absurd (cc) }
 
 module _ (K : List Conf → Type 0) (N : List Conf → PlainProgress → Type 0) (law : AreKept K N) where
   -- a visit of a node
@@ -68,15 +76,15 @@ module _ (K : List Conf → Type 0) (N : List Conf → PlainProgress → Type 0)
   fire_keeps : (r : Result PlainFireOutcome NodeFault) (s : PlainCourse) (p : PlainProgress) → LeadsToStep s.states r → K s.states → N s.states p → VisitKeeps s.states (after_fire r s p)
   unfolding LeadsToStep
   fire_keeps (Ok missed) s p leads k n = record { states = k; others = λ q x. x; own = law.past s.states p n }
-  fire_keeps (Ok (taken a next)) s p leads k n = record {
-    states = law.step a s.states next k leads;
-    others = λ q x. law.beside a s.states next q k leads x;
-    own = law.beside a s.states next (past_fire p) k leads (law.past s.states p n);
+  fire_keeps (Ok (taken e next)) s p leads k n = record {
+    states = law.step e s.states next k leads;
+    others = λ q x. law.beside e s.states next q k leads x;
+    own = law.beside e s.states next (past_fire p) k leads (law.past s.states p n);
   }
-  fire_keeps (Err f) s p leads k n = record { states = k; others = λ q x. x; own = law.ended s.states p (Fault f) (λ h. leads (cc)) n }
+  fire_keeps (Err f) s p leads k n = record { states = k; others = λ q x. x; own = law.ended s.states p (Fault f) leads n }
 
   end_keeps : (limit : ℕ) (s : PlainCourse) (p : PlainProgress) (e : TurnEnd) → K s.states → N s.states p → VisitKeeps s.states (after_end limit s p e)
-  end_keeps limit s p done k n = record { states = k; others = λ q x. x; own = law.ended s.states p Done (λ h. absurd (cc)) n }
+  end_keeps limit s p done k n = record { states = k; others = λ q x. x; own = law.ended s.states p Done (record { differs = λ h. absurd (cc); unknown = λ h. absurd (cc) }) n }
   end_keeps limit s p idle k n = record { states = k; others = λ q x. x; own = n }
   end_keeps limit s p (fires kind w vs) k n =
       let a = action_fired p.program w vs in
@@ -90,7 +98,7 @@ module _ (K : List Conf → Type 0) (N : List Conf → PlainProgress → Type 0)
   visit_keeps limit s p k n = by_ending (is_some p.ending) refl
     where
       by_attempts : (b : Bool) → nat_eq p.attempts 0 ≡ b → VisitKeeps s.states (visit limit s p)
-      by_attempts true e = rw e (record { states = k; others = λ q x. x; own = law.ended s.states p Spent (λ h. absurd (cc)) n })
+      by_attempts true e = rw e (record { states = k; others = λ q x. x; own = law.ended s.states p Spent (record { differs = λ h. absurd (cc); unknown = λ h. absurd (cc) }) n })
       by_attempts false e =
           let used = record p { attempts = p.attempts - 1 } in
           rw e (turn_keeps limit s used (turn_at s.states used) refl k (law.used s.states p (p.attempts - 1) n))

@@ -3,8 +3,7 @@ use Rattle.std.proofs.Common.{◌≡◌, refl, ℕ, zero, suc, ◌+◌, ◌-◌,
 use Rattle.std.specs.Prelude.{◌||◌, is_some, Result, Ok, Err, OnOk, OnErr}
 use Rattle.std.specs.Result.{is_err}
 use Rattle.std.specs.List.{list_all, list_any}
-use Rattle.ioa_solo.specs.declared.progress.Progress.{Progress}
-use Rattle.ioa_solo.specs.NodeTurns.{PlainProgress, progress_of}
+use Rattle.ioa_turns.specs.NodeTurns.{PlainProgress}
 use Rattle.ioa_solo.specs.Solo.{PlainCourse, round, rounds, has_ended, is_under_way, ending_of, short_of_memory, is_cut_short}
 
 -- nodes that are gone by, before the rest of a round
@@ -81,10 +80,10 @@ if_failed (Ok x) p = tt
 if_failed (Err e) p = p
 
 -- a node that has no ending is under way
-pub under_way_at : (nodes : List Progress) (n : ℕ) (p : Progress) → n < length nodes → p.ending ≡ None → list_any is_under_way (map progress_of (slice_set nodes n p)) ≡ true
-under_way_at [] n p within e = absurd (omega arith)
-under_way_at (q ∷ qs) zero p within e = rw e refl
-under_way_at (q ∷ qs) (suc n) p within e = later (is_under_way (progress_of q)) (under_way_at qs n p (omega arith) e)
+pub under_way_at : {A : Type 0} (f : A → PlainProgress) (nodes : List A) (n : ℕ) (p : A) → n < length nodes → (f p).ending ≡ None → list_any is_under_way (map f (slice_set nodes n p)) ≡ true
+under_way_at f [] n p within e = absurd (omega arith)
+under_way_at f (q ∷ qs) zero p within e = rw e refl
+under_way_at f (q ∷ qs) (suc n) p within e = later (is_under_way (f q)) (under_way_at f qs n p (omega arith) e)
   where
     later : (a : Bool) {b : Bool} → b ≡ true → a || b ≡ true
     later true e = refl

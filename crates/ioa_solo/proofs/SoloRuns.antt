@@ -8,36 +8,39 @@ use Rattle.ioa_actions.specs.declared.action.Action.{Action}
 use Rattle.ioa_compose.specs.declared.configuration.Conf.{Conf}
 use Rattle.ioa_actions.specs.declared.fault.StepFault.{StepFault}
 use Rattle.ioa_actions.specs.declared.fault.StepFault.TheVariants as step
-use Rattle.ioa_compose.specs.Composition.{joint_answer}
+use Rattle.ioa_transitions.specs.Entries.{PlainEntry}
+use Rattle.ioa_compose.specs.Composition.{joint_answer, joint_pick}
+use Rattle.ioa_compose.proofs.Picks.{joint_pick-entry}
 use Rattle.ioa_compose.specs.Start.{start}
 use Rattle.ioa_system.specs.Systems.{SystemParts}
 use Rattle.ioa_record.specs.declared.ending.NodeFault.{NodeFault}
 use Rattle.ioa_record.specs.declared.ending.NodeFault.TheVariants.{NotMine, Full}
 use Rattle.ioa_schedules.specs.Turns.{TurnEnd, fires, idle, done}
-use Rattle.ioa_solo.specs.Attempts.{PlainFireOutcome, missed, taken, action_fired, fire_answer, step_outcome}
-use Rattle.ioa_solo.specs.NodeTurns.{PlainProgress, turn_at}
-use Rattle.ioa_solo.specs.Recorded.{ReplaysWithin}
+use Rattle.ioa_turns.specs.Fired.{action_fired}
+use Rattle.ioa_solo.specs.Attempts.{PlainFireOutcome, missed, taken, fire_answer, step_outcome}
+use Rattle.ioa_turns.specs.NodeTurns.{PlainProgress, turn_at}
+use Rattle.ioa_record.specs.Recorded.{ReplaysWithin}
+use Rattle.ioa_record.proofs.Runs.{ReplaysWithin-push}
 use Rattle.ioa_solo.specs.Solo.{PlainCourse, after_fire, after_end, after_turn, visit, visit_unless_ended, round, rounds, solo}
 use Rattle.ioa_solo.proofs.Rounds.{rounds_ended}
-use Rattle.ioa_solo.proofs.Runs.{ReplaysWithin-push}
 use Rattle.ioa_solo.proofs.Termination.{solo_ends}
 
 -- a run under way replays from some configurations, within the limit
 abbrev Replays : ℕ → List Conf → PlainCourse → Type 0
 Replays limit from s = ReplaysWithin limit from s.schedule s.states
 
--- an action that a fire takes is a step, for which there is room
+-- what a fire takes is a step, for which there is room
 IsRoomyStep : ℕ → PlainCourse → Result PlainFireOutcome NodeFault → Type 0
 IsRoomyStep limit s (Ok missed) = Unit {0}
-IsRoomyStep limit s (Ok (taken a next)) = (joint_answer a s.states ≡ Ok next) × (length s.schedule < limit)
+IsRoomyStep limit s (Ok (taken e next)) = (joint_answer e s.states ≡ Ok next) × (length s.schedule < limit)
 IsRoomyStep limit s (Err f) = Unit {0}
 
-step_roomy : (limit : ℕ) (s : PlainCourse) (a : Action) (r : Result (List Conf) StepFault) → joint_answer a s.states ≡ r → IsRoomyStep limit s (step_outcome limit s.schedule a r)
+step_roomy : (limit : ℕ) (s : PlainCourse) (a : Action) (r : Result (PlainEntry × List Conf) StepFault) → joint_pick a s.states ≡ r → IsRoomyStep limit s (step_outcome limit s.schedule r)
 unfolding IsRoomyStep
-step_roomy limit s a (Ok next) e = by_room (nat_lt (length s.schedule) limit) refl
+step_roomy limit s a (Ok t) e = by_room (nat_lt (length s.schedule) limit) refl
   where
-    by_room : (b : Bool) → nat_lt (length s.schedule) limit ≡ b → IsRoomyStep limit s (if b then Ok (taken a next) else Err Full)
-    by_room true room = (e, ltb-true (length s.schedule) limit room)
+    by_room : (b : Bool) → nat_lt (length s.schedule) limit ≡ b → IsRoomyStep limit s (if b then Ok (taken t.0 t.1) else Err Full)
+    by_room true room = ((joint_pick-entry a s.states t.0 t.1 e).1, ltb-true (length s.schedule) limit room)
     by_room false room = tt
 step_roomy limit s a (Err step.NotEnabled) e = tt
 step_roomy limit s a (Err step.Undefined) e = tt
@@ -50,14 +53,14 @@ fire_roomy : (limit : ℕ) (s : PlainCourse) (k : ℤ) (a : Action) → IsRoomyS
 unfolding IsRoomyStep
 fire_roomy limit s k a = by_node (int_eq (node_of a) k)
   where
-    by_node : (b : Bool) → IsRoomyStep limit s (if b then step_outcome limit s.schedule a (joint_answer a s.states) else Err NotMine)
-    by_node true = step_roomy limit s a (joint_answer a s.states) refl
+    by_node : (b : Bool) → IsRoomyStep limit s (if b then step_outcome limit s.schedule (joint_pick a s.states) else Err NotMine)
+    by_node true = step_roomy limit s a (joint_pick a s.states) refl
     by_node false = tt
 
 fire_replays : (limit : ℕ) (from : List Conf) (r : Result PlainFireOutcome NodeFault) (s : PlainCourse) (p : PlainProgress) → IsRoomyStep limit s r → Replays limit from s → Replays limit from (after_fire r s p).0
 unfolding IsRoomyStep
 fire_replays limit from (Ok missed) s p room h = h
-fire_replays limit from (Ok (taken a next)) s p room h = ReplaysWithin-push limit from s.schedule a s.states next h room.0 room.1
+fire_replays limit from (Ok (taken e next)) s p room h = ReplaysWithin-push limit from s.schedule e s.states next h room.0 room.1
 fire_replays limit from (Err f) s p room h = h
 
 end_replays : (limit : ℕ) (from : List Conf) (s : PlainCourse) (p : PlainProgress) (e : TurnEnd) → Replays limit from s → Replays limit from (after_end limit s p e).0

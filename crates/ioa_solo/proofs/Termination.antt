@@ -4,7 +4,7 @@ use Rattle.std.specs.Prelude.{is_some, nat_eq, if◌then◌else◌, Option, Resu
 use Rattle.std.specs.List.{list_all, list_any, AllByRecursion}
 use Rattle.std.proofs.lemmas.List.{append-nil, drop_all, take_all}
 use Rattle.std.specs.Cmp.Derive.{both_true}
-use Rattle.ioa_actions.specs.declared.action.Action.{Action}
+use Rattle.ioa_transitions.specs.Entries.{PlainEntry}
 use Rattle.ioa_actions.specs.declared.component.Component.TheVariants as component
 use Rattle.ioa_operators.specs.declared.fault.TermFault.{TermFault}
 use Rattle.ioa_terms.specs.Inboxes.{PlainInboxes}
@@ -18,12 +18,13 @@ use Rattle.ioa_record.specs.declared.ending.Ending.{Ending}
 use Rattle.ioa_record.specs.declared.ending.NodeFault.{NodeFault}
 use Rattle.ioa_record.specs.declared.ending.NodeFault.TheVariants.{Differs}
 use Rattle.ioa_record.specs.declared.record.Record.{Record}
-use Rattle.ioa_solo.specs.Options.{PlainOptions}
-use Rattle.ioa_solo.specs.Attempts.{PlainFireOutcome, missed, taken, action_fired, fire_answer}
+use Rattle.ioa_record.specs.Options.{PlainOptions}
+use Rattle.ioa_turns.specs.Fired.{action_fired}
+use Rattle.ioa_solo.specs.Attempts.{PlainFireOutcome, missed, taken, fire_answer}
 use Rattle.ioa_schedules.specs.Turns.{TurnEnd, TurnResult, fires, idle, done}
-use Rattle.ioa_solo.specs.Inboxes.{inboxes_seen}
-use Rattle.ioa_solo.specs.NodeTurns.{PlainProgress, reached, block_turn, shows_program, turn_on, turn_at}
-use Rattle.ioa_solo.specs.Solo.{PlainCourse, after_fire, after_end, after_turn, visit, visit_unless_ended, round, rounds, solo, progress_at, has_ended, ending_of, is_cut_short, IsLeftBy, IsSoloRun}
+use Rattle.ioa_turns.specs.Inboxes.{inboxes_seen}
+use Rattle.ioa_turns.specs.NodeTurns.{PlainProgress, progress_at, reached, block_turn, shows_program, turn_on, turn_at}
+use Rattle.ioa_solo.specs.Solo.{PlainCourse, after_fire, after_end, after_turn, visit, visit_unless_ended, round, rounds, solo, has_ended, ending_of, is_cut_short, IsLeftBy, IsSoloRun}
 
 -- a node has an ending, or fewer attempts left than there are rounds
 abbrev pub IsNear : ℕ → PlainProgress → Type 0
@@ -31,7 +32,7 @@ IsNear n p = (is_some p.ending ≡ true) ⊎ (p.attempts < n)
 
 fire_near : (n : ℕ) (r : Result PlainFireOutcome NodeFault) (s : PlainCourse) (p : PlainProgress) → p.attempts < n → IsNear n (after_fire r s p).1
 fire_near n (Ok missed) s p h = inr h
-fire_near n (Ok (taken a next)) s p h = inr h
+fire_near n (Ok (taken e next)) s p h = inr h
 fire_near n (Err f) s p h = inl refl
 
 end_near : (limit n : ℕ) (s : PlainCourse) (p : PlainProgress) (e : TurnEnd) → p.attempts < n → IsNear n (after_end limit s p e).1
@@ -129,7 +130,7 @@ told_endings (p ∷ more) all = by_ending p.ending refl (λ h. told_endings more
 -- a record of what the rounds of a run leave tells that run
 pub solo_run : (s : SystemParts) (o : PlainOptions) (t : PlainCourse) (ps : List PlainProgress) (r : Record) (endings : List Ending) →
     (list_any is_cut_short (map ending_of ps) ≡ true) ⊎ ((t, ps) ≡ solo s o.attempts o.steps) →
-    r.schedule.items ≡ t.schedule → r.states.items ≡ t.states → endings ≡ map ending_of ps → IsSoloRun s o r endings
+    r.schedule ≡ t.schedule → r.states.items ≡ t.states → endings ≡ map ending_of ps → IsSoloRun s o r endings
 solo_run s o t ps r endings (inl short) schedule states each = inl (rw each short)
 solo_run s o t ps r endings (inr e) schedule states each =
     let all = subst (λ (left : PlainCourse × List PlainProgress). list_all has_ended left.1 ≡ true) (sym e) (solo_ends s o.attempts o.steps) in
@@ -137,11 +138,11 @@ solo_run s o t ps r endings (inr e) schedule states each =
     (record { schedule = schedule; states = states; each = rw each (told_endings ps all) }))
 
 -- the same of rounds from the beginning of a run
-pub solo_from : (s : SystemParts) (o : PlainOptions) (actions : List Action) (states : List Conf) (from : List PlainProgress) (t : PlainCourse) (ps : List PlainProgress) (r : Record) (endings : List Ending) →
-    (list_any is_cut_short (map ending_of ps) ≡ true) ⊎ ((t, ps) ≡ rounds o.steps (o.attempts + 1) (record { schedule = actions; states = states }) from) →
-    actions ≡ [] → states ≡ start s → from ≡ map (progress_at o.attempts) s.programs →
-    r.schedule.items ≡ t.schedule → r.states.items ≡ t.states → endings ≡ map ending_of ps → IsSoloRun s o r endings
-solo_from s o actions states from t ps r endings h none begun nodes schedule ended each =
+pub solo_from : (s : SystemParts) (o : PlainOptions) (entries : List PlainEntry) (states : List Conf) (from : List PlainProgress) (t : PlainCourse) (ps : List PlainProgress) (r : Record) (endings : List Ending) →
+    (list_any is_cut_short (map ending_of ps) ≡ true) ⊎ ((t, ps) ≡ rounds o.steps (o.attempts + 1) (record { schedule = entries; states = states }) from) →
+    entries ≡ [] → states ≡ start s → from ≡ map (progress_at o.attempts) s.programs →
+    r.schedule ≡ t.schedule → r.states.items ≡ t.states → endings ≡ map ending_of ps → IsSoloRun s o r endings
+solo_from s o entries states from t ps r endings h none begun nodes schedule ended each =
     solo_run s o t ps r endings (rw (none, begun, nodes) at h) schedule ended each
 
 -- a list that was written as a slice is that slice

@@ -1,13 +1,11 @@
 -- *Solo* (profile): the run by one worker, who goes round the nodes in order until each has an ending.
 use Rattle.std.specs.Prelude.{◌≡◌, ◌⊎◌, ℕ, zero, suc, ◌+◌, ◌-◌, nat_eq, if◌then◌else◌, Bool, true, false, not}
-use Rattle.std.specs.Prelude.{List, [], ◌∷◌, ◌++◌, map, Some, None, is_some, Result, Ok, Err}
+use Rattle.std.specs.Prelude.{List, [], ◌∷◌, ◌++◌, map, Some, is_some, Result, Ok, Err}
 use Rattle.std.specs.List.{list_any}
 use Rattle.std.specs.Option.{unwrap_or}
-use Rattle.ioa_actions.specs.declared.action.Action.{Action}
-use Rattle.ioa_terms.specs.PlainTerm.{statements_of}
+use Rattle.ioa_transitions.specs.Entries.{PlainEntry}
 use Rattle.ioa_commits.specs.Books.{PlainBook, states_held}
 use Rattle.ioa_compose.specs.declared.configuration.Conf.{Conf}
-use Rattle.ioa_system.specs.Parts.{Parts}
 use Rattle.ioa_compose.specs.Start.{start}
 use Rattle.ioa_system.specs.Systems.{SystemParts}
 use Rattle.ioa_record.specs.declared.ending.Ending.{Ending}
@@ -15,44 +13,26 @@ use Rattle.ioa_record.specs.declared.ending.Ending.TheVariants.{Done, Spent, Fau
 use Rattle.ioa_record.specs.declared.ending.NodeFault.{NodeFault}
 use Rattle.ioa_record.specs.declared.ending.NodeFault.TheVariants as fault
 use Rattle.ioa_record.specs.declared.record.Record.{Record}
-use Rattle.ioa_schedules.specs.Turns.{TurnEnd, fires, idle, done, following_statements}
-use Rattle.ioa_solo.specs.Attempts.{PlainFireOutcome, missed, taken, action_fired, fire_answer}
-use Rattle.ioa_solo.specs.NodeTurns.{PlainProgress, turn_at}
-use Rattle.ioa_solo.specs.Options.{PlainOptions}
-
--- a node before the run: all of its block is to do, the block's variables have their first values, and the node has all
--- its attempts
-abbrev pub progress_at : ℕ → Parts → PlainProgress
-progress_at attempts p = record {
-  program = p;
-  todo = statements_of p.automaton.schedule.statements;
-  own = p.block;
-  attempts = attempts;
-  ending = None;
-}
+use Rattle.ioa_record.specs.Options.{PlainOptions}
+use Rattle.ioa_schedules.specs.Turns.{TurnEnd, fires, idle, done}
+use Rattle.ioa_turns.specs.Fired.{action_fired}
+use Rattle.ioa_turns.specs.NodeTurns.{PlainProgress, past_fire, progress_at, turn_at, with_ending}
+use Rattle.ioa_solo.specs.Attempts.{PlainFireOutcome, missed, taken, fire_answer}
 
 -- a run under way: the schedule so far, and the configurations that it leads to
 pub record PlainCourse : Type 0 where
-  pub schedule : List Action
+  pub schedule : List PlainEntry
   pub states : List Conf
 
 -- the run under way that a book of commits keeps
 abbrev pub course_of : PlainBook → PlainCourse
 course_of b = record { schedule = b.log; states = states_held b }
 
--- a node that ends so
-abbrev pub with_ending : Ending → PlainProgress → PlainProgress
-with_ending e p = record p { ending = Some e }
-
--- a node whose block has moved past the fire at which it stood
-abbrev pub past_fire : PlainProgress → PlainProgress
-past_fire p = record p { todo = following_statements p.todo }
-
--- the run and its node after a fire: one that is missed or taken is passed, and a taken action is added to the
--- schedule; a fault ends the node
+-- the run and its node after a fire: one that is missed or taken is passed, and the entry of a taken step is added to
+-- the schedule; a fault ends the node
 abbrev pub after_fire : Result PlainFireOutcome NodeFault → PlainCourse → PlainProgress → PlainCourse × PlainProgress
 after_fire (Ok missed) s p = (s, past_fire p)
-after_fire (Ok (taken a next)) s p = (record { schedule = s.schedule ++ a ∷ []; states = next }, past_fire p)
+after_fire (Ok (taken e next)) s p = (record { schedule = s.schedule ++ e ∷ []; states = next }, past_fire p)
 after_fire (Err f) s p = (s, with_ending (Fault f) p)
 
 -- the run and its node after a turn that ends so: a block that is done ends its node, an idle one goes on in the next
@@ -131,6 +111,9 @@ is_memory fault.NotMine = false
 is_memory fault.NoChannel = false
 is_memory fault.Differs = false
 is_memory fault.Full = false
+is_memory fault.Unknown = false
+is_memory fault.Older = false
+is_memory fault.NoThread = false
 
 -- whether an ending is want of memory
 abbrev pub is_cut_short : Ending → Bool
@@ -141,7 +124,7 @@ is_cut_short Spent = false
 -- a record and a list of endings hold what a run leaves: the schedule, the configurations, and the ending of each
 -- node, which each node has
 pub record IsLeftBy (left : PlainCourse × List PlainProgress) (r : Record) (endings : List Ending) : Type 0 where
-  pub schedule : r.schedule.items ≡ left.0.schedule
+  pub schedule : r.schedule ≡ left.0.schedule
   pub states : r.states.items ≡ left.0.states
   pub each : map Some endings ≡ map (λ p. p.ending) left.1
 

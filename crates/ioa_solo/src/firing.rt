@@ -1,78 +1,89 @@
 //! What it comes to that a node fires an action.
 
-ghost use Rattle.std.specs.Prelude.{◌≡◌, ◌⊎◌, IfOk, OnErr, Ok};
-ghost use Rattle.std.specs.Option.{option_copied};
+ghost use Rattle.std.specs.Prelude.{◌≡◌, IfErr, IfOk, OnErr, Ok, Some};
+ghost use Rattle.std.specs.Arc.{arc_value};
 ghost use Rattle.ioa_commits.specs.Books.{states_held};
+ghost use Rattle.ioa_commits.specs.Commits.{IsCommitted, IsRefused};
 ghost use Rattle.ioa_book.specs.Looks.{IsLookAt};
-ghost use Rattle.ioa_commits.specs.declared.outcome.Refusal.{Refusal};
 ghost use Rattle.ioa_book.specs.Proposals.{proposal_answer};
 ghost use Rattle.ioa_values.specs.Outcome.{Answers};
+ghost use Rattle.ioa_turns.specs.Faults.{fault_of_refusal};
 ghost use Rattle.ioa_solo.specs.Attempts as spec;
 ghost use Rattle.ioa_solo.specs.Attempts.{IsRecordedBy, fire_answer, outcome_in};
 
 use ioa_actions::{Action, StepFault};
-use ioa_book::{Book, Proposal, Refusal, Snapshot};
+use ioa_book::{Book, CommitRefusal, Committed, Proposal, Refused, Snapshot};
+use ioa_rawlog::Spare;
 use ioa_record::NodeFault;
 use ioa_sharing::Origin;
-use ioa_system::{Program, Rule};
-use ioa_terms::{Kind, Value, Word};
+use ioa_transitions::Entry;
+use ioa_turns::{fault_of_refusal, fault_of_step};
 use std::alloc::{AllocError, Global};
+use std::sync::Arc;
 
 /// What it comes to that a node fires an action, if it meets no fault.
 #[derive(Drop)]
 pub(crate) enum FireOutcome {
     /// The action is not enabled.
     Missed,
-    /// The action was a step, and is recorded.
-    Taken,
-}
-
-/// The action that a name and arguments give at a node with this program: a receive or a stimulus if they are of an
-/// input, and else a send or a local action.
-pub(crate) fn action_fired(
-    alloc: Global,
-    program: &Program,
-    name: &Word,
-    arguments: Vec<Value>,
-) -> Result<Action, AllocError>
-    ensures { IfOk result (λ a. a ≡ spec.action_fired program.now name.now arguments.items) }
-{
-    if is_input(program.automaton().rule_named(name.as_str())) {
-        Action::input_at(alloc, program.node(), name, arguments)
-    } else {
-        Action::locally_controlled_at(alloc, program.node(), name, arguments)
-    }
-}
-
-/// Whether a rule is there and its actions are inputs.
-fn is_input(rule: Option<&Rule>) -> bool
-    ensures { result ≡ spec.is_input (option_copied rule.entry) }
-{
-    match rule {
-        None => false,
-        Some(rule) => rule.entry.kind == Kind::Input,
-    }
+    /// The action was a step, and is recorded by this entry.
+    Taken(Entry),
 }
 
 /// The step of an action that a node fires, on a look at the node in the book as it is. The action is proposed and
 /// committed: `NotMine` (41) if it is another node's, else the joint step's fault, and `Full` (52) if the book is full.
-/// After a fault the book is as it was.
+/// After a fault the book is as it was. The commit is made with the spare that is there, or with a new one, and what it
+/// leaves of that is the next one's.
 pub(crate) fn fire<O: Origin>(
     alloc: Global,
     book: &mut Book<O>,
     snapshot: &Snapshot<O>,
     node: i64,
-    action: Action,
+    action: &Arc<Action>,
+    spare: &mut Option<Spare<Entry>>,
 ) -> Result<FireOutcome, NodeFault>
     requires fresh { IsLookAt book.old node snapshot.now }
-    ensures answer { Answers NodeFault.Memory (outcome_in book.new action) result
-        (fire_answer book.old.limit book.old.log (states_held book.old) node action) }
-    ensures recorded { IfOk result (λ outcome. IsRecordedBy book.old action outcome book.new) }
+    ensures answer { Answers NodeFault.Memory (outcome_in book.new) result
+        (fire_answer book.old.limit book.old.log (states_held book.old) node (arc_value action.now)) }
+    ensures recorded { IfOk result (λ outcome. IsRecordedBy book.old outcome book.new) }
+    ensures unchanged { OnErr result (book.new ≡ book.old) }
+{
+    match spare_of(alloc, spare) {
+        Ok(block) => fire_with(alloc, book, snapshot, node, action, block, spare),
+        Err(AllocError) => Err(NodeFault::Memory),
+    }
+}
+
+/// The same with a block for the commit.
+fn fire_with<O: Origin>(
+    alloc: Global,
+    book: &mut Book<O>,
+    snapshot: &Snapshot<O>,
+    node: i64,
+    action: &Arc<Action>,
+    block: Spare<Entry>,
+    spare: &mut Option<Spare<Entry>>,
+) -> Result<FireOutcome, NodeFault>
+    requires fresh { IsLookAt book.old node snapshot.now }
+    ensures answer { Answers NodeFault.Memory (outcome_in book.new) result
+        (fire_answer book.old.limit book.old.log (states_held book.old) node (arc_value action.now)) }
+    ensures recorded { IfOk result (λ outcome. IsRecordedBy book.old outcome book.new) }
     ensures unchanged { OnErr result (book.new ≡ book.old) }
 {
     match snapshot.propose(alloc, action) {
-        Ok(proposal) => commit(book, snapshot, node, proposal),
-        Err(fault) => outcome_of(fault),
+        Ok(proposal) => commit(book, snapshot, node, proposal, block, spare),
+        Err(fault) => {
+            *spare = Some(block);
+            outcome_of(fault)
+        }
+    }
+}
+
+/// The spare that is there, or else a new one.
+fn spare_of(alloc: Global, spare: &mut Option<Spare<Entry>>) -> Result<Spare<Entry>, AllocError> {
+    match spare.take() {
+        Some(block) => Ok(block),
+        None => Spare::make(alloc),
     }
 }
 
@@ -80,13 +91,9 @@ pub(crate) fn fire<O: Origin>(
 fn outcome_of(fault: StepFault) -> Result<FireOutcome, NodeFault>
     ensures { result ≡ spec.fault_outcome fault }
 {
-    match fault {
-        StepFault::NotEnabled => Ok(FireOutcome::Missed),
-        StepFault::Undefined => Err(NodeFault::Undefined),
-        StepFault::Range => Err(NodeFault::Range),
-        StepFault::Memory => Err(NodeFault::Memory),
-        StepFault::NotMine => Err(NodeFault::NotMine),
-        StepFault::NoChannel => Err(NodeFault::NoChannel),
+    match fault_of_step(fault) {
+        None => Ok(FireOutcome::Missed),
+        Some(fault) => Err(fault),
     }
 }
 
@@ -96,29 +103,45 @@ fn commit<O: Origin>(
     snapshot: &Snapshot<O>,
     node: i64,
     proposal: Proposal<O>,
+    block: Spare<Entry>,
+    spare: &mut Option<Spare<Entry>>,
 ) -> Result<FireOutcome, NodeFault>
     requires fresh { IsLookAt book.old node snapshot.now }
-    requires proposed { proposal_answer proposal.action snapshot.now ≡ Ok proposal }
-    ensures answer { Answers NodeFault.Memory (outcome_in book.new proposal.action) result
-        (fire_answer book.old.limit book.old.log (states_held book.old) node proposal.action) }
-    ensures recorded { IfOk result (λ outcome. IsRecordedBy book.old proposal.action outcome book.new) }
+    requires proposed { proposal_answer proposal.entry.action snapshot.now ≡ Ok proposal }
+    ensures answer { Answers NodeFault.Memory (outcome_in book.new) result
+        (fire_answer book.old.limit book.old.log (states_held book.old) node proposal.entry.action) }
+    ensures recorded { IfOk result (λ outcome. IsRecordedBy book.old outcome book.new) }
     ensures unchanged { OnErr result (book.new ≡ book.old) }
 {
-    match book.commit(proposal) {
-        Ok(_) => Ok(FireOutcome::Taken),
+    match commit_with(book, proposal, block, spare) {
+        Ok(committed) => Ok(FireOutcome::Taken(committed.entry)),
         Err(refused) => Err(fault_of(refused.refusal)),
     }
 }
 
-/// The fault of a node whose proposal is refused for one of the two reasons that there are if nothing was committed
-/// since its look.
-fn fault_of(refusal: Refusal) -> NodeFault
-    requires { (refusal ≡ Refusal.Full) ⊎ (refusal ≡ Refusal.Memory) }
-    ensures { result ≡ spec.fault_of_refusal refusal }
+/// The commit of a proposal with a block. What it leaves of that is the next one's.
+fn commit_with<O: Origin>(
+    book: &mut Book<O>,
+    proposal: Proposal<O>,
+    block: Spare<Entry>,
+    spare: &mut Option<Spare<Entry>>,
+) -> Result<Committed<O>, Refused<O>>
+    ensures committed { IfOk result (λ c. IsCommitted book.old proposal c.index c.entry book.new) }
+    ensures refused { IfErr result (λ r. IsRefused book.old proposal r.refusal r.proposal book.new) }
 {
-    match refusal {
-        Refusal::Full => NodeFault::Full,
-        Refusal::Memory => NodeFault::Memory,
-        _ => unreachable!(),
+    let (result, left) = book.commit(proposal, block);
+    *spare = left;
+    result
+}
+
+/// The fault of a node whose proposal is refused for the one reason that there is if nothing was committed since its
+/// look.
+fn fault_of(refusal: CommitRefusal) -> NodeFault
+    requires { refusal ≡ CommitRefusal.Full }
+    ensures { fault_of_refusal refusal ≡ Some result }
+{
+    match fault_of_refusal(refusal) {
+        Some(fault) => fault,
+        None => unreachable!(),
     }
 }

@@ -5,29 +5,46 @@ ghost use Rattle.std.specs.List.{list_all, list_any};
 ghost use Rattle.std.specs.Arc.{arc_value};
 ghost use Rattle.ioa_sharing.specs.Shared.{maker_name};
 ghost use Rattle.ioa_system.specs.Declarations.{IsWellDeclared};
-ghost use Rattle.ioa_terms.specs.View.{firing_of};
-ghost use Rattle.ioa_book.specs.BookLaws.{IsExecutionOf};
-ghost use Rattle.ioa_book.specs.Looks.{IsLookAt};
-ghost use Rattle.ioa_schedules.specs.Controls.{todo_of};
-ghost use Rattle.ioa_schedules.specs.Turns.{fires, IsAtFire};
-ghost use Rattle.ioa_solo.specs.NodeTurns.{progress_of};
-ghost use Rattle.ioa_solo.specs.Recorded.{IsOneRun, IsRecordOf, IsRunOf};
-ghost use Rattle.ioa_solo.specs.Solo.{IsSoloRun, IsEndedBy, ending_of, has_ended, is_cut_short, is_under_way};
-ghost use Rattle.ioa_solo.specs.Solo.{progress_at, course_of, after_end, attempt, visit, visit_unless_ended};
-ghost use Rattle.ioa_solo.specs.Solo.{round, rounds, short_of_memory};
+ghost use Rattle.ioa_commits.specs.Books.{states_held};
+ghost use Rattle.ioa_record.specs.Recorded.{IsOfOneWorker, IsRecordOf, IsRunOf};
+ghost use Rattle.ioa_turns.specs.NodeTurns.{progress_at};
+ghost use Rattle.ioa_solo.specs.BookRuns.{IsOneRun, IsTakenFrom};
+ghost use Rattle.ioa_solo.specs.Solo.{IsSoloRun, ending_of, has_ended, is_cut_short, is_under_way};
+ghost use Rattle.ioa_solo.specs.Visits.{progress_in};
+ghost use Rattle.ioa_solo.specs.Solo.{course_of, visit_unless_ended, round, rounds, short_of_memory};
 
-use crate::firing::{FireOutcome, action_fired, fire};
-use crate::options::Options;
-use crate::progress::Progress;
-use crate::turn::fresh_turn;
-use ioa_book::{Book, LookFault, Snapshot};
-use ioa_record::{Ending, NodeFault, Record};
-use ioa_schedules::{Fired, Turn, passed};
+use crate::visiting::visit;
+use ioa_book::{Book, Snapshot};
+use ioa_compose::Conf;
+use ioa_rawlog::Spare;
+use ioa_record::{Ending, NodeFault, Options, Record};
 use ioa_sharing::{Maker, MakerOf, Origin};
 use ioa_system::{Program, System};
+use ioa_transitions::Entry;
+use ioa_turns::Progress;
 use std::alloc::{AllocError, Global};
 use std::marker::Brand;
 use std::sync::Arc;
+
+/// A node of a run: how far it has come, and the last look at it, in whose place the next one is made.
+#[derive(Drop)]
+struct Visited<'a, O: Origin> {
+    progress: Progress<'a>,
+    look: Option<Snapshot<O>>,
+}
+
+impl<'a, O: Origin> Visited<'a, O> {
+    /// A node before the run, at which nobody has looked.
+    fn start(alloc: Global, program: &'a Program, attempts: u64) -> Result<Self, AllocError>
+        ensures { IfOk result (λ n. progress_in n ≡ progress_at attempts program.now) }
+    {
+        let progress = Progress::start(alloc, program, attempts)?;
+        Ok(Visited {
+            progress,
+            look: None,
+        })
+    }
+}
 
 /// Runs a system by one worker (profile). The worker goes round the nodes in order until each has an ending. A visit of
 /// a node that has no attempt left ends it; else one attempt is used: a look at the node in the book of commits, one
@@ -40,6 +57,7 @@ pub fn run(
     options: &Options,
 ) -> Result<(Record, Vec<Ending>), AllocError>
     ensures left { IfOk result (λ r. IsRecordOf system.now options.now.steps r.0 r.1.items) }
+    ensures alone { IfOk result (λ r. IsOfOneWorker r.0) }
     ensures run { IfOk result (λ r. IsWellDeclared system.now → IsRunOf system.now options.now.steps r.0 r.1.items) }
     ensures solo { IfOk result (λ r. IsSoloRun system.now options.now r.0 r.1.items) }
 {
@@ -55,6 +73,7 @@ fn run_by<O: Origin>(
 ) -> Result<(Record, Vec<Ending>), AllocError>
     requires { maker_name maker ≡ O.name }
     ensures left { IfOk result (λ r. IsRecordOf system.now options.now.steps r.0 r.1.items) }
+    ensures alone { IfOk result (λ r. IsOfOneWorker r.0) }
     ensures run { IfOk result (λ r. IsWellDeclared system.now → IsRunOf system.now options.now.steps r.0 r.1.items) }
     ensures solo { IfOk result (λ r. IsSoloRun system.now options.now r.0 r.1.items) }
 {
@@ -66,38 +85,55 @@ fn run_by<O: Origin>(
     Ok(left)
 }
 
-/// The record of a run that its book and its nodes leave, and the endings of the nodes, in order.
+/// The record of a run that its book and its nodes leave, and the endings of the nodes, in order. All that takes memory
+/// is made before the book is taken apart.
 fn record_of<O: Origin>(
     alloc: Global,
     book: Book<O>,
-    nodes: &[Progress],
+    nodes: &[Visited<O>],
 ) -> Result<(Record, Vec<Ending>), AllocError>
-    ensures execution { IfOk result (λ r. IsExecutionOf book r.0.schedule.items r.0.states.items) }
-    ensures counted { IfOk result (λ r. r.0.commits.items ≡ length r.0.schedule.items ∷ []) }
-    ensures endings { IfOk result (λ r. r.1.items ≡ map ending_of (map progress_of nodes.now)) }
+    ensures taken { IfOk result (λ r. IsTakenFrom book r.0) }
+    ensures alone { IfOk result (λ r. IsOfOneWorker r.0) }
+    ensures endings { IfOk result (λ r. r.1.items ≡ map ending_of (map progress_in nodes.now)) }
 {
-    let endings = endings_of(alloc, nodes)?;
-    let execution = book.into_execution(alloc)?;
-    let mut commits = Vec::new(alloc);
-    commits.push(execution.schedule.len() as u64)?;
+    let (endings, states, commits) = lists_of(alloc, &book, nodes)?;
+    let (schedule, _maker) = book.into_parts();
     let record = Record {
-        schedule: execution.schedule,
-        states: execution.states,
+        schedule,
+        states,
         commits,
     };
     Ok((record, endings))
 }
 
+/// The endings of the nodes, the configurations that the book holds, and the commits of the one worker.
+fn lists_of<O: Origin>(
+    alloc: Global,
+    book: &Book<O>,
+    nodes: &[Visited<O>],
+) -> Result<(Vec<Ending>, Vec<Conf>, Vec<u64>), AllocError>
+    ensures endings { IfOk result (λ t. t.0.items ≡ map ending_of (map progress_in nodes.now)) }
+    ensures states { IfOk result (λ t. t.1.items ≡ states_held book.now) }
+    ensures commits { IfOk result (λ t. t.2.items ≡ length book.now.log ∷ []) }
+{
+    let endings = endings_of(alloc, nodes)?;
+    let states = book.states(alloc)?;
+    let mut commits = Vec::new(alloc);
+    commits.push(book.log().len() as u64)?;
+    Ok((endings, states, commits))
+}
+
 /// Goes round the nodes until each has an ending, at most once more than they have attempts. If memory runs out, each
 /// node without an ending gets that fault.
-fn go_on<O: Origin>(alloc: Global, options: &Options, book: &mut Book<O>, nodes: &mut [Progress])
+fn go_on<O: Origin>(alloc: Global, options: &Options, book: &mut Book<O>, nodes: &mut [Visited<O>])
     ensures one { IsOneRun book.old book.new }
-    ensures solo { (list_any is_cut_short (map ending_of (map progress_of nodes.new)) ≡ true)
-        ⊎ ((course_of book.new, map progress_of nodes.new)
-        ≡ rounds book.old.limit (options.now.attempts + 1) (course_of book.old) (map progress_of nodes.old)) }
+    ensures solo { (list_any is_cut_short (map ending_of (map progress_in nodes.new)) ≡ true)
+        ⊎ ((course_of book.new, map progress_in nodes.new)
+        ≡ rounds book.old.limit (options.now.attempts + 1) (course_of book.old) (map progress_in nodes.old)) }
 {
+    let mut spare = None;
     for _round in 0..options.attempts() + 1 {
-        if go_round(alloc, book, nodes).is_err() {
+        if go_round(alloc, book, nodes, &mut spare).is_err() {
             end_all(nodes);
             return;
         }
@@ -108,11 +144,11 @@ fn go_on<O: Origin>(alloc: Global, options: &Options, book: &mut Book<O>, nodes:
 }
 
 /// Whether each node has an ending.
-fn have_all_ended(nodes: &[Progress]) -> bool
-    ensures { result ≡ list_all has_ended (map progress_of nodes.now) }
+fn have_all_ended<O: Origin>(nodes: &[Visited<O>]) -> bool
+    ensures { result ≡ list_all has_ended (map progress_in nodes.now) }
 {
     for node in nodes {
-        if node.ending.is_none() {
+        if node.progress.ending.is_none() {
             return false;
         }
     }
@@ -120,17 +156,17 @@ fn have_all_ended(nodes: &[Progress]) -> bool
 }
 
 /// The nodes before a run.
-fn start_nodes(
+fn start_nodes<O: Origin>(
     alloc: Global,
     programs: &[Arc<Program>],
     attempts: u64,
-) -> Result<Vec<Progress<'_>>, AllocError>
-    ensures { IfOk result (λ v. map progress_of v.items
+) -> Result<Vec<Visited<'_, O>>, AllocError>
+    ensures { IfOk result (λ v. map progress_in v.items
         ≡ map (progress_at attempts) (map arc_value programs.now)) }
 {
     let mut nodes = Vec::new(alloc);
     for program in programs {
-        nodes.push(Progress::start(alloc, program, attempts)?)?;
+        nodes.push(Visited::start(alloc, program, attempts)?)?;
     }
     Ok(nodes)
 }
@@ -139,16 +175,17 @@ fn start_nodes(
 fn go_round<O: Origin>(
     alloc: Global,
     book: &mut Book<O>,
-    nodes: &mut [Progress],
+    nodes: &mut [Visited<O>],
+    spare: &mut Option<Spare<Entry>>,
 ) -> Result<(), AllocError>
     ensures one { IsOneRun book.old book.new }
     ensures round { OnOk result
-        ((course_of book.new, map progress_of nodes.new)
-        ≡ round book.old.limit (course_of book.old) (map progress_of nodes.old)) }
-    ensures stopped { OnErr result (list_any is_under_way (map progress_of nodes.new) ≡ true) }
+        ((course_of book.new, map progress_in nodes.new)
+        ≡ round book.old.limit (course_of book.old) (map progress_in nodes.old)) }
+    ensures stopped { OnErr result (list_any is_under_way (map progress_in nodes.new) ≡ true) }
 {
     for position in 0..nodes.len() {
-        visit_unless_ended(alloc, book, &mut nodes[position])?;
+        visit_unless_ended(alloc, book, &mut nodes[position], spare)?;
     }
     Ok(())
 }
@@ -157,22 +194,23 @@ fn go_round<O: Origin>(
 fn visit_unless_ended<O: Origin>(
     alloc: Global,
     book: &mut Book<O>,
-    node: &mut Progress,
+    node: &mut Visited<O>,
+    spare: &mut Option<Spare<Entry>>,
 ) -> Result<(), AllocError>
     ensures one { IsOneRun book.old book.new }
-    ensures visited { OnOk result (visit_unless_ended book.old.limit (course_of book.old) (progress_of node.old)
-        ≡ (course_of book.new, progress_of node.new)) }
-    ensures stopped { OnErr result (node.new.ending ≡ None) }
+    ensures visited { OnOk result (visit_unless_ended book.old.limit (course_of book.old)
+        (progress_in node.old) ≡ (course_of book.new, progress_in node.new)) }
+    ensures stopped { OnErr result (node.new.progress.ending ≡ None) }
 {
-    match node.ending {
+    match node.progress.ending {
         Some(_) => Ok(()),
-        None => visit(alloc, book, node),
+        None => visit(alloc, book, &mut node.progress, &mut node.look, spare),
     }
 }
 
 /// Ends each node that has no ending with the fault `Memory` (3).
-fn end_all(nodes: &mut [Progress])
-    ensures { map progress_of nodes.new ≡ map short_of_memory (map progress_of nodes.old) }
+fn end_all<O: Origin>(nodes: &mut [Visited<O>])
+    ensures { map progress_in nodes.new ≡ map short_of_memory (map progress_in nodes.old) }
 {
     for position in 0..nodes.len() {
         end_for_memory(&mut nodes[position]);
@@ -180,132 +218,21 @@ fn end_all(nodes: &mut [Progress])
 }
 
 /// Ends a node with the fault `Memory` (3), if it has no ending yet.
-fn end_for_memory(node: &mut Progress)
-    ensures { progress_of node.new ≡ short_of_memory (progress_of node.old) }
+fn end_for_memory<O: Origin>(node: &mut Visited<O>)
+    ensures { progress_in node.new ≡ short_of_memory (progress_in node.old) }
 {
-    if node.ending.is_none() {
-        node.ending = Some(Ending::Fault(NodeFault::Memory));
-    }
-}
-
-/// One visit of a node that has no ending: an attempt, if one is left. If memory runs out, the visit does not count.
-fn visit<O: Origin>(
-    alloc: Global,
-    book: &mut Book<O>,
-    node: &mut Progress,
-) -> Result<(), AllocError>
-    requires { node.old.ending ≡ None }
-    ensures one { IsOneRun book.old book.new }
-    ensures visited { OnOk result (visit book.old.limit (course_of book.old) (progress_of node.old)
-        ≡ (course_of book.new, progress_of node.new)) }
-    ensures stopped { OnErr result (node.new.ending ≡ None) }
-{
-    if node.attempts == 0 {
-        node.ending = Some(Ending::Spent);
-        return Ok(());
-    }
-    node.attempts -= 1;
-    attempt(alloc, book, node)
-}
-
-/// One attempt of a node: a look at it, and what follows from that. A node that is not there has no turn.
-fn attempt<O: Origin>(
-    alloc: Global,
-    book: &mut Book<O>,
-    node: &mut Progress,
-) -> Result<(), AllocError>
-    requires { node.old.ending ≡ None }
-    ensures one { IsOneRun book.old book.new }
-    ensures attempted { OnOk result (attempt book.old.limit (course_of book.old) (progress_of node.old)
-        ≡ (course_of book.new, progress_of node.new)) }
-    ensures stopped { OnErr result (node.new.ending ≡ None) }
-{
-    match book.look(alloc, node.program.node()) {
-        Ok(snapshot) => attempt_on(alloc, book, &snapshot, node),
-        Err(LookFault::Memory) => Err(AllocError),
-        Err(LookFault::Unknown) => end_by_fault(node, NodeFault::Differs),
-    }
-}
-
-/// An attempt of a node on a look at it: its turn on what the look shows, and the step of the action that it fires.
-fn attempt_on<O: Origin>(
-    alloc: Global,
-    book: &mut Book<O>,
-    snapshot: &Snapshot<O>,
-    node: &mut Progress,
-) -> Result<(), AllocError>
-    requires fresh { IsLookAt book.old node.old.program.now.node snapshot.now }
-    requires under_way { node.old.ending ≡ None }
-    ensures one { IsOneRun book.old book.new }
-    ensures attempted { OnOk result (attempt book.old.limit (course_of book.old) (progress_of node.old)
-        ≡ (course_of book.new, progress_of node.new)) }
-    ensures stopped { OnErr result (node.new.ending ≡ None) }
-{
-    match fresh_turn(alloc, book, snapshot, node) {
-        Ok(Turn::Done) => {
-            node.ending = Some(Ending::Done);
-            Ok(())
-        }
-        Ok(Turn::Idle) => Ok(()),
-        Ok(Turn::Fire(fired)) => go_past(alloc, book, snapshot, node, fired),
-        Err(fault) => end_by_fault(node, fault),
-    }
-}
-
-/// What follows from the fire at which a node stands: the block moves past it, unless the action meets a fault.
-fn go_past<O: Origin>(
-    alloc: Global,
-    book: &mut Book<O>,
-    snapshot: &Snapshot<O>,
-    node: &mut Progress,
-    fired: Fired,
-) -> Result<(), AllocError>
-    requires stands { IsAtFire (todo_of node.old.control) }
-    requires fresh { IsLookAt book.old node.old.program.now.node snapshot.now }
-    requires under_way { node.old.ending ≡ None }
-    ensures one { IsOneRun book.old book.new }
-    ensures attempted { OnOk result (after_end book.old.limit (course_of book.old) (progress_of node.old)
-        (fires (firing_of fired.entry.firing.now).kind (firing_of fired.entry.firing.now).action
-        fired.entry.arguments.items)
-        ≡ (course_of book.new, progress_of node.new)) }
-    ensures stopped { OnErr result (node.new.ending ≡ None) }
-{
-    let Fired { firing, arguments } = fired;
-    let action = action_fired(alloc, node.program, &firing.action, arguments)?;
-    match fire(alloc, book, snapshot, node.program.node(), action) {
-        Ok(FireOutcome::Missed) => {
-            passed(&mut node.control);
-            Ok(())
-        }
-        Ok(FireOutcome::Taken) => {
-            passed(&mut node.control);
-            Ok(())
-        }
-        Err(fault) => end_by_fault(node, fault),
-    }
-}
-
-/// Ends a node by a fault. `Memory` (3) ends no single node.
-fn end_by_fault(node: &mut Progress, fault: NodeFault) -> Result<(), AllocError>
-    ensures ended { OnOk result (IsEndedBy fault (progress_of node.old) (progress_of node.new)) }
-    ensures unchanged { OnErr result (node.new.ending ≡ node.old.ending) }
-{
-    match fault {
-        NodeFault::Memory => Err(AllocError),
-        fault => {
-            node.ending = Some(Ending::Fault(fault));
-            Ok(())
-        }
+    if node.progress.ending.is_none() {
+        node.progress.ending = Some(Ending::Fault(NodeFault::Memory));
     }
 }
 
 /// The endings of the nodes, in order.
-fn endings_of(alloc: Global, nodes: &[Progress]) -> Result<Vec<Ending>, AllocError>
-    ensures { IfOk result (λ v. v.items ≡ map ending_of (map progress_of nodes.now)) }
+fn endings_of<O: Origin>(alloc: Global, nodes: &[Visited<O>]) -> Result<Vec<Ending>, AllocError>
+    ensures { IfOk result (λ v. v.items ≡ map ending_of (map progress_in nodes.now)) }
 {
     let mut endings = Vec::new(alloc);
     for node in nodes {
-        endings.push(node.ending.unwrap_or(Ending::Spent))?;
+        endings.push(node.progress.ending.unwrap_or(Ending::Spent))?;
     }
     Ok(endings)
 }

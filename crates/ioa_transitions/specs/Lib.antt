@@ -1,4 +1,5 @@
 -- what the contracts of this crate and of those above it cite
+pub mod Entries
 pub mod NodeState
 pub mod NodeStep
 pub mod NodeAnswers

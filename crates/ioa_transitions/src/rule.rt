@@ -171,7 +171,7 @@ pub fn rule_for<'a>(
     Ok(None)
 }
 
-/// The values of a node's state variables after an action.
+/// The values of a node's state variables after an action. Only those of a send or a receive are made into a list.
 pub fn values_after(
     alloc: Global,
     program: &Program,
@@ -183,10 +183,49 @@ pub fn values_after(
         (spec.values_answer (node_state program.now variables.now) action.now) }
     ensures valued { IfOk result (λ v. length v.items ≡ length variables.now) }
 {
-    let arguments = action.arguments(alloc)?;
-    match rule_for(alloc, program, action, &arguments)? {
+    match action {
+        Action::Send { .. } | Action::Receive { .. } => {
+            let arguments = action.arguments(alloc)?;
+            values_by(alloc, program, variables, action, &arguments)
+        }
+        Action::Local(local) => {
+            values_by(
+                alloc,
+                program,
+                variables,
+                action,
+                local.arguments.as_slice(),
+            )
+        }
+        Action::Stimulus(stimulus) => {
+            values_by(
+                alloc,
+                program,
+                variables,
+                action,
+                stimulus.arguments.as_slice(),
+            )
+        }
+    }
+}
+
+/// The values of a node's state variables after an action with these arguments.
+fn values_by(
+    alloc: Global,
+    program: &Program,
+    variables: &[Value],
+    action: &Action,
+    arguments: &[Value],
+) -> Result<Vec<Value>, StepFault>
+    requires valued { length variables.now ≡ length program.now.automaton.variables }
+    requires own { arguments.now ≡ action_arguments action.now }
+    ensures after { Answers StepFault.Memory (λ v. v.items) result
+        (spec.values_answer (node_state program.now variables.now) action.now) }
+    ensures valued { IfOk result (λ v. length v.items ≡ length variables.now) }
+{
+    match rule_for(alloc, program, action, arguments)? {
         None => Err(StepFault::NotMine),
-        Some(rule) => take_transition(alloc, program, rule, &arguments, variables),
+        Some(rule) => take_transition(alloc, program, rule, arguments, variables),
     }
 }
 

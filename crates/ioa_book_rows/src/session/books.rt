@@ -5,12 +5,14 @@ ghost use Rattle.std.specs.Prelude.{◌≤◌};
 use super::BookRows;
 use crate::answers::{execution_text, log_text};
 use crate::reading::no_more;
-use ioa_book::{Book, Execution};
+use ioa_book::Book;
 use ioa_check::{CheckFault, check};
+use ioa_rawlog::RawLog;
 use ioa_rows::CommandFault;
 use ioa_sharing::{MakerOf, Origin};
 use ioa_system::System;
 use ioa_text_reader::parse;
+use ioa_transitions::Entry;
 use std::alloc::{AllocError, Global};
 
 /// The greatest limit of a book.
@@ -65,7 +67,7 @@ impl<O: Origin> BookRows<O> {
     fn open_system(&mut self, system: &System, limit: usize) -> Result<String, CommandFault>
         requires { limit ≤ 1000000 }
     {
-        self.close()?;
+        drop(self.close());
         match self.maker.take() {
             Some(maker) => {
                 self.book = Some(book_of(self.alloc, maker, system, limit)?);
@@ -75,12 +77,12 @@ impl<O: Origin> BookRows<O> {
         }
     }
 
-    /// Takes the book apart, if there is one.
-    fn close(&mut self) -> Result<(), AllocError> {
-        if let Some(book) = self.book.take() {
-            self.take_apart(book)?;
-        }
-        Ok(())
+    /// Takes the book apart, if there is one: keeps its maker, and gives what is recorded.
+    fn close(&mut self) -> Option<RawLog<Entry>> {
+        let book = self.book.take()?;
+        let (log, maker) = Box::into_inner(book).into_parts();
+        self.maker = Some(maker);
+        Some(log)
     }
 
     /// The actions that are recorded.
@@ -92,21 +94,11 @@ impl<O: Origin> BookRows<O> {
     /// Takes the book apart, and tells what it leaves.
     pub(super) fn end(&mut self, words: &[&str]) -> Result<String, CommandFault> {
         no_more(words)?;
-        match self.book.take() {
-            Some(book) => Ok(self.take_apart(book)?),
+        let states = self.book()?.states(self.alloc)?;
+        match self.close() {
+            Some(log) => Ok(execution_text(self.alloc, &log, &states)?),
             None => Err(CommandFault::Bad("there is no book")),
         }
-    }
-
-    /// Takes a book apart, tells what it leaves, and keeps its maker.
-    fn take_apart(&mut self, book: Box<Book<O>>) -> Result<String, AllocError> {
-        let Execution {
-            schedule,
-            states,
-            maker,
-        } = Box::into_inner(book).into_execution(self.alloc)?;
-        self.maker = Some(maker);
-        execution_text(self.alloc, &schedule, &states)
     }
 }
 

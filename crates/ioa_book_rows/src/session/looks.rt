@@ -3,10 +3,10 @@
 use super::BookRows;
 use crate::reading::{component_of, count_of};
 use ioa_actions::Component;
-use ioa_book::Snapshot;
+use ioa_book::{LookFault, Snapshot};
 use ioa_rows::CommandFault;
 use ioa_sharing::Origin;
-use std::alloc::AllocError;
+use std::alloc::{AllocError, Global};
 
 impl<O: Origin> BookRows<O> {
     /// Looks at a node.
@@ -22,7 +22,28 @@ impl<O: Origin> BookRows<O> {
         let number = self.looks.len();
         let node = look.node();
         self.looks.push(look)?;
-        format!(in self.alloc; "look {number} at node {node}")
+        look_text(self.alloc, number, node)
+    }
+
+    /// Looks again at the node of a look, in its place.
+    pub(super) fn again(&mut self, number: usize) -> Result<String, CommandFault> {
+        match (&self.book, self.looks.get_mut(number)) {
+            (Some(book), Some(look)) => {
+                let node = look.node();
+                Ok(again_text(self.alloc, number, node, book.look_again(look))?)
+            }
+            (None, _) => Err(CommandFault::Bad("there is no book")),
+            (_, None) => Err(CommandFault::Bad("there is no such look")),
+        }
+    }
+
+    /// How many components a look has read.
+    pub(super) fn count(&self, number: usize) -> Result<String, CommandFault> {
+        let mut count: usize = 0;
+        for _ in self.look_at(number)?.reads() {
+            count = count.saturating_add(1);
+        }
+        Ok(format!(in self.alloc; "{count}")?)
     }
 
     /// The look of a number.
@@ -93,5 +114,23 @@ fn same_text<O: Origin>(
         (Some(read), Some(second)) if read.conf().equals(second.conf()) => "equal",
         (Some(_), Some(_)) => "different",
         _ => "not read",
+    }
+}
+
+/// The number of a look, and its node.
+fn look_text(alloc: Global, number: usize, node: i64) -> Result<String, AllocError> {
+    format!(in alloc; "look {number} at node {node}")
+}
+
+/// The same of a look that was looked at again, or why it could not be.
+fn again_text(
+    alloc: Global,
+    number: usize,
+    node: i64,
+    again: Result<(), LookFault>,
+) -> Result<String, AllocError> {
+    match again {
+        Ok(()) => look_text(alloc, number, node),
+        Err(fault) => format!(in alloc; "{fault}"),
     }
 }

@@ -3,11 +3,14 @@
 use super::BookRows;
 use crate::answers::{action_text, committed_text, refused_text};
 use crate::reading::{action_of, count_of};
-use ioa_actions::StepFault;
-use ioa_book::{Book, Proposal, Refused};
+use ioa_actions::{Action, StepFault};
+use ioa_book::{Book, Committed, Proposal, Refused};
+use ioa_rawlog::Spare;
 use ioa_rows::CommandFault;
 use ioa_sharing::Origin;
+use ioa_transitions::Entry;
 use std::alloc::{AllocError, Global};
+use std::sync::Arc;
 
 impl<O: Origin> BookRows<O> {
     /// Proposes an action on a look.
@@ -21,8 +24,8 @@ impl<O: Origin> BookRows<O> {
         match words {
             [look, kind, rest @ ..] => {
                 let look = self.look_at(count_of(look)?)?;
-                let action = action_of(self.alloc, kind, rest)?;
-                Ok(look.propose(self.alloc, action))
+                let action = lent(self.alloc, action_of(self.alloc, kind, rest)?)?;
+                Ok(look.propose(self.alloc, &action))
             }
             _ => Err(CommandFault::Bad("a look and an action are wanted")),
         }
@@ -50,7 +53,7 @@ impl<O: Origin> BookRows<O> {
     fn kept_text(&self, number: usize) -> Result<String, AllocError> {
         match self.proposals.get(number) {
             Some(Some(proposal)) => {
-                let action = action_text(self.alloc, proposal.action())?;
+                let action = action_text(self.alloc, proposal.entry().action())?;
                 format!(in self.alloc; "proposal {number} of {action}")
             }
             _ => String::from_str(self.alloc, "no proposal"),
@@ -71,11 +74,16 @@ impl<O: Origin> BookRows<O> {
     /// Commits a proposal. One that is refused stays.
     pub(super) fn commit(&mut self, number: usize) -> Result<String, CommandFault> {
         match (&mut self.book, self.proposals.get_mut(number)) {
-            (Some(book), Some(place)) => commit_at(self.alloc, book, place),
+            (Some(book), Some(place)) => commit_at(self.alloc, book, place, &mut self.spare),
             (None, _) => Err(CommandFault::Bad("there is no book")),
             (_, None) => Err(CommandFault::Bad("there is no such proposal")),
         }
     }
+}
+
+/// The same action, so that it can be lent.
+fn lent(alloc: Global, action: Action) -> Result<Arc<Action>, AllocError> {
+    Ok(Arc::new(alloc, action)?)
 }
 
 /// Commits the proposal in a place, which is then empty. One that is refused stays in its place.
@@ -83,21 +91,37 @@ fn commit_at<O: Origin>(
     alloc: Global,
     book: &mut Book<O>,
     place: &mut Option<Proposal<O>>,
+    kept: &mut Option<Spare<Entry>>,
 ) -> Result<String, CommandFault> {
+    let spare = spare_of(alloc, kept)?;
     match place.take() {
-        Some(proposal) => Ok(commit_taken(alloc, book, place, proposal)?),
-        None => Err(CommandFault::Bad("the proposal is committed")),
+        Some(proposal) => {
+            let (done, left) = book.commit(proposal, spare);
+            *kept = left;
+            Ok(done_text(alloc, place, done)?)
+        }
+        None => {
+            *kept = Some(spare);
+            Err(CommandFault::Bad("the proposal is committed"))
+        }
     }
 }
 
-/// Commits a proposal, which comes into this place if it is refused.
-fn commit_taken<O: Origin>(
+/// The spare that is kept, or a new one.
+fn spare_of(alloc: Global, kept: &mut Option<Spare<Entry>>) -> Result<Spare<Entry>, AllocError> {
+    match kept.take() {
+        Some(spare) => Ok(spare),
+        None => Spare::make(alloc),
+    }
+}
+
+/// What comes of the commit of a proposal, which comes into this place if it is refused.
+fn done_text<O: Origin>(
     alloc: Global,
-    book: &mut Book<O>,
     place: &mut Option<Proposal<O>>,
-    proposal: Proposal<O>,
+    done: Result<Committed<O>, Refused<O>>,
 ) -> Result<String, AllocError> {
-    match book.commit(proposal) {
+    match done {
         Ok(committed) => committed_text(alloc, &committed),
         Err(refused) => put_back(alloc, place, refused),
     }
@@ -111,5 +135,5 @@ fn put_back<O: Origin>(
 ) -> Result<String, AllocError> {
     let Refused { refusal, proposal } = refused;
     let proposal = place.insert(proposal);
-    refused_text(alloc, refusal, proposal.action())
+    refused_text(alloc, refusal, proposal.entry().action())
 }

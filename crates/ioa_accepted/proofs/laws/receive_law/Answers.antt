@@ -5,5 +5,5 @@ use Rattle.ioa_accepted.proofs.laws.receive_law.Goals as goal
 pub returns : goal.returns
 returns c = record {
   shaped = messages_awaited;
-  replay = λ x s actions cs h e. messages_awaited x s cs h (replay_shaped x s actions cs h e);
+  replay = λ x s entries cs h e. messages_awaited x s cs h (replay_shaped x s entries cs h e);
 }

@@ -6,11 +6,11 @@ use Rattle.ioa_compose.proofs.replaying.steps.Goals as goal
 
 pub loop-position-preserved : goal.loop-position-preserved
 loop-position-preserved c =
-    let actions = c.args.actions.now in
+    let entries = c.args.entries.now in
     let position = c.loop-position.position in
-    let action = c.index-actions-position.result in
-    let stepped : joint_answer action c.loop-position.confs.items ≡ Ok c.in-Ok.next.items = cc (c.as_slice.ensures.value, c.in-Ok.ensures) in
-    replay-next position actions action c.args.start.items c.loop-position.confs.items c.in-Ok.next.items
-    (slice_get_read actions (length actions) position action refl (omega arith) (cc c.index-actions-position.is))
+    let entry = c.index-entries-position.result in
+    let stepped : joint_answer entry c.loop-position.confs.items ≡ Ok c.in-Ok.next.items = cc (c.as_slice.ensures.value, c.in-Ok.ensures) in
+    replay-next position entries entry c.args.start.items c.loop-position.confs.items c.in-Ok.next.items
+    (slice_get_read entries (length entries) position entry refl (omega arith) (cc c.index-entries-position.is))
     c.loop-position.invariant
     stepped

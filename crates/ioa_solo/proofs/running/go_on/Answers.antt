@@ -1,12 +1,12 @@
 use Rattle.std.proofs.Common.{sym, ◌∙◌, inl, inr, map, arith}
-use Rattle.ioa_solo.specs.NodeTurns.{progress_of}
 use Rattle.ioa_solo.proofs.Rounds.{on_ok, on_err, rounds_ended, rounds_none, rounds_on, told_short}
+use Rattle.ioa_solo.specs.Visits.{progress_in}
 use Rattle.ioa_solo.proofs.running.go_on.Goals as goal
 
 pub returns-then-is_err-clause-solo : goal.returns-then-is_err-clause-solo
 returns-then-is_err-clause-solo g c =
     inl (rw c.end_all.ensures
-    (told_short (map progress_of c.go_round.new.nodes) (on_err c.go_round.result (sym c.is_err.ensures.value ∙ c.if-is_err.true) c.go_round.ensures.stopped)))
+    (told_short (map progress_in c.go_round.new.nodes) (on_err c.go_round.result (sym c.is_err.ensures.value ∙ c.if-is_err.true) c.go_round.ensures.stopped)))
 
 pub returns-then-have_all_ended-clause-solo : goal.returns-then-have_all_ended-clause-solo
 returns-then-have_all_ended-clause-solo g c =

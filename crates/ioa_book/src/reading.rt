@@ -1,0 +1,98 @@
+//! How a look reads what a book holds.
+
+ghost use Rattle.std.specs.Prelude.{◌≡◌, ◌≤◌, IfOk, OnOk, Some, length, slice_get, take};
+ghost use Rattle.std.specs.Option.{option_copied};
+ghost use Rattle.ioa_book.specs.Slots.{places_at};
+
+use ioa_commits::VersionedConf;
+use ioa_sharing::Origin;
+use smallvec::SmallVec;
+use std::alloc::AllocError;
+
+/// How many components a node of a system of 64 nodes can have to do with: itself, its script, and a channel from and
+/// to each of the others.
+pub(crate) const ROOM: usize = 128;
+
+/// Reads what is held in these slots, into places in which something else may have been read before. Where the same is
+/// held as was read, nothing is taken anew.
+pub(crate) fn read_again<O: Origin>(
+    places: &mut SmallVec<Option<VersionedConf<O>>, ROOM>,
+    slots: &[usize],
+    held: &[VersionedConf<O>],
+) -> Result<(), AllocError>
+    ensures { OnOk result (places.new.items ≡ places_at slots.now held.now) }
+{
+    for position in 0..slots.len() {
+        read_into(places, position, at_slot(held, slots[position]))?;
+    }
+    places.truncate(slots.len());
+    Ok(())
+}
+
+/// What is held in a slot, if there is one.
+fn at_slot<O: Origin>(held: &[VersionedConf<O>], slot: usize) -> Option<&VersionedConf<O>>
+    ensures { option_copied result ≡ slice_get held.now slot }
+{
+    held.get(slot)
+}
+
+/// Reads what is found into a place that there is, or into the next one.
+fn read_into<O: Origin>(
+    places: &mut SmallVec<Option<VersionedConf<O>>, ROOM>,
+    position: usize,
+    found: Option<&VersionedConf<O>>,
+) -> Result<(), AllocError>
+    requires { position ≤ length places.old.items }
+    ensures before { OnOk result (take position places.new.items ≡ take position places.old.items) }
+    ensures here { OnOk result (slice_get places.new.items position ≡ Some (option_copied found.entry)) }
+{
+    if let Some(place) = places.get_mut(position) {
+        return refresh(place, found);
+    }
+    places.push(copy_of(found)?)?;
+    Ok(())
+}
+
+/// Another owner of what is found.
+fn copy_of<O: Origin>(
+    found: Option<&VersionedConf<O>>,
+) -> Result<Option<VersionedConf<O>>, AllocError>
+    ensures { IfOk result (λ copy. copy ≡ option_copied found.entry) }
+{
+    match found {
+        Some(held) => Ok(Some(held.try_copy()?)),
+        None => Ok(None),
+    }
+}
+
+/// Puts what is found into a place.
+fn refresh<O: Origin>(
+    place: &mut Option<VersionedConf<O>>,
+    found: Option<&VersionedConf<O>>,
+) -> Result<(), AllocError>
+    ensures { OnOk result (place.new ≡ option_copied found.entry) }
+{
+    match found {
+        Some(held) => put(place, held),
+        None => {
+            *place = None;
+            Ok(())
+        }
+    }
+}
+
+/// Puts what is held into a place.
+fn put<O: Origin>(
+    place: &mut Option<VersionedConf<O>>,
+    held: &VersionedConf<O>,
+) -> Result<(), AllocError>
+    ensures { OnOk result (place.new ≡ Some held.now) }
+{
+    match place {
+        Some(read) => read.refresh(held),
+        None => {
+            *place = Some(held.try_copy()?);
+            Ok(())
+        }
+    }
+}

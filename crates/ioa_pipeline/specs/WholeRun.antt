@@ -1,0 +1,116 @@
+-- What a whole run writes (profile).
+use Rattle.std.specs.Prelude.{◌≡◌, ◌⊎◌, ◌≤◌, ⊤, ℕ, Bool, true, false, List, length, codes}
+use Rattle.std.specs.Prelude.{Option, Result, Ok, Err, MatchResult}
+use Rattle.std.specs.Io.KnownBytes.{Keeps, Appends}
+use Rattle.ioa_text_reader.specs.declared.fault.FrontFault.{FrontFault}
+use Rattle.ioa_text_reader.specs.declared.fault.FrontFault.TheVariants as front
+use Rattle.ioa_text_reader.specs.FaultText.{front_fault_text}
+use Rattle.ioa_text_reader.specs.Texts.{TextSpells, StandsInText, is_exact, length_limit}
+use Rattle.ioa_check.specs.declared.fault.CheckFault.{CheckFault}
+use Rattle.ioa_check.specs.declared.fault.CheckFault.TheVariants as check
+use Rattle.ioa_check.specs.Faults.{check_fault_text}
+use Rattle.ioa_check.specs.Systems.{IsSystemOf, SaysNoSystem}
+use Rattle.ioa_system.specs.Declarations.{IsWellDeclared}
+use Rattle.ioa_system.specs.Systems.{SystemParts}
+use Rattle.ioa_record.specs.declared.ending.Ending.{Ending}
+use Rattle.ioa_record.specs.declared.record.Record.{Record}
+use Rattle.ioa_pipeline.specs.declared.whole_run.RunFault.{RunFault}
+use Rattle.ioa_pipeline.specs.declared.whole_run.RunFault.TheVariants.{Front, Check, Memory, Write}
+use Rattle.ioa_record.specs.Options.{PlainOptions}
+use Rattle.ioa_streams.specs.Output.{AppendsBeginning}
+use Rattle.ioa_monitor.specs.Reports.{report_text}
+use Rattle.ioa_record.specs.Recorded.{IsOfOneWorker, IsRunOf}
+use Rattle.ioa_solo.specs.Solo.{IsSoloRun}
+use Rattle.ioa_source.specs.Sides.{SourceText}
+
+-- a system that a text describes: the tokens of the text spell a source, and the system is that source's; so it declares
+-- each thing once
+pub record IsDescribed (text : List ℕ) (s : SystemParts) : Type 0 where
+  pub source : SourceText
+  pub spelled : TextSpells source text
+  pub system : IsSystemOf source s
+  pub declared : IsWellDeclared s
+
+-- what the worker's run of a system that a text describes left, with these options
+pub record IsLeftBy (text : List ℕ) (options : PlainOptions) (s : SystemParts) (left : Record) (endings : List Ending)
+    : Type 0 where
+  pub described : IsDescribed text s
+  pub run : IsRunOf s options.steps left endings
+  pub alone : IsOfOneWorker left
+  pub solo : IsSoloRun s options left endings
+
+-- the report of the worker's run of a system that a text describes, with these options
+pub record IsReport (text : List ℕ) (options : PlainOptions) (report : List ℕ) : Type 0 where
+  pub parts : SystemParts
+  pub described : IsDescribed text parts
+  pub left : Record
+  pub endings : List Ending
+  pub run : IsRunOf parts options.steps left endings
+  pub alone : IsOfOneWorker left
+  pub solo : IsSoloRun parts options left endings
+  pub written : report ≡ report_text parts left endings
+
+-- a fault of reading as a run's: want of memory is one fault wherever it comes
+abbrev pub run_fault_of_front : FrontFault → RunFault
+run_fault_of_front front.Empty = Front front.Empty
+run_fault_of_front (front.BadCharacter offset) = Front (front.BadCharacter offset)
+run_fault_of_front (front.Unexpected offset) = Front (front.Unexpected offset)
+run_fault_of_front (front.NumberTooLarge offset) = Front (front.NumberTooLarge offset)
+run_fault_of_front (front.TooDeep offset) = Front (front.TooDeep offset)
+run_fault_of_front front.TooLong = Front front.TooLong
+run_fault_of_front (front.LeftOut w offset) = Front (front.LeftOut w offset)
+run_fault_of_front front.Memory = Memory
+
+-- a fault of the check as a run's
+abbrev pub run_fault_of_check : CheckFault → RunFault
+run_fault_of_check (check.Refused refusal index) = Check (check.Refused refusal index)
+run_fault_of_check check.Memory = Memory
+
+-- what a fault says of the text: a fault of reading is one of the text, and a fault of the check means that no system is
+-- that of a source that the text spells; want of memory and a failed write say nothing
+abbrev pub IsRefusalOf : RunFault → List ℕ → Type 0
+IsRefusalOf (Front f) text = (f ≡ front.Memory → ⊥) × StandsInText f text
+IsRefusalOf (Check f) text =
+    (f ≡ check.Memory → ⊥) × (p : SourceText) × TextSpells p text × SaysNoSystem f p
+IsRefusalOf Memory text = ⊤
+IsRefusalOf Write text = ⊤
+
+-- if the text has a fault of reading that is always found, the outcome is that fault, or want of memory for a text
+-- within the length limit; so a text that was run has no such fault
+abbrev pub IsExactFor : {T : Type 0} → Result T RunFault → List ℕ → Type 0
+IsExactFor result text = (e : FrontFault) → is_exact e ≡ true → StandsInText e text →
+    MatchResult result (λ _. ⊥) (λ f. (f ≡ Front e) ⊎ ((f ≡ Memory) × (length text ≤ length_limit)))
+
+-- a fault as text: its number and its name, then its offset or its index if it has one
+abbrev pub run_fault_text : RunFault → List ℕ
+run_fault_text (Front f) = front_fault_text f
+run_fault_text (Check f) = check_fault_text f
+run_fault_text Memory = codes "3 Memory"
+run_fault_text Write = codes "71 Write"
+
+-- nothing was written before this fault
+abbrev pub IsEarly : RunFault → Type 0
+IsEarly (Front f) = ⊤
+IsEarly (Check f) = ⊤
+IsEarly Memory = ⊤
+IsEarly Write = ⊥
+
+-- if the bytes of the output are known, they grow by a report, which goes out whole if the call passes; if writing
+-- failed, a beginning of one went out, and the output says that it failed; after every other fault nothing was written
+abbrev pub WritesReport : List ℕ → PlainOptions → Option (List ℕ) → Option (List ℕ) → Bool
+    → Result (Unit {0}) RunFault → Type 0
+WritesReport text options old new failed (Ok x) =
+    (failed ≡ false) × ((report : List ℕ) × IsReport text options report × Appends old new report)
+WritesReport text options old new failed (Err Write) =
+    (failed ≡ true) × ((report : List ℕ) × IsReport text options report × AppendsBeginning old new report)
+WritesReport text options old new failed (Err (Front f)) = (failed ≡ false) × Keeps old new
+WritesReport text options old new failed (Err (Check f)) = (failed ≡ false) × Keeps old new
+WritesReport text options old new failed (Err Memory) = (failed ≡ false) × Keeps old new
+
+-- the same of one text, before which no other fault can come
+abbrev pub WritesText : List ℕ → Option (List ℕ) → Option (List ℕ) → Bool → Result (Unit {0}) RunFault → Type 0
+WritesText text old new failed (Ok x) = (failed ≡ false) × Appends old new text
+WritesText text old new failed (Err Write) = (failed ≡ true) × AppendsBeginning old new text
+WritesText text old new failed (Err Memory) = (failed ≡ false) × Keeps old new
+WritesText text old new failed (Err (Front f)) = ⊥
+WritesText text old new failed (Err (Check f)) = ⊥

@@ -1,0 +1,11 @@
+//! Whole runs: from a text to its report. Reading, checking, running and reporting meet here and nowhere else.
+//!
+//! **A crate of its own**, since it alone stands on all four.
+//!
+//! **Must not know**: threads, and the command line.
+#![tactic(auto)]
+
+mod whole_run;
+
+pub use ioa_record::{DEFAULT_ATTEMPTS, DEFAULT_STEPS, GREATEST_ATTEMPTS, GREATEST_STEPS, Options};
+pub use whole_run::{RunFault, run_system};

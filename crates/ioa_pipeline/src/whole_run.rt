@@ -1,0 +1,149 @@
+//! Whole runs: from a text to its report.
+
+ghost use Rattle.std.specs.Prelude.{◌≡◌, false, IfOk, IfErr};
+ghost use Rattle.ioa_monitor.specs.Reports.{report_text};
+ghost use Rattle.ioa_pipeline.specs.WholeRun.{IsDescribed, IsEarly, IsExactFor, IsLeftBy, IsRefusalOf, WritesReport};
+ghost use Rattle.ioa_pipeline.specs.WholeRun.{WritesText};
+
+use ioa_check::{CheckFault, check};
+use ioa_monitor::{ReportFault, report};
+use ioa_record::{Ending, Options, Record};
+use ioa_solo::run;
+use ioa_streams::Out;
+use ioa_system::System;
+use ioa_text_reader::{FrontFault, parse};
+use std::alloc::{AllocError, Global};
+use std::fmt;
+use thiserror::Error;
+
+/// Why a whole run wrote no report.
+#[derive(Debug, Drop, Error)]
+pub enum RunFault {
+    /// Numbers 10 to 16: the text spells no source.
+    Front(FrontFault),
+    /// Numbers 20 to 34: the source describes no system.
+    Check(CheckFault),
+    /// `Memory` (3): memory ran out.
+    Memory,
+    /// `Write` (71): the output failed, or took nothing more. A beginning of the report went out.
+    Write,
+}
+
+impl fmt::Display for RunFault {
+    ghost use Rattle.std.specs.Prelude.{Some};
+    ghost use Rattle.ioa_pipeline.specs.WholeRun.{run_fault_text};
+
+    ghost output = { λ f. Some (run_fault_text f) };
+
+    fn fmt<W: fmt::Write>(&self, f: &mut fmt::Formatter<W>) -> fmt::Result {
+        match self {
+            RunFault::Front(fault) => write!(f, "{fault}"),
+            RunFault::Check(fault) => write!(f, "{fault}"),
+            RunFault::Memory => write!(f, "3 Memory"),
+            RunFault::Write => write!(f, "71 Write"),
+        }
+    }
+}
+
+impl From<FrontFault> for RunFault {
+    ghost use Rattle.std.specs.Prelude.{◌≡◌};
+    ghost use Rattle.ioa_pipeline.specs.WholeRun.{run_fault_of_front};
+
+    ghost from_gives = { λ e f. f ≡ run_fault_of_front e };
+
+    fn from(fault: FrontFault) -> Self {
+        match fault {
+            FrontFault::Memory => RunFault::Memory,
+            refusal => RunFault::Front(refusal),
+        }
+    }
+}
+
+impl From<CheckFault> for RunFault {
+    ghost use Rattle.std.specs.Prelude.{◌≡◌};
+    ghost use Rattle.ioa_pipeline.specs.WholeRun.{run_fault_of_check};
+
+    ghost from_gives = { λ e f. f ≡ run_fault_of_check e };
+
+    fn from(fault: CheckFault) -> Self {
+        match fault {
+            CheckFault::Memory => RunFault::Memory,
+            refusal => RunFault::Check(refusal),
+        }
+    }
+}
+
+impl From<AllocError> for RunFault {
+    ghost use Rattle.std.specs.Prelude.{◌≡◌};
+    ghost use Rattle.ioa_pipeline.specs.declared.whole_run.RunFault.TheVariants.{Memory};
+
+    ghost from_gives = { λ _ f. f ≡ Memory };
+
+    fn from(_error: AllocError) -> Self {
+        RunFault::Memory
+    }
+}
+
+/// Runs the system that a text describes, and writes the report.
+#[tactic(auto, using(crate::proofs::Reported::late))]
+pub fn run_system<O: Out>(
+    alloc: Global,
+    text: &str,
+    options: &Options,
+    out: &mut O,
+) -> Result<(), RunFault>
+    requires { O.failed out.old ≡ false }
+    ensures written { WritesReport text.now options.now
+        (O.bytes out.old) (O.bytes out.new) (O.failed out.new) result }
+    ensures refused { IfErr result (λ f. IsRefusalOf f text.now) }
+    ensures exact { IsExactFor result text.now }
+{
+    let (system, record, endings) = run_of(alloc, text, options)?;
+    write_report(alloc, &system, &record, &endings, out)
+}
+
+/// Writes the report of a run that left this record and these endings.
+fn write_report<O: Out>(
+    alloc: Global,
+    system: &System,
+    run_record: &Record,
+    endings: &[Ending],
+    out: &mut O,
+) -> Result<(), RunFault>
+    requires { O.failed out.old ≡ false }
+    ensures { WritesText (report_text system.now run_record.now endings.now)
+        (O.bytes out.old) (O.bytes out.new) (O.failed out.new) result }
+{
+    match report(alloc, system, run_record, endings, out) {
+        Ok(()) => Ok(()),
+        Err(ReportFault::Memory) => Err(RunFault::Memory),
+        Err(ReportFault::Write) => Err(RunFault::Write),
+    }
+}
+
+/// The system that a text describes, what a run of it left, and how its nodes ended.
+fn run_of(
+    alloc: Global,
+    text: &str,
+    options: &Options,
+) -> Result<(System, Record, Vec<Ending>), RunFault>
+    ensures left { IfOk result (λ r. IsLeftBy text.now options.now r.0 r.1 r.2.items) }
+    ensures early { IfErr result (λ f. IsEarly f) }
+    ensures refused { IfErr result (λ f. IsRefusalOf f text.now) }
+    ensures exact { IsExactFor result text.now }
+{
+    let system = system_of(alloc, text)?;
+    let (record, endings) = run(alloc, &system, options)?;
+    Ok((system, record, endings))
+}
+
+/// The system that a text describes.
+fn system_of(alloc: Global, text: &str) -> Result<System, RunFault>
+    ensures described { IfOk result (IsDescribed text.now) }
+    ensures early { IfErr result (λ f. IsEarly f) }
+    ensures refused { IfErr result (λ f. IsRefusalOf f text.now) }
+    ensures exact { IsExactFor result text.now }
+{
+    let source = parse(alloc, text)?;
+    Ok(check(alloc, source.text())?)
+}

@@ -1,0 +1,2 @@
+-- lemmas of what a run leaves
+pub mod Runs

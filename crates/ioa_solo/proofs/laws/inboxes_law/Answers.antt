@@ -1,5 +1,0 @@
-use Rattle.ioa_solo.proofs.SeenInboxes.{inbox_waits, no_inbox}
-use Rattle.ioa_solo.proofs.laws.inboxes_law.Goals as goal
-
-pub returns : goal.returns
-returns c = record { waiting = inbox_waits; no_channel = no_inbox }

@@ -1,0 +1,7 @@
+-- The nodes of a run by one worker, as the code keeps them (view).
+use Rattle.ioa_turns.specs.NodeTurns.{PlainProgress, progress_of}
+use Rattle.ioa_solo.specs.declared.running.Visited.{Visited}
+
+-- how far a node has come; the last look at it is nothing that the run is of
+abbrev pub progress_in : {O : Type 0} → Visited O → PlainProgress
+progress_in n = progress_of n.progress

@@ -1,0 +1,5 @@
+-- lemmas of turns
+mod Fired
+mod LastFired
+mod Ready
+pub mod SeenInboxes

@@ -1,3 +1,0 @@
--- what the contracts of this crate and of those above it cite
-pub mod Reports
-pub mod WholeRun
