@@ -49,7 +49,8 @@ impl fmt::Display for CommitRefusal {
     }
 }
 
-/// A commit that was made. What was read goes out with it, so that what the book lets go is freed outside of a lock.
+/// A commit that was made. What was read goes out with it, so that its last owner lets it go outside of a lock. Only if
+/// what was read was equal to what the book held, and not the same, the book's own is freed in the commit.
 #[derive(Drop)]
 pub struct Committed<O: Origin> {
     /// The index of the entry in the log.
