@@ -1,0 +1,28 @@
+#!/usr/bin/env python3
+"""Writes a script for the program of ioa_core_rows: bench/events.py EVENTS HANDS
+
+A node ticks, and the hands take turns: each looks at it, proposes its tick and commits that. EVENTS is how many events
+there are, HANDS how many hands.
+"""
+
+import sys
+
+TEXT = """automaton Tick
+  signature internal tick
+  states n: Int := 0
+  transitions internal tick eff n := n + 1
+system node 0: Tick
+---"""
+
+
+def main():
+    events, hands = (int(it) for it in sys.argv[1:])
+    print(TEXT)
+    print(f"hands {hands}")
+    for number in range(events):
+        hand = number // 3 % hands
+        print([f"look {hand} 0", f"propose {hand} tick@0", f"commit {hand}"][number % 3])
+
+
+if __name__ == "__main__":
+    main()

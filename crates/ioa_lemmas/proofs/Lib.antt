@@ -1,0 +1,2 @@
+-- lemmas, by topic
+pub mod Filters
