@@ -1,7 +1,5 @@
-//! Scripts of rows: a file of commands with the answers that are wanted, which a program reads and writes out anew
-//! with the answers that it gives. So `program <script | diff script -` shows the rows that fail. A line that
-//! begins with `= ` is an answer that is wanted, an empty line and one that begins with `#` are remarks, and each
-//! other line is a command.
+//! Scripts of rows: files of commands with the answers that are wanted, which a program writes out anew with the answers
+//! that it gives. `checks/rows` says how a line is read.
 //!
 //! **A crate of its own**, since the programs of rows of all layers share it.
 //!

@@ -1,0 +1,8 @@
+-- what the contracts of this crate and of those above it cite
+pub mod Passes
+pub mod Looks
+pub mod Attempts
+pub mod Receipts
+pub mod Texts
+pub mod SomeBook
+pub mod PassLaws

@@ -1,0 +1,35 @@
+-- What is known of a book that stands under a lock (profile): some lawful book answers so.
+use Rattle.std.specs.Prelude.{ℕ, ℤ, Result}
+use Rattle.ioa_values.specs.Outcome.{Answers}
+use Rattle.ioa_transitions.specs.Entries.{PlainEntry}
+use Rattle.ioa_commits.specs.Books.{PlainBook}
+use Rattle.ioa_commits.specs.Proposals.{PlainProposal}
+use Rattle.ioa_book.specs.BookLaws.{IsLawful}
+use Rattle.ioa_book.specs.Looks.{PlainSnapshot}
+use Rattle.ioa_shared.specs.Attempts.{IsMissed, IsTaken}
+use Rattle.ioa_shared.specs.Looks.{view_answer}
+use Rattle.ioa_shared.specs.Passes.{PlainPass}
+use Rattle.ioa_shared.specs.declared.outcome.Miss.{Miss}
+use Rattle.ioa_shared.specs.declared.outcome.ViewFault.{ViewFault}
+use Rattle.ioa_shared.specs.declared.outcome.ViewFault.TheVariants.{Memory}
+
+-- a look at some lawful book, under a pass
+pub record LooksAtSome (p : PlainPass) (n : ℤ) (told : Result PlainSnapshot ViewFault) : Type 0 where
+  pub found : PlainBook
+  pub lawful : IsLawful found
+  pub look : Answers Memory (λ s. s) told (view_answer found p n)
+
+-- a commit that some lawful book has made, and is lawful after it
+pub record TakesInSome (x : PlainProposal) (p : PlainPass) (index : ℕ) (e : PlainEntry) (q : PlainPass) : Type 0 where
+  pub old : PlainBook
+  pub new : PlainBook
+  pub before : IsLawful old
+  pub behind : IsLawful new
+  pub taken : IsTaken old x p index e new q
+
+-- an attempt that some lawful book misses
+pub record MissesInSome (x : PlainProposal) (p : PlainPass) (why : Miss) (back : PlainProposal) (q : PlainPass) : Type 0
+  where
+    pub old : PlainBook
+    pub lawful : IsLawful old
+    pub missed : IsMissed old x p why back old q
