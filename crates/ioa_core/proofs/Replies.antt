@@ -1,6 +1,8 @@
 -- Replies to one event more.
-use Rattle.std.proofs.Common.{◌≡◌, ◌+◌, ◌<◌, ℕ, List, [], ◌∷◌, ◌++◌, refl, sym, ap, ◌∙◌, take, get_or, length}
+use Rattle.std.proofs.Common.{◌≡◌, ◌+◌, ◌<◌, ℕ, Bool, false, List, [], ◌∷◌, ◌++◌, refl, sym, ap, ◌∙◌, take, get_or, length}
+use Rattle.std.specs.List.{list_any}
 use Rattle.std.proofs.lemmas.List.{take_more}
+use Rattle.std.proofs.lemmas.List.Folds.{list_any-append}
 use Rattle.ioa_core.specs.Cores.{IsHaltedAt, PlainCore, answer, core_after, replies}
 use Rattle.ioa_core.specs.declared.event.Event.{Event}
 use Rattle.ioa_core.specs.declared.reply.Reply.{Reply}
@@ -36,3 +38,7 @@ module _ (old now new : PlainCore) (events : List Event) (i : ℕ) (e : Event) (
 pub halted_at : (old new : PlainCore) (events : List Event) (i : ℕ) (told : List Reply) → i < length events → told ≡ replies old (take i events) →
     new ≡ core_after old (take i events) → IsHaltedAt old events told new
 halted_at old new events i told within is stands = record { count = i; shorter = within; told_are = is; stands = stands }
+
+-- none of the replies is of this kind, nor is one more
+pub none_more : (p : Reply → Bool) (told : List Reply) (r : Reply) → list_any p told ≡ false → p r ≡ false → list_any p (told ++ r ∷ []) ≡ false
+none_more p told r none this = rw (list_any-append p told (r ∷ []), none, this) refl

@@ -15,6 +15,7 @@ use Rattle.ioa_book.specs.Proposals.{proposal_answer, reads_held}
 use Rattle.ioa_book.specs.declared.outcome.LookFault.{LookFault}
 use Rattle.ioa_book.specs.declared.outcome.LookFault.TheVariants.{Unknown}
 use Rattle.ioa_core.specs.Cores.{PlainHand, empty, looked, proposed}
+use Rattle.ioa_core.specs.Replies.{is_memory_fault}
 use Rattle.ioa_core.specs.declared.hand.Hand.{Hand}
 use Rattle.ioa_core.specs.declared.hand.Hand.TheVariants as hand
 use Rattle.ioa_core.specs.declared.hand.Drawn.{Drawn}
@@ -64,6 +65,12 @@ module _ {O : Type 0} where
   drawn_by a hand.Empty = drawn.Nothing
   drawn_by a (hand.Looked s) = drawn_on (proposal_answer a s.value)
   drawn_by a (hand.Proposed p) = drawn.Nothing
+
+  -- whether a proposal is refused for want of memory
+  abbrev pub is_refused_for_memory : Drawn O → Bool
+  is_refused_for_memory (drawn.Proposal p) = false
+  is_refused_for_memory (drawn.Refused f) = is_memory_fault f
+  is_refused_for_memory drawn.Nothing = false
 
   -- the law of a core: the log replays from the start (Lynch 8.1) within the limit, what each hand holds is of the
   -- book's past, and the counts, one for each hand, sum to the length of the log

@@ -1,10 +1,10 @@
 //! What hands hold.
 
-ghost use Rattle.std.specs.Prelude.{◌≡◌, ◌<◌, IfOk, get_or, length, replicate, set};
+ghost use Rattle.std.specs.Prelude.{◌≡◌, ◌<◌, IfOk, false, get_or, length, replicate, set};
 ghost use Rattle.ioa_actions.specs.declared.fault.StepFault.{StepFault};
 ghost use Rattle.ioa_book.specs.Looks.{look_answer};
 ghost use Rattle.ioa_book.specs.Proposals.{proposal_answer};
-ghost use Rattle.ioa_core.specs.Hands.{drawn_by, drawn_on, is_proposed, look_result};
+ghost use Rattle.ioa_core.specs.Hands.{drawn_by, drawn_on, is_proposed, is_refused_for_memory, look_result};
 ghost use Rattle.ioa_core.specs.declared.hand.Drawn.{Drawn};
 ghost use Rattle.ioa_core.specs.declared.hand.Hand.{Hand};
 
@@ -110,7 +110,8 @@ pub(crate) fn draw<O: Origin>(
     hand: &Hand<O>,
     action: &Action,
 ) -> Result<Drawn<O>, AllocError>
-    ensures { IfOk result (λ d. d ≡ drawn_by action.now hand.now) }
+    ensures drawn { IfOk result (λ d. d ≡ drawn_by action.now hand.now) }
+    ensures calm { IfOk result (λ d. is_refused_for_memory d ≡ false) }
 {
     match hand {
         Hand::Looked(look) => draw_on(alloc, look, action),
@@ -124,7 +125,8 @@ fn draw_on<O: Origin>(
     look: &Snapshot<O>,
     action: &Action,
 ) -> Result<Drawn<O>, AllocError>
-    ensures { IfOk result (λ d. d ≡ drawn_on (proposal_answer action.now look.now)) }
+    ensures drawn { IfOk result (λ d. d ≡ drawn_on (proposal_answer action.now look.now)) }
+    ensures calm { IfOk result (λ d. is_refused_for_memory d ≡ false) }
 {
     let action = Arc::new(alloc, action.try_copy(alloc)?)?;
     match look.propose(alloc, &action) {

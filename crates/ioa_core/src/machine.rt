@@ -1,12 +1,14 @@
 //! The core machine.
 
-ghost use Rattle.std.specs.Prelude.{◌≡◌, ◌<◌, ◌≤◌, [], IfErr, IfOk, OnErr, OnOk, length, replicate, slice_get, true};
-ghost use Rattle.std.specs.List.{sum};
+ghost use Rattle.std.specs.Prelude.{◌≡◌, ◌<◌, ◌≤◌, [], IfErr, IfOk, OnErr, OnOk, false, length, replicate, slice_get};
+ghost use Rattle.std.specs.Prelude.{true};
+ghost use Rattle.std.specs.List.{list_any, sum};
 ghost use Rattle.ioa_book.specs.BookLaws.{IsLawful};
 ghost use Rattle.ioa_compose.specs.Start.{start};
 ghost use Rattle.ioa_core.specs.Cores as spec;
 ghost use Rattle.ioa_core.specs.Cores.{IsHaltedAt, book_of, empty, has_proposal, plain_core};
 ghost use Rattle.ioa_core.specs.Hands.{IsPastProposal};
+ghost use Rattle.ioa_core.specs.Replies.{is_memory};
 ghost use Rattle.ioa_core.specs.declared.event.Event.TheVariants as event;
 
 use crate::event::Event;
@@ -114,6 +116,7 @@ impl<O: Origin> Core<O> {
     /// Does what an event says. After want of memory the core is as it was.
     fn answer(&mut self, alloc: Global, event: &Event) -> Result<Reply, AllocError>
         ensures answer { IfOk result (λ r. spec.answer self.old event.now ≡ (r, self.new)) }
+        ensures calm { IfOk result (λ r. is_memory r ≡ false) }
         ensures unchanged { OnErr result (self.new ≡ self.old) }
     {
         if event.hand() < self.hands.len() {
@@ -127,6 +130,7 @@ impl<O: Origin> Core<O> {
     fn answer_by(&mut self, alloc: Global, event: &Event) -> Result<Reply, AllocError>
         requires { spec.hand_of event.now < length self.old.hands }
         ensures answer { IfOk result (λ r. spec.answer self.old event.now ≡ (r, self.new)) }
+        ensures calm { IfOk result (λ r. is_memory r ≡ false) }
         ensures unchanged { OnErr result (self.new ≡ self.old) }
     {
         match event {
@@ -141,6 +145,7 @@ impl<O: Origin> Core<O> {
     fn look(&mut self, alloc: Global, hand: usize, node: i64) -> Result<Reply, AllocError>
         requires { hand < length self.old.hands }
         ensures answer { IfOk result (λ r. spec.answer self.old (event.Look hand node) ≡ (r, self.new)) }
+        ensures calm { IfOk result (λ r. is_memory r ≡ false) }
         ensures unchanged { OnErr result (self.new ≡ self.old) }
     {
         match look_at(alloc, &self.book, node)? {
@@ -156,6 +161,7 @@ impl<O: Origin> Core<O> {
     fn propose(&mut self, alloc: Global, hand: usize, action: &Action) -> Result<Reply, AllocError>
         requires { hand < length self.old.hands }
         ensures answer { IfOk result (λ r. spec.answer self.old (event.Propose hand action.now) ≡ (r, self.new)) }
+        ensures calm { IfOk result (λ r. is_memory r ≡ false) }
         ensures unchanged { OnErr result (self.new ≡ self.old) }
     {
         match draw(alloc, &self.hands[hand], action)? {
@@ -172,6 +178,7 @@ impl<O: Origin> Core<O> {
     fn commit(&mut self, alloc: Global, hand: usize) -> Result<Reply, AllocError>
         requires { hand < length self.old.hands }
         ensures answer { IfOk result (λ r. spec.answer self.old (event.Commit hand) ≡ (r, self.new)) }
+        ensures calm { IfOk result (λ r. is_memory r ≡ false) }
         ensures unchanged { OnErr result (self.new ≡ self.old) }
     {
         if is_proposed(&self.hands[hand]) {
@@ -185,7 +192,8 @@ impl<O: Origin> Core<O> {
     /// The same, if it holds one.
     fn commit_held(&mut self, hand: usize, spare: Spare<Entry>) -> Reply
         requires { has_proposal (slice_get self.old.hands hand) ≡ true }
-        ensures { spec.answer self.old (event.Commit hand) ≡ (result, self.new) }
+        ensures answer { spec.answer self.old (event.Commit hand) ≡ (result, self.new) }
+        ensures calm { is_memory result ≡ false }
     {
         match take_hand(&mut self.hands, hand) {
             Hand::Proposed(proposal) => self.commit_proposal(hand, proposal, spare),
@@ -197,7 +205,8 @@ impl<O: Origin> Core<O> {
     fn commit_proposal(&mut self, hand: usize, proposal: Proposal<O>, spare: Spare<Entry>) -> Reply
         requires within { hand < length self.old.hands }
         requires made { IsPastProposal (book_of self.old) proposal }
-        ensures { spec.commit_on self.old hand proposal.entry proposal.length ≡ (result, self.new) }
+        ensures answer { spec.commit_on self.old hand proposal.entry proposal.length ≡ (result, self.new) }
+        ensures calm { is_memory result ≡ false }
     {
         let (outcome, left) = self.book.commit(proposal, spare);
         self.spare = left;
@@ -213,7 +222,8 @@ impl<O: Origin> Core<O> {
     /// A hand lets go what it holds.
     fn abandon(&mut self, hand: usize) -> Reply
         requires { hand < length self.old.hands }
-        ensures { spec.answer self.old (event.Abandon hand) ≡ (result, self.new) }
+        ensures answer { spec.answer self.old (event.Abandon hand) ≡ (result, self.new) }
+        ensures calm { is_memory result ≡ false }
     {
         put_hand(&mut self.hands, hand, Hand::Empty);
         Reply::Abandoned
@@ -230,7 +240,7 @@ fn spare_of(alloc: Global, spare: &mut Option<Spare<Entry>>) -> Result<Spare<Ent
 
 /// Does what the events say, one after another, and gives the reply to each. Room for all replies is asked for before
 /// the first event. `Halt` is want of memory: its replies are those to a beginning of the events, shorter than the
-/// whole, and the core stands after that.
+/// whole, and the core stands after that. So no reply is a proposal that is refused with `Memory` (3).
 pub fn interleave<O: Origin>(
     alloc: Global,
     core: &mut Core<O>,
@@ -239,6 +249,8 @@ pub fn interleave<O: Origin>(
     ensures replies { IfOk result (λ rs. rs.items ≡ spec.replies core.old events.now) }
     ensures after { OnOk result (core.new ≡ spec.core_after core.old events.now) }
     ensures halt { IfErr result (λ h. IsHaltedAt core.old events.now h.replies.items core.new) }
+    ensures calm { IfOk result (λ rs. list_any is_memory rs.items ≡ false) }
+    ensures calm_halt { IfErr result (λ h. list_any is_memory h.replies.items ≡ false) }
 {
     let mut replies = Vec::new(alloc);
     if !events.is_empty() && replies.reserve(events.len()).is_err() {

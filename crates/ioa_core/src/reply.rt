@@ -1,7 +1,7 @@
 //! What events come to.
 
-ghost use Rattle.std.specs.Prelude.{◌≡◌, Some, is_some, true};
-ghost use Rattle.ioa_core.specs.Replies.{reply_to_refusal};
+ghost use Rattle.std.specs.Prelude.{◌≡◌, Some, false, is_some, true};
+ghost use Rattle.ioa_core.specs.Replies.{is_memory, reply_to_refusal};
 
 use ioa_actions::{Component, StepFault};
 use ioa_book::CommitRefusal;
@@ -73,7 +73,8 @@ impl fmt::Display for Reply {
 /// The reply to a commit that is refused. A proposal of the core's own is never of another book.
 pub(crate) fn reply_to_refusal(refusal: CommitRefusal) -> Reply
     requires { is_some (reply_to_refusal refusal) ≡ true }
-    ensures { reply_to_refusal refusal ≡ Some result }
+    ensures reply { reply_to_refusal refusal ≡ Some result }
+    ensures calm { is_memory result ≡ false }
 {
     match refusal {
         CommitRefusal::Stale {

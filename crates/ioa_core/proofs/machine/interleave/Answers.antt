@@ -1,5 +1,6 @@
 use Rattle.std.proofs.Common.{◌<◌, length, rules, arith}
-use Rattle.ioa_core.proofs.Replies.{after_next, told_next}
+use Rattle.ioa_core.specs.Replies.{is_memory}
+use Rattle.ioa_core.proofs.Replies.{after_next, none_more, told_next}
 use Rattle.ioa_core.proofs.machine.interleave.Goals as goal
 
 pub loop-event-preserved : goal.loop-event-preserved
@@ -20,4 +21,5 @@ loop-event-preserved g c =
       stands = after_next old now new events i e told c.in-Ok.reply within c.event-item.is kept.stands c.in-Ok.ensures.answer;
       many = omega (arith, c.push_reserved.ensures.len, kept.many);
       room = omega (arith, c.push_reserved.ensures.capacity, kept.room);
+      calm = rw c.push_reserved.ensures.items (none_more is_memory told c.in-Ok.reply kept.calm c.in-Ok.ensures.calm);
     }

@@ -1,8 +1,8 @@
 use Rattle.ioa_core.proofs.Told.{abandoned_told, seen}
 use Rattle.ioa_core.proofs.machine.Core.abandon.Goals as goal
 
-pub returns : goal.returns
-returns g c =
+pub returns-clause-answer : goal.returns-clause-answer
+returns-clause-answer g c =
     let book = c.self.inside.book in
     let hands = c.self.inside.hands.items in
     let counts = c.self.inside.counts.items in

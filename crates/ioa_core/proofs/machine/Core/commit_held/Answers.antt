@@ -26,11 +26,12 @@ unreachable-requires g c =
     rw (← c.take_hand.ensures.taken) at (seen_proposed book hands counts c.args.hand (rw (← c.self.view_is) at c.requires)) in
     search rules
 
-pub returns : goal.returns
-returns g c =
+pub returns-clause-answer : goal.returns-clause-answer
+returns-clause-answer g c =
     let book = c.self.inside.book in
     let hands = c.self.inside.hands.items in
     let counts = c.self.inside.counts.items in
     let l : c.args.hand < length hands = seen_there book hands counts c.args.hand (rw (← c.self.view_is) at c.requires) in
     let held : get_or hands c.args.hand hand.Empty ≡ hand.Proposed c.in-Proposed.proposal = sym c.take_hand.ensures.taken ∙ c.in-Proposed.is in
-    rw (← c.self.view_is) (held_told book hands counts c.args.hand c.in-Proposed.proposal l held ∙ (rw c.take_hand.ensures.left at c.commit_proposal.ensures))
+    rw (← c.self.view_is)
+    (held_told book hands counts c.args.hand c.in-Proposed.proposal l held ∙ (rw c.take_hand.ensures.left at c.commit_proposal.ensures.answer))

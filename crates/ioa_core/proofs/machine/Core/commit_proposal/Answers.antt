@@ -33,8 +33,8 @@ reply_to_refusal-requires g c =
     let refused : IsRefused book c.args.proposal why back new = rw c.in-Err.is at c.commit-outcome.ensures.refused in
     refusal_own book hands counts c.self.invariant c.args.hand c.args.proposal old why back new refused
 
-pub returns-in-Ok : goal.returns-in-Ok
-returns-in-Ok g c =
+pub returns-in-Ok-clause-answer : goal.returns-in-Ok-clause-answer
+returns-in-Ok-clause-answer g c =
     let book = c.self.inside.book in
     let hands = c.self.inside.hands.items in
     let counts = c.self.inside.counts.items in
@@ -49,8 +49,8 @@ returns-in-Ok g c =
     get_or_read counts c.args.hand c.index_mut.result.now within c.index_mut.ensures.value 0 in
     rw (← c.self.view_is, read) (committed_told book hands counts c.self.invariant c.args.hand c.args.proposal old index entry new made)
 
-pub returns-in-Err : goal.returns-in-Err
-returns-in-Err g c =
+pub returns-in-Err-clause-answer : goal.returns-in-Err-clause-answer
+returns-in-Err-clause-answer g c =
     let book = c.self.inside.book in
     let hands = c.self.inside.hands.items in
     let counts = c.self.inside.counts.items in
@@ -61,4 +61,4 @@ returns-in-Err g c =
     let refused : IsRefused book c.args.proposal why back new = rw c.in-Err.is at c.commit-outcome.ensures.refused in
     let reply = c.reply_to_refusal.result in
     rw (← c.self.view_is, refused.unchanged)
-    (refusal_told book hands counts c.self.invariant c.args.hand c.args.proposal old why back new reply refused c.reply_to_refusal.ensures)
+    (refusal_told book hands counts c.self.invariant c.args.hand c.args.proposal old why back new reply refused c.reply_to_refusal.ensures.reply)

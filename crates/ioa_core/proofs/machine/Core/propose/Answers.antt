@@ -15,7 +15,7 @@ invariant_of-self g c =
     let read : c.index.result.now ≡ get_or hands c.args.hand hand.Empty = get_or_read hands c.args.hand c.index.result.now l c.index.ensures hand.Empty in
     let proposal = c.in-Proposal.proposal in
     let found : drawn.Proposal proposal ≡ drawn_by c.args.action.now (get_or hands c.args.hand hand.Empty) =
-    sym c.in-Proposal.is ∙ (rw read at c.in_ok-proposal.ensures) in
+    sym c.in-Proposal.is ∙ (rw read at c.in_ok-proposal.ensures.drawn) in
     let told = proposed_told book hands counts c.self.invariant c.args.hand c.args.action.now proposal (hand.Proposed proposal) l refl found in
     rw c.put_hand.ensures (tied_with book hands counts c.self.invariant c.args.hand (hand.Proposed proposal) told.1)
 
@@ -28,7 +28,7 @@ returns-in-Proposal-clause-answer g c =
     let read : c.index.result.now ≡ get_or hands c.args.hand hand.Empty = get_or_read hands c.args.hand c.index.result.now l c.index.ensures hand.Empty in
     let proposal = c.in-Proposal.proposal in
     let found : drawn.Proposal proposal ≡ drawn_by c.args.action.now (get_or hands c.args.hand hand.Empty) =
-    sym c.in-Proposal.is ∙ (rw read at c.in_ok-proposal.ensures) in
+    sym c.in-Proposal.is ∙ (rw read at c.in_ok-proposal.ensures.drawn) in
     let told = proposed_told book hands counts c.self.invariant c.args.hand c.args.action.now proposal (hand.Proposed proposal) l refl found in
     rw (← c.self.view_is, c.put_hand.ensures) told.0
 
@@ -40,7 +40,7 @@ returns-in-Refused-clause-answer g c =
     let l : c.args.hand < length hands = seen book hands counts c.args.hand (rw (← c.self.view_is) at c.requires) in
     let read : c.index.result.now ≡ get_or hands c.args.hand hand.Empty = get_or_read hands c.args.hand c.index.result.now l c.index.ensures hand.Empty in
     let found : drawn.Refused c.in-Refused.fault ≡ drawn_by c.args.action.now (get_or hands c.args.hand hand.Empty) =
-    sym c.in-Refused.is ∙ (rw read at c.in_ok-proposal.ensures) in
+    sym c.in-Refused.is ∙ (rw read at c.in_ok-proposal.ensures.drawn) in
     rw (← c.self.view_is) (refused_told book hands counts c.self.invariant c.args.hand c.args.action.now c.in-Refused.fault l found)
 
 pub returns-in-Nothing-clause-answer : goal.returns-in-Nothing-clause-answer
@@ -51,5 +51,5 @@ returns-in-Nothing-clause-answer g c =
     let l : c.args.hand < length hands = seen book hands counts c.args.hand (rw (← c.self.view_is) at c.requires) in
     let read : c.index.result.now ≡ get_or hands c.args.hand hand.Empty = get_or_read hands c.args.hand c.index.result.now l c.index.ensures hand.Empty in
     let found : drawn.Nothing ≡ drawn_by c.args.action.now (get_or hands c.args.hand hand.Empty) =
-    sym c.in-Nothing.is ∙ (rw read at c.in_ok-proposal.ensures) in
+    sym c.in-Nothing.is ∙ (rw read at c.in_ok-proposal.ensures.drawn) in
     rw (← c.self.view_is) (nothing_told book hands counts c.self.invariant c.args.hand c.args.action.now l found)
