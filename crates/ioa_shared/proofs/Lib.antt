@@ -1,3 +1,4 @@
 -- the lemmas of this crate
 pub mod Passes
 pub mod PassLaws
+pub mod RefusalLaws

@@ -2,7 +2,7 @@
 pub mod Passes
 pub mod Looks
 pub mod Attempts
-pub mod Receipts
+pub mod Finish
 pub mod Texts
 pub mod SomeBook
 pub mod PassLaws

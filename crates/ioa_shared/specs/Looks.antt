@@ -28,3 +28,8 @@ view_answer b p n = admitted p (look_answer b n)
 abbrev pub pass_after : {E : Type 0} → PlainPass → Result PlainSnapshot E → PlainPass
 pass_after p (Ok s) = risen_by_look s p
 pass_after p (Err e) = p
+
+-- what a look in its place has told, if it shows this afterwards
+abbrev pub told_again : {U E : Type 0} → PlainSnapshot → Result U E → Result PlainSnapshot E
+told_again s (Ok u) = Ok s
+told_again s (Err e) = Err e

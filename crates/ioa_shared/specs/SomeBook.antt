@@ -1,14 +1,19 @@
 -- What is known of a book that stands under a lock (profile): some lawful book answers so.
-use Rattle.std.specs.Prelude.{ℕ, ℤ, Result}
+use Rattle.std.specs.Prelude.{ℕ, ℤ, List, Result}
 use Rattle.ioa_values.specs.Outcome.{Answers}
 use Rattle.ioa_transitions.specs.Entries.{PlainEntry}
 use Rattle.ioa_commits.specs.Books.{PlainBook}
 use Rattle.ioa_commits.specs.Proposals.{PlainProposal}
 use Rattle.ioa_book.specs.BookLaws.{IsLawful}
 use Rattle.ioa_book.specs.Looks.{PlainSnapshot}
+use Rattle.ioa_receipts.specs.Receipts.{PlainReceipts}
+use Rattle.ioa_record.specs.declared.record.Record.{Record}
+use Rattle.ioa_system.specs.Systems.{SystemParts}
 use Rattle.ioa_shared.specs.Attempts.{IsMissed, IsTaken}
+use Rattle.ioa_shared.specs.Finish.{IsFinished, IsUnfinished}
 use Rattle.ioa_shared.specs.Looks.{view_answer}
 use Rattle.ioa_shared.specs.Passes.{PlainPass}
+use Rattle.ioa_shared.specs.declared.finish.FinishFault.{FinishFault}
 use Rattle.ioa_shared.specs.declared.outcome.Miss.{Miss}
 use Rattle.ioa_shared.specs.declared.outcome.ViewFault.{ViewFault}
 use Rattle.ioa_shared.specs.declared.outcome.ViewFault.TheVariants.{Memory}
@@ -33,3 +38,16 @@ pub record MissesInSome (x : PlainProposal) (p : PlainPass) (why : Miss) (back :
     pub old : PlainBook
     pub lawful : IsLawful old
     pub missed : IsMissed old x p why back old q
+
+-- some book that is finished, with what it leaves
+pub record FinishesSome (s : SystemParts) (limit workers : ℕ) (counts : List ℕ) (receipts : List PlainReceipts)
+    (r : Record) : Type 0 where
+  pub found : PlainBook
+  pub finished : IsFinished found s limit workers counts receipts r
+
+-- some lawful book that is not finished
+pub record LeavesSome (s : SystemParts) (limit workers : ℕ) (counts : List ℕ) (receipts : List PlainReceipts)
+    (why : FinishFault) : Type 0 where
+  pub found : PlainBook
+  pub lawful : IsLawful found
+  pub unfinished : IsUnfinished found s limit workers counts receipts why

@@ -1,8 +1,10 @@
--- What comes of looks and attempts, as text (profile).
+-- What comes of looks, attempts and finishing, as text (profile).
 use Rattle.std.specs.Prelude.{ℕ, List, ◌++◌, codes}
 use Rattle.std.specs.Fmt.{decimal}
 use Rattle.ioa_actions.specs.ComponentText.{component_text}
 use Rattle.ioa_commits.specs.Refusals.{refusal_text}
+use Rattle.ioa_shared.specs.declared.finish.FinishFault.{FinishFault}
+use Rattle.ioa_shared.specs.declared.finish.FinishFault.TheVariants as finish
 use Rattle.ioa_shared.specs.declared.outcome.Aged.{Aged}
 use Rattle.ioa_shared.specs.declared.outcome.Aged.TheVariants as aged
 use Rattle.ioa_shared.specs.declared.outcome.Miss.{Miss}
@@ -32,3 +34,10 @@ view_fault_text (view.Older o) = older_text o
 abbrev pub miss_text : Miss → List ℕ
 miss_text (miss.Older o) = older_text o
 miss_text (miss.Refused why) = refusal_text why
+
+-- why a book is not finished
+abbrev pub finish_fault_text : FinishFault → List ℕ
+finish_fault_text finish.Foreign = codes "55 Foreign"
+finish_fault_text finish.SharesMissing = codes "57 SharesMissing"
+finish_fault_text finish.Memory = codes "3 Memory"
+finish_fault_text finish.Unaccounted = codes "56 Unaccounted"

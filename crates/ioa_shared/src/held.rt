@@ -1,7 +1,7 @@
 //! What stands under the commit lock.
 
-ghost use Rattle.std.specs.Prelude.{◌≡◌, ◌≤◌, ◌+◌, ◌%◌, [], IfErr, IfOk, None, OnErr, OnOk, Some};
-ghost use Rattle.std.specs.Prelude.{if◌then◌else◌, length, nat_eq};
+ghost use Rattle.std.specs.Prelude.{◌≡◌, ◌<◌, ◌≤◌, ◌+◌, ◌%◌, [], IfErr, IfOk, None, OnErr, OnOk, Some};
+ghost use Rattle.std.specs.Prelude.{if◌then◌else◌, length, nat_eq, replicate};
 ghost use Rattle.ioa_book.specs.BookLaws.{IsLawful};
 ghost use Rattle.ioa_commits.specs.Books.{plain_book};
 ghost use Rattle.ioa_compose.specs.Start.{start};
@@ -13,11 +13,11 @@ ghost use Rattle.ioa_values.specs.Outcome.{Answers};
 
 use crate::outcome::{Miss, Missed, Taken, ViewFault};
 use crate::pass::Pass;
-use crate::receipts::Receipt;
-use crate::share::Share;
+use crate::share::{Share, shares_of};
 use ioa_book::{Book, CommitRefusal, LookFault, Proposal, Snapshot};
 use ioa_commits::Committed;
 use ioa_rawlog::Spare;
+use ioa_receipts::Receipt;
 use ioa_sharing::{MakerOf, Origin};
 use ioa_system::System;
 use ioa_transitions::Entry;
@@ -32,10 +32,12 @@ use std::sync::ledger::{Blank, Ledger};
 pub struct Held<O: Origin, L: Ledger> {
     pub(crate) book: Book<O>,
     pub(crate) total: ledger::Book<L>,
+    /// How many shares there are.
+    pub(crate) parts: u64,
 }
 
 impl<O: Origin, L: Ledger> Model for Held<O, L> {
-    ghost use Rattle.std.specs.Prelude.{◌≡◌, length};
+    ghost use Rattle.std.specs.Prelude.{◌≡◌, ◌<◌, length};
     ghost use Rattle.ioa_commits.specs.Books.{PlainBook, plain_book_code};
 
     ghost Value = { PlainBook };
@@ -44,28 +46,32 @@ impl<O: Origin, L: Ledger> Model for Held<O, L> {
 
     ghost view = { λ h. h.book };
 
-    ghost invariant = { λ h. h.total.total ≡ length h.book.log };
+    ghost invariant = { λ h. (h.total.total ≡ length h.book.log) × (h.parts ≡ L.parts) × (0 < h.parts) };
 }
 
 impl<O: Origin, L: Ledger> Held<O, L> {
-    /// The book of a system in which nothing is recorded yet, and the whole of the shares' ledger. The maker gives what
-    /// the book holds its numbers, and the blank is spent.
+    /// The book of a system in which nothing is recorded yet, and so many shares, each of which counts nothing yet. The
+    /// maker gives what the book holds its numbers, and the blank is spent.
     pub fn open(
         alloc: Global,
         maker: MakerOf<O>,
         blank: Blank,
         system: &System,
         limit: usize,
-    ) -> Result<(Self, ledger::Share<L>), AllocError>
+        workers: u64,
+    ) -> Result<(Self, Vec<Share<L>>), AllocError>
         requires limit { limit ≤ 1000000 }
         requires name { blank.name ≡ L.name }
         requires parts { blank.parts ≡ L.parts }
+        requires workers { (workers ≡ L.parts) × (0 < workers) }
         ensures book { IfOk result (λ r. r.0 ≡ plain_book (start system.now) [] limit) }
-        ensures share { IfOk result (λ r. (r.1.parts ≡ L.parts) × (r.1.amount ≡ 0)) }
+        ensures shares { IfOk result (λ r. r.1.items ≡ replicate workers 0) }
     {
         let book = Book::new(alloc, maker, system, limit)?;
         let (total, share) = blank.open();
-        Ok((Held { book, total }, share))
+        let shares = shares_of(alloc, share, workers)?;
+        let parts = workers;
+        Ok((Held { book, total, parts }, shares))
     }
 
     /// A look at a node. `Unknown` (53) if there is no such node; `Older` (54) if what it would show is older than the

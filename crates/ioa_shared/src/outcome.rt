@@ -1,8 +1,8 @@
 //! What comes of looks and attempts.
 
-use crate::receipts::Receipt;
 use ioa_actions::Component;
 use ioa_book::{CommitRefusal, Proposal, VersionedConf};
+use ioa_receipts::Receipt;
 use ioa_sharing::Origin;
 use std::fmt;
 use thiserror::Error;

@@ -1,6 +1,6 @@
 //! Shares: how many commits a worker has made.
 
-ghost use Rattle.std.specs.Prelude.{◌≡◌, IfOk, replicate};
+ghost use Rattle.std.specs.Prelude.{◌≡◌, ◌<◌, IfOk, length, replicate, sum};
 
 use std::alloc::{AllocError, Global};
 use std::marker::Model;
@@ -43,6 +43,36 @@ pub(crate) fn shares_of<L: Ledger>(
     Ok(shares)
 }
 
+/// What each share counts.
+pub(crate) fn counts_of<L: Ledger>(
+    alloc: Global,
+    shares: &[Share<L>],
+) -> Result<Vec<u64>, AllocError>
+    ensures { IfOk result (λ v. v.items ≡ shares.now) }
+{
+    let mut counts = Vec::new(alloc);
+    for share in shares {
+        counts.push(share.count())?;
+    }
+    Ok(counts)
+}
+
+/// All parts of some shares, put together.
+pub(crate) fn whole_of<L: Ledger>(mut shares: Vec<Share<L>>) -> ledger::Share<L>
+    requires { 0 < length shares.items }
+    ensures parts { result.parts ≡ length shares.items }
+    ensures amount { result.amount ≡ sum shares.items }
+{
+    let mut whole = match shares.pop() {
+        Some(last) => last.into_part(),
+        None => unreachable!(),
+    };
+    while let Some(share) = shares.pop() {
+        whole.merge(share.into_part());
+    }
+    whole
+}
+
 impl<L: Ledger> Share<L> {
     /// A share that counts nothing yet.
     fn first(part: ledger::Share<L>) -> Self
@@ -51,6 +81,14 @@ impl<L: Ledger> Share<L> {
         ensures { result ≡ 0 }
     {
         Share { count: 0, part }
+    }
+
+    /// The part alone.
+    fn into_part(self) -> ledger::Share<L>
+        ensures parts { result.parts ≡ 1 }
+        ensures amount { result.amount ≡ self }
+    {
+        self.part
     }
 
     /// How many commits were made with it.

@@ -1,17 +1,21 @@
 //! The commit lock.
 
-ghost use Rattle.std.specs.Prelude.{◌≡◌, ◌+◌, ◌<◌, ◌≤◌, IfErr, IfOk, Some, replicate};
+ghost use Rattle.std.specs.Prelude.{◌≡◌, ◌+◌, ◌<◌, ◌≤◌, IfErr, IfOk, OnErr, OnOk, Some, replicate};
 ghost use Rattle.ioa_sharing.specs.Shared.{maker_name};
 ghost use Rattle.ioa_shared.specs.Attempts.{commits};
-ghost use Rattle.ioa_shared.specs.Looks.{pass_after};
-ghost use Rattle.ioa_shared.specs.SomeBook.{LooksAtSome, MissesInSome, TakesInSome};
+ghost use Rattle.ioa_shared.specs.Looks.{pass_after, told_again};
+ghost use Rattle.ioa_shared.specs.Passes.{risen_by_look};
+ghost use Rattle.ioa_shared.specs.SomeBook.{FinishesSome, LeavesSome, LooksAtSome, MissesInSome, TakesInSome};
 
+use crate::finish::Unfinished;
 use crate::held::Held;
 use crate::outcome::{Missed, Taken, ViewFault};
 use crate::pass::Pass;
-use crate::share::{Share, shares_of};
+use crate::share::Share;
 use ioa_book::{Proposal, Snapshot};
 use ioa_rawlog::Spare;
+use ioa_receipts::Receipts;
+use ioa_record::Record;
 use ioa_sharing::{MakerOf, Origin};
 use ioa_system::System;
 use ioa_transitions::Entry;
@@ -41,6 +45,21 @@ impl<O: Origin, L: Ledger> Shared<O, L> {
         self.held.lock(rt).look(alloc, pass, node)
     }
 
+    /// The same look once more, in its place, as of [`Held::look_again`], while the lock is held.
+    pub fn look_again(
+        &self,
+        rt: &impl Wait,
+        look: &mut Snapshot<O>,
+        pass: &mut Pass,
+    ) -> Result<(), ViewFault>
+        ensures again { LooksAtSome pass.old look.old.node (told_again look.new result) }
+        ensures risen { OnOk result (pass.new ≡ risen_by_look look.new pass.old) }
+        ensures kept { OnErr result (pass.new ≡ pass.old) }
+        ensures node { look.new.node ≡ look.old.node }
+    {
+        self.held.lock(rt).look_again(look, pass)
+    }
+
     /// The commit of a proposal, as of [`Held::attempt`], while the lock is held.
     pub fn attempt(
         &self,
@@ -57,6 +76,48 @@ impl<O: Origin, L: Ledger> Shared<O, L> {
         ensures kept { IfErr result.0 (λ _. result.1 ≡ Some spare) }
     {
         self.held.lock(rt).attempt(proposal, spare, pass, share)
+    }
+
+    /// Takes the book apart, as of [`Held::finish`], once nobody else has it. After a fault it stands under a lock
+    /// again.
+    pub fn finish(
+        self,
+        alloc: Global,
+        system: &System,
+        limit: usize,
+        shares: Vec<Share<L>>,
+        receipts: Vec<Receipts>,
+    ) -> Result<Record, Unfinished<Self, L>>
+        ensures finished { IfOk result (λ r.
+            FinishesSome system.now limit L.parts shares.items receipts.items r) }
+        ensures unfinished { IfErr result (λ u.
+            LeavesSome system.now limit L.parts shares.items receipts.items u.fault) }
+        ensures shares { IfErr result (λ u. u.shares.items ≡ shares.items) }
+        ensures receipts { IfErr result (λ u. u.receipts.items ≡ receipts.items) }
+    {
+        match self
+            .held
+            .into_inner()
+            .finish(alloc, system, limit, shares, receipts)
+        {
+            Ok(record) => Ok(record),
+            Err(left) => {
+                let Unfinished {
+                    fault,
+                    object,
+                    shares,
+                    receipts,
+                } = left;
+                let held = Mutex::new(object);
+                let object = Shared { held };
+                Err(Unfinished {
+                    fault,
+                    object,
+                    shares,
+                    receipts,
+                })
+            }
+        }
     }
 }
 
@@ -76,8 +137,7 @@ pub fn open<O: Origin, L: Ledger>(
     requires workers { (workers ≡ L.parts) × (0 < workers) × (workers ≤ 64) }
     ensures { IfOk result (λ r. r.1.items ≡ replicate workers 0) }
 {
-    let (held, rest) = Held::open(alloc, maker, blank, system, limit)?;
-    let shares = shares_of(alloc, rest, workers)?;
+    let (held, shares) = Held::open(alloc, maker, blank, system, limit, workers)?;
     let held = Mutex::new(held);
     Ok((Shared { held }, shares))
 }

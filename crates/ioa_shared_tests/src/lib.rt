@@ -1,4 +1,5 @@
-//! Tests of the commit lock: looks that are fresh, and a commit among them.
+//! Tests of the commit lock: looks that are fresh with two threads at work, what attempts are refused for, and what
+//! finishing gives or hands back.
 //!
 //! **A crate of its own**, since a crate with tests is proved twice, and no program shows a lock yet.
 //!
@@ -6,4 +7,12 @@
 #![tactic(auto)]
 
 #[cfg(test)]
+mod desk;
+#[cfg(test)]
+mod finishing;
+#[cfg(test)]
 mod lock;
+#[cfg(test)]
+mod refusals;
+#[cfg(test)]
+mod texts;

@@ -1,73 +1,60 @@
-//! Two workers on one book, in one thread: one sends and looks again, the other looks twice.
+//! Two threads on one book: one sends and looks again, the other looks twice. Then the book is finished, and only with
+//! the shares of both.
 
 ghost use Rattle.std.specs.Prelude.{◌≡◌};
 ghost use Rattle.ioa_sharing.specs.Shared.{maker_name};
 
-use ioa_actions::{Action, Component};
-use ioa_book::Snapshot;
-use ioa_check::check;
+use crate::finishing::Whole;
+use crate::texts::{LIST, send, system};
+use ioa_actions::Component;
+use ioa_book::{Proposal, Snapshot};
 use ioa_compose::Conf;
 use ioa_rawlog::Spare;
-use ioa_shared::{Pass, Share, Shared, open};
+use ioa_shared::{FinishFault, Pass, Receipts, Share, Shared, open};
 use ioa_sharing::{Maker, MakerOf, Origin};
 use ioa_system::System;
-use ioa_text_reader::parse;
+use ioa_transitions::Entry;
 use ioa_values::Value;
 use std::alloc::{AllocError, Global};
 use std::marker::Brand;
+use std::sync::Wait;
 use std::sync::ledger::{Blank, Ledger};
-use std::sync::{Arc, Wait};
 use std::test::Fail;
-
-/// Node 0 sends what it counts, from 7 on, and node 1 keeps the last message.
-const TEXT: &str = "automaton Src
-        signature output send(m: Int, const 0, const 1)
-        states n: Int := 7
-        transitions output send(m, 0, 1) pre m = n eff n := n + 1
-      automaton Dst
-        signature input receive(m: Int, const 0, const 1)
-        states last: Int := 0
-        transitions input receive(m, 0, 1) eff last := m
-      system node 0: Src node 1: Dst channel 0 -> 1";
+use std::thread;
+use std::thread::Threads;
 
 /// What a worker has of its own, and whether all that it met was right.
 #[derive(Drop)]
 struct Slot<L: Ledger> {
     share: Share<L>,
     pass: Pass,
+    receipts: Receipts,
     is_right: bool,
-}
-
-/// The system.
-fn list(alloc: Global) -> Result<Box<System>, Fail> {
-    let source = Box::new(alloc, parse(alloc, TEXT).ok().ok_or("refused")?)?;
-    let system = check(alloc, source.text()).ok().ok_or("refused")?;
-    Ok(Box::new(alloc, system)?)
 }
 
 #[test]
 fn fresh_looks(rt: HostRuntime) -> Result<(), Fail> {
-    let system = list(rt.alloc())?;
     let alloc = rt.alloc();
+    let list = system(alloc, LIST)?;
     let is_right = are_fresh::<Brand, Brand, HostRuntime>(
         &rt,
         alloc,
         Maker::new(),
         Blank::new(2),
-        &system,
-    ) == Ok(true);
+        &list,
+    )?;
     assert!(rt; is_right);
     Ok(())
 }
 
-/// Whether all is right with two workers on one book.
-fn are_fresh<O: Origin, L: Ledger, R: Wait>(
+/// Whether all is right with two workers on one book, and with what they leave.
+fn are_fresh<O: Origin + Send + Sync, L: Ledger + Send + Sync, R: Threads + Wait + Sync>(
     rt: &R,
     alloc: Global,
     maker: Maker,
     blank: Blank,
     system: &System,
-) -> Result<bool, AllocError>
+) -> Result<bool, Fail>
     requires maker { maker_name maker ≡ O.name }
     requires name { blank.name ≡ L.name }
     requires parts { (blank.parts ≡ L.parts) × (L.parts ≡ 2) }
@@ -75,7 +62,46 @@ fn are_fresh<O: Origin, L: Ledger, R: Wait>(
     let (shared, shares) = open::<O, L>(alloc, MakerOf::of(maker), blank, system, 10, 2)?;
     let mut slots = slots_of(alloc, system, shares)?;
     run_slots(rt, &shared, alloc, slots.as_mut_slice());
-    Ok(slots.iter().all(|slot| slot.is_right))
+    let are_right = slots.iter().all(|slot| slot.is_right);
+    let whole = gathered(alloc, shared, slots)?;
+    Ok(are_right && is_finished(alloc, system, whole)?)
+}
+
+/// What the workers had, put together.
+fn gathered<O: Origin, L: Ledger>(
+    alloc: Global,
+    shared: Shared<O, L>,
+    slots: Vec<Slot<L>>,
+) -> Result<Whole<O, L>, Fail> {
+    let mut shares = Vec::new(alloc);
+    let mut receipts = Vec::new(alloc);
+    for slot in slots {
+        shares.push(slot.share)?;
+        receipts.push(slot.receipts)?;
+    }
+    Ok(Whole {
+        shared,
+        shares,
+        receipts,
+    })
+}
+
+/// Whether the book is finished with both shares, and not with the first alone.
+fn is_finished<O: Origin, L: Ledger>(
+    alloc: Global,
+    system: &System,
+    mut whole: Whole<O, L>,
+) -> Result<bool, Fail> {
+    let second = whole.shares.pop().ok_or("no share")?;
+    let mut whole = whole.refused(alloc, system, 10, FinishFault::SharesMissing)?;
+    whole.shares.push(second)?;
+    let record = whole.finish(alloc, system, 10)?;
+    let sent = send(alloc, 7)?;
+    let is_sent = match record.schedule.get(0) {
+        Some(entry) => *entry.action() == *sent,
+        None => false,
+    };
+    Ok(is_sent && record.schedule.len() == 1 && record.commits.as_slice() == [1, 0].as_slice())
 }
 
 /// A slot for each share.
@@ -90,22 +116,25 @@ fn slots_of<L: Ledger>(
         slots.push(Slot {
             share,
             pass,
+            receipts: Receipts::new(alloc),
             is_right: false,
         })?;
     }
     Ok(slots)
 }
 
-/// Runs a worker for each slot, one after the other.
-fn run_slots<O: Origin, L: Ledger, R: Wait>(
+/// Runs a thread for each slot, and waits for all of them.
+fn run_slots<O: Origin + Send + Sync, L: Ledger + Send + Sync, R: Threads + Wait + Sync>(
     rt: &R,
     shared: &Shared<O, L>,
     alloc: Global,
     slots: &mut [Slot<L>],
 ) {
-    for (worker, slot) in slots.iter_mut().enumerate() {
-        fill(rt, shared, alloc, worker, slot);
-    }
+    thread::scope(thread::scope_env(), rt, |scope| {
+        for (worker, slot) in slots.iter_mut().enumerate() {
+            let _ = scope.spawn(move || fill(rt, shared, alloc, worker, slot));
+        }
+    });
 }
 
 /// The work of a worker.
@@ -150,36 +179,38 @@ fn commits<O: Origin, L: Ledger, R: Wait>(
     alloc: Global,
     slot: &mut Slot<L>,
 ) -> bool {
-    let action = Arc::new(
-        alloc,
-        Action::Send {
-            message: Value::number(7),
-            from: 0,
-            to: 1,
-        },
-    );
     match (
-        action,
+        send(alloc, 7),
         shared.look(rt, alloc, &mut slot.pass, 0),
         Spare::make(alloc),
     ) {
         (Ok(action), Ok(look), Ok(spare)) => match look.propose(alloc, &action) {
-            Ok(proposal) => {
-                let (tried, _left) = shared.attempt(
-                    rt,
-                    proposal,
-                    spare,
-                    &mut slot.pass,
-                    &mut slot.share,
-                );
-                match tried {
-                    Ok(taken) => taken.receipt.index == 0,
-                    Err(_) => false,
-                }
-            }
+            Ok(proposal) => attempts(rt, shared, slot, proposal, spare),
             Err(_) => false,
         },
         _ => false,
+    }
+}
+
+/// Whether a proposal is committed as the first action.
+fn attempts<O: Origin, L: Ledger, R: Wait>(
+    rt: &R,
+    shared: &Shared<O, L>,
+    slot: &mut Slot<L>,
+    proposal: Proposal<O>,
+    spare: Spare<Entry>,
+) -> bool {
+    if slot.receipts.make_room().is_err() {
+        return false;
+    }
+    let (tried, _left) = shared.attempt(rt, proposal, spare, &mut slot.pass, &mut slot.share);
+    match tried {
+        Ok(taken) => {
+            let is_first = taken.receipt.index == 0;
+            slot.receipts.put(taken.receipt);
+            is_first
+        }
+        Err(_) => false,
     }
 }
 

@@ -2,7 +2,7 @@
 use Rattle.std.specs.Prelude.{ℕ, List, refl}
 use Rattle.std.specs.Coded.{Coded, code_by, coded×, coded_ℕ, coded_list}
 use Rattle.ioa_transitions.specs.Entries.{PlainEntry, entry_code}
-use Rattle.ioa_shared.specs.declared.receipts.Receipt.{Receipt}
+use Rattle.ioa_receipts.specs.declared.receipts.Receipt.{Receipt}
 
 -- an entry at an index
 abbrev pub receipt : ℕ → PlainEntry → Receipt

@@ -1,7 +1,7 @@
 //! Receipts: what a worker gets for its commits.
 
 ghost use Rattle.std.specs.Prelude.{◌≡◌, ◌<◌, ◌∷◌, ◌++◌, [], OnErr, OnOk, length};
-ghost use Rattle.ioa_shared.specs.Receipts.{plain_receipts};
+ghost use Rattle.ioa_receipts.specs.Receipts.{plain_receipts};
 
 use ioa_transitions::Entry;
 use std::alloc::{AllocError, Global};
@@ -25,7 +25,7 @@ pub struct Receipts {
 
 impl Model for Receipts {
     ghost use Rattle.std.specs.Prelude.{vec_capacity};
-    ghost use Rattle.ioa_shared.specs.Receipts.{PlainReceipts, plain_receipts, plain_receipts_code};
+    ghost use Rattle.ioa_receipts.specs.Receipts.{PlainReceipts, plain_receipts, plain_receipts_code};
 
     ghost Value = { PlainReceipts };
 

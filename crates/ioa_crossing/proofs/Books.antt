@@ -1,0 +1,90 @@
+-- So may logs, books and receipts; and a book under its lock is for several threads.
+use denote.RattleType.{RattleType}
+use denote.Param.Send.{IsSend, IsSync, sendable}
+use Rattle.std.proofs.Crossing.{crosses}
+use Rattle.ioa_shared.specs.contracts.shared.Shared as Shared
+use Rattle.ioa_shared.specs.contracts.held.Held as Held
+use Rattle.ioa_shared.specs.contracts.pass.Pass as Pass
+use Rattle.ioa_shared.specs.contracts.share.Share as Share
+use Rattle.ioa_book.specs.contracts.book.Book as Book
+use Rattle.std.specs.declared.sync.ledger.Ledger as Ledger
+use Rattle.std.proofs.sync.ledger.Book.TheSendSync as Total
+use Rattle.std.proofs.sync.ledger.Share.TheSendSync as Part
+use Rattle.std.proofs.sync.Mutex.TheSendSync as Mutex
+use Rattle.ioa_values.proofs.sequence.Sequence.TheLaws.TheKnot as knot
+use Rattle.ioa_channels.specs.contracts.queue.Queue as Queue
+use Rattle.ioa_transitions.specs.contracts.entry.Entry as Entry
+use Rattle.ioa_transitions.specs.contracts.node.NodeConf as NodeConf
+use Rattle.ioa_compose.specs.contracts.configuration.Conf as Conf
+use Rattle.ioa_sharing.specs.declared.named.Origin as Origin
+use Rattle.ioa_sharing.proofs.named.SharedOf.TheSendSync as SharedOf
+use Rattle.ioa_sharing.proofs.named.MakerOf.TheSendSync as MakerOf
+use Rattle.ioa_receipts.specs.contracts.receipts.Receipt as Receipt
+use Rattle.ioa_receipts.specs.contracts.receipts.Receipts as Receipts
+use Rattle.ioa_rawlog.specs.contracts.log.RawLog as RawLog
+use Rattle.ioa_rawlog.proofs.log.RawLog.TheSendSync as log
+use Rattle.ioa_commits.specs.contracts.versioned.VersionedConf as VersionedConf
+use Rattle.ioa_commits.specs.contracts.index.Index as Index
+use Rattle.ioa_commits.specs.contracts.journal.Journal as Journal
+use Rattle.ioa_crossing.proofs.Actions.{owners, values_send, values_sync, node_action_send, node_action_sync, action_send, action_sync}
+use Rattle.ioa_crossing.proofs.Programs.{program_send, program_sync}
+
+pub queue_send : IsSend (Queue.the_field).row
+queue_send = search (owners, knot.crosses, node_action_send, node_action_sync, crosses, sendable) depth 60 fits 20000
+
+pub queue_sync : IsSync (Queue.the_field).row
+queue_sync = search (owners, knot.crosses, node_action_send, node_action_sync, crosses, sendable) depth 60 fits 20000
+
+pub entry_send : IsSend (Entry.the_field).row
+entry_send = search (action_send, action_sync, crosses, sendable) depth 60 fits 20000
+
+pub entry_sync : IsSync (Entry.the_field).row
+entry_sync = search (action_send, action_sync, crosses, sendable) depth 60 fits 20000
+
+pub node_conf_send : IsSend (NodeConf.the_field).row
+node_conf_send = search (program_send, program_sync, values_send, crosses, sendable) depth 60 fits 20000
+
+pub node_conf_sync : IsSync (NodeConf.the_field).row
+node_conf_sync = search (program_send, program_sync, values_sync, crosses, sendable) depth 60 fits 20000
+
+pub conf_send : IsSend (Conf.the_field).row
+conf_send = search (node_conf_send, queue_send, sendable) depth 60 fits 20000
+
+pub conf_sync : IsSync (Conf.the_field).row
+conf_sync = search (node_conf_sync, queue_sync, sendable) depth 60 fits 20000
+
+pub log_send : IsSend (RawLog.the_field Entry.the_row).row
+log_send = search (log.the_send, entry_send, crosses, sendable) depth 60 fits 20000
+
+pub receipt_send : IsSend (Receipt.the_field).row
+receipt_send = search (entry_send, crosses, sendable) depth 60 fits 20000
+
+pub receipts_send : IsSend (Receipts.the_field).row
+receipts_send = search (owners, receipt_send, crosses, sendable) depth 60 fits 20000
+
+pub pass_send : IsSend (Pass.the_field).row
+pass_send = search (owners, crosses, sendable) depth 60 fits 20000
+
+pub index_send : IsSend (Index.the_field).row
+index_send = search (owners, crosses, sendable) depth 60 fits 20000
+
+module _ (L : RattleType) (h : Ledger.Ghosts L.Denot) where
+  pub share_send : IsSend (Share.the_field L h).row
+  share_send = search (Part.the_send, crosses, sendable) depth 60 fits 20000
+
+module _ (O : RattleType) (g : Origin.Ghosts O.Denot) where
+  pub versioned_send : IsSend (VersionedConf.the_field O g).row
+  versioned_send = search (SharedOf.the_field_send, conf_send, conf_sync, crosses, sendable) depth 60 fits 20000
+
+  pub journal_send : IsSend (Journal.the_field O g).row
+  journal_send = search (conf_send, versioned_send, index_send, log_send, MakerOf.the_field_send, crosses, sendable) depth 60 fits 20000
+
+  pub book_send : IsSend (Book.the_field O g).row
+  book_send = search (journal_send, sendable) depth 60 fits 20000
+
+  module _ (L : RattleType) (h : Ledger.Ghosts L.Denot) where
+    pub held_send : IsSend (Held.the_field O L g h).row
+    held_send = search (book_send, Total.the_send, sendable) depth 60 fits 20000
+
+    pub shared_sync : IsSync (Shared.the_row O L g h)
+    shared_sync = search (Mutex.the_sync, held_send, sendable) depth 60 fits 20000

@@ -1,0 +1,4 @@
+-- lemmas, lowest types first
+pub mod Actions
+pub mod Programs
+pub mod Books

@@ -1,0 +1,148 @@
+//! The book of one worker.
+
+ghost use Rattle.std.specs.Prelude.{◌≡◌, ◌≤◌, ◌+◌, ◌%◌, [], IfErr, IfOk, None, OnErr, OnOk, Some};
+ghost use Rattle.std.specs.Prelude.{if◌then◌else◌, length, nat_eq};
+ghost use Rattle.ioa_book.specs.BookLaws.{IsLawful};
+ghost use Rattle.ioa_commits.specs.Books.{plain_book};
+ghost use Rattle.ioa_compose.specs.Start.{start};
+ghost use Rattle.ioa_shared.specs.Attempts.{IsMissed, IsTaken, commits};
+ghost use Rattle.ioa_shared.specs.Finish.{IsFinished, IsUnfinished};
+ghost use Rattle.ioa_shared.specs.Looks.{pass_after, view_answer};
+ghost use Rattle.ioa_shared.specs.Passes.{risen_by_look};
+ghost use Rattle.ioa_values.specs.Outcome.{Answers};
+
+use crate::finish::Unfinished;
+use crate::held::Held;
+use crate::outcome::{Missed, Taken, ViewFault};
+use crate::pass::Pass;
+use crate::share::Share;
+use ioa_book::{Proposal, Snapshot};
+use ioa_rawlog::Spare;
+use ioa_receipts::Receipts;
+use ioa_record::Record;
+use ioa_sharing::{MakerOf, Origin};
+use ioa_system::System;
+use ioa_transitions::Entry;
+use std::alloc::{AllocError, Global};
+use std::marker::Model;
+use std::sync::ledger::{Blank, Ledger};
+
+/// A book of commits that one worker has for itself, so that it takes no lock. A contract sees the book.
+#[derive(Drop)]
+pub struct Solo<O: Origin, L: Ledger> {
+    held: Held<O, L>,
+}
+
+impl<O: Origin, L: Ledger> Model for Solo<O, L> {
+    ghost use Rattle.ioa_commits.specs.Books.{PlainBook, plain_book_code};
+
+    ghost Value = { PlainBook };
+
+    ghost coded = { plain_book_code };
+
+    ghost view = { λ s. s.held };
+}
+
+impl<O: Origin, L: Ledger> Solo<O, L> {
+    /// The book of a system in which nothing is recorded yet, and the one share. The maker gives what the book holds
+    /// its numbers, and the blank is spent.
+    pub fn open(
+        alloc: Global,
+        maker: MakerOf<O>,
+        blank: Blank,
+        system: &System,
+        limit: usize,
+    ) -> Result<(Self, Share<L>), AllocError>
+        requires limit { limit ≤ 1000000 }
+        requires name { blank.name ≡ L.name }
+        requires parts { blank.parts ≡ L.parts }
+        requires one { L.parts ≡ 1 }
+        ensures book { IfOk result (λ r. r.0 ≡ plain_book (start system.now) [] limit) }
+        ensures share { IfOk result (λ r. r.1 ≡ 0) }
+    {
+        let (held, mut shares) = Held::open(alloc, maker, blank, system, limit, 1)?;
+        match shares.pop() {
+            Some(share) => Ok((Solo { held }, share)),
+            None => unreachable!(),
+        }
+    }
+
+    /// A look at a node, as of [`Held::look`].
+    pub fn look(&self, alloc: Global, pass: &mut Pass, node: i64) -> Result<Snapshot<O>, ViewFault>
+        ensures look { Answers ViewFault.Memory (λ s. s) result (view_answer self.now pass.old node) }
+        ensures pass { pass.new ≡ pass_after pass.old result }
+        ensures lawful { IsLawful self.now }
+    {
+        self.held.look(alloc, pass, node)
+    }
+
+    /// The same look once more, in its place, as of [`Held::look_again`].
+    pub fn look_again(&self, look: &mut Snapshot<O>, pass: &mut Pass) -> Result<(), ViewFault>
+        ensures again { Answers ViewFault.Memory (λ _. look.new) result (view_answer self.now pass.old look.old.node) }
+        ensures risen { OnOk result (pass.new ≡ risen_by_look look.new pass.old) }
+        ensures kept { OnErr result (pass.new ≡ pass.old) }
+        ensures node { look.new.node ≡ look.old.node }
+        ensures lawful { IsLawful self.now }
+    {
+        self.held.look_again(look, pass)
+    }
+
+    /// The commit of a proposal, as of [`Held::attempt`].
+    pub fn attempt(
+        &mut self,
+        proposal: Proposal<O>,
+        spare: Spare<Entry>,
+        pass: &mut Pass,
+        share: &mut Share<L>,
+    ) -> (Result<Taken<O>, Missed<O>>, Option<Spare<Entry>>)
+        ensures taken { IfOk result.0 (λ t.
+            IsTaken self.old proposal pass.old t.receipt.index t.receipt.entry self.new pass.new) }
+        ensures missed { IfErr result.0 (λ m.
+            IsMissed self.old proposal pass.old m.why m.proposal self.new pass.new) }
+        ensures share { share.new ≡ share.old + commits result.0 }
+        ensures linked { IfOk result.0 (λ _.
+            result.1 ≡ (if nat_eq (length self.old.log % 64) 0 then None else Some spare)) }
+        ensures kept { IfErr result.0 (λ _. result.1 ≡ Some spare) }
+        ensures before { IsLawful self.old }
+        ensures behind { IsLawful self.new }
+    {
+        self.held.attempt(proposal, spare, pass, share)
+    }
+
+    /// Takes the book apart, as of [`Held::finish`].
+    pub fn finish(
+        self,
+        alloc: Global,
+        system: &System,
+        limit: usize,
+        shares: Vec<Share<L>>,
+        receipts: Vec<Receipts>,
+    ) -> Result<Record, Unfinished<Self, L>>
+        ensures finished { IfOk result (λ r.
+            IsFinished self system.now limit L.parts shares.items receipts.items r) }
+        ensures unfinished { IfErr result (λ u.
+            IsUnfinished self system.now limit L.parts shares.items receipts.items u.fault) }
+        ensures object { IfErr result (λ u. u.object ≡ self) }
+        ensures shares { IfErr result (λ u. u.shares.items ≡ shares.items) }
+        ensures receipts { IfErr result (λ u. u.receipts.items ≡ receipts.items) }
+    {
+        match self.held.finish(alloc, system, limit, shares, receipts) {
+            Ok(record) => Ok(record),
+            Err(left) => {
+                let Unfinished {
+                    fault,
+                    object,
+                    shares,
+                    receipts,
+                } = left;
+                let object = Solo { held: object };
+                Err(Unfinished {
+                    fault,
+                    object,
+                    shares,
+                    receipts,
+                })
+            }
+        }
+    }
+}

@@ -1,0 +1,167 @@
+//! What finishing gives, and what it refuses and hands back.
+
+ghost use Rattle.std.specs.Prelude.{◌≡◌};
+ghost use Rattle.ioa_sharing.specs.Shared.{maker_name};
+
+use crate::desk::{Desk, desk_of};
+use crate::texts::{LIST, PING, send, system};
+use ioa_record::Record;
+use ioa_shared::{FinishFault, Pass, Receipt, Receipts, Share, Shared};
+use ioa_sharing::{Maker, MakerOf, Origin};
+use ioa_system::System;
+use std::alloc::Global;
+use std::marker::Brand;
+use std::sync::Wait;
+use std::sync::ledger::{Blank, Ledger};
+use std::test::Fail;
+
+#[test]
+fn a_book_is_finished_only_whole(rt: HostRuntime) -> Result<(), Fail> {
+    let alloc = rt.alloc();
+    let list = system(alloc, LIST)?;
+    let ping = system(alloc, PING)?;
+    let right = is_finished_whole::<Brand, Brand, HostRuntime>(
+        &rt,
+        alloc,
+        Maker::new(),
+        Blank::new(1),
+        &list,
+        &ping,
+    )?;
+    assert!(rt; right);
+    Ok(())
+}
+
+/// What was to be finished, with its shares and receipts.
+#[derive(Drop)]
+pub(crate) struct Whole<O: Origin, L: Ledger> {
+    pub shared: Shared<O, L>,
+    pub shares: Vec<Share<L>>,
+    pub receipts: Vec<Receipts>,
+}
+
+impl<O: Origin, L: Ledger> Whole<O, L> {
+    /// The same, once it was refused for this fault and handed back.
+    pub(crate) fn refused(
+        self,
+        alloc: Global,
+        system: &System,
+        limit: usize,
+        wanted: FinishFault,
+    ) -> Result<Self, Fail> {
+        let Whole {
+            shared,
+            shares,
+            receipts,
+        } = self;
+        match shared.finish(alloc, system, limit, shares, receipts) {
+            Ok(_) => Err("finished".into()),
+            Err(left) => {
+                if left.fault != wanted {
+                    return Err("another fault".into());
+                }
+                Ok(Whole {
+                    shared: left.object,
+                    shares: left.shares,
+                    receipts: left.receipts,
+                })
+            }
+        }
+    }
+
+    /// The record that it leaves.
+    pub(crate) fn finish(
+        self,
+        alloc: Global,
+        system: &System,
+        limit: usize,
+    ) -> Result<Record, Fail> {
+        let Whole {
+            shared,
+            shares,
+            receipts,
+        } = self;
+        Ok(
+            shared
+                .finish(alloc, system, limit, shares, receipts)
+                .ok()
+                .ok_or("not finished")?,
+        )
+    }
+}
+
+/// Whether a book with one commit is finished with its own system, limit, share and receipt, and with nothing else.
+fn is_finished_whole<O: Origin, L: Ledger, R: Wait>(
+    rt: &R,
+    alloc: Global,
+    maker: Maker,
+    blank: Blank,
+    list: &System,
+    ping: &System,
+) -> Result<bool, Fail>
+    requires maker { maker_name maker ≡ O.name }
+    requires name { blank.name ≡ L.name }
+    requires parts { (blank.parts ≡ L.parts) × (L.parts ≡ 1) }
+{
+    let whole: Whole<O, L> = committed_once(rt, alloc, maker, blank, list)?;
+    let whole = whole.refused(alloc, ping, 10, FinishFault::Foreign)?;
+    let mut whole = whole.refused(alloc, list, 11, FinishFault::Foreign)?;
+    let receipts = whole.receipts.pop().ok_or("no receipts")?;
+    let mut whole = whole.refused(alloc, list, 10, FinishFault::Unaccounted)?;
+    whole.receipts.push(twice(alloc, &receipts)?)?;
+    let mut whole = whole.refused(alloc, list, 10, FinishFault::Unaccounted)?;
+    whole.receipts.clear();
+    whole.receipts.push(receipts)?;
+    let record = whole.finish(alloc, list, 10)?;
+    Ok(record.schedule.len() == 1 && record.commits.as_slice() == [1].as_slice())
+}
+
+/// A book of lists in which node 0 has sent once.
+fn committed_once<O: Origin, L: Ledger, R: Wait>(
+    rt: &R,
+    alloc: Global,
+    maker: Maker,
+    blank: Blank,
+    system: &System,
+) -> Result<Whole<O, L>, Fail>
+    requires maker { maker_name maker ≡ O.name }
+    requires name { blank.name ≡ L.name }
+    requires parts { (blank.parts ≡ L.parts) × (L.parts ≡ 1) }
+{
+    let mut desk: Desk<O, L> = desk_of(alloc, MakerOf::of(maker), blank, system, 10)?;
+    let proposal = desk.proposal(rt, alloc, system, &send(alloc, 7)?)?;
+    let _committed = desk.attempt(rt, alloc, &mut Pass::new(alloc, system)?, proposal)?;
+    let Desk {
+        shared,
+        share,
+        receipts,
+    } = desk;
+    let mut shares = Vec::new(alloc);
+    shares.push(share)?;
+    let mut all = Vec::new(alloc);
+    all.push(receipts)?;
+    Ok(Whole {
+        shared,
+        shares,
+        receipts: all,
+    })
+}
+
+/// Each of these receipts twice.
+fn twice(alloc: Global, receipts: &Receipts) -> Result<Receipts, Fail> {
+    let mut doubled = Receipts::new(alloc);
+    for receipt in receipts.as_slice() {
+        put_copy(&mut doubled, receipt)?;
+        put_copy(&mut doubled, receipt)?;
+    }
+    Ok(doubled)
+}
+
+/// Puts a copy of a receipt behind others.
+fn put_copy(receipts: &mut Receipts, receipt: &Receipt) -> Result<(), Fail> {
+    let index = receipt.index;
+    let entry = receipt.entry.try_clone()?;
+    receipts.make_room()?;
+    receipts.put(Receipt { index, entry });
+    Ok(())
+}
