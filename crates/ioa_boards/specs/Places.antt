@@ -1,0 +1,32 @@
+-- Looks that are put into their place (profile).
+use Rattle.std.specs.Prelude.{◌≡◌, ◌⊎◌, ℤ, Option, Some, Result, Ok, Err}
+use Rattle.ioa_book.specs.Looks.{PlainSnapshot}
+use Rattle.ioa_commits.specs.Books.{PlainBook}
+use Rattle.ioa_shared.specs.Looks.{view_answer}
+use Rattle.ioa_shared.specs.Passes.{PlainPass, risen_by_look}
+use Rattle.ioa_shared.specs.SomeBook.{LooksAtSome}
+use Rattle.ioa_shared.specs.declared.outcome.ViewFault.{ViewFault}
+use Rattle.ioa_shared.specs.declared.outcome.ViewFault.TheVariants.{Memory}
+
+-- a look at some lawful book is in its place, and the pass has risen to it
+pub record SeesSome (p : PlainPass) (n : ℤ) (place : Option PlainSnapshot) (q : PlainPass) : Type 0 where
+  pub seen : PlainSnapshot
+  pub put : place ≡ Some seen
+  pub some : LooksAtSome p n (Ok seen)
+  pub risen : q ≡ risen_by_look seen p
+
+-- what comes of a look that is to be put there: after a fault the pass is as it was
+abbrev pub PutsSome : {U : Type 0} → PlainPass → ℤ → Option PlainSnapshot → PlainPass → Result U ViewFault → Type 0
+PutsSome p n place q (Ok u) = SeesSome p n place q
+PutsSome p n place q (Err f) = LooksAtSome p n (Err f) × (q ≡ p)
+
+-- a look at this book is in its place
+pub record Sees (b : PlainBook) (p : PlainPass) (n : ℤ) (place : Option PlainSnapshot) : Type 0 where
+  pub seen : PlainSnapshot
+  pub put : place ≡ Some seen
+  pub answer : view_answer b p n ≡ Ok seen
+
+-- what comes of a look at this book that is to be put there
+abbrev pub Puts : {U : Type 0} → PlainBook → PlainPass → ℤ → Option PlainSnapshot → Result U ViewFault → Type 0
+Puts b p n place (Ok u) = Sees b p n place
+Puts b p n place (Err f) = (f ≡ Memory) ⊎ (view_answer b p n ≡ Err f)

@@ -1,0 +1,84 @@
+//! Boards.
+
+use crate::place::Place;
+use ioa_book::Proposal;
+use ioa_rawlog::Spare;
+use ioa_shared::{Missed, Pass, Share, Taken, ViewFault};
+use ioa_sharing::Origin;
+use ioa_transitions::Entry;
+use std::alloc::Global;
+use std::sync::ledger::Ledger;
+
+/// Where a worker looks at nodes and attempts commits. A contract may be told which book it holds: then a look and an
+/// attempt are exactly those of that book. If it isn't told, since others commit to it too, some lawful book answers.
+pub trait Board<O: Origin, L: Ledger> {
+    ghost use Rattle.std.specs.Prelude.{◌≡◌, ◌+◌, Bool, IfErr, IfOk, IfSome, IsSome, None, Some, true};
+    ghost use Rattle.ioa_boards.specs.Places.{Puts, PutsSome};
+    ghost use Rattle.ioa_commits.specs.Books.{PlainBook};
+    ghost use Rattle.ioa_shared.specs.Attempts.{IsMissed, IsTaken, commits};
+    ghost use Rattle.ioa_shared.specs.SomeBook.{MissesInSome, TakesInSome};
+
+    /// Whether the book is told.
+    ghost told: { Bool };
+
+    /// Which book it is; any, if it is not told.
+    ghost tells: { Self → PlainBook };
+
+    /// A look at a node, which is put into its place. A look at the node that is there already is refreshed; else one is
+    /// made. `Unknown` (53) if there is no such node; `Older` (54) if what it would show is older than the pass has
+    /// seen. The pass rises to what is seen. After a fault nothing is said of what is in the place.
+    fn look(
+        &mut self,
+        alloc: Global,
+        place: &mut Place<O>,
+        pass: &mut Pass,
+        node: i64,
+    ) -> Result<(), ViewFault>
+        ensures some { PutsSome pass.old node place.new pass.new result }
+        ensures told { told ≡ true → Puts (tells self.old) pass.old node place.new result }
+        ensures same { told ≡ true → tells self.new ≡ tells self.old };
+
+    /// The same as [`Board::attempt`], which calls it. The board takes the proposal out of the place where it is offered.
+    fn attempt_offer(
+        &mut self,
+        offer: &mut Option<Proposal<O>>,
+        spare: Spare<Entry>,
+        pass: &mut Pass,
+        share: &mut Share<L>,
+    ) -> (Result<Taken<O>, Missed<O>>, Option<Spare<Entry>>)
+        requires { IsSome offer.old }
+        ensures spent { offer.new ≡ None }
+        ensures taken { IfSome offer.old (λ x. IfOk result.0 (λ t.
+            TakesInSome x pass.old t.receipt.index t.receipt.entry pass.new)) }
+        ensures missed { IfSome offer.old (λ x. IfErr result.0 (λ m.
+            MissesInSome x pass.old m.why m.proposal pass.new)) }
+        ensures share { share.new ≡ share.old + commits result.0 }
+        ensures kept { IfErr result.0 (λ _. result.1 ≡ Some spare) }
+        ensures told_taken { told ≡ true → IfSome offer.old (λ x. IfOk result.0 (λ t.
+            IsTaken (tells self.old) x pass.old t.receipt.index t.receipt.entry (tells self.new) pass.new)) }
+        ensures told_missed { told ≡ true → IfSome offer.old (λ x. IfErr result.0 (λ m.
+            IsMissed (tells self.old) x pass.old m.why m.proposal (tells self.new) pass.new)) };
+
+    /// The commit of a proposal. `Older` (54) if the log is shorter than the pass has seen; else as the book's commit.
+    /// If the commit is made, the share counts one more. The spare comes back unless it was linked to the log.
+    final fn attempt(
+        &mut self,
+        proposal: Proposal<O>,
+        spare: Spare<Entry>,
+        pass: &mut Pass,
+        share: &mut Share<L>,
+    ) -> (Result<Taken<O>, Missed<O>>, Option<Spare<Entry>>)
+        ensures taken { IfOk result.0 (λ t.
+            TakesInSome proposal pass.old t.receipt.index t.receipt.entry pass.new) }
+        ensures missed { IfErr result.0 (λ m. MissesInSome proposal pass.old m.why m.proposal pass.new) }
+        ensures share { share.new ≡ share.old + commits result.0 }
+        ensures kept { IfErr result.0 (λ _. result.1 ≡ Some spare) }
+        ensures told_taken { told ≡ true → IfOk result.0 (λ t.
+            IsTaken (tells self.old) proposal pass.old t.receipt.index t.receipt.entry (tells self.new) pass.new) }
+        ensures told_missed { told ≡ true → IfErr result.0 (λ m.
+            IsMissed (tells self.old) proposal pass.old m.why m.proposal (tells self.new) pass.new) }
+    {
+        let mut offer = Some(proposal);
+        self.attempt_offer(&mut offer, spare, pass, share)
+    }
+}

@@ -1,0 +1,90 @@
+//! The board of one of several workers.
+
+ghost use Rattle.std.specs.Prelude.{◌≡◌, ◌+◌, IfErr, IfOk, IfSome, IsSome, None, Some};
+ghost use Rattle.ioa_boards.specs.Places.{PutsSome};
+ghost use Rattle.ioa_shared.specs.Attempts.{commits};
+ghost use Rattle.ioa_shared.specs.SomeBook.{MissesInSome, TakesInSome};
+
+use crate::board::Board;
+use crate::place::Place;
+use ioa_book::Proposal;
+use ioa_rawlog::Spare;
+use ioa_shared::{Missed, Pass, Share, Shared, Taken, ViewFault};
+use ioa_sharing::Origin;
+use ioa_transitions::Entry;
+use std::alloc::Global;
+use std::sync::Wait;
+use std::sync::ledger::Ledger;
+
+/// A book under a lock, with the runtime that may wait for the lock: each call holds it once.
+#[derive(Drop)]
+pub struct Locked<'a, R, O: Origin, L: Ledger> {
+    /// The runtime.
+    pub rt: &'a R,
+    /// The book under its lock.
+    pub shared: &'a Shared<O, L>,
+}
+
+impl<'a, R: Wait, O: Origin, L: Ledger> Board<O, L> for Locked<'a, R, O, L> {
+    ghost use Rattle.std.specs.Prelude.{[], false};
+    ghost use Rattle.ioa_commits.specs.Books.{plain_book};
+
+    ghost told = { false };
+
+    ghost tells = { λ _. plain_book [] [] 0 };
+
+    fn look(
+        &mut self,
+        alloc: Global,
+        place: &mut Place<O>,
+        pass: &mut Pass,
+        node: i64,
+    ) -> Result<(), ViewFault>
+        ensures some { PutsSome pass.old node place.new pass.new result }
+    {
+        if let Some(last) = &mut *place.room {
+            if last.node() == node {
+                return self.shared.look_again(self.rt, last, pass);
+            }
+        }
+        look_first(self.rt, self.shared, alloc, place, pass, node)
+    }
+
+    fn attempt_offer(
+        &mut self,
+        offer: &mut Option<Proposal<O>>,
+        spare: Spare<Entry>,
+        pass: &mut Pass,
+        share: &mut Share<L>,
+    ) -> (Result<Taken<O>, Missed<O>>, Option<Spare<Entry>>)
+        requires { IsSome offer.old }
+        ensures spent { offer.new ≡ None }
+        ensures taken { IfSome offer.old (λ x. IfOk result.0 (λ t.
+            TakesInSome x pass.old t.receipt.index t.receipt.entry pass.new)) }
+        ensures missed { IfSome offer.old (λ x. IfErr result.0 (λ m.
+            MissesInSome x pass.old m.why m.proposal pass.new)) }
+        ensures share { share.new ≡ share.old + commits result.0 }
+        ensures kept { IfErr result.0 (λ _. result.1 ≡ Some spare) }
+    {
+        match offer.take() {
+            Some(proposal) => self.shared.attempt(self.rt, proposal, spare, pass, share),
+            None => unreachable!(),
+        }
+    }
+}
+
+/// The first look at a node. It has a function of its own, since a function fills the room of its large locals each time
+/// that it begins.
+fn look_first<R: Wait, O: Origin, L: Ledger>(
+    rt: &R,
+    shared: &Shared<O, L>,
+    alloc: Global,
+    place: &mut Place<O>,
+    pass: &mut Pass,
+    node: i64,
+) -> Result<(), ViewFault>
+    ensures some { PutsSome pass.old node place.new pass.new result }
+{
+    *place.room = Some(shared.look(rt, alloc, pass, node)?);
+    Ok(())
+}

@@ -1,0 +1,44 @@
+//! Places of looks.
+
+ghost use Rattle.std.specs.Prelude.{◌≡◌, IfOk, None};
+ghost use Rattle.std.specs.Option.{option_copied};
+
+use ioa_book::Snapshot;
+use ioa_sharing::Origin;
+use std::alloc::{AllocError, Global};
+use std::marker::Model;
+
+/// Has room for a look, so that the next one is made where the last one was. A contract sees the look, if there is one.
+#[derive(Drop)]
+pub struct Place<O: Origin> {
+    pub(crate) room: Box<Option<Snapshot<O>>>,
+}
+
+impl<O: Origin> Model for Place<O> {
+    ghost use Rattle.std.specs.Prelude.{Option};
+    ghost use Rattle.std.specs.Coded.{coded_option};
+    ghost use Rattle.ioa_book.specs.Looks.{PlainSnapshot, plain_snapshot_code};
+
+    ghost Value = { Option PlainSnapshot };
+
+    ghost coded = { coded_option plain_snapshot_code };
+
+    ghost view = { λ p. p.room.value };
+}
+
+impl<O: Origin> Place<O> {
+    /// A place with no look in it.
+    pub fn new(alloc: Global) -> Result<Self, AllocError>
+        ensures { IfOk result (λ p. p ≡ None) }
+    {
+        let room = Box::new(alloc, None)?;
+        Ok(Place { room })
+    }
+
+    /// The look that is there.
+    pub fn look(&self) -> Option<&Snapshot<O>>
+        ensures { option_copied result ≡ self.now }
+    {
+        self.room.as_ref().as_ref()
+    }
+}

@@ -1,0 +1,85 @@
+//! The board of one worker.
+
+ghost use Rattle.std.specs.Prelude.{◌≡◌, ◌+◌, IfErr, IfOk, IfSome, IsSome, None, Some};
+ghost use Rattle.ioa_boards.specs.Places.{Puts, PutsSome};
+ghost use Rattle.ioa_shared.specs.Attempts.{IsMissed, IsTaken, commits};
+ghost use Rattle.ioa_shared.specs.SomeBook.{MissesInSome, TakesInSome};
+
+use crate::board::Board;
+use crate::place::Place;
+use ioa_book::Proposal;
+use ioa_rawlog::Spare;
+use ioa_shared::{Missed, Pass, Share, Solo, Taken, ViewFault};
+use ioa_sharing::Origin;
+use ioa_transitions::Entry;
+use std::alloc::Global;
+use std::sync::ledger::Ledger;
+
+impl<O: Origin, L: Ledger> Board<O, L> for Solo<O, L> {
+    ghost use Rattle.std.specs.Prelude.{true};
+
+    ghost told = { true };
+
+    ghost tells = { λ s. s };
+
+    fn look(
+        &mut self,
+        alloc: Global,
+        place: &mut Place<O>,
+        pass: &mut Pass,
+        node: i64,
+    ) -> Result<(), ViewFault>
+        ensures some { PutsSome pass.old node place.new pass.new result }
+        ensures told { Puts self.old pass.old node place.new result }
+        ensures same { self.new ≡ self.old }
+    {
+        if let Some(last) = &mut *place.room {
+            if last.node() == node {
+                return self.look_again(last, pass);
+            }
+        }
+        look_first(self, alloc, place, pass, node)
+    }
+
+    fn attempt_offer(
+        &mut self,
+        offer: &mut Option<Proposal<O>>,
+        spare: Spare<Entry>,
+        pass: &mut Pass,
+        share: &mut Share<L>,
+    ) -> (Result<Taken<O>, Missed<O>>, Option<Spare<Entry>>)
+        requires { IsSome offer.old }
+        ensures spent { offer.new ≡ None }
+        ensures taken { IfSome offer.old (λ x. IfOk result.0 (λ t.
+            TakesInSome x pass.old t.receipt.index t.receipt.entry pass.new)) }
+        ensures missed { IfSome offer.old (λ x. IfErr result.0 (λ m.
+            MissesInSome x pass.old m.why m.proposal pass.new)) }
+        ensures share { share.new ≡ share.old + commits result.0 }
+        ensures kept { IfErr result.0 (λ _. result.1 ≡ Some spare) }
+        ensures told_taken { IfSome offer.old (λ x. IfOk result.0 (λ t.
+            IsTaken self.old x pass.old t.receipt.index t.receipt.entry self.new pass.new)) }
+        ensures told_missed { IfSome offer.old (λ x. IfErr result.0 (λ m.
+            IsMissed self.old x pass.old m.why m.proposal self.new pass.new)) }
+    {
+        match offer.take() {
+            Some(proposal) => Solo::attempt(self, proposal, spare, pass, share),
+            None => unreachable!(),
+        }
+    }
+}
+
+/// The first look at a node. It has a function of its own, since a function fills the room of its large locals each time
+/// that it begins.
+fn look_first<O: Origin, L: Ledger>(
+    board: &Solo<O, L>,
+    alloc: Global,
+    place: &mut Place<O>,
+    pass: &mut Pass,
+    node: i64,
+) -> Result<(), ViewFault>
+    ensures some { PutsSome pass.old node place.new pass.new result }
+    ensures told { Puts board.now pass.old node place.new result }
+{
+    *place.room = Some(board.look(alloc, pass, node)?);
+    Ok(())
+}
