@@ -148,18 +148,21 @@ fn fill<O: Origin, L: Ledger, R: Wait>(
     slot.is_right = if worker == 0 {
         sends(rt, shared, alloc, slot)
     } else {
-        looks(rt, shared, alloc, slot) && looks(rt, shared, alloc, slot)
+        looks_twice(rt, shared, alloc, slot)
     };
 }
 
-/// Whether node 1 can be looked at.
-fn looks<O: Origin, L: Ledger, R: Wait>(
+/// Whether node 1 can be looked at, and once more in the place of that look.
+fn looks_twice<O: Origin, L: Ledger, R: Wait>(
     rt: &R,
     shared: &Shared<O, L>,
     alloc: Global,
     slot: &mut Slot<L>,
 ) -> bool {
-    shared.look(rt, alloc, &mut slot.pass, 1).is_ok()
+    match shared.look(rt, alloc, &mut slot.pass, 1) {
+        Ok(mut look) => shared.look_again(rt, &mut look, &mut slot.pass).is_ok(),
+        Err(_) => false,
+    }
 }
 
 /// Whether node 0 sends, and is then seen as it is after that.
