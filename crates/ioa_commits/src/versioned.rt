@@ -68,8 +68,9 @@ impl<O: Origin> VersionedConf<O> {
         self.conf().component()
     }
 
-    /// The slot in which the book that gave it holds it.
-    pub(crate) fn slot(&self) -> usize {
+    /// The slot in which the book that gave it holds it, counted from 0 in the order of the components. A hint for who
+    /// keeps something beside each component: no contract speaks of it.
+    pub fn slot(&self) -> usize {
         self.slot
     }
 

@@ -62,11 +62,11 @@ receipt_send = search (entry_send, crosses, sendable) depth 60 fits 20000
 pub receipts_send : IsSend (Receipts.the_field).row
 receipts_send = search (owners, receipt_send, crosses, sendable) depth 60 fits 20000
 
-pub pass_send : IsSend (Pass.the_field).row
-pass_send = search (owners, crosses, sendable) depth 60 fits 20000
-
 pub index_send : IsSend (Index.the_field).row
 index_send = search (owners, crosses, sendable) depth 60 fits 20000
+
+pub pass_send : IsSend (Pass.the_field).row
+pass_send = search (owners, index_send, crosses, sendable) depth 60 fits 20000
 
 module _ (L : RattleType) (h : Ledger.Ghosts L.Denot) where
   pub share_send : IsSend (Share.the_field L h).row

@@ -21,7 +21,7 @@ use Rattle.ioa_shared.specs.Attempts.{IsTaken, risen_by_refusal}
 use Rattle.ioa_shared.specs.Looks.{admitted, unless_older, view_answer}
 use Rattle.ioa_shared.specs.PassLaws.{IsFresh, IsReceiptOf, IsRisen}
 use Rattle.ioa_shared.specs.Passes.{PlainPass, first_older, older, older_length, older_read, plain_pass, raise_all, raise_all_next}
-use Rattle.ioa_shared.specs.Passes.{raise_next, raise_one, raise_read, raise_seen, risen_by_commit, risen_by_look, seen_at, seen_of}
+use Rattle.ioa_shared.specs.Passes.{raise_next, raise_read, raise_seen, risen, risen_by_commit, risen_by_look, seen_of}
 use Rattle.ioa_shared.specs.declared.outcome.Older.{Older}
 use Rattle.ioa_shared.specs.declared.pass.Seen.{Seen}
 
@@ -39,29 +39,25 @@ twice_risen a b c h g = record {
   components = g.components ∙ h.components;
 }
 
--- one that is seen again
-raised_one : (j : Component) (v : ℕ) (s : Seen) → ((raise_one j v s).component ≡ s.component) × (s.version ≤ (raise_one j v s).version)
-raised_one j v s = by_name (same_component j s.component)
-  where
-    by_name : (t : Bool) → ((if t then seen_at s.component (max s.version v) else s).component ≡ s.component) ×
-        (s.version ≤ (if t then seen_at s.component (max s.version v) else s).version)
-    by_name true = (refl, omega arith)
-    by_name false = (refl, omega arith)
-
 raised_seen : (j : Component) (v : ℕ) (seen : List Seen) → AreRisen seen (raise_seen j v seen)
 raised_seen j v [] = same_risen []
-raised_seen j v (s ∷ more) =
-    let one = raised_one j v s in
-    let others : AreRisen more (raise_seen j v more) = raised_seen j v more in
-    record {
-      versions = λ k. rw one.0 (by_name k one.1 others.versions (same_component k s.component));
-      components = λ i. one.0 i ∷ others.components i;
-    }
+raised_seen j v (s ∷ more) = by_name (same_component j s.component) (raised_seen j v more)
   where
-    by_name : (k : Component) → s.version ≤ (raise_one j v s).version → ((l : Component) → seen_of l more ≤ seen_of l (raise_seen j v more)) → (t : Bool) →
-        (if t then s.version else seen_of k more) ≤ (if t then (raise_one j v s).version else seen_of k (raise_seen j v more))
-    by_name k this others true = this
-    by_name k this others false = others k
+    at_first : (k : Component) (t : Bool) → (if t then s.version else seen_of k more) ≤ (if t then max s.version v else seen_of k more)
+    at_first k true = omega arith
+    at_first k false = omega arith
+
+    at_others : (k : Component) (t : Bool) → seen_of k more ≤ seen_of k (raise_seen j v more) →
+        (if t then s.version else seen_of k more) ≤ (if t then s.version else seen_of k (raise_seen j v more))
+    at_others k true others = omega arith
+    at_others k false others = others
+
+    by_name : (t : Bool) → AreRisen more (raise_seen j v more) → AreRisen (s ∷ more) (if t then risen v s ∷ more else s ∷ raise_seen j v more)
+    by_name true others = record { versions = λ k. at_first k (same_component k s.component); components = refl }
+    by_name false others = record {
+      versions = λ k. at_others k (same_component k s.component) (others.versions k);
+      components = λ i. s.component ∷ others.components i;
+    }
 
 raised_all : (rs : List PlainVersionedConf) (seen : List Seen) → AreRisen seen (raise_all rs seen)
 raised_all [] seen = same_risen seen

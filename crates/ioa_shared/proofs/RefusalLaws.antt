@@ -22,7 +22,7 @@ use Rattle.ioa_book.specs.declared.outcome.LookFault.TheVariants as look
 use Rattle.ioa_shared.specs.Attempts.{IsMissed}
 use Rattle.ioa_shared.specs.Looks.{admitted, unless_older, view_answer}
 use Rattle.ioa_shared.specs.PassLaws.{IsOlderThan, IsStaleBy}
-use Rattle.ioa_shared.specs.Passes.{PlainPass, aged_by, first_older, older, older_length, older_read, raise_one, raise_seen, seen_of}
+use Rattle.ioa_shared.specs.Passes.{PlainPass, aged_by, first_older, older, older_length, older_read, raise_seen, risen, seen_of}
 use Rattle.ioa_shared.specs.declared.outcome.Aged.TheVariants as aged
 use Rattle.ioa_shared.specs.declared.outcome.Miss.TheVariants as miss
 use Rattle.ioa_shared.specs.declared.outcome.Older.{Older}
@@ -129,9 +129,9 @@ met k v (s ∷ more) h = by_name (same_component k s.component) refl h (met k v 
   where
     by_name : (t : Bool) → same_component k s.component ≡ t → (t || list_any (λ x. same_component k x.component) more) ≡ true →
         (list_any (λ x. same_component k x.component) more ≡ true → v ≤ seen_of k (raise_seen k v more)) →
-        v ≤ seen_of k (raise_one k v s ∷ raise_seen k v more)
-    by_name true e g others = rw (e, e) (omega arith)
-    by_name false e g others = rw (e, e) (others g)
+        v ≤ seen_of k (if t then risen v s ∷ more else s ∷ raise_seen k v more)
+    by_name true e g others = rw e (omega arith)
+    by_name false e g others = rw e (others g)
 
 pub stale : (old new : PlainBook) (x back : PlainProposal) (p q : PlainPass) (k : Component) (read held : ℕ) →
     IsMissed old x p (miss.Refused (Stale k read held)) back new q → IsStaleBy p x k read held back q

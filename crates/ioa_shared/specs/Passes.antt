@@ -1,10 +1,11 @@
 -- Passes (profile): what a worker has seen of a book, of which it is never shown anything older.
-use Rattle.std.specs.Prelude.{ℕ, max, nat_lt, if◌then◌else◌, List, [], ◌∷◌, get_or, map, set, Option, Some, None, refl}
+use Rattle.std.specs.Prelude.{ℕ, max, nat_lt, if◌then◌else◌, List, [], ◌∷◌, get_or, map, pos, set, Option, Some, None, refl}
 use Rattle.std.specs.Coded.{Coded, code_by, coded×, coded_ℕ, coded_list}
 use Rattle.std.specs.Option.{option_or}
 use Rattle.ioa_actions.specs.ComponentOrder.{same_component}
 use Rattle.ioa_actions.specs.contracts.component.Component as component
 use Rattle.ioa_actions.specs.declared.component.Component.{Component}
+use Rattle.ioa_actions.specs.declared.component.Component.TheVariants as variant
 use Rattle.ioa_compose.specs.Composition.{component_names}
 use Rattle.ioa_compose.specs.declared.configuration.Conf.{Conf}
 use Rattle.ioa_commits.specs.Proposals.{both_of}
@@ -51,16 +52,26 @@ abbrev pub seen_of : Component → List Seen → ℕ
 seen_of k [] = 0
 seen_of k (s ∷ more) = if same_component k s.component then s.version else seen_of k more
 
--- what was seen, once a component was seen at a version: no version falls, and no component is added
-abbrev pub raise_one : Component → ℕ → Seen → Seen
-raise_one k v s = if same_component k s.component then seen_at s.component (max s.version v) else s
+-- the same component, once it was seen at another version: no version falls
+abbrev pub risen : ℕ → Seen → Seen
+risen v s = seen_at s.component (max s.version v)
 
+-- what was seen, once a component was seen at a version; one that is not in the pass is not added
 abbrev pub raise_seen : Component → ℕ → List Seen → List Seen
-raise_seen k v seen = map (raise_one k v) seen
+raise_seen k v [] = []
+raise_seen k v (s ∷ more) = if same_component k s.component then risen v s ∷ more else s ∷ raise_seen k v more
 
--- the same in one place (form)
-abbrev pub raise_place : Component → ℕ → ℕ → List Seen → List Seen
-raise_place k v i seen = set seen i (raise_one k v (get_or seen i (unseen k)))
+-- what was seen in a place (form)
+abbrev pub seen_in : List Seen → ℕ → Seen
+seen_in seen i = get_or seen i (unseen (variant.Node (pos 0)))
+
+-- what was seen, once the component in a place was seen at a version (form)
+abbrev pub raise_place : ℕ → ℕ → List Seen → List Seen
+raise_place v i seen = set seen i (risen v (seen_in seen i))
+
+-- the components of a pass
+abbrev pub components_seen : List Seen → List Component
+components_seen seen = map (λ s. s.component) seen
 
 -- what was read was seen
 abbrev pub raise_read : PlainVersionedConf → List Seen → List Seen

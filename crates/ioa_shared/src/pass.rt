@@ -9,6 +9,7 @@ ghost use Rattle.ioa_shared.specs.Passes as spec;
 use crate::outcome::{Aged, Older};
 use ioa_actions::Component;
 use ioa_book::{Snapshot, VersionedConf};
+use ioa_commits::Index;
 use ioa_compose::{Conf, start};
 use ioa_sharing::Origin;
 use ioa_system::System;
@@ -26,9 +27,11 @@ pub struct Seen {
 
 /// What a worker has seen of a book: how long the log was, and of each component the greatest version. Who shows it
 /// something older is refused. A pass never falls, and a component that it lacks is not added: it counts as seen at 0.
-#[derive(Debug, Drop)]
+/// What was read of a book of the pass's own system says in which slot it stands, so it is found in constant time.
+#[derive(Drop)]
 pub struct Pass {
     seen: Vec<Seen>,
+    index: Index,
     length: usize,
 }
 
@@ -40,6 +43,11 @@ impl Model for Pass {
     ghost coded = { plain_pass_code };
 
     ghost view = { λ p. plain_pass p.seen.items p.length };
+
+    ghost use Rattle.std.specs.Prelude.{◌≡◌};
+    ghost use Rattle.ioa_shared.specs.Passes.{components_seen};
+
+    ghost invariant = { λ p. p.index ≡ components_seen p.seen.items };
 }
 
 /// Components at which nothing was seen yet.
@@ -57,62 +65,35 @@ fn unseen(alloc: Global, confs: &[Conf]) -> Result<Vec<Seen>, AllocError>
     Ok(seen)
 }
 
-/// The version at which a component was seen: 0, if it is not there.
-fn seen_of(seen: &[Seen], component: Component) -> usize
-    ensures { result ≡ spec.seen_of component seen.now }
+/// The components of what was seen.
+fn components_of(alloc: Global, seen: &[Seen]) -> Result<Vec<Component>, AllocError>
+    ensures { IfOk result (λ v. v.items ≡ spec.components_seen seen.now) }
 {
+    let mut components = Vec::new(alloc);
     for entry in seen {
-        if component == entry.component {
-            return entry.version;
-        }
+        components.push(entry.component)?;
     }
-    0
+    Ok(components)
 }
 
-/// The same, and a component once it was seen at another version.
-fn raised(entry: Seen, component: Component, version: usize) -> Seen
-    ensures { result ≡ spec.raise_one component version entry }
+/// The version of the component in a place.
+fn version_at(seen: &[Seen], at: usize) -> usize
+    requires { at < length seen.now }
+    ensures { result ≡ (spec.seen_in seen.now at).version }
 {
-    if component == entry.component {
-        Seen {
-            component: entry.component,
-            version: entry.version.max(version),
-        }
-    } else {
-        entry
-    }
+    seen[at].version
 }
 
-/// Raises what was seen of a component.
-fn raise(seen: &mut Vec<Seen>, component: Component, version: usize)
-    ensures { seen.new.items ≡ spec.raise_seen component version seen.old.items }
-{
-    for at in 0..seen.len() {
-        raise_at(seen, at, component, version);
-    }
-}
-
-/// The same in one place.
-fn raise_at(seen: &mut Vec<Seen>, at: usize, component: Component, version: usize)
+/// Raises the component in a place to a version, if it was not seen at that.
+fn raise_at(seen: &mut Vec<Seen>, at: usize, version: usize)
     requires { at < length seen.old.items }
-    ensures { seen.new.items ≡ spec.raise_place component version at seen.old.items }
+    ensures { seen.new.items ≡ spec.raise_place version at seen.old.items }
 {
     let entry = seen[at];
-    seen[at] = raised(entry, component, version);
-}
-
-/// Raises what was seen of what was read.
-fn raise_read<O: Origin>(seen: &mut Vec<Seen>, read: &VersionedConf<O>)
-    ensures { seen.new.items ≡ spec.raise_read read.now seen.old.items }
-{
-    raise(seen, read.component(), read.version());
-}
-
-/// Raises what was seen of what was read and has taken a step since.
-fn raise_next<O: Origin>(seen: &mut Vec<Seen>, read: &VersionedConf<O>)
-    ensures { seen.new.items ≡ spec.raise_next read.now seen.old.items }
-{
-    raise(seen, read.component(), read.version().saturating_add(1));
+    seen[at] = Seen {
+        component: entry.component,
+        version: entry.version.max(version),
+    };
 }
 
 impl Pass {
@@ -122,7 +103,13 @@ impl Pass {
     {
         let start = start(alloc, system)?;
         let seen = unseen(alloc, &start)?;
-        Ok(Pass { seen, length: 0 })
+        let components = components_of(alloc, &seen)?;
+        let index = Index::new(alloc, components)?;
+        Ok(Pass {
+            seen,
+            index,
+            length: 0,
+        })
     }
 
     /// How long the log was when it was seen last.
@@ -136,7 +123,45 @@ impl Pass {
     pub fn seen(&self, component: Component) -> usize
         ensures { result ≡ spec.seen_of component self.now.seen }
     {
-        seen_of(&self.seen, component)
+        self.seen_near(component, 0)
+    }
+
+    /// The same, in constant time if the component stands in the slot `near`.
+    fn seen_near(&self, component: Component, near: usize) -> usize
+        ensures { result ≡ spec.seen_of component self.now.seen }
+    {
+        match self.index.slot_of(component, near) {
+            Some(slot) => version_at(&self.seen, slot),
+            None => 0,
+        }
+    }
+
+    /// Raises what was seen of a component, in constant time if it stands in the slot `near`.
+    fn raise(&mut self, component: Component, version: usize, near: usize)
+        ensures { self.new ≡ spec.plain_pass (spec.raise_seen component version self.old.seen) self.old.length }
+    {
+        match self.index.slot_of(component, near) {
+            Some(slot) => raise_at(&mut self.seen, slot, version),
+            None => (),
+        }
+    }
+
+    /// Raises what was seen of what was read.
+    fn raise_read<O: Origin>(&mut self, read: &VersionedConf<O>)
+        ensures { self.new ≡ spec.plain_pass (spec.raise_read read.now self.old.seen) self.old.length }
+    {
+        self.raise(read.component(), read.version(), read.slot());
+    }
+
+    /// Raises what was seen of what was read and has taken a step since.
+    fn raise_next<O: Origin>(&mut self, read: &VersionedConf<O>)
+        ensures { self.new ≡ spec.plain_pass (spec.raise_next read.now self.old.seen) self.old.length }
+    {
+        self.raise(
+            read.component(),
+            read.version().saturating_add(1),
+            read.slot(),
+        );
     }
 
     /// What of a look is older than what was seen: the first component, or else the length.
@@ -167,7 +192,7 @@ impl Pass {
     fn older_read<O: Origin>(&self, read: &VersionedConf<O>) -> Option<Older>
         ensures { result ≡ spec.older_read self.now.seen read.now }
     {
-        let seen = self.seen(read.component());
+        let seen = self.seen_near(read.component(), read.slot());
         if read.version() < seen {
             Some(Older {
                 of: Aged::Component(read.component()),
@@ -207,7 +232,7 @@ impl Pass {
         ensures { self.new ≡ spec.plain_pass (spec.raise_all look.now.reads self.old.seen) self.old.length }
     {
         for read in look.reads() {
-            raise_read(&mut self.seen, read);
+            self.raise_read(read);
         }
     }
 
@@ -221,9 +246,9 @@ impl Pass {
         ensures { self.new ≡ spec.risen_by_commit (spec.reads_lent queue.now node.now) length self.old }
     {
         if let Some(queue) = queue {
-            raise_next(&mut self.seen, queue);
+            self.raise_next(queue);
         }
-        raise_next(&mut self.seen, node);
+        self.raise_next(node);
         self.length = self.length.max(length);
     }
 
@@ -231,6 +256,6 @@ impl Pass {
     pub(crate) fn rise_to(&mut self, component: Component, version: usize)
         ensures { self.new ≡ spec.plain_pass (spec.raise_seen component version self.old.seen) self.old.length }
     {
-        raise(&mut self.seen, component, version);
+        self.raise(component, version, 0);
     }
 }
