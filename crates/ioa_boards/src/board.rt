@@ -4,7 +4,8 @@ use crate::place::Place;
 use ioa_book::Proposal;
 use ioa_rawlog::Spare;
 use ioa_shared::{Missed, Pass, Share, Taken, ViewFault};
-use ioa_sharing::Origin;
+use ioa_sharing::{Origin, SharedOf};
+use ioa_system::System;
 use ioa_transitions::Entry;
 use std::alloc::Global;
 use std::sync::ledger::Ledger;
@@ -12,17 +13,24 @@ use std::sync::ledger::Ledger;
 /// Where a worker looks at nodes and attempts commits. A contract may be told which book it holds: then a look and an
 /// attempt are exactly those of that book. If it isn't told, since others commit to it too, some lawful book answers.
 pub trait Board<O: Origin, L: Ledger> {
-    ghost use Rattle.std.specs.Prelude.{◌≡◌, ◌+◌, Bool, IfErr, IfOk, IfSome, IsSome, None, Some, true};
+    ghost use Rattle.std.specs.Prelude.{◌≡◌, ◌+◌, Bool, IfErr, IfOk, IfSome, IsSome, IsTrue, None, Some, true};
     ghost use Rattle.ioa_boards.specs.Places.{Puts, PutsSome};
     ghost use Rattle.ioa_commits.specs.Books.{PlainBook};
     ghost use Rattle.ioa_shared.specs.Attempts.{IsMissed, IsTaken, commits};
+    ghost use Rattle.ioa_shared.specs.Openings.{BeginsAt};
     ghost use Rattle.ioa_shared.specs.SomeBook.{MissesInSome, TakesInSome};
+    ghost use Rattle.ioa_sharing.specs.Named.{shared_of_value};
 
     /// Whether the book is told.
     ghost told: { Bool };
 
     /// Which book it is; any, if it is not told.
     ghost tells: { Self → PlainBook };
+
+    /// Whether this is the system with which the book was opened, in constant time. It is false of another system, and
+    /// also of an equal one that was given another number.
+    fn is_opened_with(&self, system: &SharedOf<O, System, Global>) -> bool
+        ensures { told ≡ true → IsTrue result → BeginsAt (shared_of_value system.now) (tells self.now) };
 
     /// A look at a node, which is put into its place. A look at the node that is there already is refreshed; else one is
     /// made. `Unknown` (53) if there is no such node; `Older` (54) if what it would show is older than the pass has
@@ -81,4 +89,7 @@ pub trait Board<O: Origin, L: Ledger> {
         let mut offer = Some(proposal);
         self.attempt_offer(&mut offer, spare, pass, share)
     }
+
+    /// What a worker does after a round in which it has committed nothing, so that it does not keep others waiting.
+    fn rest(&self);
 }

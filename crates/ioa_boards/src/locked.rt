@@ -10,11 +10,16 @@ use crate::place::Place;
 use ioa_book::Proposal;
 use ioa_rawlog::Spare;
 use ioa_shared::{Missed, Pass, Share, Shared, Taken, ViewFault};
-use ioa_sharing::Origin;
+use ioa_sharing::{Origin, SharedOf};
+use ioa_system::System;
 use ioa_transitions::Entry;
 use std::alloc::Global;
 use std::sync::Wait;
 use std::sync::ledger::Ledger;
+use std::{hint, thread};
+
+/// How often a worker spins before it lets another thread run.
+const SPINS: u32 = 64;
 
 /// A book under a lock, with the runtime that may wait for the lock: each call holds it once.
 #[derive(Drop)]
@@ -32,6 +37,10 @@ impl<'a, R: Wait, O: Origin, L: Ledger> Board<O, L> for Locked<'a, R, O, L> {
     ghost told = { false };
 
     ghost tells = { λ _. plain_book [] [] 0 };
+
+    fn is_opened_with(&self, system: &SharedOf<O, System, Global>) -> bool {
+        self.shared.is_opened_with(self.rt, system)
+    }
 
     fn look(
         &mut self,
@@ -70,6 +79,14 @@ impl<'a, R: Wait, O: Origin, L: Ledger> Board<O, L> for Locked<'a, R, O, L> {
             Some(proposal) => self.shared.attempt(self.rt, proposal, spare, pass, share),
             None => unreachable!(),
         }
+    }
+
+    /// Spins a little, and then lets another thread run: so those that have something to commit get the lock.
+    fn rest(&self) {
+        for _ in 0..SPINS {
+            hint::spin_loop();
+        }
+        thread::yield_now();
     }
 }
 

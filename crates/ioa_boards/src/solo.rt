@@ -1,16 +1,19 @@
 //! The board of one worker.
 
-ghost use Rattle.std.specs.Prelude.{◌≡◌, ◌+◌, IfErr, IfOk, IfSome, IsSome, None, Some};
+ghost use Rattle.std.specs.Prelude.{◌≡◌, ◌+◌, IfErr, IfOk, IfSome, IsSome, IsTrue, None, Some};
 ghost use Rattle.ioa_boards.specs.Places.{Puts, PutsSome};
 ghost use Rattle.ioa_shared.specs.Attempts.{IsMissed, IsTaken, commits};
+ghost use Rattle.ioa_shared.specs.Openings.{BeginsAt};
 ghost use Rattle.ioa_shared.specs.SomeBook.{MissesInSome, TakesInSome};
+ghost use Rattle.ioa_sharing.specs.Named.{shared_of_value};
 
 use crate::board::Board;
 use crate::place::Place;
 use ioa_book::Proposal;
 use ioa_rawlog::Spare;
 use ioa_shared::{Missed, Pass, Share, Solo, Taken, ViewFault};
-use ioa_sharing::Origin;
+use ioa_sharing::{Origin, SharedOf};
+use ioa_system::System;
 use ioa_transitions::Entry;
 use std::alloc::Global;
 use std::sync::ledger::Ledger;
@@ -21,6 +24,12 @@ impl<O: Origin, L: Ledger> Board<O, L> for Solo<O, L> {
     ghost told = { true };
 
     ghost tells = { λ s. s };
+
+    fn is_opened_with(&self, system: &SharedOf<O, System, Global>) -> bool
+        ensures { IsTrue result → BeginsAt (shared_of_value system.now) self.now }
+    {
+        Solo::is_opened_with(self, system)
+    }
 
     fn look(
         &mut self,
@@ -66,6 +75,9 @@ impl<O: Origin, L: Ledger> Board<O, L> for Solo<O, L> {
             None => unreachable!(),
         }
     }
+
+    /// Nobody waits for this board.
+    fn rest(&self) {}
 }
 
 /// The first look at a node. It has a function of its own, since a function fills the room of its large locals each time

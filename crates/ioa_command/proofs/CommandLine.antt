@@ -1,5 +1,6 @@
 -- What the matches of the command line say of what they choose.
 use Rattle.std.proofs.Common.{◌≡◌, ◌∙◌, ℕ, true, List, Option, Some, None, Result, Ok, codes, refl, subst, sym}
+use Rattle.std.specs.Prelude.{IfSome}
 use Rattle.std.specs.Str.Parse.{digits_value, without_leading_plus}
 use Rattle.clap.specs.Walk.{Row, Text, rows_of}
 use Rattle.clap.specs.Matches.{ReadsOne, one_text}
@@ -28,11 +29,20 @@ number_is gives f id n r none value is parsed = go (one_text f id) refl
         let read : ReadsOne gives t (Some n) = subst (ReadsOne gives t) is (value t e) in
         (t, sym (one_text-rows f id) ∙ e, parsed t read)
 
--- the name and the rows of the subcommand, with its two numbers
+-- so, if it reads one
+pub number_if : {E : Type 0} → (gives : List ℕ → Result ℕ E → Type 0) (f : Found) (id : Text) (r : Option ℕ)
+    → (one_text f id ≡ None → r ≡ None) → ((t : List ℕ) → one_text f id ≡ Some t → ReadsOne gives t r)
+    → ((n : ℕ) (t : List ℕ) → gives t (Ok n) → n ≡ digits_value 10 (without_leading_plus t))
+    → IfSome r (IsNumberOf (rows_of f) id)
+number_if gives f id None none value parsed = tt
+number_if gives f id (Some n) none value parsed = number_is gives f id n (Some n) none value refl (parsed n)
+
+-- the name and the rows of the subcommand, with its three numbers
 pub run_is : (met : Option (Text × List Row)) (name : Text) (rows : List Row) (o : PlainOptions)
-    → met ≡ Some (name, rows) → name ≡ codes "run" → IsNumberOf rows (codes "steps") o.steps
-    → IsNumberOf rows (codes "attempts") o.attempts → IsChosenBy met (Run o)
-run_is met name rows o is run steps attempts = subst (λ m. IsChosenBy m (Run o)) (sym is) (run, steps, attempts)
+    → met ≡ Some (name, rows) → name ≡ codes "run" → IsNumberOf rows (codes "workers") o.workers
+    → IsNumberOf rows (codes "steps") o.steps → IsNumberOf rows (codes "attempts") o.attempts → IsChosenBy met (Run o)
+run_is met name rows o is run workers steps attempts =
+    subst (λ m. IsChosenBy m (Run o)) (sym is) (run, workers, steps, attempts)
 
 -- what clap refuses of a command, it refuses of the program's command line, if that is what it was told
 pub kinds_are : (a : App) (words : List Text) (e : Error) → a ≡ program_app

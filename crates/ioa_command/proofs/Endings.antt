@@ -49,6 +49,7 @@ input_fails input.Memory e = cc
 run_fails : (f : RunFault) → run_status f ≡ 0 → ⊥
 run_fails (run.Front f) e = cc
 run_fails (run.Check f) e = cc
+run_fails (run.Finish f) e = cc
 run_fails run.Memory e = cc
 run_fails run.Write e = cc
 
@@ -118,6 +119,7 @@ run_kept : (options : PlainOptions) (given : Option (List ℕ)) (out : Output) (
     → RunsText options given out (Err f) → Refuses (run_status f) → Keeps out.old out.new
 run_kept options given out (run.Front f) ran refuses = ran.2.1
 run_kept options given out (run.Check f) ran refuses = ran.2.1
+run_kept options given out (run.Finish f) ran refuses = absurd (not_failed 3 refuses refl)
 run_kept options given out run.Memory ran refuses = absurd (not_failed 3 refuses refl)
 run_kept options given out run.Write ran refuses = absurd (not_failed 3 refuses refl)
 

@@ -18,7 +18,7 @@ use Rattle.ioa_command.specs.declared.command_line.TextFault.TheVariants.{Input,
 use Rattle.ioa_streams.specs.Input.{IsFaultOf, input_fault_text}
 use Rattle.ioa_record.specs.Options.{PlainOptions}
 use Rattle.ioa_streams.specs.Output.{AppendsBeginning}
-use Rattle.ioa_pipeline.specs.WholeRun.{IsExactFor, IsRefusalOf, WritesReport, run_fault_text}
+use Rattle.ioa_pipeline.specs.WholeRun.{IsExactFor, IsFaultOfWorkers, IsRefusalOf, WritesReport, run_fault_text}
 use Rattle.ioa_command.specs.CommandLine.{AsksForText, Chooses, IsErrorOf, words_status}
 
 -- an output before and after: its bytes, if they are known, and whether it has failed
@@ -51,11 +51,12 @@ abbrev pub IsTextOf : Option (List ℕ) → List ℕ → Type 0
 IsTextOf given text = (length text ≤ INPUT_LIMIT) × IsUtf8 text × IfSome given (λ bytes. text ≡ bytes)
 
 -- the text of the input was run with these options; a fault is one of that text, and no fault that is always found is
--- passed over
+-- passed over; with one worker none is of finishing
 abbrev pub RunsText : PlainOptions → Option (List ℕ) → Output → Result (Unit {0}) RunFault → Type 0
 RunsText options given out result =
     (text : List ℕ) × IsTextOf given text × WritesReport text options out.old out.new out.failed result
     × IfErr result (λ f. IsRefusalOf f text) × IsExactFor result text
+    × IfErr result (λ f. IsFaultOfWorkers options.workers f)
 
 -- what `run` read and what it wrote as its report, if it ends so: nothing if the input gives no text
 abbrev pub Executes : PlainOptions → Option (List ℕ) → Output → Result (Unit {0}) TextFault → Type 0
@@ -70,10 +71,11 @@ input_status input.TooLong = 1
 input_status (input.BadCharacter offset) = 1
 input_status input.Memory = 3
 
--- 1 if the text is refused, and 3 if memory or writing failed
+-- 1 if the text is refused, and 3 if memory, finishing or writing failed
 abbrev pub run_status : RunFault → ℕ
 run_status (run.Front f) = 1
 run_status (run.Check f) = 1
+run_status (run.Finish f) = 3
 run_status run.Memory = 3
 run_status run.Write = 3
 
@@ -88,6 +90,7 @@ input_line input.Memory = codes "refused " ++ input_fault_text input.Memory
 abbrev pub run_line : RunFault → List ℕ
 run_line (run.Front f) = codes "refused " ++ run_fault_text (run.Front f)
 run_line (run.Check f) = codes "refused " ++ run_fault_text (run.Check f)
+run_line (run.Finish f) = codes "refused " ++ run_fault_text (run.Finish f)
 run_line run.Memory = codes "refused " ++ run_fault_text run.Memory
 run_line run.Write = codes "failed " ++ run_fault_text run.Write
 

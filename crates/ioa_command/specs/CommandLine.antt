@@ -12,7 +12,7 @@ use Rattle.clap.specs.declared.error.Error.{Error}
 use Rattle.clap.specs.declared.error.kind.ErrorKind.{ErrorKind}
 use Rattle.clap.specs.declared.error.kind.ErrorKind.TheVariants.{DisplayHelp, DisplayVersion}
 use Rattle.clap.specs.declared.error.kind.ErrorKind.TheVariants.{OutOfMemory, ValueValidation}
-use Rattle.ioa_record.specs.declared.options.TheConstants.{GREATEST_STEPS, GREATEST_ATTEMPTS}
+use Rattle.ioa_record.specs.declared.options.TheConstants.{GREATEST_WORKERS, GREATEST_STEPS, GREATEST_ATTEMPTS}
 use Rattle.ioa_command.specs.declared.words.Subcommand.{Subcommand}
 use Rattle.ioa_command.specs.declared.words.Subcommand.TheVariants.{Run}
 
@@ -21,12 +21,18 @@ abbrev pub number_rule : Text → ValueParser → Text → Rule
 number_rule name parser default =
     record (new_rule name) { long = Some name; parser = Some parser; value_names = 1; defaults = default ∷ [] }
 
--- `run --steps N --attempts N`
+abbrev pub workers_rule : Rule
+workers_rule = number_rule (codes "workers") (Unsigned 1 GREATEST_WORKERS) (codes "1")
+
+abbrev pub steps_rule : Rule
+steps_rule = number_rule (codes "steps") (Unsigned 0 GREATEST_STEPS) (codes "10000")
+
+abbrev pub attempts_rule : Rule
+attempts_rule = number_rule (codes "attempts") (Unsigned 1 GREATEST_ATTEMPTS) (codes "1000")
+
+-- `run --workers N --steps N --attempts N`
 abbrev pub run_app : App
-run_app =
-    with_rule
-    (with_rule (new_app (codes "run")) (number_rule (codes "steps") (Unsigned 0 GREATEST_STEPS) (codes "10000")))
-    (number_rule (codes "attempts") (Unsigned 1 GREATEST_ATTEMPTS) (codes "1000"))
+run_app = with_rule (with_rule (with_rule (new_app (codes "run")) workers_rule) steps_rule) attempts_rule
 
 -- the program's name, and then one of its subcommands; it has a version, and shows its help if there are no words
 abbrev pub program_app : App
@@ -45,7 +51,8 @@ IsNumberOf rows name n =
 abbrev pub IsChosenBy : Option (Text × List Row) → Subcommand → Type 0
 IsChosenBy None choice = ⊥
 IsChosenBy (Some (name, rows)) (Run o) =
-    (name ≡ codes "run") × IsNumberOf rows (codes "steps") o.steps × IsNumberOf rows (codes "attempts") o.attempts
+    (name ≡ codes "run") × IsNumberOf rows (codes "workers") o.workers × IsNumberOf rows (codes "steps") o.steps
+    × IsNumberOf rows (codes "attempts") o.attempts
 
 -- what the words choose, the program's name first
 abbrev pub Chooses : List Text → Subcommand → Type 0

@@ -13,10 +13,12 @@ ghost use Rattle.ioa_command.specs.CommandLine.{words_status};
 use crate::words::options;
 use clap::Error;
 use clap::error::ErrorKind;
-use ioa_pipeline::{Options, RunFault, run_system};
+use ioa_pipeline::{Open, Options, RunFault, run_system};
 use ioa_streams::{InputFault, Out, put_all, read_input};
 use std::alloc::{AllocError, Global};
 use std::io::Read;
+use std::sync::Wait;
+use std::thread::Threads;
 
 /// The status of a program that did what it was asked.
 const DONE: u8 = 0;
@@ -27,7 +29,7 @@ const REFUSED: u8 = 1;
 /// The status if the command line was refused.
 pub const BAD_WORDS: u8 = 2;
 
-/// The status if memory, reading or writing failed.
+/// The status if memory, finishing, reading or writing failed.
 pub const FAILED: u8 = 3;
 
 /// Why `run` wrote no report.
@@ -40,15 +42,17 @@ enum TextFault {
 }
 
 /// The program (profile): `words` are those of the command line, its own name first, and choose what it does. `run`
-/// reads a text, runs its system, and writes the report. Returns the status: 0 if the report was written, or the help
-/// or the version for which the words ask; 1 if the text was refused; 2 if the words were refused; and 3 if memory,
-/// reading or writing failed. If it is not 0, `err` says why; a fault of `err` is ignored. If there is no memory for
-/// what it has to say, the status is 3 and a line says so.
+/// reads a text, runs its system by workers in this runtime, and writes the report. Returns the status: 0 if the report
+/// was written, or the help or the version for which the words ask; 1 if the text was refused; 2 if the words were
+/// refused; and 3 if memory ran out, what several workers left could not be put together, or reading or writing failed.
+/// If it is not 0, `err` says why; a fault of `err` is ignored. If there is no memory for what it has to say, the status
+/// is 3 and a line says so.
 #[tactic(auto, using(crate::proofs::Endings::refused_of))]
-pub fn command<'a, R: Read, O: Out, E: Out>(
+pub fn command<'a, R: Threads + Wait + Sync, I: Read, O: Out, E: Out>(
+    rt: &R,
     alloc: Global,
     words: &'a [&'a str],
-    reader: &mut R,
+    reader: &mut I,
     out: &mut O,
     err: &mut E,
 ) -> u8
@@ -56,52 +60,54 @@ pub fn command<'a, R: Read, O: Out, E: Out>(
     requires out { O.failed out.old ≡ false }
     requires err { E.failed err.old ≡ false }
     // what the status says of the output
-    ensures done { result ≡ 0 → IsDone (map (λ w. w.now) words.entry.now) (R.remaining reader.old)
+    ensures done { result ≡ 0 → IsDone (map (λ w. w.now) words.entry.now) (I.remaining reader.old)
         (output (O.bytes out.old) (O.bytes out.new) (O.failed out.new)) }
     ensures refused { (result ≡ 1) ⊎ (result ≡ 2) → Keeps (O.bytes out.old) (O.bytes out.new) }
     // of which fault the status and what is shown are
-    ensures ends { Ends (map (λ w. w.now) words.entry.now) (R.remaining reader.old)
+    ensures ends { Ends (map (λ w. w.now) words.entry.now) (I.remaining reader.old)
         (output (O.bytes out.old) (O.bytes out.new) (O.failed out.new))
         (output (E.bytes err.old) (E.bytes err.new) (E.failed err.new)) result }
 {
-    execute_words(alloc, words, reader, out, err)
+    execute_words(rt, alloc, words, reader, out, err)
 }
 
 /// Does what the words choose, and tells of a fault.
-fn execute_words<'a, R: Read, O: Out, E: Out>(
+fn execute_words<'a, R: Threads + Wait + Sync, I: Read, O: Out, E: Out>(
+    rt: &R,
     alloc: Global,
     words: &'a [&'a str],
-    reader: &mut R,
+    reader: &mut I,
     out: &mut O,
     err: &mut E,
 ) -> u8
     requires out { O.failed out.old ≡ false }
     requires err { E.failed err.old ≡ false }
-    ensures { Ends (map (λ w. w.now) words.entry.now) (R.remaining reader.old)
+    ensures { Ends (map (λ w. w.now) words.entry.now) (I.remaining reader.old)
         (output (O.bytes out.old) (O.bytes out.new) (O.failed out.new))
         (output (E.bytes err.old) (E.bytes err.new) (E.failed err.new)) result }
 {
     match options(alloc, words) {
-        Ok(subcommand) => run_text(alloc, &subcommand.options(), reader, out, err),
+        Ok(subcommand) => run_text(rt, alloc, &subcommand.options(), reader, out, err),
         Err(error) => show_words(alloc, &error, out, err),
     }
 }
 
 /// Runs the text with these options, and tells of a fault.
-fn run_text<R: Read, O: Out, E: Out>(
+fn run_text<R: Threads + Wait + Sync, I: Read, O: Out, E: Out>(
+    rt: &R,
     alloc: Global,
     options: &Options,
-    reader: &mut R,
+    reader: &mut I,
     out: &mut O,
     err: &mut E,
 ) -> u8
     requires out { O.failed out.old ≡ false }
     requires err { E.failed err.old ≡ false }
-    ensures { (outcome : Result (Unit {0}) TextFault) × EndsText options.now (R.remaining reader.old)
+    ensures { (outcome : Result (Unit {0}) TextFault) × EndsText options.now (I.remaining reader.old)
         (output (O.bytes out.old) (O.bytes out.new) (O.failed out.new))
         (output (E.bytes err.old) (E.bytes err.new) (E.failed err.new)) result outcome }
 {
-    match execute(alloc, options, reader, out) {
+    match execute(rt, alloc, options, reader, out) {
         Ok(()) => DONE,
         Err(TextFault::Input(fault)) => {
             show_line(input_line(alloc, &fault), input_status(&fault), err)
@@ -111,18 +117,19 @@ fn run_text<R: Read, O: Out, E: Out>(
 }
 
 /// Reads the text, runs its system and writes the report.
-fn execute<R: Read, O: Out>(
+fn execute<R: Threads + Wait + Sync, I: Read, O: Out>(
+    rt: &R,
     alloc: Global,
     options: &Options,
-    reader: &mut R,
+    reader: &mut I,
     out: &mut O,
 ) -> Result<(), TextFault>
     requires { O.failed out.old ≡ false }
-    ensures { Executes options.now (R.remaining reader.old)
+    ensures { Executes options.now (I.remaining reader.old)
         (output (O.bytes out.old) (O.bytes out.new) (O.failed out.new)) result }
 {
     let text = read_input(alloc, reader).map_err(TextFault::Input)?;
-    run_system(alloc, text.as_str(), options, out).map_err(TextFault::Run)
+    run_system(rt, alloc, text.as_str(), options, &Open, out).map_err(TextFault::Run)
 }
 
 /// The status if the words ask for a text or are refused.
@@ -152,7 +159,7 @@ fn run_status(fault: &RunFault) -> u8
 {
     match fault {
         RunFault::Front(_) | RunFault::Check(_) => REFUSED,
-        RunFault::Memory | RunFault::Write => FAILED,
+        RunFault::Finish(_) | RunFault::Memory | RunFault::Write => FAILED,
     }
 }
 
@@ -173,7 +180,7 @@ fn run_line(alloc: Global, fault: &RunFault) -> Result<String, AllocError>
     ensures { IfOk result (λ s. string_bytes s ≡ run_line fault.now ++ codes "\n") }
 {
     match fault {
-        RunFault::Front(_) | RunFault::Check(_) | RunFault::Memory => {
+        RunFault::Front(_) | RunFault::Check(_) | RunFault::Finish(_) | RunFault::Memory => {
             format!(in alloc; "refused {fault}\n")
         }
         RunFault::Write => format!(in alloc; "failed {fault}\n"),

@@ -1,16 +1,19 @@
 //! What the words of the command line choose.
 
-ghost use Rattle.std.specs.Prelude.{◌≡◌, false, map, IfOk, IfErr, IfSome};
+ghost use Rattle.std.specs.Prelude.{◌≡◌, ◌<◌, ◌^◌, false, map, IfOk, IfErr, IfSome};
+ghost use Rattle.clap.specs.Matches.{found_of};
+ghost use Rattle.clap.specs.Walk.{rows_of};
 ghost use Rattle.clap.specs.Words.{rule_of, app_of, subcommand_rows_of};
 ghost use Rattle.clap.specs.declared.builder.command.Command.TheViews.{out-Command};
+ghost use Rattle.clap.specs.declared.builder.value_parser.ValueParser.TheVariants.{Unsigned};
 ghost use Rattle.ioa_command.specs.declared.words.Subcommand.TheVariants.{Run};
-ghost use Rattle.ioa_command.specs.CommandLine.{number_rule, run_app, program_app};
-ghost use Rattle.ioa_command.specs.CommandLine.{Chooses, IsChosenBy, IsErrorOf};
+ghost use Rattle.ioa_command.specs.CommandLine.{number_rule, workers_rule, steps_rule, attempts_rule};
+ghost use Rattle.ioa_command.specs.CommandLine.{run_app, program_app, Chooses, IsChosenBy, IsErrorOf, IsNumberOf};
 
 use clap::builder::ValueParser;
 use clap::error::ErrorKind;
 use clap::{Arg, ArgMatches, Command, Error, value_parser};
-use ioa_pipeline::{GREATEST_ATTEMPTS, GREATEST_STEPS, Options};
+use ioa_pipeline::{GREATEST_ATTEMPTS, GREATEST_STEPS, GREATEST_WORKERS, Options};
 use std::alloc::{AllocError, Global};
 
 /// What is shown before the list of subcommands.
@@ -20,13 +23,14 @@ const ABOUT: &str = "Runs systems of I/O automata, and prints what happened.";
 const STATUSES: &str = "\
 `ioarun run` reads a system text on standard input: automata with their schedule blocks, and the
 nodes, channels and scripts on which they are placed. It writes the report of the run on standard
-output: the schedule, the last states, how each node ended, and how many actions were taken.
+output: the schedule, the last states, how each node ended, and how many actions each worker
+took. With several workers the schedule may be another each time.
 
 Statuses:
   0  the report was written, or this help
   1  the text was refused: one line on standard error has the number, the name and the place
   2  these words were refused
-  3  memory ran out, or reading or writing failed
+  3  memory ran out, or finishing, reading or writing failed
 
 Example:
   ioarun run --steps 100 < relay.ioa";
@@ -49,10 +53,10 @@ impl Subcommand {
     }
 }
 
-/// What the words choose, the program's name first (profile). `--steps N` and `--attempts N` have decimal numbers, each
-/// in its range of [`Options`]; if one is not given, it is that of `Options::default`. The error is clap's own, and has
-/// no number: it is a text that the words ask for (`--help` or `--version`), says what is wrong with the words, or
-/// tells want of memory.
+/// What the words choose, the program's name first (profile). `--workers N`, `--steps N` and `--attempts N` have decimal
+/// numbers, each in its range of [`Options`]; if one is not given, it is that of `Options::default`. The error is clap's
+/// own, and has no number: it is a text that the words ask for (`--help` or `--version`), says what is wrong with the
+/// words, or tells want of memory.
 pub fn options<'a>(alloc: Global, words: &'a [&'a str]) -> Result<Subcommand, Error>
     ensures chosen { IfOk result (Chooses (map (λ w. w.now) words.entry.now)) }
     ensures refused { IfErr result (IsErrorOf (map (λ w. w.now) words.entry.now)) }
@@ -85,26 +89,50 @@ fn program<'a>(alloc: Global) -> Result<Command<'a>, AllocError>
 fn run<'a>(alloc: Global) -> Result<Command<'a>, AllocError>
     ensures { IfOk result (λ c. (app_of c ≡ run_app) × ((out-Command c).has_globals ≡ false)) }
 {
-    let steps = number(
-        alloc,
-        "steps",
-        "10000",
-        value_parser!(u64).range(..=GREATEST_STEPS as i64),
-    )
-    .help("How many actions the schedule may have, from 0 to 1000000");
-    let attempts = number(
-        alloc,
-        "attempts",
-        "1000",
-        value_parser!(u64)
-            .range(1..)
-            .range(..=GREATEST_ATTEMPTS as i64),
-    )
-    .help("How many turns each node may have, from 1 to 1000000");
     Command::new(alloc, "run")
         .about("Runs the system of the text on standard input, and writes the report of the run")
-        .arg(steps)?
-        .arg(attempts)
+        .arg(workers_option(alloc))?
+        .arg(steps_option(alloc))?
+        .arg(attempts_option(alloc))
+}
+
+/// `--workers N`.
+fn workers_option<'a>(alloc: Global) -> Arg<'a>
+    ensures rule { rule_of result ≡ workers_rule }
+    ensures global { result.global ≡ false }
+{
+    number(alloc, "workers", "1", from_one(GREATEST_WORKERS)).help(
+        "How many workers share the nodes, each on a thread of its own, from 1 to 64",
+    )
+}
+
+/// `--steps N`.
+fn steps_option<'a>(alloc: Global) -> Arg<'a>
+    ensures rule { rule_of result ≡ steps_rule }
+    ensures global { result.global ≡ false }
+{
+    let parser = value_parser!(u64).range(..=GREATEST_STEPS as i64);
+    number(alloc, "steps", "10000", parser).help(
+        "How many actions the schedule may have, from 0 to 1000000",
+    )
+}
+
+/// `--attempts N`.
+fn attempts_option<'a>(alloc: Global) -> Arg<'a>
+    ensures rule { rule_of result ≡ attempts_rule }
+    ensures global { result.global ≡ false }
+{
+    number(alloc, "attempts", "1000", from_one(GREATEST_ATTEMPTS)).help(
+        "How many turns each node may have, from 1 to 1000000",
+    )
+}
+
+/// Takes a number from 1 up to the greatest.
+fn from_one<'a>(greatest: u64) -> ValueParser<'a>
+    requires { greatest < 2 ^ 63 }
+    ensures { result ≡ Unsigned 1 greatest }
+{
+    value_parser!(u64).range(1..).range(..=greatest as i64)
 }
 
 /// `--name N`.
@@ -125,10 +153,18 @@ fn choice_of(matches: &ArgMatches<'_>) -> Option<Subcommand>
 {
     let (name, found) = matches.subcommand()?;
     if name == "run" {
-        let steps = found.get_one::<u64>("steps")?;
-        let attempts = found.get_one::<u64>("attempts")?;
-        Some(Subcommand::Run(Options::within(steps, attempts)?))
+        let workers = number_given(found, "workers")?;
+        let steps = number_given(found, "steps")?;
+        let attempts = number_given(found, "attempts")?;
+        Some(Subcommand::Run(Options::within(workers, steps, attempts)?))
     } else {
         None
     }
+}
+
+/// The number that the matches have for an option.
+fn number_given(matches: &ArgMatches<'_>, name: &str) -> Option<u64>
+    ensures { IfSome result (IsNumberOf (rows_of (found_of matches.now)) name.now) }
+{
+    matches.get_one::<u64>(name)
 }

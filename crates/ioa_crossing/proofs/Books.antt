@@ -1,6 +1,11 @@
 -- So may logs, books and receipts; and a book under its lock is for several threads.
+use mir.Syntax.{Lifetime}
+use base.Fml.{Lft}
 use denote.RattleType.{RattleType}
-use denote.Param.Send.{IsSend, IsSync, sendable}
+use denote.Ref.{ShrRef}
+use denote.Param.{param}
+use denote.Param.Send.{IsSend, IsSync, sendable, shr_send}
+use Rattle.std.specs.Prelude.{ℕ}
 use Rattle.std.proofs.Crossing.{crosses}
 use Rattle.ioa_shared.specs.contracts.shared.Shared as Shared
 use Rattle.ioa_shared.specs.contracts.held.Held as Held
@@ -17,8 +22,12 @@ use Rattle.ioa_transitions.specs.contracts.entry.Entry as Entry
 use Rattle.ioa_transitions.specs.contracts.node.NodeConf as NodeConf
 use Rattle.ioa_compose.specs.contracts.configuration.Conf as Conf
 use Rattle.ioa_sharing.specs.declared.named.Origin as Origin
+use Rattle.ioa_sharing.specs.contracts.named.SharedOf as Numbered
 use Rattle.ioa_sharing.proofs.named.SharedOf.TheSendSync as SharedOf
 use Rattle.ioa_sharing.proofs.named.MakerOf.TheSendSync as MakerOf
+use Rattle.ioa_system.specs.contracts.system.System as System
+use Rattle.std.specs.contracts.alloc.Global as Global
+use Rattle.std.specs.contracts.impls.GlobalAllocator.TheImpl.{ghosts}
 use Rattle.ioa_receipts.specs.contracts.receipts.Receipt as Receipt
 use Rattle.ioa_receipts.specs.contracts.receipts.Receipts as Receipts
 use Rattle.ioa_rawlog.specs.contracts.log.RawLog as RawLog
@@ -27,7 +36,7 @@ use Rattle.ioa_commits.specs.contracts.versioned.VersionedConf as VersionedConf
 use Rattle.ioa_commits.specs.contracts.index.Index as Index
 use Rattle.ioa_commits.specs.contracts.journal.Journal as Journal
 use Rattle.ioa_crossing.proofs.Actions.{owners, values_send, values_sync, node_action_send, node_action_sync, action_send, action_sync}
-use Rattle.ioa_crossing.proofs.Programs.{program_send, program_sync}
+use Rattle.ioa_crossing.proofs.Programs.{program_send, program_sync, system_send, system_sync}
 
 pub queue_send : IsSend (Queue.the_field).row
 queue_send = search (owners, knot.crosses, node_action_send, node_action_sync, crosses, sendable) depth 60 fits 20000
@@ -76,6 +85,9 @@ module _ (O : RattleType) (g : Origin.Ghosts O.Denot) where
   pub versioned_send : IsSend (VersionedConf.the_field O g).row
   versioned_send = search (SharedOf.the_field_send, conf_send, conf_sync, crosses, sendable) depth 60 fits 20000
 
+  pub numbered_send : IsSend (Numbered.the_field O System.the_row Global.the_row g ghosts).row
+  numbered_send = search (SharedOf.the_field_send, system_send, system_sync, crosses, sendable) depth 60 fits 20000
+
   pub journal_send : IsSend (Journal.the_field O g).row
   journal_send = search (conf_send, versioned_send, index_send, log_send, MakerOf.the_field_send, crosses, sendable) depth 60 fits 20000
 
@@ -84,7 +96,11 @@ module _ (O : RattleType) (g : Origin.Ghosts O.Denot) where
 
   module _ (L : RattleType) (h : Ledger.Ghosts L.Denot) where
     pub held_send : IsSend (Held.the_field O L g h).row
-    held_send = search (book_send, Total.the_send, sendable) depth 60 fits 20000
+    held_send = search (book_send, numbered_send, Total.the_send, sendable) depth 60 fits 20000
 
     pub shared_sync : IsSync (Shared.the_row O L g h)
     shared_sync = search (Mutex.the_sync, held_send, sendable) depth 60 fits 20000
+
+-- so a thread may be lent it, in a function that has its two types as the parameters of these numbers
+pub lent_send : (i j : ℕ) (O L : RattleType) (g : Origin.Ghosts O.Denot) (h : Ledger.Ghosts L.Denot) (ℓ : Lifetime) (κ : Lft) → IsSend (ShrRef ℓ κ (Shared.the_row (param i O) (param j L) g h))
+lent_send i j O L g h ℓ κ = shr_send ℓ κ _ (shared_sync (param i O) g (param j L) h)

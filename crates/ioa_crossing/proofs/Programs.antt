@@ -22,7 +22,7 @@ use Rattle.ioa_system.specs.contracts.automaton.CompiledAutomaton as CompiledAut
 use Rattle.ioa_system.specs.contracts.program.Program as Program
 use Rattle.ioa_system.specs.contracts.script.Script as Script
 use Rattle.ioa_system.specs.contracts.system.System as System
-use Rattle.ioa_crossing.proofs.Actions.{node_action_sync, owners, value_send, value_sync, word_send, word_sync}
+use Rattle.ioa_crossing.proofs.Actions.{node_action_send, node_action_sync, owners, value_send, value_sync, word_send, word_sync}
 
 pub shape_send : IsSend (Shape.the_field).row
 shape_send = search (owners, word_send, word_sync, crosses, shape_knot.crosses, sendable) depth 60 fits 20000
@@ -108,8 +108,14 @@ program_send = search (automaton_send, automaton_sync, value_send, crosses, send
 pub program_sync : IsSync (Program.the_field).row
 program_sync = search (automaton_send, automaton_sync, value_sync, crosses, sendable) depth 60 fits 20000
 
+pub script_send : IsSend (Script.the_field).row
+script_send = search (owners, node_action_send, crosses, sendable) depth 60 fits 20000
+
 pub script_sync : IsSync (Script.the_field).row
 script_sync = search (owners, node_action_sync, crosses, sendable) depth 60 fits 20000
+
+pub system_send : IsSend (System.the_field).row
+system_send = search (owners, names_send, names_sync, program_send, program_sync, script_send, crosses, sendable) depth 60 fits 20000
 
 pub system_sync : IsSync (System.the_field).row
 system_sync = search (owners, names_send, names_sync, program_send, program_sync, script_sync, crosses, sendable) depth 60 fits 20000

@@ -17,8 +17,8 @@ ghost use Rattle.ioa_types.specs.declared.height.TheConstants.{SHAPE_LIMIT};
 ghost use Rattle.ioa_check.specs.declared.channels.TheConstants.{MOST_CHANNELS};
 ghost use Rattle.ioa_check.specs.declared.nodes.TheConstants.{MOST_NODES};
 ghost use Rattle.ioa_schedules.specs.declared.turn.TheConstants.{TURN_LIMIT};
-ghost use Rattle.ioa_record.specs.declared.options.TheConstants.{GREATEST_STEPS, GREATEST_ATTEMPTS};
-ghost use Rattle.ioa_record.specs.declared.options.TheConstants.{DEFAULT_STEPS, DEFAULT_ATTEMPTS};
+ghost use Rattle.ioa_record.specs.declared.options.TheConstants.{GREATEST_WORKERS, GREATEST_STEPS, GREATEST_ATTEMPTS};
+ghost use Rattle.ioa_record.specs.declared.options.TheConstants.{DEFAULT_WORKERS, DEFAULT_STEPS, DEFAULT_ATTEMPTS};
 ghost use Rattle.ioa_actions.specs.declared.action.TheConstants.{SEND, RECEIVE};
 
 /// The limits, the defaults and the two words that the language gives a meaning are those of its reference
@@ -32,6 +32,8 @@ pub fn limits_law()
     ensures nodes { MOST_NODES ≡ 64 }
     ensures channels { MOST_CHANNELS ≡ 256 }
     ensures turn { TURN_LIMIT ≡ 1000 }
+    ensures workers { GREATEST_WORKERS ≡ 64 }
+    ensures default_workers { DEFAULT_WORKERS ≡ 1 }
     ensures steps { GREATEST_STEPS ≡ 1000000 }
     ensures default_steps { DEFAULT_STEPS ≡ 10000 }
     ensures attempts { GREATEST_ATTEMPTS ≡ 1000000 }

@@ -6,8 +6,8 @@ use Rattle.ioa_record.specs.declared.record.Record.{Record}
 use Rattle.ioa_monitor.specs.Reports.{report_text}
 use Rattle.ioa_record.specs.Options.{PlainOptions}
 use Rattle.ioa_pipeline.specs.declared.whole_run.RunFault.{RunFault}
-use Rattle.ioa_pipeline.specs.declared.whole_run.RunFault.TheVariants.{Front, Check, Memory, Write}
-use Rattle.ioa_pipeline.specs.WholeRun.{IsLeftBy, IsRefusalOf, IsReport, WritesReport, WritesText}
+use Rattle.ioa_pipeline.specs.declared.whole_run.RunFault.TheVariants.{Front, Check, Finish, Memory, Write}
+use Rattle.ioa_pipeline.specs.WholeRun.{IsFaultOfWorkers, IsLeftBy, IsRefusalOf, IsReport, WritesReport, WritesText}
 
 -- the report of what a run left
 made : (text : List ℕ) (options : PlainOptions) (s : SystemParts) (left : Record) (endings : List Ending)
@@ -19,6 +19,7 @@ made text options s left endings h =
       left = left;
       endings = endings;
       run = h.run;
+      counted = h.counted;
       alone = h.alone;
       solo = h.solo;
       written = refl;
@@ -35,6 +36,7 @@ reported text options s left endings old new failed (Err Write) h w =
 reported text options s left endings old new failed (Err Memory) h w = w
 reported text options s left endings old new failed (Err (Front f)) h w = absurd w
 reported text options s left endings old new failed (Err (Check f)) h w = absurd w
+reported text options s left endings old new failed (Err (Finish f)) h w = absurd w
 
 -- and its faults say nothing of the text
 pub late : (text report : List ℕ) (old new : Option (List ℕ)) (failed : Bool) (r : Result (Unit {0}) RunFault)
@@ -44,3 +46,14 @@ late text report old new failed (Err Write) w = tt
 late text report old new failed (Err Memory) w = tt
 late text report old new failed (Err (Front f)) w = absurd w
 late text report old new failed (Err (Check f)) w = absurd w
+late text report old new failed (Err (Finish f)) w = absurd w
+
+-- and none of them is of finishing
+pub calm : (workers : ℕ) (report : List ℕ) (old new : Option (List ℕ)) (failed : Bool) (r : Result (Unit {0}) RunFault)
+    → WritesText report old new failed r → IfErr r (IsFaultOfWorkers workers)
+calm workers report old new failed (Ok x) w = tt
+calm workers report old new failed (Err Write) w = tt
+calm workers report old new failed (Err Memory) w = tt
+calm workers report old new failed (Err (Front f)) w = absurd w
+calm workers report old new failed (Err (Check f)) w = absurd w
+calm workers report old new failed (Err (Finish f)) w = absurd w

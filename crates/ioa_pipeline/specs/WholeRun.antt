@@ -12,10 +12,13 @@ use Rattle.ioa_check.specs.Faults.{check_fault_text}
 use Rattle.ioa_check.specs.Systems.{IsSystemOf, SaysNoSystem}
 use Rattle.ioa_system.specs.Declarations.{IsWellDeclared}
 use Rattle.ioa_system.specs.Systems.{SystemParts}
+use Rattle.ioa_shared.specs.declared.finish.FinishFault.{FinishFault}
+use Rattle.ioa_shared.specs.declared.finish.FinishFault.TheVariants as finish
+use Rattle.ioa_shared.specs.Texts.{finish_fault_text}
 use Rattle.ioa_record.specs.declared.ending.Ending.{Ending}
 use Rattle.ioa_record.specs.declared.record.Record.{Record}
 use Rattle.ioa_pipeline.specs.declared.whole_run.RunFault.{RunFault}
-use Rattle.ioa_pipeline.specs.declared.whole_run.RunFault.TheVariants.{Front, Check, Memory, Write}
+use Rattle.ioa_pipeline.specs.declared.whole_run.RunFault.TheVariants.{Front, Check, Finish, Memory, Write}
 use Rattle.ioa_record.specs.Options.{PlainOptions}
 use Rattle.ioa_streams.specs.Output.{AppendsBeginning}
 use Rattle.ioa_monitor.specs.Reports.{report_text}
@@ -31,23 +34,26 @@ pub record IsDescribed (text : List ℕ) (s : SystemParts) : Type 0 where
   pub system : IsSystemOf source s
   pub declared : IsWellDeclared s
 
--- what the worker's run of a system that a text describes left, with these options
+-- what a run of a system that a text describes left, with these options: a count for each worker; one worker alone
+-- makes the run that goes round the nodes
 pub record IsLeftBy (text : List ℕ) (options : PlainOptions) (s : SystemParts) (left : Record) (endings : List Ending)
     : Type 0 where
   pub described : IsDescribed text s
   pub run : IsRunOf s options.steps left endings
-  pub alone : IsOfOneWorker left
-  pub solo : IsSoloRun s options left endings
+  pub counted : length left.commits.items ≡ options.workers
+  pub alone : options.workers ≡ 1 → IsOfOneWorker left
+  pub solo : options.workers ≡ 1 → IsSoloRun s options left endings
 
--- the report of the worker's run of a system that a text describes, with these options
+-- the report of what a run of a system that a text describes left, with these options
 pub record IsReport (text : List ℕ) (options : PlainOptions) (report : List ℕ) : Type 0 where
   pub parts : SystemParts
   pub described : IsDescribed text parts
   pub left : Record
   pub endings : List Ending
   pub run : IsRunOf parts options.steps left endings
-  pub alone : IsOfOneWorker left
-  pub solo : IsSoloRun parts options left endings
+  pub counted : length left.commits.items ≡ options.workers
+  pub alone : options.workers ≡ 1 → IsOfOneWorker left
+  pub solo : options.workers ≡ 1 → IsSoloRun parts options left endings
   pub written : report ≡ report_text parts left endings
 
 -- a fault of reading as a run's: want of memory is one fault wherever it comes
@@ -66,12 +72,28 @@ abbrev pub run_fault_of_check : CheckFault → RunFault
 run_fault_of_check (check.Refused refusal index) = Check (check.Refused refusal index)
 run_fault_of_check check.Memory = Memory
 
+-- a fault of finishing as a run's
+abbrev pub run_fault_of_finish : FinishFault → RunFault
+run_fault_of_finish finish.Foreign = Finish finish.Foreign
+run_fault_of_finish finish.SharesMissing = Finish finish.SharesMissing
+run_fault_of_finish finish.Memory = Memory
+run_fault_of_finish finish.Unaccounted = Finish finish.Unaccounted
+
+-- a fault that a run by so many workers can have: one worker alone has none of finishing
+abbrev pub IsFaultOfWorkers : ℕ → RunFault → Type 0
+IsFaultOfWorkers workers (Front f) = ⊤
+IsFaultOfWorkers workers (Check f) = ⊤
+IsFaultOfWorkers workers (Finish f) = workers ≡ 1 → ⊥
+IsFaultOfWorkers workers Memory = ⊤
+IsFaultOfWorkers workers Write = ⊤
+
 -- what a fault says of the text: a fault of reading is one of the text, and a fault of the check means that no system is
--- that of a source that the text spells; want of memory and a failed write say nothing
+-- that of a source that the text spells; want of memory, a fault of finishing and a failed write say nothing
 abbrev pub IsRefusalOf : RunFault → List ℕ → Type 0
 IsRefusalOf (Front f) text = (f ≡ front.Memory → ⊥) × StandsInText f text
 IsRefusalOf (Check f) text =
     (f ≡ check.Memory → ⊥) × (p : SourceText) × TextSpells p text × SaysNoSystem f p
+IsRefusalOf (Finish f) text = f ≡ finish.Memory → ⊥
 IsRefusalOf Memory text = ⊤
 IsRefusalOf Write text = ⊤
 
@@ -85,6 +107,7 @@ IsExactFor result text = (e : FrontFault) → is_exact e ≡ true → StandsInTe
 abbrev pub run_fault_text : RunFault → List ℕ
 run_fault_text (Front f) = front_fault_text f
 run_fault_text (Check f) = check_fault_text f
+run_fault_text (Finish f) = finish_fault_text f
 run_fault_text Memory = codes "3 Memory"
 run_fault_text Write = codes "71 Write"
 
@@ -92,6 +115,7 @@ run_fault_text Write = codes "71 Write"
 abbrev pub IsEarly : RunFault → Type 0
 IsEarly (Front f) = ⊤
 IsEarly (Check f) = ⊤
+IsEarly (Finish f) = ⊤
 IsEarly Memory = ⊤
 IsEarly Write = ⊥
 
@@ -105,6 +129,7 @@ WritesReport text options old new failed (Err Write) =
     (failed ≡ true) × ((report : List ℕ) × IsReport text options report × AppendsBeginning old new report)
 WritesReport text options old new failed (Err (Front f)) = (failed ≡ false) × Keeps old new
 WritesReport text options old new failed (Err (Check f)) = (failed ≡ false) × Keeps old new
+WritesReport text options old new failed (Err (Finish f)) = (failed ≡ false) × Keeps old new
 WritesReport text options old new failed (Err Memory) = (failed ≡ false) × Keeps old new
 
 -- the same of one text, before which no other fault can come
@@ -114,3 +139,4 @@ WritesText text old new failed (Err Write) = (failed ≡ true) × AppendsBeginni
 WritesText text old new failed (Err Memory) = (failed ≡ false) × Keeps old new
 WritesText text old new failed (Err (Front f)) = ⊥
 WritesText text old new failed (Err (Check f)) = ⊥
+WritesText text old new failed (Err (Finish f)) = ⊥

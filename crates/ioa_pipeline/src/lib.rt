@@ -2,10 +2,14 @@
 //!
 //! **A crate of its own**, since it alone stands on all four.
 //!
-//! **Must not know**: threads, and the command line.
+//! **Must not know**: how threads run, and the command line.
 #![tactic(auto)]
 
 mod whole_run;
 
-pub use ioa_record::{DEFAULT_ATTEMPTS, DEFAULT_STEPS, GREATEST_ATTEMPTS, GREATEST_STEPS, Options};
+pub use ioa_boards::{Gate, Open};
+pub use ioa_record::{
+    DEFAULT_ATTEMPTS, DEFAULT_STEPS, DEFAULT_WORKERS, GREATEST_ATTEMPTS, GREATEST_STEPS,
+    GREATEST_WORKERS, Options,
+};
 pub use whole_run::{RunFault, run_system};

@@ -1,19 +1,24 @@
 //! Whole runs: from a text to its report.
 
-ghost use Rattle.std.specs.Prelude.{◌≡◌, false, IfOk, IfErr};
+ghost use Rattle.std.specs.Prelude.{◌≡◌, ℕ, false, IfOk, IfErr};
+ghost use Rattle.std.specs.Arc.{arc_value};
 ghost use Rattle.ioa_monitor.specs.Reports.{report_text};
-ghost use Rattle.ioa_pipeline.specs.WholeRun.{IsDescribed, IsEarly, IsExactFor, IsLeftBy, IsRefusalOf, WritesReport};
-ghost use Rattle.ioa_pipeline.specs.WholeRun.{WritesText};
+ghost use Rattle.ioa_pipeline.specs.WholeRun.{IsDescribed, IsEarly, IsExactFor, IsFaultOfWorkers, IsLeftBy};
+ghost use Rattle.ioa_pipeline.specs.WholeRun.{IsRefusalOf, WritesReport, WritesText};
 
+use ioa_boards::Gate;
 use ioa_check::{CheckFault, check};
 use ioa_monitor::{ReportFault, report};
 use ioa_record::{Ending, Options, Record};
-use ioa_solo::run;
+use ioa_shared::FinishFault;
 use ioa_streams::Out;
 use ioa_system::System;
 use ioa_text_reader::{FrontFault, parse};
-use std::alloc::{AllocError, Global};
+use ioa_workers::run;
+use std::alloc::Global;
 use std::fmt;
+use std::sync::{Arc, Wait};
+use std::thread::Threads;
 use thiserror::Error;
 
 /// Why a whole run wrote no report.
@@ -23,6 +28,8 @@ pub enum RunFault {
     Front(FrontFault),
     /// Numbers 20 to 34: the source describes no system.
     Check(CheckFault),
+    /// `Foreign` (55), `Unaccounted` (56) or `SharesMissing` (57): what several workers left could not be put together.
+    Finish(FinishFault),
     /// `Memory` (3): memory ran out.
     Memory,
     /// `Write` (71): the output failed, or took nothing more. A beginning of the report went out.
@@ -39,6 +46,7 @@ impl fmt::Display for RunFault {
         match self {
             RunFault::Front(fault) => write!(f, "{fault}"),
             RunFault::Check(fault) => write!(f, "{fault}"),
+            RunFault::Finish(fault) => write!(f, "{fault}"),
             RunFault::Memory => write!(f, "3 Memory"),
             RunFault::Write => write!(f, "71 Write"),
         }
@@ -73,23 +81,30 @@ impl From<CheckFault> for RunFault {
     }
 }
 
-impl From<AllocError> for RunFault {
+impl From<FinishFault> for RunFault {
     ghost use Rattle.std.specs.Prelude.{◌≡◌};
-    ghost use Rattle.ioa_pipeline.specs.declared.whole_run.RunFault.TheVariants.{Memory};
+    ghost use Rattle.ioa_pipeline.specs.WholeRun.{run_fault_of_finish};
 
-    ghost from_gives = { λ _ f. f ≡ Memory };
+    ghost from_gives = { λ e f. f ≡ run_fault_of_finish e };
 
-    fn from(_error: AllocError) -> Self {
-        RunFault::Memory
+    fn from(fault: FinishFault) -> Self {
+        match fault {
+            FinishFault::Memory => RunFault::Memory,
+            fault => RunFault::Finish(fault),
+        }
     }
 }
 
-/// Runs the system that a text describes, and writes the report.
-#[tactic(auto, using(crate::proofs::Reported::late))]
-pub fn run_system<O: Out>(
+/// Runs the system that a text describes, by as many workers as the options say, and writes the report. With one worker
+/// the run is on the calling thread; with several each has a thread of its own, and all of them have ended when this
+/// returns. The gate is called between the steps of the workers.
+#[tactic(auto, using(crate::proofs::Reported::late, crate::proofs::Reported::calm))]
+pub fn run_system<R: Threads + Wait + Sync, G: Gate + Sync, O: Out>(
+    rt: &R,
     alloc: Global,
     text: &str,
     options: &Options,
+    gate: &G,
     out: &mut O,
 ) -> Result<(), RunFault>
     requires { O.failed out.old ≡ false }
@@ -97,8 +112,10 @@ pub fn run_system<O: Out>(
         (O.bytes out.old) (O.bytes out.new) (O.failed out.new) result }
     ensures refused { IfErr result (λ f. IsRefusalOf f text.now) }
     ensures exact { IsExactFor result text.now }
+    // with one worker no fault is of finishing
+    ensures alone { IfErr result (λ f. IsFaultOfWorkers options.now.workers f) }
 {
-    let (system, record, endings) = run_of(alloc, text, options)?;
+    let (system, record, endings) = run_of(rt, alloc, text, options, gate)?;
     write_report(alloc, &system, &record, &endings, out)
 }
 
@@ -122,28 +139,36 @@ fn write_report<O: Out>(
 }
 
 /// The system that a text describes, what a run of it left, and how its nodes ended.
-fn run_of(
+fn run_of<R: Threads + Wait + Sync, G: Gate + Sync>(
+    rt: &R,
     alloc: Global,
     text: &str,
     options: &Options,
-) -> Result<(System, Record, Vec<Ending>), RunFault>
-    ensures left { IfOk result (λ r. IsLeftBy text.now options.now r.0 r.1 r.2.items) }
+    gate: &G,
+) -> Result<(Arc<System>, Record, Vec<Ending>), RunFault>
+    ensures left { IfOk result (λ r. IsLeftBy text.now options.now (arc_value r.0) r.1 r.2.items) }
     ensures early { IfErr result (λ f. IsEarly f) }
     ensures refused { IfErr result (λ f. IsRefusalOf f text.now) }
     ensures exact { IsExactFor result text.now }
+    ensures alone { IfErr result (λ f. IsFaultOfWorkers options.now.workers f) }
 {
     let system = system_of(alloc, text)?;
-    let (record, endings) = run(alloc, &system, options)?;
+    let (record, endings) = run(rt, alloc, &system, options, gate)?;
     Ok((system, record, endings))
 }
 
 /// The system that a text describes.
-fn system_of(alloc: Global, text: &str) -> Result<System, RunFault>
-    ensures described { IfOk result (IsDescribed text.now) }
+fn system_of(alloc: Global, text: &str) -> Result<Arc<System>, RunFault>
+    ensures described { IfOk result (λ s. IsDescribed text.now (arc_value s)) }
     ensures early { IfErr result (λ f. IsEarly f) }
     ensures refused { IfErr result (λ f. IsRefusalOf f text.now) }
     ensures exact { IsExactFor result text.now }
+    ensures calm { IfErr result (λ f. (workers : ℕ) → IsFaultOfWorkers workers f) }
 {
     let source = parse(alloc, text)?;
-    Ok(check(alloc, source.text())?)
+    let system = check(alloc, source.text())?;
+    match Arc::new(alloc, system) {
+        Ok(system) => Ok(system),
+        Err(_) => Err(RunFault::Memory),
+    }
 }

@@ -11,5 +11,8 @@ mod options;
 mod record;
 
 pub use ending::{Ending, NodeFault};
-pub use options::{DEFAULT_ATTEMPTS, DEFAULT_STEPS, GREATEST_ATTEMPTS, GREATEST_STEPS, Options};
+pub use options::{
+    DEFAULT_ATTEMPTS, DEFAULT_STEPS, DEFAULT_WORKERS, GREATEST_ATTEMPTS, GREATEST_STEPS,
+    GREATEST_WORKERS, Options,
+};
 pub use record::Record;

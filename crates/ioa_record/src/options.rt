@@ -2,9 +2,12 @@
 
 ghost use Rattle.std.specs.Prelude.{◌≡◌, ◌≤◌};
 ghost use Rattle.std.specs.Option.{SomeIff};
-ghost use Rattle.ioa_record.specs.Options.{AreInRange};
+ghost use Rattle.ioa_record.specs.Options.{AreInRange, plain_options};
 
 use std::marker::Model;
+
+/// The greatest number of workers of a run.
+pub const GREATEST_WORKERS: u64 = 64;
 
 /// The greatest number of steps of a run.
 pub const GREATEST_STEPS: u64 = 1_000_000;
@@ -12,16 +15,21 @@ pub const GREATEST_STEPS: u64 = 1_000_000;
 /// The greatest number of attempts of a node.
 pub const GREATEST_ATTEMPTS: u64 = 1_000_000;
 
+/// The number of workers of a run if none is given.
+pub const DEFAULT_WORKERS: u64 = 1;
+
 /// The number of steps of a run if none is given.
 pub const DEFAULT_STEPS: u64 = 10_000;
 
 /// The number of attempts of a node if none is given.
 pub const DEFAULT_ATTEMPTS: u64 = 1_000;
 
-/// What a run is told beside its text: how many steps its schedule may have, from 0 to [`GREATEST_STEPS`], and how many
-/// attempts each node has, from 1 to [`GREATEST_ATTEMPTS`]. A contract sees the two numbers.
+/// What a run is told beside its text: how many workers run the nodes, from 1 to [`GREATEST_WORKERS`]; how many steps
+/// its schedule may have, from 0 to [`GREATEST_STEPS`]; and how many attempts each node has, from 1 to
+/// [`GREATEST_ATTEMPTS`]. A contract sees the three numbers.
 #[derive(Clone, Copy, Debug, PartialEq, Eq)]
 pub struct Options {
+    workers: u64,
     steps: u64,
     attempts: u64,
 }
@@ -31,32 +39,46 @@ impl Model for Options {
 
     ghost Value = { PlainOptions };
 
-    ghost view = { λ o. record { steps = o.steps; attempts = o.attempts } };
+    ghost view = { λ o. record { workers = o.workers; steps = o.steps; attempts = o.attempts } };
 
-    ghost invariant = { λ o. AreInRange o.steps o.attempts };
+    ghost invariant = { λ o. AreInRange o.workers o.steps o.attempts };
 
-    ghost inverse = { λ s. record { steps = s.steps; attempts = s.attempts } };
+    ghost inverse = { λ s. record { workers = s.workers; steps = s.steps; attempts = s.attempts } };
 }
 
 impl Options {
     /// The options with these numbers.
-    pub fn new(steps: u64, attempts: u64) -> Self
-        requires { AreInRange steps attempts }
-        ensures { result ≡ record { steps = steps; attempts = attempts } }
+    pub fn new(workers: u64, steps: u64, attempts: u64) -> Self
+        requires { AreInRange workers steps attempts }
+        ensures { result ≡ plain_options workers steps attempts }
     {
-        Options { steps, attempts }
+        Options {
+            workers,
+            steps,
+            attempts,
+        }
     }
 
-    /// The options with these numbers, if both are in their range.
-    pub fn within(steps: u64, attempts: u64) -> Option<Self>
-        ensures { SomeIff result (AreInRange steps attempts)
-            (record { steps = steps; attempts = attempts }) }
+    /// The options with these numbers, if all are in their range.
+    pub fn within(workers: u64, steps: u64, attempts: u64) -> Option<Self>
+        ensures { SomeIff result (AreInRange workers steps attempts) (plain_options workers steps attempts) }
     {
-        if steps <= GREATEST_STEPS && (1..=GREATEST_ATTEMPTS).contains(&attempts) {
-            Some(Options::new(steps, attempts))
+        if (1..=GREATEST_WORKERS).contains(&workers)
+            && steps <= GREATEST_STEPS
+            && (1..=GREATEST_ATTEMPTS).contains(&attempts)
+        {
+            Some(Options::new(workers, steps, attempts))
         } else {
             None
         }
+    }
+
+    /// How many workers run the nodes.
+    pub fn workers(&self) -> u64
+        ensures value { result ≡ self.now.workers }
+        ensures range { (1 ≤ result) × (result ≤ GREATEST_WORKERS) }
+    {
+        self.workers
     }
 
     /// How many steps the schedule may have.
@@ -83,6 +105,6 @@ impl Default for Options {
     ghost is_default = { λ o. o ≡ default_options };
 
     fn default() -> Self {
-        Options::new(DEFAULT_STEPS, DEFAULT_ATTEMPTS)
+        Options::new(DEFAULT_WORKERS, DEFAULT_STEPS, DEFAULT_ATTEMPTS)
     }
 }

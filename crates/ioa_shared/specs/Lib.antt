@@ -3,6 +3,7 @@ pub mod Passes
 pub mod Looks
 pub mod Attempts
 pub mod Finish
+pub mod Openings
 pub mod Texts
 pub mod SomeBook
 pub mod PassLaws

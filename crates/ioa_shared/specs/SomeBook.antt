@@ -12,6 +12,7 @@ use Rattle.ioa_system.specs.Systems.{SystemParts}
 use Rattle.ioa_shared.specs.Attempts.{IsMissed, IsTaken}
 use Rattle.ioa_shared.specs.Finish.{IsFinished, IsUnfinished}
 use Rattle.ioa_shared.specs.Looks.{view_answer}
+use Rattle.ioa_shared.specs.Openings.{BeginsAt}
 use Rattle.ioa_shared.specs.Passes.{PlainPass}
 use Rattle.ioa_shared.specs.declared.finish.FinishFault.{FinishFault}
 use Rattle.ioa_shared.specs.declared.outcome.Miss.{Miss}
@@ -23,6 +24,11 @@ pub record LooksAtSome (p : PlainPass) (n : ℤ) (told : Result PlainSnapshot Vi
   pub found : PlainBook
   pub lawful : IsLawful found
   pub look : Answers Memory (λ s. s) told (view_answer found p n)
+
+-- some lawful book begins at the start of a system
+pub record BeginsSome (s : SystemParts) : Type 0 where
+  pub found : PlainBook
+  pub begins : BeginsAt s found
 
 -- a commit that some lawful book has made, and is lawful after it
 pub record TakesInSome (x : PlainProposal) (p : PlainPass) (index : ℕ) (e : PlainEntry) (q : PlainPass) : Type 0 where

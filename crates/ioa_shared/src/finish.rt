@@ -3,7 +3,9 @@
 ghost use Rattle.std.specs.Prelude.{◌≡◌, ◌↔◌, IfErr, IfOk, IsTrue, OnOk, length};
 ghost use Rattle.ioa_commits.specs.Books.{states_held};
 ghost use Rattle.ioa_book.specs.BookLaws.{IsLawful};
+ghost use Rattle.ioa_compose.specs.Start.{start};
 ghost use Rattle.ioa_receipts.specs.Covers.{CoversOnce, all_receipts};
+ghost use Rattle.ioa_sharing.specs.Named.{shared_of_value};
 ghost use Rattle.ioa_shared.specs.Finish.{CanFinish, IsBookOf, IsFinished, IsLeftBy, IsUnaccounted, IsUnfinished};
 
 use crate::held::Held;
@@ -11,7 +13,7 @@ use crate::share::{Share, counts_of, whole_of};
 use ioa_compose::Conf;
 use ioa_receipts::{Receipts, covers};
 use ioa_record::Record;
-use ioa_sharing::Origin;
+use ioa_sharing::{Origin, SharedOf};
 use ioa_starts::is_start;
 use ioa_system::System;
 use std::alloc::{AllocError, Global};
@@ -79,15 +81,15 @@ impl<O: Origin, L: Ledger> Held<O, L> {
     pub fn finish(
         self,
         alloc: Global,
-        system: &System,
+        system: &SharedOf<O, System, Global>,
         limit: usize,
         shares: Vec<Share<L>>,
         receipts: Vec<Receipts>,
     ) -> Result<Record, Unfinished<Self, L>>
         ensures finished { IfOk result (λ r.
-            IsFinished self system.now limit L.parts shares.items receipts.items r) }
+            IsFinished self (shared_of_value system.now) limit L.parts shares.items receipts.items r) }
         ensures unfinished { IfErr result (λ u.
-            IsUnfinished self system.now limit L.parts shares.items receipts.items u.fault) }
+            IsUnfinished self (shared_of_value system.now) limit L.parts shares.items receipts.items u.fault) }
         ensures object { IfErr result (λ u. u.object ≡ self) }
         ensures shares { IfErr result (λ u. u.shares.items ≡ shares.items) }
         ensures receipts { IfErr result (λ u. u.receipts.items ≡ receipts.items) }
@@ -109,17 +111,17 @@ impl<O: Origin, L: Ledger> Held<O, L> {
     fn lists(
         &self,
         alloc: Global,
-        system: &System,
+        system: &SharedOf<O, System, Global>,
         limit: usize,
         shares: &[Share<L>],
         receipts: &[Receipts],
     ) -> Result<(Vec<Conf>, Vec<u64>), FinishFault>
         ensures finishes { OnOk result
-            (CanFinish self.now system.now limit L.parts shares.now receipts.now) }
+            (CanFinish self.now (shared_of_value system.now) limit L.parts shares.now receipts.now) }
         ensures states { IfOk result (λ t. t.0.items ≡ states_held self.now) }
         ensures commits { IfOk result (λ t. t.1.items ≡ shares.now) }
         ensures unfinished { IfErr result (λ f.
-            IsUnfinished self.now system.now limit L.parts shares.now receipts.now f) }
+            IsUnfinished self.now (shared_of_value system.now) limit L.parts shares.now receipts.now f) }
     {
         if !self.is_of(system, limit) {
             Err(FinishFault::Foreign)
@@ -131,10 +133,18 @@ impl<O: Origin, L: Ledger> Held<O, L> {
     }
 
     /// Whether the book is of this system, with this limit. Takes no memory.
-    fn is_of(&self, system: &System, limit: usize) -> bool
-        ensures { IsTrue result ↔ IsBookOf self.now system.now limit }
+    fn is_of(&self, system: &SharedOf<O, System, Global>, limit: usize) -> bool
+        ensures { IsTrue result ↔ IsBookOf self.now (shared_of_value system.now) limit }
     {
-        self.book.limit() == limit && is_start(system, self.book.start())
+        self.book.limit() == limit && self.begins_at(system)
+    }
+
+    /// Whether the book begins at the start of a system. That is known at once of the system with which it was opened.
+    /// Else the configurations at its start are compared, and that takes long where types share their fields.
+    fn begins_at(&self, system: &SharedOf<O, System, Global>) -> bool
+        ensures { IsTrue result ↔ (self.now.start ≡ start (shared_of_value system.now)) }
+    {
+        self.is_opened_with(system) || is_start(system.get(), self.book.start())
     }
 
     /// Whether these are as many shares as there were at the opening. Then they count all that was committed.

@@ -1,10 +1,12 @@
 //! What stands under the commit lock.
 
-ghost use Rattle.std.specs.Prelude.{◌≡◌, ◌<◌, ◌≤◌, ◌+◌, ◌%◌, [], IfErr, IfOk, None, OnErr, OnOk, Some};
+ghost use Rattle.std.specs.Prelude.{◌≡◌, ◌<◌, ◌≤◌, ◌+◌, ◌%◌, [], IfErr, IfOk, IsTrue, None, OnErr, OnOk, Some};
 ghost use Rattle.std.specs.Prelude.{if◌then◌else◌, length, nat_eq, replicate};
 ghost use Rattle.ioa_book.specs.BookLaws.{IsLawful};
 ghost use Rattle.ioa_commits.specs.Books.{plain_book};
 ghost use Rattle.ioa_compose.specs.Start.{start};
+ghost use Rattle.ioa_sharing.specs.Named.{shared_of_value};
+ghost use Rattle.ioa_shared.specs.Openings.{BeginsAt};
 ghost use Rattle.ioa_shared.specs.Attempts.{IsMissed, IsTaken, commits, risen_by_refusal};
 ghost use Rattle.ioa_shared.specs.Looks as spec;
 ghost use Rattle.ioa_shared.specs.Looks.{pass_after, view_answer};
@@ -18,7 +20,7 @@ use ioa_book::{Book, CommitRefusal, LookFault, Proposal, Snapshot};
 use ioa_commits::Committed;
 use ioa_rawlog::Spare;
 use ioa_receipts::Receipt;
-use ioa_sharing::{MakerOf, Origin};
+use ioa_sharing::{MakerOf, Origin, SharedOf};
 use ioa_system::System;
 use ioa_transitions::Entry;
 use std::alloc::{AllocError, Global};
@@ -26,12 +28,13 @@ use std::marker::Model;
 use std::sync::ledger;
 use std::sync::ledger::{Blank, Ledger};
 
-/// A book with the sum of the commits of all shares. A contract sees the book. The type keeps the book's law, and that
-/// the sum is the length of its log.
+/// A book with the sum of the commits of all shares, and the system with which it was opened. A contract sees the book.
+/// The type keeps the book's law, that it begins at the start of the system, and that the sum is the length of its log.
 #[derive(Drop)]
 pub struct Held<O: Origin, L: Ledger> {
     pub(crate) book: Book<O>,
     pub(crate) total: ledger::Book<L>,
+    pub(crate) system: SharedOf<O, System, Global>,
     /// How many shares there are.
     pub(crate) parts: u64,
 }
@@ -39,6 +42,8 @@ pub struct Held<O: Origin, L: Ledger> {
 impl<O: Origin, L: Ledger> Model for Held<O, L> {
     ghost use Rattle.std.specs.Prelude.{◌≡◌, ◌<◌, length};
     ghost use Rattle.ioa_commits.specs.Books.{PlainBook, plain_book_code};
+    ghost use Rattle.ioa_compose.specs.Start.{start};
+    ghost use Rattle.ioa_sharing.specs.Named.{shared_of_value};
 
     ghost Value = { PlainBook };
 
@@ -46,17 +51,18 @@ impl<O: Origin, L: Ledger> Model for Held<O, L> {
 
     ghost view = { λ h. h.book };
 
-    ghost invariant = { λ h. (h.total.total ≡ length h.book.log) × (h.parts ≡ L.parts) × (0 < h.parts) };
+    ghost invariant = { λ h. (h.total.total ≡ length h.book.log) × (h.parts ≡ L.parts) × (0 < h.parts)
+        × (h.book.start ≡ start (shared_of_value h.system)) };
 }
 
 impl<O: Origin, L: Ledger> Held<O, L> {
     /// The book of a system in which nothing is recorded yet, and so many shares, each of which counts nothing yet. The
-    /// maker gives what the book holds its numbers, and the blank is spent.
+    /// maker gives what the book holds its numbers, and has given the system one. The blank is spent.
     pub fn open(
         alloc: Global,
         maker: MakerOf<O>,
         blank: Blank,
-        system: &System,
+        system: &SharedOf<O, System, Global>,
         limit: usize,
         workers: u64,
     ) -> Result<(Self, Vec<Share<L>>), AllocError>
@@ -64,14 +70,30 @@ impl<O: Origin, L: Ledger> Held<O, L> {
         requires name { blank.name ≡ L.name }
         requires parts { blank.parts ≡ L.parts }
         requires workers { (workers ≡ L.parts) × (0 < workers) }
-        ensures book { IfOk result (λ r. r.0 ≡ plain_book (start system.now) [] limit) }
+        ensures book { IfOk result (λ r. r.0 ≡ plain_book (start (shared_of_value system.now)) [] limit) }
         ensures shares { IfOk result (λ r. r.1.items ≡ replicate workers 0) }
     {
-        let book = Book::new(alloc, maker, system, limit)?;
+        let system = system.try_clone()?;
+        let book = Book::new(alloc, maker, system.get(), limit)?;
         let (total, share) = blank.open();
         let shares = shares_of(alloc, share, workers)?;
         let parts = workers;
-        Ok((Held { book, total, parts }, shares))
+        let held = Held {
+            book,
+            total,
+            system,
+            parts,
+        };
+        Ok((held, shares))
+    }
+
+    /// Whether this is the system with which the book was opened, by its number, in constant time. It is false of another
+    /// system, and also of an equal one that was given another number.
+    pub fn is_opened_with(&self, system: &SharedOf<O, System, Global>) -> bool
+        ensures { IsTrue result → BeginsAt (shared_of_value system.now) self.now }
+    {
+        let _law = self.book.log();
+        self.system.is_shared(system)
     }
 
     /// A look at a node. `Unknown` (53) if there is no such node; `Older` (54) if what it would show is older than the

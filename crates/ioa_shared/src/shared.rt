@@ -1,11 +1,12 @@
 //! The commit lock.
 
-ghost use Rattle.std.specs.Prelude.{◌≡◌, ◌+◌, ◌<◌, ◌≤◌, IfErr, IfOk, OnErr, OnOk, Some, replicate};
+ghost use Rattle.std.specs.Prelude.{◌≡◌, ◌+◌, ◌<◌, ◌≤◌, IfErr, IfOk, IsTrue, OnErr, OnOk, Some, replicate};
+ghost use Rattle.ioa_sharing.specs.Named.{shared_of_value};
 ghost use Rattle.ioa_sharing.specs.Shared.{maker_name};
 ghost use Rattle.ioa_shared.specs.Attempts.{commits};
 ghost use Rattle.ioa_shared.specs.Looks.{pass_after, told_again};
 ghost use Rattle.ioa_shared.specs.Passes.{risen_by_look};
-ghost use Rattle.ioa_shared.specs.SomeBook.{FinishesSome, LeavesSome, LooksAtSome, MissesInSome, TakesInSome};
+ghost use Rattle.ioa_shared.specs.SomeBook.{BeginsSome, FinishesSome, LeavesSome, LooksAtSome, MissesInSome, TakesInSome};
 
 use crate::finish::Unfinished;
 use crate::held::Held;
@@ -16,7 +17,7 @@ use ioa_book::{Proposal, Snapshot};
 use ioa_rawlog::Spare;
 use ioa_receipts::Receipts;
 use ioa_record::Record;
-use ioa_sharing::{MakerOf, Origin};
+use ioa_sharing::{MakerOf, Origin, SharedOf};
 use ioa_system::System;
 use ioa_transitions::Entry;
 use std::alloc::{AllocError, Global};
@@ -31,6 +32,13 @@ pub struct Shared<O: Origin, L: Ledger> {
 }
 
 impl<O: Origin, L: Ledger> Shared<O, L> {
+    /// Whether this is the system with which the book was opened, as of [`Held::is_opened_with`], while the lock is held.
+    pub fn is_opened_with(&self, rt: &impl Wait, system: &SharedOf<O, System, Global>) -> bool
+        ensures { IsTrue result → BeginsSome (shared_of_value system.now) }
+    {
+        self.held.lock(rt).is_opened_with(system)
+    }
+
     /// A look at a node, as of [`Held::look`], while the lock is held.
     pub fn look(
         &self,
@@ -83,15 +91,15 @@ impl<O: Origin, L: Ledger> Shared<O, L> {
     pub fn finish(
         self,
         alloc: Global,
-        system: &System,
+        system: &SharedOf<O, System, Global>,
         limit: usize,
         shares: Vec<Share<L>>,
         receipts: Vec<Receipts>,
     ) -> Result<Record, Unfinished<Self, L>>
         ensures finished { IfOk result (λ r.
-            FinishesSome system.now limit L.parts shares.items receipts.items r) }
+            FinishesSome (shared_of_value system.now) limit L.parts shares.items receipts.items r) }
         ensures unfinished { IfErr result (λ u.
-            LeavesSome system.now limit L.parts shares.items receipts.items u.fault) }
+            LeavesSome (shared_of_value system.now) limit L.parts shares.items receipts.items u.fault) }
         ensures shares { IfErr result (λ u. u.shares.items ≡ shares.items) }
         ensures receipts { IfErr result (λ u. u.receipts.items ≡ receipts.items) }
     {
@@ -122,12 +130,13 @@ impl<O: Origin, L: Ledger> Shared<O, L> {
 }
 
 /// The book of a system in which nothing is recorded yet, under a lock, and a share for each worker, each of which
-/// counts nothing yet. The maker gives what the book holds its numbers, and the blank is spent.
+/// counts nothing yet. The maker gives what the book holds its numbers, and has given the system one. The blank is
+/// spent.
 pub fn open<O: Origin, L: Ledger>(
     alloc: Global,
     maker: MakerOf<O>,
     blank: Blank,
-    system: &System,
+    system: &SharedOf<O, System, Global>,
     limit: usize,
     workers: u64,
 ) -> Result<(Shared<O, L>, Vec<Share<L>>), AllocError>

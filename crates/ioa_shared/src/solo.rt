@@ -1,13 +1,15 @@
 //! The book of one worker.
 
-ghost use Rattle.std.specs.Prelude.{◌≡◌, ◌≤◌, ◌+◌, ◌%◌, [], IfErr, IfOk, None, OnErr, OnOk, Some};
+ghost use Rattle.std.specs.Prelude.{◌≡◌, ◌≤◌, ◌+◌, ◌%◌, [], IfErr, IfOk, IsTrue, None, OnErr, OnOk, Some};
 ghost use Rattle.std.specs.Prelude.{if◌then◌else◌, length, nat_eq};
 ghost use Rattle.ioa_book.specs.BookLaws.{IsLawful};
 ghost use Rattle.ioa_commits.specs.Books.{plain_book};
 ghost use Rattle.ioa_compose.specs.Start.{start};
+ghost use Rattle.ioa_sharing.specs.Named.{shared_of_value};
 ghost use Rattle.ioa_shared.specs.Attempts.{IsMissed, IsTaken, commits};
 ghost use Rattle.ioa_shared.specs.Finish.{IsFinished, IsUnfinished};
 ghost use Rattle.ioa_shared.specs.Looks.{pass_after, view_answer};
+ghost use Rattle.ioa_shared.specs.Openings.{BeginsAt};
 ghost use Rattle.ioa_shared.specs.Passes.{risen_by_look};
 ghost use Rattle.ioa_values.specs.Outcome.{Answers};
 
@@ -20,7 +22,7 @@ use ioa_book::{Proposal, Snapshot};
 use ioa_rawlog::Spare;
 use ioa_receipts::Receipts;
 use ioa_record::Record;
-use ioa_sharing::{MakerOf, Origin};
+use ioa_sharing::{MakerOf, Origin, SharedOf};
 use ioa_system::System;
 use ioa_transitions::Entry;
 use std::alloc::{AllocError, Global};
@@ -45,19 +47,19 @@ impl<O: Origin, L: Ledger> Model for Solo<O, L> {
 
 impl<O: Origin, L: Ledger> Solo<O, L> {
     /// The book of a system in which nothing is recorded yet, and the one share. The maker gives what the book holds
-    /// its numbers, and the blank is spent.
+    /// its numbers, and has given the system one. The blank is spent.
     pub fn open(
         alloc: Global,
         maker: MakerOf<O>,
         blank: Blank,
-        system: &System,
+        system: &SharedOf<O, System, Global>,
         limit: usize,
     ) -> Result<(Self, Share<L>), AllocError>
         requires limit { limit ≤ 1000000 }
         requires name { blank.name ≡ L.name }
         requires parts { blank.parts ≡ L.parts }
         requires one { L.parts ≡ 1 }
-        ensures book { IfOk result (λ r. r.0 ≡ plain_book (start system.now) [] limit) }
+        ensures book { IfOk result (λ r. r.0 ≡ plain_book (start (shared_of_value system.now)) [] limit) }
         ensures share { IfOk result (λ r. r.1 ≡ 0) }
     {
         let (held, mut shares) = Held::open(alloc, maker, blank, system, limit, 1)?;
@@ -65,6 +67,13 @@ impl<O: Origin, L: Ledger> Solo<O, L> {
             Some(share) => Ok((Solo { held }, share)),
             None => unreachable!(),
         }
+    }
+
+    /// Whether this is the system with which the book was opened, as of [`Held::is_opened_with`].
+    pub fn is_opened_with(&self, system: &SharedOf<O, System, Global>) -> bool
+        ensures { IsTrue result → BeginsAt (shared_of_value system.now) self.now }
+    {
+        self.held.is_opened_with(system)
     }
 
     /// A look at a node, as of [`Held::look`].
@@ -113,15 +122,15 @@ impl<O: Origin, L: Ledger> Solo<O, L> {
     pub fn finish(
         self,
         alloc: Global,
-        system: &System,
+        system: &SharedOf<O, System, Global>,
         limit: usize,
         shares: Vec<Share<L>>,
         receipts: Vec<Receipts>,
     ) -> Result<Record, Unfinished<Self, L>>
         ensures finished { IfOk result (λ r.
-            IsFinished self system.now limit L.parts shares.items receipts.items r) }
+            IsFinished self (shared_of_value system.now) limit L.parts shares.items receipts.items r) }
         ensures unfinished { IfErr result (λ u.
-            IsUnfinished self system.now limit L.parts shares.items receipts.items u.fault) }
+            IsUnfinished self (shared_of_value system.now) limit L.parts shares.items receipts.items u.fault) }
         ensures object { IfErr result (λ u. u.object ≡ self) }
         ensures shares { IfErr result (λ u. u.shares.items ≡ shares.items) }
         ensures receipts { IfErr result (λ u. u.receipts.items ≡ receipts.items) }

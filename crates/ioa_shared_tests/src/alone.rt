@@ -11,6 +11,7 @@ use ioa_sharing::{Maker, MakerOf, Origin};
 use ioa_system::System;
 use std::alloc::{AllocError, Global};
 use std::marker::Brand;
+use std::sync::Arc;
 use std::sync::ledger::{Blank, Ledger};
 use std::test::Fail;
 
@@ -28,18 +29,20 @@ fn works_alone<O: Origin, L: Ledger>(
     alloc: Global,
     maker: Maker,
     blank: Blank,
-    system: &System,
+    system: &Arc<System>,
 ) -> Result<bool, Fail>
     requires maker { maker_name maker ≡ O.name }
     requires name { blank.name ≡ L.name }
     requires parts { (blank.parts ≡ L.parts) × (L.parts ≡ 1) }
 {
-    let (mut solo, mut share) = Solo::<O, L>::open(alloc, MakerOf::of(maker), blank, system, 10)?;
-    let mut pass = Pass::new(alloc, system)?;
+    let mut maker: MakerOf<O> = MakerOf::of(maker);
+    let system = maker.share(Arc::try_clone(system)?);
+    let (mut solo, mut share) = Solo::<O, L>::open(alloc, maker, blank, &system, 10)?;
+    let mut pass = Pass::new(alloc, system.get())?;
     let receipts = sends(alloc, &mut solo, &mut pass, &mut share)?;
     let (shares, all) = (only(alloc, share)?, only(alloc, receipts)?);
     let record = solo
-        .finish(alloc, system, 10, shares, all)
+        .finish(alloc, &system, 10, shares, all)
         .ok()
         .ok_or("not finished")?;
     Ok(

@@ -7,7 +7,7 @@ use ioa_actions::Action;
 use ioa_book::{Proposal, Snapshot};
 use ioa_rawlog::Spare;
 use ioa_shared::{Miss, Pass, Receipts, Share, Shared, ViewFault, open};
-use ioa_sharing::{MakerOf, Origin};
+use ioa_sharing::{MakerOf, Origin, SharedOf};
 use ioa_system::System;
 use std::alloc::Global;
 use std::sync::ledger::{Blank, Ledger};
@@ -31,12 +31,12 @@ pub(crate) enum Tried {
     Missed(Miss),
 }
 
-/// The desk of a new book of a system.
+/// The desk of a new book of a system that the maker has numbered.
 pub(crate) fn desk_of<O: Origin, L: Ledger>(
     alloc: Global,
     maker: MakerOf<O>,
     blank: Blank,
-    system: &System,
+    system: &SharedOf<O, System, Global>,
     limit: usize,
 ) -> Result<Desk<O, L>, Fail>
     requires limit { limit ≤ 1000000 }

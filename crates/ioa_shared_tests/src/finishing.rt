@@ -7,12 +7,12 @@ use crate::desk::{Desk, desk_of};
 use crate::texts::{LIST, PING, send, system};
 use ioa_record::Record;
 use ioa_shared::{FinishFault, Pass, Receipt, Receipts, Share, Shared};
-use ioa_sharing::{Maker, MakerOf, Origin};
+use ioa_sharing::{Maker, MakerOf, Origin, SharedOf};
 use ioa_system::System;
 use std::alloc::Global;
 use std::marker::Brand;
-use std::sync::Wait;
 use std::sync::ledger::{Blank, Ledger};
+use std::sync::{Arc, Wait};
 use std::test::Fail;
 
 #[test]
@@ -28,7 +28,15 @@ fn a_book_is_finished_only_whole(rt: HostRuntime) -> Result<(), Fail> {
         &list,
         &ping,
     )?;
-    assert!(rt; right);
+    let by_value = is_finished_by_value::<Brand, Brand, HostRuntime>(
+        &rt,
+        alloc,
+        Maker::new(),
+        Blank::new(1),
+        &list,
+        &ping,
+    )?;
+    assert!(rt; right && by_value);
     Ok(())
 }
 
@@ -45,7 +53,7 @@ impl<O: Origin, L: Ledger> Whole<O, L> {
     pub(crate) fn refused(
         self,
         alloc: Global,
-        system: &System,
+        system: &SharedOf<O, System, Global>,
         limit: usize,
         wanted: FinishFault,
     ) -> Result<Self, Fail> {
@@ -73,7 +81,7 @@ impl<O: Origin, L: Ledger> Whole<O, L> {
     pub(crate) fn finish(
         self,
         alloc: Global,
-        system: &System,
+        system: &SharedOf<O, System, Global>,
         limit: usize,
     ) -> Result<Record, Fail> {
         let Whole {
@@ -96,41 +104,75 @@ fn is_finished_whole<O: Origin, L: Ledger, R: Wait>(
     alloc: Global,
     maker: Maker,
     blank: Blank,
-    list: &System,
-    ping: &System,
+    list: &Arc<System>,
+    ping: &Arc<System>,
 ) -> Result<bool, Fail>
     requires maker { maker_name maker ≡ O.name }
     requires name { blank.name ≡ L.name }
     requires parts { (blank.parts ≡ L.parts) × (L.parts ≡ 1) }
 {
-    let whole: Whole<O, L> = committed_once(rt, alloc, maker, blank, list)?;
-    let whole = whole.refused(alloc, ping, 10, FinishFault::Foreign)?;
-    let mut whole = whole.refused(alloc, list, 11, FinishFault::Foreign)?;
+    let mut maker: MakerOf<O> = MakerOf::of(maker);
+    let list = maker.share(Arc::try_clone(list)?);
+    let ping = maker.share(Arc::try_clone(ping)?);
+    let whole: Whole<O, L> = committed_once(rt, alloc, maker, blank, &list)?;
+    let whole = whole.refused(alloc, &ping, 10, FinishFault::Foreign)?;
+    let mut whole = whole.refused(alloc, &list, 11, FinishFault::Foreign)?;
     let receipts = whole.receipts.pop().ok_or("no receipts")?;
-    let mut whole = whole.refused(alloc, list, 10, FinishFault::Unaccounted)?;
+    let mut whole = whole.refused(alloc, &list, 10, FinishFault::Unaccounted)?;
     whole.receipts.push(twice(alloc, &receipts)?)?;
-    let mut whole = whole.refused(alloc, list, 10, FinishFault::Unaccounted)?;
+    let mut whole = whole.refused(alloc, &list, 10, FinishFault::Unaccounted)?;
     whole.receipts.clear();
     whole.receipts.push(receipts)?;
-    let record = whole.finish(alloc, list, 10)?;
-    Ok(record.schedule.len() == 1 && record.commits.as_slice() == [1].as_slice())
+    let record = whole.finish(alloc, &list, 10)?;
+    Ok(has_one_commit(&record))
+}
+
+/// Whether a book with one commit knows its own system by the number alone, and is finished with an equal one that has
+/// another number.
+fn is_finished_by_value<O: Origin, L: Ledger, R: Wait>(
+    rt: &R,
+    alloc: Global,
+    maker: Maker,
+    blank: Blank,
+    list: &Arc<System>,
+    ping: &Arc<System>,
+) -> Result<bool, Fail>
+    requires maker { maker_name maker ≡ O.name }
+    requires name { blank.name ≡ L.name }
+    requires parts { (blank.parts ≡ L.parts) × (L.parts ≡ 1) }
+{
+    let mut maker: MakerOf<O> = MakerOf::of(maker);
+    let own = maker.share(Arc::try_clone(list)?);
+    let equal = maker.share(Arc::try_clone(list)?);
+    let other = maker.share(Arc::try_clone(ping)?);
+    let whole: Whole<O, L> = committed_once(rt, alloc, maker, blank, &own)?;
+    let shared = &whole.shared;
+    let knows = shared.is_opened_with(rt, &own)
+        && !shared.is_opened_with(rt, &equal)
+        && !shared.is_opened_with(rt, &other);
+    let record = whole.finish(alloc, &equal, 10)?;
+    Ok(knows && has_one_commit(&record))
+}
+
+/// Whether a record of one worker has one commit.
+fn has_one_commit(record: &Record) -> bool {
+    record.schedule.len() == 1 && record.commits.as_slice() == [1].as_slice()
 }
 
 /// A book of lists in which node 0 has sent once.
 fn committed_once<O: Origin, L: Ledger, R: Wait>(
     rt: &R,
     alloc: Global,
-    maker: Maker,
+    maker: MakerOf<O>,
     blank: Blank,
-    system: &System,
+    system: &SharedOf<O, System, Global>,
 ) -> Result<Whole<O, L>, Fail>
-    requires maker { maker_name maker ≡ O.name }
     requires name { blank.name ≡ L.name }
     requires parts { (blank.parts ≡ L.parts) × (L.parts ≡ 1) }
 {
-    let mut desk: Desk<O, L> = desk_of(alloc, MakerOf::of(maker), blank, system, 10)?;
-    let proposal = desk.proposal(rt, alloc, system, &send(alloc, 7)?)?;
-    let _committed = desk.attempt(rt, alloc, &mut Pass::new(alloc, system)?, proposal)?;
+    let mut desk: Desk<O, L> = desk_of(alloc, maker, blank, system, 10)?;
+    let proposal = desk.proposal(rt, alloc, system.get(), &send(alloc, 7)?)?;
+    let _committed = desk.attempt(rt, alloc, &mut Pass::new(alloc, system.get())?, proposal)?;
     let Desk {
         shared,
         share,

@@ -11,14 +11,14 @@ use ioa_book::{Proposal, Snapshot};
 use ioa_compose::Conf;
 use ioa_rawlog::Spare;
 use ioa_shared::{FinishFault, Pass, Receipts, Share, Shared, open};
-use ioa_sharing::{Maker, MakerOf, Origin};
+use ioa_sharing::{Maker, MakerOf, Origin, SharedOf};
 use ioa_system::System;
 use ioa_transitions::Entry;
 use ioa_values::Value;
 use std::alloc::{AllocError, Global};
 use std::marker::Brand;
-use std::sync::Wait;
 use std::sync::ledger::{Blank, Ledger};
+use std::sync::{Arc, Wait};
 use std::test::Fail;
 use std::thread;
 use std::thread::Threads;
@@ -53,18 +53,20 @@ fn are_fresh<O: Origin + Send + Sync, L: Ledger + Send + Sync, R: Threads + Wait
     alloc: Global,
     maker: Maker,
     blank: Blank,
-    system: &System,
+    system: &Arc<System>,
 ) -> Result<bool, Fail>
     requires maker { maker_name maker ≡ O.name }
     requires name { blank.name ≡ L.name }
     requires parts { (blank.parts ≡ L.parts) × (L.parts ≡ 2) }
 {
-    let (shared, shares) = open::<O, L>(alloc, MakerOf::of(maker), blank, system, 10, 2)?;
-    let mut slots = slots_of(alloc, system, shares)?;
+    let mut maker: MakerOf<O> = MakerOf::of(maker);
+    let system = maker.share(Arc::try_clone(system)?);
+    let (shared, shares) = open::<O, L>(alloc, maker, blank, &system, 10, 2)?;
+    let mut slots = slots_of(alloc, system.get(), shares)?;
     run_slots(rt, &shared, alloc, slots.as_mut_slice());
     let are_right = slots.iter().all(|slot| slot.is_right);
     let whole = gathered(alloc, shared, slots)?;
-    Ok(are_right && is_finished(alloc, system, whole)?)
+    Ok(are_right && is_finished(alloc, &system, whole)?)
 }
 
 /// What the workers had, put together.
@@ -89,7 +91,7 @@ fn gathered<O: Origin, L: Ledger>(
 /// Whether the book is finished with both shares, and not with the first alone.
 fn is_finished<O: Origin, L: Ledger>(
     alloc: Global,
-    system: &System,
+    system: &SharedOf<O, System, Global>,
     mut whole: Whole<O, L>,
 ) -> Result<bool, Fail> {
     let second = whole.shares.pop().ok_or("no share")?;

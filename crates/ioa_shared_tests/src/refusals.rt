@@ -93,18 +93,20 @@ fn is_stale<O: Origin, L: Ledger, R: Wait>(
     alloc: Global,
     maker: Maker,
     blank: Blank,
-    system: &System,
+    system: &Arc<System>,
 ) -> Result<bool, Fail>
     requires maker { maker_name maker ≡ O.name }
     requires name { blank.name ≡ L.name }
     requires parts { (blank.parts ≡ L.parts) × (L.parts ≡ 1) }
 {
-    let mut desk: Desk<O, L> = desk_of(alloc, MakerOf::of(maker), blank, system, 10)?;
+    let mut maker: MakerOf<O> = MakerOf::of(maker);
+    let system = maker.share(Arc::try_clone(system)?);
+    let mut desk: Desk<O, L> = desk_of(alloc, maker, blank, &system, 10)?;
     let action = send(alloc, 7)?;
-    let first = desk.proposal(rt, alloc, system, &action)?;
-    let second = desk.proposal(rt, alloc, system, &action)?;
-    let committed = desk.attempt(rt, alloc, &mut Pass::new(alloc, system)?, first)?;
-    let mut pass = Pass::new(alloc, system)?;
+    let first = desk.proposal(rt, alloc, system.get(), &action)?;
+    let second = desk.proposal(rt, alloc, system.get(), &action)?;
+    let committed = desk.attempt(rt, alloc, &mut Pass::new(alloc, system.get())?, first)?;
+    let mut pass = Pass::new(alloc, system.get())?;
     let missed = desk.attempt(rt, alloc, &mut pass, second)?;
     let stale = CommitRefusal::Stale {
         component: CHANNEL,
@@ -142,15 +144,17 @@ fn is_full<O: Origin, L: Ledger, R: Wait>(
     alloc: Global,
     maker: Maker,
     blank: Blank,
-    system: &System,
+    system: &Arc<System>,
 ) -> Result<bool, Fail>
     requires maker { maker_name maker ≡ O.name }
     requires name { blank.name ≡ L.name }
     requires parts { (blank.parts ≡ L.parts) × (L.parts ≡ 1) }
 {
-    let mut desk: Desk<O, L> = desk_of(alloc, MakerOf::of(maker), blank, system, 0)?;
-    let proposal = desk.proposal(rt, alloc, system, &send(alloc, 7)?)?;
-    let missed = desk.attempt(rt, alloc, &mut Pass::new(alloc, system)?, proposal)?;
+    let mut maker: MakerOf<O> = MakerOf::of(maker);
+    let system = maker.share(Arc::try_clone(system)?);
+    let mut desk: Desk<O, L> = desk_of(alloc, maker, blank, &system, 0)?;
+    let proposal = desk.proposal(rt, alloc, system.get(), &send(alloc, 7)?)?;
+    let missed = desk.attempt(rt, alloc, &mut Pass::new(alloc, system.get())?, proposal)?;
     Ok(missed == Tried::Missed(Miss::Refused(CommitRefusal::Full)) && desk.share.count() == 0)
 }
 
@@ -162,16 +166,17 @@ fn comes_to<O: Origin, L: Ledger, R: Wait>(
     blank: Blank,
     of: &System,
     action: &Arc<Action>,
-    other: &System,
+    other: &Arc<System>,
     wanted: CommitRefusal,
 ) -> Result<bool, Fail>
     requires maker { maker_name maker ≡ O.name }
     requires name { blank.name ≡ L.name }
     requires parts { (blank.parts ≡ L.parts) × (L.parts ≡ 1) }
 {
-    let (proposal, maker) = proposal_of::<O>(alloc, MakerOf::of(maker), of, action)?;
-    let mut desk: Desk<O, L> = desk_of(alloc, maker, blank, other, 10)?;
-    let missed = desk.attempt(rt, alloc, &mut Pass::new(alloc, other)?, proposal)?;
+    let (proposal, mut maker) = proposal_of::<O>(alloc, MakerOf::of(maker), of, action)?;
+    let other = maker.share(Arc::try_clone(other)?);
+    let mut desk: Desk<O, L> = desk_of(alloc, maker, blank, &other, 10)?;
+    let missed = desk.attempt(rt, alloc, &mut Pass::new(alloc, other.get())?, proposal)?;
     Ok(missed == Tried::Missed(Miss::Refused(wanted)) && desk.share.count() == 0)
 }
 
@@ -199,15 +204,17 @@ fn risen<O: Origin, L: Ledger, R: Wait>(
     alloc: Global,
     maker: Maker,
     blank: Blank,
-    system: &System,
+    system: &Arc<System>,
 ) -> Result<Pass, Fail>
     requires maker { maker_name maker ≡ O.name }
     requires name { blank.name ≡ L.name }
     requires parts { (blank.parts ≡ L.parts) × (L.parts ≡ 1) }
 {
-    let mut desk: Desk<O, L> = desk_of(alloc, MakerOf::of(maker), blank, system, 10)?;
-    let proposal = desk.proposal(rt, alloc, system, &tick(alloc, 0)?)?;
-    let mut pass = Pass::new(alloc, system)?;
+    let mut maker: MakerOf<O> = MakerOf::of(maker);
+    let system = maker.share(Arc::try_clone(system)?);
+    let mut desk: Desk<O, L> = desk_of(alloc, maker, blank, &system, 10)?;
+    let proposal = desk.proposal(rt, alloc, system.get(), &tick(alloc, 0)?)?;
+    let mut pass = Pass::new(alloc, system.get())?;
     let _committed = desk.attempt(rt, alloc, &mut pass, proposal)?;
     Ok(pass)
 }
@@ -218,17 +225,19 @@ fn is_older<O: Origin, L: Ledger, R: Wait>(
     alloc: Global,
     maker: Maker,
     blank: Blank,
-    system: &System,
+    system: &Arc<System>,
     mut pass: Pass,
 ) -> Result<bool, Fail>
     requires maker { maker_name maker ≡ O.name }
     requires name { blank.name ≡ L.name }
     requires parts { (blank.parts ≡ L.parts) × (L.parts ≡ 1) }
 {
-    let mut desk: Desk<O, L> = desk_of(alloc, MakerOf::of(maker), blank, system, 10)?;
+    let mut maker: MakerOf<O> = MakerOf::of(maker);
+    let system = maker.share(Arc::try_clone(system)?);
+    let mut desk: Desk<O, L> = desk_of(alloc, maker, blank, &system, 10)?;
     let node = older(Aged::Component(Component::Node(0)));
     let log = older(Aged::Length);
-    let proposal = desk.proposal(rt, alloc, system, &tick(alloc, 0)?)?;
+    let proposal = desk.proposal(rt, alloc, system.get(), &tick(alloc, 0)?)?;
     let missed = desk.attempt(rt, alloc, &mut pass, proposal)?;
     Ok(
         missed == Tried::Missed(Miss::Older(log))

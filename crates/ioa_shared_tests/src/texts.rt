@@ -41,10 +41,10 @@ pub(crate) const TICK: &str = "automaton Tick(c: Nat)
 pub(crate) const ONE: &str = "automaton A states x: Int := 3 system node 0: A";
 
 /// The system of a text.
-pub(crate) fn system(alloc: Global, text: &str) -> Result<Box<System>, Fail> {
+pub(crate) fn system(alloc: Global, text: &str) -> Result<Arc<System>, Fail> {
     let source = Box::new(alloc, parse(alloc, text).ok().ok_or("refused")?)?;
     let system = check(alloc, source.text()).ok().ok_or("refused")?;
-    Ok(Box::new(alloc, system)?)
+    Ok(Arc::new(alloc, system)?)
 }
 
 /// The action by which node 0 sends a number to node 1.

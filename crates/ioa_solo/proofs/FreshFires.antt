@@ -1,8 +1,8 @@
 -- A fire that is proposed and committed on a fresh look is one on the present configurations.
-use Rattle.std.proofs.Common.{◌≡◌, ◌⊎◌, inl, inr, ℕ, ℤ, Bool, true, false, List, Some, None, Result, Ok, Err, if◌then◌else◌, refl, sym, ap, subst, ◌∙◌, length}
-use Rattle.std.specs.Prelude.{IfOk, nat_lt}
+use Rattle.std.proofs.Common.{◌≡◌, ℕ, ℤ, Bool, true, false, List, Some, None, Result, Ok, Err, if◌then◌else◌, refl, sym, ap, subst, ◌∙◌, length}
+use Rattle.std.specs.Prelude.{nat_lt}
 use Rattle.std.specs.Ordering.{int_eq}
-use Rattle.ioa_values.specs.Outcome.{Answers, and_then}
+use Rattle.ioa_values.specs.Outcome.{and_then}
 use Rattle.ioa_actions.specs.ActionParts.{node_of}
 use Rattle.ioa_actions.specs.declared.action.Action.{Action}
 use Rattle.ioa_actions.specs.declared.fault.StepFault.{StepFault}
@@ -20,11 +20,8 @@ use Rattle.ioa_book.specs.Proposals.{proposal_answer, reads_held}
 use Rattle.ioa_commits.specs.declared.outcome.CommitRefusal.{CommitRefusal}
 use Rattle.ioa_commits.specs.declared.outcome.CommitRefusal.TheVariants as refusal
 use Rattle.ioa_book.proofs.FreshLooks.{fresh_proposal, held_stands}
-use Rattle.ioa_record.specs.declared.ending.NodeFault.{NodeFault}
-use Rattle.ioa_record.specs.declared.ending.NodeFault.TheVariants.{NotMine, Full}
-use Rattle.ioa_record.specs.declared.ending.NodeFault.TheVariants as fault
-use Rattle.ioa_turns.specs.Faults.{fault_of_refusal}
-use Rattle.ioa_solo.specs.Attempts.{IsRecordedBy, fault_outcome, fire_answer, outcome_in, step_outcome, taken}
+use Rattle.ioa_record.specs.declared.ending.NodeFault.TheVariants.{Full}
+use Rattle.ioa_solo.specs.Attempts.{fire_answer, step_outcome, taken}
 
 -- a proposal on a fresh look that is made: the action is the node's, the participants pick an entry, and what was read
 -- is what the book holds
@@ -152,33 +149,3 @@ module _ (b : PlainBook) (n : ℤ) (a : Action) (s : PlainSnapshot) (fresh : IsL
         at_room : (t : Bool) → nat_lt (length b.log) b.limit ≡ t → (if t then None else Some refusal.Full) ≡ Some why → fire_answer b.limit b.log (states_held b) n a ≡ Err Full
         at_room true e g = absurd (cc)
         at_room false e g = rw (is_made.mine, joint_made, e) refl
-
-    -- what the code returns for a refusal
-    pub refused_answers : (why : CommitRefusal) (back : PlainProposal) (new : PlainBook) (f : NodeFault) → IsRefused b p why back new → fault_of_refusal why ≡ Some f → Answers fault.Memory (outcome_in new) (Err f) (fire_answer b.limit b.log (states_held b) n a)
-    refused_answers why back new f h told =
-        let full : why ≡ refusal.Full = refused_for why back new h in
-        let same : Full ≡ f = cc in
-        inr (full_told why back new h ∙ ap (λ (x : NodeFault). Err x) same)
-
-  -- and for a fault
-  pub fault_answers : (f : StepFault) → (f ≡ step.Memory) ⊎ (proposal_answer a s ≡ Err f) → Answers fault.Memory (outcome_in b) (fault_outcome f) (fire_answer b.limit b.log (states_held b) n a)
-  fault_answers step.NotEnabled (inl e) = absurd (cc)
-  fault_answers step.NotEnabled (inr e) = fault_told step.NotEnabled e
-  fault_answers step.Undefined (inl e) = absurd (cc)
-  fault_answers step.Undefined (inr e) = inr (fault_told step.Undefined e)
-  fault_answers step.Range (inl e) = absurd (cc)
-  fault_answers step.Range (inr e) = inr (fault_told step.Range e)
-  fault_answers step.Memory h = inl refl
-  fault_answers step.NotMine (inl e) = absurd (cc)
-  fault_answers step.NotMine (inr e) = inr (fault_told step.NotMine e)
-  fault_answers step.NoChannel (inl e) = absurd (cc)
-  fault_answers step.NoChannel (inr e) = inr (fault_told step.NoChannel e)
-
--- a fault leaves the book as it was
-pub fault_recorded : (b : PlainBook) (f : StepFault) → IfOk (fault_outcome f) (λ outcome. IsRecordedBy b outcome b)
-fault_recorded b step.NotEnabled = refl
-fault_recorded b step.Undefined = tt
-fault_recorded b step.Range = tt
-fault_recorded b step.Memory = tt
-fault_recorded b step.NotMine = tt
-fault_recorded b step.NoChannel = tt

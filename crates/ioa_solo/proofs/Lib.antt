@@ -1,9 +1,22 @@
 -- lemmas of runs by one worker
+mod Beginnings
 mod FreshTurns
 mod FreshFires
+mod Gains
+mod Meets
+mod Finishing
+mod GoesOn
+mod Placed
 mod Termination
+mod ToldFires
+mod ToldRounds
+mod ToldTurns
+mod Turns
 mod Rounds
 mod Runs
 mod SoloRuns
 mod OwnStates
+mod OwnPrograms
+mod UpTo
+mod Works
 pub mod KeptByRuns

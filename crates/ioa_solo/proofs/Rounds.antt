@@ -1,8 +1,9 @@
 -- Rounds that are gone node by node.
-use Rattle.std.proofs.Common.{◌≡◌, refl, ℕ, zero, suc, ◌+◌, ◌-◌, ◌<◌, ◌≤◌, List, [], ◌∷◌, ◌++◌, map, Bool, true, false, None, length, slice_set, arith}
+use Rattle.std.proofs.Common.{◌≡◌, refl, sym, ap, ◌∙◌, ℕ, ℤ, zero, suc, ◌+◌, ◌-◌, ◌<◌, ◌≤◌, List, [], ◌∷◌, ◌++◌, map, take, drop, get_or, Bool, true, false, None, length, slice_set, append_assoc, arith}
 use Rattle.std.specs.Prelude.{◌||◌, is_some, Result, Ok, Err, OnOk, OnErr}
 use Rattle.std.specs.Result.{is_err}
 use Rattle.std.specs.List.{list_all, list_any}
+use Rattle.std.proofs.lemmas.List.{drop_more, drop-set-lt, map-append, take_more_set}
 use Rattle.ioa_turns.specs.NodeTurns.{PlainProgress}
 use Rattle.ioa_solo.specs.Solo.{PlainCourse, round, rounds, has_ended, is_under_way, ending_of, short_of_memory, is_cut_short}
 
@@ -88,3 +89,24 @@ under_way_at f (q ∷ qs) (suc n) p within e = later (is_under_way (f q)) (under
     later : (a : Bool) {b : Bool} → b ≡ true → a || b ≡ true
     later true e = refl
     later false e = e
+
+-- a node that is put in a place has the number of the one that was there
+pub numbers_set : {V : Type 0} (number : V → ℤ) (nodes : List V) (i : ℕ) (v w : V) → i < length nodes → number w ≡ number (get_or nodes i v) → map number (slice_set nodes i w) ≡ map number nodes
+numbers_set number [] i v w within same = refl
+numbers_set number (x ∷ xs) zero v w within same = ap (λ (k : ℤ). k ∷ map number xs) same
+numbers_set number (x ∷ xs) (suc i) v w within same = ap (λ (ks : List ℤ). number x ∷ ks) (numbers_set number xs i v w (omega arith) same)
+
+-- one node more has ended for want of memory
+pub ended_more : {V : Type 0} (f : V → PlainProgress) (nodes : List V) (i : ℕ) (v w : V) (whole : List PlainProgress) → i < length nodes → f w ≡ short_of_memory (f (get_or nodes i v)) →
+    map f (take i nodes) ++ map short_of_memory (map f (drop i nodes)) ≡ whole →
+    map f (take (i + 1) (slice_set nodes i w)) ++ map short_of_memory (map f (drop (i + 1) (slice_set nodes i w))) ≡ whole
+ended_more {V} f nodes i v w whole within short h =
+    let done : List PlainProgress = map f (take i nodes) in
+    let others : List PlainProgress = map short_of_memory (map f (drop (i + 1) nodes)) in
+    let gone : map f (take (i + 1) (slice_set nodes i w)) ≡ done ++ f w ∷ [] = ap (λ (l : List V). map f l) (take_more_set nodes i w within) ∙ map-append f (take i nodes) (w ∷ []) in
+    let behind : map short_of_memory (map f (drop (i + 1) (slice_set nodes i w))) ≡ others = ap (λ (l : List V). map short_of_memory (map f l)) (drop-set-lt (i + 1) nodes i w (omega arith)) in
+    (λ j. gone j ++ behind j)
+    ∙ append_assoc done (f w ∷ []) others
+    ∙ ap (λ (p : PlainProgress). done ++ p ∷ others) short
+    ∙ ap (λ (l : List V). done ++ map short_of_memory (map f l)) (sym (drop_more nodes i v within))
+    ∙ h

@@ -2,21 +2,9 @@
 use Rattle.std.proofs.Common.{◌≡◌, ℕ, List, sym, ap, ◌∙◌, map, length}
 use Rattle.std.proofs.lemmas.List.{length-map}
 use Rattle.ioa_system.specs.Systems.{SystemParts}
-use Rattle.ioa_compose.specs.Start.{start}
 use Rattle.ioa_record.specs.declared.ending.Ending.{Ending}
-use Rattle.ioa_record.specs.declared.record.Record.{Record}
-use Rattle.ioa_record.specs.Recorded.{ReplaysWithin}
-use Rattle.ioa_commits.specs.Books.{PlainBook}
 use Rattle.ioa_turns.specs.NodeTurns.{PlainProgress, progress_at}
-use Rattle.ioa_solo.specs.BookRuns.{IsOneRun, IsTakenFrom}
 use Rattle.ioa_solo.specs.Solo.{ending_of}
-
--- what the book of a run has recorded replays from the start of the system
-pub book_replays : (s : SystemParts) (limit : ℕ) (old new : PlainBook) (r : Record) → old.start ≡ start s → old.limit ≡ limit → IsOneRun old new → IsTakenFrom new r → ReplaysWithin limit (start s) r.schedule r.states.items
-book_replays s limit old new r begun limited one left = record {
-  leads = rw (left.schedule, left.states, ← (one.start ∙ begun)) left.lawful.leads;
-  within = rw (left.schedule, ← (one.limit ∙ limited)) left.lawful.within;
-}
 
 -- there is an ending for each node of the system
 pub as_many_endings : {A : Type 0} (f : A → PlainProgress) (s : SystemParts) (attempts : ℕ) (endings : List Ending) (now new old : List A) → endings ≡ map ending_of (map f now) → now ≡ new → length new ≡ length old → map f old ≡ map (progress_at attempts) s.programs → length endings ≡ length s.programs

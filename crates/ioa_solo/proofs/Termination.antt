@@ -1,7 +1,7 @@
 -- Runs come to an end: after one round more than a node has attempts, each node has an ending.
 use Rattle.std.proofs.Common.{◌≡◌, ◌⊎◌, inl, inr, refl, sym, subst, ℕ, zero, suc, ◌+◌, ◌-◌, ◌<◌, List, [], ◌∷◌, ◌++◌, length, take, drop, map, Bool, true, false, Some, None, arith}
 use Rattle.std.specs.Prelude.{is_some, nat_eq, if◌then◌else◌, Option, Result, Ok, Err}
-use Rattle.std.specs.List.{list_all, list_any, AllByRecursion}
+use Rattle.std.specs.List.{list_all, AllByRecursion}
 use Rattle.std.proofs.lemmas.List.{append-nil, drop_all, take_all}
 use Rattle.std.specs.Cmp.Derive.{both_true}
 use Rattle.ioa_transitions.specs.Entries.{PlainEntry}
@@ -24,7 +24,7 @@ use Rattle.ioa_solo.specs.Attempts.{PlainFireOutcome, missed, taken, fire_answer
 use Rattle.ioa_schedules.specs.Turns.{TurnEnd, TurnResult, fires, idle, done}
 use Rattle.ioa_turns.specs.Inboxes.{inboxes_seen}
 use Rattle.ioa_turns.specs.NodeTurns.{PlainProgress, progress_at, reached, block_turn, shows_program, turn_on, turn_at}
-use Rattle.ioa_solo.specs.Solo.{PlainCourse, after_fire, after_end, after_turn, visit, visit_unless_ended, round, rounds, solo, has_ended, ending_of, is_cut_short, IsLeftBy, IsSoloRun}
+use Rattle.ioa_solo.specs.Solo.{PlainCourse, after_fire, after_end, after_turn, visit, visit_unless_ended, round, rounds, solo, has_ended, ending_of, IsCutShort, IsLeftBy, IsSoloRun}
 
 -- a node has an ending, or fewer attempts left than there are rounds
 abbrev pub IsNear : ℕ → PlainProgress → Type 0
@@ -129,9 +129,9 @@ told_endings (p ∷ more) all = by_ending p.ending refl (λ h. told_endings more
 
 -- a record of what the rounds of a run leave tells that run
 pub solo_run : (s : SystemParts) (o : PlainOptions) (t : PlainCourse) (ps : List PlainProgress) (r : Record) (endings : List Ending) →
-    (list_any is_cut_short (map ending_of ps) ≡ true) ⊎ ((t, ps) ≡ solo s o.attempts o.steps) →
+    IsCutShort (solo s o.attempts o.steps) t.schedule (map ending_of ps) ⊎ ((t, ps) ≡ solo s o.attempts o.steps) →
     r.schedule ≡ t.schedule → r.states.items ≡ t.states → endings ≡ map ending_of ps → IsSoloRun s o r endings
-solo_run s o t ps r endings (inl short) schedule states each = inl (rw each short)
+solo_run s o t ps r endings (inl short) schedule states each = inl (rw each short.0, rw schedule short.1)
 solo_run s o t ps r endings (inr e) schedule states each =
     let all = subst (λ (left : PlainCourse × List PlainProgress). list_all has_ended left.1 ≡ true) (sym e) (solo_ends s o.attempts o.steps) in
     inr (subst (λ (left : PlainCourse × List PlainProgress). IsLeftBy left r endings) e
@@ -139,7 +139,8 @@ solo_run s o t ps r endings (inr e) schedule states each =
 
 -- the same of rounds from the beginning of a run
 pub solo_from : (s : SystemParts) (o : PlainOptions) (entries : List PlainEntry) (states : List Conf) (from : List PlainProgress) (t : PlainCourse) (ps : List PlainProgress) (r : Record) (endings : List Ending) →
-    (list_any is_cut_short (map ending_of ps) ≡ true) ⊎ ((t, ps) ≡ rounds o.steps (o.attempts + 1) (record { schedule = entries; states = states }) from) →
+    IsCutShort (rounds o.steps (o.attempts + 1) (record { schedule = entries; states = states }) from) t.schedule (map ending_of ps)
+    ⊎ ((t, ps) ≡ rounds o.steps (o.attempts + 1) (record { schedule = entries; states = states }) from) →
     entries ≡ [] → states ≡ start s → from ≡ map (progress_at o.attempts) s.programs →
     r.schedule ≡ t.schedule → r.states.items ≡ t.states → endings ≡ map ending_of ps → IsSoloRun s o r endings
 solo_from s o entries states from t ps r endings h none begun nodes schedule ended each =

@@ -1,5 +1,5 @@
 -- What it comes to that a node fires an action, in a run by one worker (profile).
-use Rattle.std.specs.Prelude.{◌≡◌, ℕ, ℤ, nat_lt, if◌then◌else◌, List, [], ◌∷◌, ◌++◌, length}
+use Rattle.std.specs.Prelude.{ℕ, ℤ, nat_lt, if◌then◌else◌, List, length}
 use Rattle.std.specs.Prelude.{Option, Some, None, Result, Ok, Err}
 use Rattle.std.specs.Ordering.{int_eq}
 use Rattle.ioa_actions.specs.ActionParts.{node_of}
@@ -10,10 +10,7 @@ use Rattle.ioa_compose.specs.declared.configuration.Conf.{Conf}
 use Rattle.ioa_compose.specs.Composition.{joint_pick}
 use Rattle.ioa_record.specs.declared.ending.NodeFault.{NodeFault}
 use Rattle.ioa_record.specs.declared.ending.NodeFault.TheVariants.{NotMine, Full}
-use Rattle.ioa_commits.specs.Books.{PlainBook, states_held}
 use Rattle.ioa_turns.specs.Faults.{fault_of_step}
-use Rattle.ioa_solo.specs.declared.firing.FireOutcome.{FireOutcome}
-use Rattle.ioa_solo.specs.declared.firing.FireOutcome.TheVariants as outcome
 
 -- what a fire comes to, if it meets no fault: the action is missed, or a step by it is taken, which has this entry and
 -- leads to these configurations
@@ -21,24 +18,10 @@ pub data PlainFireOutcome : Type 0 where
   missed : PlainFireOutcome
   taken : PlainEntry → List Conf → PlainFireOutcome
 
--- the same, if the book is so afterwards (view)
-abbrev pub outcome_in : PlainBook → FireOutcome → PlainFireOutcome
-outcome_in b outcome.Missed = missed
-outcome_in b (outcome.Taken e) = taken e (states_held b)
-
--- a book before and after a fire: it has recorded the step if one was taken
-abbrev pub IsRecordedBy : PlainBook → FireOutcome → PlainBook → Type 0
-IsRecordedBy old outcome.Missed new = new ≡ old
-IsRecordedBy old (outcome.Taken e) new = new ≡ record old { log = old.log ++ e ∷ [] }
-
 -- an outcome, unless a fault ends the node
 abbrev pub unless : {T : Type 0} → Option NodeFault → T → Result T NodeFault
 unless None outcome = Ok outcome
 unless (Some f) outcome = Err f
-
--- what a fault of a step comes to, as the code returns it: an action that is not enabled is missed
-abbrev pub fault_outcome : StepFault → Result FireOutcome NodeFault
-fault_outcome f = unless (fault_of_step f) outcome.Missed
 
 -- what a fire comes to by the joint step that is picked for it: an action that is not enabled is missed, any other fault
 -- is the node's, and a step is taken if the schedule is shorter than the limit

@@ -1,5 +1,9 @@
 -- what the contracts of this crate and of those above it cite
 pub mod Attempts
-pub mod BookRuns
+pub mod Fires
+pub mod Hands
+pub mod Meets
 pub mod Solo
+pub mod Told
 pub mod Visits
+pub mod Works

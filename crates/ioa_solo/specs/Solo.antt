@@ -128,6 +128,16 @@ pub record IsLeftBy (left : PlainCourse × List PlainProgress) (r : Record) (end
   pub states : r.states.items ≡ left.0.states
   pub each : map Some endings ≡ map (λ p. p.ending) left.1
 
--- a record and endings are those of the worker's own run, unless an ending says that memory ran out
+-- a schedule is a beginning of that of a run: the run goes on from it
+pub record Begins (schedule : List PlainEntry) (s : PlainCourse) : Type 0 where
+  pub rest : List PlainEntry
+  pub whole : s.schedule ≡ schedule ++ rest
+
+-- an ending says that memory ran out, and the schedule is a beginning of what a run leaves
+abbrev pub IsCutShort : PlainCourse × List PlainProgress → List PlainEntry → List Ending → Type 0
+IsCutShort left schedule endings = (list_any is_cut_short endings ≡ true) × Begins schedule left.0
+
+-- a record and endings are those of the worker's own run, or memory cut that run short
 abbrev pub IsSoloRun : SystemParts → PlainOptions → Record → List Ending → Type 0
-IsSoloRun s o r endings = (list_any is_cut_short endings ≡ true) ⊎ IsLeftBy (solo s o.attempts o.steps) r endings
+IsSoloRun s o r endings =
+    IsCutShort (solo s o.attempts o.steps) r.schedule endings ⊎ IsLeftBy (solo s o.attempts o.steps) r endings

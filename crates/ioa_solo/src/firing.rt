@@ -1,82 +1,80 @@
-//! What it comes to that a node fires an action.
+//! The commit of what a node fires.
 
-ghost use Rattle.std.specs.Prelude.{◌≡◌, IfErr, IfOk, OnErr, Ok, Some};
-ghost use Rattle.std.specs.Arc.{arc_value};
-ghost use Rattle.ioa_commits.specs.Books.{states_held};
-ghost use Rattle.ioa_commits.specs.Commits.{IsCommitted, IsRefused};
-ghost use Rattle.ioa_book.specs.Looks.{IsLookAt};
-ghost use Rattle.ioa_book.specs.Proposals.{proposal_answer};
-ghost use Rattle.ioa_values.specs.Outcome.{Answers};
-ghost use Rattle.ioa_turns.specs.Faults.{fault_of_refusal};
-ghost use Rattle.ioa_solo.specs.Attempts as spec;
-ghost use Rattle.ioa_solo.specs.Attempts.{IsRecordedBy, fire_answer, outcome_in};
+ghost use Rattle.std.specs.Prelude.{◌≡◌, ◌<◌, ◌+◌, IfErr, IfOk, None, OnErr, OnOk, length, true};
+ghost use Rattle.ioa_schedules.specs.Turns.{IsAtFire};
+ghost use Rattle.ioa_shared.specs.Attempts.{IsMissed, IsTaken, commits};
+ghost use Rattle.ioa_turns.specs.NodeTurns.{progress_of};
+ghost use Rattle.ioa_solo.specs.Fires.{IsAfterFire, IsProposedIn, failed_by, missed_by, refused_by};
+ghost use Rattle.ioa_solo.specs.Hands.{Gains};
+ghost use Rattle.ioa_solo.specs.Solo.{IsEndedBy};
+ghost use Rattle.ioa_solo.specs.Told.{IsToldTo, WorksOn};
 
-use ioa_actions::{Action, StepFault};
-use ioa_book::{Book, CommitRefusal, Committed, Proposal, Refused, Snapshot};
+use crate::hand::Hand;
+use ioa_actions::StepFault;
+use ioa_boards::{Board, Gate};
+use ioa_book::{CommitRefusal, Proposal};
 use ioa_rawlog::Spare;
-use ioa_record::NodeFault;
+use ioa_record::{Ending, NodeFault};
+use ioa_shared::{Miss, Missed, Receipt, Receipts, Taken};
 use ioa_sharing::Origin;
 use ioa_transitions::Entry;
-use ioa_turns::{fault_of_refusal, fault_of_step};
+use ioa_turns::{Progress, fault_of_refusal, fault_of_step};
 use std::alloc::{AllocError, Global};
-use std::sync::Arc;
+use std::sync::ledger::Ledger;
 
-/// What it comes to that a node fires an action, if it meets no fault.
-#[derive(Drop)]
-pub(crate) enum FireOutcome {
-    /// The action is not enabled.
-    Missed,
-    /// The action was a step, and is recorded by this entry.
-    Taken(Entry),
-}
-
-/// The step of an action that a node fires, on a look at the node in the book as it is. The action is proposed and
-/// committed: `NotMine` (41) if it is another node's, else the joint step's fault, and `Full` (52) if the book is full.
-/// After a fault the book is as it was. The commit is made with the spare that is there, or with a new one, and what it
-/// leaves of that is the next one's.
-pub(crate) fn fire<O: Origin>(
+/// The commit of a proposal of a node. If it is made, the block moves past the fire. A stale proposal ends the attempt,
+/// and any other fault the node. Memory for the receipt and the log is asked for before, so that only then it can run out.
+pub(crate) fn commit<O: Origin, L: Ledger, B: Board<O, L>, G: Gate>(
     alloc: Global,
-    book: &mut Book<O>,
-    snapshot: &Snapshot<O>,
-    node: i64,
-    action: &Arc<Action>,
+    board: &mut B,
+    gate: &G,
+    worker: usize,
+    proposal: Proposal<O>,
+    node: &mut Progress,
+    hand: &mut Hand<L>,
     spare: &mut Option<Spare<Entry>>,
-) -> Result<FireOutcome, NodeFault>
-    requires fresh { IsLookAt book.old node snapshot.now }
-    ensures answer { Answers NodeFault.Memory (outcome_in book.new) result
-        (fire_answer book.old.limit book.old.log (states_held book.old) node (arc_value action.now)) }
-    ensures recorded { IfOk result (λ outcome. IsRecordedBy book.old outcome book.new) }
-    ensures unchanged { OnErr result (book.new ≡ book.old) }
+) -> Result<(), AllocError>
+    requires stands { IsAtFire (progress_of node.old).todo }
+    requires under_way { node.old.ending ≡ None }
+    ensures gained { Gains 1 0 hand.old hand.new }
+    ensures kept { node.new.attempts ≡ node.old.attempts }
+    ensures stopped { OnErr result (node.new.ending ≡ None) }
+    ensures stays { B.told ≡ true → OnErr result (B.tells board.new ≡ B.tells board.old) }
+    ensures goes { IsToldTo B.told (B.tells board.old) hand.old.pass →
+        IsProposedIn (B.tells board.old) (progress_of node.old).program.node proposal →
+        WorksOn (B.tells board.old) hand.old (B.tells board.new) hand.new }
+    ensures fired { IsToldTo B.told (B.tells board.old) hand.old.pass →
+        IsProposedIn (B.tells board.old) (progress_of node.old).program.node proposal →
+        OnOk result (IsAfterFire (B.tells board.old) (progress_of node.old) proposal.entry.action
+        (B.tells board.new) (progress_of node.new)) }
 {
-    match spare_of(alloc, spare) {
-        Ok(block) => fire_with(alloc, book, snapshot, node, action, block, spare),
-        Err(AllocError) => Err(NodeFault::Memory),
-    }
-}
-
-/// The same with a block for the commit.
-fn fire_with<O: Origin>(
-    alloc: Global,
-    book: &mut Book<O>,
-    snapshot: &Snapshot<O>,
-    node: i64,
-    action: &Arc<Action>,
-    block: Spare<Entry>,
-    spare: &mut Option<Spare<Entry>>,
-) -> Result<FireOutcome, NodeFault>
-    requires fresh { IsLookAt book.old node snapshot.now }
-    ensures answer { Answers NodeFault.Memory (outcome_in book.new) result
-        (fire_answer book.old.limit book.old.log (states_held book.old) node (arc_value action.now)) }
-    ensures recorded { IfOk result (λ outcome. IsRecordedBy book.old outcome book.new) }
-    ensures unchanged { OnErr result (book.new ≡ book.old) }
-{
-    match snapshot.propose(alloc, action) {
-        Ok(proposal) => commit(book, snapshot, node, proposal, block, spare),
-        Err(fault) => {
-            *spare = Some(block);
-            outcome_of(fault)
+    let block = block_for(alloc, &mut hand.receipts, spare)?;
+    gate.before_commit(worker);
+    match attempt(board, proposal, block, hand, spare) {
+        Ok(receipt) => {
+            hand.receipts.put(receipt);
+            gate.after_commit(worker);
+            node.pass();
+            Ok(())
+        }
+        Err(miss) => {
+            after_miss(node, miss);
+            Ok(())
         }
     }
+}
+
+/// A block for a commit, and room for its receipt.
+fn block_for(
+    alloc: Global,
+    receipts: &mut Receipts,
+    spare: &mut Option<Spare<Entry>>,
+) -> Result<Spare<Entry>, AllocError>
+    ensures room { OnOk result (length receipts.new.all < receipts.new.room) }
+    ensures kept { receipts.new.all ≡ receipts.old.all }
+{
+    receipts.make_room()?;
+    spare_of(alloc, spare)
 }
 
 /// The spare that is there, or else a new one.
@@ -87,61 +85,97 @@ fn spare_of(alloc: Global, spare: &mut Option<Spare<Entry>>) -> Result<Spare<Ent
     }
 }
 
-/// What a fault of a step comes to: an action that is not enabled is missed, and any other fault is the node's.
-fn outcome_of(fault: StepFault) -> Result<FireOutcome, NodeFault>
-    ensures { result ≡ spec.fault_outcome fault }
+/// The attempt of a proposal with a block: its receipt, or why it is missed. What was read goes with it.
+fn attempt<O: Origin, L: Ledger, B: Board<O, L>>(
+    board: &mut B,
+    proposal: Proposal<O>,
+    block: Spare<Entry>,
+    hand: &mut Hand<L>,
+    spare: &mut Option<Spare<Entry>>,
+) -> Result<Receipt, Miss>
+    ensures share { hand.new.share ≡ hand.old.share + commits result }
+    ensures receipts { hand.new.receipts ≡ hand.old.receipts }
+    ensures taken { B.told ≡ true → IfOk result (λ r.
+        IsTaken (B.tells board.old) proposal hand.old.pass r.index r.entry (B.tells board.new) hand.new.pass) }
+    ensures missed { B.told ≡ true → IfErr result (λ m.
+        IsMissed (B.tells board.old) proposal hand.old.pass m proposal (B.tells board.new) hand.new.pass) }
 {
-    match fault_of_step(fault) {
-        None => Ok(FireOutcome::Missed),
-        Some(fault) => Err(fault),
+    match attempt_with(board, proposal, block, hand, spare) {
+        Ok(taken) => Ok(taken.receipt),
+        Err(missed) => Err(missed.why),
     }
 }
 
-/// Commits a proposal on a look at the book as it is. Nothing was committed since, so only a full book refuses it.
-fn commit<O: Origin>(
-    book: &mut Book<O>,
-    snapshot: &Snapshot<O>,
-    node: i64,
+/// The same with all that comes of it. What it leaves of the block is the next one's.
+fn attempt_with<O: Origin, L: Ledger, B: Board<O, L>>(
+    board: &mut B,
     proposal: Proposal<O>,
     block: Spare<Entry>,
+    hand: &mut Hand<L>,
     spare: &mut Option<Spare<Entry>>,
-) -> Result<FireOutcome, NodeFault>
-    requires fresh { IsLookAt book.old node snapshot.now }
-    requires proposed { proposal_answer proposal.entry.action snapshot.now ≡ Ok proposal }
-    ensures answer { Answers NodeFault.Memory (outcome_in book.new) result
-        (fire_answer book.old.limit book.old.log (states_held book.old) node proposal.entry.action) }
-    ensures recorded { IfOk result (λ outcome. IsRecordedBy book.old outcome book.new) }
-    ensures unchanged { OnErr result (book.new ≡ book.old) }
+) -> Result<Taken<O>, Missed<O>>
+    ensures share { hand.new.share ≡ hand.old.share + commits result }
+    ensures receipts { hand.new.receipts ≡ hand.old.receipts }
+    ensures taken { B.told ≡ true → IfOk result (λ t. IsTaken (B.tells board.old) proposal hand.old.pass
+        t.receipt.index t.receipt.entry (B.tells board.new) hand.new.pass) }
+    ensures missed { B.told ≡ true → IfErr result (λ m.
+        IsMissed (B.tells board.old) proposal hand.old.pass m.why m.proposal (B.tells board.new) hand.new.pass) }
 {
-    match commit_with(book, proposal, block, spare) {
-        Ok(committed) => Ok(FireOutcome::Taken(committed.entry)),
-        Err(refused) => Err(fault_of(refused.refusal)),
-    }
-}
-
-/// The commit of a proposal with a block. What it leaves of that is the next one's.
-fn commit_with<O: Origin>(
-    book: &mut Book<O>,
-    proposal: Proposal<O>,
-    block: Spare<Entry>,
-    spare: &mut Option<Spare<Entry>>,
-) -> Result<Committed<O>, Refused<O>>
-    ensures committed { IfOk result (λ c. IsCommitted book.old proposal c.index c.entry book.new) }
-    ensures refused { IfErr result (λ r. IsRefused book.old proposal r.refusal r.proposal book.new) }
-{
-    let (result, left) = book.commit(proposal, block);
+    let (result, left) = board.attempt(proposal, block, &mut hand.pass, &mut hand.share);
     *spare = left;
     result
 }
 
-/// The fault of a node whose proposal is refused for the one reason that there is if nothing was committed since its
-/// look.
-fn fault_of(refusal: CommitRefusal) -> NodeFault
-    requires { refusal ≡ CommitRefusal.Full }
-    ensures { fault_of_refusal refusal ≡ Some result }
+/// What follows from a proposal that was missed.
+fn after_miss(node: &mut Progress, miss: Miss)
+    ensures kept { node.new.attempts ≡ node.old.attempts }
+    ensures missed { progress_of node.new ≡ missed_by miss (progress_of node.old) }
 {
-    match fault_of_refusal(refusal) {
-        Some(fault) => fault,
-        None => unreachable!(),
+    match miss {
+        Miss::Older(_) => node.ending = Some(Ending::Fault(NodeFault::Older)),
+        Miss::Refused(refusal) => after_refusal(node, refusal),
+    }
+}
+
+/// What follows from a proposal that the book refused: nothing, if it was stale.
+fn after_refusal(node: &mut Progress, refusal: CommitRefusal)
+    ensures kept { node.new.attempts ≡ node.old.attempts }
+    ensures refused { progress_of node.new ≡ refused_by refusal (progress_of node.old) }
+{
+    if let Some(fault) = fault_of_refusal(refusal) {
+        node.ending = Some(Ending::Fault(fault));
+    }
+}
+
+/// What follows from a step that an action has not: the block moves past an action that is not enabled, and any other
+/// fault ends the node, but that memory ran out.
+pub(crate) fn after_fault(node: &mut Progress, fault: StepFault) -> Result<(), AllocError>
+    requires { IsAtFire (progress_of node.old).todo }
+    ensures kept { node.new.attempts ≡ node.old.attempts }
+    ensures failed { OnOk result (progress_of node.new ≡ failed_by fault (progress_of node.old)) }
+    ensures real { OnOk result (fault ≡ StepFault.Memory → ⊥) }
+    ensures unchanged { OnErr result (node.new.ending ≡ node.old.ending) }
+{
+    match fault_of_step(fault) {
+        None => {
+            node.pass();
+            Ok(())
+        }
+        Some(fault) => end_by_fault(node, fault),
+    }
+}
+
+/// Ends a node by a fault. `Memory` (3) ends no single node.
+pub(crate) fn end_by_fault(node: &mut Progress, fault: NodeFault) -> Result<(), AllocError>
+    ensures kept { node.new.attempts ≡ node.old.attempts }
+    ensures ended { OnOk result (IsEndedBy fault (progress_of node.old) (progress_of node.new)) }
+    ensures unchanged { OnErr result (node.new.ending ≡ node.old.ending) }
+{
+    match fault {
+        NodeFault::Memory => Err(AllocError),
+        fault => {
+            node.ending = Some(Ending::Fault(fault));
+            Ok(())
+        }
     }
 }

@@ -7,10 +7,19 @@
 //! **Laws**: `solo_law`.
 #![tactic(auto)]
 
+mod endings;
 mod firing;
+mod going;
+mod hand;
 mod laws;
+mod meeting;
 mod running;
+mod visited;
 mod visiting;
+mod working;
 
+pub use endings::{Endings, GREATEST_NODES};
+pub use hand::Hand;
 pub use laws::solo_law;
 pub use running::run;
+pub use working::work;

@@ -1,158 +1,167 @@
 //! Runs of a system by one worker.
 
-ghost use Rattle.std.specs.Prelude.{◌≡◌, ◌⊎◌, ◌+◌, [], ◌∷◌, None, true, IfOk, OnOk, OnErr, length, map};
-ghost use Rattle.std.specs.List.{list_all, list_any};
+ghost use Rattle.std.specs.Prelude.{◌≡◌, [], ◌∷◌, IfOk, map};
 ghost use Rattle.std.specs.Arc.{arc_value};
+ghost use Rattle.ioa_sharing.specs.Named.{shared_of_value};
 ghost use Rattle.ioa_sharing.specs.Shared.{maker_name};
+ghost use Rattle.ioa_compose.specs.Start.{start};
+ghost use Rattle.ioa_shared.specs.Passes.{first_pass};
+ghost use Rattle.ioa_shared.specs.Finish.{CanFinish, IsFinished};
 ghost use Rattle.ioa_system.specs.Declarations.{IsWellDeclared};
-ghost use Rattle.ioa_commits.specs.Books.{states_held};
 ghost use Rattle.ioa_record.specs.Recorded.{IsOfOneWorker, IsRecordOf, IsRunOf};
 ghost use Rattle.ioa_turns.specs.NodeTurns.{progress_at};
-ghost use Rattle.ioa_solo.specs.BookRuns.{IsOneRun, IsTakenFrom};
-ghost use Rattle.ioa_solo.specs.Solo.{IsSoloRun, ending_of, has_ended, is_cut_short, is_under_way};
+ghost use Rattle.ioa_solo.specs.Solo.{IsSoloRun, ending_of};
 ghost use Rattle.ioa_solo.specs.Visits.{progress_in};
-ghost use Rattle.ioa_solo.specs.Solo.{course_of, visit_unless_ended, round, rounds, short_of_memory};
 
-use crate::visiting::visit;
-use ioa_book::{Book, Snapshot};
-use ioa_compose::Conf;
-use ioa_rawlog::Spare;
-use ioa_record::{Ending, NodeFault, Options, Record};
-use ioa_sharing::{Maker, MakerOf, Origin};
+use crate::going::go_on;
+use crate::hand::Hand;
+use crate::visited::Visited;
+use ioa_boards::Gate;
+use ioa_record::{Ending, Options, Record};
+use ioa_shared::{FinishFault, Pass, Receipts, Share, Solo};
+use ioa_sharing::{Maker, MakerOf, Origin, SharedOf};
 use ioa_system::{Program, System};
-use ioa_transitions::Entry;
-use ioa_turns::Progress;
 use std::alloc::{AllocError, Global};
 use std::marker::Brand;
 use std::sync::Arc;
-
-/// A node of a run: how far it has come, and the last look at it, in whose place the next one is made.
-#[derive(Drop)]
-struct Visited<'a, O: Origin> {
-    progress: Progress<'a>,
-    look: Option<Snapshot<O>>,
-}
-
-impl<'a, O: Origin> Visited<'a, O> {
-    /// A node before the run, at which nobody has looked.
-    fn start(alloc: Global, program: &'a Program, attempts: u64) -> Result<Self, AllocError>
-        ensures { IfOk result (λ n. progress_in n ≡ progress_at attempts program.now) }
-    {
-        let progress = Progress::start(alloc, program, attempts)?;
-        Ok(Visited {
-            progress,
-            look: None,
-        })
-    }
-}
+use std::sync::ledger::{Blank, Ledger};
 
 /// Runs a system by one worker (profile). The worker goes round the nodes in order until each has an ending. A visit of
 /// a node that has no attempt left ends it; else one attempt is used: a look at the node in the book of commits, one
 /// turn on what it shows, and the commit of the action that the turn fires. Returns the record, and an ending for each
 /// node, node 0 first. If memory runs out on the way, each node without an ending gets that fault. `AllocError` is
 /// returned only if a run cannot begin, or what it leaves cannot be listed.
-pub fn run(
+pub fn run<G: Gate>(
     alloc: Global,
-    system: &System,
+    system: &Arc<System>,
     options: &Options,
+    gate: &G,
 ) -> Result<(Record, Vec<Ending>), AllocError>
-    ensures left { IfOk result (λ r. IsRecordOf system.now options.now.steps r.0 r.1.items) }
+    ensures left { IfOk result (λ r. IsRecordOf (arc_value system.now) options.now.steps r.0 r.1.items) }
     ensures alone { IfOk result (λ r. IsOfOneWorker r.0) }
-    ensures run { IfOk result (λ r. IsWellDeclared system.now → IsRunOf system.now options.now.steps r.0 r.1.items) }
-    ensures solo { IfOk result (λ r. IsSoloRun system.now options.now r.0 r.1.items) }
+    ensures run { IfOk result (λ r. IsWellDeclared (arc_value system.now) →
+        IsRunOf (arc_value system.now) options.now.steps r.0 r.1.items) }
+    ensures solo { IfOk result (λ r. IsSoloRun (arc_value system.now) options.now r.0 r.1.items) }
 {
-    run_by::<Brand>(alloc, Maker::new(), system, options)
+    run_by::<Brand, Brand, G>(alloc, Maker::new(), Blank::new(1), system, options, gate)
 }
 
-/// The same by a maker of this origin, which numbers what the book of commits holds.
-fn run_by<O: Origin>(
+/// The same by a maker of this origin, which numbers what the book of commits holds, and with a share of this ledger.
+fn run_by<O: Origin, L: Ledger, G: Gate>(
     alloc: Global,
     maker: Maker,
-    system: &System,
+    blank: Blank,
+    system: &Arc<System>,
     options: &Options,
+    gate: &G,
 ) -> Result<(Record, Vec<Ending>), AllocError>
-    requires { maker_name maker ≡ O.name }
-    ensures left { IfOk result (λ r. IsRecordOf system.now options.now.steps r.0 r.1.items) }
+    requires maker { maker_name maker ≡ O.name }
+    requires name { blank.name ≡ L.name }
+    requires parts { blank.parts ≡ L.parts }
+    requires one { L.parts ≡ 1 }
+    ensures left { IfOk result (λ r. IsRecordOf (arc_value system.now) options.now.steps r.0 r.1.items) }
     ensures alone { IfOk result (λ r. IsOfOneWorker r.0) }
-    ensures run { IfOk result (λ r. IsWellDeclared system.now → IsRunOf system.now options.now.steps r.0 r.1.items) }
-    ensures solo { IfOk result (λ r. IsSoloRun system.now options.now r.0 r.1.items) }
+    ensures run { IfOk result (λ r. IsWellDeclared (arc_value system.now) →
+        IsRunOf (arc_value system.now) options.now.steps r.0 r.1.items) }
+    ensures solo { IfOk result (λ r. IsSoloRun (arc_value system.now) options.now r.0 r.1.items) }
 {
-    let maker: MakerOf<O> = MakerOf::of(maker);
-    let mut book = Book::new(alloc, maker, system, options.steps() as usize)?;
-    let mut nodes = start_nodes(alloc, system.programs(), options.attempts())?;
-    go_on(alloc, options, &mut book, &mut nodes);
-    let left = record_of(alloc, book, &nodes)?;
-    Ok(left)
+    let mut maker: MakerOf<O> = MakerOf::of(maker);
+    let system = maker.share(Arc::try_clone(system)?);
+    run_on::<O, L, G>(alloc, maker, blank, &system, options, gate)
 }
 
-/// The record of a run that its book and its nodes leave, and the endings of the nodes, in order. All that takes memory
-/// is made before the book is taken apart.
-fn record_of<O: Origin>(
+/// The same of a system that the maker has numbered.
+fn run_on<O: Origin, L: Ledger, G: Gate>(
     alloc: Global,
-    book: Book<O>,
-    nodes: &[Visited<O>],
+    maker: MakerOf<O>,
+    blank: Blank,
+    system: &SharedOf<O, System, Global>,
+    options: &Options,
+    gate: &G,
 ) -> Result<(Record, Vec<Ending>), AllocError>
-    ensures taken { IfOk result (λ r. IsTakenFrom book r.0) }
+    requires name { blank.name ≡ L.name }
+    requires parts { blank.parts ≡ L.parts }
+    requires one { L.parts ≡ 1 }
+    ensures left { IfOk result (λ r. IsRecordOf (shared_of_value system.now) options.now.steps r.0 r.1.items) }
     ensures alone { IfOk result (λ r. IsOfOneWorker r.0) }
-    ensures endings { IfOk result (λ r. r.1.items ≡ map ending_of (map progress_in nodes.now)) }
+    ensures run { IfOk result (λ r. IsWellDeclared (shared_of_value system.now) →
+        IsRunOf (shared_of_value system.now) options.now.steps r.0 r.1.items) }
+    ensures solo { IfOk result (λ r. IsSoloRun (shared_of_value system.now) options.now r.0 r.1.items) }
 {
-    let (endings, states, commits) = lists_of(alloc, &book, nodes)?;
-    let (schedule, _maker) = book.into_parts();
-    let record = Record {
-        schedule,
-        states,
-        commits,
-    };
+    let steps = options.steps() as usize;
+    let attempts = options.attempts();
+    let (mut solo, share) = Solo::<O, L>::open(alloc, maker, blank, system, steps)?;
+    let mut hand = hand_of(alloc, share, system.get())?;
+    let mut nodes = start_nodes(alloc, system.get().programs(), attempts)?;
+    go_on(alloc, &mut solo, gate, 0, attempts, &mut nodes, &mut hand);
+    let endings = endings_of(alloc, &nodes)?;
+    let record = finish(alloc, solo, hand, system, steps)?;
     Ok((record, endings))
 }
 
-/// The endings of the nodes, the configurations that the book holds, and the commits of the one worker.
-fn lists_of<O: Origin>(
+/// What the worker has before its work.
+fn hand_of<L: Ledger>(
     alloc: Global,
-    book: &Book<O>,
-    nodes: &[Visited<O>],
-) -> Result<(Vec<Ending>, Vec<Conf>, Vec<u64>), AllocError>
-    ensures endings { IfOk result (λ t. t.0.items ≡ map ending_of (map progress_in nodes.now)) }
-    ensures states { IfOk result (λ t. t.1.items ≡ states_held book.now) }
-    ensures commits { IfOk result (λ t. t.2.items ≡ length book.now.log ∷ []) }
+    share: Share<L>,
+    system: &System,
+) -> Result<Hand<L>, AllocError>
+    ensures share { IfOk result (λ h. h.share ≡ share) }
+    ensures pass { IfOk result (λ h. h.pass ≡ first_pass (start system.now)) }
+    ensures receipts { IfOk result (λ h. h.receipts.all ≡ []) }
 {
-    let endings = endings_of(alloc, nodes)?;
-    let states = book.states(alloc)?;
-    let mut commits = Vec::new(alloc);
-    commits.push(book.log().len() as u64)?;
-    Ok((endings, states, commits))
+    let pass = Pass::new(alloc, system)?;
+    let receipts = Receipts::new(alloc);
+    Ok(Hand {
+        share,
+        pass,
+        receipts,
+    })
 }
 
-/// Goes round the nodes until each has an ending, at most once more than they have attempts. If memory runs out, each
-/// node without an ending gets that fault.
-fn go_on<O: Origin>(alloc: Global, options: &Options, book: &mut Book<O>, nodes: &mut [Visited<O>])
-    ensures one { IsOneRun book.old book.new }
-    ensures solo { (list_any is_cut_short (map ending_of (map progress_in nodes.new)) ≡ true)
-        ⊎ ((course_of book.new, map progress_in nodes.new)
-        ≡ rounds book.old.limit (options.now.attempts + 1) (course_of book.old) (map progress_in nodes.old)) }
+/// Takes the book apart. There is no fault but want of memory.
+fn finish<O: Origin, L: Ledger>(
+    alloc: Global,
+    solo: Solo<O, L>,
+    hand: Hand<L>,
+    system: &SharedOf<O, System, Global>,
+    steps: usize,
+) -> Result<Record, AllocError>
+    requires { CanFinish solo (shared_of_value system.now) steps L.parts (hand.share ∷ []) (hand.receipts ∷ []) }
+    ensures { IfOk result (λ r. IsFinished solo (shared_of_value system.now) steps L.parts
+        (hand.share ∷ []) (hand.receipts ∷ []) r) }
 {
-    let mut spare = None;
-    for _round in 0..options.attempts() + 1 {
-        if go_round(alloc, book, nodes, &mut spare).is_err() {
-            end_all(nodes);
-            return;
-        }
-        if have_all_ended(nodes) {
-            return;
-        }
+    let Hand {
+        share,
+        receipts,
+        ..
+    } = hand;
+    let shares = only(alloc, share)?;
+    let receipts = only(alloc, receipts)?;
+    match solo.finish(alloc, system, steps, shares, receipts) {
+        Ok(record) => Ok(record),
+        Err(unfinished) => Err(memory_of(unfinished.fault)),
     }
 }
 
-/// Whether each node has an ending.
-fn have_all_ended<O: Origin>(nodes: &[Visited<O>]) -> bool
-    ensures { result ≡ list_all has_ended (map progress_in nodes.now) }
+/// One thing alone.
+fn only<T: Drop>(alloc: Global, item: T) -> Result<Vec<T>, AllocError>
+    ensures { IfOk result (λ v. v.items ≡ item ∷ []) }
 {
-    for node in nodes {
-        if node.progress.ending.is_none() {
-            return false;
-        }
+    let mut items = Vec::new(alloc);
+    items.push(item)?;
+    Ok(items)
+}
+
+/// The one fault that there can be, as the error that it is.
+fn memory_of(fault: FinishFault) -> AllocError
+    requires { fault ≡ FinishFault.Memory }
+{
+    match fault {
+        FinishFault::Memory => AllocError,
+        FinishFault::Foreign => unreachable!(),
+        FinishFault::SharesMissing => unreachable!(),
+        FinishFault::Unaccounted => unreachable!(),
     }
-    true
 }
 
 /// The nodes before a run.
@@ -169,61 +178,6 @@ fn start_nodes<O: Origin>(
         nodes.push(Visited::start(alloc, program, attempts)?)?;
     }
     Ok(nodes)
-}
-
-/// Visits each node that has no ending, in order, until memory runs out at one.
-fn go_round<O: Origin>(
-    alloc: Global,
-    book: &mut Book<O>,
-    nodes: &mut [Visited<O>],
-    spare: &mut Option<Spare<Entry>>,
-) -> Result<(), AllocError>
-    ensures one { IsOneRun book.old book.new }
-    ensures round { OnOk result
-        ((course_of book.new, map progress_in nodes.new)
-        ≡ round book.old.limit (course_of book.old) (map progress_in nodes.old)) }
-    ensures stopped { OnErr result (list_any is_under_way (map progress_in nodes.new) ≡ true) }
-{
-    for position in 0..nodes.len() {
-        visit_unless_ended(alloc, book, &mut nodes[position], spare)?;
-    }
-    Ok(())
-}
-
-/// A visit of a node, unless it has an ending.
-fn visit_unless_ended<O: Origin>(
-    alloc: Global,
-    book: &mut Book<O>,
-    node: &mut Visited<O>,
-    spare: &mut Option<Spare<Entry>>,
-) -> Result<(), AllocError>
-    ensures one { IsOneRun book.old book.new }
-    ensures visited { OnOk result (visit_unless_ended book.old.limit (course_of book.old)
-        (progress_in node.old) ≡ (course_of book.new, progress_in node.new)) }
-    ensures stopped { OnErr result (node.new.progress.ending ≡ None) }
-{
-    match node.progress.ending {
-        Some(_) => Ok(()),
-        None => visit(alloc, book, &mut node.progress, &mut node.look, spare),
-    }
-}
-
-/// Ends each node that has no ending with the fault `Memory` (3).
-fn end_all<O: Origin>(nodes: &mut [Visited<O>])
-    ensures { map progress_in nodes.new ≡ map short_of_memory (map progress_in nodes.old) }
-{
-    for position in 0..nodes.len() {
-        end_for_memory(&mut nodes[position]);
-    }
-}
-
-/// Ends a node with the fault `Memory` (3), if it has no ending yet.
-fn end_for_memory<O: Origin>(node: &mut Visited<O>)
-    ensures { progress_in node.new ≡ short_of_memory (progress_in node.old) }
-{
-    if node.progress.ending.is_none() {
-        node.progress.ending = Some(Ending::Fault(NodeFault::Memory));
-    }
 }
 
 /// The endings of the nodes, in order.

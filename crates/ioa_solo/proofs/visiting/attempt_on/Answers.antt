@@ -1,5 +1,29 @@
-use Rattle.std.proofs.Common.{arith, rules}
+use Rattle.std.proofs.Common.{refl}
+use Rattle.ioa_book.specs.Looks.{IsLookAt}
+use Rattle.ioa_turns.specs.NodeTurns.{end_of, progress_of}
+use Rattle.ioa_solo.proofs.GoesOn.{goes_nowhere}
+use Rattle.ioa_solo.proofs.Rounds.{if_failed}
+use Rattle.ioa_solo.proofs.ToldTurns.{turn_came, turn_failed}
 use Rattle.ioa_solo.proofs.visiting.attempt_on.Goals as goal
 
-pub go_past-requires : goal.go_past-requires
-go_past-requires g c = (omega arith, (search rules, (rw c.fresh_turn.ensures.same_program c.requires.fresh, search rules)))
+pub returns-in-Ok-clause-goes : goal.returns-in-Ok-clause-goes
+returns-in-Ok-clause-goes g c = λ t fresh.
+    let still : IsLookAt (g.B.Board.tells c.args.board.now) (progress_of c.turn_on.new.node).program.node c.args.snapshot.now = rw c.turn_on.ensures.same_program fresh in
+    c.after_turn.ensures.goes t still
+
+pub returns-in-Ok-clause-attempted : goal.returns-in-Ok-clause-attempted
+returns-in-Ok-clause-attempted g c = λ t fresh.
+    let still : IsLookAt (g.B.Board.tells c.args.board.now) (progress_of c.turn_on.new.node).program.node c.args.snapshot.now = rw c.turn_on.ensures.same_program fresh in
+    turn_came c.after_turn.result (g.B.Board.tells c.args.board.now) (g.B.Board.tells c.after_turn.new.board) (progress_of c.args.node.now) (progress_of c.turn_on.new.node) (progress_of c.after_turn.new.node)
+    (end_of c.in-Ok.turn) (c.in-Ok.ensures.told (g.B.Board.tells c.args.board.now) fresh) (c.after_turn.ensures.came t still)
+
+pub returns-in-Err-clause-goes : goal.returns-in-Err-clause-goes
+returns-in-Err-clause-goes g c = λ t fresh. goes_nowhere _ _ _ _ _ refl refl t.not_ahead
+
+pub returns-in-Err-clause-attempted : goal.returns-in-Err-clause-attempted
+returns-in-Err-clause-attempted g c = λ t fresh.
+    turn_failed c.end_by_fault.result (g.B.Board.tells c.args.board.now) (g.B.Board.tells c.args.board.now) (progress_of c.args.node.now) (progress_of c.turn_on.new.node) (progress_of c.end_by_fault.new.node)
+    c.in-Err.fault (c.in-Err.ensures.told (g.B.Board.tells c.args.board.now) fresh) c.in-Err.ensures.unchanged c.end_by_fault.ensures.ended
+
+pub returns-in-Err-clause-stays : goal.returns-in-Err-clause-stays
+returns-in-Err-clause-stays g c = λ told. if_failed c.end_by_fault.result refl

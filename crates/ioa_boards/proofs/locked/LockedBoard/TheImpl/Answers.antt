@@ -3,6 +3,9 @@ use Rattle.std.specs.Prelude.{refl}
 use Rattle.std.proofs.lemmas.Bool.{false≢true}
 use Rattle.ioa_boards.proofs.locked.LockedBoard.TheImpl.Goals as goal
 
+pub is_opened_with-tells : goal.is_opened_with-tells
+is_opened_with-tells g c = λ e. absurd (false≢true e)
+
 pub look-tells : goal.look-tells
 look-tells g c = record { some = c.ensures.some; told = λ e. absurd (false≢true e); same = λ _. refl }
 

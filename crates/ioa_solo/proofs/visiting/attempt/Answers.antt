@@ -1,0 +1,58 @@
+use Rattle.std.proofs.Common.{◌≡◌, ◌⊎◌, sym, subst, refl, Some, false, rules}
+use Rattle.std.specs.Prelude.{OnErr, OnOk, is_some}
+use Rattle.ioa_actions.specs.declared.component.Component.TheVariants.{Node}
+use Rattle.ioa_book.specs.Looks.{snapshot_after}
+use Rattle.ioa_commits.specs.Books.{PlainBook, held_of}
+use Rattle.ioa_shared.specs.declared.outcome.ViewFault.TheVariants.{Memory, Unknown}
+use Rattle.ioa_turns.specs.NodeTurns.{progress_of}
+use Rattle.ioa_solo.specs.Fires.{Comes}
+use Rattle.ioa_solo.specs.Solo.{attempt}
+use Rattle.ioa_solo.specs.Told.{IsToldTo, IsUpTo}
+use Rattle.ioa_solo.proofs.GoesOn.{goes_further, goes_nowhere}
+use Rattle.ioa_solo.proofs.Rounds.{if_failed}
+use Rattle.ioa_solo.proofs.ToldTurns.{unseen_came}
+use Rattle.ioa_solo.proofs.visiting.attempt.Goals as goal
+
+pub returns-in-Ok-clause-goes : goal.returns-in-Ok-clause-goes
+returns-in-Ok-clause-goes g c = λ t.
+    let same = c.look_at.ensures.same t.told in
+    let up = c.look_at.ensures.not_ahead t in
+    let then_told : IsToldTo g.B.Board.told (g.B.Board.tells c.look_at.new.board) c.look_at.new.pass = record { told = t.told; not_ahead = subst (λ (b : PlainBook). IsUpTo b c.look_at.new.pass) (sym same) up } in
+    let n = (progress_of c.args.node.now).program.node in
+    let old = g.B.Board.tells c.args.board.now in
+    let as_told = c.in-Ok.ensures.told t in
+    let first : c.look_at.new.look ≡ Some (snapshot_after n old.start old.log) = search rules in
+    let seen = subst (λ (b : PlainBook). c.look_at.new.look ≡ Some (snapshot_after n b.start b.log)) (sym same) first in
+    goes_further _ _ _ _ _ _ _ _ (goes_nowhere _ _ _ _ _ same refl up) (c.attempt_seen.ensures.goes then_told seen)
+
+pub returns-in-Ok-clause-attempted : goal.returns-in-Ok-clause-attempted
+returns-in-Ok-clause-attempted g c = λ t.
+    let same = c.look_at.ensures.same t.told in
+    let up = c.look_at.ensures.not_ahead t in
+    let then_told : IsToldTo g.B.Board.told (g.B.Board.tells c.look_at.new.board) c.look_at.new.pass = record { told = t.told; not_ahead = subst (λ (b : PlainBook). IsUpTo b c.look_at.new.pass) (sym same) up } in
+    let n = (progress_of c.args.node.now).program.node in
+    let old = g.B.Board.tells c.args.board.now in
+    let as_told = c.in-Ok.ensures.told t in
+    let first : c.look_at.new.look ≡ Some (snapshot_after n old.start old.log) = search rules in
+    let seen = subst (λ (b : PlainBook). c.look_at.new.look ≡ Some (snapshot_after n b.start b.log)) (sym same) first in
+    subst (λ (b : PlainBook). OnOk c.attempt_seen.result (Comes attempt b (progress_of c.args.node.now) (g.B.Board.tells c.attempt_seen.new.board) (progress_of c.attempt_seen.new.node))) same
+    (c.attempt_seen.ensures.attempted then_told seen)
+
+pub returns-in-Err-clause-goes : goal.returns-in-Err-clause-goes
+returns-in-Err-clause-goes g c = λ t. goes_nowhere _ _ _ _ _ (c.look_at.ensures.same t.told) refl (c.look_at.ensures.not_ahead t)
+
+pub returns-in-Err-clause-attempted : goal.returns-in-Err-clause-attempted
+returns-in-Err-clause-attempted g c = λ t.
+    let b = g.B.Board.tells c.args.board.now in
+    let p = progress_of c.args.node.now in
+    let as_told = c.in-Err.ensures.fault t in
+    let why : (c.in-Err.fault ≡ Memory) ⊎ ((c.in-Err.fault ≡ Unknown) × (is_some (held_of b (Node p.program.node)) ≡ false)) = search rules in
+    unseen_came c.end_by_fault.result b (g.B.Board.tells c.look_at.new.board) p p (progress_of c.end_by_fault.new.node) c.in-Err.fault c.fault_of_view.result
+    c.fault_of_view.ensures why (c.look_at.ensures.same t.told) c.end_by_fault.ensures.ended
+
+pub returns-in-Ok-clause-stays : goal.returns-in-Ok-clause-stays
+returns-in-Ok-clause-stays g c = λ told.
+    subst (λ (b : PlainBook). OnErr c.attempt_seen.result (g.B.Board.tells c.attempt_seen.new.board ≡ b)) (c.look_at.ensures.same told) (c.attempt_seen.ensures.stays told)
+
+pub returns-in-Err-clause-stays : goal.returns-in-Err-clause-stays
+returns-in-Err-clause-stays g c = λ told. if_failed c.end_by_fault.result (c.look_at.ensures.same told)

@@ -1,0 +1,46 @@
+use Rattle.std.proofs.Common.{refl, sym, ap, subst, ◌∙◌}
+use Rattle.std.specs.Arc.{arc_value}
+use Rattle.std.specs.Prelude.{OnOk}
+use Rattle.ioa_actions.specs.declared.action.Action.{Action}
+use Rattle.ioa_turns.specs.NodeTurns.{PlainProgress, progress_of}
+use Rattle.ioa_solo.specs.Fires.{IsAfterFire, IsProposedIn, failed_by}
+use Rattle.ioa_solo.specs.Solo.{course_of}
+use Rattle.ioa_solo.proofs.GoesOn.{goes_nowhere}
+use Rattle.ioa_solo.proofs.Rounds.{if_failed}
+use Rattle.ioa_solo.proofs.ToldFires.{failed_comes, on_both, proposed_for, proposed_in}
+use Rattle.ioa_solo.proofs.visiting.go_past.Goals as goal
+
+pub returns-in_err-action-clause-goes : goal.returns-in_err-action-clause-goes
+returns-in_err-action-clause-goes g c = λ t fresh. goes_nowhere _ _ _ _ _ refl refl t.not_ahead
+
+pub returns-in-Ok-clause-goes : goal.returns-in-Ok-clause-goes
+returns-in-Ok-clause-goes g c = λ t fresh.
+    let b = g.B.Board.tells c.args.board.now in
+    let x = c.in-Ok.proposal in
+    c.commit.ensures.goes t
+    (subst (λ (q : PlainProgress). IsProposedIn b q.program.node x) (sym c.action_fired.ensures.unchanged) (proposed_in b (progress_of c.args.node.now).program.node (arc_value c.in_ok-action.action) c.args.snapshot.now fresh x c.in-Ok.ensures))
+
+pub returns-in-Ok-clause-passed : goal.returns-in-Ok-clause-passed
+returns-in-Ok-clause-passed g c = λ t fresh.
+    let b = g.B.Board.tells c.args.board.now in
+    let new = g.B.Board.tells c.commit.new.board in
+    let q = progress_of c.commit.new.node in
+    let x = c.in-Ok.proposal in
+    let told = c.commit.ensures.fired t (subst (λ (q : PlainProgress). IsProposedIn b q.program.node x) (sym c.action_fired.ensures.unchanged) (proposed_in b (progress_of c.args.node.now).program.node (arc_value c.in_ok-action.action) c.args.snapshot.now fresh x c.in-Ok.ensures)) in
+    subst (λ (a : Action). OnOk c.commit.result (IsAfterFire b (progress_of c.args.node.now) a new q)) (proposed_for b (progress_of c.args.node.now).program.node (arc_value c.in_ok-action.action) c.args.snapshot.now fresh x c.in-Ok.ensures ∙ c.in_ok-action.ensures.action)
+    (subst (λ (p : PlainProgress). OnOk c.commit.result (IsAfterFire b p x.entry.action new q)) c.action_fired.ensures.unchanged told)
+
+pub returns-clause-passed : goal.returns-clause-passed
+returns-clause-passed g c = λ t fresh.
+    let b = g.B.Board.tells c.args.board.now in
+    let p = progress_of c.args.node.now in
+    let f = c.in-Err.fault in
+    on_both c.after_fault.result
+    (λ failed real.
+    subst (λ (a : Action). IsAfterFire b p a b (progress_of c.after_fault.new.node)) c.in_ok-action.ensures.action
+    (failed_comes b p (arc_value c.in_ok-action.action) c.args.snapshot.now f fresh real c.in-Err.ensures
+    ∙ ap (λ (r : PlainProgress). (course_of b, r)) (sym (failed ∙ ap (λ (r : PlainProgress). failed_by f r) c.action_fired.ensures.unchanged))))
+    c.after_fault.ensures.failed c.after_fault.ensures.real
+
+pub returns-clause-stays : goal.returns-clause-stays
+returns-clause-stays g c = λ told. if_failed c.after_fault.result refl

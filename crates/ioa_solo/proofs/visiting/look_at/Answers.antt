@@ -1,0 +1,26 @@
+use Rattle.std.proofs.Common.{rules}
+use Rattle.ioa_boards.specs.Places.{Puts}
+use Rattle.ioa_solo.proofs.Placed.{put_fault, put_seen, put_there, put_upto}
+use Rattle.ioa_solo.proofs.visiting.look_at.Goals as goal
+
+pub returns-clause-seen : goal.returns-clause-seen
+returns-clause-seen g c = put_there _ _ _ _ c.look.result c.look.ensures.some
+
+pub returns-clause-told : goal.returns-clause-told
+returns-clause-told g c = λ t.
+    let b = g.B.Board.tells c.args.board.now in
+    let as_told = c.look.ensures.told t.told in
+    let put : Puts b c.args.pass.now c.args.node c.look.new.place c.look.result = search rules in
+    put_seen b c.args.pass.now c.args.node c.look.new.place c.look.result put
+
+pub returns-clause-fault : goal.returns-clause-fault
+returns-clause-fault g c = λ t.
+    let b = g.B.Board.tells c.args.board.now in
+    let as_told = c.look.ensures.told t.told in
+    let put : Puts b c.args.pass.now c.args.node c.look.new.place c.look.result = search rules in
+    put_fault b c.args.pass.now c.args.node c.look.new.place c.look.result t.not_ahead put
+
+pub returns-clause-not_ahead : goal.returns-clause-not_ahead
+returns-clause-not_ahead g c = λ t.
+    let b = g.B.Board.tells c.args.board.now in
+    put_upto b c.args.pass.now c.look.new.pass _ c.look.new.place c.look.result t.not_ahead (c.look.ensures.told t.told) c.look.ensures.some

@@ -1,0 +1,193 @@
+//! Rounds of a worker.
+
+ghost use Rattle.std.specs.Prelude.{◌≡◌, ◌⊎◌, ◌+◌, None, OnErr, OnOk, map, true};
+ghost use Rattle.std.specs.List.{list_all, list_any};
+ghost use Rattle.ioa_solo.specs.Fires.{Comes};
+ghost use Rattle.ioa_solo.specs.Hands.{Gains};
+ghost use Rattle.ioa_solo.specs.Solo.{Begins, IsCutShort, course_of, ending_of, has_ended, is_under_way, round};
+ghost use Rattle.ioa_solo.specs.Solo.{rounds, short_of_memory, visit_unless_ended};
+ghost use Rattle.ioa_solo.specs.Told.{IsToldTo, WorksOn};
+ghost use Rattle.ioa_solo.specs.Visits.{attempts_left, numbers_of, progress_in};
+
+use crate::hand::Hand;
+use crate::visited::Visited;
+use crate::visiting::visit;
+use ioa_boards::{Board, Gate};
+use ioa_rawlog::Spare;
+use ioa_record::{Ending, NodeFault};
+use ioa_sharing::Origin;
+use ioa_transitions::Entry;
+use std::alloc::{AllocError, Global};
+use std::sync::ledger::Ledger;
+
+/// Goes round the nodes, which have at most so many attempts each, until each has an ending. If memory runs out, each
+/// node without an ending gets that fault.
+pub(crate) fn go_on<O: Origin, L: Ledger, B: Board<O, L>, G: Gate>(
+    alloc: Global,
+    board: &mut B,
+    gate: &G,
+    worker: usize,
+    attempts: u64,
+    nodes: &mut [Visited<O>],
+    hand: &mut Hand<L>,
+)
+    ensures gained { Gains (attempts_left nodes.old) 0 hand.old hand.new }
+    ensures numbers { numbers_of nodes.new ≡ numbers_of nodes.old }
+    ensures goes { IsToldTo B.told (B.tells board.old) hand.old.pass →
+        WorksOn (B.tells board.old) hand.old (B.tells board.new) hand.new }
+    ensures solo { IsToldTo B.told (B.tells board.old) hand.old.pass →
+        (IsCutShort (rounds (B.tells board.old).limit (attempts + 1) (course_of (B.tells board.old))
+        (map progress_in nodes.old)) (B.tells board.new).log (map ending_of (map progress_in nodes.new)))
+        ⊎ ((course_of (B.tells board.new), map progress_in nodes.new)
+        ≡ rounds (B.tells board.old).limit (attempts + 1) (course_of (B.tells board.old))
+        (map progress_in nodes.old)) }
+{
+    let mut spare = None;
+    match go_rounds(
+        alloc, board, gate, worker, attempts, nodes, hand, &mut spare,
+    ) {
+        Ok(()) => (),
+        Err(AllocError) => end_all(nodes),
+    }
+}
+
+/// Goes round the nodes until each has an ending, or memory runs out: once for each attempt, and once more. Rests after a
+/// round in which nothing was committed.
+fn go_rounds<O: Origin, L: Ledger, B: Board<O, L>, G: Gate>(
+    alloc: Global,
+    board: &mut B,
+    gate: &G,
+    worker: usize,
+    attempts: u64,
+    nodes: &mut [Visited<O>],
+    hand: &mut Hand<L>,
+    spare: &mut Option<Spare<Entry>>,
+) -> Result<(), AllocError>
+    ensures gained { Gains (attempts_left nodes.old) (attempts_left nodes.new) hand.old hand.new }
+    ensures numbers { numbers_of nodes.new ≡ numbers_of nodes.old }
+    ensures stopped { OnErr result (list_any is_under_way (map progress_in nodes.new) ≡ true) }
+    ensures goes { IsToldTo B.told (B.tells board.old) hand.old.pass →
+        WorksOn (B.tells board.old) hand.old (B.tells board.new) hand.new }
+    ensures rounds { IsToldTo B.told (B.tells board.old) hand.old.pass → OnOk result
+        ((course_of (B.tells board.new), map progress_in nodes.new)
+        ≡ rounds (B.tells board.old).limit (attempts + 1) (course_of (B.tells board.old))
+        (map progress_in nodes.old)) }
+    ensures cut { IsToldTo B.told (B.tells board.old) hand.old.pass → OnErr result
+        (Begins (B.tells board.new).log
+        (rounds (B.tells board.old).limit (attempts + 1) (course_of (B.tells board.old))
+        (map progress_in nodes.old)).0) }
+{
+    for _round in 0..attempts {
+        let committed = hand.share.count();
+        go_round(alloc, board, gate, worker, nodes, hand, spare)?;
+        if have_all_ended(nodes) {
+            return Ok(());
+        }
+        rest_if_idle(board, committed, hand);
+    }
+    go_round(alloc, board, gate, worker, nodes, hand, spare)
+}
+
+/// Rests, if the worker has made no more commits than these.
+fn rest_if_idle<O: Origin, L: Ledger, B: Board<O, L>>(board: &B, committed: u64, hand: &Hand<L>) {
+    if hand.share.count() == committed {
+        board.rest();
+    }
+}
+
+/// Visits each node that has no ending, in order, until memory runs out at one.
+fn go_round<O: Origin, L: Ledger, B: Board<O, L>, G: Gate>(
+    alloc: Global,
+    board: &mut B,
+    gate: &G,
+    worker: usize,
+    nodes: &mut [Visited<O>],
+    hand: &mut Hand<L>,
+    spare: &mut Option<Spare<Entry>>,
+) -> Result<(), AllocError>
+    ensures gained { Gains (attempts_left nodes.old) (attempts_left nodes.new) hand.old hand.new }
+    ensures numbers { numbers_of nodes.new ≡ numbers_of nodes.old }
+    ensures stopped { OnErr result (list_any is_under_way (map progress_in nodes.new) ≡ true) }
+    ensures goes { IsToldTo B.told (B.tells board.old) hand.old.pass →
+        WorksOn (B.tells board.old) hand.old (B.tells board.new) hand.new }
+    ensures round { IsToldTo B.told (B.tells board.old) hand.old.pass → OnOk result
+        ((course_of (B.tells board.new), map progress_in nodes.new)
+        ≡ round (B.tells board.old).limit (course_of (B.tells board.old)) (map progress_in nodes.old)) }
+    ensures cut { IsToldTo B.told (B.tells board.old) hand.old.pass → OnErr result
+        (Begins (B.tells board.new).log
+        (round (B.tells board.old).limit (course_of (B.tells board.old)) (map progress_in nodes.old)).0) }
+{
+    for position in 0..nodes.len() {
+        visit_unless_ended(
+            alloc,
+            board,
+            gate,
+            worker,
+            &mut nodes[position],
+            hand,
+            spare,
+        )?;
+    }
+    Ok(())
+}
+
+/// A visit of a node, unless it has an ending.
+fn visit_unless_ended<O: Origin, L: Ledger, B: Board<O, L>, G: Gate>(
+    alloc: Global,
+    board: &mut B,
+    gate: &G,
+    worker: usize,
+    node: &mut Visited<O>,
+    hand: &mut Hand<L>,
+    spare: &mut Option<Spare<Entry>>,
+) -> Result<(), AllocError>
+    ensures gained { Gains node.old.progress.attempts node.new.progress.attempts hand.old hand.new }
+    ensures number { node.new.number ≡ node.old.number }
+    ensures stopped { OnErr result (node.new.progress.ending ≡ None) }
+    ensures stays { B.told ≡ true → OnErr result (B.tells board.new ≡ B.tells board.old) }
+    ensures goes { IsToldTo B.told (B.tells board.old) hand.old.pass →
+        WorksOn (B.tells board.old) hand.old (B.tells board.new) hand.new }
+    ensures visited { IsToldTo B.told (B.tells board.old) hand.old.pass → OnOk result
+        (Comes visit_unless_ended (B.tells board.old) (progress_in node.old) (B.tells board.new)
+        (progress_in node.new)) }
+{
+    match node.progress.ending {
+        Some(_) => Ok(()),
+        None => {
+            let Visited { progress, look, .. } = node;
+            visit(alloc, board, gate, worker, progress, look, hand, spare)
+        }
+    }
+}
+
+/// Whether each node has an ending.
+fn have_all_ended<O: Origin>(nodes: &[Visited<O>]) -> bool
+    ensures { result ≡ list_all has_ended (map progress_in nodes.now) }
+{
+    for node in nodes {
+        if node.progress.ending.is_none() {
+            return false;
+        }
+    }
+    true
+}
+
+/// Ends each node that has no ending with the fault `Memory` (3).
+fn end_all<O: Origin>(nodes: &mut [Visited<O>])
+    ensures ended { map progress_in nodes.new ≡ map short_of_memory (map progress_in nodes.old) }
+    ensures numbers { numbers_of nodes.new ≡ numbers_of nodes.old }
+{
+    for position in 0..nodes.len() {
+        end_for_memory(&mut nodes[position]);
+    }
+}
+
+/// Ends a node with the fault `Memory` (3), if it has no ending yet.
+fn end_for_memory<O: Origin>(node: &mut Visited<O>)
+    ensures ended { progress_in node.new ≡ short_of_memory (progress_in node.old) }
+    ensures number { node.new.number ≡ node.old.number }
+{
+    if node.progress.ending.is_none() {
+        node.progress.ending = Some(Ending::Fault(NodeFault::Memory));
+    }
+}

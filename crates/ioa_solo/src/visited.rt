@@ -1,0 +1,40 @@
+//! A node of a worker.
+
+ghost use Rattle.std.specs.Prelude.{◌≡◌, IfOk};
+ghost use Rattle.ioa_turns.specs.NodeTurns.{progress_at};
+
+use ioa_boards::Place;
+use ioa_sharing::Origin;
+use ioa_system::Program;
+use ioa_turns::Progress;
+use std::alloc::{AllocError, Global};
+
+/// A node of a worker: its number, how far it has come, and the place of the last look at it.
+#[derive(Drop)]
+pub(crate) struct Visited<'a, O: Origin> {
+    pub(crate) number: i64,
+    pub(crate) progress: Progress<'a>,
+    pub(crate) look: Place<O>,
+}
+
+impl<'a, O: Origin> Visited<'a, O> {
+    ghost use Rattle.ioa_solo.specs.Visits.{progress_in};
+
+    /// A node before its first visit, at which the worker has not looked.
+    pub(crate) fn start(
+        alloc: Global,
+        program: &'a Program,
+        attempts: u64,
+    ) -> Result<Self, AllocError>
+        ensures before { IfOk result (λ n. progress_in n ≡ progress_at attempts program.now) }
+        ensures number { IfOk result (λ n. n.number ≡ program.now.node) }
+    {
+        let progress = Progress::start(alloc, program, attempts)?;
+        let look = Place::new(alloc)?;
+        Ok(Visited {
+            number: program.node(),
+            progress,
+            look,
+        })
+    }
+}

@@ -1,0 +1,6 @@
+-- lemmas of slots
+mod Behind
+pub mod Dealing
+pub mod InOrder
+pub mod Numbers
+pub mod Unbegun

@@ -1,0 +1,42 @@
+//! The systems of the tests.
+
+use ioa_check::check;
+use ioa_system::System;
+use ioa_text_reader::parse;
+use std::alloc::Global;
+use std::sync::Arc;
+use std::test::Fail;
+
+/// Two nodes that count on their own, once and five times.
+pub(crate) const TICK: &str = "automaton Tick(c: Nat)
+        signature internal tick
+        states n: Int := 0
+        transitions internal tick eff n := n + 1
+        schedule
+          states k: Nat := 0
+          do while k < c do fire internal tick; k := k + 1 od od
+      system node 0: Tick(1) node 1: Tick(5)";
+
+/// The same, but node 0 counts by two.
+pub(crate) const LEAP: &str = "automaton Leap(c: Nat)
+        signature internal tick
+        states n: Int := 0
+        transitions internal tick eff n := n + 2
+        schedule
+          states k: Nat := 0
+          do while k < c do fire internal tick; k := k + 1 od od
+      automaton Tick(c: Nat)
+        signature internal tick
+        states n: Int := 0
+        transitions internal tick eff n := n + 1
+        schedule
+          states k: Nat := 0
+          do while k < c do fire internal tick; k := k + 1 od od
+      system node 0: Leap(1) node 1: Tick(5)";
+
+/// The system of a text.
+pub(crate) fn system(alloc: Global, text: &str) -> Result<Arc<System>, Fail> {
+    let source = Box::new(alloc, parse(alloc, text).ok().ok_or("refused")?)?;
+    let system = check(alloc, source.text()).ok().ok_or("refused")?;
+    Ok(Arc::new(alloc, system)?)
+}
