@@ -28,6 +28,16 @@ automaton Waiter
     states k: Nat := 0
     do while true do k := k + 1 od od""".split("\n")
 
+# Ticks as often as its parameter says, and performs about 1,000 statements before each tick.
+COMPUTER = """\
+automaton Computer(ticks: Nat)
+  signature internal tick
+  states count: Int := 0
+  transitions internal tick eff count := count + 1
+  schedule
+    states k: Nat := 0, j: Nat := 0
+    do while k < ticks do j := 0; while j < 495 do j := j + 1 od; fire tick; k := k + 1 od od""".split("\n")
+
 # Sends a token on to the node after it, and takes one from the node before it.
 STATION = """\
 automaton Station(me, before, after: Nat)
@@ -103,7 +113,12 @@ def waiting(size):
     return TICKER + WAITER + nodes(["Ticker(1000)"] + ["Waiter"] * size)
 
 
-KINDS = {kind.__name__: kind for kind in (ticking, alone, ring, queue, sequence, waiting)}
+def computing(size):
+    """SIZE nodes, each of which computes and ticks 100 times."""
+    return COMPUTER + nodes(["Computer(100)"] * size)
+
+
+KINDS = {kind.__name__: kind for kind in (ticking, alone, ring, queue, sequence, waiting, computing)}
 
 if __name__ == "__main__":
     if len(sys.argv) != 3 or sys.argv[1] not in KINDS or not sys.argv[2].isdigit():
