@@ -3,7 +3,6 @@
 use Rattle.std.proofs.Common.{◌≡◌, ◌∙◌, ◌++◌, ℤ, Bool, true, false, List, [], ◌∷◌, map, Some, Result, Ok, Err, refl, sym, ap, subst, append_assoc}
 use Rattle.std.specs.Ordering.{int_eq}
 use Rattle.std.proofs.lemmas.Bool.Decides.{Decides-int_eq}
-use Rattle.ioa_actions.specs.declared.component.Component.{Component}
 use Rattle.ioa_actions.specs.declared.component.Component.TheVariants as component
 use Rattle.ioa_actions.specs.declared.fault.StepFault.{StepFault}
 use Rattle.ioa_commits.specs.Books.{PlainBook, states_held}
@@ -24,7 +23,7 @@ use Rattle.ioa_transitions.specs.NodeState.{NodeState}
 use Rattle.ioa_transitions.proofs.NodeSteps.{program-node_answer}
 use Rattle.ioa_turns.specs.NodeTurns.{PlainProgress}
 use Rattle.ioa_values.specs.Outcome.{and_then}
-use Rattle.ioa_solo.specs.Meets.{fault_of_conf, met_in}
+use Rattle.ioa_solo.specs.Meets.{met_in}
 use Rattle.ioa_solo.specs.Works.{program_of}
 
 -- a configuration of a node with this program

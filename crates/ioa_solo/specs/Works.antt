@@ -47,7 +47,8 @@ abbrev pub ending_at : {O : Type 0} → List Parts → List (Visited O) → ℤ 
 ending_at ps nodes k =
     unwrap_or (option_map (λ n. ending_of (progress_in n)) (visited_at k nodes)) (ending_unvisited (program_of k ps))
 
--- one worker has all nodes of a system, in order, and its board tells a book of that system in which nothing is recorded
+-- one worker has all nodes of a system, in order, and its board tells a book of that system in which nothing is
+-- recorded
 pub record IsAlone (told : Bool) (b : PlainBook) (p : PlainPass) (s : SystemParts) (nodes : List ℤ) : Type 0 where
   pub tells : IsToldTo told b p
   pub fresh : b ≡ plain_book (start s) [] b.limit

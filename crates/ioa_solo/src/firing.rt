@@ -23,7 +23,8 @@ use std::alloc::{AllocError, Global};
 use std::sync::ledger::Ledger;
 
 /// The commit of a proposal of a node. If it is made, the block moves past the fire. A stale proposal ends the attempt,
-/// and any other fault the node. Memory for the receipt and the log is asked for before, so that only then it can run out.
+/// and any other fault the node. Memory for the receipt and the log is asked for before, so that only then it can run
+/// out.
 pub(crate) fn commit<O: Origin, L: Ledger, B: Board<O, L>, G: Gate>(
     alloc: Global,
     board: &mut B,

@@ -51,8 +51,8 @@ pub(crate) fn go_on<O: Origin, L: Ledger, B: Board<O, L>, G: Gate>(
     }
 }
 
-/// Goes round the nodes until each has an ending, or memory runs out: once for each attempt, and once more. Rests after a
-/// round in which nothing was committed.
+/// Goes round the nodes until each has an ending, or memory runs out: once for each attempt, and once more. Rests after
+/// a round in which nothing was committed.
 fn go_rounds<O: Origin, L: Ledger, B: Board<O, L>, G: Gate>(
     alloc: Global,
     board: &mut B,

@@ -27,9 +27,9 @@ use ioa_turns::Progress;
 use std::alloc::{AllocError, Global};
 use std::sync::ledger::Ledger;
 
-/// Sees before the first visit of a node that the board has it with the program that the system has for it; else the node
-/// ends. If the board's book was opened with the system, that is known at once, since no step changes a node's program.
-/// Else the node is looked at: to compare programs takes too long for each visit.
+/// Sees before the first visit of a node that the board has it with the program that the system has for it; else the
+/// node ends. If the board's book was opened with the system, that is known at once, since no step changes a node's
+/// program. Else the node is looked at: to compare programs takes too long for each visit.
 pub(crate) fn meet<O: Origin, L: Ledger, B: Board<O, L>>(
     alloc: Global,
     board: &mut B,

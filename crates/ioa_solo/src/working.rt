@@ -24,11 +24,12 @@ use ioa_system::{Program, System};
 use std::alloc::{AllocError, Global};
 use std::sync::ledger::Ledger;
 
-/// What a worker does (profile). Its nodes are given by their numbers. A node that the board doesn't show with the program
-/// that the system has for it ends with the fault `Differs` (51). Then the worker goes round its nodes in order until each
-/// has an ending. A visit of a node that has no attempt left ends it; else one attempt is used: a look at the node on the
-/// board, one turn on what it shows, and the commit of the action that the turn fires. A receipt is kept for each commit. If memory runs out, each node without an ending gets that fault. The gate is called
-/// between the steps of a visit.
+/// What a worker does (profile). Its nodes are given by their numbers. A node that the board doesn't show with the
+/// program that the system has for it ends with the fault `Differs` (51). Then the worker goes round its nodes in order
+/// until each has an ending. A visit of a node that has no attempt left ends it; else one attempt is used: a look at the
+/// node on the board, one turn on what it shows, and the commit of the action that the turn fires. A receipt is kept for
+/// each commit. If memory runs out, each node without an ending gets that fault. The gate is called between the steps of
+/// a visit.
 ///
 /// Returns an ending for each node. The share rises by the number of receipts that are added behind those that were
 /// there, of which there are at most as many as the nodes have attempts.
@@ -216,8 +217,8 @@ fn visited_at<'a, 'b, O: Origin>(
     visited.iter().find(|visited| visited.number == node)
 }
 
-/// The ending of a node that was not visited: `Unknown` (53) if the system lacks it, and else `Memory` (3), since memory
-/// ran out before.
+/// The ending of a node that was not visited: `Unknown` (53) if the system lacks it, and else `Memory` (3), since
+/// memory ran out before.
 fn ending_unvisited(system: &System, node: i64) -> Ending
     ensures { result ≡ spec.ending_unvisited (spec.program_of node system.now.programs) }
 {

@@ -24,7 +24,8 @@ pub(crate) fn finish<O: Origin, L: Ledger>(
     slots: Vec<Slot<O, L>>,
 ) -> Result<Record, FinishFault>
     requires { length slots.items ≡ L.parts }
-    ensures replayed { IfOk result (λ r. ReplaysWithin steps (start (shared_of_value system.now)) r.schedule r.states.items) }
+    ensures replayed { IfOk result (λ r.
+        ReplaysWithin steps (start (shared_of_value system.now)) r.schedule r.states.items) }
     ensures counted { IfOk result (λ r. length r.commits.items ≡ L.parts) }
     ensures gathered { IfErr result (λ f. f ≢ FinishFault.SharesMissing) }
 {

@@ -46,7 +46,8 @@ pub fn run<R: Threads + Wait + Sync, G: Gate + Sync>(
         IsRunOf (arc_value system.now) options.now.steps r.0 r.1.items) }
     ensures gathered { IfErr result (λ f. f ≢ FinishFault.SharesMissing) }
     ensures alone { options.now.workers ≡ 1 → IfOk result (λ r. IsOfOneWorker r.0) }
-    ensures solo { options.now.workers ≡ 1 → IfOk result (λ r. IsSoloRun (arc_value system.now) options.now r.0 r.1.items) }
+    ensures solo { options.now.workers ≡ 1 → IfOk result (λ r.
+        IsSoloRun (arc_value system.now) options.now r.0 r.1.items) }
     ensures calm { options.now.workers ≡ 1 → IfErr result (λ f. f ≡ FinishFault.Memory) }
 {
     let workers = options.workers();

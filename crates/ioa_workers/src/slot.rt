@@ -88,7 +88,8 @@ pub(crate) fn slots_of<O: Origin, L: Ledger>(
 ) -> Result<Vec<Slot<O, L>>, AllocError>
     requires { length shares.items ≤ 64 }
     ensures many { IfOk result (λ v. length v.items ≡ length shares.items) }
-    ensures each { IfOk result (λ v. AreUnbegun (node_numbers (shared_of_value system.now)) (length shares.items) v.items) }
+    ensures each { IfOk result (λ v.
+        AreUnbegun (node_numbers (shared_of_value system.now)) (length shares.items) v.items) }
 {
     let workers = shares.len();
     let mut slots = Vec::new(alloc);
