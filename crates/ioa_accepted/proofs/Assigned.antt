@@ -6,6 +6,7 @@ use Rattle.ioa_values.specs.Data.{Data, Items, Entries, tuple, sequence, finite_
 use Rattle.ioa_operators.specs.Shapes.{PlainShape, PlainShapes, truths, integers, naturals, constants, tuples, sequences, sets, maps, no_shapes, shape, has_shape, have_shapes, all_have, entries_have, wide_shape, wide_shapes_if, field_position, replaced_part, with_field}
 use Rattle.ioa_operators.specs.declared.shape.Shape.{Shape}
 use Rattle.ioa_operators.proofs.Holding.{and_then_holds, map_holds_any}
+use Rattle.ioa_terms.specs.declared.callee.Callee.{Callee}
 use Rattle.ioa_terms.specs.declared.name.Name.TheVariants.{Word}
 use Rattle.ioa_terms.specs.Bindings.{Bindings, lookup}
 use Rattle.ioa_terms.specs.Meaning.{value}
@@ -88,7 +89,7 @@ field_replaced d w s v old e h k = tt
 
 module _ (names : NameShapes) (e : Bindings) (g : IsShaped names e) where
   -- the value of a term, and of a variable
-  pub term_has : (t : PlainTerm ℕ Shape) (s : PlainShape) → HasShape names t s → IfSome (value t e) (Has s)
+  pub term_has : (t : PlainTerm ℕ Callee Shape) (s : PlainShape) → HasShape names t s → IfSome (value t e) (Has s)
   term_has t s h = if_any (Has s) (value t e) (value_has names e g t s h)
 
   variable_has : (x : List ℕ) (d : PlainShape) → shape_named (Word x) names ≡ Some d → IfSome (lookup (Word x) e) (Has d)
@@ -100,7 +101,7 @@ module _ (names : NameShapes) (e : Bindings) (g : IsShaped names e) where
       (function_has (updated {k = keys} {v = s}) (m ∷ i ∷ v ∷ []) (subst (λ (z : PlainShape). Has z m) same (shape_in_terms_has d m l), (h, (k, tt))))
       (λ n p. terms_widened d n (subst (λ (z : PlainShape). Has z n) (sym same) p))
 
-  pub assigned_has : (variables : NameShapes) → ((x : List ℕ) (d : PlainShape) → shape_named (Word x) variables ≡ Some d → shape_named (Word x) names ≡ Some d) → (p : PlainTarget ℕ Shape) (t : PlainTerm ℕ Shape) (s : PlainShape) →
+  pub assigned_has : (variables : NameShapes) → ((x : List ℕ) (d : PlainShape) → shape_named (Word x) variables ≡ Some d → shape_named (Word x) names ≡ Some d) → (p : PlainTarget ℕ Callee Shape) (t : PlainTerm ℕ Callee Shape) (s : PlainShape) →
       HoldsShape variables names p s → HasShape names t s → IfSome (assignment_value p t e) (Has (wide_shape (target_shape p)))
   assigned_has variables declared (variable x at d) t s h k =
       if_mapped (Has s) (Has (wide_shape d)) (value t e) (term_has t s k) (λ v l. terms_widened d v (subst (λ (z : PlainShape). Has z v) h.1 l))

@@ -7,6 +7,7 @@ use Rattle.ioa_values.specs.Data.{Data}
 use Rattle.ioa_operators.specs.Shapes.{PlainShape, has_shape}
 use Rattle.ioa_operators.specs.declared.shape.Shape.{Shape}
 use Rattle.ioa_operators.proofs.Holding.{map_holds, map_holds_any, and_then_holds_any, test_holds}
+use Rattle.ioa_terms.specs.declared.callee.Callee.{Callee}
 use Rattle.ioa_terms.specs.declared.name.Name.{Name}
 use Rattle.ioa_terms.specs.declared.name.Name.TheVariants.{Word}
 use Rattle.ioa_terms.specs.Bindings.{Bindings, constants_from, put, same_name}
@@ -69,23 +70,23 @@ put_own (y ∷ ys) (w ∷ ws) rest x d v fits declared has = by_same (same_name 
         record { left = w ∷ r.left; fits = (fits.0, r.fits); same = rw e (ap (λ (bs : Bindings). (Word y.declared.name, w) ∷ bs) r.same) }
 
 -- lists of well-sorted statements, one behind the other
-joined_sorted : (p : Parts) (ss more : PlainStatements ℕ Shape) (e : Bindings) → AreBlockWellSorted p.automaton.schedule.variables p.automaton.rules ss e → AreBlockWellSorted p.automaton.schedule.variables p.automaton.rules more e → AreBlockWellSorted p.automaton.schedule.variables p.automaton.rules (joined_statements ss more) e
+joined_sorted : (p : Parts) (ss more : PlainStatements ℕ Callee Shape) (e : Bindings) → AreBlockWellSorted p.automaton.schedule.variables p.automaton.rules ss e → AreBlockWellSorted p.automaton.schedule.variables p.automaton.rules more e → AreBlockWellSorted p.automaton.schedule.variables p.automaton.rules (joined_statements ss more) e
 joined_sorted p no_statements more e h g = g
 joined_sorted p (statement s ss) more e h g = (h.0, joined_sorted p ss more e h.1 g)
 
 module _ (p : Parts) where
   -- what holds of statements, or of arms, for all values of their shapes
-  abbrev AreSorted : PlainStatements ℕ Shape → Type 0
+  abbrev AreSorted : PlainStatements ℕ Callee Shape → Type 0
   AreSorted todo = (state inboxes later : List Data) → AllZip FitsVariable p.automaton.variables state → FitInboxes (message_shape p.automaton.rules) inboxes → AllZip FitsVariable p.automaton.schedule.variables later → AreBlockWellSorted p.automaton.schedule.variables p.automaton.rules todo (block_bindings p.automaton p.arguments state inboxes later)
 
-  abbrev AreArmsSorted : PlainArms ℕ Shape → Type 0
+  abbrev AreArmsSorted : PlainArms ℕ Callee Shape → Type 0
   AreArmsSorted arms = (state inboxes later : List Data) → AllZip FitsVariable p.automaton.variables state → FitInboxes (message_shape p.automaton.rules) inboxes → AllZip FitsVariable p.automaton.schedule.variables later → AreBlockArmsWellSorted p.automaton.schedule.variables p.automaton.rules arms (block_bindings p.automaton p.arguments state inboxes later)
 
   -- what an `if` goes on with
-  choice_sorted : (arms : PlainArms ℕ Shape) (rest : PlainStatements ℕ Shape) (e : Bindings) → AreArmsSorted arms → AreSorted rest → IfSome (choice arms rest e) AreSorted
+  choice_sorted : (arms : PlainArms ℕ Callee Shape) (rest : PlainStatements ℕ Callee Shape) (e : Bindings) → AreArmsSorted arms → AreSorted rest → IfSome (choice arms rest e) AreSorted
   choice_sorted no_arms rest e h g = g
   choice_sorted (arm t body more) rest e h g =
-      after_test (λ (o : Option (PlainStatements ℕ Shape)). IfSome o AreSorted) (test_value t e) None (Some body) (choice more rest e)
+      after_test (λ (o : Option (PlainStatements ℕ Callee Shape)). IfSome o AreSorted) (test_value t e) None (Some body) (choice more rest e)
       tt (λ state is later f i k. (h state is later f i k).1) (choice_sorted more rest e (λ state is later f i k. (h state is later f i k).2) g)
 
   module _ (state inboxes : List Data) (g : AllZip FitsVariable p.automaton.variables state) (seen : FitInboxes (message_shape p.automaton.rules) inboxes) where
@@ -98,14 +99,14 @@ module _ (p : Parts) where
       fits : AllZip FitsVariable p.automaton.schedule.variables own
       same : e ≡ block_bindings p.automaton p.arguments state inboxes own
 
-    record IsKept (todo : PlainStatements ℕ Shape) (e : Bindings) : Type 0 where
+    record IsKept (todo : PlainStatements ℕ Callee Shape) (e : Bindings) : Type 0 where
       left : IsLeft e
       sorted : AreSorted todo
 
     as_it_was : (own : List Data) → AllZip FitsVariable p.automaton.schedule.variables own → IsLeft (reads own)
     as_it_was own fits = record { own = own; fits = fits; same = refl }
 
-    assigned_left : (q : PlainTarget ℕ Shape) (v : Data) (own : List Data) → AllZip FitsVariable p.automaton.schedule.variables own → IsOwnTarget p.automaton.schedule.variables q → has_shape (target_shape q) v ≡ true → IsLeft (put (target_name q) v (reads own))
+    assigned_left : (q : PlainTarget ℕ Callee Shape) (v : Data) (own : List Data) → AllZip FitsVariable p.automaton.schedule.variables own → IsOwnTarget p.automaton.schedule.variables q → has_shape (target_shape q) v ≡ true → IsLeft (put (target_name q) v (reads own))
     assigned_left q v own fits declared has =
         let xs = p.automaton.schedule.variables in
         let ws = inbox_words (message_shape p.automaton.rules) ++ (variable_names p.automaton.variables ++ parameter_names p.automaton.parameters) in
@@ -118,7 +119,7 @@ module _ (p : Parts) where
           same = ap (put (target_name q) v) (bindings_read p state inboxes own fits) ∙ r.same ∙ sym (bindings_read p state inboxes r.left r.fits);
         }
 
-    assignment_left : (q : PlainTarget ℕ Shape) (o : Option Data) (own : List Data) → AllZip FitsVariable p.automaton.schedule.variables own → IsOwnTarget p.automaton.schedule.variables q →
+    assignment_left : (q : PlainTarget ℕ Callee Shape) (o : Option Data) (own : List Data) → AllZip FitsVariable p.automaton.schedule.variables own → IsOwnTarget p.automaton.schedule.variables q →
         IfSome (option_map (λ v. put (target_name q) v (reads own)) (option_and_then (fitting_value (target_shape q)) o)) IsLeft
     assignment_left q o own fits declared =
         map_holds Fits IsLeft (λ v. put (target_name q) v (reads own)) (option_and_then (fitting_value (target_shape q)) o)
@@ -128,17 +129,17 @@ module _ (p : Parts) where
         Fits : Data → Type 0
         Fits v = has_shape (target_shape q) v ≡ true
 
-    abbrev StepKeeps : Option (PlainStatements ℕ Shape × Bindings) → Type 0
+    abbrev StepKeeps : Option (PlainStatements ℕ Callee Shape × Bindings) → Type 0
     StepKeeps o = IfSome o (λ q. IsKept q.0 q.1)
 
     -- one statement
-    step_kept : (s : PlainStatement ℕ Shape) (rest : PlainStatements ℕ Shape) (own : List Data) → AllZip FitsVariable p.automaton.schedule.variables own → AreSorted (statement s rest) → StepKeeps (after_step s rest (reads own))
+    step_kept : (s : PlainStatement ℕ Callee Shape) (rest : PlainStatements ℕ Callee Shape) (own : List Data) → AllZip FitsVariable p.automaton.schedule.variables own → AreSorted (statement s rest) → StepKeeps (after_step s rest (reads own))
     step_kept (assign q t) rest own fits h =
-        map_holds IsLeft (λ (k : PlainStatements ℕ Shape × Bindings). IsKept k.0 k.1) (λ d. (rest, d)) (after_one (assign q t) (reads own))
+        map_holds IsLeft (λ (k : PlainStatements ℕ Callee Shape × Bindings). IsKept k.0 k.1) (λ d. (rest, d)) (after_one (assign q t) (reads own))
         (assignment_left q (assignment_value q t (reads own)) own fits (h state inboxes own g seen fits).0.0)
         (λ d k. record { left = k; sorted = λ st is later a i b. (h st is later a i b).1 })
     step_kept (branch arms others) rest own fits h =
-        map_holds AreSorted (λ (k : PlainStatements ℕ Shape × Bindings). IsKept k.0 k.1) (λ body. (joined_statements body rest, reads own)) (choice arms others (reads own))
+        map_holds AreSorted (λ (k : PlainStatements ℕ Callee Shape × Bindings). IsKept k.0 k.1) (λ body. (joined_statements body rest, reads own)) (choice arms others (reads own))
         (choice_sorted arms others (reads own) (λ st is later a i b. (h st is later a i b).0.0) (λ st is later a i b. (h st is later a i b).0.1))
         (λ body k. record { left = as_it_was own fits; sorted = λ st is later a i b. joined_sorted p body rest (block_bindings p.automaton p.arguments st is later) (k st is later a i b) (h st is later a i b).1 })
     step_kept (loop t body) rest own fits h =
@@ -151,16 +152,16 @@ module _ (p : Parts) where
     abbrev TurnKeeps : Option TurnResult → Type 0
     TurnKeeps o = IfSome o (λ r. IsKept r.todo r.bindings)
 
-    here_kept : (todo : PlainStatements ℕ Shape) (own : List Data) → AllZip FitsVariable p.automaton.schedule.variables own → AreSorted todo → IsKept todo (reads own)
+    here_kept : (todo : PlainStatements ℕ Callee Shape) (own : List Data) → AllZip FitsVariable p.automaton.schedule.variables own → AreSorted todo → IsKept todo (reads own)
     here_kept todo own fits h = record { left = as_it_was own fits; sorted = h }
 
     -- further statements of a turn
-    further_kept : (n : ℕ) (o : Option (PlainStatements ℕ Shape × Bindings)) → StepKeeps o →
-        ((todo : PlainStatements ℕ Shape) (own : List Data) → AllZip FitsVariable p.automaton.schedule.variables own → AreSorted todo → TurnKeeps (turn todo n (reads own))) → TurnKeeps (option_and_then (λ q. turn q.0 n q.1) o)
+    further_kept : (n : ℕ) (o : Option (PlainStatements ℕ Callee Shape × Bindings)) → StepKeeps o →
+        ((todo : PlainStatements ℕ Callee Shape) (own : List Data) → AllZip FitsVariable p.automaton.schedule.variables own → AreSorted todo → TurnKeeps (turn todo n (reads own))) → TurnKeeps (option_and_then (λ q. turn q.0 n q.1) o)
     further_kept n None h more = tt
     further_kept n (Some q) h more = rw h.left.same (more q.0 h.left.own h.left.fits h.sorted)
 
-    turn_kept : (n : ℕ) (todo : PlainStatements ℕ Shape) (own : List Data) → AllZip FitsVariable p.automaton.schedule.variables own → AreSorted todo → TurnKeeps (turn todo n (reads own))
+    turn_kept : (n : ℕ) (todo : PlainStatements ℕ Callee Shape) (own : List Data) → AllZip FitsVariable p.automaton.schedule.variables own → AreSorted todo → TurnKeeps (turn todo n (reads own))
     turn_kept n no_statements own fits h = here_kept no_statements own fits h
     turn_kept n (statement (fire f) rest) own fits h =
         map_holds_any (λ (r : TurnResult). IsKept r.todo r.bindings) (λ vs. turn_result (fires f.kind f.action vs) (statement (fire f) rest) (reads own)) (values (terms_of f.arguments) (reads own))
@@ -179,12 +180,12 @@ module _ (p : Parts) where
     turn_left r k = (k.left.own, k.left.same, record { values = k.left.fits; sorted = k.sorted })
 
 -- a turn
-pub block_turns : (p : Parts) (state inboxes own : List Data) (todo : PlainStatements ℕ Shape) (n : ℕ) (r : TurnResult) → AllZip FitsVariable p.automaton.variables state → FitInboxes (message_shape p.automaton.rules) inboxes → IsBlockState p todo own →
+pub block_turns : (p : Parts) (state inboxes own : List Data) (todo : PlainStatements ℕ Callee Shape) (n : ℕ) (r : TurnResult) → AllZip FitsVariable p.automaton.variables state → FitInboxes (message_shape p.automaton.rules) inboxes → IsBlockState p todo own →
     turn todo n (block_bindings p.automaton p.arguments state inboxes own) ≡ Some r → (left : List Data) × (r.bindings ≡ block_bindings p.automaton p.arguments state inboxes left) × IsBlockState p r.todo left
 block_turns p state inboxes own todo n r g seen b h = turn_left p state inboxes g seen r (rw h at (turn_kept p state inboxes g seen n todo own b.values b.sorted))
 
 -- the way past the first statement
-pub block_passes : (p : Parts) (todo : PlainStatements ℕ Shape) (own : List Data) → IsBlockState p todo own → IsBlockState p (following_statements todo) own
+pub block_passes : (p : Parts) (todo : PlainStatements ℕ Callee Shape) (own : List Data) → IsBlockState p todo own → IsBlockState p (following_statements todo) own
 block_passes p no_statements own b = b
 block_passes p (statement s rest) own b = record { values = b.values; sorted = λ state is later g i k. (b.sorted state is later g i k).1 }
 

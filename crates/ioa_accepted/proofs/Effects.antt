@@ -6,6 +6,7 @@ use Rattle.ioa_values.specs.Data.{Data}
 use Rattle.ioa_operators.specs.Shapes.{PlainShape, has_shape}
 use Rattle.ioa_operators.specs.declared.shape.Shape.{Shape}
 use Rattle.ioa_operators.proofs.Holding.{map_holds, and_then_holds, and_then_holds_any, test_holds}
+use Rattle.ioa_terms.specs.declared.callee.Callee.{Callee}
 use Rattle.ioa_terms.specs.declared.name.Name.{Name}
 use Rattle.ioa_terms.specs.SameNames.{same_name_is}
 use Rattle.ioa_terms.specs.Bindings.{Bindings, same_name, lookup, put}
@@ -45,7 +46,7 @@ put_shaped names e x s v g declared h = λ y t u named found. by_same y t u (sam
     by_same y t u false q named k = g y t u named k
 
 -- the annotation of a target is its variable's declared shape
-pub target_declared : (variables names : NameShapes) (p : PlainTarget ℕ Shape) (s : PlainShape) → HoldsShape variables names p s → shape_named (target_name p) variables ≡ Some (target_shape p)
+pub target_declared : (variables names : NameShapes) (p : PlainTarget ℕ Callee Shape) (s : PlainShape) → HoldsShape variables names p s → shape_named (target_name p) variables ≡ Some (target_shape p)
 target_declared variables names (variable x at d) s h = h.0
 target_declared variables names (at_key x at d k) s h = h.1
 target_declared variables names (at_field x at d f) s h = h.0
@@ -64,7 +65,7 @@ all_sorted site (u ∷ us) [] h = absurd h
 all_sorted site (u ∷ us) (s ∷ ss) h = (h.0.sorted, all_sorted site us ss h.1)
 
 module _ (variables names : NameShapes) (declared : (x : Name) (s : PlainShape) → shape_named x variables ≡ Some s → shape_named x names ≡ Some s) where
-  assigned_shaped : (p : PlainTarget ℕ Shape) (s : PlainShape) (e : Bindings) (o : Option Data) → HoldsShape variables names p s → IsShaped names e →
+  assigned_shaped : (p : PlainTarget ℕ Callee Shape) (s : PlainShape) (e : Bindings) (o : Option Data) → HoldsShape variables names p s → IsShaped names e →
       IfSome (option_map (λ v. put (target_name p) v e) (option_and_then (fitting_value (target_shape p)) o)) (IsShaped names)
   assigned_shaped p s e o h g =
       map_holds Fits (IsShaped names) (λ v. put (target_name p) v e) (option_and_then (fitting_value (target_shape p)) o)
@@ -75,19 +76,19 @@ module _ (variables names : NameShapes) (declared : (x : Name) (s : PlainShape) 
       Fits v = has_shape (target_shape p) v ≡ true
 
   mutual
-    pub statement_shaped : (s : PlainStatement ℕ Shape) (e : Bindings) → IsSorted (effect_site variables names) s → IsShaped names e → IfSome (after_one s e) (IsShaped names)
+    pub statement_shaped : (s : PlainStatement ℕ Callee Shape) (e : Bindings) → IsSorted (effect_site variables names) s → IsShaped names e → IfSome (after_one s e) (IsShaped names)
     statement_shaped (assign p t) e h g = assigned_shaped p h.0 e (assignment_value p t e) h.1 g
     statement_shaped (branch arms rest) e h g = choice_shaped arms (after_all rest e) e h.0 g (statements_shaped rest e h.1 g)
     statement_shaped (loop t body) e h g = tt
     statement_shaped (fire f) e h g = tt
 
-    choice_shaped : (arms : PlainArms ℕ Shape) (rest : Option Bindings) (e : Bindings) → AreArmsSorted (effect_site variables names) arms → IsShaped names e → IfSome rest (IsShaped names) → IfSome (after_choice arms rest e) (IsShaped names)
+    choice_shaped : (arms : PlainArms ℕ Callee Shape) (rest : Option Bindings) (e : Bindings) → AreArmsSorted (effect_site variables names) arms → IsShaped names e → IfSome rest (IsShaped names) → IfSome (after_choice arms rest e) (IsShaped names)
     choice_shaped no_arms rest e h g k = k
     choice_shaped (arm t body more) rest e h g k =
         after_test (λ (o : Option Bindings). IfSome o (IsShaped names)) (test_value t e) None (after_all body e) (after_choice more rest e)
         tt (statements_shaped body e h.1 g) (choice_shaped more rest e h.2 g k)
 
-    pub statements_shaped : (ss : PlainStatements ℕ Shape) (e : Bindings) → AreSorted (effect_site variables names) ss → IsShaped names e → IfSome (after_all ss e) (IsShaped names)
+    pub statements_shaped : (ss : PlainStatements ℕ Callee Shape) (e : Bindings) → AreSorted (effect_site variables names) ss → IsShaped names e → IfSome (after_all ss e) (IsShaped names)
     statements_shaped no_statements e h g = g
     statements_shaped (statement s more) e h g =
         and_then_holds (IsShaped names) (IsShaped names) (after_all more) (after_one s e) (statement_shaped s e h.0 g) (λ f k. statements_shaped more f h.1 k)

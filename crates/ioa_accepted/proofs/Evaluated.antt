@@ -4,6 +4,7 @@ use Rattle.std.specs.List.{AllByRecursion, AllZip, Contains}
 use Rattle.std.specs.Option.{IfSome}
 use Rattle.ioa_operators.specs.Shapes.{PlainShape, truths}
 use Rattle.ioa_operators.specs.declared.shape.Shape.{Shape}
+use Rattle.ioa_terms.specs.declared.callee.Callee.{Callee}
 use Rattle.ioa_terms.specs.declared.name.Name.{Name}
 use Rattle.ioa_terms.specs.declared.name.Name.TheVariants.{Word}
 use Rattle.ioa_terms.specs.Bindings.{Bindings}
@@ -50,17 +51,17 @@ further P Q (Some f) h g = g f h
 -- statements
 module _ (variables names : NameShapes) (declared : (x : Name) (s : PlainShape) → shape_named x variables ≡ Some s → shape_named x names ≡ Some s) where
   mutual
-    statement_sorted : (s : PlainStatement ℕ Shape) (e : Bindings) → IsSorted (effect_site variables names) s → IsShaped names e → IsWellSorted s e
+    statement_sorted : (s : PlainStatement ℕ Callee Shape) (e : Bindings) → IsSorted (effect_site variables names) s → IsShaped names e → IsWellSorted s e
     statement_sorted (assign p t) e h g = assigned_has names e g variables (λ x d k. declared (Word x) d k) p t h.0 h.1 h.2
     statement_sorted (branch arms rest) e h g = (arms_sorted arms e h.0 g, statements_sorted rest e h.1 g)
     statement_sorted (loop t body) e h g = let f : false ≡ true = h.0 in absurd (cc)
     statement_sorted (fire f) e h g = absurd (omega (arith, h.present.1))
 
-    arms_sorted : (arms : PlainArms ℕ Shape) (e : Bindings) → AreArmsSorted (effect_site variables names) arms → IsShaped names e → AreArmsWellSorted arms e
+    arms_sorted : (arms : PlainArms ℕ Callee Shape) (e : Bindings) → AreArmsSorted (effect_site variables names) arms → IsShaped names e → AreArmsWellSorted arms e
     arms_sorted no_arms e h g = tt
     arms_sorted (arm t body more) e h g = (term_has names e g t truths h.0, statements_sorted body e h.1 g, arms_sorted more e h.2 g)
 
-    statements_sorted : (ss : PlainStatements ℕ Shape) (e : Bindings) → AreSorted (effect_site variables names) ss → IsShaped names e → AreWellSorted ss e
+    statements_sorted : (ss : PlainStatements ℕ Callee Shape) (e : Bindings) → AreSorted (effect_site variables names) ss → IsShaped names e → AreWellSorted ss e
     statements_sorted no_statements e h g = tt
     statements_sorted (statement s more) e h g = (
       statement_sorted s e h.0 g,
@@ -90,7 +91,7 @@ module _ (own : List CheckedVariable) (site : PlainStatementSite) (first : site.
   }
 
   mutual
-    one_block_sorted : (s : PlainStatement ℕ Shape) → IsSorted site s → IsBlockWellSorted own site.rules s e
+    one_block_sorted : (s : PlainStatement ℕ Callee Shape) → IsSorted site s → IsBlockWellSorted own site.rules s e
     one_block_sorted (assign p t) h = (
       subst (λ (vs : NameShapes). shape_named (target_name p) vs ≡ Some (target_shape p)) first (target_declared site.variables site.names p h.0 h.1),
       assigned_has site.names e g site.variables (λ x d k. declared (Word x) d k) p t h.0 h.1 h.2,
@@ -99,11 +100,11 @@ module _ (own : List CheckedVariable) (site : PlainStatementSite) (first : site.
     one_block_sorted (loop t body) h = (term_has site.names e g t truths h.1, block_sorted body h.2)
     one_block_sorted (fire f) h = firing_sorted f h
 
-    block_arms_sorted : (arms : PlainArms ℕ Shape) → AreArmsSorted site arms → AreBlockArmsWellSorted own site.rules arms e
+    block_arms_sorted : (arms : PlainArms ℕ Callee Shape) → AreArmsSorted site arms → AreBlockArmsWellSorted own site.rules arms e
     block_arms_sorted no_arms h = tt
     block_arms_sorted (arm t body more) h = (term_has site.names e g t truths h.0, block_sorted body h.1, block_arms_sorted more h.2)
 
-    block_sorted : (ss : PlainStatements ℕ Shape) → AreSorted site ss → AreBlockWellSorted own site.rules ss e
+    block_sorted : (ss : PlainStatements ℕ Callee Shape) → AreSorted site ss → AreBlockWellSorted own site.rules ss e
     block_sorted no_statements h = tt
     block_sorted (statement s more) h = (one_block_sorted s h.0, block_sorted more h.1)
 

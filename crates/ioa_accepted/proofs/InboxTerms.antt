@@ -11,6 +11,7 @@ use Rattle.ioa_operators.specs.declared.shape.Shape.{Shape}
 use Rattle.ioa_actions.specs.ComponentOrder.{same_component}
 use Rattle.ioa_actions.specs.declared.component.Component.{Component}
 use Rattle.ioa_actions.specs.declared.component.Component.TheVariants as component
+use Rattle.ioa_terms.specs.declared.callee.Callee.{Callee}
 use Rattle.ioa_terms.specs.declared.name.Name.TheVariants.{Word}
 use Rattle.ioa_terms.specs.Bindings.{Bindings, same_word, lookup, constants_from}
 use Rattle.ioa_terms.specs.Inboxes.{PlainInboxes, inboxes_word, inbox_entries, inboxes_value, inbox_values}
@@ -72,9 +73,9 @@ found_in_block p cs state own s constants fits takes differ =
     behind o = zip (map Word (inbox_words o ++ (variable_names p.automaton.variables ++ parameter_names p.automaton.parameters))) (seen o ++ (state ++ p.arguments)) ++ constants_from 0 p.automaton.constants
 
 -- the value of a call of `inbox`, if the inboxes are in view
-call_read : (t : PlainTerm ℕ Shape) (e : Bindings) (i : ℤ) (is : PlainInboxes) → value t e ≡ Some (number i) → lookup (Word inboxes_word) e ≡ Some (inboxes_value is) → value (inbox_term t) e ≡ value_at (number i) (inbox_entries is)
-call_read t e i is h found =
-    let one : value (inbox_term t) e ≡ inbox_value (number i ∷ []) e = rw h refl in
+call_read : (c : Callee) (t : PlainTerm ℕ Callee Shape) (e : Bindings) (i : ℤ) (is : PlainInboxes) → value t e ≡ Some (number i) → lookup (Word inboxes_word) e ≡ Some (inboxes_value is) → value (inbox_term c t) e ≡ value_at (number i) (inbox_entries is)
+call_read c t e i is h found =
+    let one : value (inbox_term c t) e ≡ inbox_value (number i ∷ []) e = rw h refl in
     let two : inbox_value (number i ∷ []) e ≡ value_at (number i) (pairs_of (entries_of (inbox_entries is))) = rw found refl in
     one ∙ two ∙ ap (value_at (number i)) (pairs_of_entries (inbox_entries is))
 
@@ -100,14 +101,14 @@ inboxes_are s i j cs shaped = by_conf (find_conf (component.Channel i j) cs) ref
         let all = all_messages s j q.items channel.messages in
         inbox_waits i j cs q all.0 e all.1 ∙ (rw all.1 refl)
 
-pub inbox_is : (x : SourceText) (s : SystemParts) (p : Parts) (cs : List Conf) (state own : List Data) (t : PlainTerm ℕ Shape) (i : ℤ) → IsSystemOf x s → Contains s.programs p → AreShaped s cs → AllZip FitsVariable p.automaton.schedule.variables own →
-    is_some (message_shape p.automaton.rules) ≡ true → value t (block_reads p cs state own) ≡ Some (number i) → value (inbox_term t) (block_reads p cs state own) ≡ channel_messages i p.node cs
-inbox_is x s p cs state own t i h present shaped fits takes e = by_shape (message_shape p.automaton.rules) refl takes
+pub inbox_is : (x : SourceText) (s : SystemParts) (p : Parts) (cs : List Conf) (state own : List Data) (c : Callee) (t : PlainTerm ℕ Callee Shape) (i : ℤ) → IsSystemOf x s → Contains s.programs p → AreShaped s cs → AllZip FitsVariable p.automaton.schedule.variables own →
+    is_some (message_shape p.automaton.rules) ≡ true → value t (block_reads p cs state own) ≡ Some (number i) → value (inbox_term c t) (block_reads p cs state own) ≡ channel_messages i p.node cs
+inbox_is x s p cs state own c t i h present shaped fits takes e = by_shape (message_shape p.automaton.rules) refl takes
   where
-    by_shape : (o : Option PlainShape) → message_shape p.automaton.rules ≡ o → is_some o ≡ true → value (inbox_term t) (block_reads p cs state own) ≡ channel_messages i p.node cs
+    by_shape : (o : Option PlainShape) → message_shape p.automaton.rules ≡ o → is_some o ≡ true → value (inbox_term c t) (block_reads p cs state own) ≡ channel_messages i p.node cs
     by_shape None g k = absurd (cc)
     by_shape (Some shape) g k =
         let accepted = is_accepted x s h p present in
-        call_read t (block_reads p cs state own) i (inboxes_in p.node cs) e
+        call_read c t (block_reads p cs state own) i (inboxes_in p.node cs) e
         (found_in_block p cs state own shape h.types.constants fits g accepted.automaton.schedule.names)
         ∙ inboxes_are s i p.node cs shaped

@@ -3,6 +3,7 @@ use Rattle.std.specs.Prelude.{ℕ, List}
 use Rattle.std.specs.List.{AllByRecursion, AllZip}
 use Rattle.ioa_values.specs.Data.{Data}
 use Rattle.ioa_operators.specs.declared.shape.Shape.{Shape}
+use Rattle.ioa_terms.specs.declared.callee.Callee.{Callee}
 use Rattle.ioa_terms.specs.PlainTerm.{PlainStatements}
 use Rattle.ioa_system.specs.InView.{block_bindings}
 use Rattle.ioa_system.specs.Parts.{Parts, message_shape}
@@ -13,7 +14,7 @@ use Rattle.ioa_accepted.specs.WellSorted.{AreBlockWellSorted}
 -- a block that has these statements to do, and whose variables have these values: the values have the variables' shapes,
 -- and the statements are well sorted, whatever values of their shapes the state variables, the inboxes and the block's
 -- own have when they are taken
-pub record IsBlockState (p : Parts) (todo : PlainStatements ℕ Shape) (own : List Data) : Type 0 where
+pub record IsBlockState (p : Parts) (todo : PlainStatements ℕ Callee Shape) (own : List Data) : Type 0 where
   pub values : AllZip FitsVariable p.automaton.schedule.variables own
   pub sorted : (state inboxes later : List Data) → AllZip FitsVariable p.automaton.variables state
       → FitInboxes (message_shape p.automaton.rules) inboxes

@@ -4,6 +4,7 @@ use Rattle.std.specs.Option.{option_and_then, option_map}
 use Rattle.ioa_values.specs.Data.{Data, sequence, items_of}
 use Rattle.ioa_operators.specs.declared.shape.Shape.{Shape}
 use Rattle.ioa_actions.specs.declared.component.Component.TheVariants as component
+use Rattle.ioa_terms.specs.declared.callee.Callee.{Callee}
 use Rattle.ioa_terms.specs.Bindings.{Bindings}
 use Rattle.ioa_terms.specs.Inboxes.{inbox_values}
 use Rattle.ioa_terms.specs.PlainTerm.{PlainTerm, call, term, no_terms}
@@ -24,9 +25,9 @@ queue_messages (Queue q) = option_map (λ ms. sequence (items_of ms)) (messages_
 abbrev pub channel_messages : (from to : ℤ) → List Conf → Option Data
 channel_messages i j cs = option_and_then queue_messages (find_conf (component.Channel i j) cs)
 
--- the term `inbox(t)` (profile)
-abbrev pub inbox_term : PlainTerm ℕ Shape → PlainTerm ℕ Shape
-inbox_term t = call (codes "inbox") (term t no_terms)
+-- the term `inbox(t)`, whatever the call bears (profile)
+abbrev pub inbox_term : Callee → PlainTerm ℕ Callee Shape → PlainTerm ℕ Callee Shape
+inbox_term c t = call (codes "inbox") c (term t no_terms)
 
 -- what the block of a program reads on the configurations, if the state variables of its node and its own have these
 -- values (profile)

@@ -6,6 +6,7 @@ use Rattle.std.specs.Option.{IfSome}
 use Rattle.ioa_values.specs.Data.{Data}
 use Rattle.ioa_operators.specs.Shapes.{PlainShape, truths, has_shape, wide_shape}
 use Rattle.ioa_operators.specs.declared.shape.Shape.{Shape}
+use Rattle.ioa_terms.specs.declared.callee.Callee.{Callee}
 use Rattle.ioa_terms.specs.Bindings.{Bindings, names_of}
 use Rattle.ioa_terms.specs.Meaning.{value}
 use Rattle.ioa_terms.specs.Performance.{after_one, assignment_value, target_name, target_shape}
@@ -41,20 +42,20 @@ IsTruthValued (Some t) e = IsOfShape truths (value t e)
 abbrev mutual
   -- what a statement gives its variable, if anything, has the variable's shape, but for negative numbers; no effect has
   -- a `while` or a `fire`
-  pub IsWellSorted : PlainStatement ℕ Shape → Bindings → Type 0
+  pub IsWellSorted : PlainStatement ℕ Callee Shape → Bindings → Type 0
   IsWellSorted (assign p t) e = IsOfShape (wide_shape (target_shape p)) (assignment_value p t e)
   IsWellSorted (branch arms rest) e = AreArmsWellSorted arms e × AreWellSorted rest e
   IsWellSorted (loop t body) e = ⊥
   IsWellSorted (fire f) e = ⊥
 
   -- what an arm tests is a truth value, and its statements are well sorted
-  pub AreArmsWellSorted : PlainArms ℕ Shape → Bindings → Type 0
+  pub AreArmsWellSorted : PlainArms ℕ Callee Shape → Bindings → Type 0
   AreArmsWellSorted no_arms e = Unit {0}
   AreArmsWellSorted (arm t body more) e =
       IsOfShape truths (value t e) × AreWellSorted body e × AreArmsWellSorted more e
 
   -- statements in order, each in what the one before left
-  pub AreWellSorted : PlainStatements ℕ Shape → Bindings → Type 0
+  pub AreWellSorted : PlainStatements ℕ Callee Shape → Bindings → Type 0
   AreWellSorted no_statements e = Unit {0}
   AreWellSorted (statement s more) e = IsWellSorted s e × IfSome (after_one s e) (AreWellSorted more)
 
@@ -80,14 +81,14 @@ pub record IsFiringWellSorted (rules : List PlainRule) (f : CheckedFiring) (e : 
   pub arguments : AllZip (λ s t. IsOfShape (shape_in_terms s) (value t e)) rule.shapes f.arguments
 
 -- what is assigned is one of a block's variables, or a part of one, and beside it is the variable's declared shape
-abbrev pub IsOwnTarget : List CheckedVariable → PlainTarget ℕ Shape → Type 0
+abbrev pub IsOwnTarget : List CheckedVariable → PlainTarget ℕ Callee Shape → Type 0
 IsOwnTarget own p = shape_named (target_name p) (variable_shapes own) ≡ Some (target_shape p)
 
 abbrev mutual
   -- a statement of a schedule block of these variables, whose firings are of these rules, and each statement within it:
   -- an assignment is to one of the variables, what it gives the variable, if anything, has the variable's shape, but for
   -- negative numbers, and what is tested is a truth value
-  pub IsBlockWellSorted : List CheckedVariable → List PlainRule → PlainStatement ℕ Shape → Bindings → Type 0
+  pub IsBlockWellSorted : List CheckedVariable → List PlainRule → PlainStatement ℕ Callee Shape → Bindings → Type 0
   IsBlockWellSorted own rules (assign p t) e =
       IsOwnTarget own p × IsOfShape (wide_shape (target_shape p)) (assignment_value p t e)
   IsBlockWellSorted own rules (branch arms rest) e =
@@ -96,13 +97,13 @@ abbrev mutual
   IsBlockWellSorted own rules (fire f) e = IsFiringWellSorted rules f e
 
   -- the same of arms
-  pub AreBlockArmsWellSorted : List CheckedVariable → List PlainRule → PlainArms ℕ Shape → Bindings → Type 0
+  pub AreBlockArmsWellSorted : List CheckedVariable → List PlainRule → PlainArms ℕ Callee Shape → Bindings → Type 0
   AreBlockArmsWellSorted own rules no_arms e = Unit {0}
   AreBlockArmsWellSorted own rules (arm t body more) e =
       IsOfShape truths (value t e) × AreBlockWellSorted own rules body e × AreBlockArmsWellSorted own rules more e
 
   -- and of statements, each on the same bindings
-  pub AreBlockWellSorted : List CheckedVariable → List PlainRule → PlainStatements ℕ Shape → Bindings → Type 0
+  pub AreBlockWellSorted : List CheckedVariable → List PlainRule → PlainStatements ℕ Callee Shape → Bindings → Type 0
   AreBlockWellSorted own rules no_statements e = Unit {0}
   AreBlockWellSorted own rules (statement s more) e =
       IsBlockWellSorted own rules s e × AreBlockWellSorted own rules more e

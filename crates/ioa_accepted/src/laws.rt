@@ -5,6 +5,7 @@ ghost use Rattle.std.specs.List.{AllZip, Contains};
 ghost use Rattle.ioa_actions.specs.declared.action.Action.{Action};
 ghost use Rattle.ioa_values.specs.Data.{Data, number};
 ghost use Rattle.ioa_operators.specs.declared.shape.Shape.{Shape};
+ghost use Rattle.ioa_terms.specs.declared.callee.Callee.{Callee};
 ghost use Rattle.ioa_terms.specs.Inboxes.{inbox_values};
 ghost use Rattle.ioa_terms.specs.Meaning.{value};
 ghost use Rattle.ioa_terms.specs.PlainTerm.{PlainStatements, PlainTerm, statements_of};
@@ -76,12 +77,12 @@ pub fn block_law()
     ensures inboxes { (x : SourceText) (s : SystemParts) (p : Parts) (cs : List Conf) →
         IsSystemOf x s → Contains s.programs p → AreShaped s cs →
         FitInboxes (message_shape p.automaton.rules) (inbox_values (inboxes_seen p cs)) }
-    ensures turn { (p : Parts) (state inboxes own : List Data) (todo : PlainStatements ℕ Shape) (n : ℕ)
+    ensures turn { (p : Parts) (state inboxes own : List Data) (todo : PlainStatements ℕ Callee Shape) (n : ℕ)
         (r : TurnResult) → AllZip FitsVariable p.automaton.variables state →
         FitInboxes (message_shape p.automaton.rules) inboxes → IsBlockState p todo own →
         turn todo n (block_bindings p.automaton p.arguments state inboxes own) ≡ Some r → (left : List Data)
         × (r.bindings ≡ block_bindings p.automaton p.arguments state inboxes left) × IsBlockState p r.todo left }
-    ensures passed { (p : Parts) (todo : PlainStatements ℕ Shape) (own : List Data) →
+    ensures passed { (p : Parts) (todo : PlainStatements ℕ Callee Shape) (own : List Data) →
         IsBlockState p todo own → IsBlockState p (following_statements todo) own }
     ensures rounds { (x : SourceText) (s : SystemParts) (attempts limit n : ℕ) → IsSystemOf x s → AreBlockStates
         (rounds limit n (record { schedule = []; states = start s }) (map (progress_at attempts) s.programs)).1 }
@@ -93,9 +94,9 @@ pub fn block_law()
 /// have, and whatever values of their shapes the block's own have.
 pub fn inbox_term_law()
     ensures value { (x : SourceText) (s : SystemParts) (p : Parts) (cs : List Conf) (state own : List Data)
-        (t : PlainTerm ℕ Shape) (i : ℤ) → IsSystemOf x s → Contains s.programs p → AreShaped s cs →
-        AllZip FitsVariable p.automaton.schedule.variables own →
+        (c : Callee) (t : PlainTerm ℕ Callee Shape) (i : ℤ) →
+        IsSystemOf x s → Contains s.programs p → AreShaped s cs → AllZip FitsVariable p.automaton.schedule.variables own →
         is_some (message_shape p.automaton.rules) ≡ true →
         value t (block_reads p cs state own) ≡ Some (number i) →
-        value (inbox_term t) (block_reads p cs state own) ≡ channel_messages i p.node cs }
+        value (inbox_term c t) (block_reads p cs state own) ≡ channel_messages i p.node cs }
 {}

@@ -6,7 +6,7 @@ use std::fmt;
 use thiserror::Error;
 
 /// Why an action is no step of a configuration.
-#[derive(Debug, Drop, Error)]
+#[derive(Clone, Copy, Debug, PartialEq, Eq, Error)]
 pub enum StepFault {
     /// `Undefined` (1): the condition of the entry, the guard or the effect meets a part that has no value, or an
     /// argument holds a negative number where its sort says Nat.

@@ -31,19 +31,19 @@ word_in (number n) = []
 word_in (truth b) = []
 word_in (one op a) = []
 word_in (two op a b) = []
-word_in (call w ts) = []
+word_in (call w c ts) = []
 word_in (display f x ts) = []
 word_in (field a w x) = []
 
 repeats_is : (p : SourceParameter) (u : SourceTerm) → Decides (repeats p u) (Repeats p u)
-repeats_is (const t) u = let d = same_term_is nothing_is nothing_is t u in (λ h. sym (d.0 h), λ e. d.1 (sym e))
+repeats_is (const t) u = let d = same_term_is nothing_is nothing_is nothing_is t u in (λ h. sym (d.0 h), λ e. d.1 (sym e))
 repeats_is (named d) (name (Word w) tt) =
     (λ h i. name (Word ((bytes_eq-Decides w d.name).0 h i)) tt, λ e. (bytes_eq-Decides w d.name).1 (ap word_in e))
 repeats_is (named d) (number n) = (λ h. absurd (cc), λ e. absurd (cc))
 repeats_is (named d) (truth b) = (λ h. absurd (cc), λ e. absurd (cc))
 repeats_is (named d) (one op a) = (λ h. absurd (cc), λ e. absurd (cc))
 repeats_is (named d) (two op a b) = (λ h. absurd (cc), λ e. absurd (cc))
-repeats_is (named d) (call w ts) = (λ h. absurd (cc), λ e. absurd (cc))
+repeats_is (named d) (call w c ts) = (λ h. absurd (cc), λ e. absurd (cc))
 repeats_is (named d) (display f x ts) = (λ h. absurd (cc), λ e. absurd (cc))
 repeats_is (named d) (field a w x) = (λ h. absurd (cc), λ e. absurd (cc))
 

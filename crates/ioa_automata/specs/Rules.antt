@@ -28,13 +28,13 @@ use Rattle.ioa_automata.specs.Parts.{PlainSortedEntry, entry_at, parameters_at, 
 
 -- whether an argument of a transition's head repeats a parameter: the same term at a constant, the same name elsewhere
 abbrev pub repeats : SourceParameter → SourceTerm → Bool
-repeats (const t) u = same_term (λ _ _. true) (λ _ _. true) t u
+repeats (const t) u = same_term (λ _ _. true) (λ _ _. true) (λ _ _. true) t u
 repeats (named d) (name (Word w) x) = same_word w d.name
 repeats (named d) (number n) = false
 repeats (named d) (truth b) = false
 repeats (named d) (one op a) = false
 repeats (named d) (two op a b) = false
-repeats (named d) (call w ts) = false
+repeats (named d) (call w c ts) = false
 repeats (named d) (display f x ts) = false
 repeats (named d) (field a w x) = false
 

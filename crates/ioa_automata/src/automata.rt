@@ -25,7 +25,7 @@ use ioa_sort_rules::Refusal;
 use ioa_sorts::Actions;
 use ioa_source::{Automaton, Declared, Entry, Schedule, Transition, Variable};
 use ioa_system::{CompiledAutomaton, Rule, Scope};
-use ioa_terms::{Names, Shape, Word};
+use ioa_terms::{Callee, Names, Shape, Word};
 use ioa_types::TextTypes;
 use std::alloc::Global;
 use std::sync::Arc;
@@ -34,7 +34,7 @@ use std::sync::Arc;
 #[derive(Drop)]
 pub(crate) struct Heading {
     pub parameters: Vec<Declared<Shape>>,
-    pub variables: Vec<Variable<usize, Shape>>,
+    pub variables: Vec<Variable<usize, Callee, Shape>>,
     /// The names of the parameters.
     pub given: NameTable,
     /// The names of the state variables and of the parameters.
@@ -52,7 +52,7 @@ struct Given {
 #[derive(Drop)]
 pub(crate) struct Body {
     pub rules: Vec<Rule>,
-    pub schedule: Schedule<usize, Shape>,
+    pub schedule: Schedule<usize, Callee, Shape>,
 }
 
 /// The parameters and the state variables of an automaton.
@@ -60,7 +60,7 @@ pub(crate) struct Body {
 fn sort_heading(
     alloc: Global,
     types: &TextTypes,
-    automaton: &Automaton<(), ()>,
+    automaton: &Automaton<(), (), ()>,
 ) -> Result<Box<Heading>, Refusal>
     ensures exact { Answers Refusal.Memory (λ h. heading_of h.value) result
         (spec.heading_at types.now (automaton_of automaton.now)) }
@@ -84,7 +84,7 @@ fn sort_heading(
 fn sort_given(
     alloc: Global,
     types: &TextTypes,
-    automaton: &Automaton<(), ()>,
+    automaton: &Automaton<(), (), ()>,
 ) -> Result<Box<Given>, Refusal>
     ensures parameters { IfOk result (λ g.
         all_declared_at types.now.types (automaton_of automaton.now).parameters
@@ -104,8 +104,8 @@ fn sort_states(
     alloc: Global,
     types: &TextTypes,
     given: &NameTable,
-    states: &Vec<Variable<(), ()>>,
-) -> Result<Vec<Variable<usize, Shape>>, Refusal>
+    states: &Vec<Variable<(), (), ()>>,
+) -> Result<Vec<Variable<usize, Callee, Shape>>, Refusal>
     ensures { Answers Refusal.Memory (λ vs. map variable_of vs.items) result
         (variables_at types.now.types (given.now ++ types.now.constants) (map variable_of states.now.items)) }
 {
@@ -130,7 +130,7 @@ fn declare_new(alloc: Global, names: &mut Scope, name: &Word) -> Result<(), Refu
 }
 
 /// The names of entries. `Twice` (21) if two are the same.
-fn entry_names(alloc: Global, entries: &Vec<Entry<(), ()>>) -> Result<Scope, Refusal>
+fn entry_names(alloc: Global, entries: &Vec<Entry<(), (), ()>>) -> Result<Scope, Refusal>
     ensures { Answers Refusal.Memory (λ ns. ns) result
         (names_or (map (λ e. e.name) (map entry_of entries.now.items))) }
 {
@@ -142,7 +142,10 @@ fn entry_names(alloc: Global, entries: &Vec<Entry<(), ()>>) -> Result<Scope, Ref
 }
 
 /// The names of transitions. `Twice` (21) if two are the same.
-fn transition_names(alloc: Global, transitions: &Vec<Transition<(), ()>>) -> Result<Scope, Refusal>
+fn transition_names(
+    alloc: Global,
+    transitions: &Vec<Transition<(), (), ()>>,
+) -> Result<Scope, Refusal>
     ensures { Answers Refusal.Memory (λ ns. ns) result
         (names_or (map (λ t. t.name) (map transition_of transitions.now.items))) }
 {
@@ -156,9 +159,9 @@ fn transition_names(alloc: Global, transitions: &Vec<Transition<(), ()>>) -> Res
 /// The entry that has the name and kind of a transition. `names` are those of the entries.
 fn entry_for<'a>(
     names: &Scope,
-    entries: &'a Vec<Entry<(), ()>>,
-    transition: &Transition<(), ()>,
-) -> Option<&'a Entry<(), ()>>
+    entries: &'a Vec<Entry<(), (), ()>>,
+    transition: &Transition<(), (), ()>,
+) -> Option<&'a Entry<(), (), ()>>
     requires { AreIndexed names.now (map (λ e. e.name) (map entry_of entries.now.items)) }
     ensures { option_map entry_of (option_copied result)
         ≡ entry_for (transition_of transition.now) (map entry_of entries.now.items) }
@@ -173,7 +176,11 @@ fn entry_for<'a>(
 }
 
 /// Whether a transition has an entry of its name and kind. `names` are those of the entries.
-fn has_entry(names: &Scope, entries: &Vec<Entry<(), ()>>, transition: &Transition<(), ()>) -> bool
+fn has_entry(
+    names: &Scope,
+    entries: &Vec<Entry<(), (), ()>>,
+    transition: &Transition<(), (), ()>,
+) -> bool
     requires { AreIndexed names.now (map (λ e. e.name) (map entry_of entries.now.items)) }
     ensures { result ≡ has_entry (map entry_of entries.now.items) (transition_of transition.now) }
 {
@@ -186,8 +193,8 @@ fn has_entry(names: &Scope, entries: &Vec<Entry<(), ()>>, transition: &Transitio
 /// Passes if each transition has an entry of its name and kind. Else `Unknown` (20). `names` are those of the entries.
 fn have_entries(
     names: &Scope,
-    entries: &Vec<Entry<(), ()>>,
-    transitions: &Vec<Transition<(), ()>>,
+    entries: &Vec<Entry<(), (), ()>>,
+    transitions: &Vec<Transition<(), (), ()>>,
 ) -> Result<(), Refusal>
     requires { AreIndexed names.now (map (λ e. e.name) (map entry_of entries.now.items)) }
     ensures { Answers Refusal.Memory (λ x. x) result
@@ -206,7 +213,7 @@ fn have_entries(
 fn sort_actions(
     alloc: Global,
     around: &Surroundings,
-    automaton: &Automaton<(), ()>,
+    automaton: &Automaton<(), (), ()>,
 ) -> Result<Actions, Refusal>
     ensures { Answers Refusal.Memory (λ a. a.rules.items) result
         (spec.actions_at (surroundings_of around.now) (automaton_of automaton.now)) }
@@ -221,7 +228,7 @@ fn sort_entries(
     alloc: Global,
     around: &Surroundings,
     names: &Scope,
-    automaton: &Automaton<(), ()>,
+    automaton: &Automaton<(), (), ()>,
 ) -> Result<Vec<Rule>, Refusal>
     requires { AreIndexed names.now (map (λ e. e.name) (automaton_of automaton.now).signature) }
     ensures exact { Answers Refusal.Memory (λ rs. rs.items) result
@@ -250,7 +257,7 @@ pub fn sort_automaton(
     alloc: Global,
     types: &TextTypes,
     constants: &Arc<Names>,
-    automaton: &Automaton<(), ()>,
+    automaton: &Automaton<(), (), ()>,
 ) -> Result<CompiledAutomaton, Refusal>
     requires { arc_value constants.now ≡ words types.now.constants }
     ensures { Answers Refusal.Memory (λ a. a) result
@@ -280,7 +287,7 @@ fn sort_body(
     alloc: Global,
     types: &TextTypes,
     heading: &Heading,
-    automaton: &Automaton<(), ()>,
+    automaton: &Automaton<(), (), ()>,
 ) -> Result<Box<Body>, Refusal>
     ensures { Answers Refusal.Memory (λ b. body_of b.value) result
         (spec.body_at (spec.surroundings types.now (heading_of heading.now)) (automaton_of automaton.now)) }

@@ -13,7 +13,7 @@ use ioa_names::NameTable;
 use ioa_sort_rules::{Refusal, map_of};
 use ioa_source::{Declared, Parameter, Variable};
 use ioa_system::{Rule, message_shape};
-use ioa_terms::{Shape, ShapeForm, Word, inboxes_word};
+use ioa_terms::{Callee, Shape, ShapeForm, Word, inboxes_word};
 use std::alloc::{AllocError, Global};
 use std::sync::Arc;
 
@@ -60,7 +60,7 @@ fn with_parameters(
 fn with_variables(
     alloc: Global,
     table: NameTable,
-    variables: &Vec<Variable<usize, Shape>>,
+    variables: &Vec<Variable<usize, Callee, Shape>>,
 ) -> Result<NameTable, Refusal>
     ensures { Answers Refusal.Memory (λ t. t) result
         (with_names table (spec.variable_shapes (map variable_of variables.now.items))) }
@@ -76,7 +76,7 @@ fn with_variables(
 fn with_own(
     alloc: Global,
     table: NameTable,
-    parameters: &Vec<Parameter<usize, Shape>>,
+    parameters: &Vec<Parameter<usize, Callee, Shape>>,
 ) -> Result<NameTable, Refusal>
     ensures { Answers Refusal.Memory (λ t. t) result
         (with_names table (spec.own_shapes (map parameter_of parameters.now.items))) }
@@ -110,7 +110,7 @@ pub(crate) fn outer_names(
     alloc: Global,
     constants: &NameTable,
     parameters: &Vec<Declared<Shape>>,
-    variables: &Vec<Variable<usize, Shape>>,
+    variables: &Vec<Variable<usize, Callee, Shape>>,
 ) -> Result<NameTable, Refusal>
     ensures { Answers Refusal.Memory (λ t. t) result
         (spec.outer_names_or constants.now (map declared_of parameters.now.items)
@@ -127,7 +127,7 @@ pub(crate) fn own_names(
     alloc: Global,
     outer: &NameTable,
     constants: &NameTable,
-    own: &Vec<Parameter<usize, Shape>>,
+    own: &Vec<Parameter<usize, Callee, Shape>>,
 ) -> Result<NameTable, Refusal>
     ensures { Answers Refusal.Memory (λ t. t) result
         (spec.own_names_or outer.now constants.now (map parameter_of own.now.items)) }
@@ -186,7 +186,7 @@ pub(crate) fn block_names(
     alloc: Global,
     outer: &NameTable,
     constants: &NameTable,
-    variables: &Vec<Variable<usize, Shape>>,
+    variables: &Vec<Variable<usize, Callee, Shape>>,
     rules: &[Rule],
 ) -> Result<NameTable, Refusal>
     ensures { Answers Refusal.Memory (λ t. t) result

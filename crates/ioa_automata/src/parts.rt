@@ -20,7 +20,7 @@ use ioa_names::View;
 use ioa_sort_rules::{Refusal, shape_in_terms};
 use ioa_sorts::{Actions, StatementSite, fit, infer, sort_statements};
 use ioa_source::{Declared, Entry, Parameter, Transition, Variable};
-use ioa_terms::{Checked, Kind, Shape, ShapeForm, Statement, Term};
+use ioa_terms::{Callee, Checked, Kind, Shape, ShapeForm, Statement, Term};
 use ioa_typed::Typed;
 use ioa_types::Types;
 use std::alloc::{AllocError, Global};
@@ -28,21 +28,21 @@ use std::alloc::{AllocError, Global};
 /// A parameter of an entry, and the shape of the arguments that it takes.
 #[derive(Drop)]
 pub(crate) struct SortedParameter {
-    pub parameter: Parameter<usize, Shape>,
+    pub parameter: Parameter<usize, Callee, Shape>,
     pub shape: Shape,
 }
 
 /// The parameters of an entry, and the shapes of its arguments.
 #[derive(Drop)]
 pub(crate) struct SortedParameters {
-    pub parameters: Vec<Parameter<usize, Shape>>,
+    pub parameters: Vec<Parameter<usize, Callee, Shape>>,
     pub shapes: Vec<Shape>,
 }
 
 /// An entry, and the shapes of its arguments.
 #[derive(Drop)]
 pub(crate) struct SortedEntry {
-    pub entry: Entry<usize, Shape>,
+    pub entry: Entry<usize, Callee, Shape>,
     pub shapes: Vec<Shape>,
 }
 
@@ -184,8 +184,8 @@ fn sort_variable(
     alloc: Global,
     types: &Types,
     view: &View,
-    variable: &Variable<(), ()>,
-) -> Result<Variable<usize, Shape>, Refusal>
+    variable: &Variable<(), (), ()>,
+) -> Result<Variable<usize, Callee, Shape>, Refusal>
     ensures { Answers Refusal.Memory variable_of result
         (spec.variable_at types.now view.now (variable_of variable.now)) }
 {
@@ -202,8 +202,8 @@ pub(crate) fn sort_variables(
     alloc: Global,
     types: &Types,
     view: &View,
-    variables: &Vec<Variable<(), ()>>,
-) -> Result<Vec<Variable<usize, Shape>>, Refusal>
+    variables: &Vec<Variable<(), (), ()>>,
+) -> Result<Vec<Variable<usize, Callee, Shape>>, Refusal>
     ensures { Answers Refusal.Memory (λ vs. map variable_of vs.items) result
         (spec.variables_at types.now view.now (map variable_of variables.now.items)) }
 {
@@ -221,7 +221,7 @@ fn sort_parameter(
     alloc: Global,
     types: &Types,
     view: &View,
-    parameter: &Parameter<(), ()>,
+    parameter: &Parameter<(), (), ()>,
 ) -> Result<SortedParameter, Refusal>
     ensures { Answers Refusal.Memory sorted_parameter_of result
         (spec.parameter_at types.now view.now (parameter_of parameter.now)) }
@@ -277,7 +277,7 @@ pub(crate) fn sort_parameters(
     alloc: Global,
     types: &Types,
     view: &View,
-    parameters: &Vec<Parameter<(), ()>>,
+    parameters: &Vec<Parameter<(), (), ()>>,
 ) -> Result<Box<SortedParameters>, Refusal>
     ensures { Answers Refusal.Memory (λ ps. sorted_parameters_of ps.value) result
         (spec.parameters_at types.now view.now (map parameter_of parameters.now.items)) }
@@ -320,7 +320,7 @@ fn sort_where(
 pub(crate) fn sort_entry(
     alloc: Global,
     view: &View,
-    entry: &Entry<(), ()>,
+    entry: &Entry<(), (), ()>,
     sorted: Box<SortedParameters>,
 ) -> Result<Box<SortedEntry>, Refusal>
     ensures { Answers Refusal.Memory (λ e. sorted_entry_of e.value) result
@@ -343,8 +343,8 @@ fn sort_effect(
     alloc: Global,
     view: &View,
     variables: usize,
-    effect: &Vec<Statement<(), ()>>,
-) -> Result<Vec<Statement<usize, Shape>>, Refusal>
+    effect: &Vec<Statement<(), (), ()>>,
+) -> Result<Vec<Statement<usize, Callee, Shape>>, Refusal>
     ensures { Answers Refusal.Memory (λ ss. map statement_of ss.items) result
         (all_ok (statement_sortings (effect_site (take variables view.now) view.now)
         (statements_of (map statement_of effect.now.items)))) }
@@ -360,8 +360,8 @@ pub(crate) fn sort_transition(
     alloc: Global,
     view: &View,
     variables: usize,
-    transition: &Transition<(), ()>,
-) -> Result<Transition<usize, Shape>, Refusal>
+    transition: &Transition<(), (), ()>,
+) -> Result<Transition<usize, Callee, Shape>, Refusal>
     ensures { Answers Refusal.Memory transition_of result
         (spec.transition_at view.now variables (transition_of transition.now)) }
 {

@@ -20,7 +20,7 @@ use ioa_names::{NameTable, View};
 use ioa_sort_rules::Refusal;
 use ioa_source::{Entry, Parameter, Transition};
 use ioa_system::{Rule, Scope};
-use ioa_terms::{Kind, Name, Shape, ShapeForm, Term, Tree, Word, is_same_term};
+use ioa_terms::{Callee, Kind, Name, Shape, ShapeForm, Term, Tree, Word, is_same_term};
 use ioa_types::Types;
 use std::alloc::{AllocError, Global};
 
@@ -42,12 +42,12 @@ pub(crate) struct Surroundings<'a> {
 /// Transitions, with an index of their names.
 #[derive(Drop)]
 pub(crate) struct Transitions<'a> {
-    pub items: &'a Vec<Transition<(), ()>>,
+    pub items: &'a Vec<Transition<(), (), ()>>,
     pub names: &'a Scope,
 }
 
 /// Whether an argument of a transition's head repeats a parameter.
-fn repeats(parameter: &Parameter<(), ()>, argument: &Term) -> bool
+fn repeats(parameter: &Parameter<(), (), ()>, argument: &Term) -> bool
     ensures { result ≡ spec.repeats (parameter_of parameter.now) (term_of argument.now) }
 {
     match parameter {
@@ -60,7 +60,7 @@ fn repeats(parameter: &Parameter<(), ()>, argument: &Term) -> bool
 }
 
 /// Whether the arguments of a transition's head repeat the parameters of its entry, one by one.
-fn head_repeats(parameters: &Vec<Parameter<(), ()>>, arguments: &Vec<Term>) -> bool
+fn head_repeats(parameters: &Vec<Parameter<(), (), ()>>, arguments: &Vec<Term>) -> bool
     ensures { result ≡ pointwise spec.repeats (map parameter_of parameters.now.items)
         (map term_of arguments.now.items) }
 {
@@ -80,8 +80,8 @@ fn head_repeats(parameters: &Vec<Parameter<(), ()>>, arguments: &Vec<Term>) -> b
 /// The transition that has the name and kind of an entry.
 fn transition_for<'a>(
     transitions: &Transitions<'a>,
-    entry: &Entry<(), ()>,
-) -> Option<&'a Transition<(), ()>>
+    entry: &Entry<(), (), ()>,
+) -> Option<&'a Transition<(), (), ()>>
     requires { AreIndexed transitions.now.names.now (map (λ t. t.name) (transitions_of transitions.now)) }
     ensures { option_map transition_of (option_copied result)
         ≡ spec.transition_for (entry_of entry.now) (transitions_of transitions.now) }
@@ -100,8 +100,8 @@ fn transition_for<'a>(
 #[tactic(auto, unfolding(crate::specs::Rules::transition_or))]
 fn transition_of_entry<'a>(
     transitions: &Transitions<'a>,
-    entry: &Entry<(), ()>,
-) -> Result<&'a Transition<(), ()>, Refusal>
+    entry: &Entry<(), (), ()>,
+) -> Result<&'a Transition<(), (), ()>, Refusal>
     requires { AreIndexed transitions.now.names.now (map (λ t. t.name) (transitions_of transitions.now)) }
     ensures { Answers Refusal.Memory (λ t. transition_of t.now) result (spec.transition_or (entry_of entry.now)
         (spec.transition_for (entry_of entry.now) (transitions_of transitions.now))) }
@@ -119,7 +119,7 @@ fn transition_of_entry<'a>(
 }
 
 /// Whether a transition has a guard although its entry is an input's.
-fn has_input_guard(entry: &Entry<(), ()>, transition: &Transition<(), ()>) -> bool
+fn has_input_guard(entry: &Entry<(), (), ()>, transition: &Transition<(), (), ()>) -> bool
     ensures { result ≡ is_some (transition_of transition.now).pre && same_kind (entry_of entry.now).kind Kind.Input }
 {
     match &transition.pre {
@@ -157,7 +157,7 @@ fn has_message_shapes(shapes: &Vec<Shape>) -> bool
 }
 
 /// Whether a parameter is there and is a constant.
-fn is_constant(parameters: &Vec<Parameter<usize, Shape>>, position: usize) -> bool
+fn is_constant(parameters: &Vec<Parameter<usize, Callee, Shape>>, position: usize) -> bool
     ensures { result ≡ spec.is_constant (slice_get (map parameter_of parameters.now.items) position) }
 {
     match parameters.get(position) {
@@ -214,7 +214,7 @@ fn rule_of(
     alloc: Global,
     around: &Surroundings,
     own: &NameTable,
-    transition: &Transition<(), ()>,
+    transition: &Transition<(), (), ()>,
     sorted: Box<SortedEntry>,
 ) -> Result<Rule, Refusal>
     ensures { Answers Refusal.Memory (λ r. r) result
@@ -237,8 +237,8 @@ fn sort_step(
     alloc: Global,
     around: &Surroundings,
     own: &NameTable,
-    transition: &Transition<(), ()>,
-) -> Result<Transition<usize, Shape>, Refusal>
+    transition: &Transition<(), (), ()>,
+) -> Result<Transition<usize, Callee, Shape>, Refusal>
     ensures { Answers Refusal.Memory transition_of result
         (transition_at (around.now.outer.now ++ (own.now ++ around.now.constants.now)) around.now.variables
         (transition_of transition.now)) }
@@ -250,7 +250,7 @@ fn sort_step(
 /// The names of an entry's own parameters, with their own memory.
 fn own_words(
     alloc: Global,
-    parameters: &Vec<Parameter<usize, Shape>>,
+    parameters: &Vec<Parameter<usize, Callee, Shape>>,
 ) -> Result<Vec<Word>, AllocError>
     ensures { IfOk result (λ ws. ws.items ≡ own_names (map parameter_of parameters.now.items)) }
 {
@@ -270,7 +270,7 @@ fn sort_rule(
     around: &Surroundings,
     view: &View,
     transitions: &Transitions,
-    entry: &Entry<(), ()>,
+    entry: &Entry<(), (), ()>,
 ) -> Result<Rule, Refusal>
     requires constants { view.now ≡ around.now.given.now ++ around.now.constants.now }
     requires transitions { AreIndexed transitions.now.names.now (map (λ t. t.name) (transitions_of transitions.now)) }
@@ -288,8 +288,8 @@ fn rule_with(
     alloc: Global,
     around: &Surroundings,
     own: &NameTable,
-    transition: &Transition<(), ()>,
-    entry: &Entry<(), ()>,
+    transition: &Transition<(), (), ()>,
+    entry: &Entry<(), (), ()>,
     sorted: Box<SortedParameters>,
 ) -> Result<Rule, Refusal>
     ensures { Answers Refusal.Memory (λ r. r) result (and_then
@@ -308,7 +308,7 @@ pub(crate) fn sort_rules(
     alloc: Global,
     around: &Surroundings,
     transitions: &Transitions,
-    entries: &Vec<Entry<(), ()>>,
+    entries: &Vec<Entry<(), (), ()>>,
 ) -> Result<Vec<Rule>, Refusal>
     requires { AreIndexed transitions.now.names.now (map (λ t. t.name) (transitions_of transitions.now)) }
     ensures { Answers Refusal.Memory (λ rs. rs.items) result
@@ -326,7 +326,7 @@ fn rules_in_view(
     around: &Surroundings,
     view: &View,
     transitions: &Transitions,
-    entries: &Vec<Entry<(), ()>>,
+    entries: &Vec<Entry<(), (), ()>>,
 ) -> Result<Vec<Rule>, Refusal>
     requires constants { view.now ≡ around.now.given.now ++ around.now.constants.now }
     requires transitions { AreIndexed transitions.now.names.now (map (λ t. t.name) (transitions_of transitions.now)) }

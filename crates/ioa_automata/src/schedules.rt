@@ -20,15 +20,15 @@ use ioa_sort_rules::Refusal;
 use ioa_sorts::{Actions, StatementSite, sort_statements};
 use ioa_source::{Schedule, Variable};
 use ioa_system::{Rule, message_shape};
-use ioa_terms::{Shape, Statement, Word, inboxes_word};
+use ioa_terms::{Callee, Shape, Statement, Word, inboxes_word};
 use std::alloc::{AllocError, Global};
 
 /// The variables of a block, whose initial terms read the automaton's parameters.
 fn sort_block_variables(
     alloc: Global,
     around: &Surroundings,
-    variables: &Vec<Variable<(), ()>>,
-) -> Result<Vec<Variable<usize, Shape>>, Refusal>
+    variables: &Vec<Variable<(), (), ()>>,
+) -> Result<Vec<Variable<usize, Callee, Shape>>, Refusal>
     ensures { Answers Refusal.Memory (λ vs. map variable_of vs.items) result
         (variables_at around.now.types.now (around.now.given.now ++ around.now.constants.now)
         (map variable_of variables.now.items)) }
@@ -45,8 +45,8 @@ fn sort_block_statements(
     actions: &Actions,
     own: &NameTable,
     variables: usize,
-    statements: &Vec<Statement<(), ()>>,
-) -> Result<Vec<Statement<usize, Shape>>, Refusal>
+    statements: &Vec<Statement<(), (), ()>>,
+) -> Result<Vec<Statement<usize, Callee, Shape>>, Refusal>
     ensures { Answers Refusal.Memory (λ ss. map statement_of ss.items) result
         (all_ok (statement_sortings
         (spec.site_in (surroundings_of around.now) own.now variables actions.now.rules.items)
@@ -64,8 +64,8 @@ pub(crate) fn sort_schedule(
     alloc: Global,
     around: &Surroundings,
     actions: &Actions,
-    schedule: &Schedule<(), ()>,
-) -> Result<Schedule<usize, Shape>, Refusal>
+    schedule: &Schedule<(), (), ()>,
+) -> Result<Schedule<usize, Callee, Shape>, Refusal>
     ensures { Answers Refusal.Memory schedule_of result
         (spec.schedule_at (surroundings_of around.now) actions.now.rules.items (schedule_of schedule.now)) }
 {
@@ -95,7 +95,7 @@ pub(crate) fn sort_schedule(
 /// inboxes, if one of these rules takes messages.
 pub(crate) fn block_own_words(
     alloc: Global,
-    variables: &Vec<Variable<usize, Shape>>,
+    variables: &Vec<Variable<usize, Callee, Shape>>,
     rules: &[Rule],
 ) -> Result<Vec<Word>, AllocError>
     ensures { IfOk result (λ ws. ws.items
@@ -111,7 +111,7 @@ pub(crate) fn block_own_words(
 /// The names of variables, with their own memory.
 fn variable_words(
     alloc: Global,
-    variables: &Vec<Variable<usize, Shape>>,
+    variables: &Vec<Variable<usize, Callee, Shape>>,
 ) -> Result<Vec<Word>, AllocError>
     ensures { IfOk result (λ ws. ws.items ≡ variable_names (map variable_of variables.now.items)) }
 {

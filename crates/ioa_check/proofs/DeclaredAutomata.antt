@@ -29,12 +29,12 @@ automaton_more t i names a found more done h = rw h (by_rest (automata_at t (i +
     by_rest (Err f) = refl
 
 -- one declaration further: a type makes no automaton, and an automaton is seen behind those before
-module _ {X : Type 0} (view : X → AutomatonParts) (t : PlainTextTypes) (i : ℕ) (names : List (List ℕ)) (items : List (Declaration (Unit {0}) (Unit {0}))) (d : Declaration (Unit {0}) (Unit {0})) (done : List X) (within : i < length items) (at : d ≡ get_or items i d) where
+module _ {X : Type 0} (view : X → AutomatonParts) (t : PlainTextTypes) (i : ℕ) (names : List (List ℕ)) (items : List (Declaration (Unit {0}) (Unit {0}) (Unit {0}))) (d : Declaration (Unit {0}) (Unit {0}) (Unit {0})) (done : List X) (within : i < length items) (at : d ≡ get_or items i d) where
   pub type_behind : (x : TypeDeclaration (Unit {0})) → d ≡ declaration.Type x →
       made_and_left (map view done) (automata_at t i names (map declaration_of (drop i items))) ≡ made_and_left (map view done) (automata_at t (i + 1) names (map declaration_of (drop (i + 1) items)))
   type_behind x is = rw (drop_more items i d within, ← at, is) refl
 
-  pub automaton_behind : (a : Automaton (Unit {0}) (Unit {0})) (found : X) → d ≡ declaration.Automaton a → in_declaration i (new_automaton_at t names (automaton_of a)) ≡ Ok (view found) →
+  pub automaton_behind : (a : Automaton (Unit {0}) (Unit {0}) (Unit {0})) (found : X) → d ≡ declaration.Automaton a → in_declaration i (new_automaton_at t names (automaton_of a)) ≡ Ok (view found) →
       made_and_left (map view done) (automata_at t i names (map declaration_of (drop i items))) ≡ made_and_left (map view (done ++ found ∷ [])) (automata_at t (i + 1) (names ++ (automaton_of a).name ∷ []) (map declaration_of (drop (i + 1) items)))
   automaton_behind a found is made =
       rw (drop_more items i d within, ← at, is, map-append view done (found ∷ []))

@@ -52,9 +52,9 @@ scripts_in [] = []
 scripts_in (p ∷ more) = script_in p ++ scripts_in more
 
 -- the node behind a reference
-abbrev pub node_at : Bor (Node (Unit {0}) (Unit {0})) → SourceNode
+abbrev pub node_at : Bor (Node (Unit {0}) (Unit {0}) (Unit {0})) → SourceNode
 node_at n = node_of n.now
 
 -- the script behind a reference
-abbrev pub script_behind : Bor (ScriptDeclaration (Unit {0}) (Unit {0})) → SourceScript
+abbrev pub script_behind : Bor (ScriptDeclaration (Unit {0}) (Unit {0}) (Unit {0})) → SourceScript
 script_behind s = script_of s.now

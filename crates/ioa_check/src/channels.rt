@@ -20,7 +20,7 @@ use ioa_actions::{RECEIVE, SEND};
 use ioa_sort_rules::{Refusal, is_same_sort};
 use ioa_source::{Channel, Parameter, Placement};
 use ioa_system::{Program, Rule};
-use ioa_terms::{Env, Shape};
+use ioa_terms::{Callee, Env, Shape};
 use std::alloc::{AllocError, Global};
 use std::sync::Arc;
 
@@ -32,7 +32,7 @@ pub const MOST_CHANNELS: usize = 256;
 #[tactic(auto, unfolding(crate::specs::Nodes::at_most, crate::specs::Channels::channels_or))]
 pub(crate) fn channels_of(
     alloc: Global,
-    placements: &Vec<Placement<(), ()>>,
+    placements: &Vec<Placement<(), (), ()>>,
 ) -> Result<Vec<Channel>, Refusal>
     ensures { Answers Refusal.Memory (λ cs. cs.items) result
         (spec.channels_at (map placement_of placements.now.items)) }
@@ -50,7 +50,7 @@ pub(crate) fn channels_of(
 /// The channels of a system section, in the order of their declaration.
 fn all_channels(
     alloc: Global,
-    placements: &Vec<Placement<(), ()>>,
+    placements: &Vec<Placement<(), (), ()>>,
 ) -> Result<Vec<Channel>, AllocError>
     ensures { IfOk result (λ cs. cs.items ≡ channels_in (map placement_of placements.now.items)) }
 {
@@ -114,7 +114,7 @@ pub(crate) fn program_or(
 fn takes_number(
     alloc: Global,
     env: &Env,
-    parameter: Option<&Parameter<usize, Shape>>,
+    parameter: Option<&Parameter<usize, Callee, Shape>>,
     number: i64,
 ) -> Result<bool, AllocError>
     requires { IfSome parameter (λ p. IsResolvedParameter (names_of env.now) (parameter_of p.now)) }

@@ -29,7 +29,7 @@ use std::sync::Arc;
 /// is returned, with the index of its declaration. The tree is lent, so it is there after a refusal too. Costs time in
 /// proportion to the text, but for what the look-ups of names and the sorts cost, and to the evaluation of constants,
 /// arguments and initial values.
-pub fn check(alloc: Global, text: &Text<(), ()>) -> Result<System, CheckFault>
+pub fn check(alloc: Global, text: &Text<(), (), ()>) -> Result<System, CheckFault>
     ensures exact { Answers CheckFault.Memory (λ s. s) result (spec.system_of (text_of text.now)) }
     ensures system { IfOk result (IsSystemOf (text_of text.now)) }
     ensures declared { IfOk result IsWellDeclared }
@@ -40,7 +40,7 @@ pub fn check(alloc: Global, text: &Text<(), ()>) -> Result<System, CheckFault>
 
 /// The system that the tree of a source describes.
 #[tactic(auto, unfolding(crate::specs::Checking::system_of))]
-fn find_system(alloc: Global, text: &Text<(), ()>) -> Result<System, CheckFault>
+fn find_system(alloc: Global, text: &Text<(), (), ()>) -> Result<System, CheckFault>
     ensures { Answers CheckFault.Memory (λ s. s) result (spec.system_of (text_of text.now)) }
 {
     let types = types_of(alloc, &text.declarations)?;
@@ -66,7 +66,7 @@ fn check_section(
     types: &TextTypes,
     constants: &Arc<Names>,
     automata: &Vec<Arc<CompiledAutomaton>>,
-    placements: &Vec<Placement<(), ()>>,
+    placements: &Vec<Placement<(), (), ()>>,
 ) -> Result<System, Refusal>
     requires named { arc_value constants.now ≡ words types.now.constants }
     requires grounded { AreGrounded types.now.constants (map arc_value automata.now.items) }
@@ -88,7 +88,7 @@ fn check_section(
 fn check_placements(
     alloc: Global,
     ground: &Ground,
-    placements: &Vec<Placement<(), ()>>,
+    placements: &Vec<Placement<(), (), ()>>,
 ) -> Result<System, Refusal>
     requires named { arc_value ground.now.constants.now ≡ words ground.now.view.now }
     requires grounded { AreGrounded ground.now.view.now (map arc_value ground.now.automata.now.items) }

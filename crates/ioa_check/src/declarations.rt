@@ -22,7 +22,7 @@ use std::sync::Arc;
 /// The types and the constants of a text.
 pub(crate) fn types_of(
     alloc: Global,
-    declarations: &Vec<Declaration<(), ()>>,
+    declarations: &Vec<Declaration<(), (), ()>>,
 ) -> Result<TextTypes, CheckFault>
     ensures { Answers CheckFault.Memory (λ t. t) result
         (spec.types_at 0 no_types (map declaration_of declarations.now.items)) }
@@ -41,7 +41,7 @@ pub(crate) fn types_of(
 fn with_declaration(
     alloc: Global,
     types: TextTypes,
-    declaration: &Declaration<(), ()>,
+    declaration: &Declaration<(), (), ()>,
 ) -> Result<TextTypes, Refusal>
     ensures { Answers Refusal.Memory (λ t. t) result (spec.with_declaration types (declaration_of declaration.now)) }
 {
@@ -68,7 +68,7 @@ pub(crate) fn automata_of(
     alloc: Global,
     types: &TextTypes,
     constants: &Arc<Names>,
-    declarations: &Vec<Declaration<(), ()>>,
+    declarations: &Vec<Declaration<(), (), ()>>,
 ) -> Result<Vec<Arc<CompiledAutomaton>>, CheckFault>
     requires { arc_value constants.now ≡ words types.now.constants }
     ensures { Answers CheckFault.Memory (λ cs. map arc_value cs.items) result
@@ -97,7 +97,7 @@ fn automaton_in_declaration(
     constants: &Arc<Names>,
     names: &mut Scope,
     index: usize,
-    automaton: &Automaton<(), ()>,
+    automaton: &Automaton<(), (), ()>,
 ) -> Result<Arc<CompiledAutomaton>, CheckFault>
     requires { arc_value constants.now ≡ words types.now.constants }
     ensures found { Answers CheckFault.Memory arc_value result
@@ -117,7 +117,7 @@ fn new_automaton(
     types: &TextTypes,
     constants: &Arc<Names>,
     names: &mut Scope,
-    automaton: &Automaton<(), ()>,
+    automaton: &Automaton<(), (), ()>,
 ) -> Result<Arc<CompiledAutomaton>, Refusal>
     requires { arc_value constants.now ≡ words types.now.constants }
     ensures found { Answers Refusal.Memory arc_value result

@@ -23,7 +23,7 @@ use ioa_sort_rules::Refusal;
 use ioa_sorts::sort_arguments;
 use ioa_source::{Declared, Node, Parameter, Placement};
 use ioa_system::{CompiledAutomaton, Program, Rule};
-use ioa_terms::{Env, NameLists, Names, Shape, Term, Value, Word};
+use ioa_terms::{Callee, Env, NameLists, Names, Shape, Term, Value, Word};
 use std::alloc::{AllocError, Global};
 use std::sync::Arc;
 
@@ -46,8 +46,8 @@ pub(crate) struct Ground<'a> {
 #[tactic(auto, unfolding(crate::specs::Nodes::at_most, crate::specs::Nodes::nodes_or))]
 pub(crate) fn nodes_of<'a>(
     alloc: Global,
-    placements: &'a Vec<Placement<(), ()>>,
-) -> Result<Vec<&'a Node<(), ()>>, Refusal>
+    placements: &'a Vec<Placement<(), (), ()>>,
+) -> Result<Vec<&'a Node<(), (), ()>>, Refusal>
     ensures { Answers Refusal.Memory (λ ns. map node_at ns.items) result
         (spec.nodes_at (map placement_of placements.now.items)) }
 {
@@ -64,11 +64,11 @@ pub(crate) fn nodes_of<'a>(
 /// The nodes of a system section, in the order of their declaration.
 fn all_nodes<'a>(
     alloc: Global,
-    placements: &'a Vec<Placement<(), ()>>,
-) -> Result<Vec<&'a Node<(), ()>>, AllocError>
+    placements: &'a Vec<Placement<(), (), ()>>,
+) -> Result<Vec<&'a Node<(), (), ()>>, AllocError>
     ensures { IfOk result (λ ns. map node_at ns.items ≡ nodes_in (map placement_of placements.now.items)) }
 {
-    let mut nodes: Vec<&'a Node<(), ()>> = Vec::new(alloc);
+    let mut nodes: Vec<&'a Node<(), (), ()>> = Vec::new(alloc);
     for placement in placements {
         if let Placement::Node(node) = placement {
             nodes.push(node)?;
@@ -78,7 +78,7 @@ fn all_nodes<'a>(
 }
 
 /// Whether no two nodes have one number.
-fn are_numbered_anew(nodes: &[&Node<(), ()>]) -> bool
+fn are_numbered_anew(nodes: &[&Node<(), (), ()>]) -> bool
     ensures { result ≡ differ_from spec.same_number [] (map node_at nodes.now) }
 {
     for position in 0..nodes.len() {
@@ -91,14 +91,14 @@ fn are_numbered_anew(nodes: &[&Node<(), ()>]) -> bool
 }
 
 /// Whether a number is that of a node.
-fn is_node(nodes: &[&Node<(), ()>], number: i64) -> bool
+fn is_node(nodes: &[&Node<(), (), ()>], number: i64) -> bool
     ensures { result ≡ list_any (spec.has_number number) (map node_at nodes.now) }
 {
     nodes.iter().any(|node| node.number == number)
 }
 
 /// The node that has a number.
-fn node_of_number<'a>(nodes: &[&'a Node<(), ()>], number: i64) -> Option<&'a Node<(), ()>>
+fn node_of_number<'a>(nodes: &[&'a Node<(), (), ()>], number: i64) -> Option<&'a Node<(), (), ()>>
     ensures { option_map node_at result ≡ find (spec.has_number number) (map node_at nodes.now) }
 {
     for node in nodes {
@@ -162,7 +162,7 @@ pub(crate) fn given_values(
 fn is_constant_of(
     alloc: Global,
     env: &Env,
-    parameter: Option<&Parameter<usize, Shape>>,
+    parameter: Option<&Parameter<usize, Callee, Shape>>,
     number: i64,
 ) -> Result<bool, AllocError>
     requires { IfSome parameter (λ p. IsResolvedParameter (names_of env.now) (parameter_of p.now)) }
@@ -183,7 +183,7 @@ fn is_own(
     alloc: Global,
     env: &Env,
     asked: bool,
-    parameter: Option<&Parameter<usize, Shape>>,
+    parameter: Option<&Parameter<usize, Callee, Shape>>,
     number: i64,
 ) -> Result<bool, AllocError>
     requires { IfSome parameter (λ p. IsResolvedParameter (names_of env.now) (parameter_of p.now)) }
@@ -336,7 +336,7 @@ fn node_program(
     alloc: Global,
     ground: &Ground,
     number: i64,
-    node: &Node<(), ()>,
+    node: &Node<(), (), ()>,
 ) -> Result<Program, Refusal>
     requires named { arc_value ground.now.constants.now ≡ words ground.now.view.now }
     requires grounded { AreGrounded ground.now.view.now (map arc_value ground.now.automata.now.items) }
@@ -354,7 +354,7 @@ fn node_program(
 fn program_at(
     alloc: Global,
     ground: &Ground,
-    nodes: &[&Node<(), ()>],
+    nodes: &[&Node<(), (), ()>],
     number: i64,
 ) -> Result<Program, Refusal>
     requires named { arc_value ground.now.constants.now ≡ words ground.now.view.now }
@@ -372,7 +372,7 @@ fn program_at(
 fn program_at_position(
     alloc: Global,
     ground: &Ground,
-    nodes: &[&Node<(), ()>],
+    nodes: &[&Node<(), (), ()>],
     position: usize,
 ) -> Result<Arc<Program>, Refusal>
     requires named { arc_value ground.now.constants.now ≡ words ground.now.view.now }
@@ -390,7 +390,7 @@ fn program_at_position(
 pub(crate) fn programs_of(
     alloc: Global,
     ground: &Ground,
-    nodes: &[&Node<(), ()>],
+    nodes: &[&Node<(), (), ()>],
 ) -> Result<Vec<Arc<Program>>, Refusal>
     requires named { arc_value ground.now.constants.now ≡ words ground.now.view.now }
     requires grounded { AreGrounded ground.now.view.now (map arc_value ground.now.automata.now.items) }

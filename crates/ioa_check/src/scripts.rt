@@ -29,8 +29,8 @@ use std::sync::Arc;
 #[tactic(auto, unfolding(crate::specs::Scripts::scripts_or))]
 fn declared_scripts<'a>(
     alloc: Global,
-    placements: &'a Vec<Placement<(), ()>>,
-) -> Result<Vec<&'a ScriptDeclaration<(), ()>>, Refusal>
+    placements: &'a Vec<Placement<(), (), ()>>,
+) -> Result<Vec<&'a ScriptDeclaration<(), (), ()>>, Refusal>
     ensures { Answers Refusal.Memory (λ ss. map script_behind ss.items) result
         (spec.scripts_or (scripts_in (map placement_of placements.now.items))) }
 {
@@ -44,11 +44,11 @@ fn declared_scripts<'a>(
 /// The scripts of a system section, in the order of their declaration.
 fn all_scripts<'a>(
     alloc: Global,
-    placements: &'a Vec<Placement<(), ()>>,
-) -> Result<Vec<&'a ScriptDeclaration<(), ()>>, AllocError>
+    placements: &'a Vec<Placement<(), (), ()>>,
+) -> Result<Vec<&'a ScriptDeclaration<(), (), ()>>, AllocError>
     ensures { IfOk result (λ ss. map script_behind ss.items ≡ scripts_in (map placement_of placements.now.items)) }
 {
-    let mut scripts: Vec<&'a ScriptDeclaration<(), ()>> = Vec::new(alloc);
+    let mut scripts: Vec<&'a ScriptDeclaration<(), (), ()>> = Vec::new(alloc);
     for placement in placements {
         if let Placement::Script(script) = placement {
             scripts.push(script)?;
@@ -58,7 +58,7 @@ fn all_scripts<'a>(
 }
 
 /// Whether no two scripts are of one node.
-fn are_of_different_nodes(scripts: &[&ScriptDeclaration<(), ()>]) -> bool
+fn are_of_different_nodes(scripts: &[&ScriptDeclaration<(), (), ()>]) -> bool
     ensures { result ≡ differ_from spec.same_node [] (map script_behind scripts.now) }
 {
     for position in 0..scripts.len() {
@@ -71,7 +71,7 @@ fn are_of_different_nodes(scripts: &[&ScriptDeclaration<(), ()>]) -> bool
 }
 
 /// Whether one of these scripts is that of the node of a number.
-fn has_script(scripts: &[&ScriptDeclaration<(), ()>], number: i64) -> bool
+fn has_script(scripts: &[&ScriptDeclaration<(), (), ()>], number: i64) -> bool
     ensures { result ≡ list_any (λ s. int_eq s.node number) (map script_behind scripts.now) }
 {
     scripts.iter().any(|script| script.node == number)
@@ -113,7 +113,7 @@ fn stimulus_of(
     ground: &Ground,
     number: i64,
     automaton: &CompiledAutomaton,
-    call: &Call<(), ()>,
+    call: &Call<(), (), ()>,
 ) -> Result<NodeAction, Refusal>
     requires named { arc_value ground.now.constants.now ≡ words ground.now.view.now }
     requires grounded { IsGrounded ground.now.view.now automaton.now }
@@ -138,7 +138,7 @@ fn stimuli_of(
     ground: &Ground,
     number: i64,
     automaton: &CompiledAutomaton,
-    calls: &Vec<Call<(), ()>>,
+    calls: &Vec<Call<(), (), ()>>,
 ) -> Result<Vec<NodeAction>, Refusal>
     requires named { arc_value ground.now.constants.now ≡ words ground.now.view.now }
     requires grounded { IsGrounded ground.now.view.now automaton.now }
@@ -160,7 +160,7 @@ fn script_at(
     ground: &Ground,
     programs: &Vec<Arc<Program>>,
     number: i64,
-    calls: &Vec<Call<(), ()>>,
+    calls: &Vec<Call<(), (), ()>>,
 ) -> Result<Script, Refusal>
     requires named { arc_value ground.now.constants.now ≡ words ground.now.view.now }
     requires grounded { AreGroundedPrograms ground.now.view.now (map arc_value programs.now.items) }
@@ -178,7 +178,7 @@ fn script_of(
     alloc: Global,
     ground: &Ground,
     programs: &Vec<Arc<Program>>,
-    script: &ScriptDeclaration<(), ()>,
+    script: &ScriptDeclaration<(), (), ()>,
 ) -> Result<Script, Refusal>
     requires named { arc_value ground.now.constants.now ≡ words ground.now.view.now }
     requires grounded { AreGroundedPrograms ground.now.view.now (map arc_value programs.now.items) }
@@ -193,7 +193,7 @@ fn scripts_at(
     alloc: Global,
     ground: &Ground,
     programs: &Vec<Arc<Program>>,
-    declared: &[&ScriptDeclaration<(), ()>],
+    declared: &[&ScriptDeclaration<(), (), ()>],
 ) -> Result<Vec<Script>, Refusal>
     requires named { arc_value ground.now.constants.now ≡ words ground.now.view.now }
     requires grounded { AreGroundedPrograms ground.now.view.now (map arc_value programs.now.items) }
@@ -215,7 +215,7 @@ pub(crate) fn scripts_of(
     alloc: Global,
     ground: &Ground,
     programs: &Vec<Arc<Program>>,
-    placements: &Vec<Placement<(), ()>>,
+    placements: &Vec<Placement<(), (), ()>>,
 ) -> Result<Vec<Script>, Refusal>
     requires named { arc_value ground.now.constants.now ≡ words ground.now.view.now }
     requires grounded { AreGroundedPrograms ground.now.view.now (map arc_value programs.now.items) }

@@ -14,7 +14,7 @@ ghost use Rattle.ioa_check.specs.Nodes as spec;
 
 use ioa_sort_rules::Refusal;
 use ioa_source::{Parameter, Variable};
-use ioa_terms::{Checked, Env, Shape, TermFault, Value, eval};
+use ioa_terms::{Callee, Checked, Env, Shape, TermFault, Value, eval};
 use std::alloc::{AllocError, Global};
 
 /// The value of a term. `BadArgument` (34) if it has none, or if a number outside 64 bits is met.
@@ -98,7 +98,7 @@ fn initial_value(
 pub(crate) fn variable_values(
     alloc: Global,
     env: &Env,
-    variables: &[Variable<usize, Shape>],
+    variables: &[Variable<usize, Callee, Shape>],
 ) -> Result<Vec<Value>, Refusal>
     requires { AreResolvedVariables (names_of env.now) (map variable_of variables.now) }
     ensures values { Answers Refusal.Memory (λ vs. vs.items) result
@@ -118,7 +118,7 @@ pub(crate) fn variable_values(
 fn check_constant(
     alloc: Global,
     env: &Env,
-    parameter: &Parameter<usize, Shape>,
+    parameter: &Parameter<usize, Callee, Shape>,
 ) -> Result<(), Refusal>
     requires { IsResolvedParameter (names_of env.now) (parameter_of parameter.now) }
     ensures { Answers Refusal.Memory (λ x. x) result (spec.constant_at env.now (parameter_of parameter.now)) }
@@ -137,7 +137,7 @@ fn check_constant(
 pub(crate) fn check_constants(
     alloc: Global,
     env: &Env,
-    parameters: &Vec<Parameter<usize, Shape>>,
+    parameters: &Vec<Parameter<usize, Callee, Shape>>,
 ) -> Result<(), Refusal>
     requires { AreResolvedParameters (names_of env.now) (map parameter_of parameters.now.items) }
     ensures { Answers Refusal.Memory (λ x. x) result

@@ -3,11 +3,12 @@ use denote.Builtin.{usize}
 use denote.Param.Send.{IsSend, IsSync, sendable}
 use Rattle.std.proofs.Crossing.{crosses}
 use Rattle.ioa_operators.proofs.shape.Shape.TheLaws.TheKnot as shape_knot
-use Rattle.ioa_source.proofs.sort.Sort.TheLaws.TheKnot as sort_knot
+use Rattle.ioa_terms.proofs.sort.Sort.TheLaws.TheKnot as sort_knot
 use Rattle.ioa_terms.proofs.tree.Tree.TheLaws.TheKnot as tree_knot
 use Rattle.ioa_terms.proofs.tree.Statement.TheLaws.TheKnot as statement_knot
 use Rattle.ioa_operators.specs.contracts.shape.Shape as Shape
-use Rattle.ioa_source.specs.contracts.sort.Sort as Sort
+use Rattle.ioa_terms.specs.contracts.callee.Callee as Callee
+use Rattle.ioa_terms.specs.contracts.sort.Sort as Sort
 use Rattle.ioa_source.specs.contracts.declaration.Declared as Declared
 use Rattle.ioa_source.specs.contracts.declaration.Variable as Variable
 use Rattle.ioa_source.specs.contracts.declaration.Entry as Entry
@@ -48,17 +49,23 @@ names_send = search (owners, word_send, crosses, sendable) depth 60 fits 20000
 pub names_sync : IsSync (Names.the_field).row
 names_sync = search (owners, word_sync, crosses, sendable) depth 60 fits 20000
 
-pub tree_send : IsSend (Tree.the_field usize Shape.the_row).row
-tree_send = search (owners, word_send, shape_send, crosses, tree_knot.crosses, sendable) depth 60 fits 20000
+pub callee_send : IsSend (Callee.the_field).row
+callee_send = search (crosses, sendable) depth 60 fits 20000
 
-pub tree_sync : IsSync (Tree.the_field usize Shape.the_row).row
-tree_sync = search (owners, word_sync, shape_sync, crosses, tree_knot.crosses, sendable) depth 60 fits 20000
+pub callee_sync : IsSync (Callee.the_field).row
+callee_sync = search (crosses, sendable) depth 60 fits 20000
 
-pub statement_send : IsSend (Statement.the_field usize Shape.the_row).row
-statement_send = search (owners, word_send, shape_send, tree_send, crosses, statement_knot.crosses, sendable) depth 60 fits 20000
+pub tree_send : IsSend (Tree.the_field usize Callee.the_row Shape.the_row).row
+tree_send = search (callee_send, owners, word_send, shape_send, crosses, tree_knot.crosses, sendable) depth 60 fits 20000
 
-pub statement_sync : IsSync (Statement.the_field usize Shape.the_row).row
-statement_sync = search (owners, word_sync, shape_sync, tree_sync, crosses, statement_knot.crosses, sendable) depth 60 fits 20000
+pub tree_sync : IsSync (Tree.the_field usize Callee.the_row Shape.the_row).row
+tree_sync = search (callee_sync, owners, word_sync, shape_sync, crosses, tree_knot.crosses, sendable) depth 60 fits 20000
+
+pub statement_send : IsSend (Statement.the_field usize Callee.the_row Shape.the_row).row
+statement_send = search (callee_send, owners, word_send, shape_send, tree_send, crosses, statement_knot.crosses, sendable) depth 60 fits 20000
+
+pub statement_sync : IsSync (Statement.the_field usize Callee.the_row Shape.the_row).row
+statement_sync = search (callee_sync, owners, word_sync, shape_sync, tree_sync, crosses, statement_knot.crosses, sendable) depth 60 fits 20000
 
 pub declared_send : IsSend (Declared.the_field Shape.the_row).row
 declared_send = search (word_send, sort_send, shape_send, sendable) depth 60 fits 20000
@@ -66,29 +73,29 @@ declared_send = search (word_send, sort_send, shape_send, sendable) depth 60 fit
 pub declared_sync : IsSync (Declared.the_field Shape.the_row).row
 declared_sync = search (word_sync, sort_sync, shape_sync, sendable) depth 60 fits 20000
 
-pub variable_send : IsSend (Variable.the_field usize Shape.the_row).row
-variable_send = search (declared_send, tree_send, crosses, sendable) depth 60 fits 20000
+pub variable_send : IsSend (Variable.the_field usize Callee.the_row Shape.the_row).row
+variable_send = search (callee_send, declared_send, tree_send, crosses, sendable) depth 60 fits 20000
 
-pub variable_sync : IsSync (Variable.the_field usize Shape.the_row).row
-variable_sync = search (declared_sync, tree_sync, crosses, sendable) depth 60 fits 20000
+pub variable_sync : IsSync (Variable.the_field usize Callee.the_row Shape.the_row).row
+variable_sync = search (callee_sync, declared_sync, tree_sync, crosses, sendable) depth 60 fits 20000
 
-pub entry_send : IsSend (Entry.the_field usize Shape.the_row).row
-entry_send = search (word_send, declared_send, tree_send, crosses, sendable) depth 60 fits 20000
+pub entry_send : IsSend (Entry.the_field usize Callee.the_row Shape.the_row).row
+entry_send = search (callee_send, word_send, declared_send, tree_send, crosses, sendable) depth 60 fits 20000
 
-pub entry_sync : IsSync (Entry.the_field usize Shape.the_row).row
-entry_sync = search (word_sync, declared_sync, tree_sync, crosses, sendable) depth 60 fits 20000
+pub entry_sync : IsSync (Entry.the_field usize Callee.the_row Shape.the_row).row
+entry_sync = search (callee_sync, word_sync, declared_sync, tree_sync, crosses, sendable) depth 60 fits 20000
 
-pub transition_send : IsSend (Transition.the_field usize Shape.the_row).row
-transition_send = search (word_send, tree_send, statement_send, crosses, sendable) depth 60 fits 20000
+pub transition_send : IsSend (Transition.the_field usize Callee.the_row Shape.the_row).row
+transition_send = search (callee_send, word_send, tree_send, statement_send, crosses, sendable) depth 60 fits 20000
 
-pub transition_sync : IsSync (Transition.the_field usize Shape.the_row).row
-transition_sync = search (word_sync, tree_sync, statement_sync, crosses, sendable) depth 60 fits 20000
+pub transition_sync : IsSync (Transition.the_field usize Callee.the_row Shape.the_row).row
+transition_sync = search (callee_sync, word_sync, tree_sync, statement_sync, crosses, sendable) depth 60 fits 20000
 
-pub schedule_send : IsSend (Schedule.the_field usize Shape.the_row).row
-schedule_send = search (variable_send, statement_send, crosses, sendable) depth 60 fits 20000
+pub schedule_send : IsSend (Schedule.the_field usize Callee.the_row Shape.the_row).row
+schedule_send = search (callee_send, variable_send, statement_send, crosses, sendable) depth 60 fits 20000
 
-pub schedule_sync : IsSync (Schedule.the_field usize Shape.the_row).row
-schedule_sync = search (variable_sync, statement_sync, crosses, sendable) depth 60 fits 20000
+pub schedule_sync : IsSync (Schedule.the_field usize Callee.the_row Shape.the_row).row
+schedule_sync = search (callee_sync, variable_sync, statement_sync, crosses, sendable) depth 60 fits 20000
 
 pub rule_send : IsSend (Rule.the_field).row
 rule_send = search (entry_send, shape_send, transition_send, word_send, crosses, sendable) depth 60 fits 20000

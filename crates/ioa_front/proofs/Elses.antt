@@ -9,6 +9,6 @@ use Rattle.ioa_terms.specs.View.{statement_of}
 use Rattle.ioa_front.specs.Spelling.{else_spelling}
 
 -- if it has a statement its word comes before it
-pub else_spelled : (ss : List (Statement (Unit {0}) (Unit {0}))) (xs : List Token) → 1 ≤ length ss → else_spelling (statements_of (map statement_of ss)) xs ≡ token.Mark mark.Else ∷ xs
+pub else_spelled : (ss : List (Statement (Unit {0}) (Unit {0}) (Unit {0}))) (xs : List Token) → 1 ≤ length ss → else_spelling (statements_of (map statement_of ss)) xs ≡ token.Mark mark.Else ∷ xs
 else_spelled [] xs least = absurd (omega (arith, least))
 else_spelled (s ∷ ss) xs least = refl

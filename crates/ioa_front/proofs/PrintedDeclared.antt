@@ -7,7 +7,7 @@ use Rattle.ioa_tokens.specs.declared.mark.Mark.TheVariants as mark
 use Rattle.ioa_tokens.specs.Written.{IsName, AreTokens}
 use Rattle.ioa_terms.specs.declared.tree.Kind.{Kind}
 use Rattle.ioa_terms.specs.declared.tree.Kind.TheVariants as kind
-use Rattle.ioa_source.specs.PlainSort.{PlainSort}
+use Rattle.ioa_terms.specs.PlainSort.{PlainSort}
 use Rattle.ioa_source.specs.PlainText as plain
 use Rattle.ioa_source.specs.Sides.{SourceTerm as Term, SourceDeclared as Declared, SourceParameter as Parameter, SourceEntry as Entry, SourceCall as Call}
 use Rattle.ioa_cursor.specs.Lists.{SeparatedBy, ListsSeparatedBy, SeveralLists}

@@ -2,7 +2,7 @@
 
 ghost use Rattle.std.specs.Prelude.{◌≡◌, map};
 ghost use Rattle.ioa_tokens.specs.declared.mark.Mark.TheVariants as mark;
-ghost use Rattle.ioa_source.specs.SortView.{sort_of};
+ghost use Rattle.ioa_terms.specs.SortView.{sort_of};
 ghost use Rattle.ioa_terms.specs.View.{statement_of};
 ghost use Rattle.ioa_source.specs.TextView.{declared_of, parameter_of, entry_of, variable_of, transition_of};
 ghost use Rattle.ioa_source.specs.TextView.{schedule_of, automaton_of, form_of, type_of, declaration_of};
@@ -97,7 +97,7 @@ fn put_head<'a>(out: &mut Pieces<'a>, parameters: &'a [Declared<()>]) -> Result<
 /// Puts a parameter of an entry.
 fn put_parameter<'a>(
     out: &mut Pieces<'a>,
-    parameter: &'a Parameter<(), ()>,
+    parameter: &'a Parameter<(), (), ()>,
 ) -> Result<(), AllocError>
     ensures { Puts (spec.parameter_spelling (parameter_of parameter.now)) result out.old out.new }
 {
@@ -113,7 +113,7 @@ fn put_parameter<'a>(
 /// Puts an entry's parameters with commas between.
 fn put_all_parameters<'a>(
     out: &mut Pieces<'a>,
-    parameters: &'a [Parameter<(), ()>],
+    parameters: &'a [Parameter<(), (), ()>],
 ) -> Result<(), AllocError>
     ensures { Puts (spec.separated_spelling mark.Comma spec.parameter_spelling (map parameter_of parameters.now))
         result out.old out.new }
@@ -130,7 +130,7 @@ fn put_all_parameters<'a>(
 /// Puts an entry's parameters in round brackets, and nothing if it has none.
 fn put_parameters<'a>(
     out: &mut Pieces<'a>,
-    parameters: &'a [Parameter<(), ()>],
+    parameters: &'a [Parameter<(), (), ()>],
 ) -> Result<(), AllocError>
     ensures { Puts (spec.parameters_spelling (map parameter_of parameters.now)) result out.old out.new }
 {
@@ -145,7 +145,7 @@ fn put_parameters<'a>(
 }
 
 /// Puts an entry of a signature.
-fn put_entry<'a>(out: &mut Pieces<'a>, entry: &'a Entry<(), ()>) -> Result<(), AllocError>
+fn put_entry<'a>(out: &mut Pieces<'a>, entry: &'a Entry<(), (), ()>) -> Result<(), AllocError>
     ensures { Puts (spec.entry_spelling (entry_of entry.now)) result out.old out.new }
 {
     out.put_mark(kind_mark(entry.kind))?;
@@ -155,7 +155,7 @@ fn put_entry<'a>(out: &mut Pieces<'a>, entry: &'a Entry<(), ()>) -> Result<(), A
 }
 
 /// Puts the entries of a signature.
-fn put_entries<'a>(out: &mut Pieces<'a>, entries: &'a [Entry<(), ()>]) -> Result<(), AllocError>
+fn put_entries<'a>(out: &mut Pieces<'a>, entries: &'a [Entry<(), (), ()>]) -> Result<(), AllocError>
     ensures { Puts (spec.joined_spelling spec.entry_spelling (map entry_of entries.now)) result out.old out.new }
 {
     for entry in entries {
@@ -165,7 +165,10 @@ fn put_entries<'a>(out: &mut Pieces<'a>, entries: &'a [Entry<(), ()>]) -> Result
 }
 
 /// Puts a signature, if it has an entry.
-fn put_signature<'a>(out: &mut Pieces<'a>, entries: &'a [Entry<(), ()>]) -> Result<(), AllocError>
+fn put_signature<'a>(
+    out: &mut Pieces<'a>,
+    entries: &'a [Entry<(), (), ()>],
+) -> Result<(), AllocError>
     ensures { Puts (spec.signature_spelling (map entry_of entries.now)) result out.old out.new }
 {
     match entries {
@@ -178,7 +181,10 @@ fn put_signature<'a>(out: &mut Pieces<'a>, entries: &'a [Entry<(), ()>]) -> Resu
 }
 
 /// Puts a variable.
-fn put_variable<'a>(out: &mut Pieces<'a>, variable: &'a Variable<(), ()>) -> Result<(), AllocError>
+fn put_variable<'a>(
+    out: &mut Pieces<'a>,
+    variable: &'a Variable<(), (), ()>,
+) -> Result<(), AllocError>
     ensures { Puts (spec.variable_spelling (variable_of variable.now)) result out.old out.new }
 {
     put_declared(out, &variable.declared)?;
@@ -188,7 +194,7 @@ fn put_variable<'a>(out: &mut Pieces<'a>, variable: &'a Variable<(), ()>) -> Res
 /// Puts variables with commas between.
 fn put_variables<'a>(
     out: &mut Pieces<'a>,
-    variables: &'a [Variable<(), ()>],
+    variables: &'a [Variable<(), (), ()>],
 ) -> Result<(), AllocError>
     ensures { Puts (spec.separated_spelling mark.Comma spec.variable_spelling (map variable_of variables.now))
         result out.old out.new }
@@ -203,7 +209,10 @@ fn put_variables<'a>(
 }
 
 /// Puts the variables of a state or of a schedule block, if there is one.
-fn put_states<'a>(out: &mut Pieces<'a>, variables: &'a [Variable<(), ()>]) -> Result<(), AllocError>
+fn put_states<'a>(
+    out: &mut Pieces<'a>,
+    variables: &'a [Variable<(), (), ()>],
+) -> Result<(), AllocError>
     ensures { Puts (spec.states_spelling (map variable_of variables.now)) result out.old out.new }
 {
     match variables {
@@ -218,7 +227,7 @@ fn put_states<'a>(out: &mut Pieces<'a>, variables: &'a [Variable<(), ()>]) -> Re
 /// Puts an effect, if it has a statement.
 fn put_effect<'a>(
     out: &mut Pieces<'a>,
-    effect: &'a Vec<Statement<(), ()>>,
+    effect: &'a Vec<Statement<(), (), ()>>,
 ) -> Result<(), AllocError>
     ensures { Puts (spec.effect_part_spelling (map statement_of effect.now.items)) result out.old out.new }
 {
@@ -234,7 +243,7 @@ fn put_effect<'a>(
 /// Puts a transition.
 fn put_transition<'a>(
     out: &mut Pieces<'a>,
-    transition: &'a Transition<(), ()>,
+    transition: &'a Transition<(), (), ()>,
 ) -> Result<(), AllocError>
     ensures { Puts (spec.transition_spelling (transition_of transition.now)) result out.old out.new }
 {
@@ -247,7 +256,7 @@ fn put_transition<'a>(
 /// Puts transitions.
 fn put_all_transitions<'a>(
     out: &mut Pieces<'a>,
-    transitions: &'a [Transition<(), ()>],
+    transitions: &'a [Transition<(), (), ()>],
 ) -> Result<(), AllocError>
     ensures { Puts (spec.joined_spelling spec.transition_spelling (map transition_of transitions.now))
         result out.old out.new }
@@ -261,7 +270,7 @@ fn put_all_transitions<'a>(
 /// Puts the transitions of an automaton, if it has one.
 fn put_transitions<'a>(
     out: &mut Pieces<'a>,
-    transitions: &'a [Transition<(), ()>],
+    transitions: &'a [Transition<(), (), ()>],
 ) -> Result<(), AllocError>
     ensures { Puts (spec.transitions_spelling (map transition_of transitions.now)) result out.old out.new }
 {
@@ -276,14 +285,17 @@ fn put_transitions<'a>(
 
 /// Whether a schedule block has neither a variable nor a statement.
 #[tactic(auto, using(crate::proofs::Schedules::none_of_mapped))]
-fn is_empty_schedule(schedule: &Schedule<(), ()>) -> bool
+fn is_empty_schedule(schedule: &Schedule<(), (), ()>) -> bool
     ensures { result ≡ spec.is_empty_schedule (schedule_of schedule.now) }
 {
     schedule.variables.is_empty() && schedule.statements.is_empty()
 }
 
 /// Puts a schedule block, and nothing for the empty block.
-fn put_schedule<'a>(out: &mut Pieces<'a>, schedule: &'a Schedule<(), ()>) -> Result<(), AllocError>
+fn put_schedule<'a>(
+    out: &mut Pieces<'a>,
+    schedule: &'a Schedule<(), (), ()>,
+) -> Result<(), AllocError>
     ensures { Puts (spec.schedule_spelling (schedule_of schedule.now)) result out.old out.new }
 {
     if is_empty_schedule(schedule) {
@@ -297,7 +309,7 @@ fn put_schedule<'a>(out: &mut Pieces<'a>, schedule: &'a Schedule<(), ()>) -> Res
 /// Puts an automaton.
 fn put_automaton<'a>(
     out: &mut Pieces<'a>,
-    automaton: &'a Automaton<(), ()>,
+    automaton: &'a Automaton<(), (), ()>,
 ) -> Result<(), AllocError>
     ensures { Puts (spec.declaration_spelling (plain.automaton (automaton_of automaton.now))) result out.old out.new }
 {
@@ -357,7 +369,7 @@ fn put_type<'a>(
 /// Puts a declaration.
 fn put_declaration<'a>(
     out: &mut Pieces<'a>,
-    declaration: &'a Declaration<(), ()>,
+    declaration: &'a Declaration<(), (), ()>,
 ) -> Result<(), AllocError>
     ensures { Puts (spec.declaration_spelling (declaration_of declaration.now)) result out.old out.new }
 {
@@ -370,7 +382,7 @@ fn put_declaration<'a>(
 /// Puts declarations.
 pub(crate) fn put_declarations<'a>(
     out: &mut Pieces<'a>,
-    declarations: &'a [Declaration<(), ()>],
+    declarations: &'a [Declaration<(), (), ()>],
 ) -> Result<(), AllocError>
     ensures { Puts (spec.joined_spelling spec.declaration_spelling (map declaration_of declarations.now))
         result out.old out.new }

@@ -13,7 +13,7 @@ use ioa_text_reader::Source;
 use std::alloc::{AllocError, Global};
 
 /// The text of a tree, laid out in lines.
-pub(crate) fn print_text(alloc: Global, text: &Text<(), ()>) -> Result<String, AllocError>
+pub(crate) fn print_text(alloc: Global, text: &Text<(), (), ()>) -> Result<String, AllocError>
     ensures { IfOk result (λ s. IsPrinted (text_spelling (text_of text.now)) (string_bytes s)) }
 {
     let pieces = pieces_of(alloc, text)?;

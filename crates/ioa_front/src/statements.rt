@@ -47,7 +47,7 @@ pub(crate) fn put_call<'a>(
 }
 
 /// Puts the target of an assignment.
-fn put_target<'a>(out: &mut Pieces<'a>, target: &'a Target<(), ()>) -> Result<(), AllocError>
+fn put_target<'a>(out: &mut Pieces<'a>, target: &'a Target<(), (), ()>) -> Result<(), AllocError>
     ensures { Puts (spec.target_spelling (target_of target.now)) result out.old out.new }
 {
     match target {
@@ -67,7 +67,7 @@ fn put_target<'a>(out: &mut Pieces<'a>, target: &'a Target<(), ()>) -> Result<()
 }
 
 /// Puts the firing of an action.
-fn put_firing<'a>(out: &mut Pieces<'a>, firing: &'a Firing<(), ()>) -> Result<(), AllocError>
+fn put_firing<'a>(out: &mut Pieces<'a>, firing: &'a Firing<(), (), ()>) -> Result<(), AllocError>
     ensures { Puts (spec.statement_spelling (fire (firing_of firing.now))) result out.old out.new }
 {
     out.put_mark(Mark::Fire)?;
@@ -78,7 +78,7 @@ fn put_firing<'a>(out: &mut Pieces<'a>, firing: &'a Firing<(), ()>) -> Result<()
 /// Puts an assignment.
 fn put_assignment<'a>(
     out: &mut Pieces<'a>,
-    target: &'a Target<(), ()>,
+    target: &'a Target<(), (), ()>,
     term: &'a Term,
 ) -> Result<(), AllocError>
     ensures { Puts (spec.statement_spelling (assign (target_of target.now) (term_of term.now))) result out.old out.new }
@@ -92,7 +92,7 @@ fn put_assignment<'a>(
 #[cycle(statements)]
 fn put_statement<'a>(
     out: &mut Pieces<'a>,
-    statement: &'a Statement<(), ()>,
+    statement: &'a Statement<(), (), ()>,
 ) -> Result<(), AllocError>
     ensures { Puts (spec.statement_spelling (statement_of statement.now)) result out.old out.new }
 {
@@ -115,7 +115,7 @@ fn put_statement<'a>(
 
 /// Puts the arms of an `if`, up to its `else`.
 #[cycle(statements)]
-fn put_arms<'a>(out: &mut Pieces<'a>, arms: &'a Vec<Arm<(), ()>>) -> Result<(), AllocError>
+fn put_arms<'a>(out: &mut Pieces<'a>, arms: &'a Vec<Arm<(), (), ()>>) -> Result<(), AllocError>
     ensures { Puts (spec.arms_spelling (arms_of (map arm_of arms.now.items))) result out.old out.new }
 {
     let mut first = true;
@@ -131,7 +131,10 @@ fn put_arms<'a>(out: &mut Pieces<'a>, arms: &'a Vec<Arm<(), ()>>) -> Result<(), 
 
 /// Puts the last part of an `if`, if it has one.
 #[cycle(statements)]
-fn put_else<'a>(out: &mut Pieces<'a>, rest: &'a Vec<Statement<(), ()>>) -> Result<(), AllocError>
+fn put_else<'a>(
+    out: &mut Pieces<'a>,
+    rest: &'a Vec<Statement<(), (), ()>>,
+) -> Result<(), AllocError>
     ensures { Puts (spec.rest_spelling (map statement_of rest.now.items)) result out.old out.new }
 {
     match rest.as_slice() {
@@ -147,7 +150,7 @@ fn put_else<'a>(out: &mut Pieces<'a>, rest: &'a Vec<Statement<(), ()>>) -> Resul
 #[cycle(statements)]
 pub(crate) fn put_block<'a>(
     out: &mut Pieces<'a>,
-    statements: &'a Vec<Statement<(), ()>>,
+    statements: &'a Vec<Statement<(), (), ()>>,
 ) -> Result<(), AllocError>
     ensures { Puts (spec.block_spelling (map statement_of statements.now.items)) result out.old out.new }
 {
@@ -160,7 +163,7 @@ pub(crate) fn put_block<'a>(
 #[cycle(statements)]
 pub(crate) fn put_statements<'a>(
     out: &mut Pieces<'a>,
-    statements: &'a Vec<Statement<(), ()>>,
+    statements: &'a Vec<Statement<(), (), ()>>,
 ) -> Result<(), AllocError>
     ensures { Puts (spec.list_spelling (map statement_of statements.now.items)) result out.old out.new }
 {

@@ -93,7 +93,7 @@ pub(crate) fn put_term<'a>(out: &mut Pieces<'a>, term: &'a Term) -> Result<(), A
             put_part(out, right)?;
             put_infix_end(out, *operator)
         }
-        Term::Call(name, parts) => {
+        Term::Call(name, _, parts) => {
             out.put_word(name)?;
             out.put_mark(Mark::OpenRound)?;
             put_parts(out, parts)?;

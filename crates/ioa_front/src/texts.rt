@@ -13,7 +13,7 @@ use ioa_tokens::Mark;
 use std::alloc::{AllocError, Global};
 
 /// Puts calls with commas between.
-fn put_calls<'a>(out: &mut Pieces<'a>, calls: &'a [Call<(), ()>]) -> Result<(), AllocError>
+fn put_calls<'a>(out: &mut Pieces<'a>, calls: &'a [Call<(), (), ()>]) -> Result<(), AllocError>
     ensures { Puts (spec.calls_spelling (map call_of calls.now)) result out.old out.new }
 {
     let mut first = true;
@@ -28,7 +28,7 @@ fn put_calls<'a>(out: &mut Pieces<'a>, calls: &'a [Call<(), ()>]) -> Result<(), 
 /// Puts a node, a channel or a script.
 fn put_placement<'a>(
     out: &mut Pieces<'a>,
-    placement: &'a Placement<(), ()>,
+    placement: &'a Placement<(), (), ()>,
 ) -> Result<(), AllocError>
     ensures { Puts (spec.placement_spelling (placement_of placement.now)) result out.old out.new }
 {
@@ -57,7 +57,7 @@ fn put_placement<'a>(
 /// Puts nodes, channels and scripts.
 fn put_placements<'a>(
     out: &mut Pieces<'a>,
-    placements: &'a [Placement<(), ()>],
+    placements: &'a [Placement<(), (), ()>],
 ) -> Result<(), AllocError>
     ensures { Puts (spec.joined_spelling spec.placement_spelling (map placement_of placements.now))
         result out.old out.new }
@@ -69,7 +69,10 @@ fn put_placements<'a>(
 }
 
 /// The pieces of a text.
-pub(crate) fn pieces_of<'a>(alloc: Global, text: &'a Text<(), ()>) -> Result<Pieces<'a>, AllocError>
+pub(crate) fn pieces_of<'a>(
+    alloc: Global,
+    text: &'a Text<(), (), ()>,
+) -> Result<Pieces<'a>, AllocError>
     ensures { IfOk result (λ p. p ≡ spec.text_spelling (text_of text.now)) }
 {
     let mut out = Pieces::new(alloc);

@@ -10,7 +10,7 @@ use crate::paper::Paper;
 use crate::values::put_value;
 use ioa_source::Variable;
 use ioa_streams::Out;
-use ioa_terms::Shape;
+use ioa_terms::{Callee, Shape};
 use ioa_values::{Names, Value};
 
 /// Writes a node's variables with their values, in the order of their declaration.
@@ -19,7 +19,7 @@ pub fn put_variables<O: Out>(
     names: &Names,
     node: i64,
     values: &[Value],
-    variables: &[Variable<usize, Shape>],
+    variables: &[Variable<usize, Callee, Shape>],
 )
     ensures { paper.new ≡ and_text paper.old
         (variable_lines names.now node values.now (map variable_of variables.now)) }

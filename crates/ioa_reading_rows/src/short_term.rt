@@ -63,7 +63,7 @@ pub(crate) fn push_term(out: &mut String, term: &Term) -> Result<(), AllocError>
             push_term(out, right)?;
             out.push_str(end_of_pair(*operator))
         }
-        Tree::Call(name, parts) => {
+        Tree::Call(name, _, parts) => {
             write!(out, "{name}(")?;
             push_terms(out, parts)?;
             out.push_str(")")

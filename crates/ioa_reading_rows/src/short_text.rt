@@ -73,7 +73,7 @@ fn push_words(out: &mut String, words: &Vec<Word>) -> Result<(), AllocError> {
 }
 
 /// Writes a parameter of an entry.
-fn push_parameter(out: &mut String, parameter: &Parameter<(), ()>) -> Result<(), AllocError> {
+fn push_parameter(out: &mut String, parameter: &Parameter<(), (), ()>) -> Result<(), AllocError> {
     match parameter {
         Parameter::Const(constant) => {
             out.push_str("const ")?;
@@ -84,7 +84,7 @@ fn push_parameter(out: &mut String, parameter: &Parameter<(), ()>) -> Result<(),
 }
 
 /// Writes the entries of a signature.
-fn push_entries(out: &mut String, entries: &Vec<Entry<(), ()>>) -> Result<(), AllocError> {
+fn push_entries(out: &mut String, entries: &Vec<Entry<(), (), ()>>) -> Result<(), AllocError> {
     for entry in entries {
         let (kind, name) = (entry.kind, &entry.name);
         write!(out, "{kind:?} {name}(")?;
@@ -103,7 +103,7 @@ fn push_entries(out: &mut String, entries: &Vec<Entry<(), ()>>) -> Result<(), Al
 fn push_variables(
     out: &mut String,
     word: &str,
-    variables: &Vec<Variable<(), ()>>,
+    variables: &Vec<Variable<(), (), ()>>,
 ) -> Result<(), AllocError> {
     for variable in variables {
         out.push_str(word)?;
@@ -115,7 +115,7 @@ fn push_variables(
 }
 
 /// Writes the target of an assignment.
-fn push_target(out: &mut String, target: &Target<(), ()>) -> Result<(), AllocError> {
+fn push_target(out: &mut String, target: &Target<(), (), ()>) -> Result<(), AllocError> {
     match target {
         Target::Variable(name, _, _) => out.push_str(name.as_str()),
         Target::At(name, _, _, key) => {
@@ -129,7 +129,7 @@ fn push_target(out: &mut String, target: &Target<(), ()>) -> Result<(), AllocErr
 
 /// Writes a statement.
 #[cycle(short_statements)]
-fn push_statement(out: &mut String, tree: &Statement<(), ()>) -> Result<(), AllocError> {
+fn push_statement(out: &mut String, tree: &Statement<(), (), ()>) -> Result<(), AllocError> {
     match tree {
         Statement::Assign(target, value) => {
             push_target(out, target)?;
@@ -156,7 +156,7 @@ fn push_statement(out: &mut String, tree: &Statement<(), ()>) -> Result<(), Allo
 
 /// Writes an arm of an `if`.
 #[cycle(short_statements)]
-fn push_arm(out: &mut String, arm: &Arm<(), ()>) -> Result<(), AllocError> {
+fn push_arm(out: &mut String, arm: &Arm<(), (), ()>) -> Result<(), AllocError> {
     push_term(out, &arm.test)?;
     out.push_str(" then ")?;
     push_statements(out, &arm.body)
@@ -164,7 +164,7 @@ fn push_arm(out: &mut String, arm: &Arm<(), ()>) -> Result<(), AllocError> {
 
 /// Writes the arms of an `if`.
 #[cycle(short_statements)]
-fn push_arms(out: &mut String, arms: &Vec<Arm<(), ()>>) -> Result<(), AllocError> {
+fn push_arms(out: &mut String, arms: &Vec<Arm<(), (), ()>>) -> Result<(), AllocError> {
     for position in 0..arms.len() {
         push_between(out, position, " elseif ")?;
         push_arm(out, &arms[position])?;
@@ -174,7 +174,7 @@ fn push_arms(out: &mut String, arms: &Vec<Arm<(), ()>>) -> Result<(), AllocError
 
 /// Writes statements with semicolons between.
 #[cycle(short_statements)]
-fn push_statements(out: &mut String, trees: &Vec<Statement<(), ()>>) -> Result<(), AllocError> {
+fn push_statements(out: &mut String, trees: &Vec<Statement<(), (), ()>>) -> Result<(), AllocError> {
     for position in 0..trees.len() {
         push_between(out, position, "; ")?;
         push_statement(out, &trees[position])?;
@@ -198,7 +198,7 @@ fn push_given(out: &mut String, name: &Word, arguments: &Vec<Term>) -> Result<()
 }
 
 /// Writes a firing.
-fn push_firing(out: &mut String, firing: &Firing<(), ()>) -> Result<(), AllocError> {
+fn push_firing(out: &mut String, firing: &Firing<(), (), ()>) -> Result<(), AllocError> {
     out.push_str("fire ")?;
     push_kind(out, &firing.kind)?;
     push_given(out, &firing.action, &firing.arguments)
@@ -208,7 +208,7 @@ fn push_firing(out: &mut String, firing: &Firing<(), ()>) -> Result<(), AllocErr
 fn push_body(
     out: &mut String,
     word: &str,
-    statements: &Vec<Statement<(), ()>>,
+    statements: &Vec<Statement<(), (), ()>>,
 ) -> Result<(), AllocError> {
     out.push_str(word)?;
     if !statements.is_empty() {
@@ -219,7 +219,7 @@ fn push_body(
 }
 
 /// Writes a schedule block: its variables and its statements.
-fn push_schedule(out: &mut String, schedule: &Schedule<(), ()>) -> Result<(), AllocError> {
+fn push_schedule(out: &mut String, schedule: &Schedule<(), (), ()>) -> Result<(), AllocError> {
     push_variables(out, "own ", &schedule.variables)?;
     push_body(out, "do", &schedule.statements)
 }
@@ -227,7 +227,7 @@ fn push_schedule(out: &mut String, schedule: &Schedule<(), ()>) -> Result<(), Al
 /// Writes the transitions.
 fn push_transitions(
     out: &mut String,
-    transitions: &Vec<Transition<(), ()>>,
+    transitions: &Vec<Transition<(), (), ()>>,
 ) -> Result<(), AllocError> {
     for transition in transitions {
         let kind = transition.kind;
@@ -240,7 +240,7 @@ fn push_transitions(
 }
 
 /// Writes an automaton.
-fn push_automaton(out: &mut String, automaton: &Automaton<(), ()>) -> Result<(), AllocError> {
+fn push_automaton(out: &mut String, automaton: &Automaton<(), (), ()>) -> Result<(), AllocError> {
     let name = &automaton.name;
     write!(out, "automaton {name}(")?;
     push_all_declared(out, &automaton.parameters)?;
@@ -266,7 +266,7 @@ fn push_form(out: &mut String, form: &TypeForm<()>) -> Result<(), AllocError> {
 }
 
 /// Writes a declaration.
-fn push_declaration(out: &mut String, tree: &Declaration<(), ()>) -> Result<(), AllocError> {
+fn push_declaration(out: &mut String, tree: &Declaration<(), (), ()>) -> Result<(), AllocError> {
     match tree {
         Declaration::Automaton(automaton) => push_automaton(out, automaton),
         Declaration::Type(declared) => {
@@ -279,7 +279,7 @@ fn push_declaration(out: &mut String, tree: &Declaration<(), ()>) -> Result<(), 
 }
 
 /// Writes calls with commas between.
-fn push_calls(out: &mut String, calls: &Vec<Call<(), ()>>) -> Result<(), AllocError> {
+fn push_calls(out: &mut String, calls: &Vec<Call<(), (), ()>>) -> Result<(), AllocError> {
     for position in 0..calls.len() {
         push_between(out, position, ", ")?;
         push_given(out, &calls[position].name, &calls[position].arguments)?;
@@ -288,7 +288,7 @@ fn push_calls(out: &mut String, calls: &Vec<Call<(), ()>>) -> Result<(), AllocEr
 }
 
 /// Writes a node, a channel or a script.
-fn push_placement(out: &mut String, placement: &Placement<(), ()>) -> Result<(), AllocError> {
+fn push_placement(out: &mut String, placement: &Placement<(), (), ()>) -> Result<(), AllocError> {
     match placement {
         Placement::Node(node) => {
             let number = node.number;
@@ -308,7 +308,7 @@ fn push_placement(out: &mut String, placement: &Placement<(), ()>) -> Result<(),
 }
 
 /// Writes a whole text: a line for each part of a declaration, `system`, and a line for each node, channel and script.
-pub(crate) fn push_text(out: &mut String, text: &Text<(), ()>) -> Result<(), AllocError> {
+pub(crate) fn push_text(out: &mut String, text: &Text<(), (), ()>) -> Result<(), AllocError> {
     for declaration in &text.declarations {
         push_declaration(out, declaration)?;
     }

@@ -8,6 +8,7 @@ use Rattle.ioa_operators.specs.RangeCheck.{range_check}
 use Rattle.ioa_operators.specs.declared.shape.Shape.{Shape}
 use Rattle.ioa_operators.specs.declared.fault.TermFault.{TermFault}
 use Rattle.ioa_operators.specs.declared.fault.TermFault.TheVariants.{Undefined, Range}
+use Rattle.ioa_terms.specs.declared.callee.Callee.{Callee}
 use Rattle.ioa_terms.specs.Bindings.{Bindings}
 use Rattle.ioa_terms.specs.PlainTerm.{PlainTerm, terms_of, PlainStatement, PlainStatements, PlainArms, assign, branch, loop, fire, no_statements, statement, no_arms, arm}
 use Rattle.ioa_terms.specs.Meaning.{value, values, numbers_met, all_numbers_met}
@@ -23,7 +24,7 @@ truth_is : (ds : List Data) (v : Option Data) → and_then (range_check ds v) (�
 truth_is ds None = range_check_none ds (λ d. range_check [] (as_truth d))
 truth_is ds (Some d) = range_check_some ds d (λ d. range_check [] (as_truth d))
 
-test_is : (t : PlainTerm ℕ Shape) (e : Bindings) → stepwise_test t e ≡ range_check (numbers_met t e) (test_value t e)
+test_is : (t : PlainTerm ℕ Callee Shape) (e : Bindings) → stepwise_test t e ≡ range_check (numbers_met t e) (test_value t e)
 test_is t e = rw (stepwise_is t e) (truth_is (numbers_met t e) (value t e))
 
 -- so is a statement alone
@@ -35,7 +36,7 @@ nothing_behind : (ds : List Data) (o : Option Bindings) → range_check (ds ++ n
 nothing_behind ds None = rw (append-nil ds) refl
 nothing_behind ds (Some d) = rw (append-nil ds) refl
 
-one_is : (s : PlainStatement ℕ Shape) (e : Bindings) → stepwise_one s e ≡ range_check (numbers_met_by_one s e) (after_one s e)
+one_is : (s : PlainStatement ℕ Callee Shape) (e : Bindings) → stepwise_one s e ≡ range_check (numbers_met_by_one s e) (after_one s e)
 one_is s e = sym (only (stepwise_one s e)) ∙ stepwise_by_is (s ∷ []) e ∙ nothing_behind (numbers_met_by_one s e) (after_one s e)
 
 answered_none : {A : Type 0} (b : Bool) (held other : Result A TermFault) → if_true (if b then Err Undefined else Err Range) held other ≡ (if b then Err Undefined else Err Range)
@@ -58,11 +59,11 @@ silent ds None y n = answered_none (list_all is_within ds) (Ok y) (Ok n)
 silent ds (Some true) y n = answered_some (list_all is_within ds) true (Ok y) (Ok n)
 silent ds (Some false) y n = answered_some (list_all is_within ds) false (Ok y) (Ok n)
 
-arms_is : (arms : PlainArms ℕ Shape) (rest : PlainStatements ℕ Shape) (e : Bindings) → stepwise_choice arms rest e ≡ range_check (numbers_met_by_tests arms e) (choice arms rest e)
+arms_is : (arms : PlainArms ℕ Callee Shape) (rest : PlainStatements ℕ Callee Shape) (e : Bindings) → stepwise_choice arms rest e ≡ range_check (numbers_met_by_tests arms e) (choice arms rest e)
 arms_is no_arms rest e = refl
 arms_is (arm t body more) rest e = rw (test_is t e, arms_is more rest e) (choice_is (numbers_met t e) [] (numbers_met_by_tests more e) (test_value t e) (Some body) (choice more rest e))
 
-step_is : (s : PlainStatement ℕ Shape) (rest : PlainStatements ℕ Shape) (e : Bindings) → stepwise_step s rest e ≡ range_check (numbers_met_by_step s e) (after_step s rest e)
+step_is : (s : PlainStatement ℕ Callee Shape) (rest : PlainStatements ℕ Callee Shape) (e : Bindings) → stepwise_step s rest e ≡ range_check (numbers_met_by_step s e) (after_step s rest e)
 step_is (assign p t) rest e = rw (one_is (assign p t) e) (made_of (numbers_met_by_one (assign p t) e) (after_one (assign p t) e) (λ d. (rest, d)))
 step_is (branch arms others) rest e = rw (arms_is arms others e) (made_of (numbers_met_by_tests arms e) (choice arms others e) (λ body. (joined_statements body rest, e)))
 step_is (loop t body) rest e = rw (test_is t e) (silent (numbers_met t e) (test_value t e) (joined_statements body (statement (loop t body) rest), e) (rest, e))
@@ -74,13 +75,13 @@ next_is ds None more next = rw (append-nil ds) (range_check_none ds (λ x. range
 next_is ds (Some x) more next = range_check_some ds x (λ x. range_check (more x) (next x)) ∙ sym (range_check_append ds (more x) (next x))
 
 -- one statement, and the turn behind it
-on_is : (s : PlainStatement ℕ Shape) (rest : PlainStatements ℕ Shape) (n : ℕ) (e : Bindings) → ((todo : PlainStatements ℕ Shape) (d : Bindings) → stepwise_turn todo n d ≡ turn_answer todo n d) → and_then (stepwise_step s rest e) (λ p. stepwise_turn p.0 n p.1) ≡ range_check (numbers_met_by_step s e ++ numbers_met_then (after_step s rest e) (λ p. numbers_met_by_turn p.0 n p.1)) (option_and_then (λ p. turn p.0 n p.1) (after_step s rest e))
+on_is : (s : PlainStatement ℕ Callee Shape) (rest : PlainStatements ℕ Callee Shape) (n : ℕ) (e : Bindings) → ((todo : PlainStatements ℕ Callee Shape) (d : Bindings) → stepwise_turn todo n d ≡ turn_answer todo n d) → and_then (stepwise_step s rest e) (λ p. stepwise_turn p.0 n p.1) ≡ range_check (numbers_met_by_step s e ++ numbers_met_then (after_step s rest e) (λ p. numbers_met_by_turn p.0 n p.1)) (option_and_then (λ p. turn p.0 n p.1) (after_step s rest e))
 on_is s rest n e h =
-    ap (λ (f : PlainStatements ℕ Shape × Bindings → Result TurnResult TermFault). and_then (stepwise_step s rest e) f) (λ j p. h p.0 p.1 j)
+    ap (λ (f : PlainStatements ℕ Callee Shape × Bindings → Result TurnResult TermFault). and_then (stepwise_step s rest e) f) (λ j p. h p.0 p.1 j)
     ∙ rw (step_is s rest e) (next_is (numbers_met_by_step s e) (after_step s rest e) (λ p. numbers_met_by_turn p.0 n p.1) (λ p. turn p.0 n p.1))
 
 -- a turn
-by_fuel : (n : ℕ) (todo : PlainStatements ℕ Shape) (e : Bindings) → stepwise_turn todo n e ≡ turn_answer todo n e
+by_fuel : (n : ℕ) (todo : PlainStatements ℕ Callee Shape) (e : Bindings) → stepwise_turn todo n e ≡ turn_answer todo n e
 by_fuel n no_statements e = refl
 by_fuel n (statement (fire f) rest) e = rw (all_stepwise_is (terms_of f.arguments) e) (made_of (all_numbers_met (terms_of f.arguments) e) (values (terms_of f.arguments) e) (λ vs. turn_result (fires f.kind f.action vs) (statement (fire f) rest) e))
 by_fuel zero (statement (assign p t) rest) e = refl
@@ -90,5 +91,5 @@ by_fuel (suc n) (statement (assign p t) rest) e = on_is (assign p t) rest n e (b
 by_fuel (suc n) (statement (branch arms others) rest) e = on_is (branch arms others) rest n e (by_fuel n)
 by_fuel (suc n) (statement (loop t body) rest) e = on_is (loop t body) rest n e (by_fuel n)
 
-pub stepwise_turn_is : (todo : PlainStatements ℕ Shape) (n : ℕ) (e : Bindings) → stepwise_turn todo n e ≡ turn_answer todo n e
+pub stepwise_turn_is : (todo : PlainStatements ℕ Callee Shape) (n : ℕ) (e : Bindings) → stepwise_turn todo n e ≡ turn_answer todo n e
 stepwise_turn_is todo n e = by_fuel n todo e

@@ -2,5 +2,6 @@
 pub mod Joins
 pub mod Firsts
 pub mod Runs
+pub mod WholeRounds
 pub mod ByStep
 pub mod TurnLaws

@@ -4,3 +4,4 @@ pub mod TurnsByStep
 pub mod Positions
 pub mod Views
 pub mod Controls
+pub mod Rounds

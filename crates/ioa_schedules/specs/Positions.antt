@@ -2,6 +2,7 @@
 use Rattle.std.specs.Prelude.{ℕ, List, [], ◌∷◌, map}
 use Rattle.std.specs.Borrow.{Bor}
 use Rattle.ioa_operators.specs.declared.shape.Shape.{Shape}
+use Rattle.ioa_terms.specs.declared.callee.Callee.{Callee}
 use Rattle.ioa_terms.specs.declared.tree.Statement.{Statement}
 use Rattle.ioa_terms.specs.PlainTerm.{PlainStatements, statements_of, no_statements}
 use Rattle.ioa_terms.specs.View.{statement_of}
@@ -9,14 +10,14 @@ use Rattle.ioa_schedules.specs.declared.position.Position.{Position}
 use Rattle.ioa_schedules.specs.Turns.{joined_statements}
 
 -- a list of statements of the block (view)
-abbrev pub statements_in : List (Statement ℕ Shape) → PlainStatements ℕ Shape
+abbrev pub statements_in : List (Statement ℕ Callee Shape) → PlainStatements ℕ Callee Shape
 statements_in ss = statements_of (map statement_of ss)
 
 -- the lists that come later (view): the last one first
-abbrev pub below_of : List (Bor (List (Statement ℕ Shape))) → PlainStatements ℕ Shape
+abbrev pub below_of : List (Bor (List (Statement ℕ Callee Shape))) → PlainStatements ℕ Callee Shape
 below_of [] = no_statements
 below_of (ss ∷ more) = joined_statements (below_of more) (statements_in ss.now)
 
 -- what is still to do (view)
-abbrev pub statements_at : Position → PlainStatements ℕ Shape
+abbrev pub statements_at : Position → PlainStatements ℕ Callee Shape
 statements_at p = joined_statements (statements_in p.top.now) (below_of p.below.items)

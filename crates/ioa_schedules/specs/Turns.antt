@@ -7,6 +7,7 @@ use Rattle.ioa_values.specs.Data.{Data}
 use Rattle.ioa_operators.specs.RangeCheck.{range_check}
 use Rattle.ioa_operators.specs.declared.shape.Shape.{Shape}
 use Rattle.ioa_operators.specs.declared.fault.TermFault.{TermFault}
+use Rattle.ioa_terms.specs.declared.callee.Callee.{Callee}
 use Rattle.ioa_terms.specs.declared.tree.Kind.{Kind}
 use Rattle.ioa_terms.specs.Bindings.{Bindings}
 use Rattle.ioa_terms.specs.PlainTerm.{terms_of, PlainStatement, PlainStatements, PlainArms}
@@ -25,55 +26,57 @@ pub data TurnEnd : Type 0 where
 -- what a turn comes to (profile): its end, the statements still to do, and the environment that it reaches
 pub record TurnResult : Type 0 where
   pub ending : TurnEnd
-  pub todo : PlainStatements ℕ Shape
+  pub todo : PlainStatements ℕ Callee Shape
   pub bindings : Bindings
 
 -- a turn that ends so, with these statements still to do, in this environment (profile)
-abbrev pub turn_result : TurnEnd → PlainStatements ℕ Shape → Bindings → TurnResult
+abbrev pub turn_result : TurnEnd → PlainStatements ℕ Callee Shape → Bindings → TurnResult
 turn_result ending todo e = record { ending = ending; todo = todo; bindings = e }
 
 -- statements, and others behind them (profile)
-abbrev pub joined_statements : PlainStatements ℕ Shape → PlainStatements ℕ Shape → PlainStatements ℕ Shape
+abbrev pub joined_statements :
+    PlainStatements ℕ Callee Shape → PlainStatements ℕ Callee Shape → PlainStatements ℕ Callee Shape
 joined_statements no_statements more = more
 joined_statements (statement s ss) more = statement s (joined_statements ss more)
 
 -- whether a statement is a `fire` (profile)
-abbrev pub is_fire : PlainStatement ℕ Shape → Bool
+abbrev pub is_fire : PlainStatement ℕ Callee Shape → Bool
 is_fire (assign p t) = false
 is_fire (branch arms rest) = false
 is_fire (loop t body) = false
 is_fire (fire f) = true
 
 -- whether a turn ends here by itself (profile): nothing is left to do, or a `fire` comes first
-abbrev pub ends_turn : PlainStatements ℕ Shape → Bool
+abbrev pub ends_turn : PlainStatements ℕ Callee Shape → Bool
 ends_turn no_statements = true
 ends_turn (statement s rest) = is_fire s
 
 -- a `fire` comes first (profile)
-abbrev pub IsAtFire : PlainStatements ℕ Shape → Type 0
+abbrev pub IsAtFire : PlainStatements ℕ Callee Shape → Type 0
 IsAtFire no_statements = ⊥
 IsAtFire (statement s rest) = is_fire s ≡ true
 
 -- this statement comes first (profile)
-abbrev pub IsFirst : PlainStatement ℕ Shape → PlainStatements ℕ Shape → Type 0
+abbrev pub IsFirst : PlainStatement ℕ Callee Shape → PlainStatements ℕ Callee Shape → Type 0
 IsFirst s no_statements = ⊥
 IsFirst s (statement t rest) = t ≡ s
 
 -- what follows the first statement (profile)
-abbrev pub following_statements : PlainStatements ℕ Shape → PlainStatements ℕ Shape
+abbrev pub following_statements : PlainStatements ℕ Callee Shape → PlainStatements ℕ Callee Shape
 following_statements no_statements = no_statements
 following_statements (statement s rest) = rest
 
 -- what an `if` goes on with (profile): the first arm whose test is true, or the rest if none is
-abbrev pub choice : PlainArms ℕ Shape → PlainStatements ℕ Shape → Bindings → Option (PlainStatements ℕ Shape)
+abbrev pub choice :
+    PlainArms ℕ Callee Shape → PlainStatements ℕ Callee Shape → Bindings → Option (PlainStatements ℕ Callee Shape)
 choice no_arms rest e = Some rest
 choice (arm t body more) rest e = by_test (test_value t e) None (Some body) (choice more rest e)
 
 -- one statement taken, with others behind it (profile): what is to do then, and the environment. An assignment is
 -- performed; an `if` becomes what it goes on with; a `while` whose test is true becomes its body and then itself, and
 -- one whose test is false is over. A `fire` is not taken.
-abbrev pub after_step : PlainStatement ℕ Shape → PlainStatements ℕ Shape → Bindings →
-    Option (PlainStatements ℕ Shape × Bindings)
+abbrev pub after_step : PlainStatement ℕ Callee Shape → PlainStatements ℕ Callee Shape → Bindings →
+    Option (PlainStatements ℕ Callee Shape × Bindings)
 after_step (assign p t) rest e = option_map (λ d. (rest, d)) (after_one (assign p t) e)
 after_step (branch arms others) rest e = option_map (λ body. (joined_statements body rest, e)) (choice arms others e)
 after_step (loop t body) rest e =
@@ -82,7 +85,7 @@ after_step (fire f) rest e = None
 
 -- a turn of at most `n` statements (profile). Where the block stands at a `fire` its arguments are evaluated, and the
 -- `fire` stays the first statement; a `fire` and the end count for no statement.
-abbrev pub turn : PlainStatements ℕ Shape → ℕ → Bindings → Option TurnResult
+abbrev pub turn : PlainStatements ℕ Callee Shape → ℕ → Bindings → Option TurnResult
 turn no_statements n e = Some (turn_result done no_statements e)
 turn (statement (fire f) rest) n e =
     option_map (λ vs. turn_result (fires f.kind f.action vs) (statement (fire f) rest) e)
@@ -91,13 +94,13 @@ turn (statement s rest) zero e = Some (turn_result idle (statement s rest) e)
 turn (statement s rest) (suc n) e = option_and_then (λ p. turn p.0 n p.1) (after_step s rest e)
 
 -- the results that the tests of an `if` meet, up to the first that is true (profile)
-abbrev pub numbers_met_by_tests : PlainArms ℕ Shape → Bindings → List Data
+abbrev pub numbers_met_by_tests : PlainArms ℕ Callee Shape → Bindings → List Data
 numbers_met_by_tests no_arms e = []
 numbers_met_by_tests (arm t body more) e =
     numbers_met t e ++ by_test (test_value t e) [] [] (numbers_met_by_tests more e)
 
 -- the results that one statement meets when it is taken (profile)
-abbrev pub numbers_met_by_step : PlainStatement ℕ Shape → Bindings → List Data
+abbrev pub numbers_met_by_step : PlainStatement ℕ Callee Shape → Bindings → List Data
 numbers_met_by_step (assign p t) e = numbers_met_by_one (assign p t) e
 numbers_met_by_step (branch arms others) e = numbers_met_by_tests arms e
 numbers_met_by_step (loop t body) e = numbers_met t e
@@ -109,7 +112,7 @@ numbers_met_then None more = []
 numbers_met_then (Some x) more = more x
 
 -- the results that a turn meets (profile): those of the statements that it takes, and of the arguments of a `fire`
-abbrev pub numbers_met_by_turn : PlainStatements ℕ Shape → ℕ → Bindings → List Data
+abbrev pub numbers_met_by_turn : PlainStatements ℕ Callee Shape → ℕ → Bindings → List Data
 numbers_met_by_turn no_statements n e = []
 numbers_met_by_turn (statement (fire f) rest) n e = all_numbers_met (terms_of f.arguments) e
 numbers_met_by_turn (statement s rest) zero e = []
@@ -117,7 +120,7 @@ numbers_met_by_turn (statement s rest) (suc n) e =
     numbers_met_by_step s e ++ numbers_met_then (after_step s rest e) (λ p. numbers_met_by_turn p.0 n p.1)
 
 -- what a turn returns (profile)
-abbrev pub turn_answer : PlainStatements ℕ Shape → ℕ → Bindings → Result TurnResult TermFault
+abbrev pub turn_answer : PlainStatements ℕ Callee Shape → ℕ → Bindings → Result TurnResult TermFault
 turn_answer todo n e = range_check (numbers_met_by_turn todo n e) (turn todo n e)
 
 -- how many statements a turn takes at most (profile)

@@ -4,6 +4,7 @@ use Rattle.ioa_values.specs.Outcome.{and_then}
 use Rattle.ioa_operators.specs.RangeCheck.{range_check}
 use Rattle.ioa_operators.specs.declared.shape.Shape.{Shape}
 use Rattle.ioa_operators.specs.declared.fault.TermFault.{TermFault}
+use Rattle.ioa_terms.specs.declared.callee.Callee.{Callee}
 use Rattle.ioa_terms.specs.Bindings.{Bindings}
 use Rattle.ioa_terms.specs.PlainTerm.{terms_of, PlainStatement, PlainStatements, PlainArms}
 use Rattle.ioa_terms.specs.PlainTerm.{assign, branch, loop, fire, no_statements, statement, no_arms, arm}
@@ -17,14 +18,14 @@ if_true (Ok false) held other = other
 if_true (Err f) held other = Err f
 
 -- what an `if` goes on with (form)
-abbrev pub stepwise_choice : PlainArms ℕ Shape → PlainStatements ℕ Shape → Bindings →
-    Result (PlainStatements ℕ Shape) TermFault
+abbrev pub stepwise_choice : PlainArms ℕ Callee Shape → PlainStatements ℕ Callee Shape → Bindings →
+    Result (PlainStatements ℕ Callee Shape) TermFault
 stepwise_choice no_arms rest e = Ok rest
 stepwise_choice (arm t body more) rest e = if_true (stepwise_test t e) (Ok body) (stepwise_choice more rest e)
 
 -- one statement taken, with others behind it (form)
-abbrev pub stepwise_step : PlainStatement ℕ Shape → PlainStatements ℕ Shape → Bindings →
-    Result (PlainStatements ℕ Shape × Bindings) TermFault
+abbrev pub stepwise_step : PlainStatement ℕ Callee Shape → PlainStatements ℕ Callee Shape → Bindings →
+    Result (PlainStatements ℕ Callee Shape × Bindings) TermFault
 stepwise_step (assign p t) rest e = and_then (stepwise_one (assign p t) e) (λ d. Ok (rest, d))
 stepwise_step (branch arms others) rest e =
     and_then (stepwise_choice arms others e) (λ body. Ok (joined_statements body rest, e))
@@ -33,12 +34,13 @@ stepwise_step (loop t body) rest e =
 stepwise_step (fire f) rest e = range_check [] None
 
 -- the first statement taken (form); where nothing is left to do there is none
-abbrev pub stepwise_first : PlainStatements ℕ Shape → Bindings → Result (PlainStatements ℕ Shape × Bindings) TermFault
+abbrev pub stepwise_first :
+    PlainStatements ℕ Callee Shape → Bindings → Result (PlainStatements ℕ Callee Shape × Bindings) TermFault
 stepwise_first no_statements e = range_check [] None
 stepwise_first (statement s rest) e = stepwise_step s rest e
 
 -- a turn (form)
-abbrev pub stepwise_turn : PlainStatements ℕ Shape → ℕ → Bindings → Result TurnResult TermFault
+abbrev pub stepwise_turn : PlainStatements ℕ Callee Shape → ℕ → Bindings → Result TurnResult TermFault
 stepwise_turn no_statements n e = Ok (turn_result done no_statements e)
 stepwise_turn (statement (fire f) rest) n e =
     and_then (stepwise_answers (terms_of f.arguments) e)

@@ -1,6 +1,6 @@
 //! A block that runs, and its turns.
 
-ghost use Rattle.std.specs.Prelude.{◌≡◌, IfErr, IfOk, MatchOption, length, false};
+ghost use Rattle.std.specs.Prelude.{◌≡◌, ◌<◌, IfErr, IfOk, MatchOption, length, false};
 ghost use Rattle.ioa_values.specs.Outcome.{Answers};
 ghost use Rattle.ioa_terms.specs.PlainTerm.{fire};
 ghost use Rattle.ioa_terms.specs.View.{firing_of, statement_of};
@@ -9,15 +9,17 @@ ghost use Rattle.ioa_schedules.specs.Turns as spec;
 ghost use Rattle.ioa_schedules.specs.Positions.{statements_in};
 ghost use Rattle.ioa_schedules.specs.Turns.{IsAtFire, following_statements, turn_answer, turn_limit};
 ghost use Rattle.ioa_schedules.specs.TurnsByStep.{LeadsOn, stepwise_turn};
-ghost use Rattle.ioa_schedules.specs.Views.{AreResolvedIn, IsNamed, StandsAt, environment_of, turn_of};
+ghost use Rattle.ioa_schedules.specs.Views.{AreResolvedIn, StandsAt, turn_of};
+ghost use Rattle.ioa_terms.specs.Views.{IsNamed, environment_of};
 
 use crate::position::Position;
+use crate::rounds::left_over;
 use crate::step::{is_fire, take_first};
 use crate::turn::{Fired, TURN_LIMIT, Turn};
-use crate::view::View;
-use ioa_terms::{Firing, Shape, Statement, TermFault, Value, evaluate_all};
+use ioa_terms::{Callee, Firing, Shape, Statement, TermFault, Value, View, evaluate_each};
 use ioa_values::copies;
 use std::alloc::{AllocError, Global};
+use std::mem;
 
 /// A block that runs (profile): what it has still to do, and the values of its own variables. The statements are
 /// the block's own, and none is copied.
@@ -31,7 +33,7 @@ impl<'a> Control<'a> {
     /// The block before its first turn: all of it is to do, and its variables have these initial values.
     pub fn start(
         alloc: Global,
-        statements: &'a [Statement<usize, Shape>],
+        statements: &'a [Statement<usize, Callee, Shape>],
         initial: &[Value],
     ) -> Result<Control<'a>, AllocError>
         ensures todo { IfOk result (λ c. todo_of c ≡ statements_in statements.now) }
@@ -73,7 +75,8 @@ impl<'a> Control<'a> {
 /// The first fault is returned: `Undefined (1)` if a term has no value, a test has no truth value, or a new
 /// value has not the variable's shape, `Range (2)` if a number lies outside 64 bits, an intermediate one too,
 /// and `Memory (3)` if no memory is left. The values of the block's own variables are copied only where the
-/// turn takes a statement, and its statements never.
+/// turn takes a statement, and its statements never. Whole rounds of a `while` that change nothing are counted
+/// and not taken.
 #[tactic(auto, using(crate::proofs::Firsts::turn_ends, crate::proofs::ByStep::stepwise_turn_is))]
 pub fn next<'a>(
     alloc: Global,
@@ -93,47 +96,54 @@ pub fn next<'a>(
     if control.ends_turn() {
         return turn_here(alloc, view, control);
     }
-    let (reached, turn) = turn_of_copy(alloc, view, control)?;
-    *control = reached;
-    Ok(turn)
+    turn_of_copy(alloc, view, control)
 }
 
-/// The block after a turn of a copy, and how the turn ends.
+/// The turn of a copy, which takes the block's place. After a fault the block itself is put back.
 fn turn_of_copy<'a>(
     alloc: Global,
     view: &View,
-    control: &Control<'a>,
-) -> Result<(Control<'a>, Turn<'a>), TermFault>
-    requires named { IsNamed view.now (values_of control.now) }
-    requires resolved { AreResolvedIn view.now (length (values_of control.now)) (todo_of control.now) }
+    control: &mut Control<'a>,
+) -> Result<Turn<'a>, TermFault>
+    requires named { IsNamed view.now (values_of control.old) }
+    requires resolved { AreResolvedIn view.now (length (values_of control.old)) (todo_of control.old) }
     ensures turn { Answers TermFault.Memory
-        (λ p. turn_of (todo_of p.0) (environment_of view.now (values_of p.0)) p.1) result
-        (turn_answer (todo_of control.now) turn_limit (environment_of view.now (values_of control.now))) }
-    ensures stands { IfOk result (λ p. StandsAt (todo_of p.0) p.1) }
-    ensures resolved { IfOk result (λ p. AreResolvedIn view.now (length (values_of p.0)) (todo_of p.0)) }
-    ensures kept { IfOk result (λ p. length (values_of p.0) ≡ length (values_of control.now)) }
+        (turn_of (todo_of control.new) (environment_of view.now (values_of control.new))) result
+        (stepwise_turn (todo_of control.old) turn_limit (environment_of view.now (values_of control.old))) }
+    ensures stands { IfOk result (StandsAt (todo_of control.new)) }
+    ensures resolved { AreResolvedIn view.now (length (values_of control.new)) (todo_of control.new) }
+    ensures kept { length (values_of control.new) ≡ length (values_of control.old) }
+    ensures unchanged { IfErr result (λ _. control.new ≡ control.old) }
 {
-    whole_turn(alloc, view, control.try_copy(alloc)?)
+    let copy = control.try_copy(alloc)?;
+    let original = mem::replace(control, copy);
+    match whole_turn(alloc, view, control) {
+        Ok(turn) => Ok(turn),
+        Err(fault) => {
+            *control = original;
+            Err(fault)
+        }
+    }
 }
 
-/// The block after a turn, and how the turn ends.
+/// A turn in place. After a fault the block stays where that came.
 fn whole_turn<'a>(
     alloc: Global,
     view: &View,
-    control: Control<'a>,
-) -> Result<(Control<'a>, Turn<'a>), TermFault>
-    requires named { IsNamed view.now (values_of control) }
-    requires resolved { AreResolvedIn view.now (length (values_of control)) (todo_of control) }
+    control: &mut Control<'a>,
+) -> Result<Turn<'a>, TermFault>
+    requires named { IsNamed view.now (values_of control.old) }
+    requires resolved { AreResolvedIn view.now (length (values_of control.old)) (todo_of control.old) }
     ensures turn { Answers TermFault.Memory
-        (λ p. turn_of (todo_of p.0) (environment_of view.now (values_of p.0)) p.1) result
-        (stepwise_turn (todo_of control.entry) turn_limit (environment_of view.now (values_of control.entry))) }
-    ensures stands { IfOk result (λ p. StandsAt (todo_of p.0) p.1) }
-    ensures resolved { IfOk result (λ p. AreResolvedIn view.now (length (values_of p.0)) (todo_of p.0)) }
-    ensures kept { IfOk result (λ p. length (values_of p.0) ≡ length (values_of control.entry)) }
+        (turn_of (todo_of control.new) (environment_of view.now (values_of control.new))) result
+        (stepwise_turn (todo_of control.old) turn_limit (environment_of view.now (values_of control.old))) }
+    ensures stands { IfOk result (StandsAt (todo_of control.new)) }
+    ensures resolved { IfOk result
+        (λ _. AreResolvedIn view.now (length (values_of control.new)) (todo_of control.new)) }
+    ensures kept { length (values_of control.new) ≡ length (values_of control.old) }
 {
-    let reached = run(alloc, view, control)?;
-    let turn = turn_here(alloc, view, &reached)?;
-    Ok((reached, turn))
+    run(alloc, view, control)?;
+    turn_here(alloc, view, control)
 }
 
 /// Moves a block past the `fire` at which it stands (profile), as it does after a turn that ended there. Takes
@@ -146,26 +156,55 @@ pub fn passed(control: &mut Control)
     control.position.advance();
 }
 
-/// The block after the statements that a turn takes.
-#[tactic(auto, using(crate::proofs::Firsts::turn_fails, crate::proofs::Firsts::turn_ends))]
-fn run<'a>(alloc: Global, view: &View, mut control: Control<'a>) -> Result<Control<'a>, TermFault>
-    requires named { IsNamed view.now (values_of control) }
-    requires resolved { AreResolvedIn view.now (length (values_of control)) (todo_of control) }
+/// Takes the statements that a turn takes.
+#[tactic(auto, using(crate::proofs::Firsts::turn_ends))]
+fn run<'a>(alloc: Global, view: &View, control: &mut Control<'a>) -> Result<(), TermFault>
+    requires named { IsNamed view.now (values_of control.old) }
+    requires resolved { AreResolvedIn view.now (length (values_of control.old)) (todo_of control.old) }
     ensures after { LeadsOn TermFault.Memory
-        (λ c. stepwise_turn (todo_of c) 0 (environment_of view.now (values_of c))) result
-        (stepwise_turn (todo_of control.entry) turn_limit (environment_of view.now (values_of control.entry))) }
-    ensures resolved { IfOk result (λ c. AreResolvedIn view.now (length (values_of c)) (todo_of c)) }
-    ensures kept { IfOk result (λ c. length (values_of c) ≡ length (values_of control.entry)) }
+        (λ _. stepwise_turn (todo_of control.new) 0 (environment_of view.now (values_of control.new))) result
+        (stepwise_turn (todo_of control.old) turn_limit (environment_of view.now (values_of control.old))) }
+    ensures resolved { IfOk result
+        (λ _. AreResolvedIn view.now (length (values_of control.new)) (todo_of control.new)) }
+    ensures kept { length (values_of control.new) ≡ length (values_of control.old) }
 {
     let mut left = TURN_LIMIT;
     while left > 0 {
         if control.ends_turn() {
-            return Ok(control);
+            return Ok(());
         }
-        control = take_first(alloc, view, control)?;
-        left -= 1;
+        left = take_some(alloc, view, control, left)?;
     }
-    Ok(control)
+    Ok(())
+}
+
+/// Takes statements of a turn, of which `left` may be taken still: whole rounds that change nothing, and one statement
+/// behind them. Returns how many may be taken then.
+#[tactic(auto, using(crate::proofs::Runs::on_rules))]
+fn take_some<'a>(
+    alloc: Global,
+    view: &View,
+    control: &mut Control<'a>,
+    left: usize,
+) -> Result<usize, TermFault>
+    requires goes_on { spec.ends_turn (todo_of control.old) ≡ false }
+    requires some { 0 < left }
+    requires named { IsNamed view.now (values_of control.old) }
+    requires resolved { AreResolvedIn view.now (length (values_of control.old)) (todo_of control.old) }
+    ensures after { LeadsOn TermFault.Memory
+        (λ n. stepwise_turn (todo_of control.new) n (environment_of view.now (values_of control.new))) result
+        (stepwise_turn (todo_of control.old) left (environment_of view.now (values_of control.old))) }
+    ensures fewer { IfOk result (λ n. n < left) }
+    ensures resolved { IfOk result
+        (λ _. AreResolvedIn view.now (length (values_of control.new)) (todo_of control.new)) }
+    ensures kept { length (values_of control.new) ≡ length (values_of control.old) }
+{
+    let rest = left_over(alloc, view, control, left);
+    if rest == 0 {
+        return Ok(0);
+    }
+    take_first(alloc, view, control)?;
+    Ok(rest - 1)
 }
 
 /// The turn that takes no statement: what a turn comes to once it has taken all that it may.
@@ -183,8 +222,7 @@ fn turn_here<'a>(alloc: Global, view: &View, control: &Control<'a>) -> Result<Tu
         Some(first) => match firing_in(first) {
             None => Ok(Turn::Idle),
             Some(firing) => {
-                let env = view.env(&control.variables);
-                let arguments = evaluate_all(alloc, &firing.arguments, &env)?;
+                let arguments = evaluate_each(alloc, &firing.arguments, view, &control.variables)?;
                 Ok(Turn::Fire(Fired { firing, arguments }))
             }
         },
@@ -192,7 +230,7 @@ fn turn_here<'a>(alloc: Global, view: &View, control: &Control<'a>) -> Result<Tu
 }
 
 /// What a statement fires, if it is a `fire`.
-fn firing_in(statement: &Statement<usize, Shape>) -> Option<&Firing<usize, Shape>>
+fn firing_in(statement: &Statement<usize, Callee, Shape>) -> Option<&Firing<usize, Callee, Shape>>
     ensures { MatchOption result (spec.is_fire (statement_of statement.now) ≡ false)
         (λ f. statement_of statement.now ≡ fire (firing_of f.now)) }
 {

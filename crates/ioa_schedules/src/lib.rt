@@ -11,11 +11,11 @@ mod control;
 mod laws;
 mod lists;
 mod position;
+mod rounds;
 mod step;
 mod turn;
-mod view;
 
 pub use control::{Control, next, passed};
+pub use ioa_terms::View;
 pub use laws::turn_law;
 pub use turn::{Fired, TURN_LIMIT, Turn};
-pub use view::View;

@@ -4,15 +4,15 @@ ghost use Rattle.std.specs.Prelude.{◌≡◌, ◌≤◌, length};
 ghost use Rattle.ioa_schedules.specs.Turns.{joined_statements};
 ghost use Rattle.ioa_schedules.specs.Positions.{statements_in, below_of};
 
-use ioa_terms::{Shape, Statement};
+use ioa_terms::{Callee, Shape, Statement};
 
 /// The first list that is not empty: `first`, or else one of those below, which is taken from there with the
 /// empty ones before it. An empty list if there is none.
 #[tactic(auto, using(crate::proofs::Joins::below_last))]
 pub(crate) fn first_list<'a>(
-    first: &'a [Statement<usize, Shape>],
-    below: &mut Vec<&'a [Statement<usize, Shape>]>,
-) -> &'a [Statement<usize, Shape>]
+    first: &'a [Statement<usize, Callee, Shape>],
+    below: &mut Vec<&'a [Statement<usize, Callee, Shape>]>,
+) -> &'a [Statement<usize, Callee, Shape>]
     ensures same { joined_statements (statements_in result.now) (below_of below.new.items)
         ≡ joined_statements (statements_in first.now) (below_of below.old.items) }
     ensures none { length result.now ≡ 0 → length below.new.items ≡ 0 }

@@ -1,6 +1,6 @@
 //! What a turn of a block comes to.
 
-use ioa_terms::{Firing, Shape};
+use ioa_terms::{Callee, Firing, Shape};
 use ioa_values::Value;
 
 /// How many statements a turn takes at most (profile): one in which the block stands at no `fire` by then is
@@ -11,7 +11,7 @@ pub const TURN_LIMIT: usize = 1000;
 #[derive(Drop)]
 pub struct Fired<'a> {
     /// The `fire` in the block.
-    pub firing: &'a Firing<usize, Shape>,
+    pub firing: &'a Firing<usize, Callee, Shape>,
     /// The values of its arguments, in order.
     pub arguments: Vec<Value>,
 }

@@ -9,6 +9,9 @@ use Rattle.ioa_operators.specs.declared.operator.Function.{Function}
 use Rattle.ioa_operators.specs.declared.operator.BinaryOperator.{BinaryOperator}
 use Rattle.ioa_operators.specs.declared.shape.DisplayForm.{DisplayForm}
 use Rattle.ioa_operators.specs.declared.shape.DisplayForm.TheVariants.{Braces, Brackets}
+use Rattle.ioa_terms.specs.declared.callee.Callee.TheVariants as callee
+use Rattle.ioa_terms.specs.Resolved.{IsCallee}
+use Rattle.ioa_terms.specs.declared.callee.Callee.{Callee}
 use Rattle.ioa_terms.specs.declared.name.Name.{Name}
 use Rattle.ioa_terms.specs.declared.name.Name.TheVariants.{Word}
 use Rattle.ioa_terms.specs.Inboxes.{inboxes_word}
@@ -156,11 +159,11 @@ module _ (ks vs : PlainShape) (m k v : SortedTerm) where
   three_found f g h true true c p q r told = absurd (cc)
 
 -- terms as a list
-abbrev listed_terms : {N D : Type 0} → PlainTerms N D → List (PlainTerm N D)
+abbrev listed_terms : {N C D : Type 0} → PlainTerms N C D → List (PlainTerm N C D)
 listed_terms no_terms = []
 listed_terms (term t more) = t ∷ listed_terms more
 
-terms_listed : {N D : Type 0} (ts : PlainTerms N D) → terms_of (listed_terms ts) ≡ ts
+terms_listed : {N C D : Type 0} (ts : PlainTerms N C D) → terms_of (listed_terms ts) ≡ ts
 terms_listed no_terms = refl
 terms_listed (term t more) = ap (term t) (terms_listed more)
 
@@ -213,102 +216,97 @@ named_found names x at s h g = by_shape (shape_named x names) refl g
     by_shape (Some d) e g = let f : shape_in_terms d ≡ s = cc in rw (← declared_found names x at d h e, ← f) refl
 
 -- a name with a shape has a slot
-slot_of_shape : (names : NameShapes) (x : Name) (s : PlainShape) → option_map shape_in_terms (shape_named x names) ≡ Some s → (k : ℕ) × (slot_in x (map (λ n. n.0) names) ≡ Some k)
-slot_of_shape [] x s h = absurd (cc)
-slot_of_shape (n ∷ names) x s h = by_test (same_name x n.0) h (slot_of_shape names x s)
-  where
-    by_test : (b : Bool) → option_map shape_in_terms (if b then Some n.1 else shape_named x names) ≡ Some s → (option_map shape_in_terms (shape_named x names) ≡ Some s → (k : ℕ) × (slot_in x (map (λ n. n.0) names) ≡ Some k)) → (k : ℕ) × ((if b then Some 0 else option_map (λ k. k + 1) (slot_in x (map (λ n. n.0) names))) ≡ Some k)
-    by_test true h rest = (0, refl)
-    by_test false h rest = let r = rest h in (r.0 + 1, rw r.1 refl)
-
 name_known_found : (x : Name) (at : ℕ) (s : PlainShape) (o : Option (ℕ × PlainShape)) → named_is_at at s ≡ o → typed_is (name x at) s ≡ name_known x o
 name_known_found x at s o e = rw (← e) refl
 
 module _ (names : NameShapes) where
   -- terms one by one
-  abbrev AreFound : PlainTerms ℕ Shape → List PlainShape → Type 0
+  abbrev AreFound : PlainTerms ℕ Callee Shape → List PlainShape → Type 0
   AreFound no_terms [] = Unit {0}
   AreFound no_terms (s ∷ ss) = ⊥
   AreFound (term t ts) [] = ⊥
   AreFound (term t ts) (s ∷ ss) = Finds (is_display (erase_term t)) t s (sorting names (erase_term t)) × AreFound ts ss
 
   -- calls
-  one_call_found : (w : List ℕ) (k : Single) (x s : PlainShape) → value_of_one k x ≡ Ok s → (ts : PlainTerms ℕ Shape) → AreFound ts (x ∷ []) → tells_parts (One k) (displays (erase_terms ts)) ≡ true → typed_is (call w ts) s ≡ call_one w k (sortings names (erase_terms ts))
+  one_call_found : (w : List ℕ) (c : Callee) (k : Single) (x s : PlainShape) → value_of_one k x ≡ Ok s → (ts : PlainTerms ℕ Callee Shape) → AreFound ts (x ∷ []) → tells_parts (One k) (displays (erase_terms ts)) ≡ true → typed_is (call w c ts) s ≡ call_one w c k (sortings names (erase_terms ts))
   unfolding call_one
-  one_call_found w k x s e no_terms h told = absurd h
-  one_call_found w k x s e (term t no_terms) h told = by_open (is_display (erase_term t)) h.0 told
+  one_call_found w c k x s e no_terms h told = absurd h
+  one_call_found w c k x s e (term t no_terms) h told = by_open (is_display (erase_term t)) h.0 told
     where
-      by_open : (b : Bool) → Finds b t x (sorting names (erase_term t)) → tells_parts (One k) (b ∷ []) ≡ true → typed_is (call w (term t no_terms)) s ≡ and_then (one_part k (sorting names (erase_term t))) (λ t. Ok (typed (call w (term t.tree no_terms)) t.shape))
+      by_open : (b : Bool) → Finds b t x (sorting names (erase_term t)) → tells_parts (One k) (b ∷ []) ≡ true → typed_is (call w c (term t no_terms)) s ≡ and_then (one_part k (sorting names (erase_term t))) (λ t. Ok (typed (call w c (term t.tree no_terms)) t.shape))
       by_open true p e = absurd (cc)
       by_open false p q = rw (← one_found k x s e t (sorting names (erase_term t)) p) refl
-  one_call_found w k x s e (term t (term u ts)) h told = absurd h.1
+  one_call_found w c k x s e (term t (term u ts)) h told = absurd h.1
 
-  two_call_found : (w : List ℕ) (k : Pairing) (x y s : PlainShape) → IsRule k x y s → (ts : PlainTerms ℕ Shape) → AreFound ts (x ∷ y ∷ []) → tells_parts (Two k) (displays (erase_terms ts)) ≡ true → typed_is (call w ts) s ≡ call_two w k (sortings names (erase_terms ts))
+  two_call_found : (w : List ℕ) (c : Callee) (k : Pairing) (x y s : PlainShape) → IsRule k x y s → (ts : PlainTerms ℕ Callee Shape) → AreFound ts (x ∷ y ∷ []) → tells_parts (Two k) (displays (erase_terms ts)) ≡ true → typed_is (call w c ts) s ≡ call_two w c k (sortings names (erase_terms ts))
   unfolding call_two
-  two_call_found w k x y s rule no_terms h told = absurd h
-  two_call_found w k x y s rule (term a no_terms) h told = absurd h.1
-  two_call_found w k x y s rule (term a (term b no_terms)) h told = rw (← two_found k x y s a b (sorting names (erase_term a)) (sorting names (erase_term b)) (is_display (erase_term a)) (is_display (erase_term b)) h.0 h.1.0 told rule) refl
-  two_call_found w k x y s rule (term a (term b (term d ts))) h told = absurd h.1.1
+  two_call_found w c k x y s rule no_terms h told = absurd h
+  two_call_found w c k x y s rule (term a no_terms) h told = absurd h.1
+  two_call_found w c k x y s rule (term a (term b no_terms)) h told = rw (← two_found k x y s a b (sorting names (erase_term a)) (sorting names (erase_term b)) (is_display (erase_term a)) (is_display (erase_term b)) h.0 h.1.0 told rule) refl
+  two_call_found w c k x y s rule (term a (term b (term d ts))) h told = absurd h.1.1
 
-  three_call_found : (w : List ℕ) (ks vs : PlainShape) (ts : PlainTerms ℕ Shape) → AreFound ts (maps ks vs ∷ ks ∷ vs ∷ []) → tells_parts Update (displays (erase_terms ts)) ≡ true → typed_is (call w ts) (maps ks vs) ≡ call_three w (sortings names (erase_terms ts))
+  three_call_found : (w : List ℕ) (c : Callee) (ks vs : PlainShape) (ts : PlainTerms ℕ Callee Shape) → AreFound ts (maps ks vs ∷ ks ∷ vs ∷ []) → tells_parts Update (displays (erase_terms ts)) ≡ true → typed_is (call w c ts) (maps ks vs) ≡ call_three w c (sortings names (erase_terms ts))
   unfolding call_three
-  three_call_found w ks vs no_terms h told = absurd h
-  three_call_found w ks vs (term a no_terms) h told = absurd h.1
-  three_call_found w ks vs (term a (term b no_terms)) h told = absurd h.1.1
-  three_call_found w ks vs (term a (term b (term d no_terms))) h told = rw (← three_found ks vs a b d (sorting names (erase_term a)) (sorting names (erase_term b)) (sorting names (erase_term d)) (is_display (erase_term a)) (is_display (erase_term b)) (is_display (erase_term d)) h.0 h.1.0 h.1.1.0 told) refl
-  three_call_found w ks vs (term a (term b (term d (term t ts)))) h told = absurd h.1.1.1
+  three_call_found w c ks vs no_terms h told = absurd h
+  three_call_found w c ks vs (term a no_terms) h told = absurd h.1
+  three_call_found w c ks vs (term a (term b no_terms)) h told = absurd h.1.1
+  three_call_found w c ks vs (term a (term b (term d no_terms))) h told = rw (← three_found ks vs a b d (sorting names (erase_term a)) (sorting names (erase_term b)) (sorting names (erase_term d)) (is_display (erase_term a)) (is_display (erase_term b)) (is_display (erase_term d)) h.0 h.1.0 h.1.1.0 told) refl
+  three_call_found w c ks vs (term a (term b (term d (term t ts)))) h told = absurd h.1.1.1
 
-  call_found : (w : List ℕ) (ts : PlainTerms ℕ Shape) {f : Function} {xs : List PlainShape} {s : PlainShape} → FunctionIs f xs s → AreFound ts xs → tells_parts (arity_of f) (displays (erase_terms ts)) ≡ true → typed_is (call w ts) s ≡ call_of_arity w (sortings names (erase_terms ts)) (arity_of f)
+  call_found : (w : List ℕ) (c : Callee) (ts : PlainTerms ℕ Callee Shape) {f : Function} {xs : List PlainShape} {s : PlainShape} → FunctionIs f xs s → AreFound ts xs → tells_parts (arity_of f) (displays (erase_terms ts)) ≡ true → typed_is (call w c ts) s ≡ call_of_arity w c (sortings names (erase_terms ts)) (arity_of f)
   unfolding call_of_arity
-  call_found w ts (head {x}) h told = one_call_found w single.Item (sequences x) x refl ts h told
-  call_found w ts (tail {x}) h told = one_call_found w single.Rest (sequences x) (sequences x) refl ts h told
-  call_found w ts (items {x}) h told = one_call_found w single.Length (sequences x) integers refl ts h told
-  call_found w ts (members {x}) h told = one_call_found w single.Size (sets x) integers refl ts h told
-  call_found w ts (keys {k} {v}) h told = one_call_found w single.Size (maps k v) integers refl ts h told
-  call_found w ts quotient h told = two_call_found w (Both Numbers) integers integers integers (record { left = inl refl; right = inl refl }) ts h told
-  call_found w ts remainder h told = two_call_found w (Both Numbers) integers integers integers (record { left = inl refl; right = inl refl }) ts h told
-  call_found w ts (inserted {x}) h told = two_call_found w Members x (sets x) (sets x) (record { left = inl refl; right = inl refl }) ts h told
-  call_found w ts (deleted {x}) h told = two_call_found w Members x (sets x) (sets x) (record { left = inl refl; right = inl refl }) ts h told
-  call_found w ts (united {x}) h told = two_call_found w (Both Union) (sets x) (sets x) (sets x) (record { left = inl refl; right = inl refl }) ts h told
-  call_found w ts (updated {k} {v}) h told = three_call_found w k v ts h told
-  call_found w ts (removed {k} {v}) h told = two_call_found w Removal (maps k v) k (maps k v) (record { left = inl refl; right = inr refl }) ts h told
-  call_found w ts (defined {k} {v}) h told = two_call_found w Definition (maps k v) k truths (record { left = inl refl; right = inr refl }) ts h told
+  call_found w c ts (head {x}) h told = one_call_found w c single.Item (sequences x) x refl ts h told
+  call_found w c ts (tail {x}) h told = one_call_found w c single.Rest (sequences x) (sequences x) refl ts h told
+  call_found w c ts (items {x}) h told = one_call_found w c single.Length (sequences x) integers refl ts h told
+  call_found w c ts (members {x}) h told = one_call_found w c single.Size (sets x) integers refl ts h told
+  call_found w c ts (keys {k} {v}) h told = one_call_found w c single.Size (maps k v) integers refl ts h told
+  call_found w c ts quotient h told = two_call_found w c (Both Numbers) integers integers integers (record { left = inl refl; right = inl refl }) ts h told
+  call_found w c ts remainder h told = two_call_found w c (Both Numbers) integers integers integers (record { left = inl refl; right = inl refl }) ts h told
+  call_found w c ts (inserted {x}) h told = two_call_found w c Members x (sets x) (sets x) (record { left = inl refl; right = inl refl }) ts h told
+  call_found w c ts (deleted {x}) h told = two_call_found w c Members x (sets x) (sets x) (record { left = inl refl; right = inl refl }) ts h told
+  call_found w c ts (united {x}) h told = two_call_found w c (Both Union) (sets x) (sets x) (sets x) (record { left = inl refl; right = inl refl }) ts h told
+  call_found w c ts (updated {k} {v}) h told = three_call_found w c k v ts h told
+  call_found w c ts (removed {k} {v}) h told = two_call_found w c Removal (maps k v) k (maps k v) (record { left = inl refl; right = inr refl }) ts h told
+  call_found w c ts (defined {k} {v}) h told = two_call_found w c Definition (maps k v) k truths (record { left = inl refl; right = inr refl }) ts h told
 
   -- a call of `inbox`
-  inbox_of_found : (w : List ℕ) (k v : PlainShape) (ts : PlainTerms ℕ Shape) → AreFound ts (k ∷ []) → typed_is (call w ts) v ≡ inbox_of w (sortings names (erase_terms ts)) (sides k v)
+  inbox_of_found : (w : List ℕ) (c : Callee) (k v : PlainShape) (ts : PlainTerms ℕ Callee Shape) → AreFound ts (k ∷ []) → typed_is (call w c ts) v ≡ inbox_of w c (sortings names (erase_terms ts)) (sides k v)
   unfolding inbox_of
-  inbox_of_found w k v no_terms h = absurd h
-  inbox_of_found w k v (term a no_terms) h = rw (← h.0.fits) refl
-  inbox_of_found w k v (term a (term b ts)) h = absurd h.1
+  inbox_of_found w c k v no_terms h = absurd h
+  inbox_of_found w c k v (term a no_terms) h = rw (← h.0.fits) refl
+  inbox_of_found w c k v (term a (term b ts)) h = absurd h.1
 
-  inbox_found : (w : List ℕ) (k s : PlainShape) (ts : PlainTerms ℕ Shape) → option_map shape_in_terms (shape_named (Word inboxes_word) names) ≡ Some (maps k s) → AreFound ts (k ∷ []) → typed_is (call w ts) s ≡ inbox_known w (sortings names (erase_terms ts)) (named (Word inboxes_word) names)
-  inbox_found w k s ts g h =
-      let slot = slot_of_shape names (Word inboxes_word) (maps k s) g in
-      rw (← named_found names (Word inboxes_word) slot.0 (maps k s) slot.1 g) (inbox_of_found w k s ts h)
+  inbox_found : (w : List ℕ) (at : ℕ) (k s : PlainShape) (ts : PlainTerms ℕ Callee Shape) → slot_in (Word inboxes_word) (map (λ n. n.0) names) ≡ Some at → option_map shape_in_terms (shape_named (Word inboxes_word) names) ≡ Some (maps k s) → AreFound ts (k ∷ []) → typed_is (call w (callee.Inboxes at) ts) s ≡ inbox_known w (sortings names (erase_terms ts)) (named (Word inboxes_word) names)
+  inbox_found w at k s ts stands g h =
+      rw (← named_found names (Word inboxes_word) at (maps k s) stands g) (inbox_of_found w (callee.Inboxes at) k s ts h)
 
-  none_found : (w : List ℕ) (ts : PlainTerms ℕ Shape) (k s : PlainShape) → is_inbox_word w ≡ true → option_map shape_in_terms (shape_named (Word inboxes_word) names) ≡ Some (maps k s) → AreFound ts (k ∷ []) → typed_is (call w ts) s ≡ call_of_none names w (sortings names (erase_terms ts))
+  none_found : (w : List ℕ) (at : ℕ) (ts : PlainTerms ℕ Callee Shape) (k s : PlainShape) → is_inbox_word w ≡ true → slot_in (Word inboxes_word) (map (λ n. n.0) names) ≡ Some at → option_map shape_in_terms (shape_named (Word inboxes_word) names) ≡ Some (maps k s) → AreFound ts (k ∷ []) → typed_is (call w (callee.Inboxes at) ts) s ≡ call_of_none names w (sortings names (erase_terms ts))
   unfolding call_of_none
-  none_found w ts k s is g h = rw is (inbox_found w k s ts g h)
+  none_found w at ts k s is stands g h = rw is (inbox_found w at k s ts stands g h)
 
-  -- a call, by its name
-  call_by_found : (w : List ℕ) (ts : PlainTerms ℕ Shape) (o : Option Function) (xs : List PlainShape) (s : PlainShape) → CallBy o names w xs s → AreFound ts xs → tells_call o (displays (erase_terms ts)) ≡ true → typed_is (call w ts) s ≡ call_of_function names w (sortings names (erase_terms ts)) o
-  call_by_found w ts None xs s h g told = none_found w ts h.0 s h.1 h.3 (subst (AreFound ts) h.2 g)
-  call_by_found w ts (Some f) xs s h g told = call_found w ts h g told
+  -- a call, by what it is of
+  call_by_found : (w : List ℕ) (c : Callee) (ts : PlainTerms ℕ Callee Shape) (o : Option Function) (xs : List PlainShape) (s : PlainShape) → function_named w ≡ o → IsCallee w c (map (λ n. n.0) names) → CallBy o names w xs s → AreFound ts xs → tells_call o (displays (erase_terms ts)) ≡ true → typed_is (call w c ts) s ≡ call_of_function names w (sortings names (erase_terms ts)) o
+  call_by_found w (callee.Function f) ts None xs s named is h g told = absurd (cc)
+  call_by_found w (callee.Inboxes at) ts None xs s named is h g told = none_found w at ts h.0 s h.1 is.2 h.3 (subst (AreFound ts) h.2 g)
+  call_by_found w (callee.Function f) ts (Some e) xs s named is h g told =
+      let same : e ≡ f = cc in
+      subst (λ d. typed_is (call w (callee.Function d) ts) s ≡ call_of_arity w (callee.Function e) (sortings names (erase_terms ts)) (arity_of e)) same (call_found w (callee.Function e) ts h g told)
+  call_by_found w (callee.Inboxes at) ts (Some e) xs s named is h g told = absurd (cc)
 
   -- displays
-  all_found : (s : PlainShape) (ts : PlainTerms ℕ Shape) (ss : List PlainShape) → AreFound ts ss → AllByRecursion (λ y. y ≡ s) ss → list_is (listed_terms ts) ≡ all_fit (sortings names (erase_terms ts)) s
+  all_found : (s : PlainShape) (ts : PlainTerms ℕ Callee Shape) (ss : List PlainShape) → AreFound ts ss → AllByRecursion (λ y. y ≡ s) ss → list_is (listed_terms ts) ≡ all_fit (sortings names (erase_terms ts)) s
   all_found s no_terms [] h g = refl
   all_found s no_terms (y ∷ ss) h g = absurd h
   all_found s (term t ts) [] h g = absurd h
   all_found s (term t ts) (y ∷ ss) h g = rw (← (subst (λ z. fit_is t ≡ fit (sorting names (erase_term t)) z) g.0 h.0.fits), ← (all_found s ts ss h.1 g.1)) refl
 
-  each_found : (ts : PlainTerms ℕ Shape) (ss : List PlainShape) → AreFound ts ss → list_is (listed_terms ts) ≡ each_fit (sortings names (erase_terms ts)) ss
+  each_found : (ts : PlainTerms ℕ Callee Shape) (ss : List PlainShape) → AreFound ts ss → list_is (listed_terms ts) ≡ each_fit (sortings names (erase_terms ts)) ss
   each_found no_terms [] h = refl
   each_found no_terms (y ∷ ss) h = absurd h
   each_found (term t ts) [] h = absurd h
   each_found (term t ts) (y ∷ ss) h = rw (← h.0.fits, ← (each_found ts ss h.1)) refl
 
-  parts_found : (form : DisplayForm) (d : PlainShape) (ts : PlainTerms ℕ Shape) (ss : List PlainShape) → AreFound ts ss → DisplayIs form ss d → list_is (listed_terms ts) ≡ display_parts form (sortings names (erase_terms ts)) d
+  parts_found : (form : DisplayForm) (d : PlainShape) (ts : PlainTerms ℕ Callee Shape) (ss : List PlainShape) → AreFound ts ss → DisplayIs form ss d → list_is (listed_terms ts) ≡ display_parts form (sortings names (erase_terms ts)) d
   unfolding display_parts
   parts_found Braces truths ts ss h g = absurd g
   parts_found Braces integers ts ss h g = absurd g
@@ -327,7 +325,7 @@ module _ (names : NameShapes) where
   parts_found Brackets (sets x) ts ss h g = absurd g
   parts_found Brackets (maps k v) ts ss h g = absurd g
 
-  display_found : (form : DisplayForm) (d : PlainShape) (ts : PlainTerms ℕ Shape) (ss : List PlainShape) → AreFound ts ss → DisplayIs form ss d → fit_is (display form d ts) ≡ display_at form (sortings names (erase_terms ts)) d
+  display_found : (form : DisplayForm) (d : PlainShape) (ts : PlainTerms ℕ Callee Shape) (ss : List PlainShape) → AreFound ts ss → DisplayIs form ss d → fit_is (display form d ts) ≡ display_at form (sortings names (erase_terms ts)) d
   display_found form d ts ss h g = rw (← parts_found form d ts ss h g, terms_listed ts) refl
 
   mutual
@@ -340,14 +338,14 @@ module _ (names : NameShapes) where
         own_finds (one op a) s _ (rw (← one_found (single_of op) h.0 s (unary_from h.2) a (sorting names (erase_term a)) p) refl)
     finds (two op a b) s h r d =
         own_finds (two op a b) s _ (rw (← two_found (pairing_of op) h.0 h.1 s a b (sorting names (erase_term a)) (sorting names (erase_term b)) (is_display (erase_term a)) (is_display (erase_term b)) (finds a h.0 h.2 r.0 d.0) (finds b h.1 h.3 r.1 d.1) d.2 (binary_rule h.4)) refl)
-    finds (call w ts) s h r d =
-        own_finds (call w ts) s (call_of_function names w (sortings names (erase_terms ts)) (function_named w)) (call_by_found w ts (function_named w) h.0 s h.2 (each_finds ts h.0 h.1 r d.0) d.1)
+    finds (call w c ts) s h r d =
+        own_finds (call w c ts) s (call_of_function names w (sortings names (erase_terms ts)) (function_named w)) (call_by_found w c ts (function_named w) h.0 s refl r.0 h.2 (each_finds ts h.0 h.1 r.1 d.0) d.1)
     finds (display form e ts) s h r d = record { fits = rw h.1 (display_found form e ts h.0 (each_finds ts h.0 h.2 r d) h.3); infers = refl }
     finds (field a w e) s h r d =
         let p = subst (λ b. Finds b a e (sorting names (erase_term a))) d.1 (finds a e h.0 r d.0) in
         own_finds (field a w e) s _ (rw (← p.infers) (field_known_found w e s a h.1))
 
-    each_finds : (ts : PlainTerms ℕ Shape) (ss : List PlainShape) → HaveShapes names ts ss → AreTermsResolved ts (map (λ n. n.0) names) → AreDetermined (erase_terms ts) → AreFound ts ss
+    each_finds : (ts : PlainTerms ℕ Callee Shape) (ss : List PlainShape) → HaveShapes names ts ss → AreTermsResolved ts (map (λ n. n.0) names) → AreDetermined (erase_terms ts) → AreFound ts ss
     each_finds no_terms [] h r d = tt
     each_finds no_terms (s ∷ ss) h r d = absurd h
     each_finds (term t ts) [] h r d = absurd h

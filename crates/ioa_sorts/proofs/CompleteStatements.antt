@@ -3,6 +3,7 @@ use Rattle.std.proofs.Common.{◌≡◌, ℕ, Bool, true, false, List, [], ◌�
 use Rattle.std.specs.List.{AllByRecursion, AllZip, IsDistinct}
 use Rattle.ioa_operators.specs.Shapes.{PlainShape, truths, maps}
 use Rattle.ioa_operators.specs.declared.shape.Shape.{Shape}
+use Rattle.ioa_terms.specs.declared.callee.Callee.{Callee}
 use Rattle.ioa_terms.specs.declared.name.Name.TheVariants.{Word}
 use Rattle.ioa_terms.specs.PlainTerm.{variable, at_key, at_field, assign, branch, loop, fire, no_statements, statement, statements_of, PlainArms, no_arms, arm, arms_of}
 use Rattle.ioa_terms.specs.Resolved.{IsResolvedTarget, IsResolvedFiring, IsResolvedStatement, AreArmsResolved, AreAllResolved}
@@ -45,11 +46,11 @@ statements_listed : (ss : SortedStatements) → statements_of (listed_statements
 statements_listed no_statements = refl
 statements_listed (statement s more) = ap (statement s) (statements_listed more)
 
-abbrev listed_arms : PlainArms ℕ Shape → List (SortedTerm × SortedStatements)
+abbrev listed_arms : PlainArms ℕ Callee Shape → List (SortedTerm × SortedStatements)
 listed_arms no_arms = []
 listed_arms (arm t body more) = (t, body) ∷ listed_arms more
 
-arms_listed : (ts : PlainArms ℕ Shape) → arms_of (listed_arms ts) ≡ ts
+arms_listed : (ts : PlainArms ℕ Callee Shape) → arms_of (listed_arms ts) ≡ ts
 arms_listed no_arms = refl
 arms_listed (arm t body more) = ap (arm t body) (arms_listed more)
 
@@ -143,7 +144,7 @@ module _ (s : PlainStatementSite) (differ : IsDistinct same_word (map (λ r. r.e
     statements_found no_statements h r g = refl
     statements_found (statement x xs) h r g = rw (← statement_found x h.0 r.0 g.0, ← statements_found xs h.1 r.1 g.1) refl
 
-    arms_found : (xs : PlainArms ℕ Shape) → AreArmsSorted s xs → AreArmsResolved xs (map (λ n. n.0) s.variables) (map (λ n. n.0) s.names) → AreArmsDetermined (erase_arms xs) → arms_are (listed_arms xs) ≡ all_ok (arm_sortings s (erase_arms xs))
+    arms_found : (xs : PlainArms ℕ Callee Shape) → AreArmsSorted s xs → AreArmsResolved xs (map (λ n. n.0) s.variables) (map (λ n. n.0) s.names) → AreArmsDetermined (erase_arms xs) → arms_are (listed_arms xs) ≡ all_ok (arm_sortings s (erase_arms xs))
     arms_found no_arms h r g = refl
     arms_found (arm t body xs) h r g = rw (← term_found s.names t truths h.0 r.0 g.0, ← statements_found body h.1 r.1 g.1, ← arms_found xs h.2 r.2 g.2, statements_listed body) refl
 

@@ -9,6 +9,8 @@ use Rattle.ioa_operators.specs.declared.operator.Function.{Function}
 use Rattle.ioa_operators.specs.declared.operator.BinaryOperator.{BinaryOperator}
 use Rattle.ioa_operators.specs.declared.shape.DisplayForm.{DisplayForm}
 use Rattle.ioa_operators.specs.declared.shape.DisplayForm.TheVariants.{Braces, Brackets}
+use Rattle.ioa_terms.specs.declared.callee.Callee.{Callee}
+use Rattle.ioa_terms.specs.declared.callee.Callee.TheVariants as callee
 use Rattle.ioa_terms.specs.declared.name.Name.{Name}
 use Rattle.ioa_terms.specs.declared.name.Name.TheVariants.{Word}
 use Rattle.ioa_terms.specs.Bindings.{same_name, slot_in}
@@ -282,22 +284,22 @@ module _ (types : TupleTypes) (names : NameShapes) where
   -- calls
   module _ (w : List ℕ) (f : Function) (is : function_named w ≡ Some f) where
     abbrev IsCall : SourceTerms → PlainTyped → Type 0
-    IsCall us p = IsFound types names (call w us) p.tree p.shape
+    IsCall us p = IsFound types names (call w tt us) p.tree p.shape
 
     by_function : (xs : List PlainShape) (s : PlainShape) → FunctionIs f xs s → CallIs names w xs s
     by_function xs s h = subst (λ o. CallBy o names w xs s) (sym is) h
 
-    one_call : (k : Single) (us : SourceTerms) (fs : List Sorting) → arity_of f ≡ One k → AreGood us fs → IfOk (call_one w k fs) (IsCall us)
+    one_call : (k : Single) (us : SourceTerms) (fs : List Sorting) → arity_of f ≡ One k → AreGood us fs → IfOk (call_one w (callee.Function f) k fs) (IsCall us)
     unfolding call_one
     one_call k no_terms [] e g = tt
     one_call k no_terms (x ∷ fs) e g = absurd g
     one_call k (term u us) [] e g = tt
     one_call k (term u no_terms) (x ∷ []) e g =
-        chain (IsPart types names k u) (IsCall (term u no_terms)) (λ t. Ok (typed (call w (term t.tree no_terms)) t.shape)) (one_part k x) (one_good k u x g.0)
+        chain (IsPart types names k u) (IsCall (term u no_terms)) (λ t. Ok (typed (call w (callee.Function f) (term t.tree no_terms)) t.shape)) (one_part k x) (one_good k u x g.0)
         (λ t p. record {
           of = record {
-            same = ap (λ a. call w (term a no_terms)) p.found.of.same;
-            resolved = (p.found.of.resolved, tt);
+            same = ap (λ a. call w tt (term a no_terms)) p.found.of.same;
+            resolved = (is, (p.found.of.resolved, tt));
             has_shape = (p.part ∷ [], (p.found.of.has_shape, tt), by_function (p.part ∷ []) t.shape (one_is f k p.part t.shape e p.value));
             determined = ((p.found.of.determined, tt), rw (is, e, p.bare) refl);
           };
@@ -307,16 +309,16 @@ module _ (types : TupleTypes) (names : NameShapes) where
     one_call k (term u (term v us)) (x ∷ []) e g = absurd g.1
     one_call k (term u (term v us)) (x ∷ y ∷ fs) e g = tt
 
-    two_call : (k : Pairing) (us : SourceTerms) (fs : List Sorting) → arity_of f ≡ Two k → AreGood us fs → IfOk (call_two w k fs) (IsCall us)
+    two_call : (k : Pairing) (us : SourceTerms) (fs : List Sorting) → arity_of f ≡ Two k → AreGood us fs → IfOk (call_two w (callee.Function f) k fs) (IsCall us)
     unfolding call_two
     two_call k us [] e g = tt
     two_call k us (x ∷ []) e g = tt
     two_call k (term u (term v no_terms)) (x ∷ y ∷ []) e g =
-        chain (IsPairOf types names k u v) (IsCall (term u (term v no_terms))) (λ p. Ok (typed (call w (term p.left (term p.right no_terms))) p.whole)) (two_parts k x y) (two_good k u v x y g.0 g.1.0)
+        chain (IsPairOf types names k u v) (IsCall (term u (term v no_terms))) (λ p. Ok (typed (call w (callee.Function f) (term p.left (term p.right no_terms))) p.whole)) (two_parts k x y) (two_good k u v x y g.0 g.1.0)
         (λ p q. record {
           of = record {
-            same = λ i. call w (term (q.first.of.same i) (term (q.second.of.same i) no_terms));
-            resolved = (q.first.of.resolved, (q.second.of.resolved, tt));
+            same = λ i. call w tt (term (q.first.of.same i) (term (q.second.of.same i) no_terms));
+            resolved = (is, (q.first.of.resolved, (q.second.of.resolved, tt)));
             has_shape = (q.x ∷ q.y ∷ [], (q.first.of.has_shape, (q.second.of.has_shape, tt)), by_function (q.x ∷ q.y ∷ []) p.whole (by_rule p q q.rule));
             determined = ((q.first.of.determined, (q.second.of.determined, tt)), rw (is, e) q.told);
           };
@@ -331,17 +333,17 @@ module _ (types : TupleTypes) (names : NameShapes) where
     two_call k (term u (term v (term a us))) (x ∷ y ∷ []) e g = absurd g.1.1
     two_call k us (x ∷ y ∷ z ∷ fs) e g = tt
 
-    three_call : (us : SourceTerms) (fs : List Sorting) → arity_of f ≡ Update → AreGood us fs → IfOk (call_three w fs) (IsCall us)
+    three_call : (us : SourceTerms) (fs : List Sorting) → arity_of f ≡ Update → AreGood us fs → IfOk (call_three w (callee.Function f) fs) (IsCall us)
     unfolding call_three
     three_call us [] e g = tt
     three_call us (x ∷ []) e g = tt
     three_call us (x ∷ y ∷ []) e g = tt
     three_call (term u (term v (term a no_terms))) (x ∷ y ∷ z ∷ []) e g =
-        chain (IsUpdateOf types names u v a) (IsCall (term u (term v (term a no_terms)))) (λ p. Ok (typed (call w (term p.map (term p.key (term p.value no_terms)))) p.whole)) (three_parts x y z) (three_good u v a x y z g.0 g.1.0 g.1.1.0)
+        chain (IsUpdateOf types names u v a) (IsCall (term u (term v (term a no_terms)))) (λ p. Ok (typed (call w (callee.Function f) (term p.map (term p.key (term p.value no_terms)))) p.whole)) (three_parts x y z) (three_good u v a x y z g.0 g.1.0 g.1.1.0)
         (λ p q. record {
           of = record {
-            same = λ i. call w (term (q.first.of.same i) (term (q.second.of.same i) (term (q.third.of.same i) no_terms)));
-            resolved = (q.first.of.resolved, (q.second.of.resolved, (q.third.of.resolved, tt)));
+            same = λ i. call w tt (term (q.first.of.same i) (term (q.second.of.same i) (term (q.third.of.same i) no_terms)));
+            resolved = (is, (q.first.of.resolved, (q.second.of.resolved, (q.third.of.resolved, tt))));
             has_shape = (p.whole ∷ q.keys ∷ q.values ∷ [], (q.first.of.has_shape, (q.second.of.has_shape, (q.third.of.has_shape, tt))), by_function (p.whole ∷ q.keys ∷ q.values ∷ []) p.whole (subst (λ m. FunctionIs f (m ∷ q.keys ∷ q.values ∷ []) m) (sym q.whole) (update_is f q.keys q.values e)));
             determined = ((q.first.of.determined, (q.second.of.determined, (q.third.of.determined, tt))), rw (is, e) q.told);
           };
@@ -353,7 +355,7 @@ module _ (types : TupleTypes) (names : NameShapes) where
     three_call (term u (term v (term a (term b us)))) (x ∷ y ∷ z ∷ []) e g = absurd g.1.1.1
     three_call us (x ∷ y ∷ z ∷ a ∷ fs) e g = tt
 
-    arity_call : (k : Arity) (us : SourceTerms) (fs : List Sorting) → arity_of f ≡ k → AreGood us fs → IfOk (call_of_arity w fs k) (IsCall us)
+    arity_call : (k : Arity) (us : SourceTerms) (fs : List Sorting) → arity_of f ≡ k → AreGood us fs → IfOk (call_of_arity w (callee.Function f) fs k) (IsCall us)
     unfolding call_of_arity
     arity_call (One k) us fs e g = one_call k us fs e g
     arity_call (Two k) us fs e g = two_call k us fs e g
@@ -362,41 +364,41 @@ module _ (types : TupleTypes) (names : NameShapes) where
   -- a call of `inbox`
   module _ (w : List ℕ) (none : function_named w ≡ None) (is : is_inbox_word w ≡ true) where
     abbrev IsInbox : SourceTerms → PlainTyped → Type 0
-    IsInbox us p = IsFound types names (call w us) p.tree p.shape
+    IsInbox us p = IsFound types names (call w tt us) p.tree p.shape
 
-    inbox_of_good : (us : SourceTerms) (fs : List Sorting) (e : PlainSides) → AreGood us fs → AreBoth types e → option_map shape_in_terms (shape_named (Word inboxes_word) names) ≡ Some (maps e.other e.whole) → IfOk (inbox_of w fs e) (IsInbox us)
+    inbox_of_good : (at : ℕ) → slot_in (Word inboxes_word) (map (λ n. n.0) names) ≡ Some at → (us : SourceTerms) (fs : List Sorting) (e : PlainSides) → AreGood us fs → AreBoth types e → option_map shape_in_terms (shape_named (Word inboxes_word) names) ≡ Some (maps e.other e.whole) → IfOk (inbox_of w (callee.Inboxes at) fs e) (IsInbox us)
     unfolding inbox_of
-    inbox_of_good us [] e g d h = tt
-    inbox_of_good no_terms (x ∷ fs) e g d h = absurd g
-    inbox_of_good (term u no_terms) (x ∷ []) e g d h =
-        chain (λ t. IsFound types names u t e.other) (IsInbox (term u no_terms)) (λ t. Ok (typed (call w (term t no_terms)) e.whole)) (fit x e.other) (fit_good u x e.other g.0 d.0)
+    inbox_of_good at stands us [] e g d h = tt
+    inbox_of_good at stands no_terms (x ∷ fs) e g d h = absurd g
+    inbox_of_good at stands (term u no_terms) (x ∷ []) e g d h =
+        chain (λ t. IsFound types names u t e.other) (IsInbox (term u no_terms)) (λ t. Ok (typed (call w (callee.Inboxes at) (term t no_terms)) e.whole)) (fit x e.other) (fit_good u x e.other g.0 d.0)
         (λ t p. record {
           of = record {
-            same = ap (λ a. call w (term a no_terms)) p.of.same;
-            resolved = (p.of.resolved, tt);
+            same = ap (λ a. call w tt (term a no_terms)) p.of.same;
+            resolved = ((none, is, stands), (p.of.resolved, tt));
             has_shape = (e.other ∷ [], (p.of.has_shape, tt), subst (λ o. CallBy o names w (e.other ∷ []) e.whole) (sym none) (e.other, is, refl, h));
             determined = ((p.of.determined, tt), rw none refl);
           };
           declared = d.1;
         })
-    inbox_of_good (term u (term v us)) (x ∷ []) e g d h = absurd g.1
-    inbox_of_good us (x ∷ y ∷ fs) e g d h = tt
+    inbox_of_good at stands (term u (term v us)) (x ∷ []) e g d h = absurd g.1
+    inbox_of_good at stands us (x ∷ y ∷ fs) e g d h = tt
 
     inbox_good : (us : SourceTerms) (fs : List Sorting) → AreGood us fs → (o : Option (ℕ × PlainShape)) → IsDeclaredIf types names (Word inboxes_word) o → IfOk (inbox_known w fs (option_map (λ p. (p.0, shape_in_terms p.1)) o)) (IsInbox us)
     inbox_good us fs g None k = tt
     inbox_good us fs g (Some m) k =
-        chain (λ e. AreBoth types e × (shape_in_terms m.1 ≡ maps e.other e.whole)) (IsInbox us) (inbox_of w fs) (entry_of (shape_in_terms m.1)) (entry_declared types (shape_in_terms m.1) (in_terms types m.1 k.declared))
-        (λ e d. inbox_of_good us fs e g d.0 (ap (option_map shape_in_terms) k.shape ∙ ap (λ s. Some s) d.1))
+        chain (λ e. AreBoth types e × (shape_in_terms m.1 ≡ maps e.other e.whole)) (IsInbox us) (inbox_of w (callee.Inboxes m.0) fs) (entry_of (shape_in_terms m.1)) (entry_declared types (shape_in_terms m.1) (in_terms types m.1 k.declared))
+        (λ e d. inbox_of_good m.0 k.slot us fs e g d.0 (ap (option_map shape_in_terms) k.shape ∙ ap (λ s. Some s) d.1))
 
-  none_call : (w : List ℕ) (us : SourceTerms) (fs : List Sorting) → AreAllDeclared types names → AreGood us fs → function_named w ≡ None → (b : Bool) → is_inbox_word w ≡ b → IfOk (if b then inbox_known w fs (named (Word inboxes_word) names) else Err Unknown) (λ p. IsFound types names (call w us) p.tree p.shape)
+  none_call : (w : List ℕ) (us : SourceTerms) (fs : List Sorting) → AreAllDeclared types names → AreGood us fs → function_named w ≡ None → (b : Bool) → is_inbox_word w ≡ b → IfOk (if b then inbox_known w fs (named (Word inboxes_word) names) else Err Unknown) (λ p. IsFound types names (call w tt us) p.tree p.shape)
   none_call w us fs d g none true e = inbox_good w none e us fs g (declared_at (Word inboxes_word) names) (declared_is types names (Word inboxes_word) d)
   none_call w us fs d g none false e = tt
 
-  called_by_none : (w : List ℕ) (us : SourceTerms) (fs : List Sorting) → AreAllDeclared types names → AreGood us fs → function_named w ≡ None → IfOk (call_of_none names w fs) (λ p. IsFound types names (call w us) p.tree p.shape)
+  called_by_none : (w : List ℕ) (us : SourceTerms) (fs : List Sorting) → AreAllDeclared types names → AreGood us fs → function_named w ≡ None → IfOk (call_of_none names w fs) (λ p. IsFound types names (call w tt us) p.tree p.shape)
   unfolding call_of_none
   called_by_none w us fs d g none = none_call w us fs d g none (is_inbox_word w) refl
 
-  named_call : (w : List ℕ) (us : SourceTerms) (fs : List Sorting) → AreAllDeclared types names → AreGood us fs → (o : Option Function) → function_named w ≡ o → IfOk (call_of_function names w fs o) (λ p. IsFound types names (call w us) p.tree p.shape)
+  named_call : (w : List ℕ) (us : SourceTerms) (fs : List Sorting) → AreAllDeclared types names → AreGood us fs → (o : Option Function) → function_named w ≡ o → IfOk (call_of_function names w fs o) (λ p. IsFound types names (call w tt us) p.tree p.shape)
   named_call w us fs d g None e = called_by_none w us fs d g e
   named_call w us fs d g (Some f) e = arity_call w f e (arity_of f) us fs refl g
 
@@ -545,7 +547,7 @@ module _ (types : TupleTypes) (names : NameShapes) where
               declared = q.declared;
             }),
       )
-      good (call w ts) = (refl, named_call w ts (sortings names ts) declared (goods ts) (function_named w) refl)
+      good (call w tt ts) = (refl, named_call w ts (sortings names ts) declared (goods ts) (function_named w) refl)
       good (display form tt ts) = display_good form ts (sortings names ts) (goods ts)
       good (field a w tt) = field_good w a (sorting names a) (good a)
 

@@ -6,6 +6,8 @@ use Rattle.ioa_operators.specs.Shapes.{PlainShape, truths, integers, naturals, c
 use Rattle.ioa_operators.specs.declared.operator.Function.{Function}
 use Rattle.ioa_operators.specs.declared.shape.DisplayForm.{DisplayForm}
 use Rattle.ioa_operators.specs.declared.shape.DisplayForm.TheVariants.{Braces, Brackets}
+use Rattle.ioa_terms.specs.declared.callee.Callee.{Callee}
+use Rattle.ioa_terms.specs.declared.callee.Callee.TheVariants as callee
 use Rattle.ioa_terms.specs.declared.name.Name.{Name}
 use Rattle.ioa_terms.specs.declared.name.Name.TheVariants.{Word}
 use Rattle.ioa_terms.specs.Inboxes.{inboxes_word}
@@ -380,47 +382,47 @@ module _ (names : NameShapes) where
   AreCalm (term u us) = Calm (is_display u) (sorting names u) × AreCalm us
 
   -- calls
-  one_call_calm : (w : List ℕ) (k : Single) (us : SourceTerms) → AreCalm us → tells_parts (One k) (displays us) ≡ true → Calmly Anything (call_one w k (sortings names us))
+  one_call_calm : (w : List ℕ) (c : Callee) (k : Single) (us : SourceTerms) → AreCalm us → tells_parts (One k) (displays us) ≡ true → Calmly Anything (call_one w c k (sortings names us))
   unfolding call_one
-  one_call_calm w k no_terms h told = sorts_is_calm
-  one_call_calm w k (term u no_terms) h told = by_open (is_display u) h.0 told
+  one_call_calm w c k no_terms h told = sorts_is_calm
+  one_call_calm w c k (term u no_terms) h told = by_open (is_display u) h.0 told
     where
-      by_open : (b : Bool) → Calm b (sorting names u) → tells_parts (One k) (b ∷ []) ≡ true → Calmly Anything (and_then (one_part k (sorting names u)) (λ t. Ok (typed (call w (term t.tree no_terms)) t.shape)))
+      by_open : (b : Bool) → Calm b (sorting names u) → tells_parts (One k) (b ∷ []) ≡ true → Calmly Anything (and_then (one_part k (sorting names u)) (λ t. Ok (typed (call w c (term t.tree no_terms)) t.shape)))
       by_open true p e = absurd (cc)
-      by_open false p e = calm_end Anything (λ t. typed (call w (term t.tree no_terms)) t.shape) (one_part k (sorting names u)) (one_part_calm k (sorting names u) p)
-  one_call_calm w k (term u (term v us)) h told = sorts_is_calm
+      by_open false p e = calm_end Anything (λ t. typed (call w c (term t.tree no_terms)) t.shape) (one_part k (sorting names u)) (one_part_calm k (sorting names u) p)
+  one_call_calm w c k (term u (term v us)) h told = sorts_is_calm
 
-  two_call_calm : (w : List ℕ) (k : Pairing) (us : SourceTerms) → AreCalm us → tells_parts (Two k) (displays us) ≡ true → Calmly Anything (call_two w k (sortings names us))
+  two_call_calm : (w : List ℕ) (c : Callee) (k : Pairing) (us : SourceTerms) → AreCalm us → tells_parts (Two k) (displays us) ≡ true → Calmly Anything (call_two w c k (sortings names us))
   unfolding call_two
-  two_call_calm w k no_terms h told = sorts_is_calm
-  two_call_calm w k (term u no_terms) h told = sorts_is_calm
-  two_call_calm w k (term u (term v no_terms)) h told = calm_end Anything (λ p. typed (call w (term p.left (term p.right no_terms))) p.whole) (two_parts k (sorting names u) (sorting names v)) (two_calm k (sorting names u) (sorting names v) (is_display u) (is_display v) told h.0 h.1.0)
-  two_call_calm w k (term u (term v (term x us))) h told = sorts_is_calm
+  two_call_calm w c k no_terms h told = sorts_is_calm
+  two_call_calm w c k (term u no_terms) h told = sorts_is_calm
+  two_call_calm w c k (term u (term v no_terms)) h told = calm_end Anything (λ p. typed (call w c (term p.left (term p.right no_terms))) p.whole) (two_parts k (sorting names u) (sorting names v)) (two_calm k (sorting names u) (sorting names v) (is_display u) (is_display v) told h.0 h.1.0)
+  two_call_calm w c k (term u (term v (term x us))) h told = sorts_is_calm
 
-  three_call_calm : (w : List ℕ) (us : SourceTerms) → AreCalm us → tells_parts Update (displays us) ≡ true → Calmly Anything (call_three w (sortings names us))
+  three_call_calm : (w : List ℕ) (c : Callee) (us : SourceTerms) → AreCalm us → tells_parts Update (displays us) ≡ true → Calmly Anything (call_three w c (sortings names us))
   unfolding call_three
-  three_call_calm w no_terms h told = sorts_is_calm
-  three_call_calm w (term u no_terms) h told = sorts_is_calm
-  three_call_calm w (term u (term v no_terms)) h told = sorts_is_calm
-  three_call_calm w (term u (term v (term x no_terms))) h told = calm_end Anything (λ p. typed (call w (term p.map (term p.key (term p.value no_terms)))) p.whole) (three_parts (sorting names u) (sorting names v) (sorting names x)) (three_calm (sorting names u) (sorting names v) (sorting names x) (is_display u) (is_display v) (is_display x) told h.0 h.1.0 h.1.1.0)
-  three_call_calm w (term u (term v (term x (term y us)))) h told = sorts_is_calm
+  three_call_calm w c no_terms h told = sorts_is_calm
+  three_call_calm w c (term u no_terms) h told = sorts_is_calm
+  three_call_calm w c (term u (term v no_terms)) h told = sorts_is_calm
+  three_call_calm w c (term u (term v (term x no_terms))) h told = calm_end Anything (λ p. typed (call w c (term p.map (term p.key (term p.value no_terms)))) p.whole) (three_parts (sorting names u) (sorting names v) (sorting names x)) (three_calm (sorting names u) (sorting names v) (sorting names x) (is_display u) (is_display v) (is_display x) told h.0 h.1.0 h.1.1.0)
+  three_call_calm w c (term u (term v (term x (term y us)))) h told = sorts_is_calm
 
-  arity_calm : (w : List ℕ) (k : Arity) (us : SourceTerms) → AreCalm us → tells_parts k (displays us) ≡ true → Calmly Anything (call_of_arity w (sortings names us) k)
+  arity_calm : (w : List ℕ) (c : Callee) (k : Arity) (us : SourceTerms) → AreCalm us → tells_parts k (displays us) ≡ true → Calmly Anything (call_of_arity w c (sortings names us) k)
   unfolding call_of_arity
-  arity_calm w (One k) us h told = one_call_calm w k us h told
-  arity_calm w (Two k) us h told = two_call_calm w k us h told
-  arity_calm w Update us h told = three_call_calm w us h told
+  arity_calm w c (One k) us h told = one_call_calm w c k us h told
+  arity_calm w c (Two k) us h told = two_call_calm w c k us h told
+  arity_calm w c Update us h told = three_call_calm w c us h told
 
   -- a call of `inbox`
-  inbox_of_calm : (w : List ℕ) (us : SourceTerms) (e : PlainSides) → AreCalm us → Calmly Anything (inbox_of w (sortings names us) e)
+  inbox_of_calm : (w : List ℕ) (c : Callee) (us : SourceTerms) (e : PlainSides) → AreCalm us → Calmly Anything (inbox_of w c (sortings names us) e)
   unfolding inbox_of
-  inbox_of_calm w no_terms e h = sorts_is_calm
-  inbox_of_calm w (term u no_terms) e h = calm_end Anything (λ t. typed (call w (term t no_terms)) e.whole) (fit (sorting names u) e.other) (fit_calm (is_display u) (sorting names u) e.other h.0)
-  inbox_of_calm w (term u (term v us)) e h = sorts_is_calm
+  inbox_of_calm w c no_terms e h = sorts_is_calm
+  inbox_of_calm w c (term u no_terms) e h = calm_end Anything (λ t. typed (call w c (term t no_terms)) e.whole) (fit (sorting names u) e.other) (fit_calm (is_display u) (sorting names u) e.other h.0)
+  inbox_of_calm w c (term u (term v us)) e h = sorts_is_calm
 
   inbox_calm : (w : List ℕ) (us : SourceTerms) (o : Option (ℕ × PlainShape)) → AreCalm us → Calmly Anything (inbox_known w (sortings names us) o)
   inbox_calm w us None h = unknown_is_calm
-  inbox_calm w us (Some m) h = calm_chain Anything Anything (inbox_of w (sortings names us)) (entry_of m.1) (entry_calm m.1) (λ e _. inbox_of_calm w us e h)
+  inbox_calm w us (Some m) h = calm_chain Anything Anything (inbox_of w (callee.Inboxes m.0) (sortings names us)) (entry_of m.1) (entry_calm m.1) (λ e _. inbox_of_calm w (callee.Inboxes m.0) us e h)
 
   none_calm : (w : List ℕ) (us : SourceTerms) → AreCalm us → (b : Bool) → Calmly Anything (if b then inbox_known w (sortings names us) (named (Word inboxes_word) names) else Err Unknown)
   none_calm w us h true = inbox_calm w us (named (Word inboxes_word) names) h
@@ -432,7 +434,7 @@ module _ (names : NameShapes) where
 
   call_calm : (w : List ℕ) (us : SourceTerms) → AreCalm us → (o : Option Function) → tells_call o (displays us) ≡ true → Calmly Anything (call_of_function names w (sortings names us) o)
   call_calm w us h None told = called_by_none_calm w us h
-  call_calm w us h (Some f) told = arity_calm w (arity_of f) us h told
+  call_calm w us h (Some f) told = arity_calm w (callee.Function f) (arity_of f) us h told
 
   -- displays
   all_calm : (s : PlainShape) (us : SourceTerms) → AreCalm us → Calmly Anything (all_fit (sortings names us) s)
@@ -473,7 +475,7 @@ module _ (names : NameShapes) where
     calm (name x at) d = name_calm x (named x names)
     calm (one op a) d = calm_end Anything (λ t. typed (one op t.tree) t.shape) (one_part (single_of op) (sorting names a)) (one_part_calm (single_of op) (sorting names a) (subst (λ b. Calm b (sorting names a)) d.1 (calm a d.0)))
     calm (two op a b) d = calm_end Anything (λ p. typed (two op p.left p.right) p.whole) (two_parts (pairing_of op) (sorting names a) (sorting names b)) (two_calm (pairing_of op) (sorting names a) (sorting names b) (is_display a) (is_display b) d.2 (calm a d.0) (calm b d.1))
-    calm (call w ts) d = call_calm w ts (each_is_calm ts d.0) (function_named w) d.1
+    calm (call w c ts) d = call_calm w ts (each_is_calm ts d.0) (function_named w) d.1
     calm (display form e ts) d = λ s. calm_end Anything (λ us. display form s (terms_of us)) (display_parts form (sortings names ts) s) (parts_calm form s ts (each_is_calm ts d))
     calm (field a w e) d = calm_chain (Kind false) Anything (field_known w) (infer (sorting names a)) (infer_calm false (sorting names a) (subst (λ b. Calm b (sorting names a)) d.1 (calm a d.0))) (field_known_calm w)
 

@@ -13,18 +13,18 @@ use Rattle.ioa_sort_rules.specs.declared.kinds.Arity.{Arity}
 use Rattle.ioa_sort_rules.specs.declared.kinds.Arity.TheVariants.{One, Two, Update}
 use Rattle.ioa_sort_rules.specs.Kinds.{pairing_of, arity_of}
 
-abbrev pub is_display : {N D : Type 0} → PlainTerm N D → Bool
+abbrev pub is_display : {N C D : Type 0} → PlainTerm N C D → Bool
 is_display (display form d ts) = true
 is_display (number n) = false
 is_display (truth b) = false
 is_display (name x at) = false
 is_display (one op a) = false
 is_display (two op a b) = false
-is_display (call w ts) = false
+is_display (call w c ts) = false
 is_display (field a w d) = false
 
 -- which of terms are displays
-abbrev pub displays : {N D : Type 0} → PlainTerms N D → List Bool
+abbrev pub displays : {N C D : Type 0} → PlainTerms N C D → List Bool
 displays no_terms = []
 displays (term t more) = is_display t ∷ displays more
 
@@ -65,7 +65,7 @@ abbrev mutual
   IsDetermined (one op a) = IsDetermined a × (is_display a ≡ false)
   IsDetermined (two op a b) =
       IsDetermined a × IsDetermined b × (tells (pairing_of op) (is_display a) (is_display b) ≡ true)
-  IsDetermined (call w ts) = AreDetermined ts × (tells_call (function_named w) (displays ts) ≡ true)
+  IsDetermined (call w c ts) = AreDetermined ts × (tells_call (function_named w) (displays ts) ≡ true)
   IsDetermined (display form d ts) = AreDetermined ts
   IsDetermined (field a w d) = IsDetermined a × (is_display a ≡ false)
 

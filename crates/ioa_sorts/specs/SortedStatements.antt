@@ -5,6 +5,7 @@ use Rattle.std.specs.List.{AllByRecursion, AllZip, Contains}
 use Rattle.std.specs.Option.{option_map}
 use Rattle.ioa_operators.specs.Shapes.{PlainShape, truths, maps}
 use Rattle.ioa_operators.specs.declared.shape.Shape.{Shape}
+use Rattle.ioa_terms.specs.declared.callee.Callee.{Callee}
 use Rattle.ioa_terms.specs.declared.name.Name.TheVariants.{Word}
 use Rattle.ioa_terms.specs.declared.tree.Kind.{Kind}
 use Rattle.ioa_terms.specs.PlainTerm.{PlainTarget, variable, at_key, at_field, PlainStatement, assign, branch, loop, fire}
@@ -19,7 +20,7 @@ use Rattle.ioa_sorts.specs.StatementSites.{PlainStatementSite}
 
 -- a target holds values of a shape, in which naturals count as integers: it is a variable of that shape, the values
 -- of a map, or a field, and beside it is the variable's declared shape
-abbrev pub HoldsShape : NameShapes → NameShapes → PlainTarget ℕ Shape → PlainShape → Type 0
+abbrev pub HoldsShape : NameShapes → NameShapes → PlainTarget ℕ Callee Shape → PlainShape → Type 0
 HoldsShape variables names (variable x at d) s = (shape_named (Word x) variables ≡ Some d) × (s ≡ shape_in_terms d)
 HoldsShape variables names (at_key x at d k) s =
     (keys : PlainShape) × (shape_named (Word x) variables ≡ Some d)
@@ -44,17 +45,17 @@ pub record IsFired (names : NameShapes) (rules : List PlainRule) (f : CheckedFir
 abbrev mutual
   -- what a statement assigns has the shape of the target, what it tests is a truth value, and what it fires is an action
   -- with its arguments
-  pub IsSorted : PlainStatementSite → PlainStatement ℕ Shape → Type 0
+  pub IsSorted : PlainStatementSite → PlainStatement ℕ Callee Shape → Type 0
   IsSorted s (assign p t) = (u : PlainShape) × HoldsShape s.variables s.names p u × HasShape s.names t u
   IsSorted s (branch arms rest) = AreArmsSorted s arms × AreSorted s rest
   IsSorted s (loop t body) = (s.in_block ≡ true) × HasShape s.names t truths × AreSorted s body
   IsSorted s (fire f) = IsFired s.names s.rules f
 
-  pub AreArmsSorted : PlainStatementSite → PlainArms ℕ Shape → Type 0
+  pub AreArmsSorted : PlainStatementSite → PlainArms ℕ Callee Shape → Type 0
   AreArmsSorted s no_arms = Unit {0}
   AreArmsSorted s (arm t body more) = HasShape s.names t truths × AreSorted s body × AreArmsSorted s more
 
-  pub AreSorted : PlainStatementSite → PlainStatements ℕ Shape → Type 0
+  pub AreSorted : PlainStatementSite → PlainStatements ℕ Callee Shape → Type 0
   AreSorted s no_statements = Unit {0}
   AreSorted s (statement u more) = IsSorted s u × AreSorted s more
 
@@ -82,7 +83,7 @@ abbrev mutual
 
 -- the statement is the text's, without slots and shapes; each name has its slot, and each assigned variable is one of
 -- the variables; the sorts are right
-pub record IsStatementOf (s : PlainStatementSite) (source : SourceStatement) (found : PlainStatement ℕ Shape)
+pub record IsStatementOf (s : PlainStatementSite) (source : SourceStatement) (found : PlainStatement ℕ Callee Shape)
     : Type 0 where
   pub same : erase_statement found ≡ source
   pub resolved : IsResolvedStatement found (map (λ n. n.0) s.variables) (map (λ n. n.0) s.names)

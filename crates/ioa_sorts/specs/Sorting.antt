@@ -7,6 +7,8 @@ use Rattle.ioa_operators.specs.Shapes.{PlainShape, truths, integers, tuples, seq
 use Rattle.ioa_operators.specs.declared.operator.Function.{Function}
 use Rattle.ioa_operators.specs.declared.shape.DisplayForm.{DisplayForm}
 use Rattle.ioa_operators.specs.declared.shape.DisplayForm.TheVariants.{Braces, Brackets}
+use Rattle.ioa_terms.specs.declared.callee.Callee.{Callee}
+use Rattle.ioa_terms.specs.declared.callee.Callee.TheVariants as callee
 use Rattle.ioa_terms.specs.declared.name.Name.{Name}
 use Rattle.ioa_terms.specs.declared.name.Name.TheVariants.{Word}
 use Rattle.ioa_terms.specs.Inboxes.{inboxes_word}
@@ -103,34 +105,34 @@ abbrev pub three_parts : Sorting → Sorting → Sorting → Result PlainUpdate 
 three_parts f g h = and_then (infer f) (map_first f g h)
 
 -- a call of a function of one, two or three parts; another number of parts is refused
-unfoldable pub call_one : List ℕ → Single → List Sorting → Result PlainTyped Refusal
-call_one w k (f ∷ []) = and_then (one_part k f) (λ t. Ok (typed (call w (term t.tree no_terms)) t.shape))
-call_one w k fs = Err Sorts
+unfoldable pub call_one : List ℕ → Callee → Single → List Sorting → Result PlainTyped Refusal
+call_one w c k (f ∷ []) = and_then (one_part k f) (λ t. Ok (typed (call w c (term t.tree no_terms)) t.shape))
+call_one w c k fs = Err Sorts
 
-unfoldable pub call_two : List ℕ → Pairing → List Sorting → Result PlainTyped Refusal
-call_two w k (f ∷ g ∷ []) =
-    and_then (two_parts k f g) (λ p. Ok (typed (call w (term p.left (term p.right no_terms))) p.whole))
-call_two w k fs = Err Sorts
+unfoldable pub call_two : List ℕ → Callee → Pairing → List Sorting → Result PlainTyped Refusal
+call_two w c k (f ∷ g ∷ []) =
+    and_then (two_parts k f g) (λ p. Ok (typed (call w c (term p.left (term p.right no_terms))) p.whole))
+call_two w c k fs = Err Sorts
 
-unfoldable pub call_three : List ℕ → List Sorting → Result PlainTyped Refusal
-call_three w (f ∷ g ∷ h ∷ []) = and_then (three_parts f g h)
-    (λ u. Ok (typed (call w (term u.map (term u.key (term u.value no_terms)))) u.whole))
-call_three w fs = Err Sorts
+unfoldable pub call_three : List ℕ → Callee → List Sorting → Result PlainTyped Refusal
+call_three w c (f ∷ g ∷ h ∷ []) = and_then (three_parts f g h)
+    (λ u. Ok (typed (call w c (term u.map (term u.key (term u.value no_terms)))) u.whole))
+call_three w c fs = Err Sorts
 
-unfoldable pub call_of_arity : List ℕ → List Sorting → Arity → Result PlainTyped Refusal
-call_of_arity w fs (One k) = call_one w k fs
-call_of_arity w fs (Two k) = call_two w k fs
-call_of_arity w fs Update = call_three w fs
+unfoldable pub call_of_arity : List ℕ → Callee → List Sorting → Arity → Result PlainTyped Refusal
+call_of_arity w c fs (One k) = call_one w c k fs
+call_of_arity w c fs (Two k) = call_two w c k fs
+call_of_arity w c fs Update = call_three w c fs
 
 -- a call of `inbox`, by the map of the inboxes in view: its one part is a key of the map, and its value is what the map
 -- has there
-unfoldable pub inbox_of : List ℕ → List Sorting → PlainSides → Result PlainTyped Refusal
-inbox_of w (f ∷ []) p = and_then (fit f p.other) (λ t. Ok (typed (call w (term t no_terms)) p.whole))
-inbox_of w fs p = Err Sorts
+unfoldable pub inbox_of : List ℕ → Callee → List Sorting → PlainSides → Result PlainTyped Refusal
+inbox_of w c (f ∷ []) p = and_then (fit f p.other) (λ t. Ok (typed (call w c (term t no_terms)) p.whole))
+inbox_of w c fs p = Err Sorts
 
 abbrev pub inbox_known : List ℕ → List Sorting → Option (ℕ × PlainShape) → Result PlainTyped Refusal
 inbox_known w fs None = Err Unknown
-inbox_known w fs (Some m) = and_then (entry_of m.1) (inbox_of w fs)
+inbox_known w fs (Some m) = and_then (entry_of m.1) (inbox_of w (callee.Inboxes m.0) fs)
 
 -- a call whose name is no function's: only `inbox` has a meaning, where the inboxes are in view
 unfoldable pub call_of_none : NameShapes → List ℕ → List Sorting → Result PlainTyped Refusal
@@ -138,7 +140,7 @@ call_of_none names w fs = if is_inbox_word w then inbox_known w fs (named (Word 
 
 abbrev pub call_of_function : NameShapes → List ℕ → List Sorting → Option Function → Result PlainTyped Refusal
 call_of_function names w fs None = call_of_none names w fs
-call_of_function names w fs (Some f) = call_of_arity w fs (arity_of f)
+call_of_function names w fs (Some f) = call_of_arity w (callee.Function f) fs (arity_of f)
 
 -- terms that all have one shape, and terms that have shapes one by one
 abbrev pub all_fit : List Sorting → PlainShape → Result (List SortedTerm) Refusal
@@ -177,7 +179,7 @@ abbrev mutual
       own (and_then (one_part (single_of op) (sorting names a)) (λ t. Ok (typed (one op t.tree) t.shape)))
   sorting names (two op a b) = own (and_then (two_parts (pairing_of op) (sorting names a) (sorting names b))
       (λ p. Ok (typed (two op p.left p.right) p.whole)))
-  sorting names (call w ts) = own (call_of_function names w (sortings names ts) (function_named w))
+  sorting names (call w c ts) = own (call_of_function names w (sortings names ts) (function_named w))
   sorting names (display form u ts) = given (display_at form (sortings names ts))
   sorting names (field a w u) = own (and_then (infer (sorting names a)) (field_known w))
 

@@ -4,6 +4,7 @@ use Rattle.std.specs.Prelude.{ℕ, Bool, if◌then◌else◌, List, [], ◌∷�
 use Rattle.ioa_values.specs.Outcome.{and_then}
 use Rattle.ioa_operators.specs.Shapes.{PlainShape, truths}
 use Rattle.ioa_operators.specs.declared.shape.Shape.{Shape}
+use Rattle.ioa_terms.specs.declared.callee.Callee.{Callee}
 use Rattle.ioa_terms.specs.declared.name.Name.TheVariants.{Word}
 use Rattle.ioa_terms.specs.PlainTerm.{PlainTarget, variable, at_key, at_field, PlainStatement, assign, branch, loop, fire}
 use Rattle.ioa_terms.specs.PlainTerm.{PlainStatements, no_statements, statement, statements_of, no_arms, arm}
@@ -21,14 +22,14 @@ use Rattle.ioa_sorts.specs.StatementSites.{PlainStatementSite}
 
 -- a target with the slot and the declared shape of its variable
 abbrev pub SortedTarget : Type 0
-SortedTarget = PlainTarget ℕ Shape
+SortedTarget = PlainTarget ℕ Callee Shape
 
 -- such statements
 abbrev pub SortedStatement : Type 0
-SortedStatement = PlainStatement ℕ Shape
+SortedStatement = PlainStatement ℕ Callee Shape
 
 abbrev pub SortedStatements : Type 0
-SortedStatements = PlainStatements ℕ Shape
+SortedStatements = PlainStatements ℕ Callee Shape
 
 -- a target and the shape of what is assigned to it, as it is in a term
 pub record PlainTypedTarget : Type 0 where

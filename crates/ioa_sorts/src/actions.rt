@@ -14,7 +14,7 @@ use crate::displays::fit_each;
 use ioa_names::View;
 use ioa_sort_rules::Refusal;
 use ioa_system::{Rule, Scope};
-use ioa_terms::{Checked, Firing, Kind, Shape, Term};
+use ioa_terms::{Callee, Checked, Firing, Kind, Shape, Term};
 use std::alloc::Global;
 
 /// The entries of an automaton with their transitions (Lynch 8.1), each found by its name.
@@ -71,7 +71,7 @@ fn is_of_kind(written: Option<Kind>, kind: Kind) -> bool
 }
 
 /// The rule that a firing names, if there is one.
-fn rule_fired<'a>(actions: &'a Actions, firing: &Firing<(), ()>) -> Option<&'a Rule>
+fn rule_fired<'a>(actions: &'a Actions, firing: &Firing<(), (), ()>) -> Option<&'a Rule>
     ensures { option_copied result ≡ find (spec.fires (firing_of firing.now)) actions.now.rules.items }
 {
     let slot = actions.names.slot_of_word(&firing.action)?;
@@ -87,7 +87,7 @@ fn rule_fired<'a>(actions: &'a Actions, firing: &Firing<(), ()>) -> Option<&'a R
 #[tactic(auto, unfolding(crate::specs::Firings::entry_fired))]
 fn shapes_fired<'a>(
     actions: &'a Actions,
-    firing: &Firing<(), ()>,
+    firing: &Firing<(), (), ()>,
 ) -> Result<&'a Vec<Shape>, Refusal>
     ensures { Answers Refusal.Memory (λ ss. ss.now.items) result (spec.entry_fired
         (find (spec.fires (firing_of firing.now)) actions.now.rules.items)) }
@@ -117,8 +117,8 @@ pub(crate) fn sort_firing(
     alloc: Global,
     view: &View,
     actions: &Actions,
-    firing: &Firing<(), ()>,
-) -> Result<Firing<usize, Shape>, Refusal>
+    firing: &Firing<(), (), ()>,
+) -> Result<Firing<usize, Callee, Shape>, Refusal>
     ensures { Answers Refusal.Memory firing_of result
         (spec.firing_at view.now actions.now.rules.items (firing_of firing.now)) }
 {

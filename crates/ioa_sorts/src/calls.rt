@@ -17,7 +17,7 @@ use crate::parts::{three_parts, two_parts};
 use crate::sorting::{fit, infer_part};
 use ioa_names::View;
 use ioa_sort_rules::{Arity, Pairing, Refusal, Sides, Single, arity_of, entry_of};
-use ioa_terms::{Function, Name, Term, Word, inboxes_word, is_inbox};
+use ioa_terms::{Callee, Function, Name, Term, Word, inboxes_word, is_inbox};
 use ioa_typed::{Typed, call_of_pair, call_of_part, call_of_tree, call_of_update, part_known};
 use std::alloc::Global;
 
@@ -33,7 +33,10 @@ pub(crate) fn call(
         (spec.sortings view.now (terms_of (map term_of parts.now.items))) (function_named name.now)) }
 {
     match Function::named(name) {
-        Some(function) => call_of_arity(alloc, view, parts, name, arity_of(function)),
+        Some(function) => {
+            let callee = Callee::Function(function);
+            call_of_arity(alloc, view, parts, name, callee, arity_of(function))
+        }
         None => call_of_none(alloc, view, parts, name),
     }
 }
@@ -67,9 +70,9 @@ fn inbox(alloc: Global, view: &View, parts: &Vec<Term>, name: &Word) -> Result<B
     let inboxes = Name::Word(inboxes_word(alloc)?);
     match view.find(&inboxes) {
         None => Err(Refusal::Unknown),
-        Some((_, map)) => {
+        Some((slot, map)) => {
             let sides = entry_of(alloc, map)?;
-            inbox_of(alloc, view, parts, name, &sides)
+            inbox_of(alloc, view, parts, name, Callee::Inboxes(slot), &sides)
         }
     }
 }
@@ -81,14 +84,15 @@ fn inbox_of(
     view: &View,
     parts: &Vec<Term>,
     name: &Word,
+    callee: Callee,
     sides: &Sides,
 ) -> Result<Box<Typed>, Refusal>
-    ensures { Answers Refusal.Memory (λ t. typed_of t.value) result (spec.inbox_of name.now
+    ensures { Answers Refusal.Memory (λ t. typed_of t.value) result (spec.inbox_of name.now callee
         (spec.sortings view.now (terms_of (map term_of parts.now.items)))
         (rows.sides sides.now.other sides.now.whole)) }
 {
     if parts.len() == 1 {
-        inbox_of_one(alloc, view, &parts[0], name, sides)
+        inbox_of_one(alloc, view, &parts[0], name, callee, sides)
     } else {
         Err(Refusal::Sorts)
     }
@@ -101,14 +105,15 @@ fn inbox_of_one(
     view: &View,
     a: &Term,
     name: &Word,
+    callee: Callee,
     sides: &Sides,
 ) -> Result<Box<Typed>, Refusal>
     ensures { Answers Refusal.Memory (λ t. typed_of t.value) result
         (and_then (spec.fit (spec.sorting view.now (term_of a.now)) sides.now.other)
-        (λ t. Ok (typed (plain.call name.now (plain.term t plain.no_terms)) sides.now.whole))) }
+        (λ t. Ok (typed (plain.call name.now callee (plain.term t plain.no_terms)) sides.now.whole))) }
 {
     let part = fit(alloc, view, a, &sides.other)?;
-    Ok(call_of_tree(alloc, name, part, &sides.whole)?)
+    Ok(call_of_tree(alloc, name, callee, part, &sides.whole)?)
 }
 
 /// A call of a function that takes as many parts as its kind says.
@@ -119,15 +124,16 @@ fn call_of_arity(
     view: &View,
     parts: &Vec<Term>,
     name: &Word,
+    callee: Callee,
     arity: Arity,
 ) -> Result<Box<Typed>, Refusal>
-    ensures { Answers Refusal.Memory (λ t. typed_of t.value) result (spec.call_of_arity name.now
+    ensures { Answers Refusal.Memory (λ t. typed_of t.value) result (spec.call_of_arity name.now callee
         (spec.sortings view.now (terms_of (map term_of parts.now.items))) arity) }
 {
     match arity {
-        Arity::One(kind) => call_one(alloc, view, parts, name, kind),
-        Arity::Two(kind) => call_two(alloc, view, parts, name, kind),
-        Arity::Update => call_three(alloc, view, parts, name),
+        Arity::One(kind) => call_one(alloc, view, parts, name, callee, kind),
+        Arity::Two(kind) => call_two(alloc, view, parts, name, callee, kind),
+        Arity::Update => call_three(alloc, view, parts, name, callee),
     }
 }
 
@@ -138,13 +144,14 @@ fn call_one(
     view: &View,
     parts: &Vec<Term>,
     name: &Word,
+    callee: Callee,
     kind: Single,
 ) -> Result<Box<Typed>, Refusal>
-    ensures { Answers Refusal.Memory (λ t. typed_of t.value) result (spec.call_one name.now kind
+    ensures { Answers Refusal.Memory (λ t. typed_of t.value) result (spec.call_one name.now callee kind
         (spec.sortings view.now (terms_of (map term_of parts.now.items)))) }
 {
     if parts.len() == 1 {
-        call_of_one(alloc, view, &parts[0], name, kind)
+        call_of_one(alloc, view, &parts[0], name, callee, kind)
     } else {
         Err(Refusal::Sorts)
     }
@@ -157,15 +164,16 @@ fn call_of_one(
     view: &View,
     a: &Term,
     name: &Word,
+    callee: Callee,
     kind: Single,
 ) -> Result<Box<Typed>, Refusal>
     ensures { Answers Refusal.Memory (λ t. typed_of t.value) result
         (and_then (spec.one_part kind (spec.sorting view.now (term_of a.now)))
-        (λ t. Ok (typed (plain.call name.now (plain.term t.tree plain.no_terms)) t.shape))) }
+        (λ t. Ok (typed (plain.call name.now callee (plain.term t.tree plain.no_terms)) t.shape))) }
 {
     let part = infer_part(alloc, view, a)?;
     let part = part_known(alloc, kind, part)?;
-    Ok(call_of_part(alloc, name, part)?)
+    Ok(call_of_part(alloc, name, callee, part)?)
 }
 
 /// A call of a function of two parts.
@@ -175,13 +183,14 @@ fn call_two(
     view: &View,
     parts: &Vec<Term>,
     name: &Word,
+    callee: Callee,
     kind: Pairing,
 ) -> Result<Box<Typed>, Refusal>
-    ensures { Answers Refusal.Memory (λ t. typed_of t.value) result (spec.call_two name.now kind
+    ensures { Answers Refusal.Memory (λ t. typed_of t.value) result (spec.call_two name.now callee kind
         (spec.sortings view.now (terms_of (map term_of parts.now.items)))) }
 {
     if parts.len() == 2 {
-        call_of_two(alloc, view, &parts[0], &parts[1], name, kind)
+        call_of_two(alloc, view, &parts[0], &parts[1], name, callee, kind)
     } else {
         Err(Refusal::Sorts)
     }
@@ -195,14 +204,15 @@ fn call_of_two(
     a: &Term,
     b: &Term,
     name: &Word,
+    callee: Callee,
     kind: Pairing,
 ) -> Result<Box<Typed>, Refusal>
     ensures { Answers Refusal.Memory (λ t. typed_of t.value) result
         (and_then (spec.two_parts kind (spec.sorting view.now (term_of a.now)) (spec.sorting view.now (term_of b.now)))
-        (λ p. Ok (typed (plain.call name.now (plain.term p.left (plain.term p.right plain.no_terms))) p.whole))) }
+        (λ p. Ok (typed (plain.call name.now callee (plain.term p.left (plain.term p.right plain.no_terms))) p.whole))) }
 {
     let pair = two_parts(alloc, view, a, b, kind)?;
-    Ok(call_of_pair(alloc, name, pair)?)
+    Ok(call_of_pair(alloc, name, callee, pair)?)
 }
 
 /// A call of `update`.
@@ -212,12 +222,13 @@ fn call_three(
     view: &View,
     parts: &Vec<Term>,
     name: &Word,
+    callee: Callee,
 ) -> Result<Box<Typed>, Refusal>
-    ensures { Answers Refusal.Memory (λ t. typed_of t.value) result (spec.call_three name.now
+    ensures { Answers Refusal.Memory (λ t. typed_of t.value) result (spec.call_three name.now callee
         (spec.sortings view.now (terms_of (map term_of parts.now.items)))) }
 {
     if parts.len() == 3 {
-        call_of_three(alloc, view, &parts[0], &parts[1], &parts[2], name)
+        call_of_three(alloc, view, &parts[0], &parts[1], &parts[2], name, callee)
     } else {
         Err(Refusal::Sorts)
     }
@@ -232,13 +243,14 @@ fn call_of_three(
     b: &Term,
     d: &Term,
     name: &Word,
+    callee: Callee,
 ) -> Result<Box<Typed>, Refusal>
     ensures { Answers Refusal.Memory (λ t. typed_of t.value) result
         (and_then (spec.three_parts (spec.sorting view.now (term_of a.now)) (spec.sorting view.now (term_of b.now))
         (spec.sorting view.now (term_of d.now)))
-        (λ u. Ok (typed (plain.call name.now
+        (λ u. Ok (typed (plain.call name.now callee
         (plain.term u.map (plain.term u.key (plain.term u.value plain.no_terms)))) u.whole))) }
 {
     let update = three_parts(alloc, view, a, b, d)?;
-    Ok(call_of_update(alloc, name, update)?)
+    Ok(call_of_update(alloc, name, callee, update)?)
 }

@@ -98,7 +98,7 @@ fn own_of(alloc: Global, view: &View, term: &Term) -> Result<Box<Typed>, Refusal
             let parts = two_parts(alloc, view, a, b, pairing_of(*operator))?;
             Ok(two_term(alloc, *operator, parts)?)
         }
-        Term::Call(name, parts) => call(alloc, view, parts, name),
+        Term::Call(name, _, parts) => call(alloc, view, parts, name),
         Term::Display(_, _, _) => Err(Refusal::EmptyOfWhat),
         Term::Field(a, name, _) => {
             let whole = infer_part(alloc, view, a)?;

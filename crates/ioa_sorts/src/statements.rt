@@ -18,13 +18,13 @@ use crate::site::StatementSite;
 use crate::sorting::fit;
 use ioa_names::View;
 use ioa_sort_rules::{Refusal, Sides, entry_of, shape_in_terms, value_of_field};
-use ioa_terms::{Arm, Checked, Firing, Shape, ShapeForm, Statement, Target, Term, Word};
+use ioa_terms::{Arm, Callee, Checked, Firing, Shape, ShapeForm, Statement, Target, Term, Word};
 use std::alloc::{AllocError, Global};
 
 /// A target with the slot and the declared shape of its variable, and the shape of what is assigned to it.
 #[derive(Drop)]
 pub(crate) struct TypedTarget {
-    pub target: Target<usize, Shape>,
+    pub target: Target<usize, Callee, Shape>,
     pub shape: Shape,
 }
 
@@ -37,8 +37,8 @@ pub(crate) struct TypedTarget {
 pub fn sort_statements(
     alloc: Global,
     site: &StatementSite,
-    statements: &Vec<Statement<(), ()>>,
-) -> Result<Vec<Statement<usize, Shape>>, Refusal>
+    statements: &Vec<Statement<(), (), ()>>,
+) -> Result<Vec<Statement<usize, Callee, Shape>>, Refusal>
     ensures { Answers Refusal.Memory (λ ss. map statement_of ss.items) result
         (spec.all_ok (spec.statement_sortings (site_of site.now)
         (statements_of (map statement_of statements.now.items)))) }
@@ -56,8 +56,8 @@ pub fn sort_statements(
 fn sort_statement(
     alloc: Global,
     site: &StatementSite,
-    statement: &Statement<(), ()>,
-) -> Result<Statement<usize, Shape>, Refusal>
+    statement: &Statement<(), (), ()>,
+) -> Result<Statement<usize, Callee, Shape>, Refusal>
     ensures { Answers Refusal.Memory statement_of result
         (spec.statement_sorting (site_of site.now) (statement_of statement.now)) }
 {
@@ -82,8 +82,8 @@ fn sort_statement(
 fn sort_arms(
     alloc: Global,
     site: &StatementSite,
-    arms: &Vec<Arm<(), ()>>,
-) -> Result<Vec<Arm<usize, Shape>>, Refusal>
+    arms: &Vec<Arm<(), (), ()>>,
+) -> Result<Vec<Arm<usize, Callee, Shape>>, Refusal>
     ensures { Answers Refusal.Memory (λ ts. map arm_of ts.items) result
         (spec.all_ok (spec.arm_sortings (site_of site.now) (arms_of (map arm_of arms.now.items)))) }
 {
@@ -100,8 +100,8 @@ fn sort_arms(
 fn sort_arm(
     alloc: Global,
     site: &StatementSite,
-    arm: &Arm<(), ()>,
-) -> Result<Arm<usize, Shape>, Refusal>
+    arm: &Arm<(), (), ()>,
+) -> Result<Arm<usize, Callee, Shape>, Refusal>
     ensures { Answers Refusal.Memory arm_of result
         (spec.arm_sorting (site_of site.now) (arm_of arm.now)) }
 {
@@ -139,8 +139,8 @@ fn sort_loop_test(alloc: Global, site: &StatementSite, test: &Term) -> Result<Ch
 fn sort_fire(
     alloc: Global,
     site: &StatementSite,
-    firing: &Firing<(), ()>,
-) -> Result<Statement<usize, Shape>, Refusal>
+    firing: &Firing<(), (), ()>,
+) -> Result<Statement<usize, Callee, Shape>, Refusal>
     ensures { Answers Refusal.Memory statement_of result
         (spec.statement_sorting (site_of site.now) (plain.fire (firing_of firing.now))) }
 {
@@ -149,7 +149,10 @@ fn sort_fire(
 }
 
 /// A `while` of a test and its body.
-fn repetition(test: Box<Checked>, body: Vec<Statement<usize, Shape>>) -> Statement<usize, Shape>
+fn repetition(
+    test: Box<Checked>,
+    body: Vec<Statement<usize, Callee, Shape>>,
+) -> Statement<usize, Callee, Shape>
     ensures { statement_of result ≡ plain.loop (term_of test.value) (statements_of (map statement_of body.items)) }
 {
     Statement::While(Box::into_inner(test), body)
@@ -157,9 +160,9 @@ fn repetition(test: Box<Checked>, body: Vec<Statement<usize, Shape>>) -> Stateme
 
 /// An `if` of arms and the rest.
 fn choice(
-    arms: Vec<Arm<usize, Shape>>,
-    rest: Vec<Statement<usize, Shape>>,
-) -> Statement<usize, Shape>
+    arms: Vec<Arm<usize, Callee, Shape>>,
+    rest: Vec<Statement<usize, Callee, Shape>>,
+) -> Statement<usize, Callee, Shape>
     ensures { statement_of result
         ≡ plain.branch (arms_of (map arm_of arms.items)) (statements_of (map statement_of rest.items)) }
 {
@@ -170,9 +173,9 @@ fn choice(
 fn sort_assignment(
     alloc: Global,
     site: &StatementSite,
-    target: &Target<(), ()>,
+    target: &Target<(), (), ()>,
     term: &Term,
-) -> Result<Statement<usize, Shape>, Refusal>
+) -> Result<Statement<usize, Callee, Shape>, Refusal>
     ensures { Answers Refusal.Memory statement_of result (spec.assignment_sorting (site_of site.now)
         (target_of target.now) (term_of term.now)) }
 {
@@ -185,7 +188,7 @@ fn sort_assignment(
 fn sort_target(
     alloc: Global,
     site: &StatementSite,
-    target: &Target<(), ()>,
+    target: &Target<(), (), ()>,
 ) -> Result<TypedTarget, Refusal>
     ensures { Answers Refusal.Memory typed_target_of result
         (spec.target_sorting (site_of site.now) (target_of target.now)) }

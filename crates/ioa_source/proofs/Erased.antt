@@ -22,7 +22,7 @@ mutual
   term_erased (name w x) = refl
   term_erased (one op a) = ap (one op) (term_erased a)
   term_erased (two op a b) = λ i. two op (term_erased a i) (term_erased b i)
-  term_erased (call w ts) = ap (call w) (terms_erased ts)
+  term_erased (call w c ts) = ap (call w tt) (terms_erased ts)
   term_erased (display form d ts) = ap (display form tt) (terms_erased ts)
   term_erased (field a w d) = λ i. field (term_erased a i) w tt
 

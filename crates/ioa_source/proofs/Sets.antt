@@ -17,7 +17,7 @@ use Rattle.ioa_terms.specs.declared.tree.Kind.{Kind}
 use Rattle.ioa_terms.specs.contracts.tree.Kind as kind
 use Rattle.ioa_terms.specs.PlainTerm.{PlainTerm-set, PlainTarget-set, PlainStatement-set, PlainFiring-set}
 use Rattle.ioa_source.specs.contracts.declaration.Channel as channel
-use Rattle.ioa_source.specs.PlainSort.{PlainSort-set}
+use Rattle.ioa_terms.specs.PlainSort.{PlainSort-set}
 use Rattle.ioa_source.specs.PlainText.{PlainDeclared-set, PlainParameter-set, PlainEntry-set, PlainVariable-set, PlainTransition-set, PlainSchedule-set, PlainAutomaton-set, PlainForm-set, PlainType-set, PlainDeclaration-set, PlainNode-set, PlainCall-set, PlainScript-set, PlainPlacement-set, PlainText-set}
 use Rattle.ioa_source.specs.Sides.{SourceTerm, SourceTarget, SourceStatement, SourceFiring, SourceDeclared, SourceEntry, SourceVariable, SourceTransition, SourceSchedule, SourceAutomaton, SourceDeclaration, SourcePlacement, SourceText}
 
@@ -51,7 +51,7 @@ kind_set : IsSet Kind
 kind_set = Coded-set kind.the_row.coded
 
 term_set : IsSet SourceTerm
-term_set = PlainTerm-set ℤ_set Bool-set name_set unit_set (Coded-set unary.the_row.coded) (Coded-set binary.the_row.coded) word_set (Coded-set form.the_row.coded) unit_set
+term_set = PlainTerm-set ℤ_set Bool-set name_set unit_set (Coded-set unary.the_row.coded) (Coded-set binary.the_row.coded) word_set unit_set (Coded-set form.the_row.coded) unit_set
 
 target_set : IsSet SourceTarget
 target_set = PlainTarget-set word_set unit_set unit_set term_set

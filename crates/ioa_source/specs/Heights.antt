@@ -23,7 +23,7 @@ abbrev mutual
   height (name w at) = 1
   height (one op a) = suc (height a)
   height (two op a b) = suc (max (height a) (height b))
-  height (call w ts) = suc (heights ts)
+  height (call w c ts) = suc (heights ts)
   height (display form shape ts) = suc (heights ts)
   height (field a w shape) = suc (height a)
 

@@ -1,6 +1,4 @@
 -- the definitions that the contracts of this crate and of the crates above it cite
-pub mod PlainSort
-pub mod SortView
 pub mod PlainText
 pub mod TextCode
 pub mod SameTexts

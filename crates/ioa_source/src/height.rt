@@ -20,15 +20,15 @@ impl HasHeight for Term {
     ghost height = { λ t. heights.height (term_of t) };
 }
 
-impl HasHeight for Target<(), ()> {
+impl HasHeight for Target<(), (), ()> {
     ghost height = { λ t. heights.target_height (target_of t) };
 }
 
-impl HasHeight for Statement<(), ()> {
+impl HasHeight for Statement<(), (), ()> {
     ghost height = { λ s. heights.statement_height (statement_of s) };
 }
 
-impl HasHeight for Arm<(), ()> {
+impl HasHeight for Arm<(), (), ()> {
     ghost height = { λ a. heights.arm_height (arm_of a) };
 }
 

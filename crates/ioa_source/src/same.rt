@@ -5,17 +5,15 @@ ghost use Rattle.std.specs.Option.{option_eq, option_map};
 ghost use lib.Pointwise.{pointwise};
 ghost use Rattle.ioa_terms.specs.SameTerms.{same_term};
 ghost use Rattle.ioa_terms.specs.View.{term_of};
-ghost use Rattle.ioa_source.specs.SameTexts.{same_sort, same_declared, same_parameter};
+ghost use Rattle.ioa_source.specs.SameTexts.{same_declared, same_parameter};
 ghost use Rattle.ioa_source.specs.SameTexts.{same_entry, same_variable, same_transition, same_schedule};
-ghost use Rattle.ioa_source.specs.SortView.{sort_of};
 ghost use Rattle.ioa_source.specs.TextView.{declared_of, parameter_of, entry_of, variable_of, transition_of};
 ghost use Rattle.ioa_source.specs.TextView.{schedule_of};
 
 use crate::declaration::{Declared, Entry, Parameter, Schedule, Transition, Variable};
-use crate::sort::Sort;
-use ioa_terms::{Shape, Tree, are_same_statements, are_same_terms, is_same_term};
+use ioa_terms::{Callee, Shape, Tree, are_same_statements, are_same_terms, is_same_term};
 
-impl Entry<usize, Shape> {
+impl Entry<usize, Callee, Shape> {
     /// Whether two entries are the same. Costs time in proportion to the shorter one.
     pub fn equals(&self, other: &Self) -> bool
         ensures equality { IsTrue result ↔ (entry_of self.now ≡ entry_of other.now) }
@@ -24,7 +22,7 @@ impl Entry<usize, Shape> {
     }
 }
 
-impl Variable<usize, Shape> {
+impl Variable<usize, Callee, Shape> {
     /// Whether two state variables are the same. Costs time in proportion to the shorter one.
     pub fn equals(&self, other: &Self) -> bool
         ensures equality { IsTrue result ↔ (variable_of self.now ≡ variable_of other.now) }
@@ -33,7 +31,7 @@ impl Variable<usize, Shape> {
     }
 }
 
-impl Transition<usize, Shape> {
+impl Transition<usize, Callee, Shape> {
     /// Whether two transitions are the same. Costs time in proportion to the shorter one.
     pub fn equals(&self, other: &Self) -> bool
         ensures equality { IsTrue result ↔ (transition_of self.now ≡ transition_of other.now) }
@@ -42,51 +40,20 @@ impl Transition<usize, Shape> {
     }
 }
 
-/// Whether two sorts are the same.
-fn is_same_sort(sort: &Sort, other: &Sort) -> bool
-    ensures { result ≡ same_sort (sort_of sort.now) (sort_of other.now) }
-{
-    match sort {
-        Sort::Bool => matches!(other, Sort::Bool),
-        Sort::Int => matches!(other, Sort::Int),
-        Sort::Nat => matches!(other, Sort::Nat),
-        Sort::Seq(items) => match other {
-            Sort::Seq(others) => is_same_sort(items, others),
-            Sort::Bool | Sort::Int | Sort::Nat | Sort::Set(_) => false,
-            Sort::Map(_, _) | Sort::Named(_) => false,
-        },
-        Sort::Set(members) => match other {
-            Sort::Set(others) => is_same_sort(members, others),
-            Sort::Bool | Sort::Int | Sort::Nat | Sort::Seq(_) => false,
-            Sort::Map(_, _) | Sort::Named(_) => false,
-        },
-        Sort::Map(keys, values) => match other {
-            Sort::Map(k, v) => is_same_sort(keys, k) && is_same_sort(values, v),
-            Sort::Bool | Sort::Int | Sort::Nat | Sort::Seq(_) => false,
-            Sort::Set(_) | Sort::Named(_) => false,
-        },
-        Sort::Named(name) => match other {
-            Sort::Named(word) => name == word,
-            Sort::Bool | Sort::Int | Sort::Nat | Sort::Seq(_) => false,
-            Sort::Set(_) | Sort::Map(_, _) => false,
-        },
-    }
-}
-
 /// Whether two declared names are the same, by the test of their annotations.
 pub fn is_same_declared<D: PartialEq>(declared: &Declared<D>, other: &Declared<D>) -> bool
     ensures { result ≡ same_declared D.eq (declared_of declared.now) (declared_of other.now) }
 {
     declared.name == other.name
-        && (is_same_sort(&declared.sort, &other.sort) && declared.shape == other.shape)
+        && (declared.sort.is_same(&other.sort) && declared.shape == other.shape)
 }
 
 /// Whether two parameters are the same.
-fn is_same_parameter<N: PartialEq, D: PartialEq>(
-    parameter: &Parameter<N, D>,
-    other: &Parameter<N, D>,
+fn is_same_parameter<N: PartialEq, C: PartialEq, D: PartialEq>(
+    parameter: &Parameter<N, C, D>,
+    other: &Parameter<N, C, D>,
 ) -> bool
-    ensures { result ≡ same_parameter N.eq D.eq (parameter_of parameter.now) (parameter_of other.now) }
+    ensures { result ≡ same_parameter N.eq C.eq D.eq (parameter_of parameter.now) (parameter_of other.now) }
 {
     match (parameter, other) {
         (Parameter::Const(t), Parameter::Const(u)) => is_same_term(t, u),
@@ -96,11 +63,11 @@ fn is_same_parameter<N: PartialEq, D: PartialEq>(
 }
 
 /// Whether parameters are the same, one by one, and as many.
-fn are_same_parameters<N: PartialEq, D: PartialEq>(
-    parameters: &Vec<Parameter<N, D>>,
-    others: &Vec<Parameter<N, D>>,
+fn are_same_parameters<N: PartialEq, C: PartialEq, D: PartialEq>(
+    parameters: &Vec<Parameter<N, C, D>>,
+    others: &Vec<Parameter<N, C, D>>,
 ) -> bool
-    ensures { result ≡ pointwise (same_parameter N.eq D.eq) (map parameter_of parameters.now.items)
+    ensures { result ≡ pointwise (same_parameter N.eq C.eq D.eq) (map parameter_of parameters.now.items)
         (map parameter_of others.now.items) }
 {
     for position in 0..parameters.len().min(others.len()) {
@@ -112,11 +79,11 @@ fn are_same_parameters<N: PartialEq, D: PartialEq>(
 }
 
 /// Whether two terms, if they are written, are the same.
-fn is_same_guard<N: PartialEq, D: PartialEq>(
-    guard: &Option<Tree<N, D>>,
-    other: &Option<Tree<N, D>>,
+fn is_same_guard<N: PartialEq, C: PartialEq, D: PartialEq>(
+    guard: &Option<Tree<N, C, D>>,
+    other: &Option<Tree<N, C, D>>,
 ) -> bool
-    ensures { result ≡ option_eq (same_term N.eq D.eq) (option_map term_of guard.now)
+    ensures { result ≡ option_eq (same_term N.eq C.eq D.eq) (option_map term_of guard.now)
         (option_map term_of other.now) }
 {
     match (guard, other) {
@@ -127,8 +94,11 @@ fn is_same_guard<N: PartialEq, D: PartialEq>(
 }
 
 /// Whether two entries are the same, by the tests of their annotations.
-pub fn is_same_entry<N: PartialEq, D: PartialEq>(entry: &Entry<N, D>, other: &Entry<N, D>) -> bool
-    ensures { result ≡ same_entry N.eq D.eq (entry_of entry.now) (entry_of other.now) }
+pub fn is_same_entry<N: PartialEq, C: PartialEq, D: PartialEq>(
+    entry: &Entry<N, C, D>,
+    other: &Entry<N, C, D>,
+) -> bool
+    ensures { result ≡ same_entry N.eq C.eq D.eq (entry_of entry.now) (entry_of other.now) }
 {
     entry.kind == other.kind
         && (entry.name == other.name
@@ -137,22 +107,22 @@ pub fn is_same_entry<N: PartialEq, D: PartialEq>(entry: &Entry<N, D>, other: &En
 }
 
 /// Whether two state variables are the same, by the tests of their annotations.
-pub fn is_same_variable<N: PartialEq, D: PartialEq>(
-    variable: &Variable<N, D>,
-    other: &Variable<N, D>,
+pub fn is_same_variable<N: PartialEq, C: PartialEq, D: PartialEq>(
+    variable: &Variable<N, C, D>,
+    other: &Variable<N, C, D>,
 ) -> bool
-    ensures { result ≡ same_variable N.eq D.eq (variable_of variable.now) (variable_of other.now) }
+    ensures { result ≡ same_variable N.eq C.eq D.eq (variable_of variable.now) (variable_of other.now) }
 {
     is_same_declared(&variable.declared, &other.declared)
         && is_same_guard(&variable.initial, &other.initial)
 }
 
 /// Whether two transitions are the same, by the tests of their annotations.
-pub fn is_same_transition<N: PartialEq, D: PartialEq>(
-    transition: &Transition<N, D>,
-    other: &Transition<N, D>,
+pub fn is_same_transition<N: PartialEq, C: PartialEq, D: PartialEq>(
+    transition: &Transition<N, C, D>,
+    other: &Transition<N, C, D>,
 ) -> bool
-    ensures { result ≡ same_transition N.eq D.eq (transition_of transition.now) (transition_of other.now) }
+    ensures { result ≡ same_transition N.eq C.eq D.eq (transition_of transition.now) (transition_of other.now) }
 {
     transition.kind == other.kind
         && (transition.name == other.name
@@ -162,11 +132,11 @@ pub fn is_same_transition<N: PartialEq, D: PartialEq>(
 }
 
 /// Whether variables are the same, one by one, and as many.
-pub fn are_same_variables<N: PartialEq, D: PartialEq>(
-    variables: &Vec<Variable<N, D>>,
-    others: &Vec<Variable<N, D>>,
+pub fn are_same_variables<N: PartialEq, C: PartialEq, D: PartialEq>(
+    variables: &Vec<Variable<N, C, D>>,
+    others: &Vec<Variable<N, C, D>>,
 ) -> bool
-    ensures { result ≡ pointwise (same_variable N.eq D.eq) (map variable_of variables.now.items)
+    ensures { result ≡ pointwise (same_variable N.eq C.eq D.eq) (map variable_of variables.now.items)
         (map variable_of others.now.items) }
 {
     for position in 0..variables.len().min(others.len()) {
@@ -178,11 +148,11 @@ pub fn are_same_variables<N: PartialEq, D: PartialEq>(
 }
 
 /// Whether two schedule blocks are the same, by the tests of their annotations.
-pub fn is_same_schedule<N: PartialEq, D: PartialEq>(
-    schedule: &Schedule<N, D>,
-    other: &Schedule<N, D>,
+pub fn is_same_schedule<N: PartialEq, C: PartialEq, D: PartialEq>(
+    schedule: &Schedule<N, C, D>,
+    other: &Schedule<N, C, D>,
 ) -> bool
-    ensures { result ≡ same_schedule N.eq D.eq (schedule_of schedule.now) (schedule_of other.now) }
+    ensures { result ≡ same_schedule N.eq C.eq D.eq (schedule_of schedule.now) (schedule_of other.now) }
 {
     are_same_variables(&schedule.variables, &other.variables)
         && are_same_statements(&schedule.statements, &other.statements)

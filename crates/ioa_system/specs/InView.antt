@@ -33,16 +33,16 @@ abbrev pub parameter_names : {D : Type 0} → List (PlainDeclared D) → List (L
 parameter_names ds = map (λ d. d.name) ds
 
 -- the names of state variables
-abbrev pub variable_names : {N D : Type 0} → List (PlainVariable N D) → List (List ℕ)
+abbrev pub variable_names : {N C D : Type 0} → List (PlainVariable N C D) → List (List ℕ)
 variable_names vs = map (λ v. v.declared.name) vs
 
 -- the name of a parameter of an entry that has one
-abbrev pub own_name : {N D : Type 0} → PlainParameter N D → List (List ℕ)
+abbrev pub own_name : {N C D : Type 0} → PlainParameter N C D → List (List ℕ)
 own_name (const t) = []
 own_name (named d) = d.name ∷ []
 
 -- the names of an entry's own parameters
-abbrev pub own_names : {N D : Type 0} → List (PlainParameter N D) → List (List ℕ)
+abbrev pub own_names : {N C D : Type 0} → List (PlainParameter N C D) → List (List ℕ)
 own_names [] = []
 own_names (p ∷ more) = own_name p ++ own_names more
 
@@ -53,7 +53,7 @@ pub record DeclaredNames : Type 0 where
   pub variables : List (List ℕ)
 
 -- those of an automaton of a text with these constants
-abbrev pub source_names : {N D : Type 0} → List (List ℕ) → PlainAutomaton N D → DeclaredNames
+abbrev pub source_names : {N C D : Type 0} → List (List ℕ) → PlainAutomaton N C D → DeclaredNames
 source_names cs a = record {
   constants = cs;
   parameters = parameter_names a.parameters;

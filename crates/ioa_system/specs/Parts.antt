@@ -8,6 +8,7 @@ use Rattle.ioa_operators.specs.ShapeCode.{shape_code}
 use Rattle.ioa_operators.specs.Shapes.{PlainShape}
 use Rattle.ioa_actions.specs.ActionParts.{receive_name}
 use Rattle.ioa_terms.specs.Bindings.{same_word}
+use Rattle.ioa_terms.specs.contracts.callee.Callee as callee
 use Rattle.ioa_source.specs.Sides.{CheckedDeclared, CheckedEntry, CheckedSchedule, CheckedTransition, CheckedVariable}
 use Rattle.ioa_source.specs.TextCode.{declared_code, entry_code, schedule_code, transition_code, variable_code}
 
@@ -23,9 +24,9 @@ pub record PlainRule : Type 0 where
 abbrev pub rule_code : Coded PlainRule
 rule_code =
     code_by (CheckedEntry × (List PlainShape × (CheckedTransition × List (List ℕ))))
-    (coded× (entry_code coded_ℕ shape_code)
+    (coded× (entry_code coded_ℕ callee.the_row.coded shape_code)
     (coded× (coded_list shape_code)
-    (coded× (transition_code coded_ℕ shape_code) (coded_list (coded_list coded_ℕ)))))
+    (coded× (transition_code coded_ℕ callee.the_row.coded shape_code) (coded_list (coded_list coded_ℕ)))))
     (λ r. (r.entry, (r.shapes, (r.transition, r.own))))
     (λ t. record { entry = t.0; shapes = t.1.0; transition = t.1.1.0; own = t.1.1.1 })
     (λ _. refl)
@@ -64,8 +65,8 @@ automaton_code =
     (coded× (coded_list coded_ℕ)
     (coded× (coded_list (coded_list coded_ℕ))
     (coded× (coded_list (declared_code shape_code))
-    (coded× (coded_list (variable_code coded_ℕ shape_code))
-    (coded× (coded_list rule_code) (schedule_code coded_ℕ shape_code))))))
+    (coded× (coded_list (variable_code coded_ℕ callee.the_row.coded shape_code))
+    (coded× (coded_list rule_code) (schedule_code coded_ℕ callee.the_row.coded shape_code))))))
     (λ a. (a.name, (a.constants, (a.parameters, (a.variables, (a.rules, a.schedule))))))
     (λ t. automaton_parts t.0 t.1.0 t.1.1.0 t.1.1.1.0 t.1.1.1.1.0 t.1.1.1.1.1)
     (λ _. refl)

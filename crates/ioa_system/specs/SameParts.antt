@@ -11,6 +11,7 @@ use Rattle.ioa_values.specs.DataOrder.{same}
 use Rattle.ioa_values.proofs.Equality.{same_is}
 use Rattle.ioa_operators.specs.SameShapes.{same_shape}
 use Rattle.ioa_operators.specs.ShapeEquality.{same_shape_is}
+use Rattle.ioa_terms.specs.SameNames.{same_callee, same_callee_is}
 use Rattle.ioa_source.specs.Sides.{CheckedDeclared, CheckedVariable}
 use Rattle.ioa_source.specs.SameTexts.{same_declared, same_entry, same_schedule, same_variable, same_transition}
 use Rattle.ioa_source.proofs.SameTexts.{same_declared_is, same_entry_is, same_schedule_is, same_variable_is}
@@ -21,14 +22,14 @@ use Rattle.ioa_system.specs.Parts.{AutomatonParts, Parts, PlainRule}
 -- are
 abbrev pub same_rule : PlainRule → PlainRule → Bool
 same_rule a b =
-    same_entry nat_eq same_shape a.entry b.entry
+    same_entry nat_eq same_callee same_shape a.entry b.entry
     && (pointwise same_shape a.shapes b.shapes
-    && (same_transition nat_eq same_shape a.transition b.transition
+    && (same_transition nat_eq same_callee same_shape a.transition b.transition
     && pointwise (pointwise nat_eq) a.own b.own))
 
 -- whether two lists have the same state variables
 abbrev pub same_variables : List CheckedVariable → List CheckedVariable → Bool
-same_variables vs ws = pointwise (same_variable nat_eq same_shape) vs ws
+same_variables vs ws = pointwise (same_variable nat_eq same_callee same_shape) vs ws
 
 -- whether two lists have the same declared names
 abbrev pub same_parameters : List CheckedDeclared → List CheckedDeclared → Bool
@@ -42,7 +43,7 @@ same_automaton a b =
     && (same_parameters a.parameters b.parameters
     && (same_variables a.variables b.variables
     && (pointwise same_rule a.rules b.rules
-    && same_schedule nat_eq same_shape a.schedule b.schedule))))
+    && same_schedule nat_eq same_callee same_shape a.schedule b.schedule))))
 
 -- two programs are the same if their parts are
 abbrev pub same_program : Parts → Parts → Bool
@@ -64,9 +65,9 @@ same_rule_is a b =
         (ap (λ (r : PlainRule). r.transition) e, ap (λ (r : PlainRule). r.own) e),
       ),
     ))
-    (Decides-and _ _ (same_entry_is Decides-eqb same_shape_is a.entry b.entry)
+    (Decides-and _ _ (same_entry_is Decides-eqb same_callee_is same_shape_is a.entry b.entry)
     (Decides-and _ _ (slice_eq-Decides same_shape_is a.shapes b.shapes _ refl)
-    (Decides-and _ _ (same_transition_is Decides-eqb same_shape_is a.transition b.transition)
+    (Decides-and _ _ (same_transition_is Decides-eqb same_callee_is same_shape_is a.transition b.transition)
     (slice_eq-Decides bytes_eq-Decides a.own b.own _ refl))))
 
 pub same_rule_partial : IsPartialEquivalence same_rule
@@ -101,9 +102,9 @@ same_automaton_is a b =
     (Decides-and _ _ (slice_eq-Decides bytes_eq-Decides a.constants b.constants _ refl)
     (Decides-and _ _ (slice_eq-Decides (same_declared_is same_shape_is) a.parameters b.parameters _ refl)
     (Decides-and _ _
-    (slice_eq-Decides (same_variable_is Decides-eqb same_shape_is) a.variables b.variables _ refl)
+    (slice_eq-Decides (same_variable_is Decides-eqb same_callee_is same_shape_is) a.variables b.variables _ refl)
     (Decides-and _ _ (slice_eq-Decides same_rule_is a.rules b.rules _ refl)
-    (same_schedule_is Decides-eqb same_shape_is a.schedule b.schedule))))))
+    (same_schedule_is Decides-eqb same_callee_is same_shape_is a.schedule b.schedule))))))
 
 -- and two programs
 pub same_program_is : (a b : Parts) → Decides (same_program a b) (a ≡ b)

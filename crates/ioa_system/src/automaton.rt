@@ -19,7 +19,7 @@ use ioa_source::{
     Declared, Entry, Schedule, Transition, Variable, are_same_variables, is_same_declared,
     is_same_entry, is_same_schedule, is_same_transition,
 };
-use ioa_terms::{Env, NameLists, Names, Shape, Value, Word};
+use ioa_terms::{Callee, Env, NameLists, Names, Shape, Value, Word};
 use std::marker::Model;
 use std::sync::Arc;
 
@@ -28,11 +28,11 @@ use std::sync::Arc;
 #[derive(Drop)]
 pub struct Rule {
     /// The entry.
-    pub entry: Entry<usize, Shape>,
+    pub entry: Entry<usize, Callee, Shape>,
     /// The shapes of the arguments of its actions: a parameter's is that of its sort, a constant's that of its term.
     pub shapes: Vec<Shape>,
     /// Its transition.
-    pub transition: Transition<usize, Shape>,
+    pub transition: Transition<usize, Callee, Shape>,
     /// The names of the entry's own parameters, behind those that the automaton declares.
     pub own: Vec<Word>,
 }
@@ -95,11 +95,11 @@ pub struct CompiledAutomaton {
     name: Word,
     constants: Arc<Names>,
     parameters: Vec<Declared<Shape>>,
-    variables: Vec<Variable<usize, Shape>>,
+    variables: Vec<Variable<usize, Callee, Shape>>,
     /// The names of the state variables, and then those of the parameters.
     scope: Scope,
     rules: Vec<Rule>,
-    schedule: Schedule<usize, Shape>,
+    schedule: Schedule<usize, Callee, Shape>,
     /// The names of the schedule block's own variables, and then that of the inboxes, if the automaton takes messages.
     own: Vec<Word>,
 }
@@ -134,10 +134,10 @@ impl CompiledAutomaton {
         name: Word,
         constants: Arc<Names>,
         parameters: Vec<Declared<Shape>>,
-        variables: Vec<Variable<usize, Shape>>,
+        variables: Vec<Variable<usize, Callee, Shape>>,
         scope: Scope,
         rules: Vec<Rule>,
-        schedule: Schedule<usize, Shape>,
+        schedule: Schedule<usize, Callee, Shape>,
         own: Vec<Word>,
     ) -> Self
         requires { IsCompiled scope own.items (automaton_parts name (arc_value constants)
@@ -179,7 +179,7 @@ impl CompiledAutomaton {
     }
 
     /// The state variables, in the order of their declaration.
-    pub fn variables(&self) -> &[Variable<usize, Shape>]
+    pub fn variables(&self) -> &[Variable<usize, Callee, Shape>]
         ensures value { map variable_of result.now ≡ self.now.variables }
         ensures resolved { AreResolvedVariables (names_at initial_value (declared_names self.now) [])
             (map variable_of result.now) }
@@ -209,7 +209,7 @@ impl CompiledAutomaton {
     }
 
     /// The schedule block.
-    pub fn schedule(&self) -> &Schedule<usize, Shape>
+    pub fn schedule(&self) -> &Schedule<usize, Callee, Shape>
         ensures value { schedule_of result.now ≡ self.now.schedule }
         ensures resolved { IsResolvedSchedule (declared_names self.now) (block_own_names self.now)
             (schedule_of result.now) }

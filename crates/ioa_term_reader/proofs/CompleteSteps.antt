@@ -158,7 +158,7 @@ module _ (next : ℕ → ℕ → List Token → Option (SourceTerm × List Token
   operand_word room least w xs e = rw e refl
 
   pub operand_call : (room least : ℕ) (w : List ℕ) (ts : List SourceTerm) (t : SourceTerm) (xs ys : List Token) →
-      terms_in next room xs ≡ read_next ts (token.Mark mark.CloseRound ∷ ys) → limited_term (plain.call w (terms_of ts)) ≡ Some t →
+      terms_in next room xs ≡ read_next ts (token.Mark mark.CloseRound ∷ ys) → limited_term (plain.call w tt (terms_of ts)) ≡ Some t →
       operand next (suc room) least (token.Word w ∷ token.Mark mark.OpenRound ∷ xs) ≡ term_at_level atom_level t ys
   unfolding operand at_number at_word word word_term call_term skip expect choose bind
   operand_call room least w ts t xs ys e h = rw (opens room, opened room) (rw e (rw h refl))

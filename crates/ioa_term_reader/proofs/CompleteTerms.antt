@@ -40,7 +40,7 @@ height_positive (plain.truth b) = omega arith
 height_positive (plain.name w at) = omega arith
 height_positive (plain.one op t) = omega arith
 height_positive (plain.two op t u) = omega arith
-height_positive (plain.call w ts) = omega arith
+height_positive (plain.call w c ts) = omega arith
 height_positive (plain.display form shape ts) = omega arith
 height_positive (plain.field t w shape) = omega arith
 
@@ -127,9 +127,9 @@ terms_read : (depth room : ℕ) (ts : SourceTerms) (xs ys : List Token) (r : Rea
 unfolding terms_in bind
 terms_read depth room ts xs ys r = rw r.head (r.tail (length r.middle) (r.first ∷ []) (omega arith))
 
-limited_call : (w : List ℕ) (ts : SourceTerms) (us : List SourceTerm) → terms_of us ≡ ts → height (plain.call w ts) ≤ height_limit →
-    limited_term (plain.call w (terms_of us)) ≡ Some (plain.call w ts)
-limited_call w ts us same h = rw same (limited_low (plain.call w ts) h)
+limited_call : (w : List ℕ) (ts : SourceTerms) (us : List SourceTerm) → terms_of us ≡ ts → height (plain.call w tt ts) ≤ height_limit →
+    limited_term (plain.call w tt (terms_of us)) ≡ Some (plain.call w tt ts)
+limited_call w ts us same h = rw same (limited_low (plain.call w tt ts) h)
 
 limited_display : (form : DisplayForm) (ts : SourceTerms) (us : List SourceTerm) → terms_of us ≡ ts → height (plain.display form tt ts) ≤ height_limit →
     limited_term (plain.display form tt (terms_of us)) ≡ Some (plain.display form tt ts)
@@ -165,8 +165,8 @@ mutual
       from_operand depth room least atom_level (plain.name (Word w) tt) _ ys (operand_word (read depth) room least w ys (not_opened ys b))
   reach (grammar.call {room = room} {w = w} {ts = ts} {xs = xs} {ys = ys} d) depth least h high b deep =
       let r = reach_all d depth (omega arith) (omega arith) (omega arith) (no_comma mark.CloseRound ys refl) in
-      from_operand depth (suc room) least atom_level (plain.call w ts) _ ys
-      (operand_call (read depth) room least w (r.first ∷ r.others) (plain.call w ts) xs ys (terms_read depth room ts xs _ r) (limited_call w ts (r.first ∷ r.others) r.same high))
+      from_operand depth (suc room) least atom_level (plain.call w tt ts) _ ys
+      (operand_call (read depth) room least w (r.first ∷ r.others) (plain.call w tt ts) xs ys (terms_read depth room ts xs _ r) (limited_call w ts (r.first ∷ r.others) r.same high))
   reach (grammar.brackets {room = room} {t = t} {xs = xs} {ys = ys} d) depth least h high b deep =
       let p = height_positive t in
       from_operand depth (suc room) least atom_level t _ ys

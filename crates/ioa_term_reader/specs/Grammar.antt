@@ -32,7 +32,7 @@ mutual
     -- Word ( Term {, Term} )
     call : {room : ℕ} {w : List ℕ} {ts : SourceTerms} {xs ys : List Token} →
         SpellsTerms room ts xs (token.Mark mark.CloseRound ∷ ys) →
-        SpellsAt (suc room) atom_level (plain.call w ts) (token.Word w ∷ token.Mark mark.OpenRound ∷ xs) ys
+        SpellsAt (suc room) atom_level (plain.call w tt ts) (token.Word w ∷ token.Mark mark.OpenRound ∷ xs) ys
     -- ( Term ), which leaves no node in the tree
     brackets : {room : ℕ} {t : SourceTerm} {xs ys : List Token} →
         SpellsAt room 1 t xs (token.Mark mark.CloseRound ∷ ys) →

@@ -89,7 +89,7 @@ module _ (next : ℕ → ℕ → List Token → Option (SourceTerm × List Token
   call_term room w xs =
       choose (nat_eq room 0) None
       (terms_in (room - 1) xs >>= λ ts. expect mark.CloseRound ts.1 >>= λ c.
-      limited_term (plain.call w (terms_of ts.0)) >>= λ t. term_at_level atom_level t c.1)
+      limited_term (plain.call w tt (terms_of ts.0)) >>= λ t. term_at_level atom_level t c.1)
 
   -- [ ( Term {, Term} ) ], behind a word
   unfoldable pub word_term : ℕ → List ℕ → List Token → Option TermAtLevel

@@ -54,7 +54,7 @@ abbrev mutual
   spelling (two op a b) =
       in_brackets_if (is_operation a) (spelling a)
       ++ (token.Mark (infix_mark op) ∷ (in_brackets_if (is_operation b) (spelling b) ++ infix_end op))
-  spelling (call w ts) =
+  spelling (call w c ts) =
       token.Word w ∷ token.Mark mark.OpenRound ∷ (parts_spelling ts ++ token.Mark mark.CloseRound ∷ [])
   spelling (display form shape ts) = token.Mark (opening form) ∷ (parts_spelling ts ++ token.Mark (closing form) ∷ [])
   spelling (field a w shape) = in_brackets_if (is_operation a) (spelling a) ++ (token.Mark mark.Dot ∷ token.Word w ∷ [])

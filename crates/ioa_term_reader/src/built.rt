@@ -181,11 +181,11 @@ impl Built<Term> {
     /// A function of terms.
     pub(crate) fn call(name: Word, parts: Built<Vec<Term>>, deep: Unread) -> Result<Self, Unread>
         ensures meant { Matches Memory (λ b. term_of b.tree) result
-            (spec.limited_term (plain.call name (terms_of (map term_of parts.tree.items)))) }
+            (spec.limited_term (plain.call name tt (terms_of (map term_of parts.tree.items)))) }
         ensures told { IfErr result (λ e. (e ≡ Memory) ⊎ (e ≡ deep)) }
     {
         let height = highest(&parts) + 1;
-        Built::limited_term(Tree::Call(name, parts.tree), height, deep)
+        Built::limited_term(Tree::Call(name, (), parts.tree), height, deep)
     }
 
     /// A display of terms.

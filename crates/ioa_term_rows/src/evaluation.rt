@@ -2,18 +2,18 @@
 
 ghost use Rattle.std.specs.Prelude.{◌≡◌, ◌≤◌, IfOk, map, length};
 ghost use Rattle.ioa_terms.specs.Bindings.{names_of};
-ghost use Rattle.ioa_terms.specs.Resolved.{IsResolved, AreAllResolved};
-ghost use Rattle.ioa_terms.specs.PlainTerm.{statements_of};
+ghost use Rattle.ioa_terms.specs.Resolved.{AreAllResolved, AreTermsResolved, IsResolved};
+ghost use Rattle.ioa_terms.specs.PlainTerm.{statements_of, terms_of};
 ghost use Rattle.ioa_terms.specs.View.{term_of, statement_of};
 
 use crate::places::Places;
-use crate::resolved::{are_resolved_statements, is_resolved};
-use crate::resolving::resolve;
-use ioa_operators::{Function, binary, call, display, field, left_decision, unary};
+use crate::resolved::{are_resolved, are_resolved_statements, is_resolved};
+use crate::resolving::{resolve, resolve_each};
+use ioa_operators::{binary, call, display, field, left_decision, unary};
 use ioa_rows::CommandFault;
 use ioa_terms::{
-    Checked, Env, Name, NameLists, Names, Shape, Statement, Term, TermFault, Value, Word, eval,
-    evaluate_all, perform, show,
+    Callee, Checked, Env, LentValues, Name, NameLists, Names, Shape, Statement, Term, TermFault,
+    Value, View, Word, eval, evaluate_all, perform, show,
 };
 use ioa_values::{push_separator, push_shown};
 use std::alloc::{AllocError, Global};
@@ -38,6 +38,24 @@ pub fn resolved_term(
     let term = resolve(alloc, places, source)?;
     if is_resolved(&term, names) {
         Ok(term)
+    } else {
+        Err(CommandFault::Bad("a name has another slot"))
+    }
+}
+
+/// Terms with slots.
+pub fn resolved_terms(
+    alloc: Global,
+    places: &Places,
+    names: &[Word],
+    sources: &Vec<Term>,
+) -> Result<Vec<Checked>, CommandFault>
+    ensures { IfOk result
+        (λ t. AreTermsResolved (terms_of (map term_of t.items)) (map Name.Word names.now)) }
+{
+    let terms = resolve_each(alloc, places, sources)?;
+    if are_resolved(&terms, names) {
+        Ok(terms)
     } else {
         Err(CommandFault::Bad("a name has another slot"))
     }
@@ -75,9 +93,9 @@ fn applied(alloc: Global, term: &Checked, env: &Env) -> Result<Value, TermFault>
             let right = eval(alloc, right, env)?;
             binary(alloc, *operator, left, right)
         }
-        Checked::Call(name, parts) => {
+        Checked::Call(_, callee, parts) => {
             let values = evaluate_all(alloc, parts, env)?;
-            called(alloc, name, values)
+            called(alloc, *callee, values)
         }
         Checked::Display(form, shape, parts) => {
             let values = evaluate_all(alloc, parts, env)?;
@@ -91,11 +109,11 @@ fn applied(alloc: Global, term: &Checked, env: &Env) -> Result<Value, TermFault>
     }
 }
 
-/// The value of a function, by its name.
-fn called(alloc: Global, name: &Word, values: Vec<Value>) -> Result<Value, TermFault> {
-    match Function::named(name) {
-        Some(function) => call(alloc, function, values),
-        None => Err(TermFault::Undefined),
+/// The value of a call. There are no inboxes here.
+fn called(alloc: Global, callee: Callee, values: Vec<Value>) -> Result<Value, TermFault> {
+    match callee {
+        Callee::Function(function) => call(alloc, function, values),
+        Callee::Inboxes(_) => Err(TermFault::Undefined),
     }
 }
 
@@ -181,7 +199,7 @@ fn copy_admits(alloc: Global, shape: &Shape, value: &Value) -> Result<bool, Allo
 /// The values that statements leave of those of all variables, or their fault.
 pub fn effect_text(
     alloc: Global,
-    statements: &Vec<Statement<usize, Shape>>,
+    statements: &Vec<Statement<usize, Callee, Shape>>,
     names: &[Word],
     constants: &Names,
     values: Vec<Value>,
@@ -196,17 +214,22 @@ pub fn effect_text(
 /// The values that statements leave of those of all variables, or their fault.
 fn resolved_effect_text(
     alloc: Global,
-    statements: &[Statement<usize, Shape>],
+    statements: &[Statement<usize, Callee, Shape>],
     names: &[Word],
     constants: &Names,
-    values: Vec<Value>,
+    mut values: Vec<Value>,
 ) -> Result<String, CommandFault>
     requires resolved { AreAllResolved (statements_of (map statement_of statements.now))
         (map Name.Word names.now) (map Name.Word names.now) }
     requires named { length names.now ≡ length values.items }
 {
-    match perform(alloc, statements, &NameLists::one(names), &[], values) {
-        Ok(values) => Ok(values_text(alloc, constants, &values)?),
+    let view = View {
+        names: NameLists::one(names),
+        lent: LentValues::none(),
+        constants: &[],
+    };
+    match perform(alloc, statements, &view, &mut values) {
+        Ok(()) => Ok(values_text(alloc, constants, &values)?),
         Err(fault) => fault_text(alloc, fault),
     }
 }
@@ -221,12 +244,9 @@ fn values_text(alloc: Global, constants: &Names, values: &[Value]) -> Result<Str
     Ok(text)
 }
 
-/// The values of the arguments of a call.
-pub fn arguments_of(alloc: Global, term: &Checked, env: &Env) -> Result<Vec<Value>, TermFault>
-    requires { IsResolved (term_of term.now) (names_of env.now) }
+/// The values of terms.
+pub fn values_of(alloc: Global, terms: &Vec<Checked>, env: &Env) -> Result<Vec<Value>, TermFault>
+    requires { AreTermsResolved (terms_of (map term_of terms.now.items)) (names_of env.now) }
 {
-    match term {
-        Checked::Call(_, parts) => evaluate_all(alloc, parts, env),
-        _ => Ok(Vec::new(alloc)),
-    }
+    evaluate_all(alloc, terms, env)
 }

@@ -2,14 +2,15 @@
 //! and the statements of a script are resolved with no look at their sorts, and are tested by these before they are
 //! evaluated.
 
-ghost use Rattle.std.specs.Prelude.{◌≡◌, IsTrue, Some, map};
+ghost use Rattle.std.specs.Prelude.{◌≡◌, IsTrue, List, Some, map};
 ghost use Rattle.ioa_terms.specs.Bindings.{slot_in};
-ghost use Rattle.ioa_terms.specs.Resolved.{IsResolved, AreTermsResolved, IsResolvedTarget};
+ghost use Rattle.ioa_terms.specs.declared.name.Name.{Name};
+ghost use Rattle.ioa_terms.specs.Resolved.{IsCallee, IsResolved, AreTermsResolved, IsResolvedTarget};
 ghost use Rattle.ioa_terms.specs.Resolved.{IsResolvedStatement, AreArmsResolved, AreAllResolved};
 ghost use Rattle.ioa_terms.specs.PlainTerm.{terms_of, statements_of, arms_of};
 ghost use Rattle.ioa_terms.specs.View.{term_of, target_of, statement_of, arm_of};
 
-use ioa_terms::{Arm, Checked, Name, Shape, Statement, Target, Word};
+use ioa_terms::{Arm, Callee, Checked, Function, Name, Shape, Statement, Target, Word};
 
 /// Whether a slot is the first one of a name.
 pub fn is_first(name: &Word, slot: usize, names: &[Word]) -> bool
@@ -34,9 +35,19 @@ pub fn is_resolved(term: &Checked, names: &[Word]) -> bool
         Checked::Name(Name::Word(word), slot) => is_first(word, *slot, names),
         Checked::One(_, a) => is_resolved(a, names),
         Checked::Two(_, a, b) => is_resolved(a, names) && is_resolved(b, names),
-        Checked::Call(_, parts) => are_resolved(parts, names),
+        Checked::Call(name, callee, parts) => is_of(name, *callee) && are_resolved(parts, names),
         Checked::Display(_, _, parts) => are_resolved(parts, names),
         Checked::Field(whole, _, _) => is_resolved(whole, names),
+    }
+}
+
+/// Whether a call of this name is of this function. There are no inboxes here.
+fn is_of(name: &Word, callee: Callee) -> bool
+    ensures { IsTrue result → (names : List Name) → IsCallee name.now callee names }
+{
+    match (callee, Function::named(name)) {
+        (Callee::Function(function), Some(named)) => function == named,
+        _ => false,
     }
 }
 
@@ -54,7 +65,11 @@ pub fn are_resolved(parts: &Vec<Checked>, names: &[Word]) -> bool
 }
 
 /// Whether the name of a target has its slot among the variables, and the key's names have theirs.
-pub fn is_resolved_target(target: &Target<usize, Shape>, variables: &[Word], names: &[Word]) -> bool
+pub fn is_resolved_target(
+    target: &Target<usize, Callee, Shape>,
+    variables: &[Word],
+    names: &[Word],
+) -> bool
     ensures { IsTrue result → IsResolvedTarget (target_of target.now) (map Name.Word variables.now)
         (map Name.Word names.now) }
 {
@@ -68,7 +83,7 @@ pub fn is_resolved_target(target: &Target<usize, Shape>, variables: &[Word], nam
 /// Whether each name of a statement of an effect has its slot. No effect has a loop or a firing.
 #[cycle(resolving_statements)]
 pub fn is_resolved_statement(
-    statement: &Statement<usize, Shape>,
+    statement: &Statement<usize, Callee, Shape>,
     variables: &[Word],
     names: &[Word],
 ) -> bool
@@ -90,7 +105,11 @@ pub fn is_resolved_statement(
 
 /// The same of the tests and the statements of arms.
 #[cycle(resolving_statements)]
-pub fn are_resolved_arms(arms: &Vec<Arm<usize, Shape>>, variables: &[Word], names: &[Word]) -> bool
+pub fn are_resolved_arms(
+    arms: &Vec<Arm<usize, Callee, Shape>>,
+    variables: &[Word],
+    names: &[Word],
+) -> bool
     ensures { IsTrue result → AreArmsResolved (arms_of (map arm_of arms.now.items))
         (map Name.Word variables.now) (map Name.Word names.now) }
 {
@@ -105,7 +124,7 @@ pub fn are_resolved_arms(arms: &Vec<Arm<usize, Shape>>, variables: &[Word], name
 /// The same of statements.
 #[cycle(resolving_statements)]
 pub fn are_resolved_statements(
-    statements: &Vec<Statement<usize, Shape>>,
+    statements: &Vec<Statement<usize, Callee, Shape>>,
     variables: &[Word],
     names: &[Word],
 ) -> bool

@@ -4,7 +4,7 @@
 use crate::places::{NamedShape, Places, shape_of_type, slot_of};
 use crate::sorts::boxed_copy;
 use ioa_rows::CommandFault;
-use ioa_terms::{Checked, DisplayForm, Name, Shape, ShapeForm, Term, Word};
+use ioa_terms::{Callee, Checked, DisplayForm, Function, Name, Shape, ShapeForm, Term, Word};
 use std::alloc::{AllocError, Global};
 use std::sync::Arc;
 
@@ -21,6 +21,15 @@ pub fn boxed(alloc: Global, term: Checked) -> Result<Box<Checked>, AllocError> {
 /// The term with slots and shapes.
 pub fn resolve(alloc: Global, places: &Places, term: &Term) -> Result<Box<Checked>, CommandFault> {
     resolve_in(alloc, places, None, term)
+}
+
+/// The terms with slots and shapes.
+pub fn resolve_each(
+    alloc: Global,
+    places: &Places,
+    terms: &Vec<Term>,
+) -> Result<Vec<Checked>, CommandFault> {
+    resolve_all(alloc, places, None, terms)
 }
 
 /// The term with slots and shapes, if it is a part of a call of that name or of none.
@@ -44,12 +53,12 @@ fn resolve_in(
             let right = resolve_in(alloc, places, None, right)?;
             Ok(boxed(alloc, Checked::Two(*operator, left, right))?)
         }
-        Term::Call(name, parts) => {
+        Term::Call(name, _, parts) => {
             let inner = resolve_all(alloc, places, Some(name), parts)?;
             if is_only_display(parts) {
                 only(alloc, inner)
             } else {
-                Ok(call(alloc, name, inner)?)
+                call(alloc, name, inner)
             }
         }
         Term::Display(form, _, parts) => {
@@ -106,9 +115,23 @@ fn resolve_name(alloc: Global, places: &Places, name: &Name) -> Result<Box<Check
 }
 
 /// A call of a function.
-fn call(alloc: Global, name: &Word, parts: Vec<Checked>) -> Result<Box<Checked>, AllocError> {
+fn call(alloc: Global, name: &Word, parts: Vec<Checked>) -> Result<Box<Checked>, CommandFault> {
+    match Function::named(name) {
+        Some(function) => Ok(call_of(alloc, name, function, parts)?),
+        None => Err(CommandFault::Bad("a call is of no function")),
+    }
+}
+
+/// A call of this function.
+fn call_of(
+    alloc: Global,
+    name: &Word,
+    function: Function,
+    parts: Vec<Checked>,
+) -> Result<Box<Checked>, AllocError> {
     let name = name.try_copy(alloc)?;
-    boxed(alloc, Checked::Call(name, parts))
+    let callee = Callee::Function(function);
+    boxed(alloc, Checked::Call(name, callee, parts))
 }
 
 /// A display of the kind that the word before it says.

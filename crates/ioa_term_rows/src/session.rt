@@ -2,8 +2,8 @@
 
 use crate::actions::action_text;
 use crate::evaluation::{
-    Scope, admits_text, answered, arguments_of, effect_text, environment, fault_text,
-    resolved_term, value_of,
+    Scope, admits_text, answered, effect_text, environment, fault_text, resolved_term,
+    resolved_terms, value_of, values_of,
 };
 use crate::help::HELP;
 use crate::places::{NamedShape, Places};
@@ -251,7 +251,7 @@ impl TermSession {
                 let none = Vec::new(self.alloc);
                 Ok(action_text(self.alloc, &scope.constants, node, name, none)?)
             }
-            Term::Call(name, _) => self.action_with(&scope, node, name, &source),
+            Term::Call(name, _, parts) => self.action_with(&scope, node, name, parts),
             _ => Err(CommandFault::Bad("an action is wanted")),
         }
     }
@@ -262,12 +262,12 @@ impl TermSession {
         scope: &Scope,
         node: i64,
         name: &Word,
-        source: &Term,
+        sources: &Vec<Term>,
     ) -> Result<String, CommandFault> {
         let view = self.view()?;
-        let term = resolved_term(self.alloc, &self.places(&view), &scope.names, source)?;
+        let terms = resolved_terms(self.alloc, &self.places(&view), &scope.names, sources)?;
         let env = environment(&scope.names, &self.values)?;
-        match arguments_of(self.alloc, &term, &env) {
+        match values_of(self.alloc, &terms, &env) {
             Ok(arguments) => Ok(action_text(self.alloc, &scope.constants, node, name, arguments)?),
             Err(fault) => fault_text(self.alloc, fault),
         }

@@ -5,12 +5,12 @@ use crate::resolving::resolve;
 use crate::terms::{at_end, expect, next_term, tokens_of};
 use ioa_cursor::Tokens;
 use ioa_rows::CommandFault;
-use ioa_terms::{Arm, BinaryOperator, Checked, Name, Shape, Statement, Target, Term, Word};
+use ioa_terms::{Arm, BinaryOperator, Callee, Checked, Name, Shape, Statement, Target, Term, Word};
 use ioa_tokens::Mark;
 use std::alloc::{AllocError, Global};
 
 /// A statement with slots and shapes.
-type Step = Statement<usize, Shape>;
+type Step = Statement<usize, Callee, Shape>;
 
 /// The statements that a text is.
 pub fn whole_statements(
@@ -97,7 +97,7 @@ fn next_arm(
     alloc: Global,
     places: &Places,
     tokens: &mut Tokens<'_>,
-    arms: &mut Vec<Arm<usize, Shape>>,
+    arms: &mut Vec<Arm<usize, Callee, Shape>>,
 ) -> Result<(), CommandFault> {
     let test = next_resolved(alloc, places, tokens)?;
     expect(tokens, Mark::Then)?;
@@ -107,7 +107,7 @@ fn next_arm(
 
 /// Adds an arm.
 fn push_arm(
-    arms: &mut Vec<Arm<usize, Shape>>,
+    arms: &mut Vec<Arm<usize, Callee, Shape>>,
     test: Box<Checked>,
     body: Vec<Step>,
 ) -> Result<(), AllocError> {
@@ -142,7 +142,7 @@ fn next_assignment(
 /// The assignment of a value.
 fn assignment(
     alloc: Global,
-    target: Box<Target<usize, Shape>>,
+    target: Box<Target<usize, Callee, Shape>>,
     value: Box<Checked>,
 ) -> Result<Box<Step>, AllocError> {
     boxed(
@@ -156,7 +156,7 @@ fn resolve_target(
     alloc: Global,
     places: &Places,
     term: &Term,
-) -> Result<Box<Target<usize, Shape>>, CommandFault> {
+) -> Result<Box<Target<usize, Callee, Shape>>, CommandFault> {
     match term {
         Term::Name(Name::Word(name), _) => {
             let (slot, shape) = variable_of(alloc, places, name)?;
@@ -193,8 +193,8 @@ fn name_of(term: &Term) -> Result<&Word, CommandFault> {
 /// A target in a box.
 fn boxed_target(
     alloc: Global,
-    target: Target<usize, Shape>,
-) -> Result<Box<Target<usize, Shape>>, AllocError> {
+    target: Target<usize, Callee, Shape>,
+) -> Result<Box<Target<usize, Callee, Shape>>, AllocError> {
     Ok(Box::new(alloc, target)?)
 }
 
@@ -204,7 +204,7 @@ fn variable(
     name: &Word,
     slot: usize,
     shape: Box<Shape>,
-) -> Result<Box<Target<usize, Shape>>, AllocError> {
+) -> Result<Box<Target<usize, Callee, Shape>>, AllocError> {
     let name = name.try_copy(alloc)?;
     boxed_target(alloc, Target::Variable(name, slot, Box::into_inner(shape)))
 }
@@ -216,7 +216,7 @@ fn at_key(
     slot: usize,
     shape: Box<Shape>,
     key: Box<Checked>,
-) -> Result<Box<Target<usize, Shape>>, AllocError> {
+) -> Result<Box<Target<usize, Callee, Shape>>, AllocError> {
     let name = name.try_copy(alloc)?;
     let (shape, key) = (Box::into_inner(shape), Box::into_inner(key));
     boxed_target(alloc, Target::At(name, slot, shape, key))
@@ -229,7 +229,7 @@ fn at_field(
     slot: usize,
     shape: Box<Shape>,
     field: &Word,
-) -> Result<Box<Target<usize, Shape>>, AllocError> {
+) -> Result<Box<Target<usize, Callee, Shape>>, AllocError> {
     let name = name.try_copy(alloc)?;
     let field = field.try_copy(alloc)?;
     boxed_target(

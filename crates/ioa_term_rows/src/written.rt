@@ -60,7 +60,7 @@ pub fn push_term(text: &mut String, term: &Checked) -> Result<(), AllocError> {
             push_term(text, right)?;
             text.push_str(")")
         }
-        Checked::Call(name, parts) => {
+        Checked::Call(name, _, parts) => {
             text.push_str(name.as_str())?;
             text.push_str("(")?;
             push_terms(text, parts)?;

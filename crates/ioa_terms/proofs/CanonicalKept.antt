@@ -68,7 +68,7 @@ call_by_canonical e g (Some f) w vs h = call_canonical f vs h
 
 -- what terms make
 mutual
-  term_canonical : {N : Type 0} (e : Bindings) → IsAscendingEnvironment e → (t : PlainTerm N Shape) → IfSome (value t e) IsCanonical
+  term_canonical : {N C : Type 0} (e : Bindings) → IsAscendingEnvironment e → (t : PlainTerm N C Shape) → IfSome (value t e) IsCanonical
   term_canonical e g (plain.number n) = tt
   term_canonical e g (plain.truth b) = tt
   term_canonical e g (name x at) = lookup_canonical x e g
@@ -77,20 +77,20 @@ mutual
       and_then_holds IsCanonical IsCanonical (λ v. option_or (left_decision op v) (option_and_then (binary_value op v) (value b e))) (value a e) (term_canonical e g a)
       (λ v h. or_holds IsCanonical (left_decision op v) (option_and_then (binary_value op v) (value b e)) (decision_canonical op v)
       (and_then_holds IsCanonical IsCanonical (binary_value op v) (value b e) (term_canonical e g b) (λ w k. binary_canonical op v w h k)))
-  term_canonical e g (call w ts) = and_then_holds AllCanonical IsCanonical (named_call_value w e) (values ts e) (terms_canonical e g ts) (call_by_canonical e g (function_named w) w)
+  term_canonical e g (call w c ts) = and_then_holds AllCanonical IsCanonical (named_call_value w e) (values ts e) (terms_canonical e g ts) (call_by_canonical e g (function_named w) w)
   term_canonical e g (display form d ts) =
       and_then_holds AllCanonical IsCanonical (display_value form d) (values ts e) (terms_canonical e g ts) (display_canonical form d)
   term_canonical e g (field a w d) =
       and_then_holds IsCanonical IsCanonical (field_value d w) (value a e) (term_canonical e g a) (field_canonical d w)
 
-  terms_canonical : {N : Type 0} (e : Bindings) → IsAscendingEnvironment e → (ts : PlainTerms N Shape) → IfSome (values ts e) AllCanonical
+  terms_canonical : {N C : Type 0} (e : Bindings) → IsAscendingEnvironment e → (ts : PlainTerms N C Shape) → IfSome (values ts e) AllCanonical
   terms_canonical e g no_terms = tt
   terms_canonical e g (term t more) =
       and_then_holds IsCanonical AllCanonical (λ v. option_map (λ vs. v ∷ vs) (values more e)) (value t e) (term_canonical e g t)
       (λ v h. map_holds AllCanonical AllCanonical (λ vs. v ∷ vs) (values more e) (terms_canonical e g more) (λ vs k. (h, k)))
 
 -- what an assignment gives its variable
-assigned_canonical : {N : Type 0} (p : PlainTarget N Shape) (t : PlainTerm N Shape) (e : Bindings) → IsAscendingEnvironment e → IfSome (assignment_value p t e) IsCanonical
+assigned_canonical : {N C : Type 0} (p : PlainTarget N C Shape) (t : PlainTerm N C Shape) (e : Bindings) → IsAscendingEnvironment e → IfSome (assignment_value p t e) IsCanonical
 assigned_canonical (variable x at d) t e g = term_canonical e g t
 assigned_canonical (at_key x at d k) t e g =
     and_then_holds IsCanonical IsCanonical (λ i. option_and_then (λ v. option_and_then (updated_map i v) (lookup (Word x) e)) (value t e)) (value k e) (term_canonical e g k)
@@ -106,7 +106,7 @@ fitted_canonical s v h = by_condition (λ (o : Option Data). IfSome o IsCanonica
 
 -- what statements leave
 mutual
-  statement_canonical : {N : Type 0} (s : PlainStatement N Shape) (e : Bindings) → IsAscendingEnvironment e → IfSome (after_one s e) IsAscendingEnvironment
+  statement_canonical : {N C : Type 0} (s : PlainStatement N C Shape) (e : Bindings) → IsAscendingEnvironment e → IfSome (after_one s e) IsAscendingEnvironment
   statement_canonical (assign p t) e g =
       map_holds IsCanonical IsAscendingEnvironment (λ v. put (target_name p) v e) (option_and_then (fitting_value (target_shape p)) (assignment_value p t e))
       (and_then_holds IsCanonical IsCanonical (fitting_value (target_shape p)) (assignment_value p t e) (assigned_canonical p t e g) (fitted_canonical (target_shape p)))
@@ -115,20 +115,20 @@ mutual
   statement_canonical (loop t body) e g = tt
   statement_canonical (fire f) e g = tt
 
-  choice_canonical : {N : Type 0} (arms : PlainArms N Shape) (rest : Option Bindings) (e : Bindings) → IsAscendingEnvironment e → IfSome rest IsAscendingEnvironment → IfSome (after_choice arms rest e) IsAscendingEnvironment
+  choice_canonical : {N C : Type 0} (arms : PlainArms N C Shape) (rest : Option Bindings) (e : Bindings) → IsAscendingEnvironment e → IfSome rest IsAscendingEnvironment → IfSome (after_choice arms rest e) IsAscendingEnvironment
   choice_canonical no_arms rest e g h = h
   choice_canonical (arm t body more) rest e g h =
       after_test (λ (o : Option Bindings). IfSome o IsAscendingEnvironment) (test_value t e) None (after_all body e) (after_choice more rest e)
       tt (statements_canonical body e g) (choice_canonical more rest e g h)
 
-  statements_canonical : {N : Type 0} (ss : PlainStatements N Shape) (e : Bindings) → IsAscendingEnvironment e → IfSome (after_all ss e) IsAscendingEnvironment
+  statements_canonical : {N C : Type 0} (ss : PlainStatements N C Shape) (e : Bindings) → IsAscendingEnvironment e → IfSome (after_all ss e) IsAscendingEnvironment
   statements_canonical no_statements e g = g
   statements_canonical (statement s more) e g =
       and_then_holds IsAscendingEnvironment IsAscendingEnvironment (after_all more) (after_one s e) (statement_canonical s e g) (λ f h. statements_canonical more f h)
 
 -- the value of a term, and the environment after statements, if there is one
-pub value_ascends : {N : Type 0} (e : Bindings) → IsAscendingEnvironment e → (t : PlainTerm N Shape) (v : Data) → value t e ≡ Some v → IsCanonical v
+pub value_ascends : {N C : Type 0} (e : Bindings) → IsAscendingEnvironment e → (t : PlainTerm N C Shape) (v : Data) → value t e ≡ Some v → IsCanonical v
 value_ascends e g t v k = rw k at (term_canonical e g t)
 
-pub after_ascends : {N : Type 0} (e : Bindings) → IsAscendingEnvironment e → (ss : List (PlainStatement N Shape)) (f : Bindings) → after ss e ≡ Some f → IsAscendingEnvironment f
+pub after_ascends : {N C : Type 0} (e : Bindings) → IsAscendingEnvironment e → (ss : List (PlainStatement N C Shape)) (f : Bindings) → after ss e ≡ Some f → IsAscendingEnvironment f
 after_ascends e g ss f k = rw k at (statements_canonical (statements_of ss) e g)

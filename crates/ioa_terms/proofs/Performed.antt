@@ -7,6 +7,7 @@ use Rattle.ioa_values.specs.Data.{Data, is_within, as_truth, number, truth, cons
 use Rattle.ioa_values.specs.Outcome.{and_then}
 use Rattle.ioa_operators.specs.Shapes.{PlainShape, truths, integers, naturals, constants, tuples, sequences, sets, maps, with_field, field_position}
 use Rattle.ioa_operators.specs.RangeCheck.{range_check, checked_result}
+use Rattle.ioa_terms.specs.declared.callee.Callee.{Callee}
 use Rattle.ioa_terms.specs.declared.name.Name.{Name}
 use Rattle.ioa_terms.specs.declared.name.Name.TheVariants.{Word}
 use Rattle.ioa_terms.specs.Bindings.{Bindings, lookup, put}
@@ -70,7 +71,7 @@ key_first dk dt (Some i) vt f =
     ∙ sym (range_check_append dk dt (option_and_then (f i) vt))
 
 -- what an assignment gives its variable is checked as a whole
-stepwise_assignment_is : {N : Type 0} (p : PlainTarget N Shape) (t : PlainTerm N Shape) (e : Bindings) → stepwise_assignment p t e ≡ range_check (numbers_met_by_assignment p t e) (assignment_value p t e)
+stepwise_assignment_is : {N C : Type 0} (p : PlainTarget N C Shape) (t : PlainTerm N C Shape) (e : Bindings) → stepwise_assignment p t e ≡ range_check (numbers_met_by_assignment p t e) (assignment_value p t e)
 stepwise_assignment_is (variable x at d) t e = stepwise_is t e
 stepwise_assignment_is (at_key x at d k) t e =
     rw (stepwise_is k e, stepwise_is t e)
@@ -95,7 +96,7 @@ put_is ds o x s e =
     ∙ and_step ds o (λ v. option_map (λ w. put x w e) (fitting_value s v))
     ∙ ap (range_check ds) (map_and_then (fitting_value s) (λ w. put x w e) o)
 
-stepwise_test_is : {N : Type 0} (t : PlainTerm N Shape) (e : Bindings) → stepwise_test t e ≡ range_check (numbers_met t e) (test_value t e)
+stepwise_test_is : {N C : Type 0} (t : PlainTerm N C Shape) (e : Bindings) → stepwise_test t e ≡ range_check (numbers_met t e) (test_value t e)
 stepwise_test_is t e = rw (stepwise_is t e) (and_step (numbers_met t e) (value t e) as_truth)
 
 answered_none : (b : Bool) (held other : Result Bindings TermFault) → if_answered (if b then Err Undefined else Err Range) held other ≡ (if b then Err Undefined else Err Range)
@@ -118,33 +119,33 @@ next_is ds None more next = rw (append-nil ds) (range_check_none ds (λ e. range
 next_is ds (Some e) more next = range_check_some ds e (λ e. range_check (more e) (next e)) ∙ sym (range_check_append ds (more e) (next e))
 
 mutual
-  stepwise_one_is : {N : Type 0} (s : PlainStatement N Shape) (e : Bindings) → stepwise_one s e ≡ range_check (numbers_met_by_one s e) (after_one s e)
+  stepwise_one_is : {N C : Type 0} (s : PlainStatement N C Shape) (e : Bindings) → stepwise_one s e ≡ range_check (numbers_met_by_one s e) (after_one s e)
   stepwise_one_is (assign p t) e = rw (stepwise_assignment_is p t e) (put_is (numbers_met_by_assignment p t e) (assignment_value p t e) (target_name p) (target_shape p) e)
   stepwise_one_is (branch arms rest) e = rw (stepwise_all_is rest e) (stepwise_choice_is arms (numbers_met_by_all rest e) (after_all rest e) e)
   stepwise_one_is (loop t body) e = refl
   stepwise_one_is (fire f) e = refl
 
-  stepwise_choice_is : {N : Type 0} (arms : PlainArms N Shape) (ds : List Data) (rest : Option Bindings) (e : Bindings) → stepwise_choice arms (range_check ds rest) e ≡ range_check (numbers_met_by_choice arms ds e) (after_choice arms rest e)
+  stepwise_choice_is : {N C : Type 0} (arms : PlainArms N C Shape) (ds : List Data) (rest : Option Bindings) (e : Bindings) → stepwise_choice arms (range_check ds rest) e ≡ range_check (numbers_met_by_choice arms ds e) (after_choice arms rest e)
   stepwise_choice_is no_arms ds rest e = refl
   stepwise_choice_is (arm t body more) ds rest e =
       rw (stepwise_test_is t e, stepwise_all_is body e, stepwise_choice_is more ds rest e)
       (choice_is (numbers_met t e) (numbers_met_by_all body e) (numbers_met_by_choice more ds e) (test_value t e) (after_all body e) (after_choice more rest e))
 
-  stepwise_all_is : {N : Type 0} (ss : PlainStatements N Shape) (e : Bindings) → stepwise_all ss e ≡ range_check (numbers_met_by_all ss e) (after_all ss e)
+  stepwise_all_is : {N C : Type 0} (ss : PlainStatements N C Shape) (e : Bindings) → stepwise_all ss e ≡ range_check (numbers_met_by_all ss e) (after_all ss e)
   stepwise_all_is no_statements e = refl
   stepwise_all_is (statement s more) e =
       ap (λ (f : Bindings → Result Bindings TermFault). and_then (stepwise_one s e) f) (λ j v. stepwise_all_is more v j)
       ∙ rw (stepwise_one_is s e) (next_is (numbers_met_by_one s e) (after_one s e) (numbers_met_by_all more) (after_all more))
 
 -- statements, performed one after another, are checked as a whole
-pub stepwise_by_is : {N : Type 0} (ss : List (PlainStatement N Shape)) (e : Bindings) → stepwise_all (statements_of ss) e ≡ answer_by ss e
+pub stepwise_by_is : {N C : Type 0} (ss : List (PlainStatement N C Shape)) (e : Bindings) → stepwise_all (statements_of ss) e ≡ answer_by ss e
 stepwise_by_is ss e = stepwise_all_is (statements_of ss) e
 
 -- statements of a list are resolved one by one
-pub all_resolved : {D : Type 0} (ss : List (PlainStatement ℕ D)) (variables names : List Name) → AreResolved ss variables names → AreAllResolved (statements_of ss) variables names
+pub all_resolved : {D : Type 0} (ss : List (PlainStatement ℕ Callee D)) (variables names : List Name) → AreResolved ss variables names → AreAllResolved (statements_of ss) variables names
 all_resolved [] variables names h = tt
 all_resolved (s ∷ ss) variables names h = (h.0, all_resolved ss variables names h.1)
 
-pub resolved_all : {D : Type 0} (ss : List (PlainStatement ℕ D)) (variables names : List Name) → AreAllResolved (statements_of ss) variables names → AreResolved ss variables names
+pub resolved_all : {D : Type 0} (ss : List (PlainStatement ℕ Callee D)) (variables names : List Name) → AreAllResolved (statements_of ss) variables names → AreResolved ss variables names
 resolved_all [] variables names h = tt
 resolved_all (s ∷ ss) variables names h = (h.0, resolved_all ss variables names h.1)

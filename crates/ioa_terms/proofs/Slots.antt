@@ -1,20 +1,24 @@
 -- Names and the slots of their values.
 use Rattle.std.proofs.Common.{◌≡◌, ℕ, zero, suc, ◌+◌, ◌<◌, ◌≤◌, min, Bool, true, false, List, [], ◌∷◌, ◌++◌, Option, Some, None, refl, sym, ap, subst, ◌∙◌, length, map, take, drop, set, arith, if◌then◌else◌, inl, inr, ◌⊎◌, get_or, append-nil}
 use Rattle.std.specs.List.{zip, slice_get}
-use Rattle.std.specs.Prelude.{nat_lt}
+use Rattle.std.specs.Prelude.{nat_lt, IfSome}
 use Rattle.std.proofs.lemmas.Bool.Decides.{nat_tests}
-use Rattle.std.proofs.lemmas.List.{append_assoc, drop_more, get_or_append_left, get_or-append-add, length-append, length-map, map-append, take-append-drop, take_all}
+use Rattle.std.proofs.lemmas.List.{get_or_append_left, get_or-append-add, length-append, length-map, map-append, take-append-drop, take_all}
 use Rattle.std.proofs.lemmas.Slice.Zip.{firsts-zip}
-use Rattle.std.proofs.lemmas.Slice.Eq.{bytes_eq-Decides}
 use Rattle.std.specs.Option.{option_map}
-use Rattle.ioa_terms.specs.PlainTerm.{PlainTarget, variable, at_key, at_field, PlainStatement, PlainStatements, PlainArms, assign, branch, loop, fire, no_statements, statement, no_arms, arm}
-use Rattle.ioa_terms.specs.Resolved.{IsResolvedTarget, IsResolvedStatement, AreArmsResolved, AreAllResolved, AreResolved}
+use Rattle.ioa_terms.specs.declared.callee.Callee.{Callee}
+use Rattle.ioa_terms.specs.PlainTerm.{PlainTarget, variable, at_key, at_field}
+use Rattle.ioa_terms.specs.Resolved.{IsResolvedTarget}
 use Rattle.ioa_operators.specs.declared.shape.Shape.{Shape}
 use Rattle.ioa_values.specs.Data.{Data, constant}
 use Rattle.ioa_terms.specs.declared.name.Name.{Name}
 use Rattle.ioa_terms.specs.declared.name.Name.TheVariants.{Word}
-use Rattle.ioa_terms.specs.Bindings.{Bindings, lookup, put, slot_in, names_of, same_word, same_name, constants_from, environment}
-use Rattle.ioa_terms.specs.Slots.{index_within, slot_or_behind}
+use Rattle.ioa_terms.specs.Bindings.{Bindings, lookup, put, slot_in, names_of, same_name, constants_from, environment}
+use Rattle.ioa_terms.specs.declared.environment.Slot.{Slot}
+use Rattle.ioa_terms.specs.Slots.{index_within, slot_value}
+use Rattle.ioa_operators.specs.RangeCheck.{checked_result}
+use Rattle.ioa_terms.specs.declared.environment.View.{View}
+use Rattle.ioa_terms.specs.Views.{IsNamed, all_values, environment_of, names_in_view}
 
 -- what is at the slot of a variable
 pub environment_variable : (names : List Name) (vs : List Data) (cs : List (List ℕ)) (i : ℕ) (d : Data) → i < length names → i < length vs → option_map (λ (b : Name × Data). b.1) (slice_get (environment names vs cs) i) ≡ Some (get_or vs i d)
@@ -97,69 +101,6 @@ lookup_slot (b ∷ e) x p h =
       | inr w ↦ rw (w.0, w.3) (lookup_slot e x w.1 w.2)
     ]
 
-unmapped : (o : Option ℕ) → option_map (λ k. k + 1) o ≡ None → o ≡ None
-unmapped None g = refl
-unmapped (Some k) g = absurd (cc)
-
--- a name without a slot has no value
-pub lookup_none : (e : Bindings) (x : Name) → slot_in x (names_of e) ≡ None → lookup x e ≡ None
-lookup_none [] x h = refl
-lookup_none (b ∷ e) x h = by_first (same_name x b.0) h (λ g. lookup_none e x (unmapped (slot_in x (names_of e)) g))
-  where
-    by_first : (t : Bool) → (if t then Some 0 else option_map (λ k. k + 1) (slot_in x (names_of e))) ≡ None → (option_map (λ k. k + 1) (slot_in x (names_of e)) ≡ None → lookup x e ≡ None) → (if t then Some b.1 else lookup x e) ≡ None
-    by_first true g rest = absurd (cc)
-    by_first false g rest = rest g
-
--- the slot of a name among the words of two lists
-pub slot_in_two : (ws more : List (List ℕ)) (x : Name) → slot_in x (map Word (ws ++ more)) ≡ slot_or_behind (length ws) (slot_in x (map Word ws)) (slot_in x (map Word more))
-slot_in_two [] more x = alone (slot_in x (map Word more))
-  where
-    alone : (o : Option ℕ) → o ≡ option_map (λ slot. 0 + slot) o
-    alone None = refl
-    alone (Some k) = ap (λ n. Some n) (omega arith)
-slot_in_two (w ∷ ws) more x = by_first (same_name x (Word w)) (slot_in_two ws more x)
-  where
-    later : (o p : Option ℕ) → option_map (λ k. k + 1) (slot_or_behind (length ws) o p) ≡ slot_or_behind (suc (length ws)) (option_map (λ k. k + 1) o) p
-    later (Some k) p = refl
-    later None None = refl
-    later None (Some k) = ap (λ n. Some n) (omega arith)
-
-    by_first : (t : Bool) → slot_in x (map Word (ws ++ more)) ≡ slot_or_behind (length ws) (slot_in x (map Word ws)) (slot_in x (map Word more)) → (if t then Some 0 else option_map (λ k. k + 1) (slot_in x (map Word (ws ++ more)))) ≡ slot_or_behind (suc (length ws)) (if t then Some 0 else option_map (λ k. k + 1) (slot_in x (map Word ws))) (slot_in x (map Word more))
-    by_first true h = refl
-    by_first false h = ap (option_map (λ k. k + 1)) h ∙ later (slot_in x (map Word ws)) (slot_in x (map Word more))
-
--- the slot of a name among the words of four lists
-pub slot_in_four : (ws vs us cs : List (List ℕ)) (x : Name) → slot_in x (map Word ((ws ++ (vs ++ us)) ++ cs)) ≡ slot_or_behind (length ws) (slot_in x (map Word ws)) (slot_or_behind (length vs) (slot_in x (map Word vs)) (slot_or_behind (length us) (slot_in x (map Word us)) (slot_in x (map Word cs))))
-slot_in_four ws vs us cs x =
-    rw (append_assoc ws (vs ++ us) cs, append_assoc vs us cs, slot_in_two ws (vs ++ (us ++ cs)) x, slot_in_two vs (us ++ cs) x, slot_in_two us cs x) refl
-
--- the slot of a name behind words of which none is the name
-pub slot_later : (ws : List (List ℕ)) (p : ℕ) (w : List ℕ) (x : Name) (o : Option ℕ) → p < length ws → same_name x (Word (get_or ws p w)) ≡ false → o ≡ option_map (λ k. p + k) (slot_in x (map Word (drop p ws))) → o ≡ option_map (λ k. p + 1 + k) (slot_in x (map Word (drop (p + 1) ws)))
-slot_later ws p w x o h d e = e ∙ rw (drop_more ws p w h, d) (further (slot_in x (map Word (drop (p + 1) ws))))
-  where
-    further : (s : Option ℕ) → option_map (λ k. p + k) (option_map (λ k. k + 1) s) ≡ option_map (λ k. p + 1 + k) s
-    further None = refl
-    further (Some k) = ap (λ n. Some n) (omega arith)
-
-pub slot_here : (ws : List (List ℕ)) (p : ℕ) (w : List ℕ) (x : Name) (o : Option ℕ) → p < length ws → same_name x (Word (get_or ws p w)) ≡ true → o ≡ option_map (λ k. p + k) (slot_in x (map Word (drop p ws))) → o ≡ Some p
-slot_here ws p w x o h d e = e ∙ rw (drop_more ws p w h, d) (ap (λ n. Some n) (omega arith))
-
--- two words are the same whichever comes first
-pub same_turned : (v w : List ℕ) → same_word v w ≡ same_word w v
-same_turned v w = by_test (same_word v w) refl
-  where
-    other : same_word v w ≡ false → (b : Bool) → same_word w v ≡ b → same_word v w ≡ b
-    other e true g =
-        let same : w ≡ v = (bytes_eq-Decides w v).0 g in
-        (bytes_eq-Decides v w).1 (sym same)
-    other e false g = e
-
-    by_test : (b : Bool) → same_word v w ≡ b → same_word v w ≡ same_word w v
-    by_test true e =
-        let same : v ≡ w = (bytes_eq-Decides v w).0 e in
-        e ∙ sym ((bytes_eq-Decides w v).1 (sym same))
-    by_test false e = other e (same_word w v) refl
-
 -- the slot of a name is below the number of variables
 pub slot_within : (names : List (List ℕ)) (x : Name) (p : ℕ) → slot_in x (map Word names) ≡ Some p → p < length names
 slot_within [] x p h = absurd (cc)
@@ -210,13 +151,18 @@ constant_names k (c ∷ cs) = ap (λ (ws : List Name). Word c ∷ ws) (constant_
 pub names_environment : (names : List (List ℕ)) (vs : List Data) (cs : List (List ℕ)) → length names ≡ length vs → names_of (environment (map Word names) vs cs) ≡ map Word (names ++ cs)
 names_environment names vs cs h = rw (map-append Word names cs, map-append (λ (b : Name × Data). b.0) (zip (map Word names) vs) (constants_from 0 cs), names_zip names vs h, constant_names 0 cs) refl
 
+-- the value of a name in view is at its slot
+pub lookup_view : (v : View) (vs : List Data) (x : Name) (p : ℕ) → IsNamed v vs → slot_in x (names_in_view v) ≡ Some p → lookup x (environment_of v vs) ≡ option_map (λ (b : Name × Data). b.1) (slice_get (environment_of v vs) p)
+lookup_view v vs x p named h = lookup_slot (environment_of v vs) x p (ap (slot_in x) (names_environment v.names (all_values v vs) v.constants.now named) ∙ h)
+
+-- what is found is checked alone
+pub found_there : (o : Option Slot) (d : Option Data) → option_map slot_value o ≡ d → IfSome o (λ s. checked_result d ≡ checked_result (Some (slot_value s)))
+found_there None d h = tt
+found_there (Some s) d h = ap checked_result (sym h)
+
 -- if no value is given besides, an environment has the first values alone
 pub none_given : (names : List Name) (vs : List Data) (cs : List (List ℕ)) → environment names (vs ++ []) cs ≡ environment names vs cs
 none_given names vs cs = ap (λ (ds : List Data). environment names ds cs) (append-nil vs)
-
--- if the second of two further owners lends nothing, and no inboxes are lent, the values are those of the first
-pub given_alone : (names : List Name) (vs gs : List Data) (cs : List (List ℕ)) → environment names (vs ++ (gs ++ ([] ++ []))) cs ≡ environment names (vs ++ gs) cs
-given_alone names vs gs cs = ap (λ (ds : List Data). environment names (vs ++ ds) cs) (append-nil gs)
 
 -- if as many values are there as names, all names are among the first
 pub first_names : (names : List (List ℕ)) (vs : List Data) → length names ≡ length vs → take (length vs) (map Word names) ≡ map Word names
@@ -226,50 +172,20 @@ first_names names vs h = take_all (length vs) (map Word names) (let named = leng
 pub one_list : (names : List (List ℕ)) → names ++ ([] ++ []) ≡ names
 one_list names = append-nil names
 
--- the slot of a name that is among the first variables
-pub slot_among_first : (names : List (List ℕ)) (x : Name) (p count : ℕ) → slot_in x (map Word names) ≡ Some p → p < count → slot_in x (map Word (take count names)) ≡ Some p
-slot_among_first [] x p count h l = absurd (cc)
-slot_among_first (n ∷ names) x p zero h l = absurd (omega arith)
-slot_among_first (n ∷ names) x p (suc count) h l =
-    elim (slot_first (same_name x (Word n)) (map Word names) x p h) [
-      | inl w ↦ rw (w.0, w.1) refl
-      | inr w ↦ rw (w.0, w.3, slot_among_first names x w.1 count w.2 (omega arith)) (ap (λ k. Some k) (omega arith))
-    ]
-
 -- a target is one too if there are more variables
-target_widely : {D : Type 0} (p : PlainTarget ℕ D) (xs more names : List Name) → IsResolvedTarget p xs names → IsResolvedTarget p (xs ++ more) names
+target_widely : {D : Type 0} (p : PlainTarget ℕ Callee D) (xs more names : List Name) → IsResolvedTarget p xs names → IsResolvedTarget p (xs ++ more) names
 target_widely (variable x at d) xs more names h = slot_among_more xs more (Word x) at h
 target_widely (at_key x at d k) xs more names h = (slot_among_more xs more (Word x) at h.0, h.1)
 target_widely (at_field x at d f) xs more names h = slot_among_more xs more (Word x) at h
 
-mutual
-  -- the same of statements
-  statement_widely : {D : Type 0} (s : PlainStatement ℕ D) (xs more names : List Name) → IsResolvedStatement s xs names → IsResolvedStatement s (xs ++ more) names
-  statement_widely (assign p t) xs more names h = (target_widely p xs more names h.0, h.1)
-  statement_widely (branch arms rest) xs more names h = (arms_widely arms xs more names h.0, all_widely rest xs more names h.1)
-  statement_widely (loop t body) xs more names h = (h.0, all_widely body xs more names h.1)
-  statement_widely (fire f) xs more names h = h
-
-  arms_widely : {D : Type 0} (arms : PlainArms ℕ D) (xs more names : List Name) → AreArmsResolved arms xs names → AreArmsResolved arms (xs ++ more) names
-  arms_widely no_arms xs more names h = tt
-  arms_widely (arm t body others) xs more names h = (h.0, all_widely body xs more names h.1, arms_widely others xs more names h.2)
-
-  all_widely : {D : Type 0} (ss : PlainStatements ℕ D) (xs more names : List Name) → AreAllResolved ss xs names → AreAllResolved ss (xs ++ more) names
-  all_widely no_statements xs more names h = tt
-  all_widely (statement s others) xs more names h = (statement_widely s xs more names h.0, all_widely others xs more names h.1)
-
-pub resolved_widely : {D : Type 0} (ss : List (PlainStatement ℕ D)) (xs more names : List Name) → AreResolved ss xs names → AreResolved ss (xs ++ more) names
-resolved_widely [] xs more names h = tt
-resolved_widely (s ∷ ss) xs more names h = (statement_widely s xs more names h.0, resolved_widely ss xs more names h.1)
-
 -- a target among the variables is one among the names in view
-pub target_among_more : (p : PlainTarget ℕ Shape) (names more : List (List ℕ)) → IsResolvedTarget p (map Word names) (map Word (names ++ more)) → IsResolvedTarget p (map Word (names ++ more)) (map Word (names ++ more))
+pub target_among_more : (p : PlainTarget ℕ Callee Shape) (names more : List (List ℕ)) → IsResolvedTarget p (map Word names) (map Word (names ++ more)) → IsResolvedTarget p (map Word (names ++ more)) (map Word (names ++ more))
 target_among_more p names more h =
     subst (λ (ns : List Name). IsResolvedTarget p ns (map Word (names ++ more))) (sym (map-append Word names more))
     (target_widely p (map Word names) (map Word more) (map Word (names ++ more)) h)
 
 -- a target among the first variables is one among the names in view
-pub target_among_all : (p : PlainTarget ℕ Shape) (names more : List (List ℕ)) (count : ℕ) → IsResolvedTarget p (take count (map Word names)) (map Word (names ++ more)) → IsResolvedTarget p (map Word (names ++ more)) (map Word (names ++ more))
+pub target_among_all : (p : PlainTarget ℕ Callee Shape) (names more : List (List ℕ)) (count : ℕ) → IsResolvedTarget p (take count (map Word names)) (map Word (names ++ more)) → IsResolvedTarget p (map Word (names ++ more)) (map Word (names ++ more))
 target_among_all p names more count h =
     let widely = target_widely p (take count (map Word names)) (drop count (map Word names)) (map Word (names ++ more)) h in
     target_among_more p names more (subst (λ (ns : List Name). IsResolvedTarget p ns (map Word (names ++ more))) (take-append-drop count (map Word names)) widely)

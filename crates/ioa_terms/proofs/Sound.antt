@@ -44,7 +44,7 @@ call_has names e g (Some f) w xs s h vs k = function_has h vs k
 call_has names e g None w xs s h vs k = rw (h.1) (waiting_has names e g h.0 s h.3 vs (subst (λ ys. HaveEach ys vs) h.2 k))
 
 mutual
-  sound : {N : Type 0} (names : NameShapes) (e : Bindings) → IsShaped names e → (t : PlainTerm N Shape) (s : PlainShape) → HasShape names t s → IfSome (value t e) (Has s)
+  sound : {N C : Type 0} (names : NameShapes) (e : Bindings) → IsShaped names e → (t : PlainTerm N C Shape) (s : PlainShape) → HasShape names t s → IfSome (value t e) (Has s)
   sound names e g (plain.number n) s h = rw h refl
   sound names e g (plain.truth b) s h = rw h refl
   sound names e g (name x at) s h = each (Has s) (lookup x e) (λ v k. named_has names e g x s v (shape_named x names) refl h k)
@@ -53,14 +53,14 @@ mutual
       and_then_holds (Has h.0) (Has s) (λ v. option_or (left_decision op v) (option_and_then (binary_value op v) (value b e))) (value a e) (sound names e g a h.0 h.2)
       (λ v k. or_holds (Has s) (left_decision op v) (option_and_then (binary_value op v) (value b e)) (decision_has h.4 v)
       (and_then_holds (Has h.1) (Has s) (binary_value op v) (value b e) (sound names e g b h.1 h.3) (λ w l. binary_has h.4 v w k l)))
-  sound names e g (call w ts) s h =
+  sound names e g (call w c ts) s h =
       and_then_holds (HaveEach h.0) (Has s) (named_call_value w e) (values ts e) (all_sound names e g ts h.0 h.1) (call_has names e g (function_named w) w h.0 s h.2)
   sound names e g (display form d ts) s h =
       rw (h.1) (and_then_holds (HaveEach h.0) (Has d) (display_value form d) (values ts e) (all_sound names e g ts h.0 h.2) (λ vs k. display_has form d h.0 vs h.3 k))
   sound names e g (field a w d) s h =
       and_then_holds (Has d) (Has s) (field_value d w) (value a e) (sound names e g a d h.0) (λ v k. field_has d w s v h.1 k)
 
-  all_sound : {N : Type 0} (names : NameShapes) (e : Bindings) → IsShaped names e → (ts : PlainTerms N Shape) (xs : List PlainShape) → HaveShapes names ts xs → IfSome (values ts e) (HaveEach xs)
+  all_sound : {N C : Type 0} (names : NameShapes) (e : Bindings) → IsShaped names e → (ts : PlainTerms N C Shape) (xs : List PlainShape) → HaveShapes names ts xs → IfSome (values ts e) (HaveEach xs)
   all_sound names e g no_terms [] h = tt
   all_sound names e g no_terms (x ∷ xs) h = absurd h
   all_sound names e g (term t more) [] h = absurd h
@@ -69,5 +69,5 @@ mutual
       (λ v k. map_holds (HaveEach xs) (HaveEach (x ∷ xs)) (λ vs. v ∷ vs) (values more e) (all_sound names e g more xs h.1) (λ vs l. (k, l)))
 
 -- the value of a term, if it has one, has the shape of the term
-pub value_has : {N : Type 0} (names : NameShapes) (e : Bindings) → IsShaped names e → (t : PlainTerm N Shape) (s : PlainShape) → HasShape names t s → (v : Data) → value t e ≡ Some v → has_shape s v ≡ true
+pub value_has : {N C : Type 0} (names : NameShapes) (e : Bindings) → IsShaped names e → (t : PlainTerm N C Shape) (s : PlainShape) → HasShape names t s → (v : Data) → value t e ≡ Some v → has_shape s v ≡ true
 value_has names e g t s h v k = rw k at (sound names e g t s h)

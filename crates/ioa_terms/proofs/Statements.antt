@@ -12,7 +12,7 @@ use Rattle.ioa_terms.specs.Performance.{target_name, target_shape, assignment_va
 use Rattle.ioa_terms.specs.PlainTerm.{PlainTerm, PlainStatement, PlainStatements, PlainArms, variable, assign, branch, loop, fire, no_statements, statement, no_arms, arm, statements_of}
 
 -- later statements start from what the earlier ones leave
-pub after_in_order : {N : Type 0} (earlier later : List (PlainStatement N Shape)) (e : Bindings) → after (earlier ++ later) e ≡ option_and_then (after later) (after earlier e)
+pub after_in_order : {N C : Type 0} (earlier later : List (PlainStatement N C Shape)) (e : Bindings) → after (earlier ++ later) e ≡ option_and_then (after later) (after earlier e)
 after_in_order [] later e = refl
 after_in_order (s ∷ earlier) later e = by_first (after_one s e) (after_in_order earlier later)
   where
@@ -22,7 +22,7 @@ after_in_order (s ∷ earlier) later e = by_first (after_one s e) (after_in_orde
     by_first (Some f) further = further f
 
 -- an assignment to a variable
-pub after_assignment : {N : Type 0} (x : List ℕ) (at : N) (s : PlainShape) (t : PlainTerm N Shape) (e : Bindings) (v : Data) → value t e ≡ Some v → has_shape s v ≡ true → after (assign (variable x at s) t ∷ []) e ≡ Some (put (Word x) v e)
+pub after_assignment : {N C : Type 0} (x : List ℕ) (at : N) (s : PlainShape) (t : PlainTerm N C Shape) (e : Bindings) (v : Data) → value t e ≡ Some v → has_shape s v ≡ true → after (assign (variable x at s) t ∷ []) e ≡ Some (put (Word x) v e)
 after_assignment x at s t e v h k = rw (h, k) refl
 
 -- an environment has the names of another
@@ -59,19 +59,19 @@ further_names e more (Some f) h further = of_more (more f) (further f)
 
 -- statements bind no new name
 mutual
-  statement_names : {N : Type 0} (s : PlainStatement N Shape) (e : Bindings) → IfSome (after_one s e) (HasNamesOf e)
+  statement_names : {N C : Type 0} (s : PlainStatement N C Shape) (e : Bindings) → IfSome (after_one s e) (HasNamesOf e)
   statement_names (assign p t) e = put_option_names (target_name p) e (option_and_then (fitting_value (target_shape p)) (assignment_value p t e))
   statement_names (branch arms rest) e = choice_names arms (after_all rest e) e (statements_names rest e)
   statement_names (loop t body) e = tt
   statement_names (fire f) e = tt
 
-  choice_names : {N : Type 0} (arms : PlainArms N Shape) (rest : Option Bindings) (e : Bindings) → IfSome rest (HasNamesOf e) → IfSome (after_choice arms rest e) (HasNamesOf e)
+  choice_names : {N C : Type 0} (arms : PlainArms N C Shape) (rest : Option Bindings) (e : Bindings) → IfSome rest (HasNamesOf e) → IfSome (after_choice arms rest e) (HasNamesOf e)
   choice_names no_arms rest e h = h
   choice_names (arm t body more) rest e h = chosen_names e (test_value t e) (after_all body e) (after_choice more rest e) (statements_names body e) (choice_names more rest e h)
 
-  statements_names : {N : Type 0} (ss : PlainStatements N Shape) (e : Bindings) → IfSome (after_all ss e) (HasNamesOf e)
+  statements_names : {N C : Type 0} (ss : PlainStatements N C Shape) (e : Bindings) → IfSome (after_all ss e) (HasNamesOf e)
   statements_names no_statements e = refl
   statements_names (statement s more) e = further_names e (after_all more) (after_one s e) (statement_names s e) (λ f. statements_names more f)
 
-pub after_names : {N : Type 0} (ss : List (PlainStatement N Shape)) (e f : Bindings) → after ss e ≡ Some f → names_of f ≡ names_of e
+pub after_names : {N C : Type 0} (ss : List (PlainStatement N C Shape)) (e f : Bindings) → after ss e ≡ Some f → names_of f ≡ names_of e
 after_names ss e f k = rw k at (statements_names (statements_of ss) e)

@@ -75,17 +75,17 @@ one_more da db (Some v) vb =
 
 mutual
   -- a term, evaluated part by part, is checked as a whole
-  pub stepwise_is : {N : Type 0} (t : PlainTerm N Shape) (e : Bindings) → stepwise_answer t e ≡ answer t e
+  pub stepwise_is : {N C : Type 0} (t : PlainTerm N C Shape) (e : Bindings) → stepwise_answer t e ≡ answer t e
   stepwise_is (plain.number n) e = refl
   stepwise_is (plain.truth b) e = refl
   stepwise_is (name x at) e = refl
   stepwise_is (one op a) e = rw (stepwise_is a e) (one_part (unary_value op) (numbers_met a e) (value a e))
   stepwise_is (two op a b) e = rw (stepwise_is a e, stepwise_is b e) (two_parts op (numbers_met a e) (numbers_met b e) (value a e) (value b e))
-  stepwise_is (call w ts) e = rw (all_stepwise_is ts e) (one_part (named_call_value w e) (all_numbers_met ts e) (values ts e))
+  stepwise_is (call w c ts) e = rw (all_stepwise_is ts e) (one_part (named_call_value w e) (all_numbers_met ts e) (values ts e))
   stepwise_is (display form d ts) e = rw (all_stepwise_is ts e) (one_part (display_value form d) (all_numbers_met ts e) (values ts e))
   stepwise_is (field a w d) e = rw (stepwise_is a e) (one_part (field_value d w) (numbers_met a e) (value a e))
 
   -- terms, evaluated one after another, are checked as a whole
-  pub all_stepwise_is : {N : Type 0} (ts : PlainTerms N Shape) (e : Bindings) → stepwise_answers ts e ≡ range_check (all_numbers_met ts e) (values ts e)
+  pub all_stepwise_is : {N C : Type 0} (ts : PlainTerms N C Shape) (e : Bindings) → stepwise_answers ts e ≡ range_check (all_numbers_met ts e) (values ts e)
   all_stepwise_is no_terms e = refl
   all_stepwise_is (term t more) e = rw (stepwise_is t e, all_stepwise_is more e) (one_more (numbers_met t e) (all_numbers_met more e) (value t e) (values more e))

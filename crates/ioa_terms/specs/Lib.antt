@@ -11,6 +11,10 @@ pub use Rattle.ioa_operators.specs.Shapes
 pub use Rattle.ioa_operators.specs.ShapeView
 -- what the contracts of this crate and of those above it cite
 pub mod PlainTerm
+pub mod PlainSort
+pub mod SortView
+pub mod SortCode
+pub mod SameSorts
 pub mod TermCode
 pub mod SameNames
 pub mod SameTerms
@@ -18,6 +22,7 @@ pub mod View
 pub mod Bindings
 pub mod Inboxes
 pub mod Slots
+pub mod Views
 pub mod Meaning
 pub mod Performance
 pub mod Resolved

@@ -36,7 +36,7 @@ named_call_value w e vs = call_by (function_named w) w e vs
 abbrev mutual
   -- the value of a term in an environment, if it has one; the right side of an operator counts only if the left one
   -- does not decide
-  pub value : {N : Type 0} → PlainTerm N Shape → Bindings → Option Data
+  pub value : {N C : Type 0} → PlainTerm N C Shape → Bindings → Option Data
   value (plain.number n) e = Some (number n)
   value (plain.truth b) e = Some (truth b)
   value (name x at) e = lookup x e
@@ -45,12 +45,12 @@ abbrev mutual
       option_and_then
       (λ x. option_or (left_decision op x) (option_and_then (binary_value op x) (value b e)))
       (value a e)
-  value (call w ts) e = option_and_then (named_call_value w e) (values ts e)
+  value (call w c ts) e = option_and_then (named_call_value w e) (values ts e)
   value (display form d ts) e = option_and_then (display_value form d) (values ts e)
   value (field a w d) e = option_and_then (field_value d w) (value a e)
 
   -- the values of terms, if each has one
-  pub values : {N : Type 0} → PlainTerms N Shape → Bindings → Option (List Data)
+  pub values : {N C : Type 0} → PlainTerms N C Shape → Bindings → Option (List Data)
   values no_terms e = Some []
   values (term t more) e = option_and_then (λ v. option_map (λ vs. v ∷ vs) (values more e)) (value t e)
 
@@ -72,23 +72,23 @@ if_open op (Some x) ds = if_none (left_decision op x) ds
 abbrev mutual
   -- the results of the parts of a term that are evaluated: left part, right part, whole, up to the first that has no
   -- value
-  pub numbers_met : {N : Type 0} → PlainTerm N Shape → Bindings → List Data
+  pub numbers_met : {N C : Type 0} → PlainTerm N C Shape → Bindings → List Data
   numbers_met (plain.number n) e = number n ∷ []
   numbers_met (plain.truth b) e = truth b ∷ []
   numbers_met (name x at) e = result_of (lookup x e)
   numbers_met (one op a) e = numbers_met a e ++ result_of (value (one op a) e)
   numbers_met (two op a b) e =
       numbers_met a e ++ (if_open op (value a e) (numbers_met b e) ++ result_of (value (two op a b) e))
-  numbers_met (call w ts) e = all_numbers_met ts e ++ result_of (value (call w ts) e)
+  numbers_met (call w c ts) e = all_numbers_met ts e ++ result_of (value (call w c ts) e)
   numbers_met (display form d ts) e = all_numbers_met ts e ++ result_of (value (display form d ts) e)
   numbers_met (field a w d) e = numbers_met a e ++ result_of (value (field a w d) e)
 
   -- the same of terms, one after another
-  pub all_numbers_met : {N : Type 0} → PlainTerms N Shape → Bindings → List Data
+  pub all_numbers_met : {N C : Type 0} → PlainTerms N C Shape → Bindings → List Data
   all_numbers_met no_terms e = []
   all_numbers_met (term t more) e = numbers_met t e ++ if_any (value t e) (all_numbers_met more e)
 
 -- what the evaluation of a term returns: `Range (2)` if a number met lies outside 64 bits, else `Undefined (1)` if
 -- there is no value, else the value
-abbrev pub answer : {N : Type 0} → PlainTerm N Shape → Bindings → Result Data TermFault
+abbrev pub answer : {N C : Type 0} → PlainTerm N C Shape → Bindings → Result Data TermFault
 answer t e = range_check (numbers_met t e) (value t e)

@@ -126,21 +126,21 @@ DisplayIs form xs s = ⊥
 
 abbrev mutual
   -- a term has a shape: a name has its own, with integers for naturals, and a display has the one of its annotation
-  pub HasShape : {N : Type 0} → NameShapes → PlainTerm N Shape → PlainShape → Type 0
+  pub HasShape : {N C : Type 0} → NameShapes → PlainTerm N C Shape → PlainShape → Type 0
   HasShape names (plain.number n) s = s ≡ integers
   HasShape names (plain.truth b) s = s ≡ truths
   HasShape names (name x at) s = option_map shape_in_terms (shape_named x names) ≡ Some s
   HasShape names (one op a) s = (x : PlainShape) × HasShape names a x × UnaryIs op x s
   HasShape names (two op a b) s =
       (x : PlainShape) × (y : PlainShape) × HasShape names a x × HasShape names b y × BinaryIs op x y s
-  HasShape names (call w ts) s = (xs : List PlainShape) × HaveShapes names ts xs × CallIs names w xs s
+  HasShape names (call w c ts) s = (xs : List PlainShape) × HaveShapes names ts xs × CallIs names w xs s
   HasShape names (display form d ts) s =
       (xs : List PlainShape) × (s ≡ d) × HaveShapes names ts xs × DisplayIs form xs d
   HasShape names (field a w d) s =
       HasShape names a d × (option_map shape_in_terms (field_shape w d) ≡ Some s)
 
   -- terms have shapes, one by one
-  pub HaveShapes : {N : Type 0} → NameShapes → PlainTerms N Shape → List PlainShape → Type 0
+  pub HaveShapes : {N C : Type 0} → NameShapes → PlainTerms N C Shape → List PlainShape → Type 0
   HaveShapes names no_terms [] = Unit {0}
   HaveShapes names no_terms (x ∷ xs) = ⊥
   HaveShapes names (term t more) [] = ⊥

@@ -14,46 +14,46 @@ use Rattle.ioa_terms.specs.PlainTerm.{statements_of, arms_of}
 use Rattle.ioa_terms.specs.PlainTerm.{PlainFiring, firing}
 use Rattle.ioa_terms.specs.declared.tree.Firing.{Firing}
 
-abbrev pub view_step : {N D : Type 0} → Tree-F N D (PlainTerm N D) → PlainTerm N D
+abbrev pub view_step : {N C D : Type 0} → Tree-F N C D (PlainTerm N C D) → PlainTerm N C D
 view_step (Tree-F.Number n) = number n
 view_step (Tree-F.Truth b) = truth b
 view_step (Tree-F.Name w x) = name w x
 view_step (Tree-F.One op a) = one op a.value
 view_step (Tree-F.Two op a b) = two op a.value b.value
-view_step (Tree-F.Call w ts) = call w (terms_of ts.items)
+view_step (Tree-F.Call w x ts) = call w x (terms_of ts.items)
 view_step (Tree-F.Display form d ts) = display form d (terms_of ts.items)
 view_step (Tree-F.Field a w d) = field a.value w d
 
 -- a term
-abbrev pub term_of : {N D : Type 0} → Tree N D → PlainTerm N D
-term_of {N} {D} = fold-Tree N D (PlainTerm N D) view_step
+abbrev pub term_of : {N C D : Type 0} → Tree N C D → PlainTerm N C D
+term_of {N} {C} {D} = fold-Tree N C D (PlainTerm N C D) view_step
 
 -- a target
-abbrev pub target_of : {N D : Type 0} → Target N D → PlainTarget N D
+abbrev pub target_of : {N C D : Type 0} → Target N C D → PlainTarget N C D
 target_of (target.Variable w x d) = variable w x d
 target_of (target.At w x d t) = at_key w x d (term_of t)
 target_of (target.Field w x d f) = at_field w x d f
 
 -- a firing
-abbrev pub firing_of : {N D : Type 0} → Firing N D → PlainFiring N D
+abbrev pub firing_of : {N C D : Type 0} → Firing N C D → PlainFiring N C D
 firing_of f = firing f.kind f.action (map term_of f.arguments.items)
 
-abbrev pub statement_step : {N D : Type 0} →
-    Statement-F N D (PlainStatement N D) (PlainTerm N D × PlainStatements N D) → PlainStatement N D
+abbrev pub statement_step : {N C D : Type 0} →
+    Statement-F N C D (PlainStatement N C D) (PlainTerm N C D × PlainStatements N C D) → PlainStatement N C D
 statement_step (Statement-F.Assign p t) = assign (target_of p) (term_of t)
 statement_step (Statement-F.If arms rest) = branch (arms_of arms.items) (statements_of rest.items)
 statement_step (Statement-F.While test body) = loop (term_of test) (statements_of body.items)
 statement_step (Statement-F.Fire f) = fire (firing_of f)
 
-abbrev pub arm_step : {N D : Type 0} →
-    Arm-F N D (PlainStatement N D) (PlainTerm N D × PlainStatements N D) → PlainTerm N D × PlainStatements N D
+abbrev pub arm_step : {N C D : Type 0} →
+    Arm-F N C D (PlainStatement N C D) (PlainTerm N C D × PlainStatements N C D) → PlainTerm N C D × PlainStatements N C D
 arm_step a = (term_of a.test, statements_of a.body.items)
 
 -- a statement
-abbrev pub statement_of : {N D : Type 0} → Statement N D → PlainStatement N D
-statement_of {N} {D} =
-    fold-Statement N D (PlainStatement N D) (PlainTerm N D × PlainStatements N D) statement_step arm_step
+abbrev pub statement_of : {N C D : Type 0} → Statement N C D → PlainStatement N C D
+statement_of {N} {C} {D} =
+    fold-Statement N C D (PlainStatement N C D) (PlainTerm N C D × PlainStatements N C D) statement_step arm_step
 
 -- an arm: its test and its statements
-abbrev pub arm_of : {N D : Type 0} → Arm N D → PlainTerm N D × PlainStatements N D
-arm_of {N} {D} = fold-Arm N D (PlainStatement N D) (PlainTerm N D × PlainStatements N D) statement_step arm_step
+abbrev pub arm_of : {N C D : Type 0} → Arm N C D → PlainTerm N C D × PlainStatements N C D
+arm_of {N} {C} {D} = fold-Arm N C D (PlainStatement N C D) (PlainTerm N C D × PlainStatements N C D) statement_step arm_step

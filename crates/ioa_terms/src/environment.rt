@@ -1,13 +1,19 @@
 //! Environments in which terms are evaluated.
 
-ghost use Rattle.std.specs.Prelude.{◌≡◌, ◌++◌, IfOk, None, slice_get, length, map, []};
+ghost use Rattle.std.specs.Prelude.{◌≡◌, ◌++◌, IfOk, IfSome, None, Ok, Some, slice_get, length, map, []};
 ghost use Rattle.std.specs.Option.{option_map};
-ghost use Rattle.ioa_terms.specs.Bindings.{names_of, environment, lookup, same_word, slot_in};
-ghost use Rattle.ioa_terms.specs.Inboxes.{inbox_values, inboxes_of, inboxes_word, lent_values};
-ghost use Rattle.ioa_terms.specs.Slots.{index_within, slot_or_behind, slot_value};
+ghost use Rattle.ioa_terms.specs.Bindings.{names_of, environment};
+ghost use Rattle.ioa_terms.specs.Inboxes.{inbox_values, inboxes_of, inboxes_word};
+ghost use Rattle.ioa_terms.specs.Resolved.{IsResolved};
+ghost use Rattle.ioa_terms.specs.Slots.{index_within, slot_value};
+ghost use Rattle.ioa_terms.specs.Stepwise.{stepwise_answer};
+ghost use Rattle.ioa_terms.specs.View.{term_of};
+ghost use Rattle.ioa_terms.specs.Views.{IsNamed, environment_of, names_in_view};
 ghost use Rattle.ioa_values.specs.Data.{constant};
 
 use crate::name::Name;
+use crate::quick::quick_value;
+use crate::tree::Checked;
 use ioa_values::{Sequence, Value, Word};
 use std::alloc::{AllocError, Global};
 use std::marker::Model;
@@ -94,111 +100,43 @@ impl<'a> LentValues<'a> {
     }
 }
 
-/// The values that a term may read, each at its slot, with their names: those of variables first, then
-/// what is lent, and the constants behind it. A contract sees the pairs of names and values; the
-/// first pair of a name is the one that counts.
+/// What terms and statements see besides the values that the statements may assign (profile). None of it is copied.
 #[derive(Drop)]
-pub struct Env<'a> {
-    names: NameLists<'a>,
-    values: &'a [Value],
-    lent: LentValues<'a>,
-    constants: &'a [Word],
+pub struct View<'a> {
+    /// The names of the values that statements may assign, and then those of the values that are lent.
+    pub names: NameLists<'a>,
+    /// What terms may read and no statement assigns.
+    pub lent: LentValues<'a>,
+    /// The names of the text's constants.
+    pub constants: &'a [Word],
 }
 
-impl<'a> Model for Env<'a> {
-    ghost use Rattle.std.specs.Prelude.{◌≡◌, ◌++◌, length, map};
-    ghost use Rattle.ioa_terms.specs.Bindings.{Bindings, environment};
-    ghost use Rattle.ioa_terms.specs.Inboxes.{lent_values};
-    ghost use Rattle.ioa_terms.specs.declared.name.Name.TheVariants.{Word};
-    ghost use Rattle.ioa_terms.specs.contracts.name.Name as called;
-    ghost use Rattle.std.specs.Coded.{coded×, coded_list};
-    ghost use Rattle.ioa_values.specs.DataCode.{data_code};
-
-    ghost Value = { Bindings };
-
-    ghost coded = { coded_list (coded× called.the_row.coded data_code) };
-
-    ghost view = { λ e. environment (map Word e.names) (e.values.now ++ lent_values e.lent) e.constants.now };
-
-    ghost invariant = { λ e. length e.names ≡ length (e.values.now ++ lent_values e.lent) };
-}
-
-/// What is at a slot of an environment.
-#[derive(Clone, Copy)]
-pub enum Slot<'a> {
-    /// The value of a variable, or one that is lent.
-    Variable(&'a Value),
-    /// A constant, by its index among the text's constants.
-    Constant(usize),
-    /// The map of the inboxes.
-    Inboxes(&'a [Inbox<'a>]),
-}
-
-impl<'a> Env<'a> {
-    /// The environment of these names and values, and of the text's constants behind them.
-    #[tactic(auto, using(crate::proofs::Slots::none_given))]
-    pub fn with_constants(names: NameLists<'a>, values: &'a [Value], constants: &'a [Word]) -> Self
-        requires { length names ≡ length values.now }
-        ensures value { result ≡ environment (map Name.Word names.entry) values.now constants.now }
-        ensures names { names_of result ≡ map Name.Word (names.entry ++ constants.now) }
-    {
-        Env::with_given(names, values, &[], constants)
-    }
-
-    /// The environment of these names, whose values are in two slices, and of the text's constants behind
-    /// them: so the values that two owners keep need not be copied.
-    #[tactic(auto, using(crate::proofs::Slots::given_alone))]
-    pub fn with_given(
-        names: NameLists<'a>,
-        values: &'a [Value],
-        given: &'a [Value],
-        constants: &'a [Word],
-    ) -> Self
-        requires { length names ≡ length (values.now ++ given.now) }
-        ensures value { result ≡ environment (map Name.Word names.entry) (values.now ++ given.now) constants.now }
-        ensures names { names_of result ≡ map Name.Word (names.entry ++ constants.now) }
-    {
-        Env::with_lent(
-            names,
-            values,
-            LentValues {
-                inboxes: None,
-                first: given,
-                second: &[],
-            },
-            constants,
-        )
-    }
-
-    /// The environment of these names and values, of what is lent, and of the text's constants behind them.
+impl<'a> View<'a> {
+    /// The environment in which terms are evaluated, if the values that statements may assign are these.
     #[tactic(auto, using(crate::proofs::Slots::names_environment))]
-    pub fn with_lent(
-        names: NameLists<'a>,
-        values: &'a [Value],
-        lent: LentValues<'a>,
-        constants: &'a [Word],
-    ) -> Self
-        requires { length names ≡ length (values.now ++ lent_values lent) }
-        ensures value { result ≡ environment (map Name.Word names.entry) (values.now ++ lent_values lent.entry)
-            constants.now }
-        ensures names { names_of result ≡ map Name.Word (names.entry ++ constants.now) }
+    pub fn env<'b>(&'b self, values: &'b [Value]) -> Env<'b>
+        requires { IsNamed self.now values.now }
+        ensures value { result ≡ environment_of self.now values.now }
+        ensures names { names_of result ≡ names_in_view self.now }
     {
-        Env {
-            names,
-            values,
-            lent,
-            constants,
-        }
+        let view = View {
+            names: self.names.reborrow(),
+            lent: self.lent,
+            constants: self.constants,
+        };
+        Env { view, values }
     }
 
     /// What is at a slot, if there is something.
-    pub fn get(&self, slot: usize) -> Option<Slot<'a>>
-        ensures { option_map slot_value result ≡ option_map (λ b. b.1) (slice_get self.now slot) }
+    pub(crate) fn get<'b>(&'b self, values: &'b [Value], slot: usize) -> Option<Slot<'b>>
+        requires { IsNamed self.now values.now }
+        ensures { option_map slot_value result
+            ≡ option_map (λ b. b.1) (slice_get (environment_of self.now values.now) slot) }
     {
-        if slot < self.values.len() {
-            return Some(Slot::Variable(&self.values[slot]));
+        if slot < values.len() {
+            return Some(Slot::Variable(&values[slot]));
         }
-        let behind = slot - self.values.len();
+        let behind = slot - values.len();
         let inbox_slots = inbox_slots(self.lent);
         if behind < inbox_slots {
             return match self.lent.inboxes {
@@ -216,27 +154,76 @@ impl<'a> Env<'a> {
         }
         constant_at(self.constants, further - self.lent.second.len())
     }
+}
 
-    /// The inboxes, if a name in view is theirs. Memory if more names are in view than a machine can count.
-    #[tactic(auto, using(crate::proofs::Slots::lookup_slot, crate::proofs::Slots::lookup_none))]
-    pub(crate) fn inboxes(&self) -> Result<Option<Slot<'a>>, AllocError>
-        ensures { IfOk result (λ o. option_map slot_value o ≡ lookup (Name.Word inboxes_word) self.now) }
+/// The values that a term may read, each at its slot, with their names: those of variables first, then
+/// what is lent, and the constants behind it. A contract sees the pairs of names and values; the
+/// first pair of a name is the one that counts.
+#[derive(Drop)]
+pub struct Env<'a> {
+    view: View<'a>,
+    values: &'a [Value],
+}
+
+impl<'a> Model for Env<'a> {
+    ghost use Rattle.ioa_terms.specs.Bindings.{Bindings};
+    ghost use Rattle.ioa_terms.specs.Views.{IsNamed, environment_of};
+    ghost use Rattle.ioa_terms.specs.contracts.name.Name as called;
+    ghost use Rattle.std.specs.Coded.{coded×, coded_list};
+    ghost use Rattle.ioa_values.specs.DataCode.{data_code};
+
+    ghost Value = { Bindings };
+
+    ghost coded = { coded_list (coded× called.the_row.coded data_code) };
+
+    ghost view = { λ e. environment_of e.view e.values.now };
+
+    ghost invariant = { λ e. IsNamed e.view e.values.now };
+}
+
+/// What is at a slot of an environment.
+#[derive(Clone, Copy)]
+pub enum Slot<'a> {
+    /// The value of a variable, or one that is lent.
+    Variable(&'a Value),
+    /// A constant, by its index among the text's constants.
+    Constant(usize),
+    /// The map of the inboxes.
+    Inboxes(&'a [Inbox<'a>]),
+}
+
+impl<'a> Env<'a> {
+    /// The environment of these names and values, and of the text's constants behind them.
+    #[tactic(auto, using(crate::proofs::Slots::none_given, crate::proofs::Slots::names_environment))]
+    pub fn with_constants(names: NameLists<'a>, values: &'a [Value], constants: &'a [Word]) -> Self
+        requires { length names ≡ length values.now }
+        ensures value { result ≡ environment (map Name.Word names.entry) values.now constants.now }
+        ensures names { names_of result ≡ map Name.Word (names.entry ++ constants.now) }
     {
-        match self.slot_of_inboxes()? {
-            Some(slot) => Ok(self.get(slot)),
-            None => Ok(None),
+        Env {
+            view: View {
+                names,
+                lent: LentValues::none(),
+                constants,
+            },
+            values,
         }
     }
 
-    /// The slot of the inboxes, if a name in view is theirs.
-    #[tactic(auto, using(crate::proofs::Slots::slot_in_four, crate::proofs::Slots::names_environment))]
-    fn slot_of_inboxes(&self) -> Result<Option<usize>, AllocError>
-        ensures { IfOk result (λ o. o ≡ slot_in (Name.Word inboxes_word) (names_of self.now)) }
+    /// What is at a slot, if there is something.
+    pub fn get(&self, slot: usize) -> Option<Slot<'_>>
+        ensures { option_map slot_value result ≡ option_map (λ b. b.1) (slice_get self.now slot) }
     {
-        let slot = slot_before(self.constants, None)?;
-        let slot = slot_before(self.names.third, slot)?;
-        let slot = slot_before(self.names.second, slot)?;
-        slot_before(self.names.first, slot)
+        self.view.get(self.values, slot)
+    }
+
+    /// The value of a term, if it is a number or a truth value that is found quickly.
+    #[tactic(auto, using(crate::proofs::Slots::names_environment))]
+    pub(crate) fn quick_value(&self, term: &Checked) -> Option<Value>
+        requires { IsResolved (term_of term.now) (names_of self.now) }
+        ensures { IfSome result (λ v. stepwise_answer (term_of term.now) self.now ≡ Ok v) }
+    {
+        quick_value(term, &self.view, self.values)
     }
 }
 
@@ -261,47 +248,9 @@ fn constant_at<'a>(constants: &[Word], index: usize) -> Option<Slot<'a>>
     }
 }
 
-/// The slot of the inboxes, if a word is their name, or else the slot behind these words.
-fn slot_before(words: &[Word], others: Option<usize>) -> Result<Option<usize>, AllocError>
-    ensures { IfOk result (λ o. o ≡ slot_or_behind (length words.now)
-        (slot_in (Name.Word inboxes_word) (map Name.Word words.now)) others) }
-{
-    match position_of_inboxes(words) {
-        Some(position) => Ok(Some(position)),
-        None => match others {
-            Some(slot) => Ok(Some(words.len().checked_add(slot).ok_or(AllocError)?)),
-            None => Ok(None),
-        },
-    }
-}
-
-/// The position of the first word that is the name of the inboxes.
-#[tactic(auto, using(crate::proofs::Slots::slot_later, crate::proofs::Slots::slot_here))]
-fn position_of_inboxes(words: &[Word]) -> Option<usize>
-    ensures { result ≡ slot_in (Name.Word inboxes_word) (map Name.Word words.now) }
-{
-    for position in 0..words.len() {
-        if is_inboxes(&words[position]) {
-            return Some(position);
-        }
-    }
-    None
-}
-
 /// The name under which a schedule block sees the inboxes of its node. No text can spell it.
 pub fn inboxes_word(alloc: Global) -> Result<Word, AllocError>
     ensures { IfOk result (λ w. w ≡ inboxes_word) }
 {
     Word::from_ascii(alloc, b"inbox()")
-}
-
-/// Whether a word is the name of the inboxes.
-#[tactic(auto, using(crate::proofs::Slots::same_turned))]
-fn is_inboxes(word: &Word) -> bool
-    ensures { result ≡ same_word inboxes_word word.now }
-{
-    match word.as_str() {
-        "inbox()" => true,
-        _ => false,
-    }
 }

@@ -3,7 +3,7 @@
 ghost use Rattle.std.specs.Prelude.{◌≡◌, Some, None, [], map, true, IfOk};
 ghost use Rattle.std.specs.Option.{option_and_then};
 ghost use Rattle.ioa_values.specs.Outcome.{Answers};
-ghost use Rattle.ioa_terms.specs.Meaning.{answer, call_by, inbox_value, is_inbox_word, named_call_value};
+ghost use Rattle.ioa_terms.specs.Meaning.{answer, inbox_value};
 ghost use Rattle.ioa_terms.specs.Inboxes.{inbox_entries, inboxes_of, inboxes_value, inboxes_word};
 ghost use Rattle.ioa_values.specs.Collections.{IsAscending, keys_of, value_at};
 ghost use Rattle.ioa_values.specs.Data as datum;
@@ -16,12 +16,15 @@ ghost use Rattle.ioa_terms.specs.Stepwise.{stepwise_answer, stepwise_answers, st
 ghost use Rattle.ioa_terms.specs.PlainTerm.{terms_of};
 ghost use Rattle.ioa_values.specs.Data.{is_within};
 ghost use Rattle.ioa_terms.specs.View.{term_of};
+ghost use Rattle.ioa_terms.specs.Views.{IsNamed, environment_of, names_in_view};
 
-use crate::environment::{Env, Inbox, Slot};
+use crate::callee::Callee;
+use crate::environment::{Env, Inbox, Slot, View};
 use crate::name::Name;
+use crate::quick::{quick_truth, quick_value};
 use crate::tree::Checked;
 use ioa_operators::{
-    BinaryOperator, Function, TermFault, binary, call, display, field, left_decision, unary,
+    BinaryOperator, TermFault, binary, call, display, field, left_decision, unary,
 };
 use ioa_values::collections::update;
 use ioa_values::{Value, Word};
@@ -36,7 +39,103 @@ pub fn eval(alloc: Global, term: &Checked, env: &Env) -> Result<Value, TermFault
     requires { IsResolved (term_of term.now) (names_of env.now) }
     ensures { Answers TermFault.Memory (λ v. v) result (answer (term_of term.now) env.now) }
 {
-    evaluate_stepwise(alloc, term, env)
+    match env.quick_value(term) {
+        Some(value) => Ok(value),
+        None => evaluate_stepwise(alloc, term, env),
+    }
+}
+
+/// The value of a term, if the values that statements may assign are these (profile). It is that of `eval`, and costs
+/// less where it is a number or a truth value that is found quickly.
+pub fn evaluate(
+    alloc: Global,
+    term: &Checked,
+    view: &View,
+    values: &[Value],
+) -> Result<Value, TermFault>
+    requires named { IsNamed view.now values.now }
+    requires resolved { IsResolved (term_of term.now) (names_in_view view.now) }
+    ensures { Answers TermFault.Memory (λ v. v) result
+        (stepwise_answer (term_of term.now) (environment_of view.now values.now)) }
+{
+    match quick_value(term, view, values) {
+        Some(value) => Ok(value),
+        None => evaluate_slowly(alloc, term, view, values),
+    }
+}
+
+/// The same of a term whose value is not found quickly.
+fn evaluate_slowly(
+    alloc: Global,
+    term: &Checked,
+    view: &View,
+    values: &[Value],
+) -> Result<Value, TermFault>
+    requires named { IsNamed view.now values.now }
+    requires resolved { IsResolved (term_of term.now) (names_in_view view.now) }
+    ensures { Answers TermFault.Memory (λ v. v) result
+        (stepwise_answer (term_of term.now) (environment_of view.now values.now)) }
+{
+    evaluate_stepwise(alloc, term, &view.env(values))
+}
+
+/// The values of terms, in order, if the values that statements may assign are these (profile). The first fault is
+/// returned, of the first term that has one.
+pub fn evaluate_each(
+    alloc: Global,
+    terms: &Vec<Checked>,
+    view: &View,
+    values: &[Value],
+) -> Result<Vec<Value>, TermFault>
+    requires named { IsNamed view.now values.now }
+    requires resolved { AreTermsResolved (terms_of (map term_of terms.now.items)) (names_in_view view.now) }
+    ensures { Answers TermFault.Memory (λ v. v.items) result
+        (stepwise_answers (terms_of (map term_of terms.now.items)) (environment_of view.now values.now)) }
+{
+    let mut found = Vec::new(alloc);
+    for term in terms {
+        let value = evaluate(alloc, term, view, values)?;
+        found.push(value)?;
+    }
+    Ok(found)
+}
+
+/// Whether a test is true, if the values that statements may assign are these (profile); `Undefined (1)` if it has no
+/// truth value.
+pub fn evaluate_test(
+    alloc: Global,
+    test: &Checked,
+    view: &View,
+    values: &[Value],
+) -> Result<bool, TermFault>
+    requires named { IsNamed view.now values.now }
+    requires resolved { IsResolved (term_of test.now) (names_in_view view.now) }
+    ensures { Answers TermFault.Memory (λ b. b) result
+        (stepwise_test (term_of test.now) (environment_of view.now values.now)) }
+{
+    match quick_truth(test, view, values) {
+        Some(truth) => Ok(truth),
+        None => evaluate_test_slowly(alloc, test, view, values),
+    }
+}
+
+/// The same of a test whose value is not found quickly.
+fn evaluate_test_slowly(
+    alloc: Global,
+    test: &Checked,
+    view: &View,
+    values: &[Value],
+) -> Result<bool, TermFault>
+    requires named { IsNamed view.now values.now }
+    requires resolved { IsResolved (term_of test.now) (names_in_view view.now) }
+    ensures { Answers TermFault.Memory (λ b. b) result
+        (stepwise_test (term_of test.now) (environment_of view.now values.now)) }
+{
+    let value = evaluate_slowly(alloc, test, view, values)?;
+    match value.as_truth() {
+        Some(truth) => Ok(truth),
+        None => Err(TermFault::Undefined),
+    }
 }
 
 /// The value of a term, each part checked before the next is evaluated.
@@ -67,9 +166,12 @@ pub(crate) fn evaluate_stepwise(
                 }
             }
         }
-        Checked::Call(name, parts) => {
+        Checked::Call(_, callee, parts) => {
             let values = evaluate_all(alloc, parts, env)?;
-            call_named(alloc, env, name, values)
+            match callee {
+                Callee::Function(function) => call(alloc, *function, values),
+                Callee::Inboxes(slot) => inbox(alloc, env, *slot, &values),
+            }
         }
         Checked::Display(form, shape, parts) => {
             let values = evaluate_all(alloc, parts, env)?;
@@ -82,7 +184,7 @@ pub(crate) fn evaluate_stepwise(
     }
 }
 
-/// The values of terms, in order (profile). The first fault is returned, of the first term that has one.
+/// The values of terms, in order. The first fault is returned, of the first term that has one.
 #[cycle(evaluating)]
 pub fn evaluate_all(alloc: Global, parts: &Vec<Checked>, env: &Env) -> Result<Vec<Value>, TermFault>
     requires { AreTermsResolved (terms_of (map term_of parts.now.items)) (names_of env.now) }
@@ -95,18 +197,6 @@ pub fn evaluate_all(alloc: Global, parts: &Vec<Checked>, env: &Env) -> Result<Ve
         values.push(value)?;
     }
     Ok(values)
-}
-
-/// Whether a test is true; `Undefined (1)` if it has no truth value.
-pub fn evaluate_test(alloc: Global, test: &Checked, env: &Env) -> Result<bool, TermFault>
-    requires { IsResolved (term_of test.now) (names_of env.now) }
-    ensures { Answers TermFault.Memory (λ b. b) result (stepwise_test (term_of test.now) env.now) }
-{
-    let value = evaluate_stepwise(alloc, test, env)?;
-    match value.as_truth() {
-        Some(truth) => Ok(truth),
-        None => Err(TermFault::Undefined),
-    }
 }
 
 /// The value of a name, for a term.
@@ -162,55 +252,25 @@ fn entries_of(alloc: Global, inboxes: &[Inbox]) -> Result<Vec<(Value, Value)>, A
     Ok(entries)
 }
 
-/// The value of a call, by its name.
-fn call_named(alloc: Global, env: &Env, name: &Word, values: Vec<Value>) -> Result<Value, TermFault>
-    ensures { Answers TermFault.Memory (λ v. v) result
-        (checked_result (named_call_value name.now env.now values.items)) }
-{
-    match Function::named(name) {
-        Some(function) => call(alloc, function, values),
-        None => call_of_none(alloc, env, name, &values),
-    }
-}
-
-/// The value of a call whose name is no function's: only `inbox` has one.
-fn call_of_none(alloc: Global, env: &Env, name: &Word, values: &[Value]) -> Result<Value, TermFault>
-    ensures { Answers TermFault.Memory (λ v. v) result (checked_result (call_by None name.now env.now values.now)) }
-{
-    if is_inbox(name) {
-        inbox(alloc, env, values)
-    } else {
-        Err(TermFault::Undefined)
-    }
-}
-
-/// Whether a call is of `inbox`.
-pub fn is_inbox(name: &Word) -> bool
-    ensures { result ≡ is_inbox_word name.now }
-{
-    match name.as_str() {
-        "inbox" => true,
-        _ => false,
-    }
-}
-
-/// The value of `inbox`: what waits from the node of this number, if the inboxes are in view.
-fn inbox(alloc: Global, env: &Env, values: &[Value]) -> Result<Value, TermFault>
+/// The value of `inbox`: what waits from the node of this number, if the inboxes are at this slot.
+fn inbox(alloc: Global, env: &Env, slot: usize, values: &[Value]) -> Result<Value, TermFault>
+    requires { slot_in (Name.Word inboxes_word) (names_of env.now) ≡ Some slot }
     ensures { Answers TermFault.Memory (λ v. v) result (checked_result (inbox_value values.now env.now)) }
 {
     match values {
-        [sender] => inbox_at(alloc, env, sender),
+        [sender] => inbox_at(alloc, env, slot, sender),
         _ => Err(TermFault::Undefined),
     }
 }
 
-/// What the map of the inboxes has at a key, if the inboxes are in view.
-#[tactic(auto, using(ioa_values::proofs::ItemLists::pairs_of_entries))]
-fn inbox_at(alloc: Global, env: &Env, sender: &Value) -> Result<Value, TermFault>
+/// What the map of the inboxes has at a key, if the inboxes are at this slot.
+#[tactic(auto, using(ioa_values::proofs::ItemLists::pairs_of_entries, crate::proofs::Slots::lookup_slot))]
+fn inbox_at(alloc: Global, env: &Env, slot: usize, sender: &Value) -> Result<Value, TermFault>
+    requires { slot_in (Name.Word inboxes_word) (names_of env.now) ≡ Some slot }
     ensures { Answers TermFault.Memory (λ v. v) result (checked_result (option_and_then
         (λ m. binary_value BinaryOperator.At m sender.now) (lookup (Name.Word inboxes_word) env.now))) }
 {
-    match env.inboxes()? {
+    match env.get(slot) {
         Some(Slot::Inboxes(inboxes)) => messages_from(alloc, inboxes, sender),
         Some(Slot::Variable(map)) => {
             let map = map.try_copy()?;

@@ -7,6 +7,7 @@ ghost use Rattle.ioa_operators.specs.Operators.{unary_value, binary_value, call_
 ghost use Rattle.ioa_operators.specs.Shapes.{PlainShape, shapes_of, wide_shape, has_shape, have_shapes};
 ghost use Rattle.ioa_operators.specs.Shapes.{display_value, field_value};
 ghost use Rattle.ioa_values.specs.Canonical.{IsCanonical};
+ghost use Rattle.ioa_terms.specs.declared.callee.Callee.{Callee};
 ghost use Rattle.ioa_terms.specs.declared.name.Name.{Name};
 ghost use Rattle.ioa_terms.specs.Bindings.{Bindings, names_of, same_name, lookup, put};
 ghost use Rattle.ioa_terms.specs.Meaning.{value};
@@ -29,7 +30,7 @@ ghost use Rattle.ioa_operators.specs.declared.shape.Shape.{Shape};
 /// negative number for a natural.
 pub fn shapes_law()
     ensures kept { (names : NameShapes) (e : Bindings) → IsShaped names e →
-        (t : PlainTerm ℕ Shape) (s : PlainShape) → HasShape names t s →
+        (t : PlainTerm ℕ Callee Shape) (s : PlainShape) → HasShape names t s →
         (v : Data) → value t e ≡ Some v → has_shape s v ≡ true }
     ensures shape_in_terms { (s : PlainShape) (v : Data) →
         has_shape s v ≡ true → has_shape (shape_in_terms s) v ≡ true }
@@ -42,9 +43,9 @@ pub fn shapes_law()
 /// ascending lists without doubles arise as sets and as maps.
 pub fn ascending_law()
     ensures terms { (e : Bindings) → IsAscendingEnvironment e →
-        (t : PlainTerm ℕ Shape) (v : Data) → value t e ≡ Some v → IsCanonical v }
+        (t : PlainTerm ℕ Callee Shape) (v : Data) → value t e ≡ Some v → IsCanonical v }
     ensures statements { (e : Bindings) → IsAscendingEnvironment e →
-        (ss : List (PlainStatement ℕ Shape)) (f : Bindings) → after ss e ≡ Some f → IsAscendingEnvironment f }
+        (ss : List (PlainStatement ℕ Callee Shape)) (f : Bindings) → after ss e ≡ Some f → IsAscendingEnvironment f }
 {}
 
 /// An assignment changes the value of its name, if it has one, and that of no other name.
@@ -56,12 +57,12 @@ pub fn put_law()
 /// Statements apply in order: the later ones start from what the earlier ones leave. An assignment of a value that has
 /// the variable's shape gives the variable this value. No statement binds a new name.
 pub fn statements_law()
-    ensures order { (earlier later : List (PlainStatement ℕ Shape)) (e : Bindings) →
+    ensures order { (earlier later : List (PlainStatement ℕ Callee Shape)) (e : Bindings) →
         after (earlier ++ later) e ≡ option_and_then (after later) (after earlier e) }
-    ensures assignment { (x : List ℕ) (at : ℕ) (s : PlainShape) (t : PlainTerm ℕ Shape) (e : Bindings) (v : Data) →
+    ensures assignment { (x : List ℕ) (at : ℕ) (s : PlainShape) (t : PlainTerm ℕ Callee Shape) (e : Bindings) (v : Data) →
         value t e ≡ Some v → has_shape s v ≡ true →
         after (assign (variable x at s) t ∷ []) e ≡ Some (put (Name.Word x) v e) }
-    ensures names { (ss : List (PlainStatement ℕ Shape)) (e f : Bindings) →
+    ensures names { (ss : List (PlainStatement ℕ Callee Shape)) (e f : Bindings) →
         after ss e ≡ Some f → names_of f ≡ names_of e }
 {}
 

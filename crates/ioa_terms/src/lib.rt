@@ -8,16 +8,20 @@
 //! **Laws**: `ascending_law`, `defined_law`, `put_law`, `shapes_law`, `statements_law`.
 #![tactic(auto)]
 
+mod callee;
 mod environment;
 mod evaluation;
 mod laws;
 mod name;
 mod performance;
+mod quick;
 mod same;
+mod sort;
 mod tree;
 
-pub use environment::{Env, Inbox, LentValues, NameLists, Slot, inboxes_word};
-pub use evaluation::{eval, evaluate_all, evaluate_test, is_inbox};
+pub use callee::{Callee, is_inbox};
+pub use environment::{Env, Inbox, LentValues, NameLists, Slot, View, inboxes_word};
+pub use evaluation::{eval, evaluate, evaluate_all, evaluate_each, evaluate_test};
 pub use ioa_operators::{
     BinaryOperator, DisplayForm, Function, Shape, ShapeForm, TermFault, UnaryOperator,
 };
@@ -29,4 +33,5 @@ pub use same::{
     are_same_firings, are_same_statements, are_same_terms, is_same_firing, is_same_statement,
     is_same_term,
 };
+pub use sort::Sort;
 pub use tree::{Arm, Checked, Firing, Kind, Statement, Target, Term, Tree};

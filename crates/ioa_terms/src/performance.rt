@@ -1,12 +1,11 @@
 //! What a list of statements leaves of an environment.
 
-ghost use Rattle.std.specs.Prelude.{◌≡◌, ◌++◌, map, take, length, slice_set, ◌<◌, IfOk, Some};
+ghost use Rattle.std.specs.Prelude.{◌≡◌, ◌<◌, IfOk, OnErr, Some, length, map, slice_set};
 ghost use Rattle.std.specs.Option.{option_and_then};
 ghost use Rattle.ioa_values.specs.Outcome.{Answers, and_then};
 ghost use Rattle.ioa_operators.specs.RangeCheck.{checked_result};
 ghost use Rattle.ioa_operators.specs.Shapes.{with_field};
-ghost use Rattle.ioa_terms.specs.Bindings.{environment, slot_in, names_of, lookup};
-ghost use Rattle.ioa_terms.specs.Inboxes.{lent_values};
+ghost use Rattle.ioa_terms.specs.Bindings.{slot_in, names_of, lookup};
 ghost use Rattle.ioa_terms.specs.Performance.{answer_by, updated_map};
 ghost use Rattle.ioa_terms.specs.Resolved.{AreResolved, AreAllResolved, IsResolved};
 ghost use Rattle.ioa_terms.specs.Resolved.{IsResolvedStatement, IsResolvedTarget};
@@ -14,9 +13,11 @@ ghost use Rattle.ioa_terms.specs.Stepwise.{stepwise_answer, stepwise_all, stepwi
 ghost use Rattle.ioa_terms.specs.Stepwise.{stepwise_assignment, put_fitting_value};
 ghost use Rattle.ioa_terms.specs.PlainTerm.{assign, statements_of};
 ghost use Rattle.ioa_terms.specs.View.{statement_of, target_of, term_of};
+ghost use Rattle.ioa_terms.specs.Views.{IsNamed, environment_of, names_in_view, own_names};
 
-use crate::environment::{Env, LentValues, NameLists};
-use crate::evaluation::{evaluate_stepwise, evaluate_test, read};
+use crate::callee::Callee;
+use crate::environment::{Env, View};
+use crate::evaluation::{evaluate, evaluate_stepwise, evaluate_test, read};
 use crate::name::Name;
 use crate::tree::{Checked, Statement, Target};
 use ioa_operators::{Function, Shape, TermFault, call, replace_field};
@@ -24,153 +25,149 @@ use ioa_values::{Value, Word};
 use std::alloc::Global;
 use std::mem;
 
-/// The values after statements in order, each seeing what the one before left (profile). `names` are
-/// the names of the values, in the same order; `constants` are those of the text's constants, which
-/// terms may read too. The first fault is returned, and the values are dropped then: `Undefined (1)` if a
-/// term has no value, a test has no truth value, or a new value has not the variable's shape, `Range (2)`
-/// if a number lies outside 64 bits, an intermediate one too, and `Memory (3)` if no memory is left. Costs
-/// time in proportion to the statements performed, and to what their terms and the tests of shapes cost.
+/// Performs statements in order, each seeing what the one before left (profile). `values` are those that the
+/// statements may assign, the first in view; each new value is written where it stands. The first fault is
+/// returned, and what was written before it stays: `Undefined (1)` if a term has no value, a test has no truth
+/// value, or a new value has not the variable's shape, `Range (2)` if a number lies outside 64 bits, an
+/// intermediate one too, and `Memory (3)` if no memory is left. Costs time in proportion to the statements
+/// performed, and to what their terms and the tests of shapes cost.
 #[tactic(auto, using(crate::proofs::Performed::stepwise_by_is, crate::proofs::Performed::all_resolved))]
 pub fn perform(
     alloc: Global,
-    statements: &[Statement<usize, Shape>],
-    names: &NameLists,
-    constants: &[Word],
-    values: Vec<Value>,
-) -> Result<Vec<Value>, TermFault>
+    statements: &[Statement<usize, Callee, Shape>],
+    view: &View,
+    values: &mut Vec<Value>,
+) -> Result<(), TermFault>
     requires resolved { AreResolved (map statement_of statements.now)
-        (map Name.Word names.now) (map Name.Word (names.now ++ constants.now)) }
-    requires named { length names.now ≡ length values.items }
-    ensures after { Answers TermFault.Memory (λ vs. environment (map Name.Word names.now) vs.items constants.now) result
-        (answer_by (map statement_of statements.now)
-        (environment (map Name.Word names.now) values.items constants.now)) }
-    ensures named { IfOk result (λ vs. length names.now ≡ length vs.items) }
+        (own_names view.now (length values.old.items)) (names_in_view view.now) }
+    requires named { IsNamed view.now values.old.items }
+    ensures after { Answers TermFault.Memory (λ _. environment_of view.now values.new.items) result
+        (answer_by (map statement_of statements.now) (environment_of view.now values.old.items)) }
+    ensures kept { length values.new.items ≡ length values.old.items }
 {
-    perform_all(alloc, statements, names, constants, values)
+    perform_all(alloc, statements, view, values)
 }
 
-/// The values after statements, step by step.
+/// Performs statements, step by step.
 #[cycle(performing)]
 fn perform_all(
     alloc: Global,
-    statements: &[Statement<usize, Shape>],
-    names: &NameLists,
-    constants: &[Word],
-    mut values: Vec<Value>,
-) -> Result<Vec<Value>, TermFault>
+    statements: &[Statement<usize, Callee, Shape>],
+    view: &View,
+    values: &mut Vec<Value>,
+) -> Result<(), TermFault>
     requires resolved { AreAllResolved (statements_of (map statement_of statements.now))
-        (map Name.Word names.now) (map Name.Word (names.now ++ constants.now)) }
-    requires named { length names.now ≡ length values.items }
-    ensures after { Answers TermFault.Memory (λ vs. environment (map Name.Word names.now) vs.items constants.now) result
-        (stepwise_all (statements_of (map statement_of statements.now))
-        (environment (map Name.Word names.now) values.items constants.now)) }
-    ensures named { IfOk result (λ vs. length names.now ≡ length vs.items) }
+        (own_names view.now (length values.old.items)) (names_in_view view.now) }
+    requires named { IsNamed view.now values.old.items }
+    ensures after { Answers TermFault.Memory (λ _. environment_of view.now values.new.items) result
+        (stepwise_all (statements_of (map statement_of statements.now)) (environment_of view.now values.old.items)) }
+    ensures kept { length values.new.items ≡ length values.old.items }
 {
     for statement in statements {
-        values = perform_one(alloc, statement, names, constants, values)?;
+        perform_one(alloc, statement, view, values)?;
     }
-    Ok(values)
+    Ok(())
 }
 
-/// The values after one statement.
+/// Performs one statement.
 #[cycle(performing)]
 fn perform_one(
     alloc: Global,
-    statement: &Statement<usize, Shape>,
-    names: &NameLists,
-    constants: &[Word],
-    values: Vec<Value>,
-) -> Result<Vec<Value>, TermFault>
+    statement: &Statement<usize, Callee, Shape>,
+    view: &View,
+    values: &mut Vec<Value>,
+) -> Result<(), TermFault>
     requires resolved { IsResolvedStatement (statement_of statement.now)
-        (map Name.Word names.now) (map Name.Word (names.now ++ constants.now)) }
-    requires named { length names.now ≡ length values.items }
-    ensures after { Answers TermFault.Memory (λ vs. environment (map Name.Word names.now) vs.items constants.now) result
-        (stepwise_one (statement_of statement.now) (environment (map Name.Word names.now) values.items constants.now)) }
-    ensures named { IfOk result (λ vs. length names.now ≡ length vs.items) }
+        (own_names view.now (length values.old.items)) (names_in_view view.now) }
+    requires named { IsNamed view.now values.old.items }
+    ensures after { Answers TermFault.Memory (λ _. environment_of view.now values.new.items) result
+        (stepwise_one (statement_of statement.now) (environment_of view.now values.old.items)) }
+    ensures kept { length values.new.items ≡ length values.old.items }
 {
     match statement {
-        Statement::Assign(target, term) => assign(alloc, target, term, names, constants, values),
+        Statement::Assign(target, term) => perform_assignment(alloc, target, term, view, values),
         Statement::If(arms, rest) => {
             for arm in arms {
-                let env = Env::with_constants(names.reborrow(), &values, constants);
-                if evaluate_test(alloc, &arm.test, &env)? {
-                    return perform_all(alloc, &arm.body, names, constants, values);
+                if evaluate_test(alloc, &arm.test, view, values)? {
+                    return perform_all(alloc, &arm.body, view, values);
                 }
             }
-            perform_all(alloc, rest, names, constants, values)
+            perform_all(alloc, rest, view, values)
         }
         Statement::While(_, _) | Statement::Fire(_) => Err(TermFault::Undefined),
     }
 }
 
-/// The values after an assignment.
-#[tactic(auto, using(crate::proofs::Slots::first_names))]
-fn assign(
-    alloc: Global,
-    target: &Target<usize, Shape>,
-    term: &Checked,
-    names: &NameLists,
-    constants: &[Word],
-    values: Vec<Value>,
-) -> Result<Vec<Value>, TermFault>
-    requires resolved { IsResolvedStatement (assign (target_of target.now) (term_of term.now))
-        (map Name.Word names.now) (map Name.Word (names.now ++ constants.now)) }
-    requires named { length names.now ≡ length values.items }
-    ensures after { Answers TermFault.Memory (λ vs. environment (map Name.Word names.now) vs.items constants.now) result
-        (stepwise_one (assign (target_of target.now) (term_of term.now))
-        (environment (map Name.Word names.now) values.items constants.now)) }
-    ensures named { IfOk result (λ vs. length names.now ≡ length vs.items) }
-{
-    let lent = LentValues::none();
-    perform_assignment(alloc, target, term, names, lent, constants, values)
-}
-
-/// The values after an assignment to one of them, whose terms may read what is lent as well (profile). `names` are the
-/// names of these values and then of what is lent, in the same order; `constants` are those of the text's constants.
-/// The first fault is returned, and the values are dropped then. Costs what its terms and the test of the variable's
-/// shape cost.
-#[tactic(auto, using(crate::proofs::Slots::target_among_all))]
+/// Performs an assignment (profile): `values` are those that statements may assign, and the new value is written where it
+/// stands among them. After a fault, they are what they were. Costs what its terms and the test of the variable's shape
+/// cost.
 pub fn perform_assignment(
     alloc: Global,
-    target: &Target<usize, Shape>,
+    target: &Target<usize, Callee, Shape>,
     term: &Checked,
-    names: &NameLists,
-    lent: LentValues,
-    constants: &[Word],
-    values: Vec<Value>,
-) -> Result<Vec<Value>, TermFault>
+    view: &View,
+    values: &mut Vec<Value>,
+) -> Result<(), TermFault>
     requires resolved { IsResolvedStatement (assign (target_of target.now) (term_of term.now))
-        (take (length values.items) (map Name.Word names.now)) (map Name.Word (names.now ++ constants.now)) }
-    requires named { length names.now ≡ length (values.items ++ lent_values lent) }
-    ensures after { Answers TermFault.Memory (λ vs. environment (map Name.Word names.now)
-        (vs.items ++ lent_values lent.entry) constants.now) result
-        (stepwise_one (assign (target_of target.now) (term_of term.now)) (environment (map Name.Word names.now)
-        (values.items ++ lent_values lent.entry) constants.now)) }
-    ensures kept { IfOk result (λ vs. length vs.items ≡ length values.items) }
+        (own_names view.now (length values.old.items)) (names_in_view view.now) }
+    requires named { IsNamed view.now values.old.items }
+    ensures after { Answers TermFault.Memory (λ _. environment_of view.now values.new.items) result
+        (stepwise_one (assign (target_of target.now) (term_of term.now)) (environment_of view.now values.old.items)) }
+    ensures kept { length values.new.items ≡ length values.old.items }
+    ensures unchanged { OnErr result (values.new ≡ values.old) }
 {
-    let value = assignment_value(
-        alloc,
-        target,
-        term,
-        &Env::with_lent(names.reborrow(), &values, lent, constants),
-    )?;
+    let value = new_value(alloc, target, term, view, values)?;
     match target {
-        Target::Variable(name, at, shape) => {
-            put(name, *at, shape, value, names, lent, constants, values)
-        }
-        Target::At(name, at, shape, _) => {
-            put(name, *at, shape, value, names, lent, constants, values)
-        }
-        Target::Field(name, at, shape, _) => {
-            put(name, *at, shape, value, names, lent, constants, values)
-        }
+        Target::Variable(name, at, shape) => put(name, *at, shape, value, view, values),
+        Target::At(name, at, shape, _) => put(name, *at, shape, value, view, values),
+        Target::Field(name, at, shape, _) => put(name, *at, shape, value, view, values),
     }
 }
 
 /// What an assignment gives its variable, whatever the variable's shape.
+fn new_value(
+    alloc: Global,
+    target: &Target<usize, Callee, Shape>,
+    term: &Checked,
+    view: &View,
+    values: &[Value],
+) -> Result<Value, TermFault>
+    requires target { IsResolvedTarget (target_of target.now) (own_names view.now (length values.now))
+        (names_in_view view.now) }
+    requires term { IsResolved (term_of term.now) (names_in_view view.now) }
+    requires named { IsNamed view.now values.now }
+    ensures { Answers TermFault.Memory (λ v. v) result (stepwise_assignment (target_of target.now) (term_of term.now)
+        (environment_of view.now values.now)) }
+{
+    match target {
+        Target::Variable(_, _, _) => evaluate(alloc, term, view, values),
+        _ => whole_value(alloc, target, term, view, values),
+    }
+}
+
+/// The same of a target that may be a part of its variable.
+#[tactic(auto, using(crate::proofs::Slots::target_among_all))]
+fn whole_value(
+    alloc: Global,
+    target: &Target<usize, Callee, Shape>,
+    term: &Checked,
+    view: &View,
+    values: &[Value],
+) -> Result<Value, TermFault>
+    requires target { IsResolvedTarget (target_of target.now) (own_names view.now (length values.now))
+        (names_in_view view.now) }
+    requires term { IsResolved (term_of term.now) (names_in_view view.now) }
+    requires named { IsNamed view.now values.now }
+    ensures { Answers TermFault.Memory (λ v. v) result (stepwise_assignment (target_of target.now) (term_of term.now)
+        (environment_of view.now values.now)) }
+{
+    assignment_value(alloc, target, term, &view.env(values))
+}
+
+/// The same in an environment.
 fn assignment_value(
     alloc: Global,
-    target: &Target<usize, Shape>,
+    target: &Target<usize, Callee, Shape>,
     term: &Checked,
     env: &Env,
 ) -> Result<Value, TermFault>
@@ -251,28 +248,25 @@ fn replace(
     replace_field(alloc, shape, field, value, whole)
 }
 
-/// The values with another one for a variable; `Undefined (1)` if it has not the variable's shape.
+/// Gives a variable another value; `Undefined (1)` if that has not the variable's shape.
 #[tactic(auto, using(crate::proofs::Slots::put_among_first, crate::proofs::Slots::slot_within_first))]
 fn put(
     name: &Word,
     at: usize,
     shape: &Shape,
     value: Value,
-    names: &NameLists,
-    lent: LentValues,
-    constants: &[Word],
-    mut values: Vec<Value>,
-) -> Result<Vec<Value>, TermFault>
-    requires { slot_in (Name.Word name.now) (take (length values.items) (map Name.Word names.now)) ≡ Some at }
-    ensures after { Answers TermFault.Memory (λ vs. environment (map Name.Word names.now)
-        (vs.items ++ lent_values lent.entry) constants.now) result
-        (put_fitting_value (Name.Word name.now) shape.now (environment (map Name.Word names.now)
-        (values.items ++ lent_values lent.entry) constants.now) value) }
-    ensures kept { IfOk result (λ vs. length vs.items ≡ length values.items) }
+    view: &View,
+    values: &mut Vec<Value>,
+) -> Result<(), TermFault>
+    requires { slot_in (Name.Word name.now) (own_names view.now (length values.old.items)) ≡ Some at }
+    ensures after { Answers TermFault.Memory (λ _. environment_of view.now values.new.items) result
+        (put_fitting_value (Name.Word name.now) shape.now (environment_of view.now values.old.items) value) }
+    ensures kept { length values.new.items ≡ length values.old.items }
+    ensures unchanged { OnErr result (values.new ≡ values.old) }
 {
     if shape.admits(&value) {
-        set(&mut values, at, value);
-        Ok(values)
+        set(values, at, value);
+        Ok(())
     } else {
         Err(TermFault::Undefined)
     }

@@ -7,10 +7,11 @@ ghost use lib.Pointwise.{pointwise};
 ghost use Rattle.ioa_terms.specs.SameTerms.{same_statement, same_statements, same_arms, same_firing};
 ghost use Rattle.ioa_terms.specs.View.{term_of, target_of, statement_of, arm_of, firing_of};
 
+use crate::callee::Callee;
 use crate::tree::{Arm, Firing, Statement, Target, Tree};
 use ioa_operators::Shape;
 
-impl Tree<usize, Shape> {
+impl Tree<usize, Callee, Shape> {
     /// Whether two terms are the same. Costs time in proportion to the shorter one.
     pub fn equals(&self, other: &Self) -> bool
         ensures equality { IsTrue result ↔ (term_of self.now ≡ term_of other.now) }
@@ -19,7 +20,7 @@ impl Tree<usize, Shape> {
     }
 }
 
-impl Statement<usize, Shape> {
+impl Statement<usize, Callee, Shape> {
     /// Whether two statements are the same. Costs time in proportion to the shorter one.
     pub fn equals(&self, other: &Self) -> bool
         ensures equality { IsTrue result ↔ (statement_of self.now ≡ statement_of other.now) }
@@ -28,7 +29,7 @@ impl Statement<usize, Shape> {
     }
 }
 
-impl Firing<usize, Shape> {
+impl Firing<usize, Callee, Shape> {
     /// Whether two firings are the same. Costs time in proportion to the shorter one.
     pub fn equals(&self, other: &Self) -> bool
         ensures equality { IsTrue result ↔ (firing_of self.now ≡ firing_of other.now) }
@@ -39,8 +40,11 @@ impl Firing<usize, Shape> {
 
 /// Whether two terms are the same, by the tests of their annotations.
 #[cycle(comparing_terms)]
-pub fn is_same_term<N: PartialEq, D: PartialEq>(term: &Tree<N, D>, other: &Tree<N, D>) -> bool
-    ensures { result ≡ same_term N.eq D.eq (term_of term.now) (term_of other.now) }
+pub fn is_same_term<N: PartialEq, C: PartialEq, D: PartialEq>(
+    term: &Tree<N, C, D>,
+    other: &Tree<N, C, D>,
+) -> bool
+    ensures { result ≡ same_term N.eq C.eq D.eq (term_of term.now) (term_of other.now) }
 {
     match (term, other) {
         (Tree::Number(m), Tree::Number(n)) => m == n,
@@ -50,7 +54,8 @@ pub fn is_same_term<N: PartialEq, D: PartialEq>(term: &Tree<N, D>, other: &Tree<
         (Tree::Two(op, a, b), Tree::Two(oq, f, g)) => {
             op == oq && (is_same_term(a, f) && is_same_term(b, g))
         }
-        (Tree::Call(w, ts), Tree::Call(v, us)) => w == v && are_same_terms(ts, us),
+        (Tree::Call(w, x, ts), Tree::Call(v, y, us)) => w == v
+            && (x == y && are_same_terms(ts, us)),
         (Tree::Display(f, s, ts), Tree::Display(g, t, us)) => {
             f == g && (s == t && are_same_terms(ts, us))
         }
@@ -61,11 +66,11 @@ pub fn is_same_term<N: PartialEq, D: PartialEq>(term: &Tree<N, D>, other: &Tree<
 
 /// Whether terms are the same, one by one, and as many.
 #[cycle(comparing_terms)]
-pub fn are_same_terms<N: PartialEq, D: PartialEq>(
-    terms: &Vec<Tree<N, D>>,
-    others: &Vec<Tree<N, D>>,
+pub fn are_same_terms<N: PartialEq, C: PartialEq, D: PartialEq>(
+    terms: &Vec<Tree<N, C, D>>,
+    others: &Vec<Tree<N, C, D>>,
 ) -> bool
-    ensures { result ≡ same_terms N.eq D.eq (terms_of (map term_of terms.now.items))
+    ensures { result ≡ same_terms N.eq C.eq D.eq (terms_of (map term_of terms.now.items))
         (terms_of (map term_of others.now.items)) }
 {
     for position in 0..terms.len().min(others.len()) {
@@ -77,8 +82,11 @@ pub fn are_same_terms<N: PartialEq, D: PartialEq>(
 }
 
 /// Whether two targets are the same.
-fn is_same_target<N: PartialEq, D: PartialEq>(target: &Target<N, D>, other: &Target<N, D>) -> bool
-    ensures { result ≡ same_target N.eq D.eq (target_of target.now) (target_of other.now) }
+fn is_same_target<N: PartialEq, C: PartialEq, D: PartialEq>(
+    target: &Target<N, C, D>,
+    other: &Target<N, C, D>,
+) -> bool
+    ensures { result ≡ same_target N.eq C.eq D.eq (target_of target.now) (target_of other.now) }
 {
     match (target, other) {
         (Target::Variable(w, x, s), Target::Variable(v, y, t)) => w == v && (x == y && s == t),
@@ -94,11 +102,11 @@ fn is_same_target<N: PartialEq, D: PartialEq>(target: &Target<N, D>, other: &Tar
 
 /// Whether two statements are the same, by the tests of their annotations.
 #[cycle(comparing_statements)]
-pub fn is_same_statement<N: PartialEq, D: PartialEq>(
-    statement: &Statement<N, D>,
-    other: &Statement<N, D>,
+pub fn is_same_statement<N: PartialEq, C: PartialEq, D: PartialEq>(
+    statement: &Statement<N, C, D>,
+    other: &Statement<N, C, D>,
 ) -> bool
-    ensures { result ≡ same_statement N.eq D.eq (statement_of statement.now) (statement_of other.now) }
+    ensures { result ≡ same_statement N.eq C.eq D.eq (statement_of statement.now) (statement_of other.now) }
 {
     match (statement, other) {
         (Statement::Assign(p, t), Statement::Assign(q, u)) => {
@@ -117,11 +125,11 @@ pub fn is_same_statement<N: PartialEq, D: PartialEq>(
 
 /// Whether statements are the same, one by one, and as many.
 #[cycle(comparing_statements)]
-pub fn are_same_statements<N: PartialEq, D: PartialEq>(
-    statements: &Vec<Statement<N, D>>,
-    others: &Vec<Statement<N, D>>,
+pub fn are_same_statements<N: PartialEq, C: PartialEq, D: PartialEq>(
+    statements: &Vec<Statement<N, C, D>>,
+    others: &Vec<Statement<N, C, D>>,
 ) -> bool
-    ensures { result ≡ same_statements N.eq D.eq (statements_of (map statement_of statements.now.items))
+    ensures { result ≡ same_statements N.eq C.eq D.eq (statements_of (map statement_of statements.now.items))
         (statements_of (map statement_of others.now.items)) }
 {
     for position in 0..statements.len().min(others.len()) {
@@ -134,8 +142,11 @@ pub fn are_same_statements<N: PartialEq, D: PartialEq>(
 
 /// Whether arms are the same, one by one, and as many.
 #[cycle(comparing_statements)]
-fn are_same_arms<N: PartialEq, D: PartialEq>(arms: &Vec<Arm<N, D>>, others: &Vec<Arm<N, D>>) -> bool
-    ensures { result ≡ same_arms N.eq D.eq (arms_of (map arm_of arms.now.items))
+fn are_same_arms<N: PartialEq, C: PartialEq, D: PartialEq>(
+    arms: &Vec<Arm<N, C, D>>,
+    others: &Vec<Arm<N, C, D>>,
+) -> bool
+    ensures { result ≡ same_arms N.eq C.eq D.eq (arms_of (map arm_of arms.now.items))
         (arms_of (map arm_of others.now.items)) }
 {
     for position in 0..arms.len().min(others.len()) {
@@ -148,30 +159,33 @@ fn are_same_arms<N: PartialEq, D: PartialEq>(arms: &Vec<Arm<N, D>>, others: &Vec
 
 /// Whether two arms are the same.
 #[cycle(comparing_statements)]
-fn is_same_arm<N: PartialEq, D: PartialEq>(arm: &Arm<N, D>, other: &Arm<N, D>) -> bool
-    ensures { result ≡ (same_term N.eq D.eq (term_of arm.now.test) (term_of other.now.test)
-        && same_statements N.eq D.eq (arm_of arm.now).1 (arm_of other.now).1) }
+fn is_same_arm<N: PartialEq, C: PartialEq, D: PartialEq>(
+    arm: &Arm<N, C, D>,
+    other: &Arm<N, C, D>,
+) -> bool
+    ensures { result ≡ (same_term N.eq C.eq D.eq (term_of arm.now.test) (term_of other.now.test)
+        && same_statements N.eq C.eq D.eq (arm_of arm.now).1 (arm_of other.now).1) }
 {
     is_same_term(&arm.test, &other.test) && are_same_statements(&arm.body, &other.body)
 }
 
 /// Whether two firings are the same, by the tests of their annotations.
-pub fn is_same_firing<N: PartialEq, D: PartialEq>(
-    firing: &Firing<N, D>,
-    other: &Firing<N, D>,
+pub fn is_same_firing<N: PartialEq, C: PartialEq, D: PartialEq>(
+    firing: &Firing<N, C, D>,
+    other: &Firing<N, C, D>,
 ) -> bool
-    ensures { result ≡ same_firing N.eq D.eq (firing_of firing.now) (firing_of other.now) }
+    ensures { result ≡ same_firing N.eq C.eq D.eq (firing_of firing.now) (firing_of other.now) }
 {
     firing.kind == other.kind
         && (firing.action == other.action && are_same_terms(&firing.arguments, &other.arguments))
 }
 
 /// Whether firings are the same, one by one, and as many.
-pub fn are_same_firings<N: PartialEq, D: PartialEq>(
-    firings: &Vec<Firing<N, D>>,
-    others: &Vec<Firing<N, D>>,
+pub fn are_same_firings<N: PartialEq, C: PartialEq, D: PartialEq>(
+    firings: &Vec<Firing<N, C, D>>,
+    others: &Vec<Firing<N, C, D>>,
 ) -> bool
-    ensures { result ≡ pointwise (same_firing N.eq D.eq) (map firing_of firings.now.items)
+    ensures { result ≡ pointwise (same_firing N.eq C.eq D.eq) (map firing_of firings.now.items)
         (map firing_of others.now.items) }
 {
     for position in 0..firings.len().min(others.len()) {

@@ -1,5 +1,6 @@
 //! Terms and statements as trees, with annotations beside names and displays.
 
+use crate::callee::Callee;
 use crate::name::Name;
 use ioa_operators::{BinaryOperator, DisplayForm, Shape, UnaryOperator};
 use ioa_values::Word;
@@ -16,10 +17,11 @@ pub enum Kind {
 }
 
 /// A term. `N` is the annotation of a name: in a text nothing, in a checked system the slot of the name's
-/// value. `D` is the annotation of a display, a field and an assigned variable: in a text nothing, in a
-/// checked system the shape of its values.
+/// value. `C` is the annotation of a call: in a text nothing, in a checked system what is called. `D` is the
+/// annotation of a display, a field and an assigned variable: in a text nothing, in a checked system the
+/// shape of its values.
 #[derive(Drop)]
-pub enum Tree<N, D> {
+pub enum Tree<N, C, D> {
     /// A number.
     Number(i64),
     /// `true` or `false`.
@@ -27,30 +29,30 @@ pub enum Tree<N, D> {
     /// What a name has.
     Name(Name, N),
     /// An operator before a term.
-    One(UnaryOperator, Box<Tree<N, D>>),
+    One(UnaryOperator, Box<Tree<N, C, D>>),
     /// An operator between two terms, the left one first.
-    Two(BinaryOperator, Box<Tree<N, D>>, Box<Tree<N, D>>),
-    /// `f(t, u)`: a function of the terms' values.
-    Call(Word, Vec<Tree<N, D>>),
+    Two(BinaryOperator, Box<Tree<N, C, D>>, Box<Tree<N, C, D>>),
+    /// `f(t, u)`: a function of the terms' values, or what waits in an inbox.
+    Call(Word, C, Vec<Tree<N, C, D>>),
     /// `{t, u}` or `[t, u]`, with the shape that it has.
-    Display(DisplayForm, D, Vec<Tree<N, D>>),
+    Display(DisplayForm, D, Vec<Tree<N, C, D>>),
     /// `t.f`: a field, with the shape of the tuple.
-    Field(Box<Tree<N, D>>, Word, D),
+    Field(Box<Tree<N, C, D>>, Word, D),
 }
 
 /// A term as a text spells it.
-pub type Term = Tree<(), ()>;
+pub type Term = Tree<(), (), ()>;
 
-/// A term of a checked system: each name has the slot of its value in the environment.
-pub type Checked = Tree<usize, Shape>;
+/// A term of a checked system: each name has the slot of its value in the environment, and each call what is called.
+pub type Checked = Tree<usize, Callee, Shape>;
 
 /// The target of an assignment (profile), with the shape of the variable.
 #[derive(Drop)]
-pub enum Target<N, D> {
+pub enum Target<N, C, D> {
     /// `x`: a variable.
     Variable(Word, N, D),
     /// `x[t]`: the value of a map at a key.
-    At(Word, N, D, Tree<N, D>),
+    At(Word, N, D, Tree<N, C, D>),
     /// `x.f`: a field of a tuple.
     Field(Word, N, D, Word),
 }
@@ -58,35 +60,35 @@ pub enum Target<N, D> {
 /// `t then s`, an arm of an `if`.
 #[cycle(statement)]
 #[derive(Drop)]
-pub struct Arm<N, D> {
+pub struct Arm<N, C, D> {
     /// The test.
-    pub test: Tree<N, D>,
+    pub test: Tree<N, C, D>,
     /// The statements that are performed if the test is true.
-    pub body: Vec<Statement<N, D>>,
+    pub body: Vec<Statement<N, C, D>>,
 }
 
 /// `fire a(t, u)`: what a schedule block asks for (profile).
 #[derive(Drop)]
-pub struct Firing<N, D> {
+pub struct Firing<N, C, D> {
     /// The kind of the action, if it is written.
     pub kind: Option<Kind>,
     /// The name of the action.
     pub action: Word,
     /// The terms of its arguments.
-    pub arguments: Vec<Tree<N, D>>,
+    pub arguments: Vec<Tree<N, C, D>>,
 }
 
 /// A statement of an effect or of a schedule block (profile). In an effect `while` and `fire` have no
 /// meaning: the grammar has no such effect.
 #[cycle(statement)]
 #[derive(Drop)]
-pub enum Statement<N, D> {
+pub enum Statement<N, C, D> {
     /// `x := t`.
-    Assign(Target<N, D>, Tree<N, D>),
+    Assign(Target<N, C, D>, Tree<N, C, D>),
     /// `if t then s elseif u then s else s fi`: the first arm whose test is true, or the rest.
-    If(Vec<Arm<N, D>>, Vec<Statement<N, D>>),
+    If(Vec<Arm<N, C, D>>, Vec<Statement<N, C, D>>),
     /// `while t do s od`: the statements as long as the test is true. Only in a schedule block.
-    While(Tree<N, D>, Vec<Statement<N, D>>),
+    While(Tree<N, C, D>, Vec<Statement<N, C, D>>),
     /// `fire a(t, u)`. Only in a schedule block.
-    Fire(Firing<N, D>),
+    Fire(Firing<N, C, D>),
 }

@@ -3,7 +3,7 @@ use Rattle.std.proofs.Common.{◌≡◌, ℕ, suc, ◌<◌, ◌≤◌, true, fal
 use Rattle.ioa_tokens.specs.declared.token.Token.{Token}
 use Rattle.ioa_tokens.specs.declared.token.Token.TheVariants as token
 use Rattle.ioa_tokens.specs.declared.mark.Mark.TheVariants as mark
-use Rattle.ioa_source.specs.PlainSort.{PlainSort, booleans, integers, naturals, sequences, sets, maps, named_type}
+use Rattle.ioa_terms.specs.PlainSort.{PlainSort, booleans, integers, naturals, sequences, sets, maps, named_type}
 use Rattle.ioa_source.specs.PlainText.{const, named}
 use Rattle.ioa_source.specs.Sides.{SourceTerm as Term, SourceDeclared as Declared, SourceParameter as Parameter}
 use Rattle.ioa_cursor.specs.Lists.{SeparatedBy, ListsSeparatedBy}

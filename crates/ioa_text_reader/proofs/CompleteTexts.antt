@@ -4,7 +4,7 @@ use Rattle.ioa_tokens.specs.declared.token.Token.{Token}
 use Rattle.ioa_tokens.specs.declared.token.Token.TheVariants as token
 use Rattle.ioa_tokens.specs.declared.mark.Mark.TheVariants as mark
 use Rattle.ioa_terms.specs.declared.tree.Kind.{Kind}
-use Rattle.ioa_source.specs.PlainSort.{PlainSort}
+use Rattle.ioa_terms.specs.PlainSort.{PlainSort}
 use Rattle.ioa_source.specs.PlainText as declarations
 use Rattle.ioa_source.specs.Sides.{SourceTerm as Term, SourceStatement as Statement, SourceDeclared as Declared, SourceEntry as Entry, SourceVariable as Variable, SourceTransition as Transition, SourceSchedule as Schedule, SourceForm as Form, SourceType as TypeOf, SourceAutomaton as Automaton, SourceDeclaration as Declaration, SourceNode as Node, SourceCall as Call, SourceScript as Script, SourcePlacement as Placement, SourceText}
 use Rattle.ioa_cursor.specs.Lists.{Several, SeparatedBy, Section, Optional, SeveralLists}

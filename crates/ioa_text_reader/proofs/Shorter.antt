@@ -3,7 +3,7 @@ use Rattle.std.proofs.Common.{ℕ, ◌<◌, ◌≤◌, List, length, arith}
 use Rattle.ioa_tokens.specs.declared.token.Token.{Token}
 use Rattle.ioa_tokens.specs.declared.mark.Mark.TheVariants as mark
 use Rattle.ioa_terms.specs.declared.tree.Kind.{Kind}
-use Rattle.ioa_source.specs.PlainSort.{PlainSort}
+use Rattle.ioa_terms.specs.PlainSort.{PlainSort}
 use Rattle.ioa_source.specs.Sides.{SourceTerm as Term, SourceTarget as Target, SourceStatement as Statement, SourceStatements as Statements, SourceArms as Arms, SourceFiring as Firing, SourceDeclared as Declared, SourceParameter as Parameter, SourceEntry as Entry, SourceVariable as Variable, SourceTransition as Transition, SourceSchedule as Schedule, SourceForm as Form, SourceDeclaration as Declaration, SourceCall as Call, SourcePlacement as Placement}
 use Rattle.ioa_cursor.specs.Lists.{Several, SeparatedBy, ListsSeparatedBy, SeveralLists}
 use Rattle.ioa_cursor.proofs.Shorter.{several_shorter, separated_shorter, ended_shorter, gathered_shorter, gathered_several_shorter, section_shorter, optional_shorter}

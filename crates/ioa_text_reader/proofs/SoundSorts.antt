@@ -5,7 +5,7 @@ use Rattle.ioa_tokens.specs.declared.token.Token.{Token}
 use Rattle.ioa_tokens.specs.declared.token.Token.TheVariants as token
 use Rattle.ioa_tokens.specs.declared.mark.Mark.{Mark}
 use Rattle.ioa_tokens.specs.declared.mark.Mark.TheVariants as mark
-use Rattle.ioa_source.specs.PlainSort.{PlainSort, sequences, sets, maps}
+use Rattle.ioa_terms.specs.PlainSort.{PlainSort, sequences, sets, maps}
 use Rattle.ioa_cursor.specs.Reading.{advance}
 use Rattle.ioa_cursor.proofs.Steps.{read_next, choose_cases, bind_cases, expected_taken, word_taken, peek_mark_taken}
 use Rattle.ioa_text_reader.specs.Grammar as grammar

@@ -1,7 +1,7 @@
 -- The code's names of one sort as values of the grammar (view).
 use Rattle.std.specs.Prelude.{List}
 use Rattle.ioa_source.specs.Sides.{SourceDeclared}
-use Rattle.ioa_source.specs.SortView.{sort_of}
+use Rattle.ioa_terms.specs.SortView.{sort_of}
 use Rattle.ioa_text_reader.specs.Grammar.{declare}
 use Rattle.ioa_text_reader.specs.declared.declared.NamesOfSort.{NamesOfSort}
 

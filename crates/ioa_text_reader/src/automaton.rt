@@ -33,7 +33,7 @@ fn initial(alloc: Global, tokens: &mut Tokens<'_>) -> Result<Option<Term>, Unrea
 
 /// Word `:` Sort [`:=` Term]
 #[tactic(auto, unfolding(crate::specs::Reading::variable, crate::specs::bind))]
-fn variable(alloc: Global, tokens: &mut Tokens<'_>) -> Result<Variable<(), ()>, Unread>
+fn variable(alloc: Global, tokens: &mut Tokens<'_>) -> Result<Variable<(), (), ()>, Unread>
     ensures { Reads variable_of (spec.variable tokens.old) result tokens.new }
 {
     let name = tokens.word(alloc)?;
@@ -52,7 +52,7 @@ fn variable(alloc: Global, tokens: &mut Tokens<'_>) -> Result<Variable<(), ()>, 
 
 /// Variable {`,` Variable}
 #[tactic(auto, unfolding(crate::specs::Reading::variables, crate::specs::bind))]
-fn variables(alloc: Global, tokens: &mut Tokens<'_>) -> Result<Vec<Variable<(), ()>>, Unread>
+fn variables(alloc: Global, tokens: &mut Tokens<'_>) -> Result<Vec<Variable<(), (), ()>>, Unread>
     ensures { Reads (λ v. map variable_of v.items) (spec.variables tokens.old) result tokens.new }
 {
     let mut variables = Vec::new(alloc);
@@ -90,7 +90,7 @@ fn guard_part(alloc: Global, tokens: &mut Tokens<'_>) -> Result<Option<Term>, Un
 
 /// Kind Call [`pre` Term [`;`]] [`eff` Statements]
 #[tactic(auto, unfolding(crate::specs::Reading::transition, crate::specs::bind))]
-fn transition(alloc: Global, tokens: &mut Tokens<'_>) -> Result<Transition<(), ()>, Unread>
+fn transition(alloc: Global, tokens: &mut Tokens<'_>) -> Result<Transition<(), (), ()>, Unread>
     ensures { Reads transition_of (spec.transition tokens.old) result tokens.new }
 {
     let kind = kind(tokens)?;
@@ -108,7 +108,10 @@ fn transition(alloc: Global, tokens: &mut Tokens<'_>) -> Result<Transition<(), (
 
 /// {Transition}
 #[tactic(auto, unfolding(crate::specs::Reading::transitions))]
-fn transitions(alloc: Global, tokens: &mut Tokens<'_>) -> Result<Vec<Transition<(), ()>>, Unread>
+fn transitions(
+    alloc: Global,
+    tokens: &mut Tokens<'_>,
+) -> Result<Vec<Transition<(), (), ()>>, Unread>
     ensures { Reads (λ v. map transition_of v.items) (spec.transitions tokens.old) result tokens.new }
 {
     let mut transitions = Vec::new(alloc);
@@ -123,7 +126,7 @@ fn transitions(alloc: Global, tokens: &mut Tokens<'_>) -> Result<Vec<Transition<
 
 /// `do` [Statements] `od`
 #[tactic(auto, unfolding(crate::specs::Reading::block, crate::specs::bind, crate::specs::choose))]
-fn block(alloc: Global, tokens: &mut Tokens<'_>) -> Result<Vec<Statement<(), ()>>, Unread>
+fn block(alloc: Global, tokens: &mut Tokens<'_>) -> Result<Vec<Statement<(), (), ()>>, Unread>
     ensures { Reads (λ v. map statement_of v.items) (spec.block tokens.old) result tokens.new }
 {
     tokens.expect(Mark::Do)?;
@@ -137,7 +140,7 @@ fn block(alloc: Global, tokens: &mut Tokens<'_>) -> Result<Vec<Statement<(), ()>
 
 /// [`states` Variable {`,` Variable}]
 #[tactic(auto, unfolding(crate::specs::Reading::states_part, crate::specs::choose))]
-fn states_part(alloc: Global, tokens: &mut Tokens<'_>) -> Result<Vec<Variable<(), ()>>, Unread>
+fn states_part(alloc: Global, tokens: &mut Tokens<'_>) -> Result<Vec<Variable<(), (), ()>>, Unread>
     ensures { Reads (λ v. map variable_of v.items) (spec.states_part tokens.old) result tokens.new }
 {
     if !tokens.skip(Mark::States) {
@@ -151,7 +154,7 @@ fn states_part(alloc: Global, tokens: &mut Tokens<'_>) -> Result<Vec<Variable<()
 fn transitions_part(
     alloc: Global,
     tokens: &mut Tokens<'_>,
-) -> Result<Vec<Transition<(), ()>>, Unread>
+) -> Result<Vec<Transition<(), (), ()>>, Unread>
     ensures { Reads (λ v. map transition_of v.items) (spec.transitions_part tokens.old) result tokens.new }
 {
     if !tokens.skip(Mark::Transitions) {
@@ -162,7 +165,7 @@ fn transitions_part(
 
 /// [`states` Variable {`,` Variable}] `do` [Statements] `od`
 #[tactic(auto, unfolding(crate::specs::Reading::schedule, crate::specs::bind))]
-fn schedule(alloc: Global, tokens: &mut Tokens<'_>) -> Result<Schedule<(), ()>, Unread>
+fn schedule(alloc: Global, tokens: &mut Tokens<'_>) -> Result<Schedule<(), (), ()>, Unread>
     ensures { Reads schedule_of (spec.schedule tokens.old) result tokens.new }
 {
     let variables = states_part(alloc, tokens)?;
@@ -175,7 +178,7 @@ fn schedule(alloc: Global, tokens: &mut Tokens<'_>) -> Result<Schedule<(), ()>, 
 
 /// [`schedule` Schedule]
 #[tactic(auto, unfolding(crate::specs::Reading::schedule_part, crate::specs::choose))]
-fn schedule_part(alloc: Global, tokens: &mut Tokens<'_>) -> Result<Schedule<(), ()>, Unread>
+fn schedule_part(alloc: Global, tokens: &mut Tokens<'_>) -> Result<Schedule<(), (), ()>, Unread>
     ensures { Reads schedule_of (spec.schedule_part tokens.old) result tokens.new }
 {
     if !tokens.skip(Mark::Schedule) {
@@ -203,7 +206,10 @@ fn head(alloc: Global, tokens: &mut Tokens<'_>) -> Result<Vec<Declared<()>>, Unr
 /// Word [`(` Declared {`,` Declared} `)`] [Signature] [States] [Transitions] [Schedule], after
 /// `automaton`
 #[tactic(auto, unfolding(crate::specs::Reading::automaton, crate::specs::bind))]
-pub(crate) fn automaton(alloc: Global, tokens: &mut Tokens<'_>) -> Result<Automaton<(), ()>, Unread>
+pub(crate) fn automaton(
+    alloc: Global,
+    tokens: &mut Tokens<'_>,
+) -> Result<Automaton<(), (), ()>, Unread>
     ensures { Reads automaton_of (spec.automaton tokens.old) result tokens.new }
 {
     let name = tokens.word(alloc)?;

@@ -19,19 +19,19 @@ use ioa_terms::{Arm, Firing, Statement, Target, Term, Word};
 pub(crate) type BuiltTerms = Built<Vec<Term>>;
 
 /// The target of an assignment. Its height is that of the term in it, 0 if there is none.
-pub(crate) type BuiltTarget = Built<Target<(), ()>>;
+pub(crate) type BuiltTarget = Built<Target<(), (), ()>>;
 
 /// A statement.
-pub(crate) type BuiltStatement = Built<Statement<(), ()>>;
+pub(crate) type BuiltStatement = Built<Statement<(), (), ()>>;
 
 /// Statements one after another.
-pub(crate) type BuiltStatements = Built<Vec<Statement<(), ()>>>;
+pub(crate) type BuiltStatements = Built<Vec<Statement<(), (), ()>>>;
 
 /// An arm of an `if`.
-pub(crate) type BuiltArm = Built<Arm<(), ()>>;
+pub(crate) type BuiltArm = Built<Arm<(), (), ()>>;
 
 /// Arms one after another.
-pub(crate) type BuiltArms = Built<Vec<Arm<(), ()>>>;
+pub(crate) type BuiltArms = Built<Vec<Arm<(), (), ()>>>;
 
 /// A variable as a target.
 pub(crate) fn variable(name: Word) -> BuiltTarget

@@ -70,7 +70,7 @@ pub(crate) fn built_call(alloc: Global, tokens: &mut Tokens<'_>) -> Result<Built
 }
 
 /// The same without the height.
-pub(crate) fn call(alloc: Global, tokens: &mut Tokens<'_>) -> Result<Call<(), ()>, Unread>
+pub(crate) fn call(alloc: Global, tokens: &mut Tokens<'_>) -> Result<Call<(), (), ()>, Unread>
     ensures { Reads call_of (spec.call tokens.old) result tokens.new }
 {
     let call = built_call(alloc, tokens)?;
@@ -82,7 +82,7 @@ pub(crate) fn call(alloc: Global, tokens: &mut Tokens<'_>) -> Result<Call<(), ()
 
 /// Call {`,` Call}
 #[tactic(auto, unfolding(crate::specs::Reading::calls, crate::specs::bind))]
-pub(crate) fn calls(alloc: Global, tokens: &mut Tokens<'_>) -> Result<Vec<Call<(), ()>>, Unread>
+pub(crate) fn calls(alloc: Global, tokens: &mut Tokens<'_>) -> Result<Vec<Call<(), (), ()>>, Unread>
     ensures { Reads (λ v. map call_of v.items) (spec.calls tokens.old) result tokens.new }
 {
     let mut calls = Vec::new(alloc);

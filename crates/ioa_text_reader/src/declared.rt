@@ -41,7 +41,7 @@ impl NamesOfSort {
     }
 
     /// Each name with the sort, as a parameter of an entry.
-    fn parameters(&self, alloc: Global) -> Result<Vec<Parameter<(), ()>>, Unread>
+    fn parameters(&self, alloc: Global) -> Result<Vec<Parameter<(), (), ()>>, Unread>
         ensures { Matches Memory (λ v. map parameter_of v.items) result (Some (map named (group_of self.now))) }
     {
         let mut parameters = Vec::new(alloc);
@@ -115,7 +115,7 @@ fn parameter_group(
     alloc: Global,
     tokens: &mut Tokens<'_>,
     room: usize,
-) -> Result<Vec<Parameter<(), ()>>, Unread>
+) -> Result<Vec<Parameter<(), (), ()>>, Unread>
     ensures { Reads (λ v. map parameter_of v.items) (spec.parameter_group room tokens.old) result tokens.new }
 {
     if !tokens.skip(Mark::Const) {
@@ -133,7 +133,7 @@ pub(crate) fn parameters(
     alloc: Global,
     tokens: &mut Tokens<'_>,
     room: usize,
-) -> Result<Vec<Parameter<(), ()>>, Unread>
+) -> Result<Vec<Parameter<(), (), ()>>, Unread>
     ensures { Reads (λ v. map parameter_of v.items) (spec.parameters room tokens.old) result tokens.new }
 {
     let mut parameters = parameter_group(alloc, tokens, room)?;

@@ -21,7 +21,7 @@ use std::alloc::Global;
 fn entry_parameters(
     alloc: Global,
     tokens: &mut Tokens<'_>,
-) -> Result<Vec<Parameter<(), ()>>, Unread>
+) -> Result<Vec<Parameter<(), (), ()>>, Unread>
     ensures { Reads (λ v. map parameter_of v.items) (spec.entry_parameters tokens.old) result tokens.new }
 {
     if !tokens.skip(Mark::OpenRound) {
@@ -49,7 +49,7 @@ fn condition(alloc: Global, tokens: &mut Tokens<'_>) -> Result<Option<Term>, Unr
 
 /// Word [`(` [Param {`,` Param}] `)`] [`where` Term]
 #[tactic(auto, unfolding(crate::specs::Reading::entry, crate::specs::bind))]
-fn entry(alloc: Global, tokens: &mut Tokens<'_>, kind: Kind) -> Result<Entry<(), ()>, Unread>
+fn entry(alloc: Global, tokens: &mut Tokens<'_>, kind: Kind) -> Result<Entry<(), (), ()>, Unread>
     ensures { Reads entry_of (spec.entry kind tokens.old) result tokens.new }
 {
     let name = tokens.word(alloc)?;
@@ -65,7 +65,11 @@ fn entry(alloc: Global, tokens: &mut Tokens<'_>, kind: Kind) -> Result<Entry<(),
 
 /// Entry {`,` Entry} [`,`]
 #[tactic(auto, unfolding(crate::specs::Reading::entries, crate::specs::bind))]
-fn entries(alloc: Global, tokens: &mut Tokens<'_>, kind: Kind) -> Result<Vec<Entry<(), ()>>, Unread>
+fn entries(
+    alloc: Global,
+    tokens: &mut Tokens<'_>,
+    kind: Kind,
+) -> Result<Vec<Entry<(), (), ()>>, Unread>
     ensures { Reads (λ v. map entry_of v.items) (spec.entries kind tokens.old) result tokens.new }
 {
     let mut entries = Vec::new(alloc);
@@ -81,7 +85,7 @@ fn entries(alloc: Global, tokens: &mut Tokens<'_>, kind: Kind) -> Result<Vec<Ent
 
 /// Kind Entry {`,` Entry} [`,`]
 #[tactic(auto, unfolding(crate::specs::Reading::group, crate::specs::bind))]
-fn group(alloc: Global, tokens: &mut Tokens<'_>) -> Result<Vec<Entry<(), ()>>, Unread>
+fn group(alloc: Global, tokens: &mut Tokens<'_>) -> Result<Vec<Entry<(), (), ()>>, Unread>
     ensures { Reads (λ v. map entry_of v.items) (spec.group tokens.old) result tokens.new }
 {
     let kind = kind(tokens)?;
@@ -90,7 +94,7 @@ fn group(alloc: Global, tokens: &mut Tokens<'_>) -> Result<Vec<Entry<(), ()>>, U
 
 /// {Kind Entry {`,` Entry} [`,`]}
 #[tactic(auto, unfolding(crate::specs::Reading::groups))]
-fn groups(alloc: Global, tokens: &mut Tokens<'_>) -> Result<Vec<Entry<(), ()>>, Unread>
+fn groups(alloc: Global, tokens: &mut Tokens<'_>) -> Result<Vec<Entry<(), (), ()>>, Unread>
     ensures { Reads (λ v. map entry_of v.items) (spec.groups tokens.old) result tokens.new }
 {
     let mut entries = Vec::new(alloc);
@@ -109,7 +113,7 @@ fn groups(alloc: Global, tokens: &mut Tokens<'_>) -> Result<Vec<Entry<(), ()>>, 
 pub(crate) fn signature_part(
     alloc: Global,
     tokens: &mut Tokens<'_>,
-) -> Result<Vec<Entry<(), ()>>, Unread>
+) -> Result<Vec<Entry<(), (), ()>>, Unread>
     ensures { Reads (λ v. map entry_of v.items) (spec.signature_part tokens.old) result tokens.new }
 {
     if !tokens.skip(Mark::Signature) {

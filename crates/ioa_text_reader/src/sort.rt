@@ -1,7 +1,7 @@
 //! Sorts.
 
 ghost use Rattle.ioa_cursor.specs.Outcome.{Reads};
-ghost use Rattle.ioa_source.specs.SortView.{sort_of};
+ghost use Rattle.ioa_terms.specs.SortView.{sort_of};
 ghost use Rattle.ioa_text_reader.specs.Reading as spec;
 
 use ioa_cursor::{Tokens, Unread};

@@ -9,13 +9,13 @@ use ioa_source::Text;
 /// The tree of a text. Some text spells each value; `parse` makes them. Source: profile.
 #[derive(Drop)]
 pub struct Source {
-    text: Text<(), ()>,
+    text: Text<(), (), ()>,
     ghost spelled: { ∥ IsSource (text_of text) ∥₁ },
 }
 
 impl Source {
     /// The source with a tree that some text spells.
-    pub(crate) fn new(text: Text<(), ()>) -> Self
+    pub(crate) fn new(text: Text<(), (), ()>) -> Self
         requires { ∥ IsSource (text_of text) ∥₁ }
         ensures { result.text ≡ text }
     {
@@ -23,7 +23,7 @@ impl Source {
     }
 
     /// The tree.
-    pub fn text(&self) -> &Text<(), ()>
+    pub fn text(&self) -> &Text<(), (), ()>
         ensures same { result.now ≡ self.now.text }
         ensures spelled { ∥ IsSource (text_of result.now) ∥₁ }
     {

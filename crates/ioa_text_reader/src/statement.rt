@@ -303,7 +303,7 @@ pub(crate) fn statements(
     alloc: Global,
     tokens: &mut Tokens<'_>,
     context: Context,
-) -> Result<Vec<Statement<(), ()>>, Unread>
+) -> Result<Vec<Statement<(), (), ()>>, Unread>
     ensures { Reads (λ v. map statement_of v.items) (spec.statements context tokens.old) result tokens.new }
 {
     let statements = statements_in(alloc, tokens, context, HEIGHT_LIMIT)?;
@@ -315,7 +315,7 @@ pub(crate) fn statements(
 pub(crate) fn effect(
     alloc: Global,
     tokens: &mut Tokens<'_>,
-) -> Result<Vec<Statement<(), ()>>, Unread>
+) -> Result<Vec<Statement<(), (), ()>>, Unread>
     ensures { Reads (λ v. map statement_of v.items) (spec.effect tokens.old) result tokens.new }
 {
     if !tokens.skip(Mark::Eff) {

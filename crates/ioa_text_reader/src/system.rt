@@ -54,7 +54,7 @@ fn at_declaration(tokens: &Tokens<'_>) -> bool
 
 /// Type or Automaton
 #[tactic(auto, unfolding(crate::specs::Reading::declaration, crate::specs::bind, crate::specs::choose))]
-fn declaration(alloc: Global, tokens: &mut Tokens<'_>) -> Result<Declaration<(), ()>, Unread>
+fn declaration(alloc: Global, tokens: &mut Tokens<'_>) -> Result<Declaration<(), (), ()>, Unread>
     ensures { Reads declaration_of (spec.declaration tokens.old) result tokens.new }
 {
     if tokens.skip(Mark::Type) {
@@ -68,7 +68,10 @@ fn declaration(alloc: Global, tokens: &mut Tokens<'_>) -> Result<Declaration<(),
 
 /// {Type or Automaton}
 #[tactic(auto, unfolding(crate::specs::Reading::all_declarations))]
-fn declarations(alloc: Global, tokens: &mut Tokens<'_>) -> Result<Vec<Declaration<(), ()>>, Unread>
+fn declarations(
+    alloc: Global,
+    tokens: &mut Tokens<'_>,
+) -> Result<Vec<Declaration<(), (), ()>>, Unread>
     ensures { Reads (λ v. map declaration_of v.items) (spec.all_declarations tokens.old) result tokens.new }
 {
     let mut declarations = Vec::new(alloc);
@@ -91,7 +94,7 @@ fn at_placement(tokens: &Tokens<'_>) -> bool
 
 /// Number `:` Call, after `node`
 #[tactic(auto, unfolding(crate::specs::Reading::node, crate::specs::bind))]
-fn node(alloc: Global, tokens: &mut Tokens<'_>) -> Result<Node<(), ()>, Unread>
+fn node(alloc: Global, tokens: &mut Tokens<'_>) -> Result<Node<(), (), ()>, Unread>
     ensures { Reads node_of (spec.node tokens.old) result tokens.new }
 {
     let number = tokens.number()?;
@@ -117,7 +120,7 @@ fn channel(tokens: &mut Tokens<'_>) -> Result<Channel, Unread>
 
 /// Number `:` Call {`,` Call}, after `script`
 #[tactic(auto, unfolding(crate::specs::Reading::script, crate::specs::bind))]
-fn script(alloc: Global, tokens: &mut Tokens<'_>) -> Result<ScriptDeclaration<(), ()>, Unread>
+fn script(alloc: Global, tokens: &mut Tokens<'_>) -> Result<ScriptDeclaration<(), (), ()>, Unread>
     ensures { Reads script_of (spec.script tokens.old) result tokens.new }
 {
     let node = tokens.number()?;
@@ -128,7 +131,7 @@ fn script(alloc: Global, tokens: &mut Tokens<'_>) -> Result<ScriptDeclaration<()
 
 /// Node, Channel or Script
 #[tactic(auto, unfolding(crate::specs::Reading::placement, crate::specs::bind, crate::specs::choose))]
-fn one_placement(alloc: Global, tokens: &mut Tokens<'_>) -> Result<Placement<(), ()>, Unread>
+fn one_placement(alloc: Global, tokens: &mut Tokens<'_>) -> Result<Placement<(), (), ()>, Unread>
     ensures { Reads placement_of (spec.placement tokens.old) result tokens.new }
 {
     if tokens.skip(Mark::Node) {
@@ -146,7 +149,7 @@ fn one_placement(alloc: Global, tokens: &mut Tokens<'_>) -> Result<Placement<(),
 
 /// {Node or Channel or Script}
 #[tactic(auto, unfolding(crate::specs::Reading::all_placements))]
-fn placements(alloc: Global, tokens: &mut Tokens<'_>) -> Result<Vec<Placement<(), ()>>, Unread>
+fn placements(alloc: Global, tokens: &mut Tokens<'_>) -> Result<Vec<Placement<(), (), ()>>, Unread>
     ensures { Reads (λ v. map placement_of v.items) (spec.all_placements tokens.old) result tokens.new }
 {
     let mut placements = Vec::new(alloc);
@@ -161,7 +164,7 @@ fn placements(alloc: Global, tokens: &mut Tokens<'_>) -> Result<Vec<Placement<()
 
 /// {Type or Automaton} `system` {Node or Channel or Script}, and then the end
 #[tactic(auto, unfolding(crate::specs::Reading::whole, crate::specs::bind))]
-pub(crate) fn whole(alloc: Global, tokens: &mut Tokens<'_>) -> Result<Text<(), ()>, Unread>
+pub(crate) fn whole(alloc: Global, tokens: &mut Tokens<'_>) -> Result<Text<(), (), ()>, Unread>
     ensures { Reads text_of (spec.whole tokens.old) result tokens.new }
 {
     let declarations = declarations(alloc, tokens)?;

@@ -1,21 +1,23 @@
 -- Arguments beside parameters, one after another, and what the terms of a rule read.
-use Rattle.std.proofs.Common.{◌≡◌, ◌≢◌, ℕ, zero, suc, ◌≤◌, Bool, true, false, List, [], ◌∷◌, ◌++◌, refl, sym, ap, ◌∙◌, subst, length, drop, arith, min, map, take, Ok, length-append}
+use Rattle.std.proofs.Common.{◌≡◌, ◌≢◌, ℕ, zero, suc, ◌≤◌, Bool, true, false, List, [], ◌∷◌, ◌++◌, refl, sym, ap, ◌∙◌, length, drop, arith, min, map, take, Ok, Result, append-nil, length-append}
 use Rattle.std.specs.Prelude.{◌&&◌}
 use Rattle.std.specs.List.{zip}
-use Rattle.std.proofs.lemmas.List.{length-map, map-append, take-append-le}
+use Rattle.std.proofs.lemmas.List.{length-map, map-append, take-append-le, take_all}
 use Rattle.std.proofs.lemmas.Slice.Zip.{seconds-zip}
 use Rattle.std.proofs.Math.Bool.{and-false}
 use Rattle.ioa_values.specs.Data.{Data}
 use Rattle.ioa_terms.specs.declared.name.Name.{Name}
 use Rattle.ioa_terms.specs.declared.name.Name.TheVariants.{Word}
 use Rattle.ioa_terms.specs.Bindings.{Bindings, same_word, environment, constants_from}
-use Rattle.ioa_terms.specs.Resolved.{AreResolved}
-use Rattle.ioa_terms.proofs.Slots.{resolved_widely}
+use Rattle.ioa_operators.specs.declared.fault.TermFault.{TermFault}
+use Rattle.ioa_terms.specs.Inboxes.{lent_values}
+use Rattle.ioa_terms.specs.declared.environment.View.{View}
+use Rattle.ioa_terms.specs.Views.{IsNamed, all_values, environment_of}
 use Rattle.ioa_actions.specs.declared.action.Action.{Action}
 use Rattle.ioa_actions.specs.ActionParts.{action_name, action_arguments}
 use Rattle.ioa_source.specs.PlainText.{const, named}
-use Rattle.ioa_source.specs.Sides.{CheckedDeclared, CheckedEntry, CheckedParameter, CheckedStatement, CheckedVariable}
-use Rattle.ioa_system.specs.InView.{declared_names, names_at, own_names, parameter_names, variable_names, scope_at}
+use Rattle.ioa_source.specs.Sides.{CheckedDeclared, CheckedEntry, CheckedParameter, CheckedVariable}
+use Rattle.ioa_system.specs.InView.{declared_names, own_names, parameter_names, variable_names, scope_at}
 use Rattle.ioa_system.specs.InView.{entry_condition, guard_or_effect}
 use Rattle.ioa_system.specs.Parts.{AutomatonParts}
 use Rattle.ioa_transitions.specs.NodeAnswers.{effect_answer, arguments_agree, parameter_agrees, are_natural, entry_agrees, kind_agrees}
@@ -99,12 +101,33 @@ step_named p own variables given values v g h =
     let named = length-map p.variables (λ (x : CheckedVariable). x.declared.name) in
     omega arith
 
--- the variables are the first of the names in view
-pub effect_in_view : (effect : List CheckedStatement) (p : AutomatonParts) (own : List (List ℕ)) →
-    AreResolved effect (map Word (variable_names p.variables)) (names_at guard_or_effect (declared_names p) own) →
-    AreResolved effect (map Word (scope_at guard_or_effect (declared_names p) own)) (names_at guard_or_effect (declared_names p) own)
-effect_in_view effect p own h =
-    let given = parameter_names p.parameters ++ own in
-    let names = names_at guard_or_effect (declared_names p) own in
-    subst (λ (xs : List Name). AreResolved effect xs names) (sym (map-append Word (variable_names p.variables) given))
-    (resolved_widely effect (map Word (variable_names p.variables)) (map Word given) names h)
+-- the names of the variables are the first of the names in view
+pub step_own : (p : AutomatonParts) (own : List (List ℕ)) (variables : List Data) → length variables ≡ length p.variables → take (length variables) (map Word (scope_at guard_or_effect (declared_names p) own)) ≡ map Word (variable_names p.variables)
+step_own p own variables many =
+    let names = map Word (variable_names p.variables) in
+    let given = map Word (parameter_names p.parameters ++ own) in
+    let named = length-map p.variables (λ (x : CheckedVariable). x.declared.name) in
+    let counted = length-map (variable_names p.variables) Word in
+    let as_many : length variables ≡ length names = omega arith in
+    ap (take (length variables)) (map-append Word (variable_names p.variables) (parameter_names p.parameters ++ own))
+    ∙ ap (λ k. take k (names ++ given)) as_many
+    ∙ take-append-le (length names) names given (omega arith)
+    ∙ take_all (length names) names (omega arith)
+
+-- what the condition of an entry sees: the values of the automaton's parameters, and then those of its own
+pub condition_values : (given own : List Data) → given ++ ([] ++ (own ++ [])) ≡ given ++ own
+condition_values given own = ap (λ (vs : List Data). given ++ vs) (append-nil own)
+
+pub condition_valued : (p : AutomatonParts) (own : List (List ℕ)) (given values : List Data) → length given ≡ length p.parameters → length own ≡ length values →
+    length (scope_at entry_condition (declared_names p) own) ≡ length (given ++ ([] ++ (values ++ [])))
+condition_valued p own given values g h = condition_named p own given values g h ∙ ap length (sym (condition_values given values))
+
+-- the values that an effect leaves
+pub effect_answer_view : (v : View) (vs ws : List Data) (r : Result Bindings TermFault) → IsNamed v vs → length ws ≡ length vs → r ≡ Ok (environment_of v ws) → effect_answer (length vs) r ≡ Ok ws
+effect_answer_view v vs ws r valued kept e =
+    let lent = lent_values v.lent in
+    let before = length-append vs lent in
+    let many = length-append ws lent in
+    ap (effect_answer (length vs)) e
+    ∙ effect_answer_environment (length vs) v.names (all_values v ws) v.constants.now (omega arith) (omega arith)
+    ∙ ap (λ (ds : List Data). Ok ds) (ap (λ k. take k (ws ++ lent)) (sym kept) ∙ take-append-le (length ws) ws lent (omega arith) ∙ take_all (length ws) ws (omega arith))

@@ -1,12 +1,12 @@
 //! The rule of a program that an action takes, and the values that the rule leaves.
 
-ghost use Rattle.std.specs.Prelude.{◌≡◌, ◌++◌, ◌≤◌, IfOk, OnOk, IfSome, true, map, length};
+ghost use Rattle.std.specs.Prelude.{◌≡◌, ◌++◌, [], IfOk, OnOk, IfSome, true, map, length};
 ghost use Rattle.std.specs.Option.{option_copied, option_map};
 ghost use Rattle.ioa_source.specs.TextView.{entry_of, parameter_of};
 ghost use Rattle.ioa_terms.specs.View.{term_of};
 ghost use Rattle.ioa_values.specs.Outcome.{Answers};
 ghost use Rattle.ioa_actions.specs.ActionParts.{action_arguments};
-ghost use Rattle.ioa_system.specs.InView.{declared_names, environment_at, given_bindings, names_at, scope_at};
+ghost use Rattle.ioa_system.specs.InView.{declared_names, environment_at, given_bindings, names_at, variable_names};
 ghost use Rattle.ioa_system.specs.InView.{entry_condition, guard_or_effect};
 ghost use Rattle.ioa_system.specs.ResolvedPrograms.{IsResolvedRule, IsResolvedGuard};
 ghost use Rattle.ioa_system.specs.ResolvedPrograms.{IsResolvedParameter, AreResolvedParameters};
@@ -16,12 +16,16 @@ ghost use Rattle.ioa_transitions.specs.NodeStep.{own_value, own_values};
 ghost use Rattle.ioa_terms.specs.Meaning.{answer};
 ghost use Rattle.ioa_terms.specs.Performance.{answer_by};
 ghost use Rattle.ioa_terms.specs.Resolved.{AreResolved, IsResolved};
-ghost use Rattle.ioa_terms.specs.Bindings.{names_of, environment};
+ghost use Rattle.ioa_terms.specs.Bindings.{names_of};
+ghost use Rattle.ioa_terms.specs.Views.{IsNamed, environment_of, names_in_view, own_names};
 
 use ioa_actions::{Action, RECEIVE, SEND, StepFault};
 use ioa_source::{Entry, Parameter};
-use ioa_system::{CompiledAutomaton, Program, Rule};
-use ioa_terms::{Checked, Env, Kind, Name, Shape, TermFault, Value, Word, eval, perform};
+use ioa_system::{Program, Rule};
+use ioa_terms::{
+    Callee, Checked, Env, Kind, LentValues, Name, Shape, TermFault, Value, View, eval, evaluate,
+    perform,
+};
 use ioa_values::copies;
 use std::alloc::{AllocError, Global};
 
@@ -50,7 +54,7 @@ fn kind_agrees(action: &Action, kind: Kind) -> bool
 fn parameter_agrees(
     alloc: Global,
     env: &Env,
-    parameter: &Parameter<usize, Shape>,
+    parameter: &Parameter<usize, Callee, Shape>,
     value: &Value,
 ) -> Result<bool, AllocError>
     requires { IsResolvedParameter (names_of env.now) (parameter_of parameter.now) }
@@ -84,7 +88,7 @@ fn constant_agrees(
 fn arguments_agree(
     alloc: Global,
     env: &Env,
-    parameters: &[Parameter<usize, Shape>],
+    parameters: &[Parameter<usize, Callee, Shape>],
     arguments: &[Value],
 ) -> Result<bool, AllocError>
     requires { AreResolvedParameters (names_of env.now) (map parameter_of parameters.now) }
@@ -103,7 +107,7 @@ fn arguments_agree(
 
 /// Passes if no argument holds a negative number where its sort says Nat; else `Undefined` (1).
 fn pass_naturals(
-    parameters: &[Parameter<usize, Shape>],
+    parameters: &[Parameter<usize, Callee, Shape>],
     arguments: &[Value],
 ) -> Result<(), StepFault>
     ensures { result ≡ spec.naturals_answer (map parameter_of parameters.now) arguments.now }
@@ -117,7 +121,7 @@ fn pass_naturals(
 }
 
 /// Whether an argument holds no negative number where its sort says Nat.
-fn is_natural(parameter: &Parameter<usize, Shape>, argument: &Value) -> bool
+fn is_natural(parameter: &Parameter<usize, Callee, Shape>, argument: &Value) -> bool
     ensures { result ≡ spec.is_natural (parameter_of parameter.now) argument.now }
 {
     match parameter {
@@ -130,7 +134,7 @@ fn is_natural(parameter: &Parameter<usize, Shape>, argument: &Value) -> bool
 fn entry_agrees(
     alloc: Global,
     env: &Env,
-    entry: &Entry<usize, Shape>,
+    entry: &Entry<usize, Callee, Shape>,
     action: &Action,
     arguments: &[Value],
 ) -> Result<bool, AllocError>
@@ -252,97 +256,143 @@ fn take_transition(
     ensures valued { IfOk result (λ v. length v.items ≡ length variables.now) }
 {
     pass_naturals(&rule.entry.parameters, arguments)?;
-    let automaton = program.automaton();
-    let fixed_values = fixed_values(alloc, program.arguments(), &rule.entry, arguments)?;
-    pass_condition(alloc, automaton, rule, &fixed_values)?;
-    pass_transition_guard(alloc, automaton, rule, variables, &fixed_values)?;
-    let values = all_values(alloc, variables, fixed_values)?;
-    take_effect(alloc, automaton, rule, values, variables.len())
+    let own = own_values(alloc, &rule.entry, arguments)?;
+    pass_condition(alloc, program, rule, &own)?;
+    pass_step(alloc, program, rule, &own, variables)
 }
 
 /// Passes if the condition of a rule's entry is true or missing; else `NotEnabled` (40). It reads no state variable.
 fn pass_condition(
     alloc: Global,
-    automaton: &CompiledAutomaton,
+    program: &Program,
     rule: &Rule,
-    fixed_values: &[Value],
+    own: &[Value],
 ) -> Result<(), StepFault>
     requires resolved { IsResolvedGuard rule.now.entry.condition
-        (names_at entry_condition (declared_names automaton.now) rule.now.own) }
-    requires named { length (scope_at entry_condition (declared_names automaton.now) rule.now.own)
-        ≡ length fixed_values.now }
+        (names_at entry_condition (declared_names program.now.automaton) rule.now.own) }
+    requires own { length rule.now.own ≡ length own.now }
     ensures { Answers StepFault.Memory (λ _. tt) result (spec.guard_answer rule.now.entry.condition
-        (environment (map Name.Word (scope_at entry_condition (declared_names automaton.now) rule.now.own))
-        fixed_values.now automaton.now.constants)) }
+        (environment_at entry_condition (declared_names program.now.automaton) rule.now.own
+        program.now.arguments [] own.now)) }
 {
-    let names = automaton.condition_names(rule);
-    let env = Env::with_constants(names, fixed_values, automaton.constants());
-    pass_guard(alloc, &rule.entry.condition, &env)
+    match &rule.entry.condition {
+        None => Ok(()),
+        Some(condition) => {
+            let given = program.arguments();
+            let view = condition_view(program, rule, own);
+            pass_test(alloc, condition, &view, given)
+        }
+    }
 }
 
-/// Passes if the guard of a rule's transition is true or missing; else `NotEnabled` (40). It reads the state variables
-/// and then the values that no effect changes.
-fn pass_transition_guard(
+/// What the condition of a rule's entry sees, if the entry's own parameters have these values: the values of the
+/// automaton's parameters come first.
+#[tactic(auto, using(crate::proofs::Arguments::condition_valued, crate::proofs::Arguments::condition_values))]
+fn condition_view<'a>(program: &'a Program, rule: &'a Rule, own: &'a [Value]) -> View<'a>
+    requires given { length program.now.arguments ≡ length program.now.automaton.parameters }
+    requires own { length rule.now.own ≡ length own.now }
+    ensures named { IsNamed result program.now.arguments }
+    ensures names { names_in_view result
+        ≡ names_at entry_condition (declared_names program.now.automaton) rule.now.own }
+    ensures value { environment_of result program.now.arguments
+        ≡ environment_at entry_condition (declared_names program.now.automaton) rule.now.own
+        program.now.arguments [] own.now }
+{
+    let automaton = program.automaton();
+    View {
+        names: automaton.condition_names(rule),
+        lent: LentValues {
+            inboxes: None,
+            first: own,
+            second: &[],
+        },
+        constants: automaton.constants(),
+    }
+}
+
+/// The values of the state variables after a rule's transition, if the entry's own parameters have these values: the
+/// guard is tested, and then the effect is performed.
+fn pass_step(
     alloc: Global,
-    automaton: &CompiledAutomaton,
+    program: &Program,
     rule: &Rule,
+    own: &[Value],
     variables: &[Value],
-    fixed_values: &[Value],
-) -> Result<(), StepFault>
-    requires resolved { IsResolvedGuard rule.now.transition.pre
-        (names_at guard_or_effect (declared_names automaton.now) rule.now.own) }
-    requires named { length (scope_at guard_or_effect (declared_names automaton.now) rule.now.own)
-        ≡ length (variables.now ++ fixed_values.now) }
-    ensures { Answers StepFault.Memory (λ _. tt) result (spec.guard_answer rule.now.transition.pre
-        (environment (map Name.Word (scope_at guard_or_effect (declared_names automaton.now) rule.now.own))
-        (variables.now ++ fixed_values.now) automaton.now.constants)) }
+) -> Result<Vec<Value>, StepFault>
+    requires resolved { IsResolvedRule (declared_names program.now.automaton) rule.now }
+    requires valued { length variables.now ≡ length program.now.automaton.variables }
+    requires own { length rule.now.own ≡ length own.now }
+    ensures after { Answers StepFault.Memory (λ v. v.items) result
+        (spec.transition_answer (length variables.now) rule.now.transition
+        (environment_at guard_or_effect (declared_names program.now.automaton) rule.now.own
+        program.now.arguments variables.now own.now)) }
+    ensures valued { IfOk result (λ v. length v.items ≡ length variables.now) }
 {
-    let names = automaton.step_names(rule);
-    let env = Env::with_given(names, variables, fixed_values, automaton.constants());
-    pass_guard(alloc, &rule.transition.pre, &env)
+    let view = step_view(program, rule, own, variables);
+    pass_guard(alloc, &rule.transition.pre, &view, variables)?;
+    take_effect(alloc, rule, &view, variables)
 }
 
-/// The values of the first `count` names after a rule's effect.
-#[tactic(auto, using(crate::proofs::Arguments::effect_answer_environment))]
+/// What the guard and the effect of a rule see, if the entry's own parameters have these values: the values of the state
+/// variables come first.
+#[tactic(auto, using(crate::proofs::Arguments::step_named, crate::proofs::Arguments::step_own))]
+fn step_view<'a>(
+    program: &'a Program,
+    rule: &'a Rule,
+    own: &'a [Value],
+    variables: &[Value],
+) -> View<'a>
+    requires valued { length variables.now ≡ length program.now.automaton.variables }
+    requires own { length rule.now.own ≡ length own.now }
+    ensures named { IsNamed result variables.now }
+    ensures own { own_names result (length variables.now) ≡ map Name.Word (variable_names program.now.automaton.variables) }
+    ensures names { names_in_view result
+        ≡ names_at guard_or_effect (declared_names program.now.automaton) rule.now.own }
+    ensures value { environment_of result variables.now
+        ≡ environment_at guard_or_effect (declared_names program.now.automaton) rule.now.own
+        program.now.arguments variables.now own.now }
+{
+    let automaton = program.automaton();
+    View {
+        names: automaton.step_names(rule),
+        lent: LentValues {
+            inboxes: None,
+            first: program.arguments(),
+            second: own,
+        },
+        constants: automaton.constants(),
+    }
+}
+
+/// The values of the state variables after a rule's effect, which is performed on a copy of them.
+#[tactic(auto, using(crate::proofs::Arguments::effect_answer_view))]
 fn take_effect(
     alloc: Global,
-    automaton: &CompiledAutomaton,
     rule: &Rule,
-    values: Vec<Value>,
-    count: usize,
+    view: &View,
+    variables: &[Value],
 ) -> Result<Vec<Value>, StepFault>
-    // the names in the effect are resolved, and each name in view has a value
-    requires resolved { AreResolved rule.now.transition.effect
-        (map Name.Word (scope_at guard_or_effect (declared_names automaton.now) rule.now.own))
-        (names_at guard_or_effect (declared_names automaton.now) rule.now.own) }
-    requires named { length (scope_at guard_or_effect (declared_names automaton.now) rule.now.own)
-        ≡ length values.items }
-    requires within { count ≤ length values.items }
-    // `count` new values
-    ensures after { Answers StepFault.Memory (λ v. v.items) result (spec.effect_answer count
-        (answer_by rule.now.transition.effect
-        (environment (map Name.Word (scope_at guard_or_effect (declared_names automaton.now) rule.now.own))
-        values.items automaton.now.constants))) }
-    ensures valued { IfOk result (λ v. length v.items ≡ count) }
+    requires resolved { AreResolved rule.now.transition.effect (own_names view.now (length variables.now))
+        (names_in_view view.now) }
+    requires named { IsNamed view.now variables.now }
+    ensures after { Answers StepFault.Memory (λ v. v.items) result (spec.effect_answer (length variables.now)
+        (answer_by rule.now.transition.effect (environment_of view.now variables.now))) }
+    ensures valued { IfOk result (λ v. length v.items ≡ length variables.now) }
 {
-    let effect = &rule.transition.effect;
-    let names = automaton.step_names(rule);
-    let mut left = perform(alloc, effect, &names, automaton.constants(), values)?;
-    left.truncate(count);
-    Ok(left)
+    let mut values = copies(alloc, variables)?;
+    perform(alloc, &rule.transition.effect, view, &mut values)?;
+    Ok(values)
 }
 
-/// The values that an effect reads and does not change: those of the automaton's parameters, and of the entry's own.
-fn fixed_values(
+/// The arguments that have names of their own.
+fn own_values(
     alloc: Global,
-    given: &[Value],
-    entry: &Entry<usize, Shape>,
+    entry: &Entry<usize, Callee, Shape>,
     arguments: &[Value],
 ) -> Result<Vec<Value>, AllocError>
-    ensures { IfOk result
-        (λ v. v.items ≡ given.now ++ own_values (entry_of entry.now).parameters arguments.now) }
+    ensures { IfOk result (λ v. v.items ≡ own_values (entry_of entry.now).parameters arguments.now) }
 {
-    let mut values = copies(alloc, given)?;
+    let mut values = Vec::new(alloc);
     let count = entry.parameters.len().min(arguments.len());
     for i in 0..count {
         push_own(&mut values, &entry.parameters[i], &arguments[i])?;
@@ -350,23 +400,10 @@ fn fixed_values(
     Ok(values)
 }
 
-/// Copies of the state variables' values, and then the other values in view.
-fn all_values(
-    alloc: Global,
-    variables: &[Value],
-    mut fixed_values: Vec<Value>,
-) -> Result<Vec<Value>, AllocError>
-    ensures { IfOk result (λ v. v.items ≡ variables.now ++ fixed_values.items) }
-{
-    let mut values = copies(alloc, variables)?;
-    values.append(&mut fixed_values)?;
-    Ok(values)
-}
-
 /// Adds the argument at the end if the parameter has a name of its own.
 fn push_own(
     values: &mut Vec<Value>,
-    parameter: &Parameter<usize, Shape>,
+    parameter: &Parameter<usize, Callee, Shape>,
     argument: &Value,
 ) -> Result<(), AllocError>
     ensures { OnOk result
@@ -381,16 +418,34 @@ fn push_own(
     }
 }
 
-/// Passes if a guard, or the condition of an entry, is true or missing; else `NotEnabled` (40).
-fn pass_guard(alloc: Global, pre: &Option<Checked>, env: &Env) -> Result<(), StepFault>
-    requires { IsResolvedGuard (option_map term_of pre.now) (names_of env.now) }
-    ensures { Answers StepFault.Memory (λ _. tt) result (spec.guard_answer (option_map term_of pre.now) env.now) }
+/// Passes if a guard is true or missing; else `NotEnabled` (40).
+fn pass_guard(
+    alloc: Global,
+    pre: &Option<Checked>,
+    view: &View,
+    values: &[Value],
+) -> Result<(), StepFault>
+    requires named { IsNamed view.now values.now }
+    requires resolved { IsResolvedGuard (option_map term_of pre.now) (names_in_view view.now) }
+    ensures { Answers StepFault.Memory (λ _. tt) result
+        (spec.guard_answer (option_map term_of pre.now) (environment_of view.now values.now)) }
 {
     match pre {
         None => Ok(()),
-        Some(guard) => match eval(alloc, guard, env)?.as_truth() {
-            Some(true) => Ok(()),
-            _ => Err(StepFault::NotEnabled),
-        },
+        Some(guard) => pass_test(alloc, guard, view, values),
+    }
+}
+
+/// Passes if a test is true; else `NotEnabled` (40).
+#[tactic(auto, using(ioa_terms::proofs::Stepwise::stepwise_is))]
+fn pass_test(alloc: Global, test: &Checked, view: &View, values: &[Value]) -> Result<(), StepFault>
+    requires named { IsNamed view.now values.now }
+    requires resolved { IsResolved (term_of test.now) (names_in_view view.now) }
+    ensures { Answers StepFault.Memory (λ _. tt) result
+        (spec.value_answer (answer (term_of test.now) (environment_of view.now values.now))) }
+{
+    match evaluate(alloc, test, view, values)?.as_truth() {
+        Some(true) => Ok(()),
+        _ => Err(StepFault::NotEnabled),
     }
 }

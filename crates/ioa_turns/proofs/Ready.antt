@@ -10,6 +10,7 @@ use Rattle.ioa_values.specs.Data.{Data}
 use Rattle.ioa_operators.specs.declared.fault.TermFault.{TermFault}
 use Rattle.ioa_operators.specs.declared.shape.Shape.{Shape}
 use Rattle.ioa_operators.specs.Shapes.{PlainShape}
+use Rattle.ioa_terms.specs.declared.callee.Callee.{Callee}
 use Rattle.ioa_terms.specs.Inboxes.{PlainInboxes, inbox_values, inboxes_of, lent_values}
 use Rattle.ioa_terms.specs.Bindings.{Bindings, environment, constants_from}
 use Rattle.ioa_terms.specs.PlainTerm.{PlainStatements, statements_of, no_statements, statement}
@@ -17,10 +18,11 @@ use Rattle.ioa_terms.specs.declared.name.Name.{Name}
 use Rattle.ioa_terms.specs.declared.name.Name.TheVariants.{Word}
 use Rattle.ioa_terms.proofs.Performed.{all_resolved}
 use Rattle.ioa_schedules.specs.Turns.{turn_answer, turn_limit, following_statements}
-use Rattle.ioa_schedules.specs.Views.{AreResolvedIn, IsNamed, environment_of, turn_of}
+use Rattle.ioa_terms.specs.Views.{IsNamed, environment_of}
+use Rattle.ioa_schedules.specs.Views.{AreResolvedIn, turn_of}
 use Rattle.ioa_schedules.specs.declared.turn.Turn.{Turn}
 use Rattle.ioa_schedules.specs.declared.turn.Turn.TheVariants as turn
-use Rattle.ioa_schedules.specs.declared.view.View.{View}
+use Rattle.ioa_terms.specs.declared.environment.View.{View}
 use Rattle.ioa_source.specs.Sides.{CheckedDeclared, CheckedSchedule, CheckedVariable}
 use Rattle.ioa_system.specs.InView.{block_bindings, block_own_names, block_statement, declared_names, inbox_words, names_at, scope_at, parameter_names, variable_names}
 use Rattle.ioa_system.specs.Parts.{AutomatonParts, Parts, message_shape}
@@ -36,16 +38,16 @@ start_ready p valued resolved = record {
 }
 
 -- the same of what a program lends
-pub start_from : (p : Parts) (a : AutomatonParts) (s : CheckedSchedule) (todo : PlainStatements ℕ Shape) (own : List Data) → a ≡ p.automaton → s ≡ a.schedule → length p.block ≡ length p.automaton.schedule.variables → IsResolvedSchedule (declared_names a) (block_own_names a) s → todo ≡ statements_of s.statements → own ≡ p.block → IsReady p todo own
+pub start_from : (p : Parts) (a : AutomatonParts) (s : CheckedSchedule) (todo : PlainStatements ℕ Callee Shape) (own : List Data) → a ≡ p.automaton → s ≡ a.schedule → length p.block ≡ length p.automaton.schedule.variables → IsResolvedSchedule (declared_names a) (block_own_names a) s → todo ≡ statements_of s.statements → own ≡ p.block → IsReady p todo own
 start_from p a s todo own automaton schedule valued resolved all first =
     let there : s ≡ p.automaton.schedule = schedule ∙ ap (λ (x : AutomatonParts). x.schedule) automaton in
     let both : (todo, own) ≡ (statements_of p.automaton.schedule.statements, p.block) =
     λ i. ((all ∙ ap (λ (x : CheckedSchedule). statements_of x.statements) there) i, first i) in
-    subst (λ (x : PlainStatements ℕ Shape × List Data). IsReady p x.0 x.1) (sym both)
+    subst (λ (x : PlainStatements ℕ Callee Shape × List Data). IsReady p x.0 x.1) (sym both)
     (start_ready p valued (subst (λ (x : AutomatonParts × CheckedSchedule). IsResolvedSchedule (declared_names x.0) (block_own_names x.0) x.1) (λ i. (automaton i, there i)) resolved))
 
 -- and so is one behind its first statement
-pub following_ready : (p : Parts) (todo : PlainStatements ℕ Shape) (own : List Data) → IsReady p todo own → IsReady p (following_statements todo) own
+pub following_ready : (p : Parts) (todo : PlainStatements ℕ Callee Shape) (own : List Data) → IsReady p todo own → IsReady p (following_statements todo) own
 following_ready p no_statements own h = record { valued = h.valued; resolved = tt }
 following_ready p (statement s rest) own h = record { valued = h.valued; resolved = h.resolved.1 }
 
@@ -120,11 +122,11 @@ module _ (p : Parts) (seen : Option PlainInboxes) (variables : List Data) (v : V
       (length-map p.automaton.schedule.variables (λ (x : CheckedVariable). x.declared.name) ∙ sym h) (as_many seen (message_shape p.automaton.rules) m) (length-map p.automaton.variables (λ (x : CheckedVariable). x.declared.name) ∙ sym k) (length-map p.automaton.parameters (λ (d : CheckedDeclared). d.name) ∙ sym l))
 
   -- what is to do is resolved in view
-  pub sees_resolved : (todo : PlainStatements ℕ Shape) (values : List Data) → IsReady p todo values → AreResolvedIn v (length values) todo
+  pub sees_resolved : (todo : PlainStatements ℕ Callee Shape) (values : List Data) → IsReady p todo values → AreResolvedIn v (length values) todo
   sees_resolved todo values h = rw (own_seen (length values) h.valued, all_seen) h.resolved
 
   -- and the block is ready if that is so
-  pub ready_after : (todo : PlainStatements ℕ Shape) (values : List Data) → AreResolvedIn v (length values) todo → length values ≡ length p.automaton.schedule.variables → IsReady p todo values
+  pub ready_after : (todo : PlainStatements ℕ Callee Shape) (values : List Data) → AreResolvedIn v (length values) todo → length values ≡ length p.automaton.schedule.variables → IsReady p todo values
   ready_after todo values h k = record {
     valued = k;
     resolved = rw (own_seen (length values) k, all_seen) at h;
@@ -136,13 +138,13 @@ module _ (p : Parts) (seen : Option PlainInboxes) (variables : List Data) (v : V
       rw (sees.names, sees.inboxes, sees.first, sees.second, sees.constants, append_assoc values (inbox_values seen) (variables ++ p.arguments)) refl
 
 -- where a turn leaves a node
-reached_by : (p : PlainProgress) (todo : PlainStatements ℕ Shape) (e : Bindings) (t : Turn) → reached p (Ok (turn_of todo e t)) ≡ Ok (end_of t, record p { todo = todo; own = own_values (length p.own) e })
+reached_by : (p : PlainProgress) (todo : PlainStatements ℕ Callee Shape) (e : Bindings) (t : Turn) → reached p (Ok (turn_of todo e t)) ≡ Ok (end_of t, record p { todo = todo; own = own_values (length p.own) e })
 reached_by p todo e (turn.Fire f) = refl
 reached_by p todo e turn.Idle = refl
 reached_by p todo e turn.Done = refl
 
 module _ (p : PlainProgress) (seen : Option PlainInboxes) (variables : List Data) (v : View) (sees : Sees p.program seen variables v) where
-  pub turn_told : (todo : PlainStatements ℕ Shape) (values : List Data) (t : Turn) → turn_answer p.todo turn_limit (environment_of v p.own) ≡ Ok (turn_of todo (environment_of v values) t) → length values ≡ length p.own → IsNamed v values →
+  pub turn_told : (todo : PlainStatements ℕ Callee Shape) (values : List Data) (t : Turn) → turn_answer p.todo turn_limit (environment_of v p.own) ≡ Ok (turn_of todo (environment_of v values) t) → length values ≡ length p.own → IsNamed v values →
       block_turn p seen variables ≡ Ok (end_of t, record p { todo = todo; own = values })
   turn_told todo values t h same named =
       ap (λ (e : Bindings). reached p (turn_answer p.todo turn_limit e)) (sym (sees_bindings p.program seen variables v sees p.own))

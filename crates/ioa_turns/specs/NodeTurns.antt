@@ -4,6 +4,7 @@ use Rattle.ioa_values.specs.Data.{Data}
 use Rattle.ioa_operators.specs.declared.fault.TermFault.{TermFault}
 use Rattle.ioa_operators.specs.declared.shape.Shape.{Shape}
 use Rattle.ioa_actions.specs.declared.component.Component.TheVariants as component
+use Rattle.ioa_terms.specs.declared.callee.Callee.{Callee}
 use Rattle.ioa_terms.specs.Bindings.{Bindings}
 use Rattle.ioa_terms.specs.Inboxes.{PlainInboxes, inbox_values}
 use Rattle.ioa_terms.specs.PlainTerm.{PlainStatements, statements_of}
@@ -29,7 +30,7 @@ use Rattle.ioa_turns.specs.declared.progress.Progress.{Progress}
 -- many attempts are left, and how the node ended, if it did
 pub record PlainProgress : Type 0 where
   pub program : Parts
-  pub todo : PlainStatements ℕ Shape
+  pub todo : PlainStatements ℕ Callee Shape
   pub own : List Data
   pub attempts : ℕ
   pub ending : Option Ending

@@ -1,6 +1,6 @@
 //! The turns of a node.
 
-ghost use Rattle.std.specs.Prelude.{◌≡◌, IfOk, OnErr, Some, is_some, length};
+ghost use Rattle.std.specs.Prelude.{◌≡◌, IfOk, IfSome, OnErr, Some, is_some, length, true};
 ghost use Rattle.std.specs.Option.{option_copied, option_map};
 ghost use Rattle.ioa_compose.specs.Composition as conf;
 ghost use Rattle.ioa_values.specs.Outcome.{Answers};
@@ -102,6 +102,23 @@ fn inboxes_to<O: Origin>(
     Ok(inboxes)
 }
 
+/// The inbox of a node, if at most one was read.
+fn only_inbox<O: Origin>(snapshot: &Snapshot<O>, node: i64) -> Option<Option<Inbox<'_>>>
+    ensures { IfSome result
+        (λ o. inboxes_of (one_or_none o) ≡ inboxes_in node (read_confs snapshot.now.reads)) }
+{
+    let mut found = None;
+    for read in snapshot.reads() {
+        if let Some(inbox) = inbox_at(read.conf(), node) {
+            if found.is_some() {
+                return None;
+            }
+            found = Some(inbox);
+        }
+    }
+    Some(found)
+}
+
 /// The configuration of a component, if it was read.
 fn find_conf<O: Origin>(snapshot: &Snapshot<O>, component: Component) -> Option<&Conf>
     ensures { option_copied result ≡ conf.find_conf component (read_confs snapshot.now.reads) }
@@ -183,13 +200,57 @@ fn turn_among<'a, O: Origin>(
     ensures unchanged { OnErr result (progress_of node.new ≡ progress_of node.old) }
 {
     if node.program.automaton().takes_messages() {
-        let Ok(inboxes) = inboxes_to(alloc, snapshot, node.program.node()) else {
-            return Err(NodeFault::Memory);
-        };
-        block_turn(alloc, Some(inboxes.as_slice()), conf, node)
+        turn_by_inboxes(alloc, snapshot, conf, node)
     } else {
         block_turn(alloc, None, conf, node)
     }
+}
+
+/// The same of a node whose automaton takes messages. One inbox takes no memory.
+fn turn_by_inboxes<'a, O: Origin>(
+    alloc: Global,
+    snapshot: &Snapshot<O>,
+    conf: &NodeConf,
+    node: &mut Progress<'a>,
+) -> Result<Turn<'a>, NodeFault>
+    requires valued { length conf.now.variables ≡ length node.old.program.now.automaton.variables }
+    requires takes { is_some (message_shape node.old.program.now.automaton.rules) ≡ true }
+    ensures turn { Answers NodeFault.Memory (λ t. (end_of t, progress_of node.new)) result
+        (spec.block_turn (progress_of node.old)
+        (Some (inboxes_in node.old.program.now.node (read_confs snapshot.now.reads))) conf.now.variables) }
+    ensures stands { IfOk result (StandsAt (todo_of node.new.control)) }
+    ensures same_program { node.new.program.now ≡ node.old.program.now }
+    ensures same_ending { node.new.ending ≡ node.old.ending }
+    ensures unchanged { OnErr result (progress_of node.new ≡ progress_of node.old) }
+{
+    match only_inbox(snapshot, node.program.node()) {
+        Some(Some(inbox)) => block_turn(alloc, Some([inbox].as_slice()), conf, node),
+        Some(None) => block_turn(alloc, Some(&[]), conf, node),
+        None => turn_by_all_inboxes(alloc, snapshot, conf, node),
+    }
+}
+
+/// The same of a node that may have more inboxes than one.
+fn turn_by_all_inboxes<'a, O: Origin>(
+    alloc: Global,
+    snapshot: &Snapshot<O>,
+    conf: &NodeConf,
+    node: &mut Progress<'a>,
+) -> Result<Turn<'a>, NodeFault>
+    requires valued { length conf.now.variables ≡ length node.old.program.now.automaton.variables }
+    requires takes { is_some (message_shape node.old.program.now.automaton.rules) ≡ true }
+    ensures turn { Answers NodeFault.Memory (λ t. (end_of t, progress_of node.new)) result
+        (spec.block_turn (progress_of node.old)
+        (Some (inboxes_in node.old.program.now.node (read_confs snapshot.now.reads))) conf.now.variables) }
+    ensures stands { IfOk result (StandsAt (todo_of node.new.control)) }
+    ensures same_program { node.new.program.now ≡ node.old.program.now }
+    ensures same_ending { node.new.ending ≡ node.old.ending }
+    ensures unchanged { OnErr result (progress_of node.new ≡ progress_of node.old) }
+{
+    let Ok(inboxes) = inboxes_to(alloc, snapshot, node.program.node()) else {
+        return Err(NodeFault::Memory);
+    };
+    block_turn(alloc, Some(inboxes.as_slice()), conf, node)
 }
 
 /// The turn of a node on a configuration that may be its own, if its block sees these inboxes.

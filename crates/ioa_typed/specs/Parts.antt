@@ -4,6 +4,7 @@ use Rattle.std.specs.Prelude.{ℕ, if◌then◌else◌, List, Option, Some, None
 use Rattle.ioa_values.specs.Outcome.{and_then}
 use Rattle.ioa_operators.specs.Shapes.{PlainShape}
 use Rattle.ioa_operators.specs.declared.shape.Shape.{Shape}
+use Rattle.ioa_terms.specs.declared.callee.Callee.{Callee}
 use Rattle.ioa_terms.specs.PlainTerm.{PlainTerm, field}
 use Rattle.ioa_sort_rules.specs.declared.refusal.Refusal.{Refusal}
 use Rattle.ioa_sort_rules.specs.declared.refusal.Refusal.TheVariants.{Sorts, EmptyOfWhat}
@@ -14,7 +15,7 @@ use Rattle.ioa_sort_rules.specs.SameSorts.{same_sort}
 
 -- a term with the slot of each name and the shape of each display
 abbrev pub SortedTerm : Type 0
-SortedTerm = PlainTerm ℕ Shape
+SortedTerm = PlainTerm ℕ Callee Shape
 
 -- such a term and the shape of its value
 pub record PlainTyped : Type 0 where

@@ -11,8 +11,8 @@ use Rattle.ioa_terms.specs.declared.name.Name.{Name}
 use Rattle.ioa_terms.specs.declared.name.Name.TheVariants.{Word}
 use Rattle.ioa_terms.specs.Bindings.{same_name}
 use Rattle.ioa_terms.specs.Sorted.{NameShapes, shape_named}
-use Rattle.ioa_source.specs.PlainSort as sort
-use Rattle.ioa_source.specs.PlainSort.{PlainSort}
+use Rattle.ioa_terms.specs.PlainSort as sort
+use Rattle.ioa_terms.specs.PlainSort.{PlainSort}
 use Rattle.ioa_source.specs.PlainText.{enumeration, tuple_of}
 use Rattle.ioa_source.specs.Sides.{SourceDeclared, SourceForm, SourceType}
 use Rattle.ioa_sort_rules.specs.DeclaredTypes.{TupleTypes, IsDeclared, AreDeclared, AreAllDeclared}

@@ -5,8 +5,8 @@ use Rattle.ioa_operators.specs.Shapes.{PlainShape, truths, integers, naturals, s
 use Rattle.ioa_operators.specs.ShapeHeight.{height}
 use Rattle.ioa_terms.specs.declared.name.Name.TheVariants.{Word}
 use Rattle.ioa_terms.specs.Sorted.{shape_named}
-use Rattle.ioa_source.specs.PlainSort as sort
-use Rattle.ioa_source.specs.PlainSort.{PlainSort}
+use Rattle.ioa_terms.specs.PlainSort as sort
+use Rattle.ioa_terms.specs.PlainSort.{PlainSort}
 use Rattle.ioa_sort_rules.specs.DeclaredTypes.{TupleTypes, AreAllDeclared}
 use Rattle.ioa_names.specs.NameTables.{AreDistinct}
 use Rattle.ioa_types.specs.TypeTables.{TypeTable}

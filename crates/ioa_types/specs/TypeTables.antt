@@ -10,8 +10,8 @@ use Rattle.ioa_operators.specs.ShapeHeight.{height}
 use Rattle.ioa_terms.specs.declared.name.Name.TheVariants.{Word}
 use Rattle.ioa_terms.specs.Bindings.{same_word}
 use Rattle.ioa_terms.specs.Sorted.{NameShapes, shape_named}
-use Rattle.ioa_source.specs.PlainSort as sort
-use Rattle.ioa_source.specs.PlainSort.{PlainSort}
+use Rattle.ioa_terms.specs.PlainSort as sort
+use Rattle.ioa_terms.specs.PlainSort.{PlainSort}
 use Rattle.ioa_source.specs.Sides.{SourceDeclared}
 use Rattle.ioa_sort_rules.specs.declared.refusal.Refusal.{Refusal}
 use Rattle.ioa_sort_rules.specs.declared.refusal.Refusal.TheVariants.{Unknown, Twice, Limit}

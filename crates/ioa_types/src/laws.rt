@@ -3,7 +3,7 @@
 ghost use Rattle.std.specs.Prelude.{◌≡◌, ◌<◌, ℕ, List, [], Ok};
 ghost use Rattle.ioa_operators.specs.Shapes.{PlainShape, constants};
 ghost use Rattle.ioa_operators.specs.ShapeHeight.{height};
-ghost use Rattle.ioa_source.specs.PlainSort.{PlainSort};
+ghost use Rattle.ioa_terms.specs.PlainSort.{PlainSort};
 ghost use Rattle.ioa_source.specs.Sides.{SourceDeclared, SourceType};
 ghost use Rattle.ioa_sort_rules.specs.DeclaredTypes.{IsDeclared};
 ghost use Rattle.ioa_names.specs.NameTables.{AreDistinct, with_name};

@@ -3,7 +3,7 @@
 ghost use Rattle.std.specs.Prelude.{◌≡◌, [], IfOk, map, slice_get};
 ghost use Rattle.ioa_values.specs.Outcome.{Answers};
 ghost use Rattle.ioa_terms.specs.Sorted.{shape_named};
-ghost use Rattle.ioa_source.specs.SortView.{sort_of};
+ghost use Rattle.ioa_terms.specs.SortView.{sort_of};
 ghost use Rattle.ioa_source.specs.TextView.{declared_of};
 ghost use Rattle.ioa_names.specs.NameTables.{with_name};
 ghost use Rattle.ioa_types.specs.TypeTables as spec;

@@ -2,7 +2,8 @@ use Rattle.std.proofs.Common.{◌≡◌, length}
 use Rattle.ioa_schedules.specs.Controls.{todo_of, values_of}
 use Rattle.ioa_schedules.specs.Turns.{turn_limit}
 use Rattle.ioa_schedules.specs.TurnsByStep.{stepwise_turn}
-use Rattle.ioa_schedules.specs.Views.{AreResolvedIn, IsNamed, environment_of}
+use Rattle.ioa_terms.specs.Views.{IsNamed, environment_of}
+use Rattle.ioa_schedules.specs.Views.{AreResolvedIn}
 use Rattle.ioa_schedules.proofs.control.run.Given as goal
 
 -- the turn is what may still be taken of it from here

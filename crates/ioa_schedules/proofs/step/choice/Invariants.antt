@@ -4,7 +4,7 @@ use Rattle.ioa_terms.specs.Resolved.{AreArmsResolved}
 use Rattle.ioa_terms.specs.View.{arm_of}
 use Rattle.ioa_schedules.specs.Positions.{statements_in}
 use Rattle.ioa_schedules.specs.TurnsByStep.{stepwise_choice}
-use Rattle.ioa_schedules.specs.Views.{environment_of, names_in_view, own_names}
+use Rattle.ioa_terms.specs.Views.{environment_of, names_in_view, own_names}
 use Rattle.ioa_schedules.proofs.step.choice.Given as goal
 
 -- the arms that are left decide as all of them do

@@ -9,5 +9,5 @@ use Rattle.ioa_source.proofs.same.are_same_parameters.Goals as goal
 pub returns : goal.returns
 returns g c =
     let at_end : c.loop-position.position ≡ min (length c.args.parameters.now.items) (length c.args.others.now.items) = omega arith in
-    let ended = same_ended (λ ps qs. pointwise (same_parameter g.N.PartialEq.eq g.D.PartialEq.eq) (map parameter_of ps) (map parameter_of qs)) refl (λ q qs. refl) (λ p ps. refl) c.args.parameters.now.items c.args.others.now.items c.loop-position.position at_end in
+    let ended = same_ended (λ ps qs. pointwise (same_parameter g.N.PartialEq.eq g.C.PartialEq.eq g.D.PartialEq.eq) (map parameter_of ps) (map parameter_of qs)) refl (λ q qs. refl) (λ p ps. refl) c.args.parameters.now.items c.args.others.now.items c.loop-position.position at_end in
     cc (c.args.parameters.now.ok.0, c.args.others.now.ok.0)

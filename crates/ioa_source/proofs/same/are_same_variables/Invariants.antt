@@ -7,5 +7,5 @@ use Rattle.ioa_source.proofs.same.are_same_variables.Given as goal
 -- what is left decides as the whole does
 abbrev pub invariant-loop-position : goal.invariant-loop-position
 invariant-loop-position g l =
-    pointwise (same_variable g.N.PartialEq.eq g.D.PartialEq.eq) (map variable_of (drop l.position l.variables.items)) (map variable_of (drop l.position l.others.items))
-    ≡ pointwise (same_variable g.N.PartialEq.eq g.D.PartialEq.eq) (map variable_of l.variables.items) (map variable_of l.others.items)
+    pointwise (same_variable g.N.PartialEq.eq g.C.PartialEq.eq g.D.PartialEq.eq) (map variable_of (drop l.position l.variables.items)) (map variable_of (drop l.position l.others.items))
+    ≡ pointwise (same_variable g.N.PartialEq.eq g.C.PartialEq.eq g.D.PartialEq.eq) (map variable_of l.variables.items) (map variable_of l.others.items)

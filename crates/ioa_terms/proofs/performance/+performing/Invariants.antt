@@ -1,25 +1,25 @@
-use Rattle.std.proofs.Common.{◌≡◌, ◌++◌, length, map, drop}
-use Rattle.ioa_terms.specs.declared.name.Name.TheVariants.{Word}
-use Rattle.ioa_terms.specs.Bindings.{environment}
+use Rattle.std.proofs.Common.{◌≡◌, length, map, drop}
 use Rattle.ioa_terms.specs.Resolved.{AreAllResolved, AreArmsResolved}
 use Rattle.ioa_terms.specs.Stepwise.{stepwise_all, stepwise_choice}
 use Rattle.ioa_terms.specs.PlainTerm.{statements_of, arms_of}
 use Rattle.ioa_terms.specs.View.{statement_of, arm_of}
+use Rattle.ioa_terms.specs.Views.{environment_of, names_in_view, own_names}
 use Rattle.ioa_terms.proofs.performance.+performing.Given as goal
 
 -- what is left to perform on the present values is the whole on the first ones
 abbrev pub invariant-perform_all-loop-statement : goal.invariant-perform_all-loop-statement
 invariant-perform_all-loop-statement l = record {
-  resolved : AreAllResolved (statements_of (map statement_of (drop l.statement-index l.statements))) (map Word l.names) (map Word (l.names ++ l.constants));
-  named : length l.names ≡ length l.values.items;
-  same : stepwise_all (statements_of (map statement_of (drop l.statement-index l.statements))) (environment (map Word l.names) l.values.items l.constants)
-      ≡ stepwise_all (statements_of (map statement_of l.statements)) (environment (map Word l.names) l.fn.values.items l.constants);
+  kept : length l.values.items ≡ length l.initial.values.items;
+  same : stepwise_all (statements_of (map statement_of (drop l.statement-index l.statements))) (environment_of l.view l.values.items)
+      ≡ stepwise_all (statements_of (map statement_of l.statements)) (environment_of l.view l.initial.values.items);
+  resolved : AreAllResolved (statements_of (map statement_of (drop l.statement-index l.statements))) (own_names l.view (length l.initial.values.items)) (names_in_view l.view);
 }
 
 -- the arms that are left decide as all of them do
 abbrev pub invariant-perform_one-loop-arm : goal.invariant-perform_one-loop-arm
 invariant-perform_one-loop-arm l = record {
-  resolved : AreArmsResolved (arms_of (map arm_of (drop l.arm-index l.arm-items))) (map Word l.names) (map Word (l.names ++ l.constants));
-  same : (let e = environment (map Word l.names) l.values.items l.constants in let rest = stepwise_all (statements_of (map statement_of l.rest.items)) e in
+  kept : l.values ≡ l.initial.values;
+  resolved : AreArmsResolved (arms_of (map arm_of (drop l.arm-index l.arm-items))) (own_names l.view (length l.values.items)) (names_in_view l.view);
+  same : (let e = environment_of l.view l.values.items in let rest = stepwise_all (statements_of (map statement_of l.rest.items)) e in
       stepwise_choice (arms_of (map arm_of (drop l.arm-index l.arm-items))) rest e ≡ stepwise_choice (arms_of (map arm_of l.arm-items)) rest e);
 }

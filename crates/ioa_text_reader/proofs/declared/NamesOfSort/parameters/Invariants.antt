@@ -1,6 +1,6 @@
 use Rattle.std.proofs.Common.{◌≡◌, ◌++◌, map, drop}
 use Rattle.ioa_source.specs.PlainText.{named}
-use Rattle.ioa_source.specs.SortView.{sort_of}
+use Rattle.ioa_terms.specs.SortView.{sort_of}
 use Rattle.ioa_source.specs.TextView.{parameter_of}
 use Rattle.ioa_text_reader.specs.Grammar.{declare}
 use Rattle.ioa_text_reader.proofs.declared.NamesOfSort.parameters.Given as goal

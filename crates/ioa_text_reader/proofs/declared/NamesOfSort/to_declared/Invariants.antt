@@ -1,5 +1,5 @@
 use Rattle.std.proofs.Common.{◌≡◌, ◌++◌, map, drop}
-use Rattle.ioa_source.specs.SortView.{sort_of}
+use Rattle.ioa_terms.specs.SortView.{sort_of}
 use Rattle.ioa_source.specs.TextView.{declared_of}
 use Rattle.ioa_text_reader.specs.Grammar.{declare}
 use Rattle.ioa_text_reader.proofs.declared.NamesOfSort.to_declared.Given as goal

@@ -1,7 +1,0 @@
-use Rattle.std.proofs.lemmas.Bool.Decides.{Decides-eqb}
-use Rattle.ioa_operators.specs.ShapeEquality.{same_shape_is}
-use Rattle.ioa_source.proofs.SameTexts.{same_variable_is}
-use Rattle.ioa_source.proofs.same.Variable+usize+Shape.equals.Goals as goal
-
-pub returns : goal.returns
-returns c = record { equality = rw c.is_same_variable.ensures (same_variable_is Decides-eqb same_shape_is _ _) }

@@ -1,7 +1,0 @@
-use Rattle.std.proofs.lemmas.Bool.Decides.{Decides-eqb}
-use Rattle.ioa_operators.specs.ShapeEquality.{same_shape_is}
-use Rattle.ioa_terms.proofs.SameTerms.{same_term_is}
-use Rattle.ioa_terms.proofs.same.Tree+usize+Shape.equals.Goals as goal
-
-pub returns : goal.returns
-returns c = record { equality = rw c.is_same_term.ensures (same_term_is Decides-eqb same_shape_is _ _) }

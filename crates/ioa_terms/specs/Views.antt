@@ -1,0 +1,28 @@
+-- What terms and statements see: values that the statements may assign, and behind them what is only read (profile).
+use Rattle.std.specs.Prelude.{◌≡◌, ◌++◌, ℕ, List, map, take, length}
+use Rattle.ioa_values.specs.Data.{Data}
+use Rattle.ioa_terms.specs.declared.environment.View.{View}
+use Rattle.ioa_terms.specs.declared.name.Name.{Name}
+use Rattle.ioa_terms.specs.declared.name.Name.TheVariants.{Word}
+use Rattle.ioa_terms.specs.Bindings.{Bindings, environment}
+use Rattle.ioa_terms.specs.Inboxes.{lent_values}
+
+-- all values in view, if those that statements may assign are these (profile)
+abbrev pub all_values : View → List Data → List Data
+all_values v values = values ++ lent_values v.lent
+
+-- each value in view has a name (profile)
+abbrev pub IsNamed : View → List Data → Type 0
+IsNamed v values = length v.names ≡ length (all_values v values)
+
+-- the environment in which terms are evaluated (profile)
+abbrev pub environment_of : View → List Data → Bindings
+environment_of v values = environment (map Word v.names) (all_values v values) v.constants.now
+
+-- the names of the values that statements may assign, if there are so many (profile): the first ones
+abbrev pub own_names : View → ℕ → List Name
+own_names v count = take count (map Word v.names)
+
+-- the names in view (profile): those of the values, and those of the constants
+abbrev pub names_in_view : View → List Name
+names_in_view v = map Word (v.names ++ v.constants.now)
