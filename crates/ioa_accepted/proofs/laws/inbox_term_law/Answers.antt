@@ -1,5 +1,0 @@
-use Rattle.ioa_accepted.proofs.InboxTerms.{inbox_is}
-use Rattle.ioa_accepted.proofs.laws.inbox_term_law.Goals as goal
-
-pub returns : goal.returns
-returns c = record { value = inbox_is }

@@ -1,6 +1,0 @@
--- what the contracts of this crate cite
-pub mod Shaped
-pub mod WellSorted
-pub mod Awaited
-pub mod BlockStates
-pub mod Inboxes

@@ -1,0 +1,7 @@
+-- what the contracts of this crate cite
+pub mod Parts
+pub mod Shaped
+pub mod WellSorted
+pub mod Awaited
+pub mod BlockStates
+pub mod Inboxes
