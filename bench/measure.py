@@ -38,6 +38,7 @@ PLANS = {
     "queue": Plan(10_000, GREATEST, (100, 1_000), GREATEST),
     "sequence": Plan(10_000, GREATEST, (100, 1_000), GREATEST),
     "waiting": Plan(63, 100, (7, 63), 10),
+    "idling": Plan(63, 100, (7, 63), 10),
 }
 
 

@@ -28,6 +28,14 @@ automaton Waiter
     states k: Nat := 0
     do while true do k := k + 1 od od""".split("\n")
 
+# Never fires. Each of its turns ends after 1,000 statements, which change nothing.
+IDLER = """\
+automaton Idler
+  states go: Bool := false
+  schedule
+    states k: Nat := 0
+    do while ~go do if go then k := 1 fi od od""".split("\n")
+
 # Ticks as often as its parameter says, and performs about 1,000 statements before each tick.
 COMPUTER = """\
 automaton Computer(ticks: Nat)
@@ -113,12 +121,17 @@ def waiting(size):
     return TICKER + WAITER + nodes(["Ticker(1000)"] + ["Waiter"] * size)
 
 
+def idling(size):
+    """A node that ticks, beside SIZE nodes that wait for a variable that nobody changes."""
+    return TICKER + IDLER + nodes(["Ticker(1000)"] + ["Idler"] * size)
+
+
 def computing(size):
     """SIZE nodes, each of which computes and ticks 100 times."""
     return COMPUTER + nodes(["Computer(100)"] * size)
 
 
-KINDS = {kind.__name__: kind for kind in (ticking, alone, ring, queue, sequence, waiting, computing)}
+KINDS = {kind.__name__: kind for kind in (ticking, alone, ring, queue, sequence, waiting, idling, computing)}
 
 if __name__ == "__main__":
     if len(sys.argv) != 3 or sys.argv[1] not in KINDS or not sys.argv[2].isdigit():
