@@ -5,15 +5,19 @@ use Rattle.std.proofs.lemmas.List.{append_assoc}
 use Rattle.ioa_operators.specs.Shapes.{PlainShape}
 use Rattle.ioa_terms.specs.declared.name.Name.{Name}
 use Rattle.ioa_terms.specs.declared.name.Name.TheVariants.{Word}
+use Rattle.ioa_operators.specs.declared.shape.Shape.{Shape}
+use Rattle.ioa_terms.specs.declared.callee.Callee.{Callee}
+use Rattle.ioa_terms.specs.PlainTerm.{assign, branch, loop, fire, PlainStatements, no_statements, statement, statements_of, PlainArms, no_arms, arm}
 use Rattle.ioa_terms.specs.Resolved.{AreResolved, IsResolvedStatement}
 use Rattle.ioa_terms.specs.Sorted.{NameShapes}
 use Rattle.ioa_source.specs.PlainText.{const, named}
 use Rattle.ioa_source.specs.Sides.{SourceTerm, SourceParameter, SourceEntry, SourceVariable, SourceTransition, SourceStatement, SourceSchedule, SourceAutomaton, CheckedDeclared, CheckedParameter, CheckedTerm, CheckedVariable, CheckedSchedule, CheckedStatement}
 use Rattle.ioa_system.specs.InView as view
 use Rattle.ioa_system.specs.InView.{Site, in_view, entry_constant, initial_value, entry_condition, guard_or_effect, block_statement, parameter_names, variable_names, own_names, inbox_words, DeclaredNames, scope_at}
+use Rattle.ioa_system.specs.Numbered.{IsNumbered, AreArmsNumbered, AreNumbered}
 use Rattle.ioa_system.specs.Parts.{AutomatonParts, PlainRule, automaton_parts, message_shape}
 use Rattle.ioa_system.specs.ResolvedPrograms.{IsResolvedParameter, AreResolvedParameters, IsResolvedGuard, IsResolvedRule, IsResolvedSchedule, AreResolvedVariables, IsResolvedAutomaton}
-use Rattle.ioa_sorts.specs.SortedStatements.{IsStatementOf}
+use Rattle.ioa_sorts.specs.SortedStatements.{IsSorted, AreArmsSorted, AreSorted, IsStatementOf}
 use Rattle.ioa_sorts.specs.StatementSites.{PlainStatementSite, effect_site}
 use Rattle.ioa_names.specs.NameTables.{words}
 use Rattle.ioa_types.specs.TextTypes.{PlainTextTypes}
@@ -165,11 +169,34 @@ module _ (t : PlainTextTypes) (ps : List CheckedDeclared) (vs : List CheckedVari
         statements = statements_resolved (block_of names vs own rs) (map Word (variable_names own)) (view.names_at block_statement declared (variable_names own ++ inbox_words (message_shape rs))) (assigned_names own names (inbox_shapes rs ++ ((variable_shapes vs ++ parameter_shapes ps) ++ t.constants)) whole) (block_read_names own rs) s.statements c.statements h.statements;
       }
 
+-- what is sorted bears the numbers of its rules
+mutual
+  statement_numbered : (site : PlainStatementSite) (s : CheckedStatement) → IsSorted site s → IsNumbered site.rules s
+  statement_numbered site (assign p t) h = tt
+  statement_numbered site (branch arms rest) h = (arms_numbered site arms h.0, statements_numbered site rest h.1)
+  statement_numbered site (loop t body) h = statements_numbered site body h.2
+  statement_numbered site (fire f) h = rw h.numbered (ap Some h.same_name)
+
+  statements_numbered : (site : PlainStatementSite) (ss : PlainStatements ℕ Callee Shape) → AreSorted site ss → AreNumbered site.rules ss
+  statements_numbered site no_statements h = tt
+  statements_numbered site (statement s more) h = (statement_numbered site s h.0, statements_numbered site more h.1)
+
+  arms_numbered : (site : PlainStatementSite) (arms : PlainArms ℕ Callee Shape) → AreArmsSorted site arms → AreArmsNumbered site.rules arms
+  arms_numbered site no_arms h = tt
+  arms_numbered site (arm t body more) h = (statements_numbered site body h.1, arms_numbered site more h.2)
+
+each_numbered : (site : PlainStatementSite) (us : List SourceStatement) (cs : List CheckedStatement) → AllZip (IsStatementOf site) us cs → AreNumbered site.rules (statements_of cs)
+each_numbered site [] [] h = tt
+each_numbered site [] (c ∷ cs) h = absurd h
+each_numbered site (u ∷ us) [] h = absurd h
+each_numbered site (u ∷ us) (c ∷ cs) h = (statement_numbered site c h.0.sorted, each_numbered site us cs h.1)
+
 pub automaton_compiled : (t : PlainTextTypes) (a : SourceAutomaton) (c : AutomatonParts) → IsAutomatonOf t a c → IsResolvedAutomaton c
 automaton_compiled t a c h = subst IsResolvedAutomaton rebuilt (record {
   rules = all_each (IsResolvedRule (declared t c.parameters c.variables)) c.rules (rules_resolved t c.parameters c.variables a.transitions a.signature c.rules h.rules);
   initials = variables_resolved t c.parameters c.variables a.states c.variables h.variables;
   schedule = schedule_resolved t c.parameters c.variables c.rules a.schedule c.schedule h.schedule;
+  numbered = each_numbered (block_of (block_names t.constants c.parameters c.variables c.schedule.variables c.rules) c.variables c.schedule.variables c.rules) a.schedule.statements c.schedule.statements h.schedule.statements;
 })
   where
     rebuilt : automaton_parts c.name (words t.constants) c.parameters c.variables c.rules c.schedule ≡ c

@@ -78,7 +78,8 @@ AreParametersOf types names (p ∷ ps) (c ∷ cs) [] = ⊥
 AreParametersOf types names (p ∷ ps) (c ∷ cs) (s ∷ ss) =
     IsParameterOf types names p c s × AreParametersOf types names ps cs ss
 
--- an argument of a transition's head repeats a parameter: it is the same term as a constant, and the same name elsewhere
+-- an argument of a transition's head repeats a parameter: it is the same term as a constant, and the same name
+-- elsewhere
 abbrev pub Repeats : SourceParameter → SourceTerm → Type 0
 Repeats (const t) u = u ≡ t
 Repeats (named d) u = u ≡ name (Word d.name) tt
@@ -159,8 +160,8 @@ pub record IsRuleOf (t : PlainTextTypes) (ps : List CheckedDeclared) (vs : List 
   pub no_condition : e.kind ≡ Input → e.condition ≡ None
   pub message : IsWellNamed (record { entry = r.entry; shapes = r.shapes })
 
--- what the statements of a schedule block of these variables read, in an automaton of these rules, with shapes: the names
--- in view, and the text's constants behind them
+-- what the statements of a schedule block of these variables read, in an automaton of these rules, with shapes: the
+-- names in view, and the text's constants behind them
 abbrev pub block_names : (constants : NameShapes) → List CheckedDeclared → (states own : List CheckedVariable)
     → List PlainRule → NameShapes
 block_names constants ps vs own rules =

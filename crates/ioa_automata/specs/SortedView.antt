@@ -51,4 +51,4 @@ heading_of h = record {
 
 -- what it has behind them
 abbrev pub body_of : Body → PlainBody
-body_of b = record { rules = b.rules.items; schedule = schedule_of b.schedule }
+body_of b = record { rules = b.rules; schedule = schedule_of b.schedule }

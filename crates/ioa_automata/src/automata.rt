@@ -10,7 +10,7 @@ ghost use Rattle.ioa_source.specs.TextView.{automaton_of, declared_of, entry_of,
 ghost use Rattle.ioa_names.specs.NameTables.{words};
 ghost use Rattle.ioa_types.specs.Meanings.{AreTextTypes};
 ghost use Rattle.ioa_automata.specs.Automata as spec;
-ghost use Rattle.ioa_sorts.specs.Indexes.{AreIndexed};
+ghost use Rattle.ioa_system.specs.Indexes.{AreIndexed};
 ghost use Rattle.ioa_automata.specs.NamesInView.{given_names_or};
 ghost use Rattle.ioa_automata.specs.Parts.{all_declared_at, variables_at};
 ghost use Rattle.ioa_automata.specs.Rules.{entry_for, has_entry, have_entries, names_or, rules_at};
@@ -22,9 +22,8 @@ use crate::rules::{Surroundings, Transitions, sort_rules};
 use crate::schedules::{block_own_words, sort_schedule};
 use ioa_names::{NameTable, View};
 use ioa_sort_rules::Refusal;
-use ioa_sorts::Actions;
 use ioa_source::{Automaton, Declared, Entry, Schedule, Transition, Variable};
-use ioa_system::{CompiledAutomaton, Rule, Scope};
+use ioa_system::{CompiledAutomaton, Rule, Rules, Scope};
 use ioa_terms::{Callee, Names, Shape, Word};
 use ioa_types::TextTypes;
 use std::alloc::Global;
@@ -51,7 +50,7 @@ struct Given {
 /// What an automaton has behind its heading: its entries with their transitions, and its schedule block.
 #[derive(Drop)]
 pub(crate) struct Body {
-    pub rules: Vec<Rule>,
+    pub rules: Rules,
     pub schedule: Schedule<usize, Callee, Shape>,
 }
 
@@ -214,13 +213,13 @@ fn sort_actions(
     alloc: Global,
     around: &Surroundings,
     automaton: &Automaton<(), (), ()>,
-) -> Result<Actions, Refusal>
-    ensures { Answers Refusal.Memory (λ a. a.rules.items) result
+) -> Result<Rules, Refusal>
+    ensures { Answers Refusal.Memory (λ rs. rs) result
         (spec.actions_at (surroundings_of around.now) (automaton_of automaton.now)) }
 {
     let names = entry_names(alloc, &automaton.signature)?;
     let rules = sort_entries(alloc, around, &names, automaton)?;
-    Ok(Actions::new(rules, names))
+    Ok(Rules::new(rules, names))
 }
 
 /// The entries of an automaton with their transitions. `names` are those of the entries.
@@ -249,8 +248,8 @@ fn sort_entries(
 }
 
 /// The automaton with slots and shapes, in a text that declares these types, made ready to step. `constants` are the
-/// names of the text's constants. Returns `Unknown` (20), `Twice` (21), `Sorts` (22), `NoInitial` (23), `InputPre` (24),
-/// `NoTransition` (25), `ScheduleAssignsState` (26), `Limit` (31), `EmptyOfWhat` (32), `InputWhere` (33),
+/// names of the text's constants. Returns `Unknown` (20), `Twice` (21), `Sorts` (22), `NoInitial` (23), `InputPre`
+/// (24), `NoTransition` (25), `ScheduleAssignsState` (26), `Limit` (31), `EmptyOfWhat` (32), `InputWhere` (33),
 /// `BadArgument` (34), each if it applies to the automaton, and `Memory` (3) if no memory is left. Costs time in
 /// proportion to the automaton, but for what the look-up of a name and a sort cost.
 pub fn sort_automaton(
@@ -265,7 +264,7 @@ pub fn sort_automaton(
 {
     let heading = sort_heading(alloc, types, automaton)?;
     let body = sort_body(alloc, types, &heading, automaton)?;
-    let own = block_own_words(alloc, &body.schedule.variables, &body.rules)?;
+    let own = block_own_words(alloc, &body.schedule.variables, body.rules.as_slice())?;
     let name = automaton.name.try_copy(alloc)?;
     let constants = Arc::try_clone(constants)?;
     let heading = Box::into_inner(heading);
@@ -299,8 +298,7 @@ fn sort_body(
         outer: &heading.outer,
         variables: heading.variables.len(),
     };
-    let actions = sort_actions(alloc, &around, automaton)?;
-    let schedule = sort_schedule(alloc, &around, &actions, &automaton.schedule)?;
-    let rules = actions.into_rules();
+    let rules = sort_actions(alloc, &around, automaton)?;
+    let schedule = sort_schedule(alloc, &around, &rules, &automaton.schedule)?;
     Ok(Box::new(alloc, Body { rules, schedule })?)
 }

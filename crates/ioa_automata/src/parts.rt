@@ -18,8 +18,9 @@ ghost use Rattle.ioa_automata.specs.SortedView.{sorted_parameter_of, sorted_para
 
 use ioa_names::View;
 use ioa_sort_rules::{Refusal, shape_in_terms};
-use ioa_sorts::{Actions, StatementSite, fit, infer, sort_statements};
+use ioa_sorts::{StatementSite, fit, infer, sort_statements};
 use ioa_source::{Declared, Entry, Parameter, Transition, Variable};
+use ioa_system::Rules;
 use ioa_terms::{Callee, Checked, Kind, Shape, ShapeForm, Statement, Term};
 use ioa_typed::Typed;
 use ioa_types::Types;
@@ -349,7 +350,7 @@ fn sort_effect(
         (all_ok (statement_sortings (effect_site (take variables view.now) view.now)
         (statements_of (map statement_of effect.now.items)))) }
 {
-    let none = Actions::none(alloc);
+    let none = Rules::none(alloc);
     let site = StatementSite::effect(view, variables, &none);
     sort_statements(alloc, &site, effect)
 }

@@ -9,7 +9,7 @@ ghost use Rattle.ioa_terms.specs.View.{term_of};
 ghost use Rattle.ioa_source.specs.TextView.{parameter_of, entry_of, transition_of};
 ghost use Rattle.ioa_system.specs.InView.{own_names};
 ghost use Rattle.ioa_automata.specs.Rules as spec;
-ghost use Rattle.ioa_sorts.specs.Indexes.{AreIndexed};
+ghost use Rattle.ioa_system.specs.Indexes.{AreIndexed};
 ghost use Rattle.ioa_automata.specs.Parts.{entry_at, transition_at};
 ghost use Rattle.ioa_automata.specs.SortedView.{sorted_entry_of, sorted_parameters_of, surroundings_of, transitions_of};
 

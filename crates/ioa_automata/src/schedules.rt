@@ -17,9 +17,9 @@ use crate::parts::sort_variables;
 use crate::rules::Surroundings;
 use ioa_names::{NameTable, View};
 use ioa_sort_rules::Refusal;
-use ioa_sorts::{Actions, StatementSite, sort_statements};
+use ioa_sorts::{StatementSite, sort_statements};
 use ioa_source::{Schedule, Variable};
-use ioa_system::{Rule, message_shape};
+use ioa_system::{Rule, Rules, message_shape};
 use ioa_terms::{Callee, Shape, Statement, Word, inboxes_word};
 use std::alloc::{AllocError, Global};
 
@@ -42,19 +42,19 @@ fn sort_block_variables(
 fn sort_block_statements(
     alloc: Global,
     around: &Surroundings,
-    actions: &Actions,
+    rules: &Rules,
     own: &NameTable,
     variables: usize,
     statements: &Vec<Statement<(), (), ()>>,
 ) -> Result<Vec<Statement<usize, Callee, Shape>>, Refusal>
     ensures { Answers Refusal.Memory (λ ss. map statement_of ss.items) result
         (all_ok (statement_sortings
-        (spec.site_in (surroundings_of around.now) own.now variables actions.now.rules.items)
+        (spec.site_in (surroundings_of around.now) own.now variables rules.now)
         (statements_of (map statement_of statements.now.items)))) }
 {
     let view = View::new(own, around.outer, around.constants)?;
     let all_variables = own.len().checked_add(around.variables).ok_or(AllocError)?;
-    let site = StatementSite::block(&view, variables, all_variables, actions);
+    let site = StatementSite::block(&view, variables, all_variables, rules);
     sort_statements(alloc, &site, statements)
 }
 
@@ -63,11 +63,11 @@ fn sort_block_statements(
 pub(crate) fn sort_schedule(
     alloc: Global,
     around: &Surroundings,
-    actions: &Actions,
+    rules: &Rules,
     schedule: &Schedule<(), (), ()>,
 ) -> Result<Schedule<usize, Callee, Shape>, Refusal>
     ensures { Answers Refusal.Memory schedule_of result
-        (spec.schedule_at (surroundings_of around.now) actions.now.rules.items (schedule_of schedule.now)) }
+        (spec.schedule_at (surroundings_of around.now) rules.now (schedule_of schedule.now)) }
 {
     let variables = sort_block_variables(alloc, around, &schedule.variables)?;
     let own = block_names(
@@ -75,12 +75,12 @@ pub(crate) fn sort_schedule(
         around.outer,
         around.constants,
         &variables,
-        actions.rules(),
+        rules.as_slice(),
     )?;
     let statements = sort_block_statements(
         alloc,
         around,
-        actions,
+        rules,
         &own,
         variables.len(),
         &schedule.statements,

@@ -32,8 +32,8 @@ pub trait Board<O: Origin, L: Ledger> {
     fn is_opened_with(&self, system: &SharedOf<O, System, Global>) -> bool
         ensures { told ≡ true → IsTrue result → BeginsAt (shared_of_value system.now) (tells self.now) };
 
-    /// A look at a node, which is put into its place. A look at the node that is there already is refreshed; else one is
-    /// made. `Unknown` (53) if there is no such node; `Older` (54) if what it would show is older than the pass has
+    /// A look at a node, which is put into its place. A look at the node that is there already is refreshed; else one
+    /// is made. `Unknown` (53) if there is no such node; `Older` (54) if what it would show is older than the pass has
     /// seen. The pass rises to what is seen. After a fault nothing is said of what is in the place.
     fn look(
         &mut self,
@@ -46,7 +46,8 @@ pub trait Board<O: Origin, L: Ledger> {
         ensures told { told ≡ true → Puts (tells self.old) pass.old node place.new result }
         ensures same { told ≡ true → tells self.new ≡ tells self.old };
 
-    /// The same as [`Board::attempt`], which calls it. The board takes the proposal out of the place where it is offered.
+    /// The same as [`Board::attempt`], which calls it. The board takes the proposal out of the place where it is
+    /// offered.
     fn attempt_offer(
         &mut self,
         offer: &mut Option<Proposal<O>>,

@@ -90,8 +90,8 @@ impl<'a, R: Wait, O: Origin, L: Ledger> Board<O, L> for Locked<'a, R, O, L> {
     }
 }
 
-/// The first look at a node. It has a function of its own, since a function fills the room of its large locals each time
-/// that it begins.
+/// The first look at a node. It has a function of its own, since a function fills the room of its large locals each
+/// time that it begins.
 fn look_first<R: Wait, O: Origin, L: Ledger>(
     rt: &R,
     shared: &Shared<O, L>,

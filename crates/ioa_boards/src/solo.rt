@@ -80,8 +80,8 @@ impl<O: Origin, L: Ledger> Board<O, L> for Solo<O, L> {
     fn rest(&self) {}
 }
 
-/// The first look at a node. It has a function of its own, since a function fills the room of its large locals each time
-/// that it begins.
+/// The first look at a node. It has a function of its own, since a function fills the room of its large locals each
+/// time that it begins.
 fn look_first<O: Origin, L: Ledger>(
     board: &Solo<O, L>,
     alloc: Global,

@@ -13,7 +13,6 @@ ghost use Rattle.ioa_book.specs.Looks as spec;
 
 use crate::outcome::LookFault;
 use crate::snapshot::Snapshot;
-use ioa_actions::Component;
 use ioa_commits::{Committed, Journal, Proposal, Refused, VersionedConf};
 use ioa_compose::{Conf, start};
 use ioa_rawlog::{RawLog, Spare};
@@ -90,7 +89,7 @@ impl<O: Origin> Book<O> {
         ensures { Answers LookFault.Memory (λ s. s) result (spec.look_answer self.now node) }
     {
         let mut look = Snapshot::of_nothing(alloc, node);
-        self.look_again(&mut look)?;
+        self.look_first(&mut look)?;
         Ok(look)
     }
 
@@ -110,7 +109,29 @@ impl<O: Origin> Book<O> {
         }
     }
 
-    /// Reads what the node of a look has to do with.
+    /// The same of a look in which nothing is read yet.
+    fn look_first(&self, look: &mut Snapshot<O>) -> Result<(), LookFault>
+        ensures { Answers LookFault.Memory (λ _. look.new) result (spec.look_answer self.now look.old.node) }
+    {
+        if self.has_node(look.node()) {
+            self.fill(look)?;
+            Ok(())
+        } else {
+            Err(LookFault::Unknown)
+        }
+    }
+
+    /// Reads what the node of a look has to do with, into as many places as it takes.
+    #[tactic(auto, using(crate::proofs::OwnReads::look_made))]
+    fn fill(&self, look: &mut Snapshot<O>) -> Result<(), AllocError>
+        ensures { OnOk result (spec.IsLookAt self.now look.old.node look.new) }
+    {
+        let slots = self.journal.index().own(look.node());
+        look.fill(self.log().len(), slots, self.journal.held())?;
+        Ok(())
+    }
+
+    /// Reads what the node of a look has to do with, into the places that there are.
     #[tactic(auto, using(crate::proofs::OwnReads::look_made))]
     fn refresh(&self, look: &mut Snapshot<O>) -> Result<(), AllocError>
         ensures again { OnOk result (spec.IsLookAt self.now look.old.node look.new) }
@@ -121,13 +142,11 @@ impl<O: Origin> Book<O> {
         Ok(())
     }
 
-    /// Whether there is a node of this number. Mostly it stands in the slot of its number.
+    /// Whether there is a node of this number.
     fn has_node(&self, node: i64) -> bool
         ensures { result ≡ is_some (held_of self.now (Component.Node node)) }
     {
-        let near = usize::try_from(node).unwrap_or(0);
-        let slot = self.journal.index().slot_of(Component::Node(node), near);
-        slot.is_some()
+        self.journal.index().has_node(node)
     }
 
     /// Commits a proposal: the new configurations are held, the versions of the participants rise by one, and the

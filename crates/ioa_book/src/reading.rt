@@ -1,6 +1,6 @@
 //! How a look reads what a book holds.
 
-ghost use Rattle.std.specs.Prelude.{◌≡◌, ◌≤◌, IfOk, OnOk, Some, length, slice_get, take};
+ghost use Rattle.std.specs.Prelude.{◌≡◌, ◌≤◌, ◌<◌, IfOk, IsTrue, OnOk, Some, length, slice_get, take};
 ghost use Rattle.std.specs.Option.{option_copied};
 ghost use Rattle.ioa_book.specs.Slots.{places_at};
 
@@ -27,6 +27,50 @@ pub(crate) fn read_again<O: Origin>(
     }
     places.truncate(slots.len());
     Ok(())
+}
+
+/// The same if there are as many places as slots. Mostly the same is held as was read, which is told in constant time.
+pub(crate) fn read_in_place<O: Origin>(
+    places: &mut [Option<VersionedConf<O>>],
+    slots: &[usize],
+    held: &[VersionedConf<O>],
+) -> Result<(), AllocError>
+    requires { length places.old ≡ length slots.now }
+    ensures { OnOk result (places.new ≡ places_at slots.now held.now) }
+{
+    for position in 0..slots.len() {
+        read_here(places, position, at_slot(held, slots[position]))?;
+    }
+    Ok(())
+}
+
+/// Reads what is found into a place, if it is not there.
+fn read_here<O: Origin>(
+    places: &mut [Option<VersionedConf<O>>],
+    position: usize,
+    found: Option<&VersionedConf<O>>,
+) -> Result<(), AllocError>
+    requires { position < length places.old }
+    ensures before { OnOk result (take position places.new ≡ take position places.old) }
+    ensures here { OnOk result (slice_get places.new position ≡ Some (option_copied found.entry)) }
+    ensures many { OnOk result (length places.new ≡ length places.old) }
+{
+    if is_there(&places[position], found) {
+        return Ok(());
+    }
+    refresh(&mut places[position], found)
+}
+
+/// Whether what is found is in a place. It takes constant time, and is false of equal configurations made apart.
+fn is_there<O: Origin>(place: &Option<VersionedConf<O>>, found: Option<&VersionedConf<O>>) -> bool
+    ensures { IsTrue result → place.now ≡ option_copied found.entry }
+{
+    match (place, found) {
+        (Some(read), Some(held)) => read.is_held(held),
+        (Some(_), None) => false,
+        (None, Some(_)) => false,
+        (None, None) => false,
+    }
 }
 
 /// What is held in a slot, if there is one.

@@ -13,7 +13,7 @@ ghost use Rattle.ioa_book.specs.Proposals as spec;
 ghost use Rattle.ioa_book.specs.Slots.{items_at};
 
 use crate::proposing::{proposal_of_one, proposal_of_two};
-use crate::reading::{ROOM, read_again};
+use crate::reading::{ROOM, read_again, read_in_place};
 use crate::reads::Reads;
 use ioa_actions::{Action, Component, StepFault};
 use ioa_commits::{Proposal, VersionedConf};
@@ -58,8 +58,8 @@ impl<O: Origin> Snapshot<O> {
         }
     }
 
-    /// Reads what is held in these slots, while the log is so long.
-    pub(crate) fn refresh(
+    /// Reads what is held in these slots, while the log is so long, into as many places as it takes.
+    pub(crate) fn fill(
         &mut self,
         length: usize,
         slots: &[usize],
@@ -71,6 +71,25 @@ impl<O: Origin> Snapshot<O> {
         read_again(&mut self.reads, slots, held)?;
         self.length = length;
         Ok(())
+    }
+
+    /// The same, into the places that there are if these are as many.
+    pub(crate) fn refresh(
+        &mut self,
+        length: usize,
+        slots: &[usize],
+        held: &[VersionedConf<O>],
+    ) -> Result<(), AllocError>
+        ensures again { OnOk result (self.new ≡ plain_snapshot self.old.node length (items_at slots.now held.now)) }
+        ensures node { self.new.node ≡ self.old.node }
+    {
+        if self.reads.len() == slots.len() {
+            read_in_place(self.reads.as_mut_slice(), slots, held)?;
+            self.length = length;
+            Ok(())
+        } else {
+            self.fill(length, slots, held)
+        }
     }
 
     /// The node that was looked at.

@@ -38,7 +38,8 @@ fn star(alloc: Global) -> Result<Box<System>, Fail> {
     Ok(Box::new(alloc, system)?)
 }
 
-// The program of the gate runs this test and the next one. Both ask for memory equally often, so the looks ask for none.
+// The program of the gate runs this test and the next one. Both ask for memory equally often, so the looks ask for
+// none.
 #[test]
 fn a_book_of_the_largest_star_is_opened(rt: HostRuntime) -> Result<(), Fail> {
     let system = star(rt.alloc())?;
@@ -63,8 +64,8 @@ fn opens<O: Origin>(alloc: Global, maker: Maker, system: &System) -> Result<(), 
     Ok(())
 }
 
-/// Whether a book of the system shows of each node what it has to do with, and shows it again: 128 components of node 0,
-/// and four of each other node.
+/// Whether a book of the system shows of each node what it has to do with, and shows it again: 128 components of node
+/// 0, and four of each other node.
 fn shows_all<O: Origin>(alloc: Global, maker: Maker, system: &System) -> Result<bool, LookFault>
     requires { maker_name maker ≡ O.name }
 {

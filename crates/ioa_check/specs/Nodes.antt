@@ -1,5 +1,5 @@
--- The programs of nodes (profile): the automaton of each, the values of its parameters, and those of its state variables
--- in the start state.
+-- The programs of nodes (profile): the automaton of each, the values of its parameters, and those of its state
+-- variables in the start state.
 use Rattle.std.specs.Prelude.{◌+◌, ℕ, suc, zero, pos, ℤ, Bool, false, not, ◌&&◌, ◌||◌, nat_le, if◌then◌else◌}
 use Rattle.std.specs.Prelude.{List, [], ◌∷◌, Option, Some, None, Result, Ok, Err, find, length, map, slice_get}
 use Rattle.std.specs.Ordering.{int_eq}

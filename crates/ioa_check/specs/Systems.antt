@@ -1,5 +1,5 @@
--- When a system is the one that a text describes (profile), in words that know nothing of the order of refusals. A number
--- before a field is that of the refusals of a text for which the field cannot hold.
+-- When a system is the one that a text describes (profile), in words that know nothing of the order of refusals. A
+-- number before a field is that of the refusals of a text for which the field cannot hold.
 use Rattle.std.specs.Prelude.{◌≡◌, ◌≢◌, ◌≤◌, ◌+◌, ℕ, ℤ, pos, List, [], ◌∷◌, Option, Some, None, Ok, find, length, map, slice_get}
 use Rattle.std.specs.List.{AllByRecursion, AllZip, IsDistinct}
 use Rattle.std.specs.Prelude.{true}

@@ -45,8 +45,8 @@ enum TextFault {
 /// reads a text, runs its system by workers in this runtime, and writes the report. Returns the status: 0 if the report
 /// was written, or the help or the version for which the words ask; 1 if the text was refused; 2 if the words were
 /// refused; and 3 if memory ran out, what several workers left could not be put together, or reading or writing failed.
-/// If it is not 0, `err` says why; a fault of `err` is ignored. If there is no memory for what it has to say, the status
-/// is 3 and a line says so.
+/// If it is not 0, `err` says why; a fault of `err` is ignored. If there is no memory for what it has to say, the
+/// status is 3 and a line says so.
 #[tactic(auto, using(crate::proofs::Endings::refused_of))]
 pub fn command<'a, R: Threads + Wait + Sync, I: Read, O: Out, E: Out>(
     rt: &R,

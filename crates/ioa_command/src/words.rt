@@ -53,10 +53,10 @@ impl Subcommand {
     }
 }
 
-/// What the words choose, the program's name first (profile). `--workers N`, `--steps N` and `--attempts N` have decimal
-/// numbers, each in its range of [`Options`]; if one is not given, it is that of `Options::default`. The error is clap's
-/// own, and has no number: it is a text that the words ask for (`--help` or `--version`), says what is wrong with the
-/// words, or tells want of memory.
+/// What the words choose, the program's name first (profile). `--workers N`, `--steps N` and `--attempts N` have
+/// decimal numbers, each in its range of [`Options`]; if one is not given, it is that of `Options::default`. The error
+/// is clap's own, and has no number: it is a text that the words ask for (`--help` or `--version`), says what is wrong
+/// with the words, or tells want of memory.
 pub fn options<'a>(alloc: Global, words: &'a [&'a str]) -> Result<Subcommand, Error>
     ensures chosen { IfOk result (Chooses (map (λ w. w.now) words.entry.now)) }
     ensures refused { IfErr result (IsErrorOf (map (λ w. w.now) words.entry.now)) }

@@ -15,7 +15,7 @@ use Rattle.ioa_actions.specs.declared.component.Component.{Component}
 use Rattle.ioa_actions.specs.ComponentOrder.{same_component}
 use Rattle.ioa_actions.proofs.SameComponents.{same_component-itself}
 use Rattle.ioa_commits.specs.Own.{concerns, own_slots}
-use Rattle.ioa_commits.specs.Indexes.{AreEntries, IsOwn, entry_of, first_of, has_entry, is_concerned}
+use Rattle.ioa_commits.specs.Indexes.{AreEntries, IsFirst, IsOwn, entry_of, first_of, has_entry, has_node, is_concerned}
 use Rattle.ioa_commits.specs.declared.index.NodeSlots.{NodeSlots}
 
 -- the slots of the components that a node has to do with are within the list
@@ -95,6 +95,19 @@ first_listed ks firsts k near x are h at =
     let read : slice_get firsts near ≡ Some x = slice_get_read firsts (length firsts) near x refl within at in
     sym read ∙ listed ∙ first_near ks k near h
 
+-- a component that is listed at its own slot stands in none before it
+pub listed_first : (ks : List Component) (firsts : List ℕ) (slot : ℕ)
+    → firsts ≡ map (λ c. first_of ks c) ks → slice_get firsts slot ≡ Some slot → IsFirst ks slot
+listed_first ks firsts slot are at = λ k h.
+    let listed : slice_get firsts slot ≡ Some (first_of ks k) =
+    rw are (slice_get-map (λ c. first_of ks c) ks slot ∙ ap (λ o. option_map (λ c. first_of ks c) o) h) in
+    sym (first_near ks k slot h) ∙ sym listed ∙ at
+
+-- the entry of a node says whether the node is there
+pub there_by : (n : ℤ) (ks : List Component) (e : NodeSlots) → IsOwn ks e → e.node ≡ n → e.is_there ≡ true
+    → has_node n ks ≡ true
+there_by n ks e own node is = subst (λ (m : ℤ). has_node m ks ≡ true) node (sym own.there ∙ is)
+
 -- one more item behind those that are listed
 pub next_listed : {A B : Type 0} (f : A → B) (out whole : List B) (xs : List A) (i : ℕ) (x : A) (y : B)
     → i < length xs → x ≡ get_or xs i x → y ≡ f x → out ++ map f (drop i xs) ≡ whole
@@ -114,7 +127,7 @@ found_own n ks (x ∷ entries) e own h = by_test (int_eq x.node n) refl h (λ g.
     by_test true same g further =
         let one : e ≡ x = cc in
         let node : x.node ≡ n = (Decides-int_eq x.node n).0 same in
-        rw (one, ← node) own.0
+        rw (one, ← node) own.0.slots
     by_test false same g further = further g
 
 pub not_found_own : (n : ℤ) (ks : List Component) (entries : List NodeSlots) → AreEntries ks ks entries

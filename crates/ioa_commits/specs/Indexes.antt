@@ -1,8 +1,9 @@
 -- The index of a list of components: where each name stands first, and the slots of what a node has to do with (form).
-use Rattle.std.specs.Prelude.{◌≡◌, ℤ, Bool, ◌||◌, List, Option, map, find, ℕ}
-use Rattle.std.specs.List.{AllByRecursion, list_any, position_or_len}
+use Rattle.std.specs.Prelude.{◌≡◌, ℤ, Bool, ◌||◌, List, Option, Some, is_some, map, find, slice_get, ℕ}
+use Rattle.std.specs.List.{AllByRecursion, list_any, position_from, position_or_len}
 use Rattle.std.specs.Ordering.{int_eq}
 use Rattle.ioa_actions.specs.declared.component.Component.{Component}
+use Rattle.ioa_actions.specs.declared.component.Component.TheVariants.{Node}
 use Rattle.ioa_actions.specs.ComponentOrder.{same_component}
 use Rattle.ioa_commits.specs.Own.{concerns, own_slots}
 use Rattle.ioa_commits.specs.declared.index.NodeSlots.{NodeSlots}
@@ -11,9 +12,14 @@ use Rattle.ioa_commits.specs.declared.index.NodeSlots.{NodeSlots}
 abbrev pub first_of : List Component → Component → ℕ
 first_of ks k = position_or_len (λ c. same_component k c) ks
 
--- the slots of an entry are those of the components that its node has to do with
-abbrev pub IsOwn : List Component → NodeSlots → Type 0
-IsOwn ks e = e.slots.items ≡ own_slots e.node 0 ks
+-- whether a node is one of these components
+abbrev pub has_node : ℤ → List Component → Bool
+has_node n ks = is_some (position_from (λ k. same_component (Node n) k) 0 ks)
+
+-- the slots of an entry are those of the components that its node has to do with, and it says whether the node is one
+pub record IsOwn (ks : List Component) (e : NodeSlots) : Type 0 where
+  pub slots : e.slots.items ≡ own_slots e.node 0 ks
+  pub there : e.is_there ≡ has_node e.node ks
 
 -- the entry of a node, if there is one
 abbrev pub entry_of : ℤ → List NodeSlots → Option NodeSlots
@@ -36,6 +42,11 @@ pub record AddsEntries (ks : List Component) (test : ℤ → Bool) (old new : Li
 pub record AreEntries (ks first : List Component) (entries : List NodeSlots) : Type 0 where
   pub own : AllByRecursion (IsOwn ks) entries
   pub complete : (n : ℤ) → has_entry n entries ≡ is_concerned n first
+
+-- a component that stands in a slot stands in none before it
+abbrev pub IsFirst : List Component → ℕ → Type 0
+IsFirst ks slot =
+    (k : Component) → slice_get ks slot ≡ Some k → position_from (λ c. same_component k c) 0 ks ≡ Some slot
 
 -- the law of an index
 pub record IsIndexed (ks : List Component) (firsts : List ℕ) (entries : List NodeSlots) : Type 0 where

@@ -170,7 +170,7 @@ fn put_conf<O: Origin>(
     ensures put { held.new.items ≡ spec.put_held (arc_value conf) held.old.items }
     ensures components { map read_component held.new.items ≡ map read_component held.old.items }
 {
-    if let Some(slot) = index.slot_of(conf.component(), near) {
+    if let Some(slot) = index.slot_near(conf.component(), near) {
         held[slot].put(maker.share(conf));
     }
 }

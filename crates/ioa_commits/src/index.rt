@@ -1,11 +1,13 @@
 //! Where the components of a list stand.
 
-ghost use Rattle.std.specs.Prelude.{◌≡◌, ◌<◌, ◌||◌, IfOk, IfSome, IsTrue, OnOk, Some, length, map, slice_get};
+ghost use Rattle.std.specs.Prelude.{◌≡◌, ◌<◌, ◌||◌, true, IfOk, IfSome, IsTrue, OnOk, Some};
+ghost use Rattle.std.specs.Prelude.{length, map, slice_get};
 ghost use Rattle.std.specs.List.{AllByRecursion, position_from};
 ghost use Rattle.std.specs.Option.{option_copied};
 ghost use Rattle.std.specs.Ordering.{int_eq};
 ghost use Rattle.ioa_actions.specs.ComponentOrder.{same_component};
-ghost use Rattle.ioa_commits.specs.Indexes.{AddsEntries, AreEntries, entry_of, first_of, has_entry};
+ghost use Rattle.ioa_commits.specs.Indexes.{AddsEntries, AreEntries, IsFirst, IsOwn, entry_of, first_of};
+ghost use Rattle.ioa_commits.specs.Indexes.{has_entry, has_node};
 ghost use Rattle.ioa_commits.specs.Own.{concerns, own_slots};
 
 use ioa_actions::Component;
@@ -25,6 +27,8 @@ pub struct Index {
 #[derive(Drop)]
 pub(crate) struct NodeSlots {
     node: i64,
+    /// Whether the node itself is one of them.
+    is_there: bool,
     slots: Vec<usize>,
 }
 
@@ -64,6 +68,13 @@ fn own_slots(alloc: Global, components: &[Component], node: i64) -> Result<Vec<u
     Ok(slots)
 }
 
+/// Whether a node is one of these components.
+fn has_node(components: &[Component], node: i64) -> bool
+    ensures { result ≡ has_node node components.now }
+{
+    position(components, Component::Node(node)).is_some()
+}
+
 /// The entry of a node, if there is one.
 fn entry_of(by_node: &[NodeSlots], node: i64) -> Option<&NodeSlots>
     ensures { option_copied result ≡ entry_of node by_node.now }
@@ -90,8 +101,13 @@ fn add_node(
     if has_entry(by_node, node) {
         return Ok(());
     }
+    let is_there = has_node(components, node);
     let slots = own_slots(alloc, components, node)?;
-    by_node.push(NodeSlots { node, slots })?;
+    by_node.push(NodeSlots {
+        node,
+        is_there,
+        slots,
+    })?;
     Ok(())
 }
 
@@ -168,12 +184,33 @@ fn first_slots(alloc: Global, components: &[Component]) -> Result<Vec<usize>, Al
     Ok(firsts)
 }
 
+/// Whether a list of slots has a slot at its own place.
+fn holds_itself(slots: &[usize], slot: usize) -> bool
+    ensures { IsTrue result → slice_get slots.now slot ≡ Some slot }
+{
+    match slots.get(slot) {
+        Some(other) => slot == *other,
+        None => false,
+    }
+}
+
 /// The slots of an entry, if it is that of a node.
 fn slots_if(entry: &NodeSlots, node: i64) -> Option<&[usize]>
     ensures { IfSome result (λ s. (s.now ≡ entry.now.slots.items) × (entry.now.node ≡ node)) }
 {
     if entry.node == node {
         Some(entry.slots.as_slice())
+    } else {
+        None
+    }
+}
+
+/// An entry, if it is that of a node.
+fn entry_if(entry: &NodeSlots, node: i64) -> Option<&NodeSlots>
+    ensures { IfSome result (λ e. (e.now ≡ entry.now) × (entry.now.node ≡ node)) }
+{
+    if entry.node == node {
+        Some(entry)
     } else {
         None
     }
@@ -222,6 +259,34 @@ impl Index {
         }
     }
 
+    /// Whether a node is itself a component. It takes constant time if the node's entry stands at its number.
+    pub fn has_node(&self, node: i64) -> bool
+        ensures { result ≡ has_node node self.now }
+    {
+        if self.is_there_near(node) {
+            return true;
+        }
+        has_node(&self.components, node)
+    }
+
+    /// The same by the entry at the node's number, if that is the node's.
+    fn is_there_near(&self, node: i64) -> bool
+        ensures { IsTrue result → has_node node self.now ≡ true }
+    {
+        match self.entry_near(node) {
+            Some(entry) => entry.is_there,
+            None => false,
+        }
+    }
+
+    /// The entry at the node's number, if that is the node's.
+    fn entry_near(&self, node: i64) -> Option<&NodeSlots>
+        ensures { IfSome result (λ e. IsOwn self.now e.now × (e.now.node ≡ node)) }
+    {
+        let near = usize::try_from(node).ok()?;
+        entry_if(self.by_node.get(near)?, node)
+    }
+
     /// The component in a slot.
     pub fn component(&self, slot: usize) -> Component
         requires { slot < length self.now }
@@ -239,6 +304,30 @@ impl Index {
             return Some(self.firsts[near]);
         }
         position(&self.components, component)
+    }
+
+    /// The same by a quick test: what is small is tried first, and the rest is a call.
+    pub fn slot_near(&self, component: Component, near: usize) -> Option<usize>
+        ensures { result ≡ position_from (λ k. same_component component k) 0 self.now }
+    {
+        if self.stands_first(component, near) {
+            return Some(near);
+        }
+        self.slot_of(component, near)
+    }
+
+    /// Whether a component stands in a slot, and in none before it. It takes constant time.
+    pub fn stands_first(&self, component: Component, slot: usize) -> bool
+        ensures { IsTrue result → position_from (λ k. same_component component k) 0 self.now ≡ Some slot }
+    {
+        self.is_first(slot) && self.stands_at(component, slot)
+    }
+
+    /// Whether the component in a slot stands in none before it. It takes constant time.
+    pub fn is_first(&self, slot: usize) -> bool
+        ensures { IsTrue result → IsFirst self.now slot }
+    {
+        holds_itself(&self.firsts, slot)
     }
 
     /// Whether a component stands in a slot.

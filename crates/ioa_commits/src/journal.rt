@@ -138,7 +138,7 @@ impl<O: Origin> Journal<O> {
     fn find_near(&self, component: Component, near: usize) -> Option<&VersionedConf<O>>
         ensures { option_copied result ≡ held_of self.now component }
     {
-        let slot = self.index.slot_of(component, near)?;
+        let slot = self.index.slot_near(component, near)?;
         at_slot(&self.held, slot)
     }
 
@@ -218,7 +218,7 @@ impl<O: Origin> Journal<O> {
         ensures { IsTrue result → held_of self.now (read_component read.now) ≡ Some read.now }
     {
         match self.find_near(read.component(), read.slot()) {
-            Some(held) => read.version() == held.version() && read.shares_conf(held),
+            Some(held) => read.is_held(held),
             None => false,
         }
     }

@@ -98,6 +98,14 @@ impl<O: Origin> VersionedConf<O> {
         Ok(())
     }
 
+    /// Whether this is the very one that is held, with its version: in constant time. It is false of equal ones made
+    /// apart.
+    pub fn is_held(&self, held: &VersionedConf<O>) -> bool
+        ensures { IsTrue result → self.now ≡ held.now }
+    {
+        self.version == held.version && self.shares_conf(held)
+    }
+
     /// Whether both own one configuration, in constant time. It is false of equal configurations made apart.
     pub(crate) fn shares_conf(&self, other: &VersionedConf<O>) -> bool
         ensures { IsTrue result → self.now.conf ≡ other.now.conf }

@@ -52,8 +52,8 @@ pub fn pick_law()
 {}
 
 /// The components that have an action in their signature are its participants (Lynch 8.2). An action is its own node's
-/// and no other node's, a channel has exactly what is sent and what is received on it (Lynch 14.1), and a script what is
-/// taken out of it.
+/// and no other node's, a channel has exactly what is sent and what is received on it (Lynch 14.1), and a script what
+/// is taken out of it.
 pub fn signature_law()
     ensures participants { (k : Component) (action : Action) →
         takes_part k action ≡ list_any (same_component k) (participants_of action) }
@@ -65,8 +65,8 @@ pub fn signature_law()
 {}
 
 /// The start of a system that declares each thing once has each component of the system once and no other: each node
-/// with its program and its initial values, each declared channel with an empty queue, and each declared script with its
-/// stimuli (Lynch 8.1 and 14.1, and profile for scripts). It is a state of the composition.
+/// with its program and its initial values, each declared channel with an empty queue, and each declared script with
+/// its stimuli (Lynch 8.1 and 14.1, and profile for scripts). It is a state of the composition.
 pub fn start_law()
     ensures start { (s : SystemParts) → IsWellDeclared s → IsStart s (start s) }
     ensures state { (s : SystemParts) → IsWellDeclared s → IsJointState (start s) }

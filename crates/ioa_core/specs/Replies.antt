@@ -1,5 +1,5 @@
--- Replies as text (profile): the name of each, for a refusal its number, and what it is of. And whether one is a refusal
--- for want of memory, which none ever is.
+-- Replies as text (profile): the name of each, for a refusal its number, and what it is of. And whether one is a
+-- refusal for want of memory, which none ever is.
 use Rattle.std.specs.Prelude.{ℕ, Bool, true, false, List, ◌++◌, codes, Option, Some, None}
 use Rattle.std.specs.Fmt.{decimal}
 use Rattle.ioa_actions.specs.ComponentText.{component_text}

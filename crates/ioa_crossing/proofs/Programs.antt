@@ -19,6 +19,7 @@ use Rattle.ioa_terms.specs.contracts.tree.Statement as Statement
 use Rattle.ioa_values.specs.contracts.names.Names as Names
 use Rattle.ioa_system.specs.contracts.scope.Scope as Scope
 use Rattle.ioa_system.specs.contracts.automaton.Rule as Rule
+use Rattle.ioa_system.specs.contracts.rules.Rules as Rules
 use Rattle.ioa_system.specs.contracts.automaton.CompiledAutomaton as CompiledAutomaton
 use Rattle.ioa_system.specs.contracts.program.Program as Program
 use Rattle.ioa_system.specs.contracts.script.Script as Script
@@ -103,11 +104,17 @@ rule_send = search (entry_send, shape_send, transition_send, word_send, crosses,
 pub rule_sync : IsSync (Rule.the_field).row
 rule_sync = search (entry_sync, shape_sync, transition_sync, word_sync, crosses, sendable) depth 60 fits 20000
 
+pub rules_send : IsSend (Rules.the_field).row
+rules_send = search (rule_send, scope_send, crosses, sendable) depth 60 fits 20000
+
+pub rules_sync : IsSync (Rules.the_field).row
+rules_sync = search (rule_sync, scope_sync, crosses, sendable) depth 60 fits 20000
+
 pub automaton_send : IsSend (CompiledAutomaton.the_field).row
-automaton_send = search (word_send, names_send, names_sync, declared_send, variable_send, scope_send, rule_send, schedule_send, crosses, sendable) depth 60 fits 20000
+automaton_send = search (word_send, names_send, names_sync, declared_send, variable_send, scope_send, rules_send, schedule_send, crosses, sendable) depth 60 fits 20000
 
 pub automaton_sync : IsSync (CompiledAutomaton.the_field).row
-automaton_sync = search (word_sync, names_send, names_sync, declared_sync, variable_sync, scope_sync, rule_sync, schedule_sync, crosses, sendable) depth 60 fits 20000
+automaton_sync = search (word_sync, names_send, names_sync, declared_sync, variable_sync, scope_sync, rules_sync, schedule_sync, crosses, sendable) depth 60 fits 20000
 
 pub program_send : IsSend (Program.the_field).row
 program_send = search (automaton_send, automaton_sync, value_send, crosses, sendable) depth 60 fits 20000

@@ -145,8 +145,8 @@ abbrev pub between_do_and_od : List Token → List Token
 between_do_and_od xs = token.Mark mark.Do ∷ (xs ++ token.Mark mark.Od ∷ [])
 
 abbrev mutual
-  -- Target := Term, if Term then Statements {elseif Term then Statements} [else Statements] fi, while Term do Statements
-  -- od, or fire [Kind] Call
+  -- Target := Term, if Term then Statements {elseif Term then Statements} [else Statements] fi, while Term do
+  -- Statements od, or fire [Kind] Call
   pub statement_spelling : Statement → List Token
   statement_spelling (assign p t) = target_spelling p ++ (token.Mark mark.Assign ∷ spelling t)
   statement_spelling (branch arms rest) =

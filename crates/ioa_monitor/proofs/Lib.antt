@@ -1,5 +1,6 @@
 -- the lemmas of this crate
 pub mod Listed
 pub mod Papers
+pub mod Pieces
 pub mod QueueTexts
 pub mod Sent

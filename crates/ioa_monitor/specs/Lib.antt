@@ -2,4 +2,5 @@
 pub mod Handed
 pub mod Outcomes
 pub mod Papers
+pub mod Pieces
 pub mod Reports

@@ -1,60 +1,15 @@
 //! Actions, written on a paper.
 
 ghost use Rattle.std.specs.Prelude.{◌≡◌, ◌++◌, codes, map};
-ghost use Rattle.std.specs.Fmt.{signed_decimal};
 ghost use Rattle.ioa_values.specs.Text.{text, with_commas};
-ghost use Rattle.ioa_actions.specs.ActionText.{arguments_text, node_action_text, message_text, action_text};
+ghost use Rattle.ioa_actions.specs.ActionText.{arguments_text, node_action_text};
 ghost use Rattle.ioa_monitor.specs.Papers.{and_text};
 
 use crate::paper::Paper;
 use crate::values::{put_separator, put_value};
-use ioa_actions::{Action, NodeAction, RECEIVE, SEND};
+use ioa_actions::NodeAction;
 use ioa_streams::Out;
 use ioa_values::{Names, Value};
-
-/// Writes the text of an action: `send(m, i, j)`, `receive(m, i, j)`, and for all others `a(v, w)@k`, or `a@k` if it
-/// has no arguments.
-pub fn put_action<O: Out>(paper: &mut Paper<'_, O>, names: &Names, action: &Action)
-    ensures { paper.new ≡ and_text paper.old (action_text names.now action.now) }
-{
-    match action {
-        Action::Send { message, from, to } => put_message(paper, names, SEND, message, *from, *to),
-        Action::Receive { message, from, to } => {
-            put_message(paper, names, RECEIVE, message, *from, *to)
-        }
-        Action::Local(action) => put_node_action(paper, names, action),
-        Action::Stimulus(action) => put_node_action(paper, names, action),
-    }
-}
-
-/// Writes the text of a send or a receive.
-fn put_message<O: Out>(
-    paper: &mut Paper<'_, O>,
-    names: &Names,
-    name: &str,
-    message: &Value,
-    from: i64,
-    to: i64,
-)
-    ensures { paper.new ≡ and_text paper.old (message_text name.now (text names.now message.now) from to) }
-{
-    paper.put(name);
-    paper.put("(");
-    put_value(paper, names, message);
-    put_ends(paper, from, to);
-}
-
-/// Writes the two nodes of a send or a receive, behind its message.
-fn put_ends<O: Out>(paper: &mut Paper<'_, O>, from: i64, to: i64)
-    ensures { paper.new ≡ and_text paper.old
-        (codes ", " ++ (signed_decimal from ++ (codes ", " ++ (signed_decimal to ++ codes ")")))) }
-{
-    paper.put(", ");
-    paper.put_number(from);
-    paper.put(", ");
-    paper.put_number(to);
-    paper.put(")");
-}
 
 /// Writes the text of an action of a node: `a(v, w)@k`, or `a@k` if it has no arguments.
 pub fn put_node_action<O: Out>(paper: &mut Paper<'_, O>, names: &Names, action: &NodeAction)

@@ -13,6 +13,7 @@ mod handed;
 mod nodes;
 mod outlet;
 mod paper;
+mod piece;
 mod queues;
 mod reporting;
 mod schedule;

@@ -5,6 +5,7 @@ ghost use Rattle.std.specs.Vec.{vec_capacity, vec_len};
 ghost use Rattle.ioa_monitor.specs.Papers.{Ended, and_text};
 
 use crate::outlet::Outlet;
+use crate::piece::{LENGTH, Piece};
 use ioa_streams::{Out, OutFailed};
 use itoa::{Buffer, Integer};
 use std::alloc::{AllocError, Global};
@@ -48,6 +49,7 @@ impl<'a, O: Out> Paper<'a, O> {
     }
 
     /// Writes a piece of the text.
+    #[inline(always)]
     pub fn put(&mut self, piece: &str)
         ensures { self.new ≡ and_text self.old piece.now }
     {
@@ -56,6 +58,18 @@ impl<'a, O: Out> Paper<'a, O> {
             append(&mut self.buffer, piece);
         } else {
             self.put_long(piece);
+        }
+    }
+
+    /// Writes a short piece of the text.
+    #[inline(always)]
+    pub fn put_piece(&mut self, piece: &Piece)
+        ensures { self.new ≡ and_text self.old piece.now }
+    {
+        if LENGTH <= self.buffer.capacity() - self.buffer.len() {
+            piece.append_to(&mut self.buffer);
+        } else {
+            self.put_long(piece.as_bytes());
         }
     }
 
@@ -87,6 +101,7 @@ impl<'a, O: Out> Paper<'a, O> {
     }
 
     /// Writes a piece of the text for which there is no room.
+    #[inline(never)]
     fn put_long(&mut self, piece: &[u8])
         ensures { self.new ≡ and_text self.old piece.now }
     {
@@ -120,6 +135,7 @@ pub fn room(alloc: Global) -> Result<Vec<u8>, AllocError>
 }
 
 /// Appends bytes for which there is room.
+#[inline(always)]
 fn append(buffer: &mut Vec<u8>, bytes: &[u8])
     requires { vec_len buffer.old + length bytes.now ≤ vec_capacity buffer.old }
     ensures items { buffer.new.items ≡ buffer.old.items ++ bytes.now }

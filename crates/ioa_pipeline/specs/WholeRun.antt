@@ -26,8 +26,8 @@ use Rattle.ioa_record.specs.Recorded.{IsOfOneWorker, IsRunOf}
 use Rattle.ioa_solo.specs.Solo.{IsSoloRun}
 use Rattle.ioa_source.specs.Sides.{SourceText}
 
--- a system that a text describes: the tokens of the text spell a source, and the system is that source's; so it declares
--- each thing once
+-- a system that a text describes: the tokens of the text spell a source, and the system is that source's; so it
+-- declares each thing once
 pub record IsDescribed (text : List ℕ) (s : SystemParts) : Type 0 where
   pub source : SourceText
   pub spelled : TextSpells source text
@@ -87,8 +87,8 @@ IsFaultOfWorkers workers (Finish f) = workers ≡ 1 → ⊥
 IsFaultOfWorkers workers Memory = ⊤
 IsFaultOfWorkers workers Write = ⊤
 
--- what a fault says of the text: a fault of reading is one of the text, and a fault of the check means that no system is
--- that of a source that the text spells; want of memory, a fault of finishing and a failed write say nothing
+-- what a fault says of the text: a fault of reading is one of the text, and a fault of the check means that no system
+-- is that of a source that the text spells; want of memory, a fault of finishing and a failed write say nothing
 abbrev pub IsRefusalOf : RunFault → List ℕ → Type 0
 IsRefusalOf (Front f) text = (f ≡ front.Memory → ⊥) × StandsInText f text
 IsRefusalOf (Check f) text =

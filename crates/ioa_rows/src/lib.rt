@@ -1,5 +1,5 @@
-//! Scripts of rows: files of commands with the answers that are wanted, which a program writes out anew with the answers
-//! that it gives. `checks/rows` says how a line is read.
+//! Scripts of rows: files of commands with the answers that are wanted, which a program writes out anew with the
+//! answers that it gives. `checks/rows` says how a line is read.
 //!
 //! **A crate of its own**, since the programs of rows of all layers share it.
 //!

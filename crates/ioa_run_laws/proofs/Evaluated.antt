@@ -1,5 +1,5 @@
 -- The terms of an accepted system have their shapes throughout.
-use Rattle.std.proofs.Common.{◌≡◌, ℤ, ℕ, true, false, List, [], ◌∷◌, ◌++◌, Option, Some, None, refl, ap, subst, ◌∙◌, map, take, length, arith}
+use Rattle.std.proofs.Common.{◌≡◌, ℤ, ℕ, true, false, List, [], ◌∷◌, ◌++◌, Option, Some, None, refl, ap, subst, ◌∙◌, map, take, length, slice_get}
 use Rattle.std.specs.List.{AllByRecursion, AllZip, Contains}
 use Rattle.std.specs.Option.{IfSome}
 use Rattle.ioa_operators.specs.Shapes.{PlainShape, truths}
@@ -77,7 +77,7 @@ module _ (variables names : NameShapes) (declared : (x : Name) (s : PlainShape) 
     statement_sorted (assign p t) e h g = assignment_sorted variables names declared e g p t h.0 h.1 h.2
     statement_sorted (branch arms rest) e h g = (arms_sorted arms e h.0 g, statements_sorted rest e h.1 g)
     statement_sorted (loop t body) e h g = let f : false ≡ true = h.0 in absurd (cc)
-    statement_sorted (fire f) e h g = absurd (omega (arith, h.present.1))
+    statement_sorted (fire f) e h g = let none : slice_get [] f.rule ≡ Some h.rule = h.numbered in absurd (cc)
 
     arms_sorted : (arms : PlainArms ℕ Callee Shape) (e : Bindings) → AreArmsSorted (effect_site variables names) arms → HasValuesOf names e → AreArmsWellSorted arms e
     arms_sorted no_arms e h g = tt
@@ -107,7 +107,7 @@ module _ (own : List CheckedVariable) (site : PlainStatementSite) (first : site.
   firing_sorted : (f : CheckedFiring) → IsFired site.names site.rules f → IsFiringWellSorted site.rules f e
   firing_sorted f h = record {
     rule = h.rule;
-    present = h.present;
+    numbered = h.numbered;
     name = h.same_name;
     arguments = arguments_sorted site.names e g h.rule.shapes f.arguments h.arguments;
   }

@@ -1,6 +1,6 @@
 -- What the terms of a node may give, and what their parts may (profile): no value of a wrong sort. A negative number
 -- where the sort says Nat is no wrong sort: an assignment of it, or an argument, is no step.
-use Rattle.std.specs.Prelude.{◌≡◌, ℕ, List, [], Option, Some, None}
+use Rattle.std.specs.Prelude.{◌≡◌, ℕ, List, [], Option, Some, None, slice_get}
 use Rattle.std.specs.List.{AllByRecursion, AllZip, Contains}
 use Rattle.std.specs.Option.{IfSome, option_map}
 use Rattle.ioa_values.specs.Data.{Data}
@@ -87,11 +87,11 @@ pub record IsRuleWellSorted (c : NodeState) (a : Action) (r : PlainRule) : Type 
 abbrev pub block_read : NodeState → (inboxes own : List Data) → Bindings
 block_read c inboxes own = block_bindings c.program.automaton c.program.arguments c.variables inboxes own
 
--- a firing is of one of these rules, and has an argument for each of the rule's, which has the shape of the rule's
--- argument throughout; in it naturals count as integers
+-- a firing is of the one of these rules that has its number and its name, and has an argument for each of the rule's,
+-- which has the shape of the rule's argument throughout; in it naturals count as integers
 pub record IsFiringWellSorted (rules : List PlainRule) (f : CheckedFiring) (e : Bindings) : Type 0 where
   pub rule : PlainRule
-  pub present : Contains rules rule
+  pub numbered : slice_get rules f.rule ≡ Some rule
   pub name : rule.entry.name ≡ f.action
   pub arguments : AllZip (λ s t. HasShapeThroughout e t (shape_in_terms s)) rule.shapes f.arguments
 

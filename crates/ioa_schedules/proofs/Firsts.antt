@@ -10,7 +10,7 @@ use Rattle.std.specs.List.{AllByRecursion}
 use Rattle.ioa_terms.specs.PlainTerm.{PlainTerm, PlainFiring, terms_of, PlainStatement, PlainStatements, assign, branch, loop, fire, no_statements, statement}
 use Rattle.ioa_terms.specs.Resolved.{AreAllResolved, AreTermsResolved, IsResolved, IsResolvedStatement}
 use Rattle.ioa_terms.specs.Stepwise.{stepwise_answers}
-use Rattle.ioa_schedules.specs.Turns.{turn_result, fires, idle, IsAtFire, IsFirst, following_statements, is_fire, ends_turn}
+use Rattle.ioa_schedules.specs.Turns.{turn_result, fires, idle, IsAtFire, IsAtFiring, IsFirst, following_statements, is_fire, ends_turn}
 use Rattle.ioa_schedules.specs.TurnsByStep.{stepwise_first, stepwise_step, stepwise_turn}
 
 -- what is to do is the first statement and what follows
@@ -61,9 +61,14 @@ idle_first s no_statements e k h = absurd h
 idle_first s (statement t rest) e k h = rw h (idle_by s rest e k)
 
 -- where a `fire` comes first, the block stands at it
-pub fire_stands : (f : PlainFiring ℕ Callee Shape) (s : PlainStatement ℕ Callee Shape) (todo : PlainStatements ℕ Callee Shape) → s ≡ fire f → IsFirst s todo → IsAtFire todo
+pub fire_stands : (f : PlainFiring ℕ Callee Shape) (s : PlainStatement ℕ Callee Shape) (todo : PlainStatements ℕ Callee Shape) → s ≡ fire f → IsFirst s todo → IsAtFiring f todo
 fire_stands f s no_statements k h = absurd h
-fire_stands f s (statement t rest) k h = rw (h, k) refl
+fire_stands f s (statement t rest) k h = h ∙ k
+
+-- a block that stands at this `fire` stands at one
+pub firing_stands : (f : PlainFiring ℕ Callee Shape) (todo : PlainStatements ℕ Callee Shape) → IsAtFiring f todo → IsAtFire todo
+firing_stands f no_statements h = absurd h
+firing_stands f (statement s rest) h = rw h refl
 
 pub ruleset here_rules = (idle_first, fire_first, fire_stands)
 

@@ -1,5 +1,5 @@
 -- Rounds of a `while` that change nothing: a turn is the same without them.
-use Rattle.std.proofs.Common.{◌≡◌, ℕ, zero, suc, ◌+◌, ◌*◌, ◌/◌, ◌%◌, ◌<◌, ◌≤◌, Bool, true, false, Option, Some, None, IfSome, Result, Ok, Err, refl, sym, ap, subst, ◌∙◌, arith}
+use Rattle.std.proofs.Common.{◌≡◌, ℕ, zero, suc, ◌+◌, ◌*◌, ◌-◌, ◌/◌, ◌%◌, ◌<◌, ◌≤◌, Bool, true, false, Option, Some, None, IfSome, Result, Ok, Err, refl, ap, subst, ◌∙◌, arith}
 use Rattle.std.proofs.Math.Nat.{suc-mul}
 use Rattle.std.specs.Option.{option_and_then}
 use Rattle.std.proofs.lemmas.Nat.{div-add-mod'}
@@ -10,9 +10,9 @@ use Rattle.ioa_terms.specs.declared.callee.Callee.{Callee}
 use Rattle.ioa_terms.specs.Bindings.{Bindings}
 use Rattle.ioa_terms.specs.PlainTerm.{PlainTerm, PlainStatement, PlainStatements, PlainArms, assign, branch, loop, fire, no_statements, statement, no_arms, arm}
 use Rattle.ioa_terms.specs.Stepwise.{stepwise_test}
-use Rattle.ioa_schedules.specs.Turns.{TurnResult, IsFirst, joined_statements}
+use Rattle.ioa_schedules.specs.Turns.{TurnResult, joined_statements}
 use Rattle.ioa_schedules.specs.TurnsByStep.{if_true, stepwise_choice, stepwise_turn}
-use Rattle.ioa_schedules.specs.Rounds.{count_by, quiet_all, quiet_one, quiet_choice, round_by, round_of}
+use Rattle.ioa_schedules.specs.Rounds.{count_by, quiet_all, quiet_one, quiet_choice, round_of}
 
 -- what is to do, and the environment
 abbrev State : Type 0
@@ -112,27 +112,33 @@ many_rounds n course (suc m) l x =
     let apart : suc m * n + l ≡ x.taken + (m * n + l) = omega (arith, more, x.sum) in
     ap course apart ∙ x.same (m * n + l) ∙ many_rounds n course m l x
 
--- a turn is the same without the whole rounds
-pub rounds_counted : (todo : PlainStatements ℕ Callee Shape) (n left : ℕ) (e : Bindings) → round_of todo e ≡ Some n → stepwise_turn todo left e ≡ stepwise_turn todo (left % n) e
-rounds_counted todo n left e h = ap (λ (l : ℕ). stepwise_turn todo l e) (sym (div-add-mod' left n)) ∙ many_rounds n (λ l. stepwise_turn todo l e) (left / n) (left % n) (round_counted todo n e h)
+-- a turn is the same without the whole rounds, before which it takes a statement at least
+rounds_counted : (todo : PlainStatements ℕ Callee Shape) (n left : ℕ) (e : Bindings) → 0 < left
+    → round_of todo e ≡ Some n → stepwise_turn todo left e ≡ stepwise_turn todo ((left - 1) % n + 1) e
+rounds_counted todo n left e h k =
+    let apart : left ≡ (left - 1) / n * n + ((left - 1) % n + 1) = omega (arith, div-add-mod' (left - 1) n, h) in
+    ap (λ (l : ℕ). stepwise_turn todo l e) apart
+    ∙ many_rounds n (λ l. stepwise_turn todo l e) ((left - 1) / n) ((left - 1) % n + 1) (round_counted todo n e k)
 
-pub rest_fewer : (n left : ℕ) → left % n ≤ left
-rest_fewer n left = omega (arith, div-add-mod' left n)
+-- the same of a `while` whose test is true
+pub rounds_left : (t : PlainTerm ℕ Callee Shape) (body rest : PlainStatements ℕ Callee Shape) (n left : ℕ)
+    (e : Bindings) → 0 < left → quiet_all body 1 e ≡ Some n → stepwise_test t e ≡ Ok true
+    → stepwise_turn (statement (loop t body) rest) left e
+    ≡ stepwise_turn (statement (loop t body) rest) ((left - 1) % n + 1) e
+rounds_left t body rest n left e h k l =
+    let round : round_of (statement (loop t body) rest) e ≡ Some n = rw l k in
+    rounds_counted (statement (loop t body) rest) n left e h round
 
--- the round of the first statement
-pub first_round : (s : PlainStatement ℕ Callee Shape) (todo : PlainStatements ℕ Callee Shape) (e : Bindings) → IsFirst s todo → round_by s e ≡ round_of todo e
-first_round s no_statements e h = absurd h
-first_round s (statement t rest) e h = ap (λ (u : PlainStatement ℕ Callee Shape). round_by u e) (sym h)
+pub rest_fewer : (n left : ℕ) → 0 < left → (left - 1) % n + 1 ≤ left
+rest_fewer n left h = omega (arith, div-add-mod' (left - 1) n, h)
 
 -- a round takes a statement
-above_by : (s : PlainStatement ℕ Callee Shape) (n : ℕ) (e : Bindings) → round_by s e ≡ Some n → 0 < n
-above_by (assign p t) n e h = absurd (cc)
-above_by (branch arms others) n e h = absurd (cc)
-above_by (loop t body) n e h =
-    let x = all_counted body no_statements 1 n e (test_true (stepwise_test t e) (quiet_all body 1 e) n h).1 in
+above_one : (body : PlainStatements ℕ Callee Shape) (n : ℕ) (e : Bindings) → quiet_all body 1 e ≡ Some n → 0 < n
+above_one body n e h =
+    let x = all_counted body no_statements 1 n e h in
     omega (arith, x.sum)
-above_by (fire f) n e h = absurd (cc)
 
-pub round_above : (o : Option ℕ) (s : PlainStatement ℕ Callee Shape) (e : Bindings) → IfSome o (λ n. round_by s e ≡ Some n) → IfSome o (λ n. 0 < n)
-round_above None s e h = tt
-round_above (Some n) s e h = above_by s n e h
+pub round_above : (o : Option ℕ) (body : PlainStatements ℕ Callee Shape) (e : Bindings)
+    → IfSome o (λ n. quiet_all body 1 e ≡ Some n) → IfSome o (λ n. 0 < n)
+round_above None body e h = tt
+round_above (Some n) body e h = above_one body n e h

@@ -3,5 +3,6 @@ pub mod Turns
 pub mod TurnsByStep
 pub mod Positions
 pub mod Views
+pub mod States
 pub mod Controls
 pub mod Rounds

@@ -1,6 +1,6 @@
 -- Rounds of a `while` that change nothing (form): its test is true, and its body comes to its end with no assignment
 -- and no `fire`, only tests of `if`s, and of `while`s that are false.
-use Rattle.std.specs.Prelude.{ℕ, ◌+◌, Bool, true, false, Option, Some, None, Result, Ok, Err}
+use Rattle.std.specs.Prelude.{ℕ, ◌+◌, Bool, true, false, if◌then◌else◌, Option, Some, None, Result, Ok, Err}
 use Rattle.std.specs.Option.{option_and_then}
 use Rattle.ioa_operators.specs.declared.shape.Shape.{Shape}
 use Rattle.ioa_operators.specs.declared.fault.TermFault.{TermFault}
@@ -42,6 +42,19 @@ begins_quietly (statement (assign p t) rest) = false
 begins_quietly (statement (branch arms others) rest) = true
 begins_quietly (statement (loop t body) rest) = true
 begins_quietly (statement (fire f) rest) = false
+
+-- whether the first of those with which an `if` goes on may be one that changes nothing (form)
+abbrev pub choice_begins_quietly : PlainArms ℕ Callee Shape → Bool → Bool
+choice_begins_quietly no_arms rest = rest
+choice_begins_quietly (arm t body more) rest = if begins_quietly body then true else choice_begins_quietly more rest
+
+-- whether these may change nothing, by what comes first on each way (form): behind one `if`
+abbrev pub may_be_quiet : PlainStatements ℕ Callee Shape → Bool
+may_be_quiet no_statements = true
+may_be_quiet (statement (assign p t) rest) = false
+may_be_quiet (statement (branch arms others) rest) = choice_begins_quietly arms (begins_quietly others)
+may_be_quiet (statement (loop t body) rest) = true
+may_be_quiet (statement (fire f) rest) = false
 
 -- how many statements one round of a `while` takes, if it changes nothing (form)
 abbrev pub round_by : PlainStatement ℕ Callee Shape → Bindings → Option ℕ

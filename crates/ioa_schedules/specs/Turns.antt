@@ -10,7 +10,7 @@ use Rattle.ioa_operators.specs.declared.fault.TermFault.{TermFault}
 use Rattle.ioa_terms.specs.declared.callee.Callee.{Callee}
 use Rattle.ioa_terms.specs.declared.tree.Kind.{Kind}
 use Rattle.ioa_terms.specs.Bindings.{Bindings}
-use Rattle.ioa_terms.specs.PlainTerm.{terms_of, PlainStatement, PlainStatements, PlainArms}
+use Rattle.ioa_terms.specs.PlainTerm.{terms_of, PlainFiring, PlainStatement, PlainStatements, PlainArms}
 use Rattle.ioa_terms.specs.PlainTerm.{assign, branch, loop, fire, no_statements, statement, no_arms, arm}
 use Rattle.ioa_terms.specs.Meaning.{values, numbers_met, all_numbers_met}
 use Rattle.ioa_terms.specs.Performance.{test_value, by_test, after_one, numbers_met_by_one}
@@ -55,6 +55,11 @@ ends_turn (statement s rest) = is_fire s
 abbrev pub IsAtFire : PlainStatements ℕ Callee Shape → Type 0
 IsAtFire no_statements = ⊥
 IsAtFire (statement s rest) = is_fire s ≡ true
+
+-- this `fire` comes first (profile)
+abbrev pub IsAtFiring : PlainFiring ℕ Callee Shape → PlainStatements ℕ Callee Shape → Type 0
+IsAtFiring f no_statements = ⊥
+IsAtFiring f (statement s rest) = s ≡ fire f
 
 -- this statement comes first (profile)
 abbrev pub IsFirst : PlainStatement ℕ Callee Shape → PlainStatements ℕ Callee Shape → Type 0

@@ -10,7 +10,7 @@ use Rattle.ioa_terms.specs.View.{firing_of}
 use Rattle.ioa_terms.specs.Views.{names_in_view, own_names}
 use Rattle.ioa_schedules.specs.declared.turn.Turn.{Turn}
 use Rattle.ioa_schedules.specs.declared.turn.Turn.TheVariants.{Fire, Idle, Done}
-use Rattle.ioa_schedules.specs.Turns.{TurnResult, turn_result, fires, idle, done, IsAtFire}
+use Rattle.ioa_schedules.specs.Turns.{TurnResult, turn_result, fires, idle, done, IsAtFiring}
 
 -- statements that assign the block's own variables alone, and read what is in view (profile)
 abbrev pub AreResolvedIn : View → ℕ → PlainStatements ℕ Callee Shape → Type 0
@@ -23,8 +23,8 @@ turn_of todo e (Fire f) =
 turn_of todo e Idle = turn_result idle todo e
 turn_of todo e Done = turn_result done todo e
 
--- a block whose turn ended at a `fire` still stands there (profile)
+-- a block whose turn ended at a `fire` still stands there, at that one (profile)
 abbrev pub StandsAt : PlainStatements ℕ Callee Shape → Turn → Type 0
-StandsAt todo (Fire f) = IsAtFire todo
+StandsAt todo (Fire f) = IsAtFiring (firing_of f.firing.now) todo
 StandsAt todo Idle = Unit {0}
 StandsAt todo Done = Unit {0}

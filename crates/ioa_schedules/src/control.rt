@@ -1,20 +1,24 @@
 //! A block that runs, and its turns.
 
-ghost use Rattle.std.specs.Prelude.{◌≡◌, ◌<◌, IfErr, IfOk, MatchOption, length, false};
-ghost use Rattle.ioa_values.specs.Outcome.{Answers};
-ghost use Rattle.ioa_terms.specs.PlainTerm.{fire};
+ghost use Rattle.std.specs.Prelude.{◌≡◌, ◌<◌, IfErr, IfOk, MatchOption, MatchResult, Ok, length, false};
+ghost use Rattle.ioa_values.specs.Outcome.{Answers, and_then};
+ghost use Rattle.ioa_terms.specs.PlainTerm.{fire, terms_of};
+ghost use Rattle.ioa_terms.specs.Resolved.{AreTermsResolved};
+ghost use Rattle.ioa_terms.specs.Stepwise.{stepwise_answers};
 ghost use Rattle.ioa_terms.specs.View.{firing_of, statement_of};
-ghost use Rattle.ioa_schedules.specs.Controls.{todo_of, values_of};
+ghost use Rattle.ioa_schedules.specs.Controls.{state_before, todo_of, values_of};
 ghost use Rattle.ioa_schedules.specs.Turns as spec;
 ghost use Rattle.ioa_schedules.specs.Positions.{statements_in};
-ghost use Rattle.ioa_schedules.specs.Turns.{IsAtFire, following_statements, turn_answer, turn_limit};
+ghost use Rattle.ioa_schedules.specs.States.{todo_in, values_in};
+ghost use Rattle.ioa_schedules.specs.Turns.{IsAtFire, IsAtFiring, fires, following_statements, turn_answer, turn_limit};
+ghost use Rattle.ioa_schedules.specs.Turns.{turn_result};
 ghost use Rattle.ioa_schedules.specs.TurnsByStep.{LeadsOn, stepwise_turn};
 ghost use Rattle.ioa_schedules.specs.Views.{AreResolvedIn, StandsAt, turn_of};
-ghost use Rattle.ioa_terms.specs.Views.{IsNamed, environment_of};
+ghost use Rattle.ioa_terms.specs.Views.{IsNamed, environment_of, names_in_view};
 
 use crate::position::Position;
-use crate::rounds::left_over;
-use crate::step::{is_fire, take_first};
+use crate::state::State;
+use crate::step::take_first;
 use crate::turn::{Fired, TURN_LIMIT, Turn};
 use ioa_terms::{Callee, Firing, Shape, Statement, TermFault, Value, View, evaluate_each};
 use ioa_values::copies;
@@ -22,11 +26,11 @@ use std::alloc::{AllocError, Global};
 use std::mem;
 
 /// A block that runs (profile): what it has still to do, and the values of its own variables. The statements are
-/// the block's own, and none is copied.
+/// the block's own, and none is copied. Beside them is room for a copy, to which the block is put back after a fault.
 #[derive(Drop)]
 pub struct Control<'a> {
-    pub(crate) position: Position<'a>,
-    pub(crate) variables: Vec<Value>,
+    pub(crate) state: State<'a>,
+    copy: State<'a>,
 }
 
 impl<'a> Control<'a> {
@@ -41,32 +45,15 @@ impl<'a> Control<'a> {
     {
         let variables = copies(alloc, initial)?;
         Ok(Control {
-            position: Position::start(alloc, statements),
-            variables,
+            state: State {
+                position: Position::start(alloc, statements),
+                variables,
+            },
+            copy: State {
+                position: Position::start(alloc, statements),
+                variables: Vec::new(alloc),
+            },
         })
-    }
-
-    /// The same block once more, whose values share their collections with this one's.
-    fn try_copy(&self, alloc: Global) -> Result<Control<'a>, AllocError>
-        ensures todo { IfOk result (λ c. todo_of c ≡ todo_of self.now) }
-        ensures values { IfOk result (λ c. values_of c ≡ values_of self.now) }
-    {
-        let variables = copies(alloc, &self.variables)?;
-        let position = self.position.try_copy(alloc)?;
-        Ok(Control {
-            position,
-            variables,
-        })
-    }
-
-    /// Whether a turn that begins here ends here.
-    fn ends_turn(&self) -> bool
-        ensures { result ≡ spec.ends_turn (todo_of self.now) }
-    {
-        match self.position.first() {
-            None => true,
-            Some(first) => is_fire(first),
-        }
     }
 }
 
@@ -91,59 +78,65 @@ pub fn next<'a>(
     ensures stands { IfOk result (StandsAt (todo_of control.new)) }
     ensures resolved { AreResolvedIn view.now (length (values_of control.new)) (todo_of control.new) }
     ensures kept { length (values_of control.new) ≡ length (values_of control.old) }
-    ensures unchanged { IfErr result (λ _. control.new ≡ control.old) }
+    ensures todo { IfErr result (λ _. todo_of control.new ≡ todo_of control.old) }
+    ensures values { IfErr result (λ _. values_of control.new ≡ values_of control.old) }
 {
-    if control.ends_turn() {
-        return turn_here(alloc, view, control);
-    }
-    turn_of_copy(alloc, view, control)
+    let copied = move_on(alloc, view, control)?;
+    turn_here(alloc, view, control, copied)
 }
 
-/// The turn of a copy, which takes the block's place. After a fault the block itself is put back.
-fn turn_of_copy<'a>(
-    alloc: Global,
-    view: &View,
-    control: &mut Control<'a>,
-) -> Result<Turn<'a>, TermFault>
+/// Takes the statements that a turn takes. Returns whether there are any: the block is copied before then. After a
+/// fault the block is as it was.
+#[tactic(auto, using(crate::proofs::Firsts::turn_ends))]
+fn move_on<'a>(alloc: Global, view: &View, control: &mut Control<'a>) -> Result<bool, TermFault>
     requires named { IsNamed view.now (values_of control.old) }
     requires resolved { AreResolvedIn view.now (length (values_of control.old)) (todo_of control.old) }
-    ensures turn { Answers TermFault.Memory
-        (turn_of (todo_of control.new) (environment_of view.now (values_of control.new))) result
+    ensures after { LeadsOn TermFault.Memory
+        (λ _. stepwise_turn (todo_of control.new) 0 (environment_of view.now (values_of control.new))) result
         (stepwise_turn (todo_of control.old) turn_limit (environment_of view.now (values_of control.old))) }
-    ensures stands { IfOk result (StandsAt (todo_of control.new)) }
     ensures resolved { AreResolvedIn view.now (length (values_of control.new)) (todo_of control.new) }
     ensures kept { length (values_of control.new) ≡ length (values_of control.old) }
-    ensures unchanged { IfErr result (λ _. control.new ≡ control.old) }
+    ensures todo { MatchResult result (λ b. todo_in (state_before b control.new) ≡ todo_of control.old)
+        (λ _. todo_of control.new ≡ todo_of control.old) }
+    ensures values { MatchResult result (λ b. values_in (state_before b control.new) ≡ values_of control.old)
+        (λ _. values_of control.new ≡ values_of control.old) }
 {
-    let copy = control.try_copy(alloc)?;
-    let original = mem::replace(control, copy);
-    match whole_turn(alloc, view, control) {
-        Ok(turn) => Ok(turn),
+    if control.state.ends_turn() {
+        return Ok(false);
+    }
+    run_copied(alloc, view, control)?;
+    Ok(true)
+}
+
+/// Copies the block, and takes the statements that a turn takes. After a fault the block is as it was.
+fn run_copied<'a>(alloc: Global, view: &View, control: &mut Control<'a>) -> Result<(), TermFault>
+    requires named { IsNamed view.now (values_of control.old) }
+    requires resolved { AreResolvedIn view.now (length (values_of control.old)) (todo_of control.old) }
+    ensures after { LeadsOn TermFault.Memory
+        (λ _. stepwise_turn (todo_of control.new) 0 (environment_of view.now (values_of control.new))) result
+        (stepwise_turn (todo_of control.old) turn_limit (environment_of view.now (values_of control.old))) }
+    ensures resolved { AreResolvedIn view.now (length (values_of control.new)) (todo_of control.new) }
+    ensures kept { length (values_of control.new) ≡ length (values_of control.old) }
+    ensures todo { MatchResult result (λ _. todo_in control.new.copy ≡ todo_of control.old)
+        (λ _. todo_of control.new ≡ todo_of control.old) }
+    ensures values { MatchResult result (λ _. values_in control.new.copy ≡ values_of control.old)
+        (λ _. values_of control.new ≡ values_of control.old) }
+{
+    control.copy.copy_from(alloc, &control.state)?;
+    match run(alloc, view, &mut control.state) {
+        Ok(()) => Ok(()),
         Err(fault) => {
-            *control = original;
+            put_back(control);
             Err(fault)
         }
     }
 }
 
-/// A turn in place. After a fault the block stays where that came.
-fn whole_turn<'a>(
-    alloc: Global,
-    view: &View,
-    control: &mut Control<'a>,
-) -> Result<Turn<'a>, TermFault>
-    requires named { IsNamed view.now (values_of control.old) }
-    requires resolved { AreResolvedIn view.now (length (values_of control.old)) (todo_of control.old) }
-    ensures turn { Answers TermFault.Memory
-        (turn_of (todo_of control.new) (environment_of view.now (values_of control.new))) result
-        (stepwise_turn (todo_of control.old) turn_limit (environment_of view.now (values_of control.old))) }
-    ensures stands { IfOk result (StandsAt (todo_of control.new)) }
-    ensures resolved { IfOk result
-        (λ _. AreResolvedIn view.now (length (values_of control.new)) (todo_of control.new)) }
-    ensures kept { length (values_of control.new) ≡ length (values_of control.old) }
+/// Puts the block back to its copy.
+fn put_back(control: &mut Control)
+    ensures { control.new.state ≡ control.old.copy }
 {
-    run(alloc, view, control)?;
-    turn_here(alloc, view, control)
+    mem::swap(&mut control.state, &mut control.copy);
 }
 
 /// Moves a block past the `fire` at which it stands (profile), as it does after a turn that ended there. Takes
@@ -153,79 +146,112 @@ pub fn passed(control: &mut Control)
     ensures todo { todo_of control.new ≡ following_statements (todo_of control.old) }
     ensures values { values_of control.new ≡ values_of control.old }
 {
-    control.position.advance();
+    control.state.position.advance();
 }
 
 /// Takes the statements that a turn takes.
 #[tactic(auto, using(crate::proofs::Firsts::turn_ends))]
-fn run<'a>(alloc: Global, view: &View, control: &mut Control<'a>) -> Result<(), TermFault>
-    requires named { IsNamed view.now (values_of control.old) }
-    requires resolved { AreResolvedIn view.now (length (values_of control.old)) (todo_of control.old) }
+fn run<'a>(alloc: Global, view: &View, state: &mut State<'a>) -> Result<(), TermFault>
+    requires named { IsNamed view.now (values_in state.old) }
+    requires resolved { AreResolvedIn view.now (length (values_in state.old)) (todo_in state.old) }
     ensures after { LeadsOn TermFault.Memory
-        (λ _. stepwise_turn (todo_of control.new) 0 (environment_of view.now (values_of control.new))) result
-        (stepwise_turn (todo_of control.old) turn_limit (environment_of view.now (values_of control.old))) }
+        (λ _. stepwise_turn (todo_in state.new) 0 (environment_of view.now (values_in state.new))) result
+        (stepwise_turn (todo_in state.old) turn_limit (environment_of view.now (values_in state.old))) }
     ensures resolved { IfOk result
-        (λ _. AreResolvedIn view.now (length (values_of control.new)) (todo_of control.new)) }
-    ensures kept { length (values_of control.new) ≡ length (values_of control.old) }
+        (λ _. AreResolvedIn view.now (length (values_in state.new)) (todo_in state.new)) }
+    ensures kept { length (values_in state.new) ≡ length (values_in state.old) }
 {
     let mut left = TURN_LIMIT;
     while left > 0 {
-        if control.ends_turn() {
+        if state.ends_turn() {
             return Ok(());
         }
-        left = take_some(alloc, view, control, left)?;
+        left = take_some(alloc, view, state, left)?;
     }
     Ok(())
 }
 
-/// Takes statements of a turn, of which `left` may be taken still: whole rounds that change nothing, and one statement
-/// behind them. Returns how many may be taken then.
+/// Takes a statement of a turn, of `left` that may be taken still, behind whole rounds that change nothing. Returns how
+/// many may be taken then.
 #[tactic(auto, using(crate::proofs::Runs::on_rules))]
 fn take_some<'a>(
     alloc: Global,
     view: &View,
-    control: &mut Control<'a>,
+    state: &mut State<'a>,
     left: usize,
 ) -> Result<usize, TermFault>
-    requires goes_on { spec.ends_turn (todo_of control.old) ≡ false }
+    requires goes_on { spec.ends_turn (todo_in state.old) ≡ false }
     requires some { 0 < left }
-    requires named { IsNamed view.now (values_of control.old) }
-    requires resolved { AreResolvedIn view.now (length (values_of control.old)) (todo_of control.old) }
+    requires named { IsNamed view.now (values_in state.old) }
+    requires resolved { AreResolvedIn view.now (length (values_in state.old)) (todo_in state.old) }
     ensures after { LeadsOn TermFault.Memory
-        (λ n. stepwise_turn (todo_of control.new) n (environment_of view.now (values_of control.new))) result
-        (stepwise_turn (todo_of control.old) left (environment_of view.now (values_of control.old))) }
+        (λ n. stepwise_turn (todo_in state.new) n (environment_of view.now (values_in state.new))) result
+        (stepwise_turn (todo_in state.old) left (environment_of view.now (values_in state.old))) }
     ensures fewer { IfOk result (λ n. n < left) }
     ensures resolved { IfOk result
-        (λ _. AreResolvedIn view.now (length (values_of control.new)) (todo_of control.new)) }
-    ensures kept { length (values_of control.new) ≡ length (values_of control.old) }
+        (λ _. AreResolvedIn view.now (length (values_in state.new)) (todo_in state.new)) }
+    ensures kept { length (values_in state.new) ≡ length (values_in state.old) }
 {
-    let rest = left_over(alloc, view, control, left);
-    if rest == 0 {
-        return Ok(0);
-    }
-    take_first(alloc, view, control)?;
+    let rest = take_first(alloc, view, state, left)?;
     Ok(rest - 1)
 }
 
-/// The turn that takes no statement: what a turn comes to once it has taken all that it may.
+/// The turn that takes no statement: what a turn comes to once it has taken all that it may. After a fault the block is
+/// put back to its copy, if it was copied.
 #[tactic(auto, using(crate::proofs::Firsts::here_rules))]
-fn turn_here<'a>(alloc: Global, view: &View, control: &Control<'a>) -> Result<Turn<'a>, TermFault>
-    requires named { IsNamed view.now (values_of control.now) }
-    requires resolved { AreResolvedIn view.now (length (values_of control.now)) (todo_of control.now) }
+fn turn_here<'a>(
+    alloc: Global,
+    view: &View,
+    control: &mut Control<'a>,
+    copied: bool,
+) -> Result<Turn<'a>, TermFault>
+    requires named { IsNamed view.now (values_of control.old) }
+    requires resolved { AreResolvedIn view.now (length (values_of control.old)) (todo_of control.old) }
     ensures turn { Answers TermFault.Memory
-        (turn_of (todo_of control.now) (environment_of view.now (values_of control.now))) result
-        (stepwise_turn (todo_of control.now) 0 (environment_of view.now (values_of control.now))) }
-    ensures stands { IfOk result (StandsAt (todo_of control.now)) }
+        (turn_of (todo_of control.old) (environment_of view.now (values_of control.old))) result
+        (stepwise_turn (todo_of control.old) 0 (environment_of view.now (values_of control.old))) }
+    ensures stands { IfOk result (StandsAt (todo_of control.old)) }
+    ensures state { MatchResult result (λ _. control.new.state ≡ control.old.state)
+        (λ _. control.new.state ≡ state_before copied control.old) }
 {
-    match control.position.first() {
+    match control.state.position.first() {
         None => Ok(Turn::Done),
         Some(first) => match firing_in(first) {
             None => Ok(Turn::Idle),
-            Some(firing) => {
-                let arguments = evaluate_each(alloc, &firing.arguments, view, &control.variables)?;
-                Ok(Turn::Fire(Fired { firing, arguments }))
-            }
+            Some(firing) => fired(alloc, view, control, firing, copied),
         },
+    }
+}
+
+/// The same of a block that stands at this `fire`.
+fn fired<'a>(
+    alloc: Global,
+    view: &View,
+    control: &mut Control<'a>,
+    firing: &'a Firing<usize, Callee, Shape>,
+    copied: bool,
+) -> Result<Turn<'a>, TermFault>
+    requires named { IsNamed view.now (values_of control.old) }
+    requires resolved { AreTermsResolved (terms_of (firing_of firing.now).arguments) (names_in_view view.now) }
+    requires stands { IsAtFiring (firing_of firing.now) (todo_of control.old) }
+    ensures turn { Answers TermFault.Memory
+        (turn_of (todo_of control.old) (environment_of view.now (values_of control.old))) result
+        (and_then (stepwise_answers (terms_of (firing_of firing.now).arguments)
+        (environment_of view.now (values_of control.old)))
+        (λ vs. Ok (turn_result (fires (firing_of firing.now).kind (firing_of firing.now).action vs)
+        (todo_of control.old) (environment_of view.now (values_of control.old))))) }
+    ensures stands { IfOk result (StandsAt (todo_of control.old)) }
+    ensures state { MatchResult result (λ _. control.new.state ≡ control.old.state)
+        (λ _. control.new.state ≡ state_before copied control.old) }
+{
+    match evaluate_each(alloc, &firing.arguments, view, &control.state.variables) {
+        Ok(arguments) => Ok(Turn::Fire(Fired { firing, arguments })),
+        Err(fault) => {
+            if copied {
+                put_back(control);
+            }
+            Err(fault)
+        }
     }
 }
 

@@ -12,6 +12,7 @@ mod laws;
 mod lists;
 mod position;
 mod rounds;
+mod state;
 mod step;
 mod turn;
 

@@ -1,10 +1,11 @@
 //! The lists of statements of a position.
 
-ghost use Rattle.std.specs.Prelude.{◌≡◌, ◌≤◌, length};
+ghost use Rattle.std.specs.Prelude.{◌≡◌, ◌≤◌, OnOk, length};
 ghost use Rattle.ioa_schedules.specs.Turns.{joined_statements};
 ghost use Rattle.ioa_schedules.specs.Positions.{statements_in, below_of};
 
 use ioa_terms::{Callee, Shape, Statement};
+use std::alloc::AllocError;
 
 /// The first list that is not empty: `first`, or else one of those below, which is taken from there with the
 /// empty ones before it. An empty list if there is none.
@@ -26,4 +27,26 @@ pub(crate) fn first_list<'a>(
         }
     }
     top
+}
+
+/// Makes lists what others are. Takes no memory if there is room for them. If no memory is left, the first ones are
+/// there.
+pub(crate) fn copy_lists<'a>(
+    from: &[&'a [Statement<usize, Callee, Shape>]],
+    to: &mut Vec<&'a [Statement<usize, Callee, Shape>]>,
+) -> Result<(), AllocError>
+    ensures same { OnOk result (to.new.items ≡ from.now) }
+    ensures fewer { length to.new.items ≤ length from.now }
+{
+    if to.len() == from.len() {
+        for position in 0..from.len() {
+            to[position] = from[position];
+        }
+        return Ok(());
+    }
+    to.clear();
+    for list in from {
+        to.push(*list)?;
+    }
+    Ok(())
 }

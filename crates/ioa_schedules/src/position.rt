@@ -2,7 +2,7 @@
 
 ghost use Rattle.std.specs.Prelude.{◌≡◌, length};
 
-use crate::lists::first_list;
+use crate::lists::{copy_lists, first_list};
 use ioa_terms::{Callee, Shape, Statement};
 use std::alloc::{AllocError, Global};
 
@@ -17,7 +17,7 @@ pub struct Position<'a> {
 }
 
 impl<'a> Position<'a> {
-    ghost use Rattle.std.specs.Prelude.{IfOk, MatchOption};
+    ghost use Rattle.std.specs.Prelude.{IfOk, MatchOption, OnOk};
     ghost use Rattle.ioa_terms.specs.PlainTerm.{no_statements};
     ghost use Rattle.ioa_terms.specs.View.{statement_of};
     ghost use Rattle.ioa_schedules.specs.Turns.{joined_statements, following_statements, IsFirst};
@@ -34,15 +34,12 @@ impl<'a> Position<'a> {
         }
     }
 
-    /// A position of its own, at the same statements.
-    pub fn try_copy(&self, alloc: Global) -> Result<Position<'a>, AllocError>
-        ensures { IfOk result (λ p. statements_at p ≡ statements_at self.now) }
+    /// Moves to the statements of another position. If no memory is left, the position is some position.
+    pub fn copy_from(&mut self, other: &Position<'a>) -> Result<(), AllocError>
+        ensures { OnOk result (statements_at self.new ≡ statements_at other.now) }
     {
-        let below = Vec::from_slice(alloc, &self.below)?;
-        Ok(Position {
-            top: self.top,
-            below,
-        })
+        self.top = other.top;
+        copy_lists(&other.below, &mut self.below)
     }
 
     /// The first statement, if there is one.

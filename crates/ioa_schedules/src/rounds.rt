@@ -1,95 +1,103 @@
 //! Rounds of a `while` that change nothing, counted at once.
 
-ghost use Rattle.std.specs.Prelude.{◌≡◌, ◌<◌, ◌≤◌, IfSome, Ok, Some, length, map};
-ghost use Rattle.ioa_terms.specs.PlainTerm.{loop};
+ghost use Rattle.std.specs.Prelude.{◌≡◌, ◌<◌, ◌≤◌, ℕ, IfSome, Ok, Some, length, map, true};
+ghost use Rattle.ioa_operators.specs.declared.shape.Shape.{Shape};
+ghost use Rattle.ioa_terms.specs.declared.callee.Callee.{Callee};
+ghost use Rattle.ioa_terms.specs.PlainTerm.{PlainStatements, PlainTerm, arms_of, loop, statement};
 ghost use Rattle.ioa_terms.specs.Resolved.{AreAllResolved, IsResolved, IsResolvedStatement};
 ghost use Rattle.ioa_terms.specs.Stepwise.{stepwise_test};
-ghost use Rattle.ioa_terms.specs.View.{statement_of, term_of};
+ghost use Rattle.ioa_terms.specs.View.{arm_of, statement_of, term_of};
 ghost use Rattle.ioa_terms.specs.Views.{IsNamed, environment_of, names_in_view, own_names};
-ghost use Rattle.ioa_schedules.specs.Controls.{todo_of, values_of};
 ghost use Rattle.ioa_schedules.specs.Positions.{statements_in};
-ghost use Rattle.ioa_schedules.specs.Rounds.{begins_quietly, quiet_all, quiet_one, round_by, round_of};
+ghost use Rattle.ioa_schedules.specs.Rounds as spec;
+ghost use Rattle.ioa_schedules.specs.Rounds.{quiet_all, quiet_one};
 ghost use Rattle.ioa_schedules.specs.TurnsByStep.{stepwise_turn};
-ghost use Rattle.ioa_schedules.specs.Views.{AreResolvedIn};
 
-use crate::control::Control;
-use ioa_terms::{Callee, Checked, Shape, Statement, Value, View, evaluate_test};
+use ioa_terms::{Arm, Callee, Checked, Shape, Statement, Value, View, evaluate_test};
 use std::alloc::Global;
 
-/// What is left of `left` statements of a turn, once all whole rounds that change nothing are counted.
-#[tactic(auto, using(crate::proofs::WholeRounds::rounds_counted, crate::proofs::WholeRounds::rest_fewer))]
-pub(crate) fn left_over(alloc: Global, view: &View, control: &Control, left: usize) -> usize
-    requires named { IsNamed view.now (values_of control.now) }
-    requires resolved { AreResolvedIn view.now (length (values_of control.now)) (todo_of control.now) }
+/// How many of `left` statements of a turn are left at a `while` with this body, whose test is true, once whole rounds
+/// that change nothing are counted. At least one is left.
+#[tactic(auto, using(crate::proofs::WholeRounds::rounds_left, crate::proofs::WholeRounds::rest_fewer))]
+pub(crate) fn left_over(
+    alloc: Global,
+    body: &[Statement<usize, Callee, Shape>],
+    view: &View,
+    values: &[Value],
+    left: usize,
+) -> usize
+    requires some { 0 < left }
+    requires named { IsNamed view.now values.now }
+    requires resolved { AreAllResolved (statements_in body.now)
+        (own_names view.now (length values.now)) (names_in_view view.now) }
+    ensures some { 0 < result }
     ensures fewer { result ≤ left }
-    ensures same { stepwise_turn (todo_of control.now) left (environment_of view.now (values_of control.now))
-        ≡ stepwise_turn (todo_of control.now) result (environment_of view.now (values_of control.now)) }
+    ensures same { (t : PlainTerm ℕ Callee Shape) (rest : PlainStatements ℕ Callee Shape)
+        → stepwise_test t (environment_of view.now values.now) ≡ Ok true
+        → stepwise_turn (statement (loop t (statements_in body.now)) rest) left (environment_of view.now values.now)
+        ≡ stepwise_turn (statement (loop t (statements_in body.now)) rest) result
+        (environment_of view.now values.now) }
 {
-    match round_length(alloc, view, control) {
+    match round_length(alloc, body, view, values) {
         None => left,
-        Some(length) => left % length,
+        Some(length) => (left - 1) % length + 1,
     }
 }
 
-/// How many statements one round of the `while` takes at which a block stands, if it changes nothing. It is found only
-/// where the body does not begin with an assignment or a `fire`.
-#[tactic(auto, using(crate::proofs::WholeRounds::first_round, crate::proofs::Firsts::first_resolved))]
-fn round_length(alloc: Global, view: &View, control: &Control) -> Option<usize>
-    requires named { IsNamed view.now (values_of control.now) }
-    requires resolved { AreResolvedIn view.now (length (values_of control.now)) (todo_of control.now) }
+/// How many statements one round of a `while` with this body takes, if its test is true and the round changes nothing.
+/// It is found only where an assignment or a `fire` may not come first.
+fn round_length(
+    alloc: Global,
+    body: &[Statement<usize, Callee, Shape>],
+    view: &View,
+    values: &[Value],
+) -> Option<usize>
+    requires named { IsNamed view.now values.now }
+    requires resolved { AreAllResolved (statements_in body.now)
+        (own_names view.now (length values.now)) (names_in_view view.now) }
     ensures length { IfSome result
-        (λ n. round_of (todo_of control.now) (environment_of view.now (values_of control.now)) ≡ Some n) }
+        (λ n. quiet_all (statements_in body.now) 1 (environment_of view.now values.now) ≡ Some n) }
     ensures above { IfSome result (λ n. 0 < n) }
 {
-    match control.position.first() {
-        None => None,
-        Some(first) => round_at(alloc, view, first, &control.variables),
-    }
-}
-
-/// The same of a statement.
-fn round_at(
-    alloc: Global,
-    view: &View,
-    statement: &Statement<usize, Callee, Shape>,
-    values: &[Value],
-) -> Option<usize>
-    requires named { IsNamed view.now values.now }
-    requires resolved { IsResolvedStatement (statement_of statement.now)
-        (own_names view.now (length values.now)) (names_in_view view.now) }
-    ensures { IfSome result
-        (λ n. round_by (statement_of statement.now) (environment_of view.now values.now) ≡ Some n) }
-{
-    match statement {
-        Statement::While(test, body) => round_of(alloc, view, test, body, values),
-        Statement::Assign(_, _) | Statement::If(_, _) | Statement::Fire(_) => None,
-    }
-}
-
-/// The same of a `while`.
-fn round_of(
-    alloc: Global,
-    view: &View,
-    test: &Checked,
-    body: &[Statement<usize, Callee, Shape>],
-    values: &[Value],
-) -> Option<usize>
-    requires named { IsNamed view.now values.now }
-    requires resolved { IsResolvedStatement (loop (term_of test.now) (statements_in body.now))
-        (own_names view.now (length values.now)) (names_in_view view.now) }
-    ensures { IfSome result (λ n. round_by (loop (term_of test.now) (statements_in body.now))
-        (environment_of view.now values.now) ≡ Some n) }
-{
-    if begins_quietly(body) && is_true(alloc, test, view, values)? {
+    if may_be_quiet(body) {
         quiet_length(alloc, body, view, values, 1)
     } else {
         None
     }
 }
 
+/// Whether statements may change nothing, by what comes first on each way.
+fn may_be_quiet(body: &[Statement<usize, Callee, Shape>]) -> bool
+    ensures { result ≡ spec.may_be_quiet (statements_in body.now) }
+{
+    match body {
+        [] => true,
+        [Statement::Assign(_, _), ..] => false,
+        [Statement::If(arms, others), ..] => choice_begins_quietly(arms, others),
+        [Statement::While(_, _), ..] => true,
+        [Statement::Fire(_), ..] => false,
+    }
+}
+
+/// The same of those with which an `if` goes on.
+fn choice_begins_quietly(
+    arms: &[Arm<usize, Callee, Shape>],
+    others: &[Statement<usize, Callee, Shape>],
+) -> bool
+    ensures { result ≡ spec.choice_begins_quietly (arms_of (map arm_of arms.now))
+        (spec.begins_quietly (statements_in others.now)) }
+{
+    for arm in arms {
+        if begins_quietly(&arm.body) {
+            return true;
+        }
+    }
+    begins_quietly(others)
+}
+
 /// Whether the first statement of a list may be one that changes nothing.
 fn begins_quietly(body: &[Statement<usize, Callee, Shape>]) -> bool
-    ensures { result ≡ begins_quietly (statements_in body.now) }
+    ensures { result ≡ spec.begins_quietly (statements_in body.now) }
 {
     match body {
         [] => true,

@@ -1,19 +1,20 @@
 //! One statement of a block, taken.
 
-ghost use Rattle.std.specs.Prelude.{◌≡◌, length, map};
+ghost use Rattle.std.specs.Prelude.{◌≡◌, ◌<◌, ◌≤◌, IfOk, length, map};
 ghost use Rattle.ioa_values.specs.Outcome.{Answers};
 ghost use Rattle.ioa_terms.specs.PlainTerm.{arms_of, branch, loop, statement};
 ghost use Rattle.ioa_terms.specs.Resolved.{AreArmsResolved, IsResolvedStatement};
 ghost use Rattle.ioa_terms.specs.View.{arm_of, statement_of, term_of};
 ghost use Rattle.ioa_terms.specs.Views.{IsNamed, environment_of, names_in_view, own_names};
 ghost use Rattle.ioa_schedules.specs.Positions.{statements_in};
-ghost use Rattle.ioa_schedules.specs.Controls.{todo_of, values_of};
+ghost use Rattle.ioa_schedules.specs.States.{todo_in, values_in};
 ghost use Rattle.ioa_schedules.specs.Turns as spec;
 ghost use Rattle.ioa_schedules.specs.Turns.{following_statements};
-ghost use Rattle.ioa_schedules.specs.TurnsByStep.{stepwise_choice, stepwise_first, stepwise_step};
+ghost use Rattle.ioa_schedules.specs.TurnsByStep.{stepwise_choice, stepwise_first, stepwise_step, stepwise_turn};
 ghost use Rattle.ioa_schedules.specs.Views.{AreResolvedIn};
 
-use crate::control::Control;
+use crate::rounds::left_over;
+use crate::state::State;
 use ioa_terms::{
     Arm, Callee, Checked, Shape, Statement, TermFault, Value, View, evaluate_test,
     perform_assignment,
@@ -55,23 +56,32 @@ fn choice<'a>(
     Ok(others)
 }
 
-/// Takes the first statement of a block. `Undefined (1)` if there is none, or if it is a `fire`: none is taken.
+/// Takes the first statement of a block, of `left` that may be taken still. Returns of how many it is the first one:
+/// whole rounds that change nothing are counted before it. `Undefined (1)` if there is none, or if it is a `fire`: none
+/// is taken.
 #[tactic(auto, using(crate::proofs::Firsts::first_rules))]
 pub(crate) fn take_first<'a>(
     alloc: Global,
     view: &View,
-    control: &mut Control<'a>,
-) -> Result<(), TermFault>
-    requires named { IsNamed view.now (values_of control.old) }
-    requires resolved { AreResolvedIn view.now (length (values_of control.old)) (todo_of control.old) }
+    state: &mut State<'a>,
+    left: usize,
+) -> Result<usize, TermFault>
+    requires some { 0 < left }
+    requires named { IsNamed view.now (values_in state.old) }
+    requires resolved { AreResolvedIn view.now (length (values_in state.old)) (todo_in state.old) }
     ensures after { Answers TermFault.Memory
-        (λ _. (todo_of control.new, environment_of view.now (values_of control.new))) result
-        (stepwise_first (todo_of control.old) (environment_of view.now (values_of control.old))) }
-    ensures kept { length (values_of control.new) ≡ length (values_of control.old) }
+        (λ _. (todo_in state.new, environment_of view.now (values_in state.new))) result
+        (stepwise_first (todo_in state.old) (environment_of view.now (values_in state.old))) }
+    ensures same { IfOk result
+        (λ n. stepwise_turn (todo_in state.old) left (environment_of view.now (values_in state.old))
+        ≡ stepwise_turn (todo_in state.old) n (environment_of view.now (values_in state.old))) }
+    ensures some { IfOk result (λ n. 0 < n) }
+    ensures fewer { IfOk result (λ n. n ≤ left) }
+    ensures kept { length (values_in state.new) ≡ length (values_in state.old) }
 {
-    match control.position.first() {
+    match state.position.first() {
         None => Err(TermFault::Undefined),
-        Some(first) => take_statement(alloc, view, control, first),
+        Some(first) => take_statement(alloc, view, state, first, left),
     }
 }
 
@@ -79,28 +89,38 @@ pub(crate) fn take_first<'a>(
 fn take_statement<'a>(
     alloc: Global,
     view: &View,
-    control: &mut Control<'a>,
+    state: &mut State<'a>,
     first: &'a Statement<usize, Callee, Shape>,
-) -> Result<(), TermFault>
-    requires first { todo_of control.old
-        ≡ statement (statement_of first.now) (following_statements (todo_of control.old)) }
-    requires named { IsNamed view.now (values_of control.old) }
+    left: usize,
+) -> Result<usize, TermFault>
+    requires first { todo_in state.old
+        ≡ statement (statement_of first.now) (following_statements (todo_in state.old)) }
+    requires some { 0 < left }
+    requires named { IsNamed view.now (values_in state.old) }
     requires resolved { IsResolvedStatement (statement_of first.now)
-        (own_names view.now (length (values_of control.old))) (names_in_view view.now) }
+        (own_names view.now (length (values_in state.old))) (names_in_view view.now) }
     ensures after { Answers TermFault.Memory
-        (λ _. (todo_of control.new, environment_of view.now (values_of control.new))) result
-        (stepwise_step (statement_of first.now) (following_statements (todo_of control.old))
-        (environment_of view.now (values_of control.old))) }
-    ensures kept { length (values_of control.new) ≡ length (values_of control.old) }
+        (λ _. (todo_in state.new, environment_of view.now (values_in state.new))) result
+        (stepwise_step (statement_of first.now) (following_statements (todo_in state.old))
+        (environment_of view.now (values_in state.old))) }
+    ensures same { IfOk result
+        (λ n. stepwise_turn (todo_in state.old) left (environment_of view.now (values_in state.old))
+        ≡ stepwise_turn (todo_in state.old) n (environment_of view.now (values_in state.old))) }
+    ensures some { IfOk result (λ n. 0 < n) }
+    ensures fewer { IfOk result (λ n. n ≤ left) }
+    ensures kept { length (values_in state.new) ≡ length (values_in state.old) }
 {
     match first {
         Statement::Assign(target, term) => {
-            perform_assignment(alloc, target, term, view, &mut control.variables)?;
-            control.position.advance();
-            Ok(())
+            perform_assignment(alloc, target, term, view, &mut state.variables)?;
+            state.position.advance();
+            Ok(left)
         }
-        Statement::If(arms, others) => take_branch(alloc, view, control, arms, others),
-        Statement::While(test, body) => take_loop(alloc, view, control, test, body),
+        Statement::If(arms, others) => {
+            take_branch(alloc, view, state, arms, others)?;
+            Ok(left)
+        }
+        Statement::While(test, body) => take_loop(alloc, view, state, test, body, left),
         Statement::Fire(_) => Err(TermFault::Undefined),
     }
 }
@@ -109,47 +129,57 @@ fn take_statement<'a>(
 fn take_branch<'a>(
     alloc: Global,
     view: &View,
-    control: &mut Control<'a>,
+    state: &mut State<'a>,
     arms: &'a [Arm<usize, Callee, Shape>],
     others: &'a [Statement<usize, Callee, Shape>],
 ) -> Result<(), TermFault>
-    requires named { IsNamed view.now (values_of control.old) }
+    requires named { IsNamed view.now (values_in state.old) }
     requires resolved { IsResolvedStatement (branch (arms_of (map arm_of arms.now)) (statements_in others.now))
-        (own_names view.now (length (values_of control.old))) (names_in_view view.now) }
+        (own_names view.now (length (values_in state.old))) (names_in_view view.now) }
     ensures after { Answers TermFault.Memory
-        (λ _. (todo_of control.new, environment_of view.now (values_of control.new))) result
+        (λ _. (todo_in state.new, environment_of view.now (values_in state.new))) result
         (stepwise_step (branch (arms_of (map arm_of arms.now)) (statements_in others.now))
-        (following_statements (todo_of control.old)) (environment_of view.now (values_of control.old))) }
-    ensures kept { values_of control.new ≡ values_of control.old }
+        (following_statements (todo_in state.old)) (environment_of view.now (values_in state.old))) }
+    ensures kept { values_in state.new ≡ values_in state.old }
 {
-    let body = choice(alloc, view, arms, others, &control.variables)?;
-    control.position.enter(body)?;
+    let body = choice(alloc, view, arms, others, &state.variables)?;
+    state.position.enter(body)?;
     Ok(())
 }
 
-/// Takes a `while`, which comes first.
+/// Takes a `while`, which comes first, of `left` statements that may be taken still. Returns of how many it is the
+/// first one.
 fn take_loop<'a>(
     alloc: Global,
     view: &View,
-    control: &mut Control<'a>,
+    state: &mut State<'a>,
     test: &Checked,
     body: &'a [Statement<usize, Callee, Shape>],
-) -> Result<(), TermFault>
-    requires first { todo_of control.old ≡ statement (loop (term_of test.now) (statements_in body.now))
-        (following_statements (todo_of control.old)) }
-    requires named { IsNamed view.now (values_of control.old) }
+    left: usize,
+) -> Result<usize, TermFault>
+    requires first { todo_in state.old ≡ statement (loop (term_of test.now) (statements_in body.now))
+        (following_statements (todo_in state.old)) }
+    requires some { 0 < left }
+    requires named { IsNamed view.now (values_in state.old) }
     requires resolved { IsResolvedStatement (loop (term_of test.now) (statements_in body.now))
-        (own_names view.now (length (values_of control.old))) (names_in_view view.now) }
+        (own_names view.now (length (values_in state.old))) (names_in_view view.now) }
     ensures after { Answers TermFault.Memory
-        (λ _. (todo_of control.new, environment_of view.now (values_of control.new))) result
+        (λ _. (todo_in state.new, environment_of view.now (values_in state.new))) result
         (stepwise_step (loop (term_of test.now) (statements_in body.now))
-        (following_statements (todo_of control.old)) (environment_of view.now (values_of control.old))) }
-    ensures kept { values_of control.new ≡ values_of control.old }
+        (following_statements (todo_in state.old)) (environment_of view.now (values_in state.old))) }
+    ensures same { IfOk result
+        (λ n. stepwise_turn (todo_in state.old) left (environment_of view.now (values_in state.old))
+        ≡ stepwise_turn (todo_in state.old) n (environment_of view.now (values_in state.old))) }
+    ensures some { IfOk result (λ n. 0 < n) }
+    ensures fewer { IfOk result (λ n. n ≤ left) }
+    ensures kept { values_in state.new ≡ values_in state.old }
 {
-    if evaluate_test(alloc, test, view, &control.variables)? {
-        control.position.enter_before(body)?;
+    if evaluate_test(alloc, test, view, &state.variables)? {
+        let rest = left_over(alloc, body, view, &state.variables, left);
+        state.position.enter_before(body)?;
+        Ok(rest)
     } else {
-        control.position.advance();
+        state.position.advance();
+        Ok(left)
     }
-    Ok(())
 }

@@ -1,11 +1,18 @@
 -- What a pass finds and raises by the slot in which a component stands.
 use Rattle.std.proofs.Common.{◌≡◌, ◌+◌, ◌<◌, ℕ, zero, suc, Bool, true, false, List, [], ◌∷◌, ◌++◌, Option, Some, None, refl, sym, ap, subst, ◌∙◌, length, append_assoc, arith}
-use Rattle.std.specs.Prelude.{cond, if◌then◌else◌, set}
+use Rattle.std.specs.Prelude.{cond, if◌then◌else◌, pos, set, slice_get}
 use Rattle.std.specs.List.{position_from}
-use Rattle.std.proofs.lemmas.List.{length-append}
+use Rattle.std.specs.Option.{option_map}
+use Rattle.std.proofs.lemmas.Bool.{le-ltb}
+use Rattle.std.proofs.lemmas.List.{length-append, set-get_or}
+use Rattle.std.proofs.lemmas.Option.{get_or_from_slice_get, slice_get-map}
 use Rattle.ioa_actions.specs.ComponentOrder.{same_component}
 use Rattle.ioa_actions.specs.declared.component.Component.{Component}
-use Rattle.ioa_shared.specs.Passes.{components_seen, plain_pass, raise_place, raise_seen, risen, seen_in, seen_of}
+use Rattle.ioa_actions.specs.declared.component.Component.TheVariants as variant
+use Rattle.ioa_commits.specs.Indexes.{IsFirst}
+use Rattle.ioa_commits.specs.Versions.{PlainVersionedConf, read_component}
+use Rattle.ioa_shared.specs.Passes.{IsSeen, PlainPass, components_seen, older_read, plain_pass, raise_place, raise_seen}
+use Rattle.ioa_shared.specs.Passes.{risen, seen_at, seen_in, seen_of, unseen}
 use Rattle.ioa_shared.specs.declared.pass.Seen.{Seen}
 
 -- an item behind others is in the slot of their number
@@ -93,6 +100,31 @@ module _ (k : Component) where
 
     pub lost_raised : (v n : ℕ) → r ≡ None → plain_pass seen n ≡ plain_pass (raise_seen k v seen) n
     lost_raised v n is = ap (λ (ss : List Seen). plain_pass ss n) (sym (none_from 0 v seen (stands ∙ is)).1)
+
+-- what was seen in a slot that is its component's first, if that is what was read, is all that was seen of it
+pub seen_here : (seen : List Seen) (ks : List Component) (r : PlainVersionedConf) (slot : ℕ) →
+    ks ≡ components_seen seen → IsFirst ks slot → slice_get seen slot ≡ Some (seen_at (read_component r) r.version) → IsSeen seen r
+seen_here seen ks r slot indexed first here =
+    let k = read_component r in
+    let s = seen_at k r.version in
+    let none = unseen (variant.Node (pos 0)) in
+    let named : slice_get ks slot ≡ Some k =
+    rw indexed (slice_get-map (λ x. x.component) seen slot ∙ ap (λ o. option_map (λ x. x.component) o) here) in
+    let at : position_from (λ j. same_component k j) 0 ks ≡ Some slot = first k named in
+    let told : position_from (λ j. same_component k j) 0 ks ≡ position_from (λ j. same_component k j) 0 ks = refl in
+    let stands : seen_in seen slot ≡ s = get_or_from_slice_get seen slot s none here in
+    let version : seen_of k seen ≡ r.version =
+    sym (found_seen k seen ks indexed _ told slot at) ∙ ap (λ (x : Seen). x.version) stands in
+    let raised : raise_place r.version slot seen ≡ raise_seen k r.version seen =
+    ap (λ (p : PlainPass). p.seen) (found_raised k seen ks indexed _ told slot r.version 0 at) in
+    let same : risen r.version (seen_in seen slot) ≡ seen_in seen slot =
+    rw stands (ap (λ (v : ℕ). seen_at k v) (omega arith)) in
+    let kept : raise_place r.version slot seen ≡ seen =
+    ap (λ (x : Seen). set seen slot x) same ∙ set-get_or seen slot none in
+    record { fresh = not_older version; same = sym raised ∙ kept }
+  where
+    not_older : seen_of (read_component r) seen ≡ r.version → older_read seen r ≡ None
+    not_older version = rw (version, le-ltb r.version r.version (omega arith)) refl
 
 -- the components stay
 pub same_components : (v i : ℕ) (seen : List Seen) → components_seen (raise_place v i seen) ≡ components_seen seen

@@ -1,5 +1,6 @@
 -- Passes (profile): what a worker has seen of a book, of which it is never shown anything older.
-use Rattle.std.specs.Prelude.{ℕ, max, nat_lt, if◌then◌else◌, List, [], ◌∷◌, get_or, map, pos, set, Option, Some, None, refl}
+use Rattle.std.specs.Prelude.{◌≡◌, ℕ, max, nat_lt, if◌then◌else◌, List, [], ◌∷◌, get_or, map, pos, set, refl}
+use Rattle.std.specs.Prelude.{Option, Some, None}
 use Rattle.std.specs.Coded.{Coded, code_by, coded×, coded_ℕ, coded_list}
 use Rattle.std.specs.Option.{option_or}
 use Rattle.ioa_actions.specs.ComponentOrder.{same_component}
@@ -124,3 +125,13 @@ older_length seen held = if nat_lt held seen then Some (aged_by aged.Length seen
 -- what of a look is older than it was seen: the first component, or else the length
 abbrev pub older : PlainPass → PlainSnapshot → Option Older
 older p s = option_or (first_older p.seen s.reads) (older_length p.length s.length)
+
+-- what was read is at the version at which it was seen: so it is not older, and raises nothing
+pub record IsSeen (seen : List Seen) (r : PlainVersionedConf) : Type 0 where
+  pub fresh : older_read seen r ≡ None
+  pub same : raise_read r seen ≡ seen
+
+-- the same of several
+pub record AreSeen (seen : List Seen) (rs : List PlainVersionedConf) : Type 0 where
+  pub fresh : first_older seen rs ≡ None
+  pub same : raise_all rs seen ≡ seen

@@ -122,7 +122,12 @@ impl<O: Origin, L: Ledger> Held<O, L> {
     {
         let _law = self.book.log();
         match self.book.look_again(look) {
-            Ok(()) => admitted_again(look, pass),
+            Ok(()) => {
+                if pass.rise_quickly(look) {
+                    return Ok(());
+                }
+                admitted_again(look, pass)
+            }
             Err(LookFault::Unknown) => Err(ViewFault::Unknown),
             Err(LookFault::Memory) => Err(ViewFault::Memory),
         }
@@ -206,12 +211,9 @@ fn admitted<O: Origin>(look: Snapshot<O>, pass: &mut Pass) -> Result<Snapshot<O>
     ensures look { Answers ViewFault.Memory (λ s. s) result (spec.unless_older (older pass.old look) look) }
     ensures pass { pass.new ≡ pass_after pass.old result }
 {
-    match pass.older(&look) {
-        Some(older) => Err(ViewFault::Older(older)),
-        None => {
-            pass.rise_by_look(&look);
-            Ok(look)
-        }
+    match admitted_again(&look, pass) {
+        Ok(()) => Ok(look),
+        Err(fault) => Err(fault),
     }
 }
 

@@ -1,9 +1,11 @@
 //! Passes: what a worker has seen of a book.
 
-ghost use Rattle.std.specs.Prelude.{◌≡◌, ◌<◌, IfOk, get_or, length, map, max, set};
+ghost use Rattle.std.specs.Prelude.{◌≡◌, ◌<◌, IfOk, IsFalse, IsTrue, None, Some};
+ghost use Rattle.std.specs.Prelude.{get_or, length, map, max, set, slice_get};
 ghost use Rattle.ioa_actions.specs.declared.component.Component.{Component};
 ghost use Rattle.ioa_compose.specs.Composition.{component_names};
 ghost use Rattle.ioa_compose.specs.Start.{start};
+ghost use Rattle.ioa_commits.specs.Versions.{read_component};
 ghost use Rattle.ioa_shared.specs.Passes as spec;
 
 use crate::outcome::{Aged, Older};
@@ -96,6 +98,17 @@ fn raise_at(seen: &mut Vec<Seen>, at: usize, version: usize)
     };
 }
 
+/// Whether what was seen in a slot is what was read, at its version.
+fn stands_at<O: Origin>(seen: &[Seen], slot: usize, read: &VersionedConf<O>) -> bool
+    ensures { IsTrue result →
+        slice_get seen.now slot ≡ Some (spec.seen_at (read_component read.now) read.now.version) }
+{
+    match seen.get(slot) {
+        Some(seen) => seen.version == read.version() && seen.component == read.component(),
+        None => false,
+    }
+}
+
 impl Pass {
     /// The pass of a worker that has seen nothing yet of a book of the system.
     pub fn new(alloc: Global, system: &System) -> Result<Self, AllocError>
@@ -162,6 +175,48 @@ impl Pass {
             read.version().saturating_add(1),
             read.slot(),
         );
+    }
+
+    /// Rises to a look, if each component that it shows has the very version at which it was seen: then no version
+    /// changes. If not, it says so, and the pass is as it was.
+    pub(crate) fn rise_quickly<O: Origin>(&mut self, look: &Snapshot<O>) -> bool
+        ensures risen { IsTrue result → self.new ≡ spec.risen_by_look look.now self.old }
+        ensures fresh { IsTrue result → spec.older self.old look.now ≡ None }
+        ensures kept { IsFalse result → self.new ≡ self.old }
+    {
+        if look.length() < self.length {
+            return false;
+        }
+        if self.shows_seen(look) {
+            self.length = look.length();
+            true
+        } else {
+            false
+        }
+    }
+
+    /// Whether each component that a look shows has the very version at which it was seen.
+    fn shows_seen<O: Origin>(&self, look: &Snapshot<O>) -> bool
+        ensures { IsTrue result → spec.AreSeen self.now.seen look.now.reads }
+    {
+        for read in look.reads() {
+            if !self.is_seen(read) {
+                return false;
+            }
+        }
+        true
+    }
+
+    /// Whether what was read of a component has the very version at which it was seen, by what stands in its slot.
+    fn is_seen<O: Origin>(&self, read: &VersionedConf<O>) -> bool
+        ensures { IsTrue result → spec.IsSeen self.now.seen read.now }
+    {
+        let slot = read.slot();
+        if self.index.is_first(slot) {
+            stands_at(&self.seen, slot, read)
+        } else {
+            false
+        }
     }
 
     /// What of a look is older than what was seen: the first component, or else the length.

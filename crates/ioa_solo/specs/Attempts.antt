@@ -23,8 +23,8 @@ abbrev pub unless : {T : Type 0} → Option NodeFault → T → Result T NodeFau
 unless None outcome = Ok outcome
 unless (Some f) outcome = Err f
 
--- what a fire comes to by the joint step that is picked for it: an action that is not enabled is missed, any other fault
--- is the node's, and a step is taken if the schedule is shorter than the limit
+-- what a fire comes to by the joint step that is picked for it: an action that is not enabled is missed, any other
+-- fault is the node's, and a step is taken if the schedule is shorter than the limit
 abbrev pub step_outcome : ℕ → List PlainEntry → Result (PlainEntry × List Conf) StepFault
     → Result PlainFireOutcome NodeFault
 step_outcome limit schedule (Ok t) = if nat_lt (length schedule) limit then Ok (taken t.0 t.1) else Err Full

@@ -15,8 +15,8 @@ ghost use Rattle.ioa_solo.specs.Solo.{has_ended, rounds, solo};
 
 /// The run by one worker comes to its end: each node has an ending, and more rounds change nothing, so there are rounds
 /// enough (profile). Its schedule is no longer than the limit. If the system declares each thing once, the schedule is
-/// an execution of the composition from the start to the states that the run leaves (Lynch 8.1 and 8.2), and no node ends
-/// with `Differs (51)` or `Unknown (53)`.
+/// an execution of the composition from the start to the states that the run leaves (Lynch 8.1 and 8.2), and no node
+/// ends with `Differs (51)` or `Unknown (53)`.
 pub fn solo_law()
     ensures ends { (s : SystemParts) (attempts limit : ℕ) → list_all has_ended (solo s attempts limit).1 ≡ true }
     ensures settled { (s : SystemParts) (attempts limit more : ℕ) →

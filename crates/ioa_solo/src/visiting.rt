@@ -3,7 +3,7 @@
 ghost use Rattle.std.specs.Prelude.{◌≡◌, ◌⊎◌, IfErr, IfOk, None, OnErr, OnOk, Some, false, is_some, true};
 ghost use Rattle.ioa_book.specs.Looks.{IsLookAt, snapshot_after};
 ghost use Rattle.ioa_commits.specs.Books.{PlainBook, held_of, states_held};
-ghost use Rattle.ioa_schedules.specs.Turns.{IsAtFire};
+ghost use Rattle.ioa_schedules.specs.Turns.{IsAtFiring};
 ghost use Rattle.ioa_schedules.specs.Views.{StandsAt};
 ghost use Rattle.ioa_terms.specs.View.{firing_of};
 ghost use Rattle.ioa_turns.specs.Fired.{action_fired};
@@ -242,6 +242,7 @@ fn turn_on<'a, O: Origin>(
 }
 
 /// What follows from the fire at which a node stands: the action is proposed and committed.
+#[tactic(auto, using(ioa_schedules::proofs::Firsts::firing_stands))]
 fn go_past<O: Origin, L: Ledger, B: Board<O, L>, G: Gate>(
     alloc: Global,
     board: &mut B,
@@ -253,7 +254,7 @@ fn go_past<O: Origin, L: Ledger, B: Board<O, L>, G: Gate>(
     hand: &mut Hand<L>,
     spare: &mut Option<Spare<Entry>>,
 ) -> Result<(), AllocError>
-    requires stands { IsAtFire (progress_of node.old).todo }
+    requires stands { IsAtFiring (firing_of fired.firing.now) (progress_of node.old).todo }
     requires under_way { node.old.ending ≡ None }
     ensures gained { Gains 1 0 hand.old hand.new }
     ensures kept { node.new.attempts ≡ node.old.attempts }

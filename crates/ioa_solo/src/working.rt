@@ -26,10 +26,10 @@ use std::sync::ledger::Ledger;
 
 /// What a worker does (profile). Its nodes are given by their numbers. A node that the board doesn't show with the
 /// program that the system has for it ends with the fault `Differs` (51). Then the worker goes round its nodes in order
-/// until each has an ending. A visit of a node that has no attempt left ends it; else one attempt is used: a look at the
-/// node on the board, one turn on what it shows, and the commit of the action that the turn fires. A receipt is kept for
-/// each commit. If memory runs out, each node without an ending gets that fault. The gate is called between the steps of
-/// a visit.
+/// until each has an ending. A visit of a node that has no attempt left ends it; else one attempt is used: a look at
+/// the node on the board, one turn on what it shows, and the commit of the action that the turn fires. A receipt is
+/// kept for each commit. If memory runs out, each node without an ending gets that fault. The gate is called between
+/// the steps of a visit.
 ///
 /// Returns an ending for each node. The share rises by the number of receipts that are added behind those that were
 /// there, of which there are at most as many as the nodes have attempts.

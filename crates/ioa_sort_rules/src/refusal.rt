@@ -39,8 +39,8 @@ pub enum Refusal {
     EmptyOfWhat,
     /// 33: an input has a condition behind `where`.
     InputWhere,
-    /// 34: a constant, an argument or an initial value has no value, a transition's head does not repeat its entry, or a
-    /// `send` or a `receive` is not its node's.
+    /// 34: a constant, an argument or an initial value has no value, a transition's head does not repeat its entry, or
+    /// a `send` or a `receive` is not its node's.
     BadArgument,
     /// 3: no memory was left.
     Memory,

@@ -1,5 +1,5 @@
 -- The rules of sorts find each statement of the text whose sorts are right.
-use Rattle.std.proofs.Common.{◌≡◌, ℕ, Bool, true, false, List, [], ◌∷◌, Option, Some, None, Result, Ok, map, find, refl, ap, subst}
+use Rattle.std.proofs.Common.{◌≡◌, ℕ, zero, suc, Bool, true, false, List, [], ◌∷◌, Option, Some, None, Result, Ok, map, find, slice_get, refl, sym, ap, subst, ◌∙◌}
 use Rattle.std.specs.List.{AllByRecursion, AllZip, IsDistinct}
 use Rattle.ioa_operators.specs.Shapes.{PlainShape, truths, maps}
 use Rattle.ioa_operators.specs.declared.shape.Shape.{Shape}
@@ -10,10 +10,11 @@ use Rattle.ioa_terms.specs.Resolved.{IsResolvedTarget, IsResolvedFiring, IsResol
 use Rattle.ioa_terms.specs.declared.tree.Kind.{Kind}
 use Rattle.ioa_terms.specs.Bindings.{same_word}
 use Rattle.ioa_terms.proofs.SameTerms.{kind_is}
-use Rattle.ioa_system.specs.Parts.{PlainRule}
+use Rattle.std.proofs.lemmas.Slice.Eq.{bytes_eq-Decides}
+use Rattle.ioa_system.specs.Parts.{PlainRule, rule_names}
 use Rattle.ioa_terms.specs.Sorted.{NameShapes, HasShape, shape_in_terms}
 use Rattle.ioa_source.specs.Erasure.{erase_term, erase_firing, erase_target, erase_statement, erase_statements, erase_arms}
-use Rattle.ioa_source.specs.Sides.{SourceStatement, CheckedTerm, CheckedFiring}
+use Rattle.ioa_source.specs.Sides.{SourceFiring, SourceStatement, CheckedTerm, CheckedFiring}
 use Rattle.ioa_sort_rules.specs.declared.refusal.Refusal.{Refusal}
 use Rattle.ioa_sort_rules.specs.Rows.{value_of_field}
 use Rattle.ioa_typed.specs.Parts.{SortedTerm}
@@ -23,9 +24,9 @@ use Rattle.ioa_sorts.specs.Statements.{SortedTarget, SortedStatement, SortedStat
 use Rattle.ioa_sorts.specs.SortedStatements.{HoldsShape, NamesKind, IsFired, IsSorted, AreArmsSorted, AreSorted, IsDeterminedTarget, IsDeterminedStatement, AreArmsDetermined, AreStatementsDetermined, IsStatementOf}
 use Rattle.ioa_sorts.specs.Determined.{IsDetermined}
 use Rattle.ioa_terms.specs.Resolved.{IsResolved}
-use Rattle.ioa_sorts.specs.Firings.{is_of_kind, fires, entry_fired, arguments_at, firing_at}
+use Rattle.ioa_sorts.specs.Firings.{is_of_kind, fires, entry_fired, arguments_at, number_fired, firing_at}
 use Rattle.ioa_sorts.specs.StatementSites.{PlainStatementSite}
-use Rattle.ioa_sorts.proofs.Lookups.{present_found}
+use Rattle.ioa_sorts.proofs.Lookups.{contained_at, contained_has, keys_all, present_found}
 use Rattle.ioa_sorts.proofs.Complete.{named_is_at, declared_found, field_found, finds}
 
 abbrev pub target_is : SortedTarget → PlainShape → Result PlainTypedTarget Refusal
@@ -91,6 +92,20 @@ fired_found : (r : PlainRule) → shapes_are r.shapes ≡ entry_fired (Some r)
 unfolding entry_fired
 fired_found r = refl
 
+-- rules that differ in name: the rule of a firing's name and kind has the firing's number
+pub number_is : (f : SourceFiring) (rules : List PlainRule) → IsDistinct same_word (rule_names rules) → (k : ℕ) (r : PlainRule) → slice_get rules k ≡ Some r → r.entry.name ≡ f.action → is_of_kind f.kind r.entry.kind ≡ true → number_fired f rules ≡ k
+unfolding IsDistinct
+number_is f [] d k r h n t = absurd (cc)
+number_is f (x ∷ xs) d zero r h n t =
+    let same : x ≡ r = cc in
+    let named : same_word x.entry.name f.action ≡ true = (bytes_eq-Decides x.entry.name f.action).1 (ap (λ (z : PlainRule). z.entry.name) same ∙ n) in
+    let passes : is_of_kind f.kind x.entry.kind ≡ true = subst (λ (z : PlainRule). is_of_kind f.kind z.entry.kind ≡ true) (sym same) t in
+    rw (named, passes) refl
+number_is f (x ∷ xs) d (suc k) r h n t =
+    let apart : same_word x.entry.name r.entry.name ≡ false = contained_has (λ (z : PlainRule). same_word x.entry.name z.entry.name ≡ false) xs r (keys_all (λ v. same_word x.entry.name v ≡ false) (λ (z : PlainRule). z.entry.name) xs d.0) (contained_at xs k r h) in
+    let other : same_word x.entry.name f.action ≡ false = subst (λ (v : List ℕ). same_word x.entry.name v ≡ false) n apart in
+    rw other (ap suc (number_is f xs d.1 k r h n t))
+
 allowed_found : {A : Type 0} (b : Bool) → b ≡ true → (r : Result A Refusal) → r ≡ if_in_block b r
 unfolding if_in_block
 allowed_found true e r = refl
@@ -117,11 +132,11 @@ module _ (names : NameShapes) where
   module _ (rules : List PlainRule) (differ : IsDistinct same_word (map (λ r. r.entry.name) rules)) where
     rule_found : (f : CheckedFiring) (h : IsFired names rules f) → Some h.rule ≡ find (fires (erase_firing f)) rules
     rule_found f h =
-        present_found (λ (r : PlainRule). r.entry.name) (λ (r : PlainRule). is_of_kind f.kind r.entry.kind) f.action rules differ h.rule h.present h.same_name (kind_named f.kind h.rule.entry.kind h.of_kind)
+        present_found (λ (r : PlainRule). r.entry.name) (λ (r : PlainRule). is_of_kind f.kind r.entry.kind) f.action rules differ h.rule (contained_at rules f.rule h.rule h.numbered) h.same_name (kind_named f.kind h.rule.entry.kind h.of_kind)
 
     firing_found : (f : CheckedFiring) → IsFired names rules f → IsResolvedFiring f (map (λ n. n.0) names) → AllByRecursion IsDetermined (map erase_term f.arguments) → firing_is f ≡ firing_at names rules (erase_firing f)
     unfolding firing_at
-    firing_found f h r g = rw (← rule_found f h, ← fired_found h.rule, ← arguments_found h.rule.shapes f.arguments h.arguments r g) refl
+    firing_found f h r g = rw (← rule_found f h, ← fired_found h.rule, ← arguments_found h.rule.shapes f.arguments h.arguments r g, number_is (erase_firing f) rules differ f.rule h.rule h.numbered h.same_name (kind_named f.kind h.rule.entry.kind h.of_kind)) refl
 
 module _ (s : PlainStatementSite) (differ : IsDistinct same_word (map (λ r. r.entry.name) s.rules)) where
   target_found : (p : SortedTarget) (u : PlainShape) → HoldsShape s.variables s.names p u → IsResolvedTarget p (map (λ n. n.0) s.variables) (map (λ n. n.0) s.names) → IsDeterminedTarget (erase_target p) → target_is p u ≡ target_sorting s (erase_target p)

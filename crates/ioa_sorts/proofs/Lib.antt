@@ -10,3 +10,4 @@ pub mod Told
 pub mod SoundStatements
 pub mod CompleteStatements
 pub mod ToldStatements
+pub mod Fired

@@ -8,7 +8,7 @@ use Rattle.std.proofs.lemmas.Slice.Eq.{bytes_eq-Decides}
 use Rattle.ioa_terms.specs.declared.name.Name.TheVariants.{Word}
 use Rattle.ioa_terms.specs.Bindings.{same_word, slot_in}
 use Rattle.ioa_terms.proofs.Slots.{slot_within}
-use Rattle.ioa_sorts.specs.Indexes.{AreIndexed}
+use Rattle.ioa_system.specs.Indexes.{AreIndexed}
 
 -- what holds of each element holds of those that a list contains
 at_position : {A : Type 0} (P : A → Type 0) (xs : List A) (k : ℕ) (d : A) → AllByRecursion P xs → k < length xs → P (slice_index_or xs k d)
@@ -18,6 +18,12 @@ at_position P (x ∷ xs) (suc k) d h less = at_position P xs k d h.1 (omega (ari
 
 pub contained_has : {A : Type 0} (P : A → Type 0) (xs : List A) (x : A) → AllByRecursion P xs → Contains xs x → P x
 contained_has P xs x h c = subst P c.2 (at_position P xs c.0 x h c.1)
+
+-- what stands at a position is contained
+pub contained_at : {A : Type 0} (xs : List A) (k : ℕ) (x : A) → slice_get xs k ≡ Some x → Contains xs x
+contained_at [] k x h = absurd (cc)
+contained_at (y ∷ ys) zero x h = let this : y ≡ x = cc in (zero, omega arith, this)
+contained_at (y ∷ ys) (suc k) x h = let m = contained_at ys k x h in (suc m.0, omega (arith, m.1), m.2)
 
 -- what holds of each element holds of the first that passes a test
 pub found_has : {A : Type 0} (P : A → Type 0) (test : A → Bool) (xs : List A) (x : A) → AllByRecursion P xs → find test xs ≡ Some x → P x

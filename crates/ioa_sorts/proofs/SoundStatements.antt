@@ -1,5 +1,5 @@
 -- What the rules of sorts find of a statement.
-use Rattle.std.proofs.Common.{◌≡◌, ℕ, Bool, true, false, IfOk, List, [], ◌∷◌, Option, Some, None, Result, Ok, Err, map, find, refl, sym, ap, subst, if◌then◌else◌}
+use Rattle.std.proofs.Common.{◌≡◌, ℕ, zero, suc, Bool, true, false, IfOk, List, [], ◌∷◌, Option, Some, None, Result, Ok, Err, map, find, slice_get, refl, sym, ap, subst, if◌then◌else◌}
 use Rattle.std.specs.List.{AllByRecursion, AllZip}
 use Rattle.ioa_values.specs.Outcome.{and_then}
 use Rattle.ioa_operators.specs.Shapes.{PlainShape, truths, maps}
@@ -22,7 +22,7 @@ use Rattle.ioa_sorts.specs.Statements.{SortedStatement, SortedStatements, PlainT
 use Rattle.ioa_sorts.specs.SortedStatements.{HoldsShape, NamesKind, IsFired, AreArmsSorted, AreSorted, IsDeterminedTarget, AreArmsDetermined, AreStatementsDetermined, IsStatementOf}
 use Rattle.ioa_sort_rules.specs.DeclaredTypes.{TupleTypes, IsDeclared, AreAllDeclared}
 use Rattle.ioa_sorts.specs.Determined.{IsDetermined}
-use Rattle.ioa_sorts.specs.Firings.{is_of_kind, fires, entry_fired, arguments_at, firing_at}
+use Rattle.ioa_sorts.specs.Firings.{is_of_kind, fires, entry_fired, arguments_at, number_fired, firing_at}
 use Rattle.ioa_sorts.specs.StatementSites.{PlainStatementSite, IsDeclaredSite}
 use Rattle.ioa_sorts.proofs.Lookups.{found_has, found_is}
 use Rattle.ioa_sorts.proofs.Chains.{chain}
@@ -75,6 +75,15 @@ kind_names : (o : Option Kind) (k : Kind) → is_of_kind o k ≡ true → NamesK
 kind_names None k h = tt
 kind_names (Some j) k h = (kind_is j k).0 h
 
+-- the rule that is found has the number that is found
+number_found : (f : SourceFiring) (rules : List PlainRule) (r : PlainRule) → find (fires f) rules ≡ Some r → slice_get rules (number_fired f rules) ≡ Some r
+number_found f [] r h = absurd (cc)
+number_found f (x ∷ xs) r h = by_test (fires f x) h (number_found f xs r)
+  where
+    by_test : (b : Bool) → (if b then Some x else find (fires f) xs) ≡ Some r → (find (fires f) xs ≡ Some r → slice_get xs (number_fired f xs) ≡ Some r) → slice_get (x ∷ xs) (if b then zero else suc (number_fired f xs)) ≡ Some r
+    by_test true h more = h
+    by_test false h more = more h
+
 module _ (types : TupleTypes) (names : NameShapes) (declared_names : AreAllDeclared types names) where
   pub arguments_good : (ss : List PlainShape) (us : List SourceTerm) → AllByRecursion (IsDeclared types) ss → IfOk (arguments_at names ss us) (AreSoundArguments names ss us)
   arguments_good [] [] d = record { same = refl; resolved = tt; shaped = tt; determined = tt }
@@ -106,17 +115,17 @@ module _ (types : TupleTypes) (names : NameShapes) (declared_names : AreAllDecla
     firing_good : (f : SourceFiring) → IfOk (firing_at names rules f) (IsFiringOf f)
     unfolding firing_at
     firing_good f =
-        chain (IsRuleFired (find (fires f) rules)) (IsFiringOf f) (λ ss. and_then (arguments_at names ss f.arguments) (λ ts. Ok (firing f.kind f.action ts))) (entry_fired (find (fires f) rules)) (rule_fired (find (fires f) rules))
+        chain (IsRuleFired (find (fires f) rules)) (IsFiringOf f) (λ ss. and_then (arguments_at names ss f.arguments) (λ ts. Ok (firing f.kind f.action (number_fired f rules) ts))) (entry_fired (find (fires f) rules)) (rule_fired (find (fires f) rules))
         (λ ss r.
         let declared = found_has (λ r. AllByRecursion (IsDeclared types) r.shapes) (fires f) rules r.rule declared_rules r.found in
         let is = found_is (λ (r : PlainRule). r.entry.name) (λ (r : PlainRule). is_of_kind f.kind r.entry.kind) f.action rules r.rule r.found in
-        chain (AreSoundArguments names ss f.arguments) (IsFiringOf f) (λ ts. Ok (firing f.kind f.action ts)) (arguments_at names ss f.arguments) (arguments_good ss f.arguments (subst (AllByRecursion (IsDeclared types)) r.shapes declared))
+        chain (AreSoundArguments names ss f.arguments) (IsFiringOf f) (λ ts. Ok (firing f.kind f.action (number_fired f rules) ts)) (arguments_at names ss f.arguments) (arguments_good ss f.arguments (subst (AllByRecursion (IsDeclared types)) r.shapes declared))
         (λ ts a. record {
-          same = λ i. firing f.kind f.action (a.same i);
+          same = λ i. firing f.kind f.action tt (a.same i);
           resolved = a.resolved;
           fired = record {
             rule = r.rule;
-            present = is.0;
+            numbered = number_found f rules r.rule r.found;
             same_name = is.1;
             of_kind = kind_names f.kind r.rule.entry.kind is.2;
             arguments = subst (λ xs. AllZip (λ s c. HasShape names c (shape_in_terms s)) xs ts) (sym r.shapes) a.shaped;

@@ -16,7 +16,7 @@ use Rattle.ioa_names.specs.Views.{declared_at}
 use Rattle.ioa_sorts.specs.Statements.{typed_target, all_ok, assigned_or, assigned, if_in_block, whole_target, key_target, field_target, target_sorting, statement_sorting, statement_sortings, arm_sortings}
 use Rattle.ioa_sorts.specs.SortedStatements.{IsDeterminedTarget, IsDeterminedStatement, AreArmsDetermined, AreStatementsDetermined}
 use Rattle.ioa_sorts.specs.Determined.{IsDetermined}
-use Rattle.ioa_sorts.specs.Firings.{fires, entry_fired, arguments_at, firing_at}
+use Rattle.ioa_sorts.specs.Firings.{fires, entry_fired, arguments_at, number_fired, firing_at}
 use Rattle.ioa_sorts.specs.StatementSites.{PlainStatementSite}
 use Rattle.ioa_sorts.proofs.Told.{Calmly, Anything, calm_chain, calm_end, sorts_is_calm, unknown_is_calm, entry_calm, field_calm, fit_is_calm, told}
 
@@ -58,8 +58,8 @@ module _ (names : NameShapes) where
 
   firing_calm : (rules : List PlainRule) (f : SourceFiring) → AllByRecursion IsDetermined f.arguments → Calmly Anything (firing_at names rules f)
   unfolding firing_at
-  firing_calm rules f g = calm_chain Anything Anything (λ ss. and_then (arguments_at names ss f.arguments) (λ ts. Ok (firing f.kind f.action ts))) (entry_fired (find (fires f) rules)) (rule_calm (find (fires f) rules))
-      (λ ss _. calm_end Anything (λ ts. firing f.kind f.action ts) (arguments_at names ss f.arguments) (arguments_calm ss f.arguments g))
+  firing_calm rules f g = calm_chain Anything Anything (λ ss. and_then (arguments_at names ss f.arguments) (λ ts. Ok (firing f.kind f.action (number_fired f rules) ts))) (entry_fired (find (fires f) rules)) (rule_calm (find (fires f) rules))
+      (λ ss _. calm_end Anything (λ ts. firing f.kind f.action (number_fired f rules) ts) (arguments_at names ss f.arguments) (arguments_calm ss f.arguments g))
 
 module _ (s : PlainStatementSite) where
   variable_calm : (x : List ℕ) → Calmly Anything (assigned s x)

@@ -1,6 +1,6 @@
--- A firing with slots and shapes (profile): its action is one of the automaton's, and its arguments are of the action's
--- sorts.
-use Rattle.std.specs.Prelude.{Bool, true, ◌&&◌, List, [], ◌∷◌, Option, Some, None, Result, Ok, Err, find}
+-- A firing with slots and shapes (profile): its action is one of the automaton's, it bears the number of the action's
+-- rule, and its arguments are of the action's sorts.
+use Rattle.std.specs.Prelude.{ℕ, zero, suc, if◌then◌else◌, Bool, true, ◌&&◌, List, [], ◌∷◌, Option, Some, None, Result, Ok, Err, find}
 use Rattle.ioa_values.specs.Outcome.{and_then}
 use Rattle.ioa_operators.specs.Shapes.{PlainShape}
 use Rattle.ioa_terms.specs.declared.tree.Kind.{Kind}
@@ -35,6 +35,11 @@ arguments_at names (s ∷ ss) [] = Err Sorts
 arguments_at names (s ∷ ss) (t ∷ ts) = and_then (fit (sorting names t) (shape_in_terms s))
     (λ c. and_then (arguments_at names ss ts) (λ cs. Ok (c ∷ cs)))
 
+-- the number of the rule that a firing is of: the place of the first, counted from 0
+abbrev pub number_fired : SourceFiring → List PlainRule → ℕ
+number_fired f [] = zero
+number_fired f (r ∷ rs) = if fires f r then zero else suc (number_fired f rs)
+
 unfoldable pub firing_at : NameShapes → List PlainRule → SourceFiring → Result CheckedFiring Refusal
 firing_at names rs f = and_then (entry_fired (find (fires f) rs))
-    (λ ss. and_then (arguments_at names ss f.arguments) (λ ts. Ok (firing f.kind f.action ts)))
+    (λ ss. and_then (arguments_at names ss f.arguments) (λ ts. Ok (firing f.kind f.action (number_fired f rs) ts)))

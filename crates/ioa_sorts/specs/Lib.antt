@@ -3,7 +3,6 @@ pub mod Sorting
 pub mod SortingView
 pub mod Determined
 pub mod SortedTerms
-pub mod Indexes
 pub mod StatementSites
 pub mod Firings
 pub mod SiteView

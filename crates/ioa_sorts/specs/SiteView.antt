@@ -10,5 +10,5 @@ site_of s = record {
   all_variables = take s.all_variables s.view.now;
   names = s.view.now;
   in_block = s.in_block;
-  rules = s.actions.now.rules.items;
+  rules = s.rules.now;
 }

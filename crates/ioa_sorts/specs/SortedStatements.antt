@@ -1,7 +1,7 @@
 -- A statement of a text with slots and shapes (profile): what the rules of sorts find, in words that know nothing of
 -- the rules.
-use Rattle.std.specs.Prelude.{◌≡◌, ℕ, true, List, Option, Some, None, map}
-use Rattle.std.specs.List.{AllByRecursion, AllZip, Contains}
+use Rattle.std.specs.Prelude.{◌≡◌, ℕ, true, List, Option, Some, None, map, slice_get}
+use Rattle.std.specs.List.{AllByRecursion, AllZip}
 use Rattle.std.specs.Option.{option_map}
 use Rattle.ioa_operators.specs.Shapes.{PlainShape, truths, maps}
 use Rattle.ioa_operators.specs.declared.shape.Shape.{Shape}
@@ -33,18 +33,18 @@ abbrev pub NamesKind : Option Kind → Kind → Type 0
 NamesKind None k = Unit {0}
 NamesKind (Some j) k = j ≡ k
 
--- a firing is of a rule of its name and kind, and its arguments have the shapes of the rule's, in which naturals count
--- as integers
+-- a firing is of the rule of its number, which has its name and kind, and its arguments have the shapes of the rule's,
+-- in which naturals count as integers
 pub record IsFired (names : NameShapes) (rules : List PlainRule) (f : CheckedFiring) : Type 0 where
   pub rule : PlainRule
-  pub present : Contains rules rule
+  pub numbered : slice_get rules f.rule ≡ Some rule
   pub same_name : rule.entry.name ≡ f.action
   pub of_kind : NamesKind f.kind rule.entry.kind
   pub arguments : AllZip (λ s t. HasShape names t (shape_in_terms s)) rule.shapes f.arguments
 
 abbrev mutual
-  -- what a statement assigns has the shape of the target, what it tests is a truth value, and what it fires is an action
-  -- with its arguments
+  -- what a statement assigns has the shape of the target, what it tests is a truth value, and what it fires is an
+  -- action with its arguments
   pub IsSorted : PlainStatementSite → PlainStatement ℕ Callee Shape → Type 0
   IsSorted s (assign p t) = (u : PlainShape) × HoldsShape s.variables s.names p u × HasShape s.names t u
   IsSorted s (branch arms rest) = AreArmsSorted s arms × AreSorted s rest

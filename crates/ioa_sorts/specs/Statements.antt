@@ -1,5 +1,5 @@
--- The sorts of statements (profile): each assigned term has the shape of its target, each test is a truth value, and each
--- firing is of an action with its arguments. Only a schedule block has `while` and `fire`.
+-- The sorts of statements (profile): each assigned term has the shape of its target, each test is a truth value, and
+-- each firing is of an action with its arguments. Only a schedule block has `while` and `fire`.
 use Rattle.std.specs.Prelude.{ℕ, Bool, if◌then◌else◌, List, [], ◌∷◌, Option, Some, None, Result, Ok, Err}
 use Rattle.ioa_values.specs.Outcome.{and_then}
 use Rattle.ioa_operators.specs.Shapes.{PlainShape, truths}

@@ -8,16 +8,16 @@
 //! **Laws**: `sorts_law`, `statements_law`.
 #![tactic(auto)]
 
-mod actions;
 mod calls;
 mod displays;
+mod firings;
 mod laws;
 mod parts;
 mod site;
 mod sorting;
 mod statements;
 
-pub use actions::{Actions, sort_arguments};
+pub use firings::sort_arguments;
 pub use laws::{sorts_law, statements_law};
 pub use site::StatementSite;
 pub use sorting::{fit, infer};

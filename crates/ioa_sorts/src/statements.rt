@@ -13,7 +13,7 @@ ghost use Rattle.ioa_sorts.specs.Sorting as sorting;
 ghost use Rattle.ioa_sorts.specs.SortingView.{typed_target_of};
 ghost use Rattle.ioa_sorts.specs.Statements as spec;
 
-use crate::actions::sort_firing;
+use crate::firings::sort_firing;
 use crate::site::StatementSite;
 use crate::sorting::fit;
 use ioa_names::View;
@@ -30,9 +30,9 @@ pub(crate) struct TypedTarget {
 
 /// The statements with the slot of each name and the shape of each display and of each target's variable. Returns what
 /// `fit` does, `Unknown` (20) if a target is no variable or has no such field, if a firing names no entry, or for a
-/// `while` that is not in a schedule block, `ScheduleAssignsState` (26) if a schedule block assigns a state variable, and
-/// `Sorts` (22) if a target has no keys or no fields, or if a term has another
-/// sort than its target or is tested and no truth value. The first refusal in the text's order is returned.
+/// `while` that is not in a schedule block, `ScheduleAssignsState` (26) if a schedule block assigns a state variable,
+/// and `Sorts` (22) if a target has no keys or no fields, or if a term has another sort than its target or is tested
+/// and no truth value. The first refusal in the text's order is returned.
 #[cycle(sorting_statements)]
 pub fn sort_statements(
     alloc: Global,
@@ -144,7 +144,7 @@ fn sort_fire(
     ensures { Answers Refusal.Memory statement_of result
         (spec.statement_sorting (site_of site.now) (plain.fire (firing_of firing.now))) }
 {
-    let firing = sort_firing(alloc, site.view, site.actions, firing)?;
+    let firing = sort_firing(alloc, site.view, site.rules, firing)?;
     Ok(Statement::Fire(firing))
 }
 
@@ -209,8 +209,8 @@ fn sort_target(
     }
 }
 
-/// The slot and the declared shape of a variable that may be assigned. `ScheduleAssignsState` (26) for another variable,
-/// which is one of the state, and `Unknown` (20) for what is no variable.
+/// The slot and the declared shape of a variable that may be assigned. `ScheduleAssignsState` (26) for another
+/// variable, which is one of the state, and `Unknown` (20) for what is no variable.
 #[tactic(auto, unfolding(crate::specs::Statements::assigned_or))]
 fn assigned<'a>(site: &'a StatementSite, name: &Word) -> Result<(usize, &'a Shape), Refusal>
     ensures { Answers Refusal.Memory (λ p. (p.0, p.1.now)) result (spec.assigned (site_of site.now) name.now) }

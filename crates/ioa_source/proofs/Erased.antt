@@ -36,7 +36,7 @@ target_erased (at_key w x d t) = ap (at_key w tt tt) (term_erased t)
 target_erased (at_field w x d f) = refl
 
 firing_erased : (f : SourceFiring) → erase_firing f ≡ f
-firing_erased f = ap (firing f.kind f.action) (each erase_term term_erased f.arguments)
+firing_erased f = ap (firing f.kind f.action tt) (each erase_term term_erased f.arguments)
 
 mutual
   statement_erased : (s : SourceStatement) → erase_statement s ≡ s

@@ -57,7 +57,7 @@ target_set : IsSet SourceTarget
 target_set = PlainTarget-set word_set unit_set unit_set term_set
 
 firing_set : IsSet SourceFiring
-firing_set = PlainFiring-set (Option-set kind_set) word_set (List-set term_set)
+firing_set = PlainFiring-set (Option-set kind_set) word_set unit_set (List-set term_set)
 
 statement_set : IsSet SourceStatement
 statement_set = PlainStatement-set target_set term_set firing_set

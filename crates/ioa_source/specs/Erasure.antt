@@ -39,7 +39,7 @@ erase_target (at_key w x d t) = at_key w tt tt (erase_term t)
 erase_target (at_field w x d f) = at_field w tt tt f
 
 abbrev pub erase_firing : {N C D : Type 0} → PlainFiring N C D → SourceFiring
-erase_firing f = firing f.kind f.action (map erase_term f.arguments)
+erase_firing f = firing f.kind f.action tt (map erase_term f.arguments)
 
 abbrev mutual
   pub erase_statement : {N C D : Type 0} → PlainStatement N C D → SourceStatement

@@ -39,8 +39,8 @@ target_height (at_key w at shape t) = height t
 target_height (at_field w at shape f) = 0
 
 abbrev mutual
-  -- an assignment is as high as its highest part, an `if` and a `while` one higher than their highest part, and a `fire`
-  -- as high as its highest argument and at least 1
+  -- an assignment is as high as its highest part, an `if` and a `while` one higher than their highest part, and a
+  -- `fire` as high as its highest argument and at least 1
   pub statement_height : SourceStatement → ℕ
   statement_height (assign p t) = max (target_height p) (height t)
   statement_height (branch arms rest) = suc (max (arms_height arms) (statements_height rest))

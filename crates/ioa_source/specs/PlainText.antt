@@ -1,6 +1,6 @@
--- What a text declares (profile; automata and transitions Lynch 8.1), as plain data without memory. `N` annotates
--- each name that a term or a target reads; `C` annotates each call; `D` annotates each display, field, assigned variable
--- and declared sort.
+-- What a text declares (profile; automata and transitions Lynch 8.1), as plain data without memory. `N` annotates each
+-- name that a term or a target reads; `C` annotates each call; `D` annotates each display, field, assigned variable and
+-- declared sort.
 use Rattle.std.specs.Prelude.{ℕ, ℤ, List, Option}
 use Rattle.ioa_terms.specs.declared.tree.Kind.{Kind}
 use Rattle.ioa_terms.specs.PlainTerm.{PlainTerm, PlainStatement}

@@ -1,6 +1,6 @@
 -- The annotations of trees, in the two forms that they have (form). In a text as it is spelled each is nothing. In a
--- checked system a name has the slot of its value, a call has what is called, and each display, field, assigned variable
--- and declared sort has a shape.
+-- checked system a name has the slot of its value, a call has what is called, and each display, field, assigned
+-- variable and declared sort has a shape.
 use Rattle.std.specs.Prelude.{ℕ}
 use Rattle.ioa_operators.specs.declared.shape.Shape.{Shape}
 use Rattle.ioa_terms.specs.declared.callee.Callee.{Callee}

@@ -1,5 +1,5 @@
--- How the logic stores the parts of texts (form): as trees of numbers, no two alike. Names, calls and displays are annotated
--- with data that is stored in a way of its own.
+-- How the logic stores the parts of texts (form): as trees of numbers, no two alike. Names, calls and displays are
+-- annotated with data that is stored in a way of its own.
 use Rattle.std.specs.Prelude.{◌≡◌, ◌⊎◌, ℕ, List, Option, refl}
 use mathlib.Core.Logic.{inl, inr}
 use Rattle.std.specs.Coded.{code_by, coded_option}

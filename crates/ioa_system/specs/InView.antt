@@ -102,8 +102,8 @@ abbrev pub inbox_words : Option PlainShape → List (List ℕ)
 inbox_words None = []
 inbox_words (Some s) = inboxes_word ∷ []
 
--- the names that come first in view in a schedule block: those of its own variables, and that of the inboxes, which only
--- a block sees, of an automaton that takes messages
+-- the names that come first in view in a schedule block: those of its own variables, and that of the inboxes, which
+-- only a block sees, of an automaton that takes messages
 abbrev pub block_own_names : AutomatonParts → List (List ℕ)
 block_own_names a = variable_names a.schedule.variables ++ inbox_words (message_shape a.rules)
 

@@ -5,3 +5,5 @@ pub mod Declarations
 pub mod ResolvedPrograms
 pub mod Systems
 pub mod SameParts
+pub mod Indexes
+pub mod Numbered

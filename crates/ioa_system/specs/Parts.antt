@@ -1,5 +1,5 @@
 -- The parts of an automaton that was made ready to step, and of a node's program, as plain data (view).
-use Rattle.std.specs.Prelude.{ℕ, ℤ, List, Option, find, slice_get, refl}
+use Rattle.std.specs.Prelude.{ℕ, ℤ, List, Option, find, map, slice_get, refl}
 use Rattle.std.specs.Option.{option_and_then}
 use Rattle.std.specs.Coded.{Coded, code_by, coded×, coded_ℕ, coded_ℤ, coded_list}
 use Rattle.ioa_values.specs.Data.{Data}
@@ -30,6 +30,10 @@ rule_code =
     (λ r. (r.entry, (r.shapes, (r.transition, r.own))))
     (λ t. record { entry = t.0; shapes = t.1.0; transition = t.1.1.0; own = t.1.1.1 })
     (λ _. refl)
+
+-- the names of rules, in order
+abbrev pub rule_names : List PlainRule → List (List ℕ)
+rule_names rs = map (λ r. r.entry.name) rs
 
 -- the rule for actions of a name, the first one if there are several
 abbrev pub rule_named : List ℕ → List PlainRule → Option PlainRule

@@ -1,6 +1,7 @@
 -- When each name that a step reads is resolved to the slot of its value (profile).
 use Rattle.std.specs.Prelude.{◌≡◌, ℕ, List, [], ◌++◌, Option, Some, None, length, map, All}
 use Rattle.std.specs.List.{AllByRecursion}
+use Rattle.ioa_terms.specs.PlainTerm.{statements_of}
 use Rattle.ioa_terms.specs.Resolved.{IsResolved, AreResolved}
 use Rattle.ioa_terms.specs.declared.name.Name.{Name}
 use Rattle.ioa_terms.specs.declared.name.Name.TheVariants.{Word}
@@ -9,6 +10,7 @@ use Rattle.ioa_source.specs.Sides.{CheckedParameter, CheckedSchedule, CheckedTer
 use Rattle.ioa_system.specs.InView.{DeclaredNames, block_own_names, declared_names, names_at, own_names}
 use Rattle.ioa_system.specs.InView.{parameter_names, variable_names}
 use Rattle.ioa_system.specs.InView.{entry_constant, initial_value, entry_condition, guard_or_effect, block_statement}
+use Rattle.ioa_system.specs.Numbered.{AreNumbered}
 use Rattle.ioa_system.specs.Parts.{AutomatonParts, Parts, PlainRule}
 
 -- the names of a constant parameter are resolved among these; of another parameter nothing is said
@@ -49,11 +51,13 @@ pub record IsResolvedSchedule (d : DeclaredNames) (first : List (List ℕ)) (s :
   pub initials : AreResolvedVariables (names_at initial_value d []) s.variables
   pub statements : AreResolved s.statements (map Word (variable_names s.variables)) (names_at block_statement d first)
 
--- an automaton in which each name is resolved that a step, an initial value or the schedule block reads
+-- an automaton in which each name is resolved that a step, an initial value or the schedule block reads, and in which
+-- each firing bears the number of its rule
 pub record IsResolvedAutomaton (a : AutomatonParts) : Type 0 where
   pub rules : All (IsResolvedRule (declared_names a)) a.rules
   pub initials : AreResolvedVariables (names_at initial_value (declared_names a) []) a.variables
   pub schedule : IsResolvedSchedule (declared_names a) (block_own_names a) a.schedule
+  pub numbered : AreNumbered a.rules (statements_of a.schedule.statements)
 
 -- the same, if these are the names of the state variables and behind them those of the parameters, and these the names
 -- that come first in view in the schedule block

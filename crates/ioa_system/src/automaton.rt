@@ -1,18 +1,22 @@
 //! An automaton of a text, made ready to step.
 
-ghost use Rattle.std.specs.Prelude.{◌≡◌, ◌↔◌, [], IsTrue, IfSome, All, map, length};
+ghost use Rattle.std.specs.Prelude.{◌≡◌, ◌↔◌, ℕ, List, [], IsTrue, IfSome, All, map, length, slice_get};
+ghost use Rattle.std.specs.List.{IsDistinct};
 ghost use Rattle.std.specs.Option.{is_some, option_copied};
 ghost use Rattle.std.specs.Arc.{arc_value};
-ghost use Rattle.ioa_terms.specs.Bindings.{names_of};
+ghost use Rattle.ioa_terms.specs.Bindings.{names_of, same_word};
+ghost use Rattle.ioa_terms.specs.PlainTerm.{statements_of};
 ghost use Rattle.ioa_source.specs.TextView.{declared_of, schedule_of, variable_of};
 ghost use Rattle.ioa_system.specs.InView.{declared_names, names_at, scope_at, given_bindings, block_statement};
 ghost use Rattle.ioa_system.specs.InView.{entry_constant, initial_value, entry_condition, guard_or_effect};
 ghost use Rattle.ioa_system.specs.InView.{block_own_names, parameter_names, variable_names};
-ghost use Rattle.ioa_system.specs.Parts.{automaton_parts, message_shape, rule_named};
+ghost use Rattle.ioa_system.specs.Numbered.{AreNumbered, IsNumberOf};
+ghost use Rattle.ioa_system.specs.Parts.{automaton_parts, message_shape, rule_named, rule_names};
 ghost use Rattle.ioa_system.specs.ResolvedPrograms.{IsCompiled, IsResolvedRule};
 ghost use Rattle.ioa_system.specs.ResolvedPrograms.{AreResolvedVariables, IsResolvedSchedule};
 ghost use Rattle.ioa_system.specs.SameParts.{same_rule, same_parameters, same_automaton};
 
+use crate::rules::Rules;
 use crate::scope::Scope;
 use ioa_actions::RECEIVE;
 use ioa_source::{
@@ -98,7 +102,7 @@ pub struct CompiledAutomaton {
     variables: Vec<Variable<usize, Callee, Shape>>,
     /// The names of the state variables, and then those of the parameters.
     scope: Scope,
-    rules: Vec<Rule>,
+    rules: Rules,
     schedule: Schedule<usize, Callee, Shape>,
     /// The names of the schedule block's own variables, and then that of the inboxes, if the automaton takes messages.
     own: Vec<Word>,
@@ -117,12 +121,12 @@ impl Model for CompiledAutomaton {
     ghost use Rattle.ioa_system.specs.Parts.{automaton_parts};
 
     ghost view = { λ a. automaton_parts a.name (arc_value a.constants) (map declared_of a.parameters.items)
-        (map variable_of a.variables.items) a.rules.items (schedule_of a.schedule) };
+        (map variable_of a.variables.items) a.rules (schedule_of a.schedule) };
 
     ghost use Rattle.ioa_system.specs.ResolvedPrograms.{IsCompiled};
 
     ghost invariant = { λ a. IsCompiled a.scope a.own.items (automaton_parts a.name (arc_value a.constants)
-        (map declared_of a.parameters.items) (map variable_of a.variables.items) a.rules.items
+        (map declared_of a.parameters.items) (map variable_of a.variables.items) a.rules
         (schedule_of a.schedule)) };
 }
 
@@ -136,14 +140,14 @@ impl CompiledAutomaton {
         parameters: Vec<Declared<Shape>>,
         variables: Vec<Variable<usize, Callee, Shape>>,
         scope: Scope,
-        rules: Vec<Rule>,
+        rules: Rules,
         schedule: Schedule<usize, Callee, Shape>,
         own: Vec<Word>,
     ) -> Self
         requires { IsCompiled scope own.items (automaton_parts name (arc_value constants)
-            (map declared_of parameters.items) (map variable_of variables.items) rules.items (schedule_of schedule)) }
+            (map declared_of parameters.items) (map variable_of variables.items) rules (schedule_of schedule)) }
         ensures { result ≡ automaton_parts name (arc_value constants) (map declared_of parameters.items)
-            (map variable_of variables.items) rules.items (schedule_of schedule) }
+            (map variable_of variables.items) rules (schedule_of schedule) }
     {
         CompiledAutomaton {
             name,
@@ -191,8 +195,18 @@ impl CompiledAutomaton {
     pub fn rules(&self) -> &[Rule]
         ensures value { result.now ≡ self.now.rules }
         ensures resolved { All (IsResolvedRule (declared_names self.now)) result.now }
+        ensures differ { IsDistinct same_word (rule_names self.now.rules) }
     {
         self.rules.as_slice()
+    }
+
+    /// The rule of a number, if there are so many: the rule of the name that has the number. Costs a constant time.
+    pub fn rule_numbered(&self, number: usize) -> Option<&Rule>
+        ensures rule { option_copied result ≡ slice_get self.now.rules number }
+        ensures named { (w : List ℕ) → IsNumberOf self.now.rules w number →
+            option_copied result ≡ rule_named w self.now.rules }
+    {
+        self.rules.get(number)
     }
 
     /// The rule of the actions that have a name, if there is one. Costs time in proportion to the number of rules.
@@ -213,6 +227,7 @@ impl CompiledAutomaton {
         ensures value { schedule_of result.now ≡ self.now.schedule }
         ensures resolved { IsResolvedSchedule (declared_names self.now) (block_own_names self.now)
             (schedule_of result.now) }
+        ensures numbered { AreNumbered self.now.rules (statements_of (schedule_of result.now).statements) }
     {
         &self.schedule
     }
@@ -298,7 +313,7 @@ impl CompiledAutomaton {
             && (self.constants.as_slice() == other.constants.as_slice()
                 && (are_same_parameters(&self.parameters, &other.parameters)
                     && (are_same_variables(&self.variables, &other.variables)
-                        && (self.rules == other.rules
+                        && (self.rules.as_slice() == other.rules.as_slice()
                             && is_same_schedule(&self.schedule, &other.schedule)))))
     }
 }

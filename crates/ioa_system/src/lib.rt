@@ -9,12 +9,14 @@
 
 mod automaton;
 mod program;
+mod rules;
 mod scope;
 mod script;
 mod system;
 
 pub use automaton::{CompiledAutomaton, Rule, message_shape};
 pub use program::Program;
+pub use rules::Rules;
 pub use scope::Scope;
 pub use script::Script;
 pub use system::System;

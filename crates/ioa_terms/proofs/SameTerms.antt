@@ -131,10 +131,11 @@ module _ {N C D : Type 0} {n : N → N → Bool} {c : C → C → Bool} {d : D �
   -- the test finds two firings the same if and only if they are equal
   pub same_firing_is : (a b : PlainFiring N C D) → Decides (same_firing n c d a b) (a ≡ b)
   same_firing_is a b =
-      Decides-like _ (λ p i. firing (p.0 i) (p.1.0 i) (p.1.1 i))
-      (λ e. (ap (λ (f : PlainFiring N C D). f.kind) e, (ap (λ (f : PlainFiring N C D). f.action) e, ap (λ (f : PlainFiring N C D). f.arguments) e)))
+      Decides-like _ (λ p i. firing (p.0 i) (p.1.0 i) (p.1.1.0 i) (p.1.1.1 i))
+      (λ e. (ap (λ (f : PlainFiring N C D). f.kind) e, (ap (λ (f : PlainFiring N C D). f.action) e, (ap (λ (f : PlainFiring N C D). f.rule) e, ap (λ (f : PlainFiring N C D). f.arguments) e))))
       (Decides-and _ _ (option_is kind_is a.kind b.kind)
-      (Decides-and _ _ (bytes_eq-Decides a.action b.action) (same_terms_is a.arguments b.arguments)))
+      (Decides-and _ _ (bytes_eq-Decides a.action b.action)
+      (Decides-and _ _ (n_is a.rule b.rule) (same_terms_is a.arguments b.arguments))))
 
   mutual
     statement_equal : (a b : PlainStatement N C D) → same_statement n c d a b ≡ true → a ≡ b

@@ -87,7 +87,8 @@ numbers_met_after None more = []
 numbers_met_after (Some e) more = more e
 
 -- the results that an assignment meets: the key's and then the term's
-abbrev pub numbers_met_by_assignment : {N C : Type 0} → PlainTarget N C Shape → PlainTerm N C Shape → Bindings → List Data
+abbrev pub numbers_met_by_assignment : {N C : Type 0} → PlainTarget N C Shape → PlainTerm N C Shape → Bindings
+    → List Data
 numbers_met_by_assignment (variable x at d) t e = numbers_met t e
 numbers_met_by_assignment (at_key x at d k) t e = numbers_met k e ++ if_any (value k e) (numbers_met t e)
 numbers_met_by_assignment (at_field x at d f) t e = numbers_met t e

@@ -1,7 +1,7 @@
 -- Terms and statements, whatever memory the code keeps them in. Each name has an annotation of type `N`: in a text
--- nothing, in a checked system the slot of the name's value. Each call has an annotation of type `C`: in a text nothing,
--- in a checked system what is called. Each display, field and assigned variable has an annotation of type `D`: in a text
--- nothing, in a checked system a shape.
+-- nothing, in a checked system the slot of the name's value. Each call has an annotation of type `C`: in a text
+-- nothing, in a checked system what is called. Each display, field and assigned variable has an annotation of type `D`:
+-- in a text nothing, in a checked system a shape.
 use Rattle.std.specs.Prelude.{ℕ, ℤ, Bool, List, [], ◌∷◌, Option}
 use Rattle.ioa_operators.specs.declared.operator.UnaryOperator.{UnaryOperator}
 use Rattle.ioa_operators.specs.declared.operator.BinaryOperator.{BinaryOperator}
@@ -40,16 +40,17 @@ pub data PlainTarget (N C D : Type 0) : Type 0 where
   deriving IsSet as PlainTarget-set
 
 -- what a schedule block asks for (profile): an action of this name with these arguments, and of this kind if one is
--- written
+-- written. Beside the name is an annotation: in a text nothing, in a checked system the number of the name's rule.
 pub record PlainFiring (N C D : Type 0) : Type 0 where
   pub kind : Option Kind
   pub action : List ℕ
+  pub rule : N
   pub arguments : List (PlainTerm N C D)
   deriving IsSet as PlainFiring-set
 
 -- a firing of these parts
-abbrev pub firing : {N C D : Type 0} → Option Kind → List ℕ → List (PlainTerm N C D) → PlainFiring N C D
-firing k a ts = record { kind = k; action = a; arguments = ts }
+abbrev pub firing : {N C D : Type 0} → Option Kind → List ℕ → N → List (PlainTerm N C D) → PlainFiring N C D
+firing k a r ts = record { kind = k; action = a; rule = r; arguments = ts }
 
 mutual
   -- a statement (profile): an assignment, or an `if` of arms and the rest; in a schedule block also a `while` of a test

@@ -61,7 +61,8 @@ module _ {N C D : Type 0} (n : N → N → Bool) (c : C → C → Bool) (d : D �
   abbrev pub same_firing : PlainFiring N C D → PlainFiring N C D → Bool
   same_firing a b =
       option_eq same_kind a.kind b.kind
-      && (same_word a.action b.action && same_terms (terms_of a.arguments) (terms_of b.arguments))
+      && (same_word a.action b.action
+      && (n a.rule b.rule && same_terms (terms_of a.arguments) (terms_of b.arguments)))
 
   -- and two statements
   abbrev mutual

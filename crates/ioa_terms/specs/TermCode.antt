@@ -136,10 +136,10 @@ module _ {N C D : Type 0} (n : Coded N) (c : Coded C) (d : Coded D) where
   -- the code of a firing: a nest of pairs
   abbrev pub firing_code : Coded (PlainFiring N C D)
   firing_code =
-      code_by (Option Kind × (List ℕ × List (PlainTerm N C D)))
-      (coded× maybe_kind (coded× word (coded_list term_code)))
-      (λ f. (f.kind, (f.action, f.arguments)))
-      (λ t. firing t.0 t.1.0 t.1.1)
+      code_by (Option Kind × (List ℕ × (N × List (PlainTerm N C D))))
+      (coded× maybe_kind (coded× word (coded× n (coded_list term_code))))
+      (λ f. (f.kind, (f.action, (f.rule, f.arguments))))
+      (λ t. firing t.0 t.1.0 t.1.1.0 t.1.1.1)
       (λ _. refl)
 
   -- a statement as a tree

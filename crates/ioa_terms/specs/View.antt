@@ -36,7 +36,7 @@ target_of (target.Field w x d f) = at_field w x d f
 
 -- a firing
 abbrev pub firing_of : {N C D : Type 0} → Firing N C D → PlainFiring N C D
-firing_of f = firing f.kind f.action (map term_of f.arguments.items)
+firing_of f = firing f.kind f.action f.rule (map term_of f.arguments.items)
 
 abbrev pub statement_step : {N C D : Type 0} →
     Statement-F N C D (PlainStatement N C D) (PlainTerm N C D × PlainStatements N C D) → PlainStatement N C D
@@ -46,7 +46,8 @@ statement_step (Statement-F.While test body) = loop (term_of test) (statements_o
 statement_step (Statement-F.Fire f) = fire (firing_of f)
 
 abbrev pub arm_step : {N C D : Type 0} →
-    Arm-F N C D (PlainStatement N C D) (PlainTerm N C D × PlainStatements N C D) → PlainTerm N C D × PlainStatements N C D
+    Arm-F N C D (PlainStatement N C D) (PlainTerm N C D × PlainStatements N C D)
+    → PlainTerm N C D × PlainStatements N C D
 arm_step a = (term_of a.test, statements_of a.body.items)
 
 -- a statement
@@ -56,4 +57,5 @@ statement_of {N} {C} {D} =
 
 -- an arm: its test and its statements
 abbrev pub arm_of : {N C D : Type 0} → Arm N C D → PlainTerm N C D × PlainStatements N C D
-arm_of {N} {C} {D} = fold-Arm N C D (PlainStatement N C D) (PlainTerm N C D × PlainStatements N C D) statement_step arm_step
+arm_of {N} {C} {D} =
+    fold-Arm N C D (PlainStatement N C D) (PlainTerm N C D × PlainStatements N C D) statement_step arm_step

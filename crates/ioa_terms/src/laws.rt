@@ -59,8 +59,8 @@ pub fn put_law()
 pub fn statements_law()
     ensures order { (earlier later : List (PlainStatement ℕ Callee Shape)) (e : Bindings) →
         after (earlier ++ later) e ≡ option_and_then (after later) (after earlier e) }
-    ensures assignment { (x : List ℕ) (at : ℕ) (s : PlainShape) (t : PlainTerm ℕ Callee Shape) (e : Bindings) (v : Data) →
-        value t e ≡ Some v → has_shape s v ≡ true →
+    ensures assignment { (x : List ℕ) (at : ℕ) (s : PlainShape) (t : PlainTerm ℕ Callee Shape) (e : Bindings)
+        (v : Data) → value t e ≡ Some v → has_shape s v ≡ true →
         after (assign (variable x at s) t ∷ []) e ≡ Some (put (Name.Word x) v e) }
     ensures names { (ss : List (PlainStatement ℕ Callee Shape)) (e f : Bindings) →
         after ss e ≡ Some f → names_of f ≡ names_of e }

@@ -19,6 +19,7 @@ use crate::callee::Callee;
 use crate::environment::{Env, View};
 use crate::evaluation::{evaluate, evaluate_stepwise, evaluate_test, read};
 use crate::name::Name;
+use crate::quick::quick_number;
 use crate::tree::{Checked, Statement, Target};
 use ioa_operators::{Function, Shape, TermFault, call, replace_field};
 use ioa_values::{Value, Word};
@@ -98,10 +99,34 @@ fn perform_one(
     }
 }
 
-/// Performs an assignment (profile): `values` are those that statements may assign, and the new value is written where it
-/// stands among them. After a fault, they are what they were. Costs what its terms and the test of the variable's shape
-/// cost.
+/// Performs an assignment (profile): `values` are those that statements may assign, and the new value is written where
+/// it stands among them. After a fault, they are what they were. Costs what its terms and the test of the variable's
+/// shape cost.
 pub fn perform_assignment(
+    alloc: Global,
+    target: &Target<usize, Callee, Shape>,
+    term: &Checked,
+    view: &View,
+    values: &mut Vec<Value>,
+) -> Result<(), TermFault>
+    requires resolved { IsResolvedStatement (assign (target_of target.now) (term_of term.now))
+        (own_names view.now (length values.old.items)) (names_in_view view.now) }
+    requires named { IsNamed view.now values.old.items }
+    ensures after { Answers TermFault.Memory (λ _. environment_of view.now values.new.items) result
+        (stepwise_one (assign (target_of target.now) (term_of term.now)) (environment_of view.now values.old.items)) }
+    ensures kept { length values.new.items ≡ length values.old.items }
+    ensures unchanged { OnErr result (values.new ≡ values.old) }
+{
+    if let Target::Variable(name, at, shape) = target {
+        if let Some(number) = quick_number(term, view, values) {
+            return put(name, *at, shape, Value::number(number), view, values);
+        }
+    }
+    assign_evaluated(alloc, target, term, view, values)
+}
+
+/// The same where the value is no number that is found quickly.
+fn assign_evaluated(
     alloc: Global,
     target: &Target<usize, Callee, Shape>,
     term: &Checked,

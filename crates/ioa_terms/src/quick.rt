@@ -34,8 +34,8 @@ pub(crate) fn quick_value(term: &Checked, view: &View, values: &[Value]) -> Opti
     }
 }
 
-/// The number that a term has, if it is found quickly: a number, the value of a name, or a sum, a difference or a product
-/// of such.
+/// The number that a term has, if it is found quickly: a number, the value of a name, or a sum, a difference or a
+/// product of such.
 pub(crate) fn quick_number(term: &Checked, view: &View, values: &[Value]) -> Option<i64>
     requires named { IsNamed view.now values.now }
     requires resolved { IsResolved (term_of term.now) (names_in_view view.now) }
@@ -64,8 +64,8 @@ pub(crate) fn quick_number(term: &Checked, view: &View, values: &[Value]) -> Opt
     }
 }
 
-/// The truth value that a term has, if it is found quickly: a truth value, the value of a name, the other one of such, a
-/// connective of such, or a comparison of numbers or of the values of names.
+/// The truth value that a term has, if it is found quickly: a truth value, the value of a name, the other one of such,
+/// a connective of such, or a comparison of numbers or of the values of names.
 pub(crate) fn quick_truth(term: &Checked, view: &View, values: &[Value]) -> Option<bool>
     requires named { IsNamed view.now values.now }
     requires resolved { IsResolved (term_of term.now) (names_in_view view.now) }

@@ -177,7 +177,8 @@ pub fn is_same_firing<N: PartialEq, C: PartialEq, D: PartialEq>(
     ensures { result ≡ same_firing N.eq C.eq D.eq (firing_of firing.now) (firing_of other.now) }
 {
     firing.kind == other.kind
-        && (firing.action == other.action && are_same_terms(&firing.arguments, &other.arguments))
+        && (firing.action == other.action
+            && (firing.rule == other.rule && are_same_terms(&firing.arguments, &other.arguments)))
 }
 
 /// Whether firings are the same, one by one, and as many.

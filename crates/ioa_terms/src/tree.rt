@@ -74,6 +74,8 @@ pub struct Firing<N, C, D> {
     pub kind: Option<Kind>,
     /// The name of the action.
     pub action: Word,
+    /// What is beside the name: nothing in a text, the number of the rule in a checked tree.
+    pub rule: N,
     /// The terms of its arguments.
     pub arguments: Vec<Tree<N, C, D>>,
 }

@@ -121,12 +121,12 @@ fire_begins xs = refl
 
 -- firings
 
-firing_read : (c : Call) (xs ys : List Token) → at_kind xs ≡ false → reading.call xs ≡ read_next c ys → reading.firing xs ≡ read_next (plain.firing None c.name c.arguments) ys
+firing_read : (c : Call) (xs ys : List Token) → at_kind xs ≡ false → reading.call xs ≡ read_next c ys → reading.firing xs ≡ read_next (plain.firing None c.name tt c.arguments) ys
 unfolding reading.firing bind choose
 firing_read c xs ys e f = rw e (rw f refl)
 
 kind_firing_read : (k : Kind) (c : Call) (xs ys zs : List Token) → at_kind xs ≡ true → reading.kind xs ≡ read_next k ys → reading.call ys ≡ read_next c zs →
-    reading.firing xs ≡ read_next (plain.firing (Some k) c.name c.arguments) zs
+    reading.firing xs ≡ read_next (plain.firing (Some k) c.name tt c.arguments) zs
 unfolding reading.firing bind choose
 kind_firing_read k c xs ys zs e f g = rw e (rw f (rw g refl))
 

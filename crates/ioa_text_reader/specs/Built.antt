@@ -10,4 +10,4 @@ abbrev pub built_call_of : BuiltCall → SourceCall
 built_call_of c = record { name = c.name; arguments = map term_of c.arguments.tree.items }
 
 abbrev pub built_firing_of : BuiltFiring → SourceFiring
-built_firing_of f = firing f.kind f.call.name (map term_of f.call.arguments.tree.items)
+built_firing_of f = firing f.kind f.call.name tt (map term_of f.call.arguments.tree.items)

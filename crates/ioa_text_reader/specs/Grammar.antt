@@ -1,6 +1,6 @@
 -- The grammar of texts (profile), a production at a time. `SpellsX x xs ys` says that the tokens `xs` are a spelling of
--- `x`, followed by the tokens `ys`. The next token decides each choice. There are no invariants and no unordered channels
--- yet.
+-- `x`, followed by the tokens `ys`. The next token decides each choice. There are no invariants and no unordered
+-- channels yet.
 use Rattle.std.specs.Prelude.{ℕ, suc, ℤ, List, [], ◌∷◌, ◌≤◌, Option, Some, None, map}
 use Rattle.ioa_tokens.specs.declared.token.Token.{Token}
 use Rattle.ioa_tokens.specs.declared.token.Token.TheVariants as token
@@ -124,13 +124,13 @@ pub data SpellsTarget : Target → List Token → List Token → Type 0 where
 -- [Kind] Call, after `fire`
 pub data SpellsFiring : Firing → List Token → List Token → Type 0 where
   firing : {call : Call} {xs ys : List Token} → SpellsCall call xs ys →
-      SpellsFiring (terms.firing None call.name call.arguments) xs ys
+      SpellsFiring (terms.firing None call.name tt call.arguments) xs ys
   kind_firing : {k : Kind} {call : Call} {xs ys zs : List Token} → SpellsKind k xs ys → SpellsCall call ys zs →
-      SpellsFiring (terms.firing (Some k) call.name call.arguments) xs zs
+      SpellsFiring (terms.firing (Some k) call.name tt call.arguments) xs zs
 
 mutual
-  -- Statement: Target := Term, or if Arms [else Statements] fi; in a schedule block also while Term do Statements od, or
-  -- fire [Kind] Call
+  -- Statement: Target := Term, or if Arms [else Statements] fi; in a schedule block also while Term do Statements od,
+  -- or fire [Kind] Call
   pub data SpellsStatement : Context → Statement → List Token → List Token → Type 0 where
     assignment : {c : Context} {p : Target} {t : Term} {xs ys zs : List Token} →
         SpellsTarget p xs (token.Mark mark.Assign ∷ ys) → SpellsTerm bracket_limit t ys zs →

@@ -215,8 +215,8 @@ begins_statement Block xs = if at_word xs then true else (if at mark.If xs then 
 unfoldable pub firing : List Token → Option (Firing × List Token)
 firing xs =
     choose (at_kind xs)
-    (kind xs >>= λ k. call k.1 >>= λ c. Some (plain.firing (Some k.0) c.0.name c.0.arguments, c.1))
-    (call xs >>= λ c. Some (plain.firing None c.0.name c.0.arguments, c.1))
+    (kind xs >>= λ k. call k.1 >>= λ c. Some (plain.firing (Some k.0) c.0.name tt c.0.arguments, c.1))
+    (call xs >>= λ c. Some (plain.firing None c.0.name tt c.0.arguments, c.1))
 
 -- fire [Kind] Call, after the first word
 unfoldable pub fire_statement : List Token → Option (Statement × List Token)

@@ -113,6 +113,7 @@ pub(crate) fn fire(fired: BuiltFiring, deep: Unread) -> Result<BuiltStatement, U
     let fire = Statement::Fire(Firing {
         kind: fired.kind,
         action: fired.call.name,
+        rule: (),
         arguments: fired.call.arguments.into_tree(),
     });
     let built = Built::within_limit(fire, height, deep)?;

@@ -1,14 +1,18 @@
 -- Arguments beside parameters, one after another, and what the terms of a rule read.
-use Rattle.std.proofs.Common.{◌≡◌, ◌≢◌, ℕ, zero, suc, ◌≤◌, Bool, true, false, List, [], ◌∷◌, ◌++◌, refl, sym, ap, ◌∙◌, length, drop, arith, min, map, take, Ok, Result, append-nil, length-append}
+use Rattle.std.proofs.Common.{◌≡◌, ◌≢◌, ℕ, zero, suc, ◌+◌, ◌≤◌, ◌<◌, Bool, true, false, List, [], ◌∷◌, ◌++◌, refl, sym, ap, ◌∙◌, length, drop, arith, min, map, take, get_or, Ok, Some, Result, append-nil, length-append}
 use Rattle.std.specs.Prelude.{◌&&◌}
-use Rattle.std.specs.List.{zip}
+use Rattle.std.specs.List.{zip, slice_get, slice_range}
+use Rattle.std.specs.Option.{option_map}
+use Rattle.std.proofs.lemmas.Slice.{between_is}
 use Rattle.std.proofs.lemmas.List.{length-map, map-append, take-append-le, take_all}
 use Rattle.std.proofs.lemmas.Slice.Zip.{seconds-zip}
 use Rattle.std.proofs.Math.Bool.{and-false}
-use Rattle.ioa_values.specs.Data.{Data}
+use Rattle.ioa_values.specs.Data.{Data, is_within}
 use Rattle.ioa_terms.specs.declared.name.Name.{Name}
 use Rattle.ioa_terms.specs.declared.name.Name.TheVariants.{Word}
-use Rattle.ioa_terms.specs.Bindings.{Bindings, same_word, environment, constants_from}
+use Rattle.ioa_terms.specs.Bindings.{Bindings, same_word, environment, constants_from, lookup, names_of, slot_in}
+use Rattle.ioa_terms.proofs.Slots.{environment_variable, lookup_slot, names_environment}
+use Rattle.ioa_operators.specs.RangeCheck.{checked_result}
 use Rattle.ioa_operators.specs.declared.fault.TermFault.{TermFault}
 use Rattle.ioa_terms.specs.Inboxes.{lent_values}
 use Rattle.ioa_terms.specs.declared.environment.View.{View}
@@ -17,11 +21,11 @@ use Rattle.ioa_actions.specs.declared.action.Action.{Action}
 use Rattle.ioa_actions.specs.ActionParts.{action_name, action_arguments}
 use Rattle.ioa_source.specs.PlainText.{const, named}
 use Rattle.ioa_source.specs.Sides.{CheckedDeclared, CheckedEntry, CheckedParameter, CheckedVariable}
-use Rattle.ioa_system.specs.InView.{declared_names, own_names, parameter_names, variable_names, scope_at}
-use Rattle.ioa_system.specs.InView.{entry_condition, guard_or_effect}
+use Rattle.ioa_system.specs.InView.{declared_names, given_bindings, names_at, own_names, parameter_names, variable_names, scope_at}
+use Rattle.ioa_system.specs.InView.{entry_constant, entry_condition, guard_or_effect}
 use Rattle.ioa_system.specs.Parts.{AutomatonParts}
 use Rattle.ioa_transitions.specs.NodeAnswers.{effect_answer, arguments_agree, parameter_agrees, are_natural, entry_agrees, kind_agrees}
-use Rattle.ioa_transitions.specs.NodeStep.{own_values}
+use Rattle.ioa_transitions.specs.NodeStep.{own_value, own_values}
 
 second_true : (a b : Bool) → a && b ≡ true → b ≡ true
 second_true true b h = h
@@ -36,6 +40,26 @@ arguments_agree_short b (p ∷ ps) (v ∷ vs) h =
     let e : arguments_agree b ps vs ≡ false = arguments_agree_short b ps vs (λ q. h (omega arith)) in
     rw e (and-false (parameter_agrees b p v))
 
+-- an action is none of an entry's if the arguments are not as many as the parameters, or if the kind is another
+pub entry_agrees_short : (b : Bindings) (a : Action) (e : CheckedEntry) → length e.parameters ≢ length (action_arguments a) → entry_agrees b a e ≡ false
+entry_agrees_short b a e h =
+    rw (arguments_agree_short b e.parameters (action_arguments a) h, and-false (kind_agrees a e.kind)) (and-false (same_word e.name (action_name a)))
+
+pub entry_agrees_kind : (b : Bindings) (a : Action) (e : CheckedEntry) → kind_agrees a e.kind ≡ false → entry_agrees b a e ≡ false
+entry_agrees_kind b a e h = rw h (and-false (same_word e.name (action_name a)))
+
+-- the name of one of the automaton's parameters has the value that the node gives it
+pub given_there : (p : AutomatonParts) (given : List Data) (x : Name) (slot : ℕ) (d : Data) → length given ≡ length p.parameters → slot_in x (names_at entry_constant (declared_names p) []) ≡ Some slot → slot < length given →
+    is_within (get_or given slot d) ≡ true → checked_result (lookup x (given_bindings p given)) ≡ Ok (get_or given slot d)
+given_there p given x slot d many here below within =
+    let names = parameter_names p.parameters in
+    let named : length names ≡ length given = length-map p.parameters (λ (d : CheckedDeclared). d.name) ∙ sym many in
+    let counted = length-map names Word in
+    let all : names_of (given_bindings p given) ≡ names_at entry_constant (declared_names p) [] = names_environment names given p.constants named in
+    let found : option_map (λ (b : Name × Data). b.1) (slice_get (given_bindings p given) slot) ≡ Some (get_or given slot d) =
+    environment_variable (map Word names) given p.constants slot d (omega arith) below in
+    ap checked_result (lookup_slot (given_bindings p given) x slot (ap (slot_in x) all ∙ here) ∙ found) ∙ rw within refl
+
 -- if the parameters or the arguments end, no value of their own is left
 pub own_values_end : {A : Type 0} (f : A → CheckedParameter) (ps : List A) (vs : List Data) (i : ℕ) → i ≡ min (length ps) (length vs) → own_values (map f (drop i ps)) (drop i vs) ≡ []
 own_values_end f [] vs zero h = refl
@@ -44,6 +68,51 @@ own_values_end f (p ∷ ps) [] zero h = refl
 own_values_end f (p ∷ ps) [] (suc i) h = absurd (omega arith)
 own_values_end f (p ∷ ps) (v ∷ vs) zero h = absurd (omega arith)
 own_values_end f (p ∷ ps) (v ∷ vs) (suc i) h = own_values_end f ps vs i (omega arith)
+
+-- from a position to that position nothing stands
+pub none_between : (xs : List Data) (n : ℕ) → drop n (take n xs) ≡ []
+none_between xs zero = refl
+none_between [] (suc n) = refl
+none_between (x ∷ xs) (suc n) = none_between xs n
+
+-- a constant has no value of its own
+behind_constant : {A : Type 0} (f : A → CheckedParameter) (ps : List A) (vs : List Data) (i : ℕ) (p : A) → i < length ps → i < length vs → ((v : Data) → own_value (f (get_or ps i p)) v ≡ []) →
+    own_values (map f (drop (suc i) ps)) (drop (suc i) vs) ≡ own_values (map f (drop i ps)) (drop i vs)
+behind_constant f [] vs i q a b h = absurd (omega arith)
+behind_constant f (p ∷ ps) [] i q a b h = absurd (omega arith)
+behind_constant f (p ∷ ps) (v ∷ vs) zero q a b h = ap (λ (xs : List Data). xs ++ own_values (map f ps) vs) (sym (h v))
+behind_constant f (p ∷ ps) (v ∷ vs) (suc i) q a b h = behind_constant f ps vs i q (omega arith) (omega arith) h
+
+pub own_stays : {A : Type 0} (f : A → CheckedParameter) (ps : List A) (vs : List Data) (i : ℕ) (p : A) → i < length ps → i < length vs → ((v : Data) → own_value (f (get_or ps i p)) v ≡ []) →
+    own_values (map f (drop (i + 1) ps)) (drop (i + 1) vs) ≡ own_values (map f (drop i ps)) (drop i vs)
+own_stays f ps vs i p a b h = let e : i + 1 ≡ suc i = omega arith in rw e (behind_constant f ps vs i p a b h)
+
+-- one more argument that has a name of its own stands behind those that have
+behind_own : {A : Type 0} (f : A → CheckedParameter) (ps : List A) (vs : List Data) (from i : ℕ) (p : A) → from ≤ i → i < length ps → i < length vs → ((v : Data) → own_value (f (get_or ps i p)) v ≡ v ∷ []) →
+    drop from (take (suc i) vs) ++ own_values (map f (drop (suc i) ps)) (drop (suc i) vs) ≡ drop from (take i vs) ++ own_values (map f (drop i ps)) (drop i vs)
+behind_own f [] vs from i q begun a b h = absurd (omega arith)
+behind_own f (p ∷ ps) [] from i q begun a b h = absurd (omega arith)
+behind_own f (p ∷ ps) (v ∷ vs) zero zero q begun a b h = ap (λ (xs : List Data). xs ++ own_values (map f ps) vs) (sym (h v))
+behind_own f (p ∷ ps) (v ∷ vs) zero (suc i) q begun a b h = ap (λ (xs : List Data). v ∷ xs) (behind_own f ps vs zero i q (omega arith) (omega arith) (omega arith) h)
+behind_own f (p ∷ ps) (v ∷ vs) (suc from) zero q begun a b h = absurd (omega arith)
+behind_own f (p ∷ ps) (v ∷ vs) (suc from) (suc i) q begun a b h = behind_own f ps vs from i q (omega arith) (omega arith) (omega arith) h
+
+pub own_grows : {A : Type 0} (f : A → CheckedParameter) (ps : List A) (vs : List Data) (from i : ℕ) (p : A) → from ≤ i → i < length ps → i < length vs → ((v : Data) → own_value (f (get_or ps i p)) v ≡ v ∷ []) →
+    drop from (take (i + 1) vs) ++ own_values (map f (drop (i + 1) ps)) (drop (i + 1) vs) ≡ drop from (take i vs) ++ own_values (map f (drop i ps)) (drop i vs)
+own_grows f ps vs from i p begun a b h = let e : i + 1 ≡ suc i = omega arith in rw e (behind_own f ps vs from i p begun a b h)
+
+-- the arguments that have names of their own are a part of all, if there are constants alone before and behind it
+pub own_part : {A : Type 0} (f : A → CheckedParameter) (ps : List A) (vs : List Data) (first end last : ℕ) →
+    own_values (map f (drop first ps)) (drop first vs) ≡ own_values (map f ps) vs →
+    drop first (take end vs) ++ own_values (map f (drop end ps)) (drop end vs) ≡ own_values (map f (drop first ps)) (drop first vs) →
+    own_values (map f (drop last ps)) (drop last vs) ≡ own_values (map f (drop end ps)) (drop end vs) →
+    last ≡ min (length ps) (length vs) → slice_range vs first end ≡ own_values (map f ps) vs
+own_part f ps vs first end last before own behind all =
+    between_is vs first end
+    ∙ sym (append-nil (drop first (take end vs)))
+    ∙ ap (λ (xs : List Data). drop first (take end vs) ++ xs) (sym (own_values_end f ps vs last all) ∙ behind)
+    ∙ own
+    ∙ before
 
 -- if the parameters or the arguments end, no negative number is left
 pub are_natural_end : {A : Type 0} (f : A → CheckedParameter) (ps : List A) (vs : List Data) (i : ℕ) → i ≡ min (length ps) (length vs) → are_natural (map f (drop i ps)) (drop i vs) ≡ true

@@ -104,9 +104,11 @@ impl NodeConf {
     pub fn step(&self, alloc: Global, action: &Action) -> Result<Self, StepFault>
         ensures { Answers StepFault.Memory (λ c. c) result (node_answer self.now action.now) }
     {
-        let values = self.variables.as_slice();
-        let variables = Values::from_vec(values_after(alloc, &self.program, values, action)?);
+        let mut values = Vec::new(alloc);
+        let before = self.variables.as_slice();
+        values_after(alloc, &self.program, before, action, &mut values)?;
         let program = Arc::try_clone(&self.program)?;
+        let variables = Values::from_vec(values);
         Ok(NodeConf { program, variables })
     }
 }

@@ -1,13 +1,15 @@
 //! The rule of a program that an action takes, and the values that the rule leaves.
 
-ghost use Rattle.std.specs.Prelude.{◌≡◌, ◌++◌, [], IfOk, OnOk, IfSome, true, map, length};
+ghost use Rattle.std.specs.Prelude.{◌≡◌, ◌≤◌, ◌&&◌, ◌++◌, ◌∷◌, [], IfOk, OnOk, IfSome, Ok, Some, true};
+ghost use Rattle.std.specs.Prelude.{map, length, min, take, drop};
 ghost use Rattle.std.specs.Option.{option_copied, option_map};
 ghost use Rattle.ioa_source.specs.TextView.{entry_of, parameter_of};
 ghost use Rattle.ioa_terms.specs.View.{term_of};
-ghost use Rattle.ioa_values.specs.Outcome.{Answers};
+ghost use Rattle.ioa_values.specs.Data.{is_within, number};
+ghost use Rattle.ioa_values.specs.Outcome.{Answers, and_then};
 ghost use Rattle.ioa_actions.specs.ActionParts.{action_arguments};
 ghost use Rattle.ioa_system.specs.InView.{declared_names, environment_at, given_bindings, names_at, variable_names};
-ghost use Rattle.ioa_system.specs.InView.{entry_condition, guard_or_effect};
+ghost use Rattle.ioa_system.specs.InView.{entry_constant, entry_condition, guard_or_effect};
 ghost use Rattle.ioa_system.specs.ResolvedPrograms.{IsResolvedRule, IsResolvedGuard};
 ghost use Rattle.ioa_system.specs.ResolvedPrograms.{IsResolvedParameter, AreResolvedParameters};
 ghost use Rattle.ioa_transitions.specs.NodeState.{node_state};
@@ -16,17 +18,17 @@ ghost use Rattle.ioa_transitions.specs.NodeStep.{own_value, own_values};
 ghost use Rattle.ioa_terms.specs.Meaning.{answer};
 ghost use Rattle.ioa_terms.specs.Performance.{answer_by};
 ghost use Rattle.ioa_terms.specs.Resolved.{AreResolved, IsResolved};
-ghost use Rattle.ioa_terms.specs.Bindings.{names_of};
+ghost use Rattle.ioa_terms.specs.Bindings.{lookup, slot_in};
+ghost use Rattle.ioa_operators.specs.RangeCheck.{checked_result};
 ghost use Rattle.ioa_terms.specs.Views.{IsNamed, environment_of, names_in_view, own_names};
 
 use ioa_actions::{Action, RECEIVE, SEND, StepFault};
 use ioa_source::{Entry, Parameter};
 use ioa_system::{Program, Rule};
 use ioa_terms::{
-    Callee, Checked, Env, Kind, LentValues, Name, Shape, TermFault, Value, View, eval, evaluate,
-    perform,
+    Callee, Checked, Kind, LentValues, Name, Shape, TermFault, Value, View, eval, evaluate,
+    evaluate_test, perform,
 };
-use ioa_values::copies;
 use std::alloc::{AllocError, Global};
 
 /// Whether an action is of an entry's kind.
@@ -49,34 +51,106 @@ fn kind_agrees(action: &Action, kind: Kind) -> bool
     }
 }
 
-/// Whether a value is one that a parameter takes, if constants read this environment. A negative number passes for a
-/// Nat here.
+/// Whether an action can be of an entry's kind, whatever its name is.
+fn kind_may_agree(action: &Action, kind: Kind) -> bool
+    ensures { result && spec.kind_agrees action.now kind ≡ spec.kind_agrees action.now kind }
+{
+    match action {
+        Action::Send { .. } => kind == Kind::Output,
+        Action::Receive { .. } => kind == Kind::Input,
+        Action::Local(_) => kind != Kind::Input,
+        Action::Stimulus(_) => kind == Kind::Input,
+    }
+}
+
+/// Whether a value is one that a parameter takes at a node with this program. A negative number passes for a Nat here.
 fn parameter_agrees(
     alloc: Global,
-    env: &Env,
+    program: &Program,
     parameter: &Parameter<usize, Callee, Shape>,
     value: &Value,
 ) -> Result<bool, AllocError>
-    requires { IsResolvedParameter (names_of env.now) (parameter_of parameter.now) }
-    ensures { IfOk result (λ b. b ≡ spec.parameter_agrees env.now (parameter_of parameter.now) value.now) }
+    requires { IsResolvedParameter (names_at entry_constant (declared_names program.now.automaton) [])
+        (parameter_of parameter.now) }
+    ensures { IfOk result (λ b. b ≡ spec.parameter_agrees
+        (given_bindings program.now.automaton program.now.arguments) (parameter_of parameter.now) value.now) }
 {
     match parameter {
-        Parameter::Const(term) => constant_agrees(alloc, env, term, value),
+        Parameter::Const(term) => constant_agrees(alloc, program, term, value),
         Parameter::Declared(declared) => Ok(declared.shape.admits_negative(value)),
     }
 }
 
-/// Whether a value is that of a term.
+/// Whether a value is that of a term which reads what the node gives the automaton's parameters. Nothing is evaluated
+/// for a number or the name of a parameter.
 fn constant_agrees(
     alloc: Global,
-    env: &Env,
+    program: &Program,
     term: &Checked,
     value: &Value,
 ) -> Result<bool, AllocError>
-    requires { IsResolved (term_of term.now) (names_of env.now) }
-    ensures { IfOk result (λ b. b ≡ spec.constant_agrees (answer (term_of term.now) env.now) value.now) }
+    requires { IsResolved (term_of term.now) (names_at entry_constant (declared_names program.now.automaton) []) }
+    ensures { IfOk result (λ b. b ≡ spec.constant_agrees
+        (answer (term_of term.now) (given_bindings program.now.automaton program.now.arguments)) value.now) }
 {
-    match eval(alloc, term, env) {
+    match term {
+        Checked::Number(n) => Ok(Value::number(*n).equals(value)),
+        _ => match given_value(program, term) {
+            Some(given) => Ok(given.equals(value)),
+            None => evaluated_agrees(alloc, program, term, value),
+        },
+    }
+}
+
+/// The value that the node gives, if the term is the name of a parameter of the automaton.
+fn given_value<'a>(program: &'a Program, term: &Checked) -> Option<&'a Value>
+    requires { IsResolved (term_of term.now) (names_at entry_constant (declared_names program.now.automaton) []) }
+    ensures { IfSome result (λ v. answer (term_of term.now)
+        (given_bindings program.now.automaton program.now.arguments) ≡ Ok v.now) }
+{
+    match term {
+        Checked::Name(name, slot) => given_at(program, name, *slot),
+        _ => None,
+    }
+}
+
+/// The value that the node gives a name, if it is that of a parameter of the automaton.
+#[tactic(auto, using(crate::proofs::Arguments::given_there))]
+fn given_at<'a>(program: &'a Program, name: &Name, slot: usize) -> Option<&'a Value>
+    requires { slot_in name.now (names_at entry_constant (declared_names program.now.automaton) []) ≡ Some slot }
+    ensures { IfSome result (λ v. checked_result (lookup name.now
+        (given_bindings program.now.automaton program.now.arguments)) ≡ Ok v.now) }
+{
+    let given = program.arguments();
+    if slot < given.len() {
+        let value = &given[slot];
+        within_law(value);
+        Some(value)
+    } else {
+        None
+    }
+}
+
+/// A value that is a number lies within 64 bits. Does nothing.
+fn within_law(value: &Value)
+    ensures { is_within value.now ≡ true }
+{
+    let _number = value.as_number();
+}
+
+/// Whether a value is that of a term, which is evaluated.
+fn evaluated_agrees(
+    alloc: Global,
+    program: &Program,
+    term: &Checked,
+    value: &Value,
+) -> Result<bool, AllocError>
+    requires { IsResolved (term_of term.now) (names_at entry_constant (declared_names program.now.automaton) []) }
+    ensures { IfOk result (λ b. b ≡ spec.constant_agrees
+        (answer (term_of term.now) (given_bindings program.now.automaton program.now.arguments)) value.now) }
+{
+    let env = program.automaton().given_env(program.arguments());
+    match eval(alloc, term, &env) {
         Ok(constant) => Ok(constant.equals(value)),
         Err(TermFault::Undefined) => Ok(false),
         Err(TermFault::Range) => Ok(false),
@@ -84,21 +158,23 @@ fn constant_agrees(
     }
 }
 
-/// Whether arguments fit an entry's parameters, if constants read this environment.
+/// Whether arguments fit an entry's parameters at a node with this program.
 fn arguments_agree(
     alloc: Global,
-    env: &Env,
+    program: &Program,
     parameters: &[Parameter<usize, Callee, Shape>],
     arguments: &[Value],
 ) -> Result<bool, AllocError>
-    requires { AreResolvedParameters (names_of env.now) (map parameter_of parameters.now) }
-    ensures { IfOk result (λ b. b ≡ spec.arguments_agree env.now (map parameter_of parameters.now) arguments.now) }
+    requires { AreResolvedParameters (names_at entry_constant (declared_names program.now.automaton) [])
+        (map parameter_of parameters.now) }
+    ensures { IfOk result (λ b. b ≡ spec.arguments_agree
+        (given_bindings program.now.automaton program.now.arguments) (map parameter_of parameters.now) arguments.now) }
 {
     if parameters.len() != arguments.len() {
         return Ok(false);
     }
     for i in 0..parameters.len() {
-        if !parameter_agrees(alloc, env, &parameters[i], &arguments[i])? {
+        if !parameter_agrees(alloc, program, &parameters[i], &arguments[i])? {
             return Ok(false);
         }
     }
@@ -130,25 +206,34 @@ fn is_natural(parameter: &Parameter<usize, Callee, Shape>, argument: &Value) -> 
     }
 }
 
-/// Whether an action with these arguments is one of an entry's, if constants read this environment.
+/// Whether an action with these arguments is one of an entry's at a node with this program. Kinds and numbers of
+/// arguments are compared before names, and constants come last.
 fn entry_agrees(
     alloc: Global,
-    env: &Env,
+    program: &Program,
     entry: &Entry<usize, Callee, Shape>,
     action: &Action,
     arguments: &[Value],
 ) -> Result<bool, AllocError>
-    requires resolved { AreResolvedParameters (names_of env.now) (entry_of entry.now).parameters }
+    requires resolved { AreResolvedParameters (names_at entry_constant (declared_names program.now.automaton) [])
+        (entry_of entry.now).parameters }
     requires own { arguments.now ≡ action_arguments action.now }
-    ensures { IfOk result (λ b. b ≡ spec.entry_agrees env.now action.now (entry_of entry.now)) }
+    ensures { IfOk result (λ b. b ≡ spec.entry_agrees (given_bindings program.now.automaton program.now.arguments)
+        action.now (entry_of entry.now)) }
 {
+    if entry.parameters.len() != arguments.len() {
+        return Ok(false);
+    }
+    if !kind_may_agree(action, entry.kind) {
+        return Ok(false);
+    }
     if entry.name.as_str() != action.name() {
         return Ok(false);
     }
     if !kind_agrees(action, entry.kind) {
         return Ok(false);
     }
-    arguments_agree(alloc, env, &entry.parameters, arguments)
+    arguments_agree(alloc, program, &entry.parameters, arguments)
 }
 
 /// The rule that an action with these arguments takes at a node with this program, if there is one. Constants of
@@ -166,99 +251,174 @@ pub fn rule_for<'a>(
     ensures agrees { IfOk result (λ r. IfSome r (λ x. spec.entry_agrees
         (given_bindings program.now.automaton program.now.arguments) action.now x.now.entry ≡ true)) }
 {
-    let env = program.automaton().given_env(program.arguments());
     for rule in program.automaton().rules() {
-        if entry_agrees(alloc, &env, &rule.entry, action, arguments)? {
+        if entry_agrees(alloc, program, &rule.entry, action, arguments)? {
             return Ok(Some(rule));
         }
     }
     Ok(None)
 }
 
-/// The values of a node's state variables after an action. Only those of a send or a receive are made into a list.
+/// Puts the values of a node's state variables after an action into a list that is empty.
 pub fn values_after(
     alloc: Global,
     program: &Program,
     variables: &[Value],
     action: &Action,
-) -> Result<Vec<Value>, StepFault>
-    requires { length variables.now ≡ length program.now.automaton.variables }
-    ensures after { Answers StepFault.Memory (λ v. v.items) result
+    values: &mut Vec<Value>,
+) -> Result<(), StepFault>
+    requires valued { length variables.now ≡ length program.now.automaton.variables }
+    requires empty { values.old.items ≡ [] }
+    ensures after { Answers StepFault.Memory (λ _. values.new.items) result
         (spec.values_answer (node_state program.now variables.now) action.now) }
-    ensures valued { IfOk result (λ v. length v.items ≡ length variables.now) }
+    ensures valued { OnOk result (length values.new.items ≡ length variables.now) }
 {
     match action {
-        Action::Send { .. } | Action::Receive { .. } => {
-            let arguments = action.arguments(alloc)?;
-            values_by(alloc, program, variables, action, &arguments)
+        Action::Send { message, from, to } | Action::Receive { message, from, to } => {
+            values_by_message(
+                alloc, program, variables, action, message, *from, *to, values,
+            )
         }
         Action::Local(local) => {
-            values_by(
-                alloc,
-                program,
-                variables,
-                action,
-                local.arguments.as_slice(),
-            )
+            let arguments = local.arguments.as_slice();
+            values_by(alloc, program, variables, action, arguments, values)
         }
         Action::Stimulus(stimulus) => {
-            values_by(
-                alloc,
-                program,
-                variables,
-                action,
-                stimulus.arguments.as_slice(),
-            )
+            let arguments = stimulus.arguments.as_slice();
+            values_by(alloc, program, variables, action, arguments, values)
         }
     }
 }
 
-/// The values of a node's state variables after an action with these arguments.
+/// The same of an action whose arguments are a message and two nodes.
+fn values_by_message(
+    alloc: Global,
+    program: &Program,
+    variables: &[Value],
+    action: &Action,
+    message: &Value,
+    from: i64,
+    to: i64,
+    values: &mut Vec<Value>,
+) -> Result<(), StepFault>
+    requires valued { length variables.now ≡ length program.now.automaton.variables }
+    requires empty { values.old.items ≡ [] }
+    requires own { action_arguments action.now ≡ message.now ∷ number from ∷ number to ∷ [] }
+    ensures after { Answers StepFault.Memory (λ _. values.new.items) result
+        (spec.values_answer (node_state program.now variables.now) action.now) }
+    ensures valued { OnOk result (length values.new.items ≡ length variables.now) }
+{
+    let message = message.try_copy()?;
+    let arguments = [message, Value::number(from), Value::number(to)];
+    values_by(alloc, program, variables, action, &arguments, values)
+}
+
+/// The same of an action with these arguments.
 fn values_by(
     alloc: Global,
     program: &Program,
     variables: &[Value],
     action: &Action,
     arguments: &[Value],
-) -> Result<Vec<Value>, StepFault>
+    values: &mut Vec<Value>,
+) -> Result<(), StepFault>
     requires valued { length variables.now ≡ length program.now.automaton.variables }
+    requires empty { values.old.items ≡ [] }
     requires own { arguments.now ≡ action_arguments action.now }
-    ensures after { Answers StepFault.Memory (λ v. v.items) result
+    ensures after { Answers StepFault.Memory (λ _. values.new.items) result
         (spec.values_answer (node_state program.now variables.now) action.now) }
-    ensures valued { IfOk result (λ v. length v.items ≡ length variables.now) }
+    ensures valued { OnOk result (length values.new.items ≡ length variables.now) }
 {
     match rule_for(alloc, program, action, arguments)? {
         None => Err(StepFault::NotMine),
-        Some(rule) => take_transition(alloc, program, rule, arguments, variables),
+        Some(rule) => take_transition(alloc, program, rule, arguments, variables, values),
     }
 }
 
-/// The values of the state variables after a transition. The arguments are tested first, then the entry's condition,
-/// then the guard, and then the effect is performed. The variables are copied for the effect alone.
+/// Puts the values of the state variables after a transition into a list that is empty. The arguments are tested first,
+/// then the entry's condition, then the guard, and then the effect is performed. The variables are copied for the
+/// effect alone.
 fn take_transition(
     alloc: Global,
     program: &Program,
     rule: &Rule,
     arguments: &[Value],
     variables: &[Value],
-) -> Result<Vec<Value>, StepFault>
+    values: &mut Vec<Value>,
+) -> Result<(), StepFault>
     // the names in the rule are resolved, and each has a value
     requires resolved { IsResolvedRule (declared_names program.now.automaton) rule.now }
     requires valued { length variables.now ≡ length program.now.automaton.variables }
+    requires empty { values.old.items ≡ [] }
     requires own { length rule.now.own ≡ length (own_values rule.now.entry.parameters arguments.now) }
     // the new values, one for each variable
-    ensures after { Answers StepFault.Memory (λ v. v.items) result
+    ensures after { Answers StepFault.Memory (λ _. values.new.items) result
         (spec.step_answer (length variables.now) rule.now arguments.now
         (environment_at entry_condition (declared_names program.now.automaton) rule.now.own
         program.now.arguments variables.now (own_values rule.now.entry.parameters arguments.now))
         (environment_at guard_or_effect (declared_names program.now.automaton) rule.now.own
         program.now.arguments variables.now (own_values rule.now.entry.parameters arguments.now))) }
-    ensures valued { IfOk result (λ v. length v.items ≡ length variables.now) }
+    ensures valued { OnOk result (length values.new.items ≡ length variables.now) }
 {
     pass_naturals(&rule.entry.parameters, arguments)?;
+    match lent_own(&rule.entry.parameters, arguments) {
+        Some(own) => pass_own(alloc, program, rule, own, variables, values),
+        None => pass_copies(alloc, program, rule, arguments, variables, values),
+    }
+}
+
+/// The same behind the test of the arguments, if the entry's own parameters do not stand side by side: their values are
+/// copied.
+fn pass_copies(
+    alloc: Global,
+    program: &Program,
+    rule: &Rule,
+    arguments: &[Value],
+    variables: &[Value],
+    values: &mut Vec<Value>,
+) -> Result<(), StepFault>
+    requires resolved { IsResolvedRule (declared_names program.now.automaton) rule.now }
+    requires valued { length variables.now ≡ length program.now.automaton.variables }
+    requires empty { values.old.items ≡ [] }
+    requires own { length rule.now.own ≡ length (own_values rule.now.entry.parameters arguments.now) }
+    ensures after { Answers StepFault.Memory (λ _. values.new.items) result
+        (and_then (spec.guard_answer rule.now.entry.condition
+        (environment_at entry_condition (declared_names program.now.automaton) rule.now.own
+        program.now.arguments [] (own_values rule.now.entry.parameters arguments.now)))
+        (λ _. spec.transition_answer (length variables.now) rule.now.transition
+        (environment_at guard_or_effect (declared_names program.now.automaton) rule.now.own
+        program.now.arguments variables.now (own_values rule.now.entry.parameters arguments.now)))) }
+    ensures valued { OnOk result (length values.new.items ≡ length variables.now) }
+{
     let own = own_values(alloc, &rule.entry, arguments)?;
-    pass_condition(alloc, program, rule, &own)?;
-    pass_step(alloc, program, rule, &own, variables)
+    pass_own(alloc, program, rule, &own, variables, values)
+}
+
+/// The same, if the entry's own parameters have these values: the entry's condition is tested, then the guard, and then
+/// the effect is performed.
+fn pass_own(
+    alloc: Global,
+    program: &Program,
+    rule: &Rule,
+    own: &[Value],
+    variables: &[Value],
+    values: &mut Vec<Value>,
+) -> Result<(), StepFault>
+    requires resolved { IsResolvedRule (declared_names program.now.automaton) rule.now }
+    requires valued { length variables.now ≡ length program.now.automaton.variables }
+    requires empty { values.old.items ≡ [] }
+    requires own { length rule.now.own ≡ length own.now }
+    ensures after { Answers StepFault.Memory (λ _. values.new.items) result
+        (and_then (spec.guard_answer rule.now.entry.condition
+        (environment_at entry_condition (declared_names program.now.automaton) rule.now.own
+        program.now.arguments [] own.now))
+        (λ _. spec.transition_answer (length variables.now) rule.now.transition
+        (environment_at guard_or_effect (declared_names program.now.automaton) rule.now.own
+        program.now.arguments variables.now own.now))) }
+    ensures valued { OnOk result (length values.new.items ≡ length variables.now) }
+{
+    pass_condition(alloc, program, rule, own)?;
+    pass_step(alloc, program, rule, own, variables, values)
 }
 
 /// Passes if the condition of a rule's entry is true or missing; else `NotEnabled` (40). It reads no state variable.
@@ -310,31 +470,33 @@ fn condition_view<'a>(program: &'a Program, rule: &'a Rule, own: &'a [Value]) ->
     }
 }
 
-/// The values of the state variables after a rule's transition, if the entry's own parameters have these values: the
-/// guard is tested, and then the effect is performed.
+/// Puts the values of the state variables after a rule's transition into a list that is empty, if the entry's own
+/// parameters have these values: the guard is tested, and then the effect is performed.
 fn pass_step(
     alloc: Global,
     program: &Program,
     rule: &Rule,
     own: &[Value],
     variables: &[Value],
-) -> Result<Vec<Value>, StepFault>
+    values: &mut Vec<Value>,
+) -> Result<(), StepFault>
     requires resolved { IsResolvedRule (declared_names program.now.automaton) rule.now }
     requires valued { length variables.now ≡ length program.now.automaton.variables }
+    requires empty { values.old.items ≡ [] }
     requires own { length rule.now.own ≡ length own.now }
-    ensures after { Answers StepFault.Memory (λ v. v.items) result
+    ensures after { Answers StepFault.Memory (λ _. values.new.items) result
         (spec.transition_answer (length variables.now) rule.now.transition
         (environment_at guard_or_effect (declared_names program.now.automaton) rule.now.own
         program.now.arguments variables.now own.now)) }
-    ensures valued { IfOk result (λ v. length v.items ≡ length variables.now) }
+    ensures valued { OnOk result (length values.new.items ≡ length variables.now) }
 {
     let view = step_view(program, rule, own, variables);
     pass_guard(alloc, &rule.transition.pre, &view, variables)?;
-    take_effect(alloc, rule, &view, variables)
+    take_effect(alloc, rule, &view, variables, values)
 }
 
-/// What the guard and the effect of a rule see, if the entry's own parameters have these values: the values of the state
-/// variables come first.
+/// What the guard and the effect of a rule see, if the entry's own parameters have these values: the values of the
+/// state variables come first.
 #[tactic(auto, using(crate::proofs::Arguments::step_named, crate::proofs::Arguments::step_own))]
 fn step_view<'a>(
     program: &'a Program,
@@ -345,7 +507,8 @@ fn step_view<'a>(
     requires valued { length variables.now ≡ length program.now.automaton.variables }
     requires own { length rule.now.own ≡ length own.now }
     ensures named { IsNamed result variables.now }
-    ensures own { own_names result (length variables.now) ≡ map Name.Word (variable_names program.now.automaton.variables) }
+    ensures own { own_names result (length variables.now)
+        ≡ map Name.Word (variable_names program.now.automaton.variables) }
     ensures names { names_in_view result
         ≡ names_at guard_or_effect (declared_names program.now.automaton) rule.now.own }
     ensures value { environment_of result variables.now
@@ -364,24 +527,100 @@ fn step_view<'a>(
     }
 }
 
-/// The values of the state variables after a rule's effect, which is performed on a copy of them.
+/// Puts the values of the state variables after a rule's effect into a list that is empty. It is performed on a copy of
+/// them.
 #[tactic(auto, using(crate::proofs::Arguments::effect_answer_view))]
 fn take_effect(
     alloc: Global,
     rule: &Rule,
     view: &View,
     variables: &[Value],
-) -> Result<Vec<Value>, StepFault>
+    values: &mut Vec<Value>,
+) -> Result<(), StepFault>
     requires resolved { AreResolved rule.now.transition.effect (own_names view.now (length variables.now))
         (names_in_view view.now) }
     requires named { IsNamed view.now variables.now }
-    ensures after { Answers StepFault.Memory (λ v. v.items) result (spec.effect_answer (length variables.now)
+    requires empty { values.old.items ≡ [] }
+    ensures after { Answers StepFault.Memory (λ _. values.new.items) result (spec.effect_answer (length variables.now)
         (answer_by rule.now.transition.effect (environment_of view.now variables.now))) }
-    ensures valued { IfOk result (λ v. length v.items ≡ length variables.now) }
+    ensures valued { OnOk result (length values.new.items ≡ length variables.now) }
 {
-    let mut values = copies(alloc, variables)?;
-    perform(alloc, &rule.transition.effect, view, &mut values)?;
-    Ok(values)
+    push_copies(values, variables)?;
+    perform(alloc, &rule.transition.effect, view, values)?;
+    Ok(())
+}
+
+/// Adds copies of values at the end.
+fn push_copies(values: &mut Vec<Value>, added: &[Value]) -> Result<(), AllocError>
+    ensures { OnOk result (values.new.items ≡ values.old.items ++ added.now) }
+{
+    for value in added {
+        values.push(value.try_copy()?)?;
+    }
+    Ok(())
+}
+
+/// The arguments that have names of their own, if they stand side by side.
+#[tactic(auto, using(crate::proofs::Arguments::own_part))]
+fn lent_own<'a>(
+    parameters: &[Parameter<usize, Callee, Shape>],
+    arguments: &'a [Value],
+) -> Option<&'a [Value]>
+    ensures { IfSome result (λ own. own.now ≡ own_values (map parameter_of parameters.now) arguments.now) }
+{
+    let first = constants_end(parameters, arguments, 0);
+    let end = own_end(parameters, arguments, first);
+    let last = constants_end(parameters, arguments, end);
+    if last == parameters.len().min(arguments.len()) {
+        Some(&arguments[first..end])
+    } else {
+        None
+    }
+}
+
+/// Where the constants end that begin at a position.
+fn constants_end(
+    parameters: &[Parameter<usize, Callee, Shape>],
+    arguments: &[Value],
+    from: usize,
+) -> usize
+    requires { from ≤ min (length parameters.now) (length arguments.now) }
+    ensures begin { from ≤ result }
+    ensures end { result ≤ min (length parameters.now) (length arguments.now) }
+    ensures left { own_values (map parameter_of (drop result parameters.now)) (drop result arguments.now)
+        ≡ own_values (map parameter_of (drop from parameters.now)) (drop from arguments.now) }
+{
+    let many = parameters.len().min(arguments.len());
+    for i in from..many {
+        match &parameters[i] {
+            Parameter::Const(_) => {}
+            Parameter::Declared(_) => return i,
+        }
+    }
+    many
+}
+
+/// Where the parameters with names of their own end that begin at a position.
+fn own_end(
+    parameters: &[Parameter<usize, Callee, Shape>],
+    arguments: &[Value],
+    from: usize,
+) -> usize
+    requires { from ≤ min (length parameters.now) (length arguments.now) }
+    ensures begin { from ≤ result }
+    ensures end { result ≤ min (length parameters.now) (length arguments.now) }
+    ensures left { drop from (take result arguments.now)
+        ++ own_values (map parameter_of (drop result parameters.now)) (drop result arguments.now)
+        ≡ own_values (map parameter_of (drop from parameters.now)) (drop from arguments.now) }
+{
+    let many = parameters.len().min(arguments.len());
+    for i in from..many {
+        match &parameters[i] {
+            Parameter::Const(_) => return i,
+            Parameter::Declared(_) => {}
+        }
+    }
+    many
 }
 
 /// The arguments that have names of their own.
@@ -437,8 +676,23 @@ fn pass_guard(
 }
 
 /// Passes if a test is true; else `NotEnabled` (40).
-#[tactic(auto, using(ioa_terms::proofs::Stepwise::stepwise_is))]
+#[tactic(auto, using(crate::proofs::Guards::test_passes, crate::proofs::Guards::test_fails))]
 fn pass_test(alloc: Global, test: &Checked, view: &View, values: &[Value]) -> Result<(), StepFault>
+    requires named { IsNamed view.now values.now }
+    requires resolved { IsResolved (term_of test.now) (names_in_view view.now) }
+    ensures { Answers StepFault.Memory (λ _. tt) result
+        (spec.value_answer (answer (term_of test.now) (environment_of view.now values.now))) }
+{
+    match evaluate_test(alloc, test, view, values) {
+        Ok(true) => Ok(()),
+        Ok(false) => Err(StepFault::NotEnabled),
+        Err(_) => pass_value(alloc, test, view, values),
+    }
+}
+
+/// The same, by the value of the test.
+#[tactic(auto, using(ioa_terms::proofs::Stepwise::stepwise_is))]
+fn pass_value(alloc: Global, test: &Checked, view: &View, values: &[Value]) -> Result<(), StepFault>
     requires named { IsNamed view.now values.now }
     requires resolved { IsResolved (term_of test.now) (names_in_view view.now) }
     ensures { Answers StepFault.Memory (λ _. tt) result

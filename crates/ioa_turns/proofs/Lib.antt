@@ -1,5 +1,6 @@
 -- lemmas of turns
 mod Fired
 mod LastFired
+mod Numbered
 mod Ready
 pub mod SeenInboxes

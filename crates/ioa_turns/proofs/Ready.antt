@@ -25,31 +25,34 @@ use Rattle.ioa_schedules.specs.declared.turn.Turn.TheVariants as turn
 use Rattle.ioa_terms.specs.declared.environment.View.{View}
 use Rattle.ioa_source.specs.Sides.{CheckedDeclared, CheckedSchedule, CheckedVariable}
 use Rattle.ioa_system.specs.InView.{block_bindings, block_own_names, block_statement, declared_names, inbox_words, names_at, scope_at, parameter_names, variable_names}
+use Rattle.ioa_system.specs.Numbered.{AreNumbered}
 use Rattle.ioa_system.specs.Parts.{AutomatonParts, Parts, message_shape}
 use Rattle.ioa_system.specs.ResolvedPrograms.{IsResolvedSchedule}
 use Rattle.ioa_turns.specs.Ready.{IsReady}
 use Rattle.ioa_turns.specs.NodeTurns.{PlainProgress, block_turn, end_of, own_values, reached}
 
 -- a block before a run is ready
-pub start_ready : (p : Parts) → length p.block ≡ length p.automaton.schedule.variables → IsResolvedSchedule (declared_names p.automaton) (block_own_names p.automaton) p.automaton.schedule → IsReady p (statements_of p.automaton.schedule.statements) p.block
-start_ready p valued resolved = record {
+pub start_ready : (p : Parts) → length p.block ≡ length p.automaton.schedule.variables → IsResolvedSchedule (declared_names p.automaton) (block_own_names p.automaton) p.automaton.schedule → AreNumbered p.automaton.rules (statements_of p.automaton.schedule.statements) → IsReady p (statements_of p.automaton.schedule.statements) p.block
+start_ready p valued resolved numbered = record {
   valued = valued;
   resolved = all_resolved p.automaton.schedule.statements (map Word (variable_names p.automaton.schedule.variables)) (names_at block_statement (declared_names p.automaton) (block_own_names p.automaton)) resolved.statements;
+  numbered = numbered;
 }
 
 -- the same of what a program lends
-pub start_from : (p : Parts) (a : AutomatonParts) (s : CheckedSchedule) (todo : PlainStatements ℕ Callee Shape) (own : List Data) → a ≡ p.automaton → s ≡ a.schedule → length p.block ≡ length p.automaton.schedule.variables → IsResolvedSchedule (declared_names a) (block_own_names a) s → todo ≡ statements_of s.statements → own ≡ p.block → IsReady p todo own
-start_from p a s todo own automaton schedule valued resolved all first =
+pub start_from : (p : Parts) (a : AutomatonParts) (s : CheckedSchedule) (todo : PlainStatements ℕ Callee Shape) (own : List Data) → a ≡ p.automaton → s ≡ a.schedule → length p.block ≡ length p.automaton.schedule.variables → IsResolvedSchedule (declared_names a) (block_own_names a) s → AreNumbered a.rules (statements_of s.statements) → todo ≡ statements_of s.statements → own ≡ p.block → IsReady p todo own
+start_from p a s todo own automaton schedule valued resolved numbered all first =
     let there : s ≡ p.automaton.schedule = schedule ∙ ap (λ (x : AutomatonParts). x.schedule) automaton in
     let both : (todo, own) ≡ (statements_of p.automaton.schedule.statements, p.block) =
     λ i. ((all ∙ ap (λ (x : CheckedSchedule). statements_of x.statements) there) i, first i) in
     subst (λ (x : PlainStatements ℕ Callee Shape × List Data). IsReady p x.0 x.1) (sym both)
-    (start_ready p valued (subst (λ (x : AutomatonParts × CheckedSchedule). IsResolvedSchedule (declared_names x.0) (block_own_names x.0) x.1) (λ i. (automaton i, there i)) resolved))
+    (start_ready p valued (subst (λ (x : AutomatonParts × CheckedSchedule). IsResolvedSchedule (declared_names x.0) (block_own_names x.0) x.1) (λ i. (automaton i, there i)) resolved)
+    (subst (λ (x : AutomatonParts × CheckedSchedule). AreNumbered x.0.rules (statements_of x.1.statements)) (λ i. (automaton i, there i)) numbered))
 
 -- and so is one behind its first statement
 pub following_ready : (p : Parts) (todo : PlainStatements ℕ Callee Shape) (own : List Data) → IsReady p todo own → IsReady p (following_statements todo) own
-following_ready p no_statements own h = record { valued = h.valued; resolved = tt }
-following_ready p (statement s rest) own h = record { valued = h.valued; resolved = h.resolved.1 }
+following_ready p no_statements own h = record { valued = h.valued; resolved = tt; numbered = tt }
+following_ready p (statement s rest) own h = record { valued = h.valued; resolved = h.resolved.1; numbered = h.numbered.1 }
 
 -- what a block of a program sees, if it sees these inboxes, and these are the values of the state variables
 pub record Sees (p : Parts) (seen : Option PlainInboxes) (variables : List Data) (v : View) : Type 0 where
@@ -126,10 +129,11 @@ module _ (p : Parts) (seen : Option PlainInboxes) (variables : List Data) (v : V
   sees_resolved todo values h = rw (own_seen (length values) h.valued, all_seen) h.resolved
 
   -- and the block is ready if that is so
-  pub ready_after : (todo : PlainStatements ℕ Callee Shape) (values : List Data) → AreResolvedIn v (length values) todo → length values ≡ length p.automaton.schedule.variables → IsReady p todo values
-  ready_after todo values h k = record {
+  pub ready_after : (todo : PlainStatements ℕ Callee Shape) (values : List Data) → AreResolvedIn v (length values) todo → length values ≡ length p.automaton.schedule.variables → AreNumbered p.automaton.rules todo → IsReady p todo values
+  ready_after todo values h k n = record {
     valued = k;
     resolved = rw (own_seen (length values) k, all_seen) at h;
+    numbered = n;
   }
 
   -- its terms are evaluated over the bindings of a block

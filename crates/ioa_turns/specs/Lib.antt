@@ -4,5 +4,6 @@ pub mod Fired
 pub mod Inboxes
 pub mod LastFired
 pub mod NodeTurns
+pub mod NumberedProps
 pub mod Ready
 pub mod ResolvedProps

@@ -1,35 +1,39 @@
 //! The action that a node fires.
 
-ghost use Rattle.std.specs.Prelude.{◌≡◌, ◌∷◌, [], IfOk, IfSome, IsTrue};
+ghost use Rattle.std.specs.Prelude.{◌≡◌, ◌∷◌, [], IfOk, IfSome};
 ghost use Rattle.std.specs.Arc.{arc_value};
 ghost use Rattle.std.specs.Option.{option_copied};
 ghost use Rattle.ioa_values.specs.Data.{number};
 ghost use Rattle.ioa_values.specs.DataOrder.{same};
-ghost use Rattle.ioa_actions.specs.ActionParts.{action_arguments, action_name};
+ghost use Rattle.ioa_actions.specs.ActionParts.{action_arguments};
 ghost use Rattle.ioa_actions.specs.ValuesOrder.{all_same};
+ghost use Rattle.ioa_schedules.specs.Turns.{IsAtFiring};
+ghost use Rattle.ioa_system.specs.Numbered.{IsNumberOf};
 ghost use Rattle.ioa_terms.specs.View.{firing_of};
 ghost use Rattle.ioa_turns.specs.Fired as spec;
 ghost use Rattle.ioa_turns.specs.NodeTurns.{progress_of};
 
-use crate::progress::Progress;
+use crate::progress::{LastFired, Progress};
 use ioa_actions::Action;
 use ioa_schedules::Fired;
 use ioa_system::{Program, Rule};
-use ioa_terms::{Kind, Value, Word};
+use ioa_terms::{Callee, Firing, Kind, Shape, Value};
 use std::alloc::{AllocError, Global};
 use std::sync::Arc;
 
-/// The action that a name and arguments give at a node with this program: a receive or a stimulus if they are of an
-/// input, and else a send or a local action.
-fn action_named(
+/// The action that a firing with these arguments gives at a node with this program: a receive or a stimulus if its rule
+/// is an input, and else a send or a local action.
+fn action_of(
     alloc: Global,
     program: &Program,
-    name: &Word,
+    firing: &Firing<usize, Callee, Shape>,
     arguments: Vec<Value>,
 ) -> Result<Action, AllocError>
-    ensures { IfOk result (λ a. a ≡ spec.action_fired program.now name.now arguments.items) }
+    requires { IsNumberOf program.now.automaton.rules firing.now.action firing.now.rule }
+    ensures { IfOk result (λ a. a ≡ spec.action_fired program.now firing.now.action arguments.items) }
 {
-    if is_input(program.automaton().rule_named(name.as_str())) {
+    let name = &firing.action;
+    if is_input(program.automaton().rule_numbered(firing.rule)) {
         Action::input_at(alloc, program.node(), name, arguments)
     } else {
         Action::locally_controlled_at(alloc, program.node(), name, arguments)
@@ -50,26 +54,32 @@ impl Progress<'_> {
     /// The action of a firing at which the node stands. If it is the one that the node fired last, that gets one more
     /// owner, and nothing is built.
     pub fn action_fired(&mut self, alloc: Global, fired: Fired) -> Result<Arc<Action>, AllocError>
+        requires { IsAtFiring (firing_of fired.firing.now) (progress_of self.old).todo }
         ensures action { IfOk result (λ a. arc_value a ≡ spec.action_fired (progress_of self.old).program
             (firing_of fired.entry.firing.now).action fired.entry.arguments.items) }
         ensures unchanged { progress_of self.new ≡ progress_of self.old }
     {
         let Fired { firing, arguments } = fired;
-        match self.last_fired(&firing.action, &arguments) {
+        match self.last_fired(firing, &arguments) {
             Some(action) => Arc::try_clone(action),
-            None => self.fire_anew(alloc, &firing.action, arguments),
+            None => self.fire_anew(alloc, firing, arguments),
         }
     }
 
-    /// The action that the node fired last, if it has this name and these arguments.
-    fn last_fired(&self, name: &Word, arguments: &[Value]) -> Option<&Arc<Action>>
+    /// The action that the node fired last, if it is of the firing's rule and has these arguments.
+    fn last_fired(
+        &self,
+        firing: &Firing<usize, Callee, Shape>,
+        arguments: &[Value],
+    ) -> Option<&Arc<Action>>
+        requires { IsNumberOf self.now.program.now.automaton.rules firing.now.action firing.now.rule }
         ensures { IfSome result
-            (λ a. arc_value a.now ≡ spec.action_fired (progress_of self.now).program name.now arguments.now) }
+            (λ a. arc_value a.now ≡ spec.action_fired self.now.program.now firing.now.action arguments.now) }
     {
         match &self.last {
-            Some(action) => {
-                if has_parts(action, name, arguments) {
-                    Some(action)
+            Some(last) => {
+                if last.rule == firing.rule && has_arguments(&last.action, arguments) {
+                    Some(&last.action)
                 } else {
                     None
                 }
@@ -78,30 +88,26 @@ impl Progress<'_> {
         }
     }
 
-    /// The action that a name and arguments give at the node, which keeps it too.
+    /// The action that a firing with these arguments gives at the node, which keeps it too.
     fn fire_anew(
         &mut self,
         alloc: Global,
-        name: &Word,
+        firing: &Firing<usize, Callee, Shape>,
         arguments: Vec<Value>,
     ) -> Result<Arc<Action>, AllocError>
+        requires { IsNumberOf self.old.program.now.automaton.rules firing.now.action firing.now.rule }
         ensures action { IfOk result
-            (λ a. arc_value a ≡ spec.action_fired (progress_of self.old).program name.now arguments.items) }
+            (λ a. arc_value a ≡ spec.action_fired self.old.program.now firing.now.action arguments.items) }
         ensures unchanged { progress_of self.new ≡ progress_of self.old }
     {
-        let action = Arc::new(alloc, action_named(alloc, self.program, name, arguments)?)?;
+        let action = Arc::new(alloc, action_of(alloc, self.program, firing, arguments)?)?;
         let kept = Arc::try_clone(&action)?;
-        self.last = Some(kept);
+        self.last = Some(LastFired {
+            rule: firing.rule,
+            action: kept,
+        });
         Ok(action)
     }
-}
-
-/// Whether an action has this name and these arguments.
-fn has_parts(action: &Action, name: &Word, arguments: &[Value]) -> bool
-    ensures name { IsTrue result → action_name action.now ≡ name.now }
-    ensures arguments { IsTrue result → action_arguments action.now ≡ arguments.now }
-{
-    action.name() == name.as_str() && has_arguments(action, arguments)
 }
 
 /// Whether an action has these arguments.
@@ -123,15 +129,30 @@ fn are_message(message: &Value, from: i64, to: i64, arguments: &[Value]) -> bool
 {
     match arguments {
         [first, second, third] => {
-            message == first && is_number(second, from) && is_number(third, to)
+            is_same(message, first) && is_number(second, from) && is_number(third, to)
         }
         _ => false,
     }
 }
 
+/// Whether two values are the same. A number is compared with nothing else.
+#[tactic(auto, using(crate::proofs::LastFired::number_first))]
+fn is_same(value: &Value, other: &Value) -> bool
+    ensures { result ≡ same value.now other.now }
+{
+    match value.as_number() {
+        Some(number) => is_number(other, number),
+        None => value == other,
+    }
+}
+
 /// Whether a value is this number.
+#[tactic(auto, using(crate::proofs::LastFired::number_same, crate::proofs::LastFired::no_number))]
 fn is_number(value: &Value, wanted: i64) -> bool
     ensures { result ≡ same (number wanted) value.now }
 {
-    Value::number(wanted) == *value
+    match value.as_number() {
+        Some(number) => number == wanted,
+        None => false,
+    }
 }

@@ -132,8 +132,8 @@ fn find_conf<O: Origin>(snapshot: &Snapshot<O>, component: Component) -> Option<
 }
 
 /// The turn of a node on what a look at it has read (profile). `Unknown (53)` if it has read nothing of the node,
-/// `Differs (51)` if what it has read can't be the node's, else the fault of its block, if that meets one. After a fault
-/// the node is as it was.
+/// `Differs (51)` if what it has read can't be the node's, else the fault of its block, if that meets one. After a
+/// fault the node is as it was.
 pub fn turn_of<'a, O: Origin>(
     alloc: Global,
     snapshot: &Snapshot<O>,
@@ -182,8 +182,8 @@ fn shows_program(program: &Program, conf: &NodeConf) -> bool
     conf.variables().as_slice().len() == program.automaton().variables().len()
 }
 
-/// The turn of a node on a configuration that may be its own, among those that were read. Its inboxes are looked up only
-/// if its automaton takes messages.
+/// The turn of a node on a configuration that may be its own, among those that were read. Its inboxes are looked up
+/// only if its automaton takes messages.
 fn turn_among<'a, O: Origin>(
     alloc: Global,
     snapshot: &Snapshot<O>,

@@ -45,8 +45,8 @@ pub fn right_tells(
     }
 }
 
-/// The parts of a form of two whose right one told the shapes of the left one and of the value, if the left one has that
-/// shape.
+/// The parts of a form of two whose right one told the shapes of the left one and of the value, if the left one has
+/// that shape.
 fn right_fits(
     alloc: Global,
     left: Box<Typed>,

@@ -1,7 +1,7 @@
 use Rattle.std.proofs.Common.{map}
 use Rattle.ioa_terms.specs.View.{term_of}
 use Rattle.ioa_sorts.proofs.ArgumentLists.{arguments_listed}
-use Rattle.ioa_sorts.proofs.actions.sort_arguments.Goals as goal
+use Rattle.ioa_sorts.proofs.firings.sort_arguments.Goals as goal
 
 pub returns : goal.returns
 returns c =

@@ -1,0 +1,87 @@
+//! What a block comes to as it runs.
+
+ghost use Rattle.std.specs.Prelude.{◌≡◌, IfOk, OnOk};
+ghost use Rattle.ioa_values.specs.Data.{number, truth};
+ghost use Rattle.ioa_schedules.specs.States.{todo_in, values_in};
+ghost use Rattle.ioa_schedules.specs.Turns as spec;
+
+use crate::position::Position;
+use crate::step::is_fire;
+use ioa_terms::Value;
+use ioa_values::{ValueForm, copies};
+use std::alloc::{AllocError, Global};
+
+/// What a block has still to do, and the values of its own variables.
+#[derive(Drop)]
+pub struct State<'a> {
+    pub(crate) position: Position<'a>,
+    pub(crate) variables: Vec<Value>,
+}
+
+impl<'a> State<'a> {
+    /// Makes the state what another one is, whose values share their collections with this one's then. Takes no memory
+    /// if the state has the room. If no memory is left, the state is some state.
+    pub(crate) fn copy_from(&mut self, alloc: Global, other: &State<'a>) -> Result<(), AllocError>
+        ensures todo { OnOk result (todo_in self.new ≡ todo_in other.now) }
+        ensures values { OnOk result (values_in self.new ≡ values_in other.now) }
+    {
+        self.position.copy_from(&other.position)?;
+        copy_values(alloc, &other.variables, &mut self.variables)
+    }
+
+    /// Whether a turn that begins here ends here.
+    pub(crate) fn ends_turn(&self) -> bool
+        ensures { result ≡ spec.ends_turn (todo_in self.now) }
+    {
+        match self.position.first() {
+            None => true,
+            Some(first) => is_fire(first),
+        }
+    }
+}
+
+/// Makes values what others are. Takes no memory if there are as many.
+fn copy_values(alloc: Global, from: &[Value], to: &mut Vec<Value>) -> Result<(), AllocError>
+    ensures { OnOk result (to.new.items ≡ from.now) }
+{
+    if to.len() == from.len() {
+        for position in 0..from.len() {
+            copy_value(&from[position], &mut to[position])?;
+        }
+        return Ok(());
+    }
+    *to = copies(alloc, from)?;
+    Ok(())
+}
+
+/// Makes a value what another one is.
+fn copy_value(from: &Value, to: &mut Value) -> Result<(), AllocError>
+    ensures { OnOk result (to.new ≡ from.now) }
+{
+    match &from.form {
+        ValueForm::Number(n) => write_number(*n, to),
+        ValueForm::Truth(b) => write_truth(*b, to),
+        _ => *to = from.try_copy()?,
+    }
+    Ok(())
+}
+
+/// Makes a value this number.
+fn write_number(n: i64, to: &mut Value)
+    ensures { to.new ≡ number n }
+{
+    match &mut to.form {
+        ValueForm::Number(old) => *old = n,
+        _ => *to = Value::number(n),
+    }
+}
+
+/// Makes a value this truth value.
+fn write_truth(b: bool, to: &mut Value)
+    ensures { to.new ≡ truth b }
+{
+    match &mut to.form {
+        ValueForm::Truth(old) => *old = b,
+        _ => *to = Value::truth(b),
+    }
+}

@@ -1,0 +1,83 @@
+//! The rules of an automaton, each found by its name and by its number.
+
+ghost use Rattle.std.specs.Prelude.{◌≡◌, [], map, slice_get};
+ghost use Rattle.std.specs.List.{IsDistinct};
+ghost use Rattle.std.specs.Option.{option_copied};
+ghost use Rattle.ioa_terms.specs.Bindings.{same_word, slot_in};
+ghost use Rattle.ioa_system.specs.Indexes.{AreIndexed};
+ghost use Rattle.ioa_system.specs.Parts.{rule_names};
+
+use crate::automaton::Rule;
+use crate::scope::Scope;
+use ioa_terms::{Name, Word};
+use std::alloc::Global;
+use std::marker::Model;
+
+/// The entries of an automaton with their transitions (Lynch 8.1), in the order of the signature. The number of a rule
+/// is its place there, counted from 0. The type guarantees that the rules differ in name, so that a name tells one rule
+/// at most. A contract sees the list.
+#[derive(Drop)]
+pub struct Rules {
+    rules: Vec<Rule>,
+    names: Scope,
+}
+
+impl Model for Rules {
+    ghost use Rattle.std.specs.Prelude.{List};
+    ghost use Rattle.std.specs.Coded.{coded_list};
+    ghost use Rattle.ioa_system.specs.Parts.{PlainRule, rule_code, rule_names};
+
+    ghost Value = { List PlainRule };
+
+    ghost coded = { coded_list rule_code };
+
+    ghost view = { λ r. r.rules.items };
+
+    ghost use Rattle.ioa_system.specs.Indexes.{AreIndexed};
+
+    ghost invariant = { λ r. AreIndexed r.names (rule_names r.rules.items) };
+}
+
+impl Rules {
+    /// No rules.
+    pub fn none(alloc: Global) -> Self
+        ensures { result ≡ [] }
+    {
+        Rules {
+            rules: Vec::new(alloc),
+            names: Scope::new(alloc),
+        }
+    }
+
+    /// These rules, whose names are these.
+    pub fn new(rules: Vec<Rule>, names: Scope) -> Self
+        requires { AreIndexed names (rule_names rules.items) }
+        ensures { result ≡ rules.items }
+    {
+        Rules { rules, names }
+    }
+
+    /// The rules, in the order of the signature.
+    pub fn as_slice(&self) -> &[Rule]
+        ensures value { result.now ≡ self.now }
+        ensures differ { IsDistinct same_word (rule_names self.now) }
+    {
+        self.rules.as_slice()
+    }
+
+    /// The rule of a number, if there are so many. Costs a constant time.
+    pub fn get(&self, number: usize) -> Option<&Rule>
+        ensures rule { option_copied result ≡ slice_get self.now number }
+        ensures differ { IsDistinct same_word (rule_names self.now) }
+    {
+        self.rules.get(number)
+    }
+
+    /// The number of the rule of a name, if there is one. Costs what the look-up of a name costs.
+    pub fn number_of(&self, name: &Word) -> Option<usize>
+        ensures number { result ≡ slot_in (Name.Word name.now) (map Name.Word (rule_names self.now)) }
+        ensures differ { IsDistinct same_word (rule_names self.now) }
+    {
+        self.names.slot_of_word(name)
+    }
+}
