@@ -7,6 +7,8 @@
     bench/large.py nodes         64 nodes of one automaton with a long schedule, and 256 channels
     bench/large.py entries       5,000 entries with their transitions
     bench/large.py many          2,500 entries with their transitions, 5,000 state variables, and 5,000 fires
+    bench/large.py readings      an invariant that reads 60,000 state variables, of 64 nodes
+    bench/large.py invariants    5,000 invariants, which read variables and a queue
 
 An argument behind the kind divides the size, so that the growth can be seen: `bench/large.py variables 2`.
 """
@@ -81,9 +83,34 @@ def many(part):
     return lines
 
 
+def readings(part):
+    count = 937 // part
+    lines = ["automaton A", "  states", "    all: Set[Int] := {},"]
+    lines += [f"    x{k}: Int := {k}," for k in range(count - 1)]
+    lines += [f"    x{count - 1}: Int := 0", "system"]
+    lines += [f"  node {k}: A" for k in range(64)]
+    read = ", ".join(f"x{k}@{node}" for node in range(64) for k in range(count))
+    lines += [f"invariant Whole: all@0 ~= {{{read}}}"]
+    return lines
+
+
+def invariants(part):
+    lines = ["automaton A", "  signature output send(m: Int, const 0, const 1)", "  states n: Int := 0"]
+    lines += ["  transitions output send(m, 0, 1) pre m = n", "automaton B"]
+    lines += ["  signature input receive(m: Int, const 0, const 1)", "  states a_sum_of_messages: Int := 0"]
+    lines += ["  transitions input receive(m, 0, 1) eff a_sum_of_messages := a_sum_of_messages + m"]
+    lines += ["system node 0: A node 1: B channel 0 -> 1"]
+    lines += [
+        f"invariant An_invariant_with_a_name_{k}: n@0 + a_sum_of_messages@1 >= {k} - {k}"
+        f" /\\ (len(queue(0, 1)) < {k + 1} \\/ head(queue(0, 1)) = n@0) /\\ a_sum_of_messages@1 * 2 >= n@0 - {k}"
+        for k in range(5_000 // part)
+    ]
+    return lines
+
+
 def main():
     kind, part = sys.argv[1], int(sys.argv[2]) if len(sys.argv) > 2 else 1
-    kinds = [variables, tuples, display, nodes, entries, many]
+    kinds = [variables, tuples, display, nodes, entries, many, readings, invariants]
     print("\n".join({made.__name__: made for made in kinds}[kind](part)))
 
 

@@ -1,52 +1,60 @@
 -- The names in view in a schedule block: in which order they are, and that they differ.
-use Rattle.std.proofs.Common.{◌≡◌, ◌+◌, ℕ, false, List, [], ◌∷◌, ◌++◌, Result, Ok, refl, sym, ap, subst, ◌∙◌, length, take}
+use Rattle.std.proofs.Common.{◌≡◌, ◌+◌, Bool, true, false, List, [], ◌∷◌, ◌++◌, Result, Ok, refl, sym, ap, subst, ◌∙◌, length, take}
 use Rattle.std.specs.List.{AllByRecursion, IsDistinct}
 use Rattle.std.proofs.lemmas.List.{append_assoc}
 use Rattle.ioa_values.proofs.AllOf.{all_appended, all_parts}
-use Rattle.ioa_terms.specs.declared.name.Name.TheVariants.{Word}
-use Rattle.ioa_terms.specs.Bindings.{same_word}
+use Rattle.ioa_terms.specs.declared.name.Name.{Name}
+use Rattle.ioa_terms.specs.Bindings.{same_name}
+use Rattle.ioa_terms.specs.SameNames.{same_name_is}
 use Rattle.ioa_terms.specs.Sorted.{NameShapes}
 use Rattle.ioa_source.specs.Sides.{CheckedDeclared, CheckedVariable}
 use Rattle.ioa_system.specs.Parts.{PlainRule}
 use Rattle.ioa_sort_rules.specs.declared.refusal.Refusal.{Refusal}
 use Rattle.ioa_sorts.specs.StatementSites.{block_site}
-use Rattle.ioa_sorts.proofs.Lookups.{same_turned}
-use Rattle.ioa_names.specs.NameTables.{AreDistinct, words}
+use Rattle.ioa_names.specs.NameTables.{AreDistinct, declared_names}
 use Rattle.ioa_names.proofs.Names.{all_found, first_differ, new_found}
+use Rattle.ioa_names.proofs.Words.{names_joined}
 use Rattle.ioa_automata.specs.NamesInView.{parameter_shapes, variable_shapes, inbox_shapes, block_own_shapes, block_names_or}
 use Rattle.ioa_automata.specs.Rules.{PlainSurroundings}
 use Rattle.ioa_automata.specs.Schedules.{site_in}
 use Rattle.ioa_automata.specs.SortedAutomata.{block_names, block_of}
 
-pub words_behind : (xs ys : NameShapes) → words (xs ++ ys) ≡ words xs ++ words ys
-words_behind [] ys = refl
-words_behind ((Word w, s) ∷ xs) ys = ap (λ ws. w ∷ ws) (words_behind xs ys)
+-- two names are the same whichever comes first
+turned : (x y : Name) → same_name x y ≡ false → same_name y x ≡ false
+turned x y h = by_test (same_name y x) refl
+  where
+    by_test : (b : Bool) → same_name y x ≡ b → same_name y x ≡ false
+    by_test true e =
+        let same : y ≡ x = (same_name_is y x).0 e in
+        let other : same_name x y ≡ true = (same_name_is x y).1 (sym same) in
+        absurd (cc)
+    by_test false e = e
 
--- words that differ still do without one of them, which differs from the others
-apart_removed : (xs : List (List ℕ)) (y : List ℕ) (rest : List (List ℕ)) → IsDistinct same_word (xs ++ y ∷ rest) → AllByRecursion (λ x. same_word y x ≡ false) (xs ++ rest) × IsDistinct same_word (xs ++ rest)
+-- names that differ still do without one of them, which differs from the others
+apart_removed : (xs : List Name) (y : Name) (rest : List Name) → IsDistinct same_name (xs ++ y ∷ rest) → AllByRecursion (λ x. same_name y x ≡ false) (xs ++ rest) × IsDistinct same_name (xs ++ rest)
 unfolding IsDistinct
 apart_removed [] y rest d = d
 apart_removed (x ∷ xs) y rest d =
     let others = apart_removed xs y rest d.1 in
-    let apart = all_parts (λ z. same_word x z ≡ false) xs (y ∷ rest) d.0 in
-    ((same_turned y x ∙ apart.1.0, others.0), (all_appended (λ z. same_word x z ≡ false) xs rest apart.0 apart.1.1, others.1))
+    let apart = all_parts (λ z. same_name x z ≡ false) xs (y ∷ rest) d.0 in
+    ((turned x y apart.1.0, others.0), (all_appended (λ z. same_name x z ≡ false) xs rest apart.0 apart.1.1, others.1))
 
 -- and in another order
-words_swapped : (xs ys zs : List (List ℕ)) → IsDistinct same_word (xs ++ (ys ++ zs)) → IsDistinct same_word (ys ++ (xs ++ zs))
+order_swapped : (xs ys zs : List Name) → IsDistinct same_name (xs ++ (ys ++ zs)) → IsDistinct same_name (ys ++ (xs ++ zs))
 unfolding IsDistinct
-words_swapped xs [] zs d = d
-words_swapped xs (y ∷ ys) zs d =
+order_swapped xs [] zs d = d
+order_swapped xs (y ∷ ys) zs d =
     let others = apart_removed xs y (ys ++ zs) d in
-    let first = all_parts (λ x. same_word y x ≡ false) xs (ys ++ zs) others.0 in
-    let rest = all_parts (λ x. same_word y x ≡ false) ys zs first.1 in
-    (all_appended (λ x. same_word y x ≡ false) ys (xs ++ zs) rest.0 (all_appended (λ x. same_word y x ≡ false) xs zs first.0 rest.1), words_swapped xs ys zs others.1)
+    let first = all_parts (λ x. same_name y x ≡ false) xs (ys ++ zs) others.0 in
+    let rest = all_parts (λ x. same_name y x ≡ false) ys zs first.1 in
+    (all_appended (λ x. same_name y x ≡ false) ys (xs ++ zs) rest.0 (all_appended (λ x. same_name y x ≡ false) xs zs first.0 rest.1), order_swapped xs ys zs others.1)
 
-words_of_three : (xs ys zs : NameShapes) → words (xs ++ (ys ++ zs)) ≡ words xs ++ (words ys ++ words zs)
-words_of_three xs ys zs = words_behind xs (ys ++ zs) ∙ ap (λ ws. words xs ++ ws) (words_behind ys zs)
+names_of_three : (xs ys zs : NameShapes) → declared_names (xs ++ (ys ++ zs)) ≡ declared_names xs ++ (declared_names ys ++ declared_names zs)
+names_of_three xs ys zs = names_joined xs (ys ++ zs) ∙ ap (λ ns. declared_names xs ++ ns) (names_joined ys zs)
 
 pub names_swapped : (xs ys zs : NameShapes) → AreDistinct (xs ++ (ys ++ zs)) → AreDistinct (ys ++ (xs ++ zs))
 names_swapped xs ys zs d =
-    subst (IsDistinct same_word) (sym (words_of_three ys xs zs)) (words_swapped (words xs) (words ys) (words zs) (subst (IsDistinct same_word) (words_of_three xs ys zs) d))
+    subst (IsDistinct same_name) (sym (names_of_three ys xs zs)) (order_swapped (declared_names xs) (declared_names ys) (declared_names zs) (subst (IsDistinct same_name) (names_of_three xs ys zs) d))
 
 -- the site of a block, with its names in the order of the slots
 pub site_same : (s : PlainSurroundings) (ps : List CheckedDeclared) (vs own : List CheckedVariable) (n : NameShapes) (rs : List PlainRule) → s.outer ≡ variable_shapes vs ++ parameter_shapes ps → s.variables ≡ length vs → n ≡ block_own_shapes own rs →

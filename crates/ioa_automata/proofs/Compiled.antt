@@ -1,7 +1,7 @@
 -- An automaton with slots and shapes is ready to step: each name is resolved to the slot of its value.
 use Rattle.std.proofs.Common.{◌≡◌, ◌<◌, ℕ, zero, suc, List, [], ◌∷◌, ◌++◌, Option, Some, None, refl, sym, ap, subst, ◌∙◌, map, length, take, arith}
 use Rattle.std.specs.List.{All, AllByRecursion, AllZip, slice_index_or}
-use Rattle.std.proofs.lemmas.List.{append_assoc}
+use Rattle.std.proofs.lemmas.List.{append_assoc, map-append}
 use Rattle.ioa_operators.specs.Shapes.{PlainShape}
 use Rattle.ioa_terms.specs.declared.name.Name.{Name}
 use Rattle.ioa_terms.specs.declared.name.Name.TheVariants.{Word}
@@ -19,40 +19,47 @@ use Rattle.ioa_system.specs.Parts.{AutomatonParts, PlainRule, automaton_parts, m
 use Rattle.ioa_system.specs.ResolvedPrograms.{IsResolvedParameter, AreResolvedParameters, IsResolvedGuard, IsResolvedRule, IsResolvedSchedule, AreResolvedVariables, IsResolvedAutomaton}
 use Rattle.ioa_sorts.specs.SortedStatements.{IsSorted, AreArmsSorted, AreSorted, IsStatementOf}
 use Rattle.ioa_sorts.specs.StatementSites.{PlainStatementSite, effect_site}
-use Rattle.ioa_names.specs.NameTables.{words}
+use Rattle.ioa_names.specs.NameTables.{declared_names, words}
+use Rattle.ioa_names.specs.Views.{AreWords}
+use Rattle.ioa_names.proofs.Words.{names_joined, words_listed}
 use Rattle.ioa_types.specs.TextTypes.{PlainTextTypes}
 use Rattle.ioa_automata.specs.NamesInView.{parameter_shapes, variable_shapes, own_shapes, inbox_shapes_of, inbox_shapes, block_own_shapes}
-use Rattle.ioa_automata.proofs.BlockNames.{words_behind}
 use Rattle.ioa_automata.specs.SortedAutomata.{IsVariableOf, IsInitialOf, IsConditionOf, AreParametersOf, IsRuleOf, IsScheduleOf, block_names, block_of, IsAutomatonOf, names_at}
 
--- names as words
-keys_are : (names : NameShapes) → map (λ n. n.0) names ≡ map Word (words names)
-keys_are [] = refl
-keys_are ((Word w, s) ∷ names) = ap (λ ns. Word w ∷ ns) (keys_are names)
+-- the names that each part of an automaton declares are words
+named_parameters : (ps : List CheckedDeclared) → declared_names (parameter_shapes ps) ≡ map Word (parameter_names ps)
+named_parameters [] = refl
+named_parameters (p ∷ ps) = ap (λ ns. Word p.name ∷ ns) (named_parameters ps)
+
+named_variables : (vs : List CheckedVariable) → declared_names (variable_shapes vs) ≡ map Word (variable_names vs)
+named_variables [] = refl
+named_variables (v ∷ vs) = ap (λ ns. Word v.declared.name ∷ ns) (named_variables vs)
+
+named_own : (ps : List CheckedParameter) → declared_names (own_shapes ps) ≡ map Word (own_names ps)
+named_own [] = refl
+named_own (const t ∷ ps) = named_own ps
+named_own (named d ∷ ps) = ap (λ ns. Word d.name ∷ ns) (named_own ps)
+
+named_inboxes : (o : Option PlainShape) → declared_names (inbox_shapes_of o) ≡ map Word (inbox_words o)
+named_inboxes None = refl
+named_inboxes (Some s) = refl
 
 pub parameter_words : (ps : List CheckedDeclared) → words (parameter_shapes ps) ≡ parameter_names ps
-parameter_words [] = refl
-parameter_words (p ∷ ps) = ap (λ ws. p.name ∷ ws) (parameter_words ps)
+parameter_words ps = words_listed (parameter_shapes ps) (parameter_names ps) (named_parameters ps)
 
 pub variable_words : (vs : List CheckedVariable) → words (variable_shapes vs) ≡ variable_names vs
-variable_words [] = refl
-variable_words (v ∷ vs) = ap (λ ws. v.declared.name ∷ ws) (variable_words vs)
+variable_words vs = words_listed (variable_shapes vs) (variable_names vs) (named_variables vs)
 
-own_words : (ps : List CheckedParameter) → words (own_shapes ps) ≡ own_names ps
-own_words [] = refl
-own_words (const t ∷ ps) = own_words ps
-own_words (named d ∷ ps) = ap (λ ws. d.name ∷ ws) (own_words ps)
+-- and so are all of them in view
+named_both : (xs ys : NameShapes) (vs ws : List (List ℕ)) → declared_names xs ≡ map Word vs → declared_names ys ≡ map Word ws → declared_names (xs ++ ys) ≡ map Word (vs ++ ws)
+named_both xs ys vs ws h g = names_joined xs ys ∙ (λ i. h i ++ g i) ∙ sym (map-append Word vs ws)
 
-site_words : (site : Site) (ps vs own : NameShapes) → words (in_view site ps vs own) ≡ in_view site (words ps) (words vs) (words own)
-site_words entry_constant ps vs own = refl
-site_words initial_value ps vs own = refl
-site_words entry_condition ps vs own = words_behind ps own
-site_words guard_or_effect ps vs own = words_behind vs (ps ++ own) ∙ ap (λ ws. words vs ++ ws) (words_behind ps own)
-site_words block_statement ps vs own = words_behind own (vs ++ ps) ∙ ap (λ ws. words own ++ ws) (words_behind vs ps)
-
-inboxes_named : (o : Option PlainShape) → words (inbox_shapes_of o) ≡ inbox_words o
-inboxes_named None = refl
-inboxes_named (Some s) = refl
+named_site : (site : Site) (ps vs own : NameShapes) (p v o : List (List ℕ)) → declared_names ps ≡ map Word p → declared_names vs ≡ map Word v → declared_names own ≡ map Word o → declared_names (in_view site ps vs own) ≡ map Word (in_view site p v o)
+named_site entry_constant ps vs own p v o f g h = f
+named_site initial_value ps vs own p v o f g h = f
+named_site entry_condition ps vs own p v o f g h = named_both ps own p o f h
+named_site guard_or_effect ps vs own p v o f g h = named_both vs (ps ++ own) v (p ++ o) g (named_both ps own p o f h)
+named_site block_statement ps vs own p v o f g h = named_both own (vs ++ ps) o (v ++ p) h (named_both vs ps v p g f)
 
 -- what holds of all holds at each position
 all_each : {A : Type 0} (P : A → Type 0) (xs : List A) → AllByRecursion P xs → All P xs
@@ -71,22 +78,47 @@ module _ (t : PlainTextTypes) (ps : List CheckedDeclared) (vs : List CheckedVari
   abbrev declared : DeclaredNames
   declared = record { constants = words t.constants; parameters = parameter_names ps; variables = variable_names vs }
 
+  named_scope : (site : Site) (own : List CheckedParameter) → declared_names (in_view site (parameter_shapes ps) (variable_shapes vs) (own_shapes own)) ≡ map Word (scope_at site declared (own_names own))
+  named_scope site own =
+      named_site site (parameter_shapes ps) (variable_shapes vs) (own_shapes own) (parameter_names ps) (variable_names vs) (own_names own) (named_parameters ps) (named_variables vs) (named_own own)
+
   pub scope_words : (site : Site) (own : List CheckedParameter) → words (in_view site (parameter_shapes ps) (variable_shapes vs) (own_shapes own)) ≡ scope_at site declared (own_names own)
   scope_words site own =
-      site_words site (parameter_shapes ps) (variable_shapes vs) (own_shapes own) ∙ (λ i. in_view site (parameter_words ps i) (variable_words vs i) (own_words own i))
+      words_listed (in_view site (parameter_shapes ps) (variable_shapes vs) (own_shapes own)) (scope_at site declared (own_names own)) (named_scope site own)
 
-  read_names : (site : Site) (own : List CheckedParameter) → map (λ n. n.0) (names_at site t.constants ps vs own) ≡ view.names_at site declared (own_names own)
+  -- in the schedule block
+  named_block : (own : List CheckedVariable) (rs : List PlainRule) → declared_names (in_view block_statement (parameter_shapes ps) (variable_shapes vs) (block_own_shapes own rs)) ≡ map Word (scope_at block_statement declared (variable_names own ++ inbox_words (message_shape rs)))
+  named_block own rs =
+      named_site block_statement (parameter_shapes ps) (variable_shapes vs) (block_own_shapes own rs) (parameter_names ps) (variable_names vs) (variable_names own ++ inbox_words (message_shape rs)) (named_parameters ps) (named_variables vs)
+      (named_both (variable_shapes own) (inbox_shapes rs) (variable_names own) (inbox_words (message_shape rs)) (named_variables own) (named_inboxes (message_shape rs)))
+
+  pub block_words : (own : List CheckedVariable) (rs : List PlainRule) → words (in_view block_statement (parameter_shapes ps) (variable_shapes vs) (block_own_shapes own rs)) ≡ scope_at block_statement declared (variable_names own ++ inbox_words (message_shape rs))
+  block_words own rs =
+      words_listed (in_view block_statement (parameter_shapes ps) (variable_shapes vs) (block_own_shapes own rs)) (scope_at block_statement declared (variable_names own ++ inbox_words (message_shape rs))) (named_block own rs)
+
+module _ (t : PlainTextTypes) (alone : AreWords t.constants) (ps : List CheckedDeclared) (vs : List CheckedVariable) where
+  abbrev these : DeclaredNames
+  these = declared t ps vs
+
+  -- behind the names in view are the text's constants
+  read_names : (site : Site) (own : List CheckedParameter) → declared_names (names_at site t.constants ps vs own) ≡ view.names_at site these (own_names own)
   read_names site own =
-      keys_are (names_at site t.constants ps vs own) ∙ ap (map Word) (words_behind (in_view site (parameter_shapes ps) (variable_shapes vs) (own_shapes own)) t.constants ∙ ap (λ ws. ws ++ words t.constants) (scope_words site own))
+      names_joined (in_view site (parameter_shapes ps) (variable_shapes vs) (own_shapes own)) t.constants
+      ∙ (λ i. named_scope t ps vs site own i ++ alone i)
+
+  block_read_names : (own : List CheckedVariable) (rs : List PlainRule) → declared_names (block_names t.constants ps vs own rs) ≡ view.names_at block_statement these (variable_names own ++ inbox_words (message_shape rs))
+  block_read_names own rs =
+      names_joined (in_view block_statement (parameter_shapes ps) (variable_shapes vs) (block_own_shapes own rs)) t.constants
+      ∙ (λ i. named_block t ps vs own rs i ++ alone i)
 
   -- a condition or a guard, and parameters
-  guard_resolved : (site : Site) (own : List CheckedParameter) (o : Option SourceTerm) (c : Option CheckedTerm) → IsConditionOf (names_at site t.constants ps vs own) o c → IsResolvedGuard c (view.names_at site declared (own_names own))
+  guard_resolved : (site : Site) (own : List CheckedParameter) (o : Option SourceTerm) (c : Option CheckedTerm) → IsConditionOf (names_at site t.constants ps vs own) o c → IsResolvedGuard c (view.names_at site these (own_names own))
   guard_resolved site own None None h = tt
   guard_resolved site own None (Some c) h = absurd h
   guard_resolved site own (Some u) None h = absurd h
   guard_resolved site own (Some u) (Some c) h = subst (λ ns. IsResolvedGuard (Some c) ns) (read_names site own) h.resolved
 
-  parameters_resolved : (us : List SourceParameter) (cs : List CheckedParameter) (ss : List PlainShape) → AreParametersOf t.types (names_at entry_constant t.constants ps vs []) us cs ss → AreResolvedParameters (view.names_at entry_constant declared []) cs
+  parameters_resolved : (us : List SourceParameter) (cs : List CheckedParameter) (ss : List PlainShape) → AreParametersOf t.types (names_at entry_constant t.constants ps vs []) us cs ss → AreResolvedParameters (view.names_at entry_constant these []) cs
   parameters_resolved [] [] ss h = tt
   parameters_resolved [] (c ∷ cs) ss h = absurd h
   parameters_resolved (u ∷ us) [] ss h = absurd h
@@ -108,16 +140,16 @@ module _ (t : PlainTextTypes) (ps : List CheckedDeclared) (vs : List CheckedVari
   -- the first names are those of the variables
   assigned_names : (ws : List CheckedVariable) (names behind : NameShapes) → names ≡ variable_shapes ws ++ behind → map (λ n. n.0) (take (length ws) names) ≡ map Word (variable_names ws)
   assigned_names ws names behind whole =
-      ap (λ (ns : NameShapes). map (λ n. n.0) (take (length ws) ns)) whole ∙ ap (λ (ns : NameShapes). map (λ n. n.0) ns) (first_variables ws behind) ∙ keys_are (variable_shapes ws) ∙ ap (map Word) (variable_words ws)
+      ap (λ (ns : NameShapes). map (λ n. n.0) (take (length ws) ns)) whole ∙ ap (λ (ns : NameShapes). map (λ n. n.0) ns) (first_variables ws behind) ∙ named_variables ws
 
   -- an effect
-  effect_resolved : (own : List CheckedParameter) (us : List SourceStatement) (cs : List CheckedStatement) → AllZip (IsStatementOf (effect_site (take (length vs) (names_at guard_or_effect t.constants ps vs own)) (names_at guard_or_effect t.constants ps vs own))) us cs → AreResolved cs (map Word (variable_names vs)) (view.names_at guard_or_effect declared (own_names own))
+  effect_resolved : (own : List CheckedParameter) (us : List SourceStatement) (cs : List CheckedStatement) → AllZip (IsStatementOf (effect_site (take (length vs) (names_at guard_or_effect t.constants ps vs own)) (names_at guard_or_effect t.constants ps vs own))) us cs → AreResolved cs (map Word (variable_names vs)) (view.names_at guard_or_effect these (own_names own))
   effect_resolved own us cs h =
       let names = names_at guard_or_effect t.constants ps vs own in
       let whole = append_assoc (variable_shapes vs) (parameter_shapes ps ++ own_shapes own) t.constants in
-      statements_resolved (effect_site (take (length vs) names) names) (map Word (variable_names vs)) (view.names_at guard_or_effect declared (own_names own)) (assigned_names vs names ((parameter_shapes ps ++ own_shapes own) ++ t.constants) whole) (read_names guard_or_effect own) us cs h
+      statements_resolved (effect_site (take (length vs) names) names) (map Word (variable_names vs)) (view.names_at guard_or_effect these (own_names own)) (assigned_names vs names ((parameter_shapes ps ++ own_shapes own) ++ t.constants) whole) (read_names guard_or_effect own) us cs h
 
-  rule_resolved : (ts : List SourceTransition) (e : SourceEntry) (r : PlainRule) → IsRuleOf t ps vs ts e r → IsResolvedRule declared r
+  rule_resolved : (ts : List SourceTransition) (e : SourceEntry) (r : PlainRule) → IsRuleOf t ps vs ts e r → IsResolvedRule these r
   rule_resolved ts e r h =
       let own = r.entry.parameters in
       record {
@@ -128,45 +160,34 @@ module _ (t : PlainTextTypes) (ps : List CheckedDeclared) (vs : List CheckedVari
         effect = effect_resolved own h.written.effect r.transition.effect h.transition.effect;
       }
 
-  rules_resolved : (ts : List SourceTransition) (es : List SourceEntry) (rs : List PlainRule) → AllZip (IsRuleOf t ps vs ts) es rs → AllByRecursion (IsResolvedRule declared) rs
+  rules_resolved : (ts : List SourceTransition) (es : List SourceEntry) (rs : List PlainRule) → AllZip (IsRuleOf t ps vs ts) es rs → AllByRecursion (IsResolvedRule these) rs
   rules_resolved ts [] [] h = tt
   rules_resolved ts [] (r ∷ rs) h = absurd h
   rules_resolved ts (e ∷ es) [] h = absurd h
   rules_resolved ts (e ∷ es) (r ∷ rs) h = (rule_resolved ts e r h.0, rules_resolved ts es rs h.1)
 
   -- initial terms
-  initial_resolved : (s : PlainShape) (o : Option SourceTerm) (c : Option CheckedTerm) → IsInitialOf (names_at initial_value t.constants ps vs []) s o c → IsResolvedGuard c (view.names_at initial_value declared [])
+  initial_resolved : (s : PlainShape) (o : Option SourceTerm) (c : Option CheckedTerm) → IsInitialOf (names_at initial_value t.constants ps vs []) s o c → IsResolvedGuard c (view.names_at initial_value these [])
   initial_resolved s None None h = absurd h
   initial_resolved s None (Some c) h = absurd h
   initial_resolved s (Some u) None h = absurd h
   initial_resolved s (Some u) (Some c) h = subst (λ ns. IsResolvedGuard (Some c) ns) (read_names initial_value []) h.resolved
 
-  variables_resolved : (us : List SourceVariable) (cs : List CheckedVariable) → AllZip (IsVariableOf t.types (names_at initial_value t.constants ps vs [])) us cs → AreResolvedVariables (view.names_at initial_value declared []) cs
+  variables_resolved : (us : List SourceVariable) (cs : List CheckedVariable) → AllZip (IsVariableOf t.types (names_at initial_value t.constants ps vs [])) us cs → AreResolvedVariables (view.names_at initial_value these []) cs
   variables_resolved [] [] h = tt
   variables_resolved [] (c ∷ cs) h = absurd h
   variables_resolved (u ∷ us) [] h = absurd h
   variables_resolved (u ∷ us) (c ∷ cs) h = (initial_resolved c.declared.shape u.initial c.initial h.0.initial, variables_resolved us cs h.1)
 
   -- the schedule block
-  first_words : (own : List CheckedVariable) (rs : List PlainRule) → words (block_own_shapes own rs) ≡ variable_names own ++ inbox_words (message_shape rs)
-  first_words own rs = words_behind (variable_shapes own) (inbox_shapes rs) ∙ (λ i. variable_words own i ++ inboxes_named (message_shape rs) i)
-
-  pub block_words : (own : List CheckedVariable) (rs : List PlainRule) → words (in_view block_statement (parameter_shapes ps) (variable_shapes vs) (block_own_shapes own rs)) ≡ scope_at block_statement declared (variable_names own ++ inbox_words (message_shape rs))
-  block_words own rs =
-      site_words block_statement (parameter_shapes ps) (variable_shapes vs) (block_own_shapes own rs) ∙ (λ i. in_view block_statement (parameter_words ps i) (variable_words vs i) (first_words own rs i))
-
-  block_read_names : (own : List CheckedVariable) (rs : List PlainRule) → map (λ n. n.0) (block_names t.constants ps vs own rs) ≡ view.names_at block_statement declared (variable_names own ++ inbox_words (message_shape rs))
-  block_read_names own rs =
-      keys_are (block_names t.constants ps vs own rs) ∙ ap (map Word) (words_behind (in_view block_statement (parameter_shapes ps) (variable_shapes vs) (block_own_shapes own rs)) t.constants ∙ ap (λ ws. ws ++ words t.constants) (block_words own rs))
-
-  schedule_resolved : (rs : List PlainRule) (s : SourceSchedule) (c : CheckedSchedule) → IsScheduleOf t ps vs rs s c → IsResolvedSchedule declared (variable_names c.variables ++ inbox_words (message_shape rs)) c
+  schedule_resolved : (rs : List PlainRule) (s : SourceSchedule) (c : CheckedSchedule) → IsScheduleOf t ps vs rs s c → IsResolvedSchedule these (variable_names c.variables ++ inbox_words (message_shape rs)) c
   schedule_resolved rs s c h =
       let own = c.variables in
       let names = block_names t.constants ps vs own rs in
       let whole = append_assoc (block_own_shapes own rs) (variable_shapes vs ++ parameter_shapes ps) t.constants ∙ append_assoc (variable_shapes own) (inbox_shapes rs) ((variable_shapes vs ++ parameter_shapes ps) ++ t.constants) in
       record {
         initials = variables_resolved s.variables own h.variables;
-        statements = statements_resolved (block_of names vs own rs) (map Word (variable_names own)) (view.names_at block_statement declared (variable_names own ++ inbox_words (message_shape rs))) (assigned_names own names (inbox_shapes rs ++ ((variable_shapes vs ++ parameter_shapes ps) ++ t.constants)) whole) (block_read_names own rs) s.statements c.statements h.statements;
+        statements = statements_resolved (block_of names vs own rs) (map Word (variable_names own)) (view.names_at block_statement these (variable_names own ++ inbox_words (message_shape rs))) (assigned_names own names (inbox_shapes rs ++ ((variable_shapes vs ++ parameter_shapes ps) ++ t.constants)) whole) (block_read_names own rs) s.statements c.statements h.statements;
       }
 
 -- what is sorted bears the numbers of its rules
@@ -191,11 +212,11 @@ each_numbered site [] (c ∷ cs) h = absurd h
 each_numbered site (u ∷ us) [] h = absurd h
 each_numbered site (u ∷ us) (c ∷ cs) h = (statement_numbered site c h.0.sorted, each_numbered site us cs h.1)
 
-pub automaton_compiled : (t : PlainTextTypes) (a : SourceAutomaton) (c : AutomatonParts) → IsAutomatonOf t a c → IsResolvedAutomaton c
-automaton_compiled t a c h = subst IsResolvedAutomaton rebuilt (record {
-  rules = all_each (IsResolvedRule (declared t c.parameters c.variables)) c.rules (rules_resolved t c.parameters c.variables a.transitions a.signature c.rules h.rules);
-  initials = variables_resolved t c.parameters c.variables a.states c.variables h.variables;
-  schedule = schedule_resolved t c.parameters c.variables c.rules a.schedule c.schedule h.schedule;
+pub automaton_compiled : (t : PlainTextTypes) → AreWords t.constants → (a : SourceAutomaton) (c : AutomatonParts) → IsAutomatonOf t a c → IsResolvedAutomaton c
+automaton_compiled t alone a c h = subst IsResolvedAutomaton rebuilt (record {
+  rules = all_each (IsResolvedRule (declared t c.parameters c.variables)) c.rules (rules_resolved t alone c.parameters c.variables a.transitions a.signature c.rules h.rules);
+  initials = variables_resolved t alone c.parameters c.variables a.states c.variables h.variables;
+  schedule = schedule_resolved t alone c.parameters c.variables c.rules a.schedule c.schedule h.schedule;
   numbered = each_numbered (block_of (block_names t.constants c.parameters c.variables c.schedule.variables c.rules) c.variables c.schedule.variables c.rules) a.schedule.statements c.schedule.statements h.schedule.statements;
 })
   where

@@ -4,8 +4,8 @@ use Rattle.std.specs.List.{AllByRecursion, AllZip}
 use Rattle.ioa_operators.specs.Shapes.{PlainShape}
 use Rattle.ioa_terms.specs.Sorted.{NameShapes}
 use Rattle.ioa_source.specs.PlainText.{const, named}
-use Rattle.ioa_source.specs.Sides.{SourceAutomaton, SourceDeclared, SourceEntry, SourceParameter, SourceTransition, CheckedDeclared, CheckedParameter, CheckedVariable}
-use Rattle.ioa_system.specs.InView.{entry_constant}
+use Rattle.ioa_source.specs.Sides.{SourceAutomaton, SourceDeclared, SourceEntry, SourceParameter, SourceTransition, SourceVariable, CheckedDeclared, CheckedParameter, CheckedVariable}
+use Rattle.ioa_system.specs.InView.{entry_constant, initial_value}
 use Rattle.ioa_system.specs.Parts.{AutomatonParts, PlainRule}
 use Rattle.ioa_sort_rules.specs.DeclaredTypes.{IsDeclared, AreAllDeclared}
 use Rattle.ioa_sorts.proofs.Complete.{infer_complete}
@@ -15,7 +15,7 @@ use Rattle.ioa_types.specs.TextTypes.{PlainTextTypes}
 use Rattle.ioa_types.proofs.Meant.{sort_declared, sort_found}
 use Rattle.ioa_automata.specs.DeclaredShapes.{HasDeclaredShapes}
 use Rattle.ioa_automata.specs.NamesInView.{parameter_shapes}
-use Rattle.ioa_automata.specs.SortedAutomata.{AreParametersOf, IsAutomatonOf, IsDeclaredOf, IsRuleOf, names_at}
+use Rattle.ioa_automata.specs.SortedAutomata.{AreParametersOf, IsAutomatonOf, IsDeclaredOf, IsRuleOf, IsVariableOf, names_at}
 
 module _ (t : PlainTextTypes) (types : AreTextTypes t) where
   -- a declared name
@@ -27,6 +27,12 @@ module _ (t : PlainTextTypes) (types : AreTextTypes t) where
   parameters_declared [] (c ∷ cs) h = absurd h
   parameters_declared (d ∷ ds) [] h = absurd h
   parameters_declared (d ∷ ds) (c ∷ cs) h = (one_declared d c h.0, parameters_declared ds cs h.1)
+
+  variables_declared : (names : NameShapes) (us : List SourceVariable) (cs : List CheckedVariable) → AllZip (IsVariableOf t.types names) us cs → AllByRecursion (λ v. IsDeclared (tuple_types t.types) v.declared.shape) cs
+  variables_declared names [] [] h = tt
+  variables_declared names [] (c ∷ cs) h = absurd h
+  variables_declared names (u ∷ us) [] h = absurd h
+  variables_declared names (u ∷ us) (c ∷ cs) h = (one_declared u.declared c.declared h.0.declared, variables_declared names us cs h.1)
 
   -- the names in view of the constants of entries
   names_declared : (ds : List SourceDeclared) (cs : List CheckedDeclared) (more : NameShapes) → AllZip (IsDeclaredOf t.types) ds cs → AreAllDeclared (tuple_types t.types) more → AreAllDeclared (tuple_types t.types) (parameter_shapes cs ++ more)
@@ -60,5 +66,6 @@ module _ (t : PlainTextTypes) (types : AreTextTypes t) where
   pub automaton_declared : (a : SourceAutomaton) (c : AutomatonParts) → IsAutomatonOf t a c → HasDeclaredShapes (tuple_types t.types) c
   automaton_declared a c h = record {
     parameters = parameters_declared a.parameters c.parameters h.parameters;
+    variables = variables_declared (names_at initial_value t.constants c.parameters c.variables []) a.states c.variables h.variables;
     arguments = rules_declared c.parameters c.variables (names_declared a.parameters c.parameters t.constants h.parameters types.constants) a.transitions a.signature c.rules h.rules;
   }

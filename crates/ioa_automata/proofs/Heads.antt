@@ -7,11 +7,13 @@ use lib.Pointwise.{pointwise}
 use Rattle.std.proofs.lemmas.Bool.Decides.{Decides-and, Decides-eqb, Decides-like}
 use Rattle.std.proofs.lemmas.Slice.Eq.{bytes_eq-Decides}
 use Rattle.ioa_operators.specs.Shapes.{PlainShape, truths, integers, naturals, constants, tuples, sequences, sets, maps}
+use Rattle.ioa_terms.specs.declared.name.Name.{Name}
 use Rattle.ioa_terms.specs.declared.name.Name.TheVariants.{Word}
 use Rattle.ioa_terms.specs.declared.tree.Kind.{Kind}
 use Rattle.ioa_terms.specs.declared.tree.Kind.TheVariants.{Input, Output, Internal}
 use Rattle.ioa_terms.specs.Bindings.{same_word}
 use Rattle.ioa_terms.specs.PlainTerm.{number, truth, name, one, two, call, display, field}
+use Rattle.ioa_terms.specs.SameNames.{same_name_is}
 use Rattle.ioa_terms.specs.SameTerms.{same_kind}
 use Rattle.ioa_terms.proofs.SameTerms.{kind_is, same_term_is}
 use Rattle.ioa_actions.specs.ActionParts.{send_name, receive_name}
@@ -24,21 +26,22 @@ use Rattle.ioa_automata.specs.SortedAutomata.{Repeats, IsNumber, AreMessageShape
 nothing_is : (x y : Unit {0}) → Decides true (x ≡ y)
 nothing_is x y = (λ h. refl, λ h. refl)
 
--- the word of a term that is a name
-abbrev word_in : SourceTerm → List ℕ
-word_in (name (Word w) x) = w
-word_in (number n) = []
-word_in (truth b) = []
-word_in (one op a) = []
-word_in (two op a b) = []
-word_in (call w c ts) = []
-word_in (display f x ts) = []
-word_in (field a w x) = []
+-- the name that a term is; of others any
+abbrev name_in : SourceTerm → Name
+name_in (name x at) = x
+name_in (number n) = Word []
+name_in (truth b) = Word []
+name_in (one op a) = Word []
+name_in (two op a b) = Word []
+name_in (call w c ts) = Word []
+name_in (display f x ts) = Word []
+name_in (field a w x) = Word []
 
 repeats_is : (p : SourceParameter) (u : SourceTerm) → Decides (repeats p u) (Repeats p u)
 repeats_is (const t) u = let d = same_term_is nothing_is nothing_is nothing_is t u in (λ h. sym (d.0 h), λ e. d.1 (sym e))
-repeats_is (named d) (name (Word w) tt) =
-    (λ h i. name (Word ((bytes_eq-Decides w d.name).0 h i)) tt, λ e. (bytes_eq-Decides w d.name).1 (ap word_in e))
+repeats_is (named d) (name x tt) =
+    let same = same_name_is x (Word d.name) in
+    (λ h i. name (same.0 h i) tt, λ e. same.1 (ap name_in e))
 repeats_is (named d) (number n) = (λ h. absurd (cc), λ e. absurd (cc))
 repeats_is (named d) (truth b) = (λ h. absurd (cc), λ e. absurd (cc))
 repeats_is (named d) (one op a) = (λ h. absurd (cc), λ e. absurd (cc))

@@ -10,14 +10,14 @@ use Rattle.ioa_types.specs.TextTypes.{PlainTextTypes}
 use Rattle.ioa_automata.specs.NamesInView.{parameter_shapes, variable_shapes}
 use Rattle.ioa_automata.specs.Automata.{PlainHeading, automaton_at, heading_at}
 use Rattle.ioa_automata.proofs.Results.{result_is}
-use Rattle.ioa_automata.proofs.BlockNames.{words_behind}
+use Rattle.ioa_names.proofs.Words.{words_joined}
 use Rattle.ioa_automata.proofs.SoundRules.{automaton_sound, heading_outer}
 use Rattle.ioa_automata.proofs.Compiled.{parameter_words, variable_words, automaton_compiled}
 
 -- with the names of its variables and parameters, and of its block's variables and the inboxes
 pub automaton_ready : (t : PlainTextTypes) (text : AreTextTypes t) (a : SourceAutomaton) (h : PlainHeading) (w : List ℕ) (cs : List (List ℕ)) (rs : List PlainRule) (b : CheckedSchedule) → heading_at t a ≡ result_is h → automaton_at t a ≡ result_is (automaton_parts w cs h.parameters h.variables rs b) → IsCompiled (words h.outer) (variable_names b.variables ++ inbox_words (message_shape rs)) (automaton_parts w cs h.parameters h.variables rs b)
 automaton_ready t text a h w cs rs b heading made = record {
-  names = ap words (heading_outer t text a h heading) ∙ words_behind (variable_shapes h.variables) (parameter_shapes h.parameters) ∙ (λ i. variable_words h.variables i ++ parameter_words h.parameters i);
+  names = ap words (heading_outer t text a h heading) ∙ words_joined (variable_shapes h.variables) (parameter_shapes h.parameters) ∙ (λ i. variable_words h.variables i ++ parameter_words h.parameters i);
   block = refl;
-  resolved = automaton_compiled t a (automaton_parts w cs h.parameters h.variables rs b) (automaton_sound t text a (automaton_parts w cs h.parameters h.variables rs b) made);
+  resolved = automaton_compiled t text.named a (automaton_parts w cs h.parameters h.variables rs b) (automaton_sound t text a (automaton_parts w cs h.parameters h.variables rs b) made);
 }

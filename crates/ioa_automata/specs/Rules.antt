@@ -8,7 +8,7 @@ use Rattle.ioa_values.specs.Outcome.{and_then}
 use Rattle.ioa_operators.specs.Shapes.{PlainShape, truths, integers, naturals, constants, tuples, sequences, sets, maps}
 use Rattle.ioa_terms.specs.declared.tree.Kind.TheVariants.{Input, Output}
 use Rattle.ioa_terms.specs.declared.name.Name.TheVariants.{Word}
-use Rattle.ioa_terms.specs.Bindings.{same_word}
+use Rattle.ioa_terms.specs.Bindings.{same_name, same_word}
 use Rattle.ioa_terms.specs.PlainTerm.{number, truth, name, one, two, call, display, field}
 use Rattle.ioa_terms.specs.SameTerms.{same_kind, same_term}
 use Rattle.ioa_terms.specs.Sorted.{NameShapes}
@@ -29,7 +29,7 @@ use Rattle.ioa_automata.specs.Parts.{PlainSortedEntry, entry_at, parameters_at, 
 -- whether an argument of a transition's head repeats a parameter: the same term at a constant, the same name elsewhere
 abbrev pub repeats : SourceParameter → SourceTerm → Bool
 repeats (const t) u = same_term (λ _ _. true) (λ _ _. true) (λ _ _. true) t u
-repeats (named d) (name (Word w) x) = same_word w d.name
+repeats (named d) (name x at) = same_name x (Word d.name)
 repeats (named d) (number n) = false
 repeats (named d) (truth b) = false
 repeats (named d) (one op a) = false

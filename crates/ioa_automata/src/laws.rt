@@ -4,6 +4,7 @@ ghost use Rattle.std.specs.Prelude.{◌≡◌, ◌↔◌, true, Ok};
 ghost use Rattle.ioa_source.specs.Sides.{SourceAutomaton, SourceParameter, SourceTerm};
 ghost use Rattle.ioa_system.specs.Parts.{AutomatonParts};
 ghost use Rattle.ioa_system.specs.ResolvedPrograms.{IsResolvedAutomaton};
+ghost use Rattle.ioa_names.specs.Views.{AreWords};
 ghost use Rattle.ioa_types.specs.Meanings.{AreTextTypes, tuple_types};
 ghost use Rattle.ioa_types.specs.TextTypes.{PlainTextTypes};
 ghost use Rattle.ioa_automata.specs.Automata.{automaton_at};
@@ -21,8 +22,8 @@ pub fn automata_law()
         automaton_at t a ≡ Ok c → IsAutomatonOf t a c }
     ensures found { (t : PlainTextTypes) (a : SourceAutomaton) (c : AutomatonParts) → IsAutomatonOf t a c →
         automaton_at t a ≡ Ok c }
-    ensures resolved { (t : PlainTextTypes) (a : SourceAutomaton) (c : AutomatonParts) → IsAutomatonOf t a c →
-        IsResolvedAutomaton c }
+    ensures resolved { (t : PlainTextTypes) (a : SourceAutomaton) (c : AutomatonParts) → AreWords t.constants →
+        IsAutomatonOf t a c → IsResolvedAutomaton c }
     ensures declared { (t : PlainTextTypes) (a : SourceAutomaton) (c : AutomatonParts) → AreTextTypes t →
         IsAutomatonOf t a c → HasDeclaredShapes (tuple_types t.types) c }
 {}

@@ -4,6 +4,7 @@ ghost use Rattle.std.specs.Prelude.{◌≡◌, ◌&&◌, ◌++◌, IfOk, map, sl
 ghost use Rattle.std.specs.Option.{option_copied, option_map, is_some};
 ghost use lib.Pointwise.{pointwise};
 ghost use Rattle.ioa_values.specs.Outcome.{Answers, and_then};
+ghost use Rattle.ioa_terms.specs.Bindings.{same_name};
 ghost use Rattle.ioa_terms.specs.SameTerms.{same_kind};
 ghost use Rattle.ioa_terms.specs.View.{term_of};
 ghost use Rattle.ioa_source.specs.TextView.{parameter_of, entry_of, transition_of};
@@ -53,9 +54,20 @@ fn repeats(parameter: &Parameter<(), (), ()>, argument: &Term) -> bool
     match parameter {
         Parameter::Const(term) => is_same_term(term, argument),
         Parameter::Declared(declared) => match argument {
-            Tree::Name(Name::Word(word), _) => *word == declared.name,
+            Tree::Name(name, _) => is_word(name, &declared.name),
             _ => false,
         },
+    }
+}
+
+/// Whether a name is this word.
+fn is_word(name: &Name, word: &Word) -> bool
+    ensures { result ≡ same_name name.now (Name.Word word.now) }
+{
+    match name {
+        Name::Word(other) => other == word,
+        Name::Variable { .. } => false,
+        Name::Queue { .. } => false,
     }
 }
 

@@ -3,13 +3,15 @@ use Rattle.std.proofs.Common.{◌≡◌, ℕ, ℤ, ◌+◌, ◌<◌, pos, Bool, 
 use Rattle.std.specs.List.{AllByRecursion, AllZip, IsDistinct, list_any}
 use Rattle.std.specs.Ordering.{int_eq}
 use Rattle.ioa_values.specs.Data.{Data}
-use Rattle.ioa_terms.specs.Bindings.{Bindings, same_word}
+use Rattle.ioa_terms.specs.Bindings.{Bindings, same_name, same_word}
+use Rattle.ioa_terms.specs.declared.name.Name.{Name}
+use Rattle.ioa_terms.specs.declared.name.Name.TheVariants.{Word}
 use Rattle.ioa_terms.specs.Sorted.{NameShapes}
 use Rattle.ioa_source.specs.declared.declaration.Channel.{Channel}
 use Rattle.ioa_source.specs.Sides.{SourceAutomaton, SourceNode, SourceScript, SourceText}
 use Rattle.ioa_source.specs.Sides.{CheckedVariable}
 use Rattle.ioa_system.specs.Declarations.{DeclaresOnce, IsWellDeclared, has_node, same_channel}
-use Rattle.ioa_system.specs.InView.{given_bindings}
+use Rattle.ioa_system.specs.InView.{given_bindings, variable_names}
 use Rattle.ioa_system.specs.Parts.{AutomatonParts, Parts}
 use Rattle.ioa_system.specs.Systems.{ScriptParts, SystemParts}
 use Rattle.ioa_types.specs.TextTypes.{PlainTextTypes}
@@ -19,7 +21,7 @@ use Rattle.ioa_check.specs.Sections.{automata_in, nodes_in, scripts_in}
 use Rattle.ioa_check.specs.Scripts.{same_node}
 use Rattle.ioa_check.specs.Systems.{AreNodesOf, IsInitialValue, IsNodeOf, IsScriptOf, IsSystemOf}
 use Rattle.ioa_names.proofs.Names.{first_differ}
-use Rattle.ioa_automata.proofs.Compiled.{variable_words}
+use Rattle.ioa_names.proofs.Words.{names_of_each}
 use Rattle.ioa_automata.proofs.Complete.{rule_words}
 use Rattle.ioa_sorts.proofs.Lookups.{found_has}
 use Rattle.ioa_check.proofs.Tests.{numbers_apart}
@@ -57,6 +59,16 @@ all_made t [] (c ∷ cs) h = absurd h
 all_made t (a ∷ more) [] h = absurd h
 all_made t (a ∷ more) (c ∷ cs) h = ((a, h.0), all_made t more cs h.1)
 
+-- words differ if they differ as names
+words_apart : (w : List ℕ) (ws : List (List ℕ)) → AllByRecursion (λ n. same_name (Word w) n ≡ false) (map Word ws) → AllByRecursion (λ v. same_word w v ≡ false) ws
+words_apart w [] d = tt
+words_apart w (v ∷ ws) d = (d.0, words_apart w ws d.1)
+
+words_differ : (ws : List (List ℕ)) → IsDistinct same_name (map Word ws) → IsDistinct same_word ws
+unfolding IsDistinct
+words_differ [] d = tt
+words_differ (w ∷ ws) d = (words_apart w ws d.0, words_differ ws d.1)
+
 -- a program declares each thing once
 program_once : (t : PlainTextTypes) (names : NameShapes) (automata : List AutomatonParts) (ns : List SourceNode) (k : ℕ) (p : Parts) → AllByRecursion (IsMade t) automata → IsNodeOf names automata ns k p → DeclaresOnce p
 program_once t names automata ns k p made n =
@@ -66,7 +78,8 @@ program_once t names automata ns k p made n =
     let given = parameter_shapes c.parameters in
     record {
       entries = subst (λ (ws : List (List ℕ)). IsDistinct same_word ws) (rule_words t c.parameters c.variables a.0.transitions a.0.signature c.rules a.1.rules) a.1.entries_differ;
-      variables = subst (λ (ws : List (List ℕ)). IsDistinct same_word ws) (variable_words c.variables) (first_differ variables given (first_differ (variables ++ given) t.constants a.1.names));
+      variables = words_differ (variable_names c.variables)
+          (subst (λ (ns : List Name). IsDistinct same_name ns) (names_of_each (λ (v : CheckedVariable). v.declared.name) (λ (v : CheckedVariable). v.declared.shape) c.variables) (first_differ variables given (first_differ (variables ++ given) t.constants a.1.names)));
       valued = as_many (given_bindings c p.arguments) c.variables p.initial n.program.initial;
     }
 

@@ -1,5 +1,6 @@
 -- Terms, values and automata that were made have what their readers ask for.
-use Rattle.std.proofs.Common.{◌≡◌, ℕ, suc, ◌+◌, false, List, [], ◌∷◌, ◌++◌, Some, refl, sym, ap, subst, ◌∙◌, map, length, arith}
+use Rattle.std.proofs.Common.{◌≡◌, ℕ, suc, ◌+◌, Bool, false, List, [], ◌∷◌, ◌++◌, Some, sym, ap, subst, ◌∙◌, map, length, arith}
+use Rattle.std.specs.Prelude.{find}
 use Rattle.std.specs.List.{AllByRecursion, list_any}
 use Rattle.ioa_values.specs.Data.{Data}
 use Rattle.ioa_values.specs.Outcome.{and_then}
@@ -20,6 +21,7 @@ use Rattle.ioa_sorts.proofs.Types.{in_terms}
 use Rattle.ioa_sorts.proofs.Sound.{fit_sound}
 use Rattle.ioa_types.specs.Meanings.{tuple_types, AreTextTypes}
 use Rattle.ioa_names.specs.NameTables.{words}
+use Rattle.ioa_names.specs.Views.{AreWords}
 use Rattle.ioa_types.specs.TextTypes.{PlainTextTypes}
 use Rattle.ioa_sorts.specs.Firings.{arguments_at}
 use Rattle.ioa_automata.specs.Automata.{automaton_at}
@@ -27,6 +29,8 @@ use Rattle.ioa_sorts.specs.SortedTerms.{AreArgumentsOf}
 use Rattle.ioa_automata.proofs.Loops.{results_are}
 use Rattle.ioa_automata.proofs.Results.{result_is}
 use Rattle.ioa_automata.proofs.DeclaredShapes.{automaton_declared}
+use Rattle.ioa_automata.specs.DeclaredShapes.{HasDeclaredShapes}
+use Rattle.ioa_invariants.specs.Checked.{HasDeclaredParts, AreDeclaredParts}
 use Rattle.ioa_sorts.proofs.Lookups.{found_has}
 use Rattle.ioa_automata.proofs.SoundRules.{automaton_sound}
 use Rattle.ioa_check.specs.Declarations.{new_automaton_at, automata_at}
@@ -42,11 +46,22 @@ unfolding new_automaton_at
 automaton_new t names a c h = is_not_met (list_any (same_word a.name) names) (automaton_at t a) Twice c h
 
 -- the shapes of an automaton that was made are declared ones
-automaton_grounded : (t : PlainTextTypes) → AreTextTypes t → (a : SourceAutomaton) (c : AutomatonParts) → automaton_at t a ≡ result_is c → IsGrounded t.constants c
-automaton_grounded t text a c h = record {
-  types = tuple_types t.types;
-  names_declared = text.constants;
-  shapes_declared = automaton_declared t text a c (automaton_sound t text a c h);
+automaton_shapes : (t : PlainTextTypes) → AreTextTypes t → (a : SourceAutomaton) (c : AutomatonParts) → automaton_at t a ≡ result_is c → HasDeclaredShapes (tuple_types t.types) c
+automaton_shapes t text a c h = automaton_declared t text a c (automaton_sound t text a c h)
+
+-- so are those of one that is found, and of the automaton of a program that is found
+pub one_grounded : (names : NameShapes) (cs : List AutomatonParts) → AreGrounded names cs → (test : AutomatonParts → Bool) (c : AutomatonParts) → find test cs ≡ Some c → IsGrounded names c
+one_grounded names cs g test c found = record {
+  types = g.types;
+  names_declared = g.names_declared;
+  shapes_declared = found_has (HasDeclaredShapes g.types) test cs c g.each_declared found;
+}
+
+pub program_grounded : (names : NameShapes) (ps : List Parts) → AreGroundedPrograms names ps → (test : Parts → Bool) (p : Parts) → find test ps ≡ Some p → IsGrounded names p.automaton
+program_grounded names ps g test p found = record {
+  types = g.types;
+  names_declared = g.names_declared;
+  shapes_declared = found_has (λ (q : Parts). HasDeclaredShapes g.types q.automaton) test ps p g.each_declared found;
 }
 
 -- those of its parameters
@@ -62,20 +77,46 @@ rule_grounded names a g w r found = record {
 }
 
 -- the automaton of each program is one of these
-pub programs_grounded : (names : NameShapes) (cs : List AutomatonParts) (ns : List SourceNode) → AreGrounded names cs → (k : ℕ) (ps : List Parts) → AreNodesOf names cs ns k ps → AreGroundedPrograms names ps
-programs_grounded names cs ns ground k [] h = tt
-programs_grounded names cs ns ground k (p ∷ ps) h =
-    (found_has (IsGrounded names) (λ (c : AutomatonParts). same_word c.name h.0.node.automaton) cs p.automaton ground h.0.automaton, programs_grounded names cs ns ground (k + 1) ps h.1)
+programs_shapes : (types : TupleTypes) (names : NameShapes) (cs : List AutomatonParts) (ns : List SourceNode) → AllByRecursion (HasDeclaredShapes types) cs → (k : ℕ) (ps : List Parts) → AreNodesOf names cs ns k ps → AllByRecursion (λ p. HasDeclaredShapes types p.automaton) ps
+programs_shapes types names cs ns declared k [] h = tt
+programs_shapes types names cs ns declared k (p ∷ ps) h =
+    (found_has (HasDeclaredShapes types) (λ (c : AutomatonParts). same_word c.name h.0.node.automaton) cs p.automaton declared h.0.automaton, programs_shapes types names cs ns declared (k + 1) ps h.1)
 
-pub grounded : (t : PlainTextTypes) → AreTextTypes t → (ds : List SourceDeclaration) (index : ℕ) (names : List (List ℕ)) (cs : List AutomatonParts) → automata_at t index names ds ≡ checked_is cs → AreGrounded t.constants cs
-grounded t text [] index names cs h = let same : [] ≡ cs = cc in subst (AreGrounded t.constants) same tt
-grounded t text (type_named d ∷ more) index names cs h = grounded t text more (index + 1) names cs h
-grounded t text (automaton a ∷ more) index names cs h =
+pub programs_grounded : (names : NameShapes) (cs : List AutomatonParts) (ns : List SourceNode) → AreGrounded names cs → (k : ℕ) (ps : List Parts) → AreNodesOf names cs ns k ps → AreGroundedPrograms names ps
+programs_grounded names cs ns g k ps h = record {
+  types = g.types;
+  names_declared = g.names_declared;
+  each_declared = programs_shapes g.types names cs ns g.each_declared k ps h;
+}
+
+-- what invariants read has declared shapes
+parts_shapes : (types : TupleTypes) (ps : List Parts) → AllByRecursion (λ p. HasDeclaredShapes types p.automaton) ps → AllByRecursion (HasDeclaredParts types) ps
+parts_shapes types [] h = tt
+parts_shapes types (p ∷ ps) h = (record { variables = h.0.variables; arguments = h.0.arguments }, parts_shapes types ps h.1)
+
+pub parts_declared : (names : NameShapes) (ps : List Parts) → AreGroundedPrograms names ps → AreDeclaredParts names ps
+parts_declared names ps g = record {
+  types = g.types;
+  constants_declared = g.names_declared;
+  programs_declared = parts_shapes g.types ps g.each_declared;
+}
+
+automata_shapes : (t : PlainTextTypes) → AreTextTypes t → (ds : List SourceDeclaration) (index : ℕ) (names : List (List ℕ)) (cs : List AutomatonParts) → automata_at t index names ds ≡ checked_is cs → AllByRecursion (HasDeclaredShapes (tuple_types t.types)) cs
+automata_shapes t text [] index names cs h = let same : [] ≡ cs = cc in subst (AllByRecursion (HasDeclaredShapes (tuple_types t.types))) same tt
+automata_shapes t text (type_named d ∷ more) index names cs h = automata_shapes t text more (index + 1) names cs h
+automata_shapes t text (automaton a ∷ more) index names cs h =
     let one = first_of (in_declaration index (new_automaton_at t names a)) (λ c. and_then (automata_at t (index + 1) (names ++ a.name ∷ []) more) (λ rest. checked_is (c ∷ rest))) cs h in
     let two = first_of (automata_at t (index + 1) (names ++ a.name ∷ []) more) (λ rest. checked_is (one.0 ∷ rest)) cs one.2 in
     let same : one.0 ∷ two.0 ≡ cs = cc in
     let made = automaton_new t names a one.0 (within_declaration index (new_automaton_at t names a) one.0 one.1) in
-    subst (AreGrounded t.constants) same (automaton_grounded t text a one.0 made.1, grounded t text more (index + 1) (names ++ a.name ∷ []) two.0 two.1)
+    subst (AllByRecursion (HasDeclaredShapes (tuple_types t.types))) same (automaton_shapes t text a one.0 made.1, automata_shapes t text more (index + 1) (names ++ a.name ∷ []) two.0 two.1)
+
+pub grounded : (t : PlainTextTypes) → AreTextTypes t → (ds : List SourceDeclaration) (index : ℕ) (names : List (List ℕ)) (cs : List AutomatonParts) → automata_at t index names ds ≡ checked_is cs → AreGrounded t.constants cs
+grounded t text ds index names cs h = record {
+  types = tuple_types t.types;
+  names_declared = text.constants;
+  each_declared = automata_shapes t text ds index names cs h;
+}
 
 -- arguments have the shapes of the parameters
 pub arguments_meant : (types : TupleTypes) (names : NameShapes) → AreAllDeclared types names → (ss : List PlainShape) (us : List SourceTerm) (ts : List CheckedTerm) → AllByRecursion (IsDeclared types) ss → arguments_at names ss us ≡ results_are ts → AreArgumentsOf names ss us ts
@@ -88,21 +129,17 @@ arguments_meant types names all (s ∷ ss) (u ∷ us) ts d h =
     let same : one.0 ∷ two.0 ≡ ts = cc in
     subst (AreArgumentsOf names (s ∷ ss) (u ∷ us)) same (fit_sound types names all u (shape_in_terms s) (in_terms types s d.0) one.0 (sym one.1), arguments_meant types names all ss us two.0 d.1 two.1)
 
--- and slots among the names
-keys_are : (names : NameShapes) → map (λ n. n.0) names ≡ map Word (words names)
-keys_are [] = refl
-keys_are ((Word w, s) ∷ names) = ap (λ ns. Word w ∷ ns) (keys_are names)
+-- and slots among the names, if all are words
+meant_resolved : (names : NameShapes) → AreWords names → (ss : List PlainShape) (us : List SourceTerm) (ts : List CheckedTerm) → AreArgumentsOf names ss us ts → AreResolvedTerms ts (map Word (words names))
+meant_resolved names w [] [] [] h = tt
+meant_resolved names w [] [] (c ∷ cs) h = absurd h
+meant_resolved names w [] (u ∷ us) ts h = absurd h
+meant_resolved names w (s ∷ ss) [] ts h = absurd h
+meant_resolved names w (s ∷ ss) (u ∷ us) [] h = absurd h
+meant_resolved names w (s ∷ ss) (u ∷ us) (c ∷ cs) h = (subst (λ ns. IsResolved c ns) w h.0.resolved, meant_resolved names w ss us cs h.1)
 
-meant_resolved : (names : NameShapes) (ss : List PlainShape) (us : List SourceTerm) (ts : List CheckedTerm) → AreArgumentsOf names ss us ts → AreResolvedTerms ts (map Word (words names))
-meant_resolved names [] [] [] h = tt
-meant_resolved names [] [] (c ∷ cs) h = absurd h
-meant_resolved names [] (u ∷ us) ts h = absurd h
-meant_resolved names (s ∷ ss) [] ts h = absurd h
-meant_resolved names (s ∷ ss) (u ∷ us) [] h = absurd h
-meant_resolved names (s ∷ ss) (u ∷ us) (c ∷ cs) h = (subst (λ ns. IsResolved c ns) (keys_are names) h.0.resolved, meant_resolved names ss us cs h.1)
-
-pub arguments_resolved : (names : NameShapes) (ss : List PlainShape) (us : List SourceTerm) (ts : List CheckedTerm) → HaveDeclaredShapes names ss → arguments_at names ss us ≡ results_are ts → AreResolvedTerms ts (map Word (words names))
-arguments_resolved names ss us ts d h = meant_resolved names ss us ts (arguments_meant d.types names d.names_declared ss us ts d.shapes_declared h)
+pub arguments_resolved : (names : NameShapes) → AreWords names → (ss : List PlainShape) (us : List SourceTerm) (ts : List CheckedTerm) → HaveDeclaredShapes names ss → arguments_at names ss us ≡ results_are ts → AreResolvedTerms ts (map Word (words names))
+arguments_resolved names w ss us ts d h = meant_resolved names w ss us ts (arguments_meant d.types names d.names_declared ss us ts d.shapes_declared h)
 
 -- how many there are
 pub as_many_arguments : (names : NameShapes) (ss : List PlainShape) (us : List SourceTerm) (ts : List CheckedTerm) → arguments_at names ss us ≡ results_are ts → length ts ≡ length ss

@@ -10,11 +10,14 @@ pub mod SoundDeclarations
 pub mod SoundNodes
 pub mod SoundChannels
 pub mod SoundScripts
+pub mod SoundInvariants
+pub mod DeclaredInvariants
 pub mod SoundSystems
 pub mod CompleteTypes
 pub mod CompleteNodes
 pub mod CompleteChannels
 pub mod CompleteScripts
+pub mod CompleteInvariants
 pub mod Complete
 pub mod Declared
 pub mod Promises

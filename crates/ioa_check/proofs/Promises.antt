@@ -1,16 +1,13 @@
 -- What a check promises of its result.
-use Rattle.std.proofs.Common.{◌≡◌, inl, inr, ℕ, Result, Ok, Err, ap, sym, ◌∙◌}
+use Rattle.std.proofs.Common.{◌≡◌, inl, inr, Result, Ok, Err, sym, ◌∙◌}
 use Rattle.std.specs.Prelude.{IfOk, IfErr}
 use Rattle.ioa_values.specs.Outcome.{Answers}
 use Rattle.ioa_source.specs.Sides.{SourceText}
 use Rattle.ioa_system.specs.Declarations.{IsWellDeclared}
 use Rattle.ioa_system.specs.Systems.{SystemParts}
-use Rattle.ioa_sort_rules.specs.declared.refusal.Refusal.{Refusal}
-use Rattle.ioa_sort_rules.specs.declared.refusal.Refusal.TheVariants as refusal
 use Rattle.ioa_check.specs.declared.fault.CheckFault.{CheckFault}
 use Rattle.ioa_check.specs.declared.fault.CheckFault.TheVariants.{Refused, Memory}
 use Rattle.ioa_check.specs.Checking.{system_of}
-use Rattle.ioa_check.specs.Faults.{fault_at, in_declaration}
 use Rattle.ioa_check.specs.Systems.{IsSystemOf, SaysNoSystem}
 use Rattle.ioa_check.proofs.Results.{checked_is}
 use Rattle.ioa_check.proofs.SoundSystems.{system_sound}
@@ -31,12 +28,4 @@ promised_none x (Err Memory) h = tt
 promised_none x (Err (Refused r index)) h = λ s is. elim h [
   | inl lacks ↦ absurd (cc)
   | inr refused ↦ let both : checked_is s ≡ Err (Refused r index) = sym (system_found x s is) ∙ refused in absurd (cc)
-]
-
--- a result in a declaration
-pub placed_answers : (index : ℕ) (r meant : Result SystemParts Refusal) → Answers refusal.Memory (λ s. s) r meant → Answers Memory (λ s. s) (in_declaration index r) (in_declaration index meant)
-placed_answers index (Ok s) meant h = ap (in_declaration index) h
-placed_answers index (Err e) meant h = elim h [
-  | inl lacks ↦ inl (ap (fault_at index) lacks)
-  | inr refused ↦ inr (ap (in_declaration index) refused)
 ]

@@ -19,7 +19,8 @@ use Rattle.ioa_check.specs.declared.channels.TheConstants.{MOST_CHANNELS}
 use Rattle.ioa_check.specs.Distinct.{differ_from}
 use Rattle.ioa_check.specs.Sections.{channels_in}
 use Rattle.ioa_check.specs.Nodes.{at_most}
-use Rattle.ioa_check.specs.Channels.{channels_or, channels_at, program_numbered, program_or, takes_number, takes_from, input_or, same_message, output_at, channel_to, channel_between, channel_at, all_channels_at}
+use Rattle.ioa_check.specs.Channels.{channels_or, channels_at, program_or, takes_number, takes_from, input_or, same_message, output_at, channel_to, channel_between, channel_at, all_channels_at}
+use Rattle.ioa_system.specs.Systems.{program_numbered}
 use Rattle.ioa_check.specs.Systems.{TakesNumber, HaveOneMessage, IsChannelOf}
 use Rattle.ioa_check.proofs.Results.{first_of, is_passed, is_not_met, result_same}
 use Rattle.ioa_check.proofs.Apart.{new_differ}

@@ -20,16 +20,15 @@ use Rattle.ioa_sort_rules.specs.declared.refusal.Refusal.TheVariants.{Twice, Lim
 use Rattle.ioa_sorts.specs.Firings.{arguments_at}
 use Rattle.ioa_automata.proofs.Loops.{results_are}
 use Rattle.ioa_automata.proofs.Results.{result_is, all_ok_each, zip_weaker}
-use Rattle.ioa_sorts.proofs.Lookups.{found_has}
 use Rattle.ioa_check.specs.declared.nodes.TheConstants.{MOST_NODES}
 use Rattle.ioa_check.specs.Distinct.{differ_from}
 use Rattle.ioa_check.specs.Sections.{nodes_in}
-use Rattle.ioa_check.specs.Grounds.{HaveDeclaredShapes, IsGrounded, AreGrounded}
+use Rattle.ioa_check.specs.Grounds.{HaveDeclaredShapes, AreGrounded}
 use Rattle.ioa_check.specs.Nodes.{at_most, has_number, same_number, nodes_or, nodes_at, automaton_named, automaton_or, value_or, fitting_or, value_for, constant_bindings, argument_values, given_at, initial_value, variable_value, variable_values, constant_at, constants_at, is_number_of, gives_number, is_constant_of, is_at_home, home_at, entry_on, entries_on, start_values, program_of, parameter_shapes, program_with, node_program, program_at, programs_from}
 use Rattle.ioa_check.specs.Systems.{IsValueFor, AreValuesFor, IsInitialValue, HasValue, IsConstantOf, IsEntryOn, IsProgramOf, IsNodeOf, AreNodesOf}
 use Rattle.ioa_check.proofs.Results.{first_of, is_passed, result_same}
 use Rattle.ioa_check.proofs.Apart.{new_differ}
-use Rattle.ioa_check.proofs.Grounds.{arguments_meant, as_many_arguments, parameters_grounded}
+use Rattle.ioa_check.proofs.Grounds.{arguments_meant, as_many_arguments, one_grounded, parameters_grounded}
 
 -- lists that are not too long
 pub few_sound : {A : Type 0} (most : ℕ) (xs ys : List A) → at_most most xs ≡ result_is ys → (xs ≡ ys) × (length xs ≤ most)
@@ -203,7 +202,7 @@ node_sound names cs ns k p ground h =
     let one = node_found names cs (pos k) (find (has_number (pos k)) ns) p h in
     let two = first_of (automaton_or (automaton_named one.0.automaton cs)) (program_with names (pos k) one.0.arguments) p one.2 in
     let called = automaton_found (automaton_named one.0.automaton cs) two.0 two.1 in
-    let declared = parameters_grounded names two.0 (found_has (IsGrounded names) (λ c. same_word c.name one.0.automaton) cs two.0 ground called) in
+    let declared = parameters_grounded names two.0 (one_grounded names cs ground (λ (c : AutomatonParts). same_word c.name one.0.automaton) two.0 called) in
     let made = program_sound names (pos k) one.0.arguments two.0 p declared two.2 in
     record {
       node = one.0;

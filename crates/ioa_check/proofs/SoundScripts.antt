@@ -20,17 +20,17 @@ use Rattle.ioa_sorts.specs.Statements.{all_ok}
 use Rattle.ioa_sorts.specs.Firings.{arguments_at}
 use Rattle.ioa_automata.proofs.Loops.{results_are}
 use Rattle.ioa_automata.proofs.Results.{result_is, all_ok_each, zip_weaker}
-use Rattle.ioa_sorts.proofs.Lookups.{found_has}
 use Rattle.ioa_check.specs.Distinct.{differ_from}
 use Rattle.ioa_check.specs.Sections.{scripts_in}
 use Rattle.ioa_check.specs.Grounds.{IsGrounded, AreGroundedPrograms}
 use Rattle.ioa_check.specs.Nodes.{argument_values, constant_bindings, given_at}
-use Rattle.ioa_check.specs.Channels.{program_numbered, program_or}
+use Rattle.ioa_check.specs.Channels.{program_or}
+use Rattle.ioa_system.specs.Systems.{program_numbered}
 use Rattle.ioa_check.specs.Scripts.{same_node, scripts_or, input_of, input_called, stimulus_at, stimuli_at, script_at, script_of, scripts_at}
 use Rattle.ioa_check.specs.Systems.{IsStimulusOf, IsScriptOf}
 use Rattle.ioa_check.proofs.Results.{first_of, is_passed, is_not_met, result_same}
 use Rattle.ioa_check.proofs.Apart.{new_differ}
-use Rattle.ioa_check.proofs.Grounds.{arguments_meant, as_many_arguments, rule_grounded}
+use Rattle.ioa_check.proofs.Grounds.{arguments_meant, as_many_arguments, program_grounded, rule_grounded}
 use Rattle.ioa_check.proofs.SoundNodes.{values_sound}
 use Rattle.ioa_check.proofs.SoundChannels.{program_found}
 
@@ -114,7 +114,7 @@ module _ (names : NameShapes) (ps : List Parts) (ground : AreGroundedPrograms na
       let found = program_found (program_numbered s.node ps) p one.1 in
       let two = first_of (stimuli_at names s.node p.automaton s.calls) (λ xs. result_is (script_parts s.node xs)) c one.2 in
       let same : script_parts s.node two.0 ≡ c = cc in
-      let grounded = found_has (λ (q : Parts). IsGrounded names q.automaton) (λ (q : Parts). int_eq q.node s.node) ps p ground found in
+      let grounded = program_grounded names ps ground (λ (q : Parts). int_eq q.node s.node) p found in
       subst (IsScriptOf names ps s) {x = script_parts s.node two.0} same (record {
         node = refl;
         program = p;

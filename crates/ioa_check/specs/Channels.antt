@@ -1,6 +1,6 @@
 -- The channels between nodes (profile).
 use Rattle.std.specs.Prelude.{ℤ, Bool, true, false, if◌then◌else◌, List, [], ◌∷◌}
-use Rattle.std.specs.Prelude.{Option, Some, None, Result, Ok, Err, find, slice_get}
+use Rattle.std.specs.Prelude.{Option, Some, None, Result, Ok, Err, slice_get}
 use Rattle.std.specs.Ordering.{int_eq}
 use Rattle.ioa_values.specs.Outcome.{and_then}
 use Rattle.ioa_operators.specs.Shapes.{PlainShape}
@@ -13,6 +13,7 @@ use Rattle.ioa_source.specs.declared.declaration.Channel.{Channel}
 use Rattle.ioa_system.specs.Declarations.{same_channel}
 use Rattle.ioa_system.specs.InView.{given_bindings}
 use Rattle.ioa_system.specs.Parts.{Parts, PlainRule, rule_named}
+use Rattle.ioa_system.specs.Systems.{program_numbered}
 use Rattle.ioa_sort_rules.specs.SameSorts.{same_sort}
 use Rattle.ioa_sort_rules.specs.declared.refusal.Refusal.{Refusal}
 use Rattle.ioa_sort_rules.specs.declared.refusal.Refusal.TheVariants.{Unknown, Twice, ChannelSorts, InputMissing}
@@ -29,10 +30,6 @@ channels_or cs = if differ_from same_channel [] cs then Ok cs else Err Twice
 -- the channels of a system section: not too many, and different ones
 abbrev pub channels_at : List SourcePlacement → Result (List Channel) Refusal
 channels_at ps = and_then (at_most MOST_CHANNELS (channels_in ps)) channels_or
-
--- the program of the node that has a number
-abbrev pub program_numbered : ℤ → List Parts → Option Parts
-program_numbered k ps = find (λ p. int_eq p.node k) ps
 
 unfoldable pub program_or : Option Parts → Result Parts Refusal
 program_or None = Err Unknown

@@ -8,4 +8,5 @@ pub mod Grounds
 pub mod Channels
 pub mod Scripts
 pub mod Checking
+pub mod PlacedView
 pub mod Systems

@@ -17,7 +17,8 @@ use Rattle.ioa_sorts.specs.Statements.{all_ok}
 use Rattle.ioa_check.specs.Distinct.{differ_from}
 use Rattle.ioa_check.specs.Sections.{scripts_in}
 use Rattle.ioa_check.specs.Nodes.{given_at}
-use Rattle.ioa_check.specs.Channels.{program_numbered, program_or}
+use Rattle.ioa_check.specs.Channels.{program_or}
+use Rattle.ioa_system.specs.Systems.{program_numbered}
 
 -- whether two scripts are of one node
 abbrev pub same_node : SourceScript → SourceScript → Bool

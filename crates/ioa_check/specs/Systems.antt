@@ -25,13 +25,14 @@ use Rattle.ioa_types.specs.TextTypes.{PlainTextTypes, no_types}
 use Rattle.ioa_types.specs.TypeDeclarations.{DeclaresType}
 use Rattle.ioa_sorts.specs.SortedTerms.{AreArgumentsOf}
 use Rattle.ioa_automata.specs.SortedAutomata.{IsAutomatonOf}
+use Rattle.ioa_invariants.specs.Meant.{IsInvariantOf}
 use Rattle.ioa_check.specs.declared.fault.CheckFault.{CheckFault}
 use Rattle.ioa_check.specs.declared.fault.CheckFault.TheVariants.{Refused, Memory}
 use Rattle.ioa_check.specs.declared.nodes.TheConstants.{MOST_NODES}
 use Rattle.ioa_check.specs.declared.channels.TheConstants.{MOST_CHANNELS}
 use Rattle.ioa_check.specs.Sections.{automata_in, nodes_in, channels_in, scripts_in}
 use Rattle.ioa_check.specs.Nodes.{automaton_named, constant_bindings, has_number, parameter_shapes, same_number}
-use Rattle.ioa_check.specs.Channels.{program_numbered}
+use Rattle.ioa_system.specs.Systems.{program_numbered}
 use Rattle.ioa_check.specs.Scripts.{same_node}
 
 -- the types of declarations, one behind the other, and behind these
@@ -160,7 +161,7 @@ pub record IsScriptOf (names : NameShapes) (ps : List Parts) (s : SourceScript) 
   -- 20, 22, 32, 34: the stimuli
   pub stimuli : AllZip (IsStimulusOf names s.node program.automaton) s.calls c.stimuli
 
--- the system of a text: one program for each of its nodes, node 0 first, its channels and its scripts
+-- the system of a text: one program for each of its nodes, node 0 first, its channels, its scripts and its invariants
 pub record IsSystemOf (x : SourceText) (s : SystemParts) : Type 0 where
   -- 20, 21, 31: its types
   pub types : PlainTextTypes
@@ -187,6 +188,10 @@ pub record IsSystemOf (x : SourceText) (s : SystemParts) : Type 0 where
   pub scripts_differ : IsDistinct same_node (scripts_in x.system)
   -- 20, 22, 32, 34: the scripts
   pub scripts : AllZip (IsScriptOf types.constants s.programs) (scripts_in x.system) s.scripts
+  -- 21: the names of the invariants differ
+  pub invariants_differ : IsDistinct same_word (map (λ v. v.name) x.invariants)
+  -- 20, 22, 32: the invariants
+  pub invariants : AllZip (IsInvariantOf types.constants s.programs s.channels) x.invariants s.invariants
 
 -- what a fault of the check says of a text: a refusal, that no system is the text's; want of memory says nothing
 abbrev pub SaysNoSystem : CheckFault → SourceText → Type 0

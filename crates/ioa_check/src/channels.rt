@@ -11,6 +11,7 @@ ghost use Rattle.ioa_system.specs.Declarations.{same_channel};
 ghost use Rattle.ioa_system.specs.InView.{declared_names, entry_constant, names_at};
 ghost use Rattle.ioa_system.specs.Parts.{rule_named};
 ghost use Rattle.ioa_system.specs.ResolvedPrograms.{AreResolvedParameters, IsResolvedParameter};
+ghost use Rattle.ioa_system.specs.Systems.{program_numbered};
 ghost use Rattle.ioa_check.specs.Channels as spec;
 ghost use Rattle.ioa_check.specs.Distinct.{differ_from};
 ghost use Rattle.ioa_check.specs.Sections.{channels_in};
@@ -19,7 +20,7 @@ use crate::values::gives_number;
 use ioa_actions::{RECEIVE, SEND};
 use ioa_sort_rules::{Refusal, is_same_sort};
 use ioa_source::{Channel, Parameter, Placement};
-use ioa_system::{Program, Rule};
+use ioa_system::{Program, Rule, program_numbered};
 use ioa_terms::{Callee, Env, Shape};
 use std::alloc::{AllocError, Global};
 use std::sync::Arc;
@@ -82,19 +83,6 @@ fn is_channel(channels: &[Channel], channel: &Channel) -> bool
     channels.iter().any(|other| other.from == channel.from && other.to == channel.to)
 }
 
-/// The program of the node that has a number.
-fn program_numbered(programs: &Vec<Arc<Program>>, number: i64) -> Option<&Arc<Program>>
-    ensures { option_map arc_value (option_copied result)
-        ≡ spec.program_numbered number (map arc_value programs.now.items) }
-{
-    for program in programs {
-        if program.node() == number {
-            return Some(program);
-        }
-    }
-    None
-}
-
 /// The program of the node that has a number. `Unknown` (20) if there is no such node.
 #[tactic(auto, unfolding(crate::specs::Channels::program_or))]
 pub(crate) fn program_or(
@@ -102,7 +90,7 @@ pub(crate) fn program_or(
     number: i64,
 ) -> Result<&Arc<Program>, Refusal>
     ensures { Answers Refusal.Memory (λ p. arc_value p.now) result
-        (spec.program_or (spec.program_numbered number (map arc_value programs.now.items))) }
+        (spec.program_or (program_numbered number (map arc_value programs.now.items))) }
 {
     match program_numbered(programs, number) {
         None => Err(Refusal::Unknown),

@@ -12,7 +12,7 @@ use thiserror::Error;
 #[derive(Debug, Drop, Error)]
 pub enum CheckFault {
     /// 20 to 34: a refusal of the top declaration of this index, counted from 0. The system section comes after the
-    /// declarations.
+    /// declarations, and the invariants come after it, each with an index of its own.
     Refused {
         /// Which refusal. It is none for want of memory.
         refusal: Refusal,

@@ -1,5 +1,5 @@
-//! From the tree of a source to its system: types and automata with sorts, nodes with their values, channels and
-//! scripts; or the refusal with the index of its declaration.
+//! From the tree of a source to its system: types and automata with sorts, nodes with their values, channels, scripts
+//! and invariants; or the refusal with the index of its declaration.
 //!
 //! **A crate of its own**, since the rules of the system section are proved over what automata have become.
 //!
@@ -12,8 +12,10 @@ mod channels;
 mod checking;
 mod declarations;
 mod fault;
+mod invariants;
 mod laws;
 mod nodes;
+mod placed;
 mod scripts;
 mod values;
 

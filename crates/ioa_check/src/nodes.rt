@@ -10,9 +10,8 @@ ghost use Rattle.ioa_terms.specs.Bindings.{names_of, same_word};
 ghost use Rattle.ioa_source.specs.TextView.{declared_of, node_of, parameter_of, placement_of};
 ghost use Rattle.ioa_system.specs.InView.{given_bindings};
 ghost use Rattle.ioa_system.specs.ResolvedPrograms.{AreResolvedParameters, IsResolvedParameter};
-ghost use Rattle.ioa_names.specs.NameTables.{words};
 ghost use Rattle.ioa_check.specs.Distinct.{differ_from};
-ghost use Rattle.ioa_check.specs.Grounds.{AreGrounded, HaveDeclaredShapes};
+ghost use Rattle.ioa_check.specs.Grounds.{AreConstantsOf, AreGrounded, HaveDeclaredShapes};
 ghost use Rattle.ioa_check.specs.Nodes as spec;
 ghost use Rattle.ioa_check.specs.Sections.{node_at, nodes_in};
 
@@ -147,7 +146,7 @@ pub(crate) fn given_values(
     shapes: &Vec<Shape>,
     arguments: &Vec<Term>,
 ) -> Result<Vec<Value>, Refusal>
-    requires named { constants.now ≡ words view.now }
+    requires named { AreConstantsOf view.now constants.now }
     requires declared { HaveDeclaredShapes view.now shapes.now.items }
     ensures values { Answers Refusal.Memory (λ vs. vs.items) result
         (spec.given_at view.now shapes.now.items (map term_of arguments.now.items)) }
@@ -320,7 +319,7 @@ fn program_with(
     arguments: &Vec<Term>,
     automaton: &Arc<CompiledAutomaton>,
 ) -> Result<Program, Refusal>
-    requires named { arc_value ground.now.constants.now ≡ words ground.now.view.now }
+    requires named { AreConstantsOf ground.now.view.now (arc_value ground.now.constants.now) }
     requires declared { HaveDeclaredShapes ground.now.view.now (spec.parameter_shapes (arc_value automaton.now)) }
     ensures { Answers Refusal.Memory (λ p. p) result (spec.program_with ground.now.view.now number
         (map term_of arguments.now.items) (arc_value automaton.now)) }
@@ -338,7 +337,7 @@ fn node_program(
     number: i64,
     node: &Node<(), (), ()>,
 ) -> Result<Program, Refusal>
-    requires named { arc_value ground.now.constants.now ≡ words ground.now.view.now }
+    requires named { AreConstantsOf ground.now.view.now (arc_value ground.now.constants.now) }
     requires grounded { AreGrounded ground.now.view.now (map arc_value ground.now.automata.now.items) }
     ensures { Answers Refusal.Memory (λ p. p) result (spec.node_program ground.now.view.now
         (map arc_value ground.now.automata.now.items) number (node_of node.now)) }
@@ -357,7 +356,7 @@ fn program_at(
     nodes: &[&Node<(), (), ()>],
     number: i64,
 ) -> Result<Program, Refusal>
-    requires named { arc_value ground.now.constants.now ≡ words ground.now.view.now }
+    requires named { AreConstantsOf ground.now.view.now (arc_value ground.now.constants.now) }
     requires grounded { AreGrounded ground.now.view.now (map arc_value ground.now.automata.now.items) }
     ensures { Answers Refusal.Memory (λ p. p) result (spec.program_at ground.now.view.now
         (map arc_value ground.now.automata.now.items) number (find (spec.has_number number) (map node_at nodes.now))) }
@@ -375,7 +374,7 @@ fn program_at_position(
     nodes: &[&Node<(), (), ()>],
     position: usize,
 ) -> Result<Arc<Program>, Refusal>
-    requires named { arc_value ground.now.constants.now ≡ words ground.now.view.now }
+    requires named { AreConstantsOf ground.now.view.now (arc_value ground.now.constants.now) }
     requires grounded { AreGrounded ground.now.view.now (map arc_value ground.now.automata.now.items) }
     requires small { position < 2 ^ 63 }
     ensures { Answers Refusal.Memory arc_value result (spec.program_at ground.now.view.now
@@ -392,7 +391,7 @@ pub(crate) fn programs_of(
     ground: &Ground,
     nodes: &[&Node<(), (), ()>],
 ) -> Result<Vec<Arc<Program>>, Refusal>
-    requires named { arc_value ground.now.constants.now ≡ words ground.now.view.now }
+    requires named { AreConstantsOf ground.now.view.now (arc_value ground.now.constants.now) }
     requires grounded { AreGrounded ground.now.view.now (map arc_value ground.now.automata.now.items) }
     ensures { Answers Refusal.Memory (λ ps. map arc_value ps.items) result (spec.programs_at ground.now.view.now
         (map arc_value ground.now.automata.now.items) (map node_at nodes.now)) }

@@ -8,10 +8,9 @@ ghost use Rattle.std.specs.Arc.{arc_value};
 ghost use Rattle.ioa_values.specs.Outcome.{Answers};
 ghost use Rattle.ioa_source.specs.TextView.{call_of, placement_of, script_of};
 ghost use Rattle.ioa_system.specs.Parts.{rule_named};
-ghost use Rattle.ioa_names.specs.NameTables.{words};
 ghost use Rattle.ioa_sorts.specs.Statements.{all_ok};
 ghost use Rattle.ioa_check.specs.Distinct.{differ_from};
-ghost use Rattle.ioa_check.specs.Grounds.{AreGroundedPrograms, IsGrounded};
+ghost use Rattle.ioa_check.specs.Grounds.{AreConstantsOf, AreGroundedPrograms, IsGrounded};
 ghost use Rattle.ioa_check.specs.Scripts as spec;
 ghost use Rattle.ioa_check.specs.Sections.{script_behind, scripts_in};
 
@@ -115,7 +114,7 @@ fn stimulus_of(
     automaton: &CompiledAutomaton,
     call: &Call<(), (), ()>,
 ) -> Result<NodeAction, Refusal>
-    requires named { arc_value ground.now.constants.now ≡ words ground.now.view.now }
+    requires named { AreConstantsOf ground.now.view.now (arc_value ground.now.constants.now) }
     requires grounded { IsGrounded ground.now.view.now automaton.now }
     ensures { Answers Refusal.Memory (λ a. a) result
         (spec.stimulus_at ground.now.view.now number automaton.now (call_of call.now)) }
@@ -140,7 +139,7 @@ fn stimuli_of(
     automaton: &CompiledAutomaton,
     calls: &Vec<Call<(), (), ()>>,
 ) -> Result<Vec<NodeAction>, Refusal>
-    requires named { arc_value ground.now.constants.now ≡ words ground.now.view.now }
+    requires named { AreConstantsOf ground.now.view.now (arc_value ground.now.constants.now) }
     requires grounded { IsGrounded ground.now.view.now automaton.now }
     ensures { Answers Refusal.Memory (λ xs. xs.items) result
         (spec.stimuli_at ground.now.view.now number automaton.now (map call_of calls.now.items)) }
@@ -162,7 +161,7 @@ fn script_at(
     number: i64,
     calls: &Vec<Call<(), (), ()>>,
 ) -> Result<Script, Refusal>
-    requires named { arc_value ground.now.constants.now ≡ words ground.now.view.now }
+    requires named { AreConstantsOf ground.now.view.now (arc_value ground.now.constants.now) }
     requires grounded { AreGroundedPrograms ground.now.view.now (map arc_value programs.now.items) }
     ensures { Answers Refusal.Memory (λ s. s) result
         (spec.script_at ground.now.view.now (map arc_value programs.now.items) number
@@ -180,7 +179,7 @@ fn script_of(
     programs: &Vec<Arc<Program>>,
     script: &ScriptDeclaration<(), (), ()>,
 ) -> Result<Script, Refusal>
-    requires named { arc_value ground.now.constants.now ≡ words ground.now.view.now }
+    requires named { AreConstantsOf ground.now.view.now (arc_value ground.now.constants.now) }
     requires grounded { AreGroundedPrograms ground.now.view.now (map arc_value programs.now.items) }
     ensures { Answers Refusal.Memory (λ s. s) result
         (spec.script_of ground.now.view.now (map arc_value programs.now.items) (script_of script.now)) }
@@ -195,7 +194,7 @@ fn scripts_at(
     programs: &Vec<Arc<Program>>,
     declared: &[&ScriptDeclaration<(), (), ()>],
 ) -> Result<Vec<Script>, Refusal>
-    requires named { arc_value ground.now.constants.now ≡ words ground.now.view.now }
+    requires named { AreConstantsOf ground.now.view.now (arc_value ground.now.constants.now) }
     requires grounded { AreGroundedPrograms ground.now.view.now (map arc_value programs.now.items) }
     ensures { Answers Refusal.Memory (λ ss. ss.items) result
         (all_ok (map (spec.script_of ground.now.view.now (map arc_value programs.now.items))
@@ -217,7 +216,7 @@ pub(crate) fn scripts_of(
     programs: &Vec<Arc<Program>>,
     placements: &Vec<Placement<(), (), ()>>,
 ) -> Result<Vec<Script>, Refusal>
-    requires named { arc_value ground.now.constants.now ≡ words ground.now.view.now }
+    requires named { AreConstantsOf ground.now.view.now (arc_value ground.now.constants.now) }
     requires grounded { AreGroundedPrograms ground.now.view.now (map arc_value programs.now.items) }
     ensures { Answers Refusal.Memory (λ ss. ss.items) result (spec.scripts_at ground.now.view.now
         (map arc_value programs.now.items) (map placement_of placements.now.items)) }

@@ -6,6 +6,7 @@ pub mod Executions
 pub mod IsStart
 pub mod JointStep
 pub mod Participants
+pub mod Readings
 pub mod SameConfs
 pub mod Scripts
 pub mod Start

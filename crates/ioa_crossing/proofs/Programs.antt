@@ -8,6 +8,7 @@ use Rattle.ioa_terms.proofs.tree.Tree.TheLaws.TheKnot as tree_knot
 use Rattle.ioa_terms.proofs.tree.Statement.TheLaws.TheKnot as statement_knot
 use Rattle.ioa_operators.specs.contracts.shape.Shape as Shape
 use Rattle.ioa_terms.specs.contracts.callee.Callee as Callee
+use Rattle.ioa_terms.specs.contracts.name.Name as Name
 use Rattle.ioa_terms.specs.contracts.sort.Sort as Sort
 use Rattle.ioa_source.specs.contracts.declaration.Declared as Declared
 use Rattle.ioa_source.specs.contracts.declaration.Variable as Variable
@@ -23,6 +24,7 @@ use Rattle.ioa_system.specs.contracts.rules.Rules as Rules
 use Rattle.ioa_system.specs.contracts.automaton.CompiledAutomaton as CompiledAutomaton
 use Rattle.ioa_system.specs.contracts.program.Program as Program
 use Rattle.ioa_system.specs.contracts.script.Script as Script
+use Rattle.ioa_system.specs.contracts.invariant.CompiledInvariant as CompiledInvariant
 use Rattle.ioa_system.specs.contracts.system.System as System
 use Rattle.ioa_crossing.proofs.Actions.{node_action_send, node_action_sync, owners, value_send, value_sync, word_send, word_sync}
 
@@ -49,6 +51,12 @@ names_send = search (owners, word_send, crosses, sendable) depth 60 fits 20000
 
 pub names_sync : IsSync (Names.the_field).row
 names_sync = search (owners, word_sync, crosses, sendable) depth 60 fits 20000
+
+pub name_send : IsSend (Name.the_field).row
+name_send = search (word_send, crosses, sendable) depth 60 fits 20000
+
+pub name_sync : IsSync (Name.the_field).row
+name_sync = search (word_sync, crosses, sendable) depth 60 fits 20000
 
 pub callee_send : IsSend (Callee.the_field).row
 callee_send = search (crosses, sendable) depth 60 fits 20000
@@ -128,8 +136,14 @@ script_send = search (owners, node_action_send, crosses, sendable) depth 60 fits
 pub script_sync : IsSync (Script.the_field).row
 script_sync = search (owners, node_action_sync, crosses, sendable) depth 60 fits 20000
 
+pub invariant_send : IsSend (CompiledInvariant.the_field).row
+invariant_send = search (word_send, names_send, names_sync, name_send, tree_send, crosses, sendable) depth 60 fits 20000
+
+pub invariant_sync : IsSync (CompiledInvariant.the_field).row
+invariant_sync = search (word_sync, names_send, names_sync, name_sync, tree_sync, crosses, sendable) depth 60 fits 20000
+
 pub system_send : IsSend (System.the_field).row
-system_send = search (owners, names_send, names_sync, program_send, program_sync, script_send, crosses, sendable) depth 60 fits 20000
+system_send = search (owners, names_send, names_sync, program_send, program_sync, script_send, invariant_send, crosses, sendable) depth 60 fits 20000
 
 pub system_sync : IsSync (System.the_field).row
-system_sync = search (owners, names_send, names_sync, program_send, program_sync, script_sync, crosses, sendable) depth 60 fits 20000
+system_sync = search (owners, names_send, names_sync, program_send, program_sync, script_sync, invariant_sync, crosses, sendable) depth 60 fits 20000

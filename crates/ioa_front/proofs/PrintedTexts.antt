@@ -5,15 +5,15 @@ use Rattle.ioa_tokens.specs.declared.token.Token.{Token}
 use Rattle.ioa_tokens.specs.declared.token.Token.TheVariants as token
 use Rattle.ioa_tokens.specs.declared.mark.Mark.TheVariants as mark
 use Rattle.ioa_tokens.specs.Written.{AreTokens}
-use Rattle.ioa_source.specs.Sides.{SourceTerm as Term, SourceDeclared as Declared, SourceVariable as Variable, SourceStatement as Statement, SourceTransition as Transition, SourceSchedule as Schedule, SourceForm as Form, SourceDeclaration as Declaration, SourceCall as Call, SourcePlacement as Placement, SourceText}
+use Rattle.ioa_source.specs.Sides.{SourceTerm as Term, SourceDeclared as Declared, SourceVariable as Variable, SourceStatement as Statement, SourceTransition as Transition, SourceSchedule as Schedule, SourceForm as Form, SourceDeclaration as Declaration, SourceCall as Call, SourcePlacement as Placement, SourceInvariant as Invariant, SourceText}
 use Rattle.ioa_cursor.specs.Lists.{Several, SeparatedBy, SeveralLists, Section}
 use Rattle.ioa_term_reader.specs.Grammar.{bracket_limit, SpellsTerm}
 use Rattle.ioa_term_reader.specs.Spelling.{spelling}
 use Rattle.ioa_term_reader.proofs.PrintedGood.{tokens_joined}
 use Rattle.ioa_text_reader.specs.declared.statement.Context.TheVariants.{Effect}
 use Rattle.ioa_text_reader.specs.Grammar as grammar
-use Rattle.ioa_text_reader.specs.Grammar.{SpellsWord, SpellsVariable, SpellsCall, SpellsGuard, SpellsLow, SpellsTransition, SpellsGroup, SpellsBlock, schedule_with, SpellsSchedule, SpellsHead, SpellsForm, SpellsDeclaration, SpellsPlacement, Spells}
-use Rattle.ioa_front.specs.Spelling.{separated_spelling, joined_spelling, bracketed_spelling, section_spelling, optional_spelling, word_spelling, sort_spelling, declared_spelling, call_spelling, one_call_spelling, calls_spelling, entry_spelling, variable_spelling, states_spelling, transition_spelling, list_spelling, block_spelling, schedule_spelling, form_spelling, declaration_spelling, placement_spelling, text_spelling}
+use Rattle.ioa_text_reader.specs.Grammar.{SpellsWord, SpellsVariable, SpellsCall, SpellsGuard, SpellsLow, SpellsTransition, SpellsGroup, SpellsBlock, schedule_with, SpellsSchedule, SpellsHead, SpellsForm, SpellsDeclaration, SpellsPlacement, SpellsInvariant, Spells}
+use Rattle.ioa_front.specs.Spelling.{separated_spelling, joined_spelling, bracketed_spelling, section_spelling, optional_spelling, word_spelling, sort_spelling, declared_spelling, call_spelling, one_call_spelling, calls_spelling, entry_spelling, variable_spelling, states_spelling, transition_spelling, list_spelling, block_spelling, schedule_spelling, form_spelling, declaration_spelling, placement_spelling, invariant_spelling, text_spelling}
 use Rattle.ioa_front.proofs.PrintedLists.{Prints, several_prints, separated_prints, optional_prints, section_prints, brackets_good}
 use Rattle.ioa_front.proofs.PrintedDeclared.{outer_term, sort_prints, word_prints, declared_prints, call_prints, kind_again, kind_good, entries_print}
 use Rattle.ioa_front.proofs.PrintedStatements.{low_prints, block_prints}
@@ -154,19 +154,34 @@ declarations_print d = several_prints SpellsDeclaration declaration_spelling dec
 system_prints : {ps : List Placement} {xs ys : List Token} → Several SpellsPlacement ps xs ys → Prints (Several SpellsPlacement) (joined_spelling placement_spelling) ps xs ys
 system_prints d = several_prints SpellsPlacement placement_spelling placement_prints d
 
+invariant_prints : (v : Invariant) (xs ys : List Token) → SpellsInvariant v xs ys → Prints SpellsInvariant invariant_spelling v xs ys
+invariant_prints _ xs ys (grammar.invariant d) =
+    let p = outer_term _ _ _ d in
+    record { again = λ zs. grammar.invariant (p.again zs); good = λ h. let g = p.good h.1.1.1 in ((tt, (h.1.0, (tt, g.0))), g.1) }
+
+invariants_print : {vs : List Invariant} {xs ys : List Token} → Several SpellsInvariant vs xs ys → Prints (Several SpellsInvariant) (joined_spelling invariant_spelling) vs xs ys
+invariants_print d = several_prints SpellsInvariant invariant_spelling invariant_prints d
+
 -- what is spelled is spelled as it is printed
 pub text_spelled : (p : SourceText) (xs : List Token) → Spells p xs → Spells p (text_spelling p)
-text_spelled _ xs (grammar.text {declarations = declarations} {system = system} d e) =
+text_spelled _ xs (grammar.text {declarations = declarations} {system = system} {invariants = invariants} d e f) =
     let p = declarations_print d in
     let q = system_prints e in
-    let last = rw (append-nil (joined_spelling placement_spelling system)) at (q.again []) in
-    grammar.text (p.again (token.Mark mark.System ∷ joined_spelling placement_spelling system)) last
+    let r = invariants_print f in
+    let placed = joined_spelling placement_spelling system in
+    let behind = joined_spelling invariant_spelling invariants in
+    let last = rw (append-nil behind) at (r.again []) in
+    grammar.text (p.again (token.Mark mark.System ∷ (placed ++ behind))) (q.again behind) last
 
 -- and it is printed with tokens that a text can have
 pub text_good : (p : SourceText) (xs : List Token) → Spells p xs → AreTokens xs → AreTokens (text_spelling p)
-text_good _ xs (grammar.text {declarations = declarations} {system = system} d e) h =
+text_good _ xs (grammar.text {declarations = declarations} {system = system} {invariants = invariants} d e f) h =
     let p = declarations_print d in
     let q = system_prints e in
+    let r = invariants_print f in
+    let placed = joined_spelling placement_spelling system in
+    let behind = joined_spelling invariant_spelling invariants in
     let g = p.good h in
     let i = q.good g.1.1 in
-    tokens_joined (joined_spelling declaration_spelling declarations) (token.Mark mark.System ∷ joined_spelling placement_spelling system) g.0 (tt, i.0)
+    let j = r.good i.1 in
+    tokens_joined (joined_spelling declaration_spelling declarations) (token.Mark mark.System ∷ (placed ++ behind)) g.0 (tt, tokens_joined placed behind i.0 j.0)

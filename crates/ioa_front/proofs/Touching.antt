@@ -19,7 +19,7 @@ opens t (token.Mark mark.OpenSquare) e = loose_touches t mark.OpenSquare refl
 opens t (token.Mark mark.OpenBrace) e = loose_touches t mark.OpenBrace refl
 opens t _ e = absurd (true≢false (sym e))
 
--- so may one that closes, and a sign that ends a part
+-- so may one that closes, a sign that ends a part, and the sign of `x@k`
 ends : (t u : Token) → is_part_end u ≡ true → may_touch t u ≡ true
 unfolding mark_text signs reserved
 ends t (token.Mark mark.CloseRound) e = loose_touches t mark.CloseRound refl
@@ -29,6 +29,7 @@ ends t (token.Mark mark.Dot) e = loose_touches t mark.Dot refl
 ends t (token.Mark mark.Comma) e = loose_touches t mark.Comma refl
 ends t (token.Mark mark.Semicolon) e = loose_touches t mark.Semicolon refl
 ends t (token.Mark mark.Colon) e = loose_touches t mark.Colon refl
+ends t (token.Mark mark.AtSign) e = loose_touches t mark.AtSign refl
 ends t _ e = absurd (true≢false (sym e))
 
 -- any token may come right behind these
@@ -37,6 +38,7 @@ precedes (token.Mark mark.OpenRound) u e = apart_from_closed mark.OpenRound ((ga
 precedes (token.Mark mark.OpenSquare) u e = apart_from_closed mark.OpenSquare ((gap.Joined, u) ∷ []) refl
 precedes (token.Mark mark.OpenBrace) u e = apart_from_closed mark.OpenBrace ((gap.Joined, u) ∷ []) refl
 precedes (token.Mark mark.Dot) u e = apart_from_closed mark.Dot ((gap.Joined, u) ∷ []) refl
+precedes (token.Mark mark.AtSign) u e = apart_from_closed mark.AtSign ((gap.Joined, u) ∷ []) refl
 precedes _ u e = absurd (true≢false (sym e))
 
 -- a name, a number or a truth value may come right behind an operator before a term

@@ -35,5 +35,5 @@ written_more ts text w written may =
     )
 
 -- the tokens of one more piece
-pub tokens_more : (ps : List Piece) (i : ℕ) (p : Piece) → i < length ps → p ≡ get_or ps i p → map piece_token (take (i + 1) ps) ≡ map piece_token (take i ps) ++ piece_token p ∷ []
-tokens_more ps i p within at = rw (take_more ps i p within, map-append piece_token (take i ps) (get_or ps i p ∷ []), ← at) refl
+pub tokens_more : (ps : List Piece) (i : ℕ) (none : Piece) → i < length ps → map piece_token (take (i + 1) ps) ≡ map piece_token (take i ps) ++ piece_token (get_or ps i none) ∷ []
+tokens_more ps i none within = rw (take_more ps i none within, map-append piece_token (take i ps) (get_or ps i none ∷ [])) refl

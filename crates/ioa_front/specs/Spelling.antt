@@ -18,7 +18,7 @@ use Rattle.ioa_source.specs.Sides.{SourceDeclared as Declared}
 use Rattle.ioa_source.specs.Sides.{SourceParameter as Parameter, SourceEntry as Entry, SourceVariable as Variable}
 use Rattle.ioa_source.specs.Sides.{SourceTransition as Transition, SourceSchedule as Schedule, SourceForm as Form}
 use Rattle.ioa_source.specs.Sides.{SourceDeclaration as Declaration, SourceCall as Call, SourcePlacement as Placement}
-use Rattle.ioa_source.specs.Sides.{SourceText}
+use Rattle.ioa_source.specs.Sides.{SourceInvariant as Invariant, SourceText}
 use Rattle.ioa_term_reader.specs.Spelling.{spelling}
 
 -- items, each after a mark
@@ -252,8 +252,15 @@ placement_spelling (channel c) =
 placement_spelling (script s) =
     token.Mark mark.Script ∷ token.Number s.node ∷ token.Mark mark.Colon ∷ calls_spelling s.calls
 
+-- invariant Word : Term
+abbrev pub invariant_spelling : Invariant → List Token
+invariant_spelling v = token.Mark mark.Invariant ∷ token.Word v.name ∷ token.Mark mark.Colon ∷ spelling v.term
+
+-- what comes behind `system`: {Placement} {Invariant}
+abbrev pub system_spelling : SourceText → List Token
+system_spelling p = joined_spelling placement_spelling p.system ++ joined_spelling invariant_spelling p.invariants
+
 -- a whole text
 abbrev pub text_spelling : SourceText → List Token
 text_spelling p =
-    joined_spelling declaration_spelling p.declarations
-    ++ (token.Mark mark.System ∷ joined_spelling placement_spelling p.system)
+    joined_spelling declaration_spelling p.declarations ++ (token.Mark mark.System ∷ system_spelling p)

@@ -11,7 +11,7 @@ is_opening (token.Mark mark.OpenSquare) = true
 is_opening (token.Mark mark.OpenBrace) = true
 is_opening _ = false
 
--- the brackets that close, and the signs that end a part
+-- the brackets that close, the signs that end a part, and the sign of `x@k`
 abbrev pub is_part_end : Token → Bool
 is_part_end (token.Mark mark.CloseRound) = true
 is_part_end (token.Mark mark.CloseSquare) = true
@@ -20,6 +20,7 @@ is_part_end (token.Mark mark.Dot) = true
 is_part_end (token.Mark mark.Comma) = true
 is_part_end (token.Mark mark.Semicolon) = true
 is_part_end (token.Mark mark.Colon) = true
+is_part_end (token.Mark mark.AtSign) = true
 is_part_end _ = false
 
 -- the tokens that may follow any token without a gap
@@ -32,6 +33,7 @@ precedes_any (token.Mark mark.OpenRound) = true
 precedes_any (token.Mark mark.OpenSquare) = true
 precedes_any (token.Mark mark.OpenBrace) = true
 precedes_any (token.Mark mark.Dot) = true
+precedes_any (token.Mark mark.AtSign) = true
 precedes_any _ = false
 
 -- the operators before a term

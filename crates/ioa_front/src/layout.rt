@@ -152,7 +152,7 @@ impl Layout {
     /// How far the second of two pieces is indented, if it always begins a line.
     fn line_before(&self, before: Piece<'_>, after: Piece<'_>) -> Option<usize> {
         match after {
-            Piece::Mark(Mark::Type | Mark::Automaton | Mark::System) => Some(0),
+            Piece::Mark(Mark::Type | Mark::Automaton | Mark::System | Mark::Invariant) => Some(0),
             Piece::Mark(Mark::States) if self.in_schedule => Some(ITEM),
             Piece::Mark(Mark::Signature | Mark::States | Mark::Transitions | Mark::Schedule) => {
                 Some(PART)
@@ -215,13 +215,15 @@ fn is_opening(piece: Piece<'_>) -> bool
     }
 }
 
-/// Whether there is no space before a piece: a bracket that closes, or a sign that ends a part.
+/// Whether there is no space before a piece: a bracket that closes, a sign that ends a part, or the sign of
+/// `x@k`.
 fn is_part_end(piece: Piece<'_>) -> bool
     ensures { result ≡ spec.is_part_end (piece_token piece.entry) }
 {
     match piece {
         Piece::Mark(Mark::CloseRound | Mark::CloseSquare | Mark::CloseBrace) => true,
         Piece::Mark(Mark::Dot | Mark::Comma | Mark::Semicolon | Mark::Colon) => true,
+        Piece::Mark(Mark::AtSign) => true,
         _ => false,
     }
 }
@@ -231,7 +233,8 @@ fn precedes_any(piece: Piece<'_>) -> bool
     ensures { result ≡ spec.precedes_any (piece_token piece.entry) }
 {
     match piece {
-        Piece::Mark(Mark::OpenRound | Mark::OpenSquare | Mark::OpenBrace | Mark::Dot) => true,
+        Piece::Mark(Mark::OpenRound | Mark::OpenSquare | Mark::OpenBrace) => true,
+        Piece::Mark(Mark::Dot | Mark::AtSign) => true,
         _ => false,
     }
 }

@@ -13,8 +13,8 @@ use std::marker::Model;
 /// A token that is to be written.
 #[derive(Clone, Copy)]
 pub(crate) enum Piece<'a> {
-    /// A name.
-    Word(&'a Word),
+    /// A name, by its text.
+    Word(&'a str),
     /// A number.
     Number(i64),
     /// A sign or a reserved word.
@@ -58,7 +58,14 @@ impl<'a> Pieces<'a> {
     pub(crate) fn put_word(&mut self, word: &'a Word) -> Result<(), AllocError>
         ensures { Puts (token.Word word.now ∷ []) result self.old self.new }
     {
-        self.list.push(Piece::Word(word))?;
+        self.put_text(word.as_str())
+    }
+
+    /// Adds a name by its text.
+    pub(crate) fn put_text(&mut self, text: &'a str) -> Result<(), AllocError>
+        ensures { Puts (token.Word text.now ∷ []) result self.old self.new }
+    {
+        self.list.push(Piece::Word(text))?;
         Ok(())
     }
 

@@ -11,7 +11,7 @@ ghost use Rattle.ioa_front.specs.Listing as listing;
 ghost use Rattle.ioa_front.specs.Pieces.{Puts};
 
 use crate::piece::Pieces;
-use ioa_term_reader::{infix_mark, prefix_mark};
+use ioa_term_reader::{QUEUE, infix_mark, prefix_mark};
 use ioa_terms::{BinaryOperator, DisplayForm, Name, Term};
 use ioa_tokens::Mark;
 use std::alloc::AllocError;
@@ -74,6 +74,35 @@ fn is_key(operator: BinaryOperator) -> bool
     }
 }
 
+/// Puts the two numbers of a channel.
+fn put_ends<'a>(out: &mut Pieces<'a>, from: &i64, to: &i64) -> Result<(), AllocError>
+    ensures { Puts (spec.ends_spelling from.now to.now) result out.old out.new }
+{
+    out.put_number(*from)?;
+    out.put_mark(Mark::Comma)?;
+    out.put_number(*to)
+}
+
+/// Puts the pieces of a name.
+fn put_name<'a>(out: &mut Pieces<'a>, name: &'a Name) -> Result<(), AllocError>
+    ensures { Puts (spec.name_spelling name.now) result out.old out.new }
+{
+    match name {
+        Name::Word(word) => out.put_word(word),
+        Name::Variable { name, node } => {
+            out.put_word(name)?;
+            out.put_mark(Mark::AtSign)?;
+            out.put_number(*node)
+        }
+        Name::Queue { from, to } => {
+            out.put_text(QUEUE)?;
+            out.put_mark(Mark::OpenRound)?;
+            put_ends(out, from, to)?;
+            out.put_mark(Mark::CloseRound)
+        }
+    }
+}
+
 /// Puts the pieces of a term.
 #[cycle(terms)]
 pub(crate) fn put_term<'a>(out: &mut Pieces<'a>, term: &'a Term) -> Result<(), AllocError>
@@ -82,7 +111,7 @@ pub(crate) fn put_term<'a>(out: &mut Pieces<'a>, term: &'a Term) -> Result<(), A
     match term {
         Term::Number(number) => out.put_number(*number),
         Term::Truth(truth) => out.put_mark(truth_mark(*truth)),
-        Term::Name(Name::Word(word), _) => out.put_word(word),
+        Term::Name(name, _) => put_name(out, name),
         Term::One(operator, operand) => {
             out.put_mark(prefix_mark(*operator))?;
             put_part(out, operand)

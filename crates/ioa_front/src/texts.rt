@@ -1,14 +1,15 @@
 //! The pieces of a whole text.
 
 ghost use Rattle.std.specs.Prelude.{◌≡◌, IfOk, map};
-ghost use Rattle.ioa_source.specs.TextView.{call_of, placement_of, text_of};
+ghost use Rattle.ioa_source.specs.TextView.{call_of, placement_of, invariant_of, text_of};
 ghost use Rattle.ioa_front.specs.Pieces.{Puts};
 ghost use Rattle.ioa_front.specs.Spelling as spec;
 
 use crate::declarations::put_declarations;
 use crate::piece::Pieces;
 use crate::statements::put_call;
-use ioa_source::{Call, Placement, Text};
+use crate::terms::put_term;
+use ioa_source::{Call, Invariant, Placement, Text};
 use ioa_tokens::Mark;
 use std::alloc::{AllocError, Global};
 
@@ -68,6 +69,33 @@ fn put_placements<'a>(
     Ok(())
 }
 
+/// Puts an invariant.
+fn put_invariant<'a>(
+    out: &mut Pieces<'a>,
+    invariant: &'a Invariant<(), (), ()>,
+) -> Result<(), AllocError>
+    ensures { Puts (spec.invariant_spelling (invariant_of invariant.now)) result out.old out.new }
+{
+    out.put_mark(Mark::Invariant)?;
+    out.put_word(&invariant.name)?;
+    out.put_mark(Mark::Colon)?;
+    put_term(out, &invariant.term)
+}
+
+/// Puts invariants.
+fn put_invariants<'a>(
+    out: &mut Pieces<'a>,
+    invariants: &'a [Invariant<(), (), ()>],
+) -> Result<(), AllocError>
+    ensures { Puts (spec.joined_spelling spec.invariant_spelling (map invariant_of invariants.now))
+        result out.old out.new }
+{
+    for invariant in invariants {
+        put_invariant(out, invariant)?;
+    }
+    Ok(())
+}
+
 /// The pieces of a text.
 pub(crate) fn pieces_of<'a>(
     alloc: Global,
@@ -79,5 +107,6 @@ pub(crate) fn pieces_of<'a>(
     put_declarations(&mut out, &text.declarations)?;
     out.put_mark(Mark::System)?;
     put_placements(&mut out, &text.system)?;
+    put_invariants(&mut out, &text.invariants)?;
     Ok(out)
 }

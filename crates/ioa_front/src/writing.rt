@@ -16,7 +16,7 @@ fn push_piece(text: &mut String, gap: Gap, piece: Piece<'_>) -> Result<(), Alloc
         string_bytes text.old ++ (gap_text gap ++ token_text (piece_token piece.entry))) }
 {
     match piece {
-        Piece::Word(word) => push_word(text, gap, word.as_str()),
+        Piece::Word(word) => push_word(text, gap, word),
         Piece::Number(number) => push_number(text, gap, number),
         Piece::Mark(mark) => push_mark(text, gap, mark),
     }

@@ -2,3 +2,5 @@
 pub mod Tables
 pub mod Names
 pub mod Named
+pub mod Slots
+pub mod Words

@@ -1,13 +1,15 @@
 -- Names in view, as the code finds them.
-use Rattle.std.proofs.Common.{◌≡◌, ◌+◌, ◌<◌, ◌≤◌, ℕ, zero, suc, Bool, true, false, if◌then◌else◌, List, [], ◌∷◌, ◌++◌, Option, Some, None, length, nat_lt, take, slice_get, refl, ◌∙◌, ap, sym, subst, arith}
+use Rattle.std.proofs.Common.{◌≡◌, ◌+◌, ◌<◌, ◌≤◌, ℕ, ℤ, zero, suc, Bool, true, false, if◌then◌else◌, List, [], ◌∷◌, ◌++◌, Option, Some, None, length, map, nat_lt, take, slice_get, refl, ◌∙◌, ap, sym, subst, arith}
 use Rattle.std.specs.List.{zip}
 use Rattle.std.proofs.lemmas.Bool.Decides.{nat_tests}
 use Rattle.std.specs.Option.{is_some, option_map, option_and_then, option_or}
 use Rattle.ioa_operators.specs.Shapes.{PlainShape}
 use Rattle.ioa_terms.specs.declared.name.Name.{Name}
+use Rattle.ioa_terms.specs.declared.name.Name.TheVariants.{Word, Variable, Queue}
 use Rattle.ioa_terms.specs.Bindings.{same_name, slot_in}
 use Rattle.ioa_terms.specs.Sorted.{NameShapes, shape_named}
-use Rattle.ioa_names.specs.Views.{at_slot, behind, declared_at}
+use Rattle.ioa_names.specs.NameTables.{declared_names, word_in, words}
+use Rattle.ioa_names.specs.Views.{AreWords, at_slot, behind, declared_at}
 
 abbrev next : ℕ × PlainShape → ℕ × PlainShape
 next p = (p.0 + 1, p.1)
@@ -105,6 +107,42 @@ in_three x outer own constants =
     ∙ ap (λ o. option_or (declared_at x outer) (behind (length outer) o)) (in_two x own constants)
     ∙ ap (option_or (declared_at x outer)) (behind_or (length outer) (declared_at x own) (behind (length own) (declared_at x constants)))
     ∙ ap (λ o. option_or (declared_at x outer) (option_or (behind (length outer) (declared_at x own)) o)) (behind_both (length outer) (length own) (declared_at x constants))
+
+-- a name that is no word is none of those that are words
+no_word_at : (x : Name) (ns : NameShapes) (ws : List (List ℕ)) → word_in x ≡ [] → declared_names ns ≡ map Word ws → None ≡ declared_at x ns
+no_word_at x [] ws e h = refl
+no_word_at x (n ∷ ns) [] e h = absurd (cc)
+no_word_at (Word y) (n ∷ ns) (w ∷ ws) e h = absurd (cc)
+no_word_at (Variable y k) ((Word v, s) ∷ ns) (w ∷ ws) e h = ap (option_map next) (no_word_at (Variable y k) ns ws e (cc))
+no_word_at (Variable y k) ((Variable v l, s) ∷ ns) (w ∷ ws) e h = absurd (cc)
+no_word_at (Variable y k) ((Queue i j, s) ∷ ns) (w ∷ ws) e h = absurd (cc)
+no_word_at (Queue a b) ((Word v, s) ∷ ns) (w ∷ ws) e h = ap (option_map next) (no_word_at (Queue a b) ns ws e (cc))
+no_word_at (Queue a b) ((Variable v l, s) ∷ ns) (w ∷ ws) e h = absurd (cc)
+no_word_at (Queue a b) ((Queue i j, s) ∷ ns) (w ∷ ws) e h = absurd (cc)
+
+pub no_variable : (w : List ℕ) (k : ℤ) (ns : NameShapes) → AreWords ns → None ≡ declared_at (Variable w k) ns
+no_variable w k ns h = no_word_at (Variable w k) ns (words ns) refl h
+
+pub no_queue : (i j : ℤ) (ns : NameShapes) → AreWords ns → None ≡ declared_at (Queue i j) ns
+no_queue i j ns h = no_word_at (Queue i j) ns (words ns) refl h
+
+pub ruleset no_word = (no_variable, no_queue)
+
+-- so in view it is one of the first names
+first_alone : (x : Name) (outer own constants : NameShapes) → None ≡ declared_at x own → None ≡ declared_at x constants → declared_at x outer ≡ declared_at x (outer ++ (own ++ constants))
+first_alone x outer own constants h g = sym (in_three x outer own constants ∙ rw (← h, ← g) (or_none (declared_at x outer)))
+  where
+    or_none : (o : Option (ℕ × PlainShape)) → option_or o (option_or None None) ≡ o
+    or_none None = refl
+    or_none (Some p) = refl
+
+pub first_variable : (w : List ℕ) (k : ℤ) (outer own constants : NameShapes) → AreWords own → AreWords constants → declared_at (Variable w k) outer ≡ declared_at (Variable w k) (outer ++ (own ++ constants))
+first_variable w k outer own constants h g = first_alone (Variable w k) outer own constants (no_variable w k own h) (no_variable w k constants g)
+
+pub first_queue : (i j : ℤ) (outer own constants : NameShapes) → AreWords own → AreWords constants → declared_at (Queue i j) outer ≡ declared_at (Queue i j) (outer ++ (own ++ constants))
+first_queue i j outer own constants h g = first_alone (Queue i j) outer own constants (no_queue i j own h) (no_queue i j constants g)
+
+pub ruleset in_first = (first_variable, first_queue)
 
 -- the slot of a name, if it is below a number
 abbrev below : ℕ → Option (ℕ × PlainShape) → Option (ℕ × PlainShape)

@@ -9,7 +9,7 @@ use Rattle.ioa_terms.specs.Bindings.{same_name, same_word, slot_in}
 use Rattle.ioa_terms.specs.Sorted.{NameShapes, shape_named}
 use Rattle.ioa_sort_rules.specs.declared.refusal.Refusal.{Refusal}
 use Rattle.ioa_sort_rules.specs.declared.refusal.Refusal.TheVariants.{Twice}
-use Rattle.ioa_names.specs.NameTables.{named_newly, with_name, words}
+use Rattle.ioa_names.specs.NameTables.{declared_names, named_newly, with_name, words}
 
 -- no shapes
 abbrev nothing : List PlainShape
@@ -45,12 +45,30 @@ words_zip [] ss h = refl
 words_zip (n ∷ ns) [] h = absurd (omega arith)
 words_zip (n ∷ ns) (s ∷ ss) h = ap (λ more. n ∷ more) (words_zip ns ss (omega arith))
 
+-- each name of such a table is a word
+pub named_by_words : (ns : List (List ℕ)) (ss : List PlainShape) → length ns ≡ length ss → declared_names (zip (map Word ns) ss) ≡ map Word (words (zip (map Word ns) ss))
+named_by_words [] ss h = refl
+named_by_words (n ∷ ns) [] h = absurd (omega arith)
+named_by_words (n ∷ ns) (s ∷ ss) h = ap (λ more. Word n ∷ more) (named_by_words ns ss (omega arith))
+
 -- and their number
 pub many_zip : (ns : List (List ℕ)) (ss : List PlainShape) → length ns ≡ length ss → length ss ≡ length (zip (map Word ns) ss)
 many_zip [] [] h = refl
 many_zip [] (s ∷ ss) h = absurd (omega arith)
 many_zip (n ∷ ns) [] h = absurd (omega arith)
 many_zip (n ∷ ns) (s ∷ ss) h = ap suc (many_zip ns ss (omega arith))
+
+-- the same of a table of any names
+pub names_zip : (ns : List Name) (ss : List PlainShape) → length ns ≡ length ss → ns ≡ declared_names (zip ns ss)
+names_zip [] ss h = refl
+names_zip (n ∷ ns) [] h = absurd (omega arith)
+names_zip (n ∷ ns) (s ∷ ss) h = ap (λ more. n ∷ more) (names_zip ns ss (omega arith))
+
+pub many_named : (ns : List Name) (ss : List PlainShape) → length ns ≡ length ss → length ss ≡ length (zip ns ss)
+many_named [] [] h = refl
+many_named [] (s ∷ ss) h = absurd (omega arith)
+many_named (n ∷ ns) [] h = absurd (omega arith)
+many_named (n ∷ ns) (s ∷ ss) h = ap suc (many_named ns ss (omega arith))
 
 -- a name that is not among the names has no shape, and one that is has a shape
 abbrev IsNamedIf : Bool → Option PlainShape → Type 0
@@ -74,7 +92,7 @@ table_is t = Ok t
 pub with_new : (w : List ℕ) (s : PlainShape) (ns ms : List (List ℕ)) (ss ts : List PlainShape) (fresh : Bool) → length ns ≡ length ss → fresh ≡ true → fresh ≡ not (list_any (same_word w) ns) → MatchBool fresh (ms ≡ ns ++ w ∷ []) (ms ≡ ns) → ts ≡ ss ++ s ∷ [] → with_name (zip (map Word ns) ss) w s ≡ table_is (zip (map Word ms) ts)
 with_new w s ns ms ss ts true many is new added pushed = rw (added, pushed, more_zip ns ss w s many) (by_found (list_any (same_word w) ns) new (among w ns ss many))
   where
-    by_found : (b : Bool) → true ≡ not b → IsNamedIf b (shape_named (Word w) (zip (map Word ns) ss)) → named_newly (zip (map Word ns) ss) w s (shape_named (Word w) (zip (map Word ns) ss)) ≡ table_is (zip (map Word ns) ss ++ (Word w, s) ∷ [])
+    by_found : (b : Bool) → true ≡ not b → IsNamedIf b (shape_named (Word w) (zip (map Word ns) ss)) → named_newly (zip (map Word ns) ss) (Word w) s (shape_named (Word w) (zip (map Word ns) ss)) ≡ table_is (zip (map Word ns) ss ++ (Word w, s) ∷ [])
     by_found true e h = absurd (cc)
     by_found false e h = rw h refl
 with_new w s ns ms ss ts false many is new added pushed = absurd (cc)
@@ -87,6 +105,6 @@ pub with_old : (w : List ℕ) (s : PlainShape) (ns : List (List ℕ)) (ss : List
 with_old w s ns ss true many is new = absurd (cc)
 with_old w s ns ss false many is new = by_found (list_any (same_word w) ns) new (among w ns ss many)
   where
-    by_found : (b : Bool) → false ≡ not b → IsNamedIf b (shape_named (Word w) (zip (map Word ns) ss)) → named_newly (zip (map Word ns) ss) w s (shape_named (Word w) (zip (map Word ns) ss)) ≡ twice
+    by_found : (b : Bool) → false ≡ not b → IsNamedIf b (shape_named (Word w) (zip (map Word ns) ss)) → named_newly (zip (map Word ns) ss) (Word w) s (shape_named (Word w) (zip (map Word ns) ss)) ≡ twice
     by_found true e h = rw h.1 refl
     by_found false e h = absurd (cc)

@@ -1,3 +1,4 @@
 -- what the contracts of this crate and of those above it cite
 pub mod NameTables
+pub mod OuterNames
 pub mod Views

@@ -6,40 +6,52 @@ use Rattle.std.specs.Option.{is_some}
 use Rattle.ioa_values.specs.Outcome.{and_then}
 use Rattle.ioa_operators.specs.Shapes.{PlainShape}
 use Rattle.ioa_terms.specs.declared.name.Name.{Name}
-use Rattle.ioa_terms.specs.declared.name.Name.TheVariants.{Word}
-use Rattle.ioa_terms.specs.Bindings.{same_word}
+use Rattle.ioa_terms.specs.declared.name.Name.TheVariants.{Word, Variable, Queue}
+use Rattle.ioa_terms.specs.Bindings.{same_name}
 use Rattle.ioa_terms.specs.Sorted.{NameShapes, shape_named}
 use Rattle.ioa_sort_rules.specs.declared.refusal.Refusal.{Refusal}
 use Rattle.ioa_sort_rules.specs.declared.refusal.Refusal.TheVariants.{Twice}
 
--- the names with one more behind them, if it is new
-abbrev pub named_newly : NameShapes → List ℕ → PlainShape → Option PlainShape → Result NameShapes Refusal
-named_newly names w s None = Ok (names ++ (Word w, s) ∷ [])
-named_newly names w s (Some t) = Err Twice
+-- the names without their shapes, in order
+abbrev pub declared_names : NameShapes → List Name
+declared_names names = map (λ n. n.0) names
 
+-- the names with one more behind them, if it is new
+abbrev pub named_newly : NameShapes → Name → PlainShape → Option PlainShape → Result NameShapes Refusal
+named_newly names x s None = Ok (names ++ (x, s) ∷ [])
+named_newly names x s (Some t) = Err Twice
+
+abbrev pub with_named : NameShapes → Name → PlainShape → Result NameShapes Refusal
+with_named names x s = named_newly names x s (shape_named x names)
+
+-- the names with a word behind them, if it is new
 abbrev pub with_name : NameShapes → List ℕ → PlainShape → Result NameShapes Refusal
-with_name names w s = named_newly names w s (shape_named (Word w) names)
+with_name names w s = with_named names (Word w) s
 
 -- the names with others behind them, if they all differ
 abbrev pub with_names : NameShapes → NameShapes → Result NameShapes Refusal
 with_names names [] = Ok names
-with_names names ((Word w, s) ∷ more) = and_then (with_name names w s) (λ ns. with_names ns more)
+with_names names (n ∷ more) = and_then (with_named names n.0 n.1) (λ ns. with_names ns more)
 
--- the words that names are, in order
-abbrev pub word_of : Name → List ℕ
-word_of (Word w) = w
+-- the words among the names, in order
+abbrev pub word_in : Name → List (List ℕ)
+word_in (Word w) = w ∷ []
+word_in (Variable x k) = []
+word_in (Queue i j) = []
 
 abbrev pub words : NameShapes → List (List ℕ)
-words names = map (λ n. word_of n.0) names
+words [] = []
+words (n ∷ names) = word_in n.0 ++ words names
 
--- whether a word is a name neither of those outside nor of the text's constants
-abbrev pub is_new : (outer constants : NameShapes) → List ℕ → Bool
-is_new outer constants w = not (is_some (shape_named (Word w) outer) || is_some (shape_named (Word w) constants))
+-- whether a name is neither one of those outside nor one of the text's constants
+abbrev pub is_new : (outer constants : NameShapes) → Name → Bool
+is_new outer constants x = not (is_some (shape_named x outer) || is_some (shape_named x constants))
 
 -- names, if each of them is new
 unfoldable pub new_or : (outer constants names : NameShapes) → Result NameShapes Refusal
-new_or outer constants names = if list_all (is_new outer constants) (words names) then Ok names else Err Twice
+new_or outer constants names =
+    if list_all (is_new outer constants) (declared_names names) then Ok names else Err Twice
 
 -- names that differ from each other
 abbrev pub AreDistinct : NameShapes → Type 0
-AreDistinct names = IsDistinct same_word (words names)
+AreDistinct names = IsDistinct same_name (declared_names names)

@@ -1,11 +1,13 @@
 -- Names in view with their shapes and slots (profile), and how the code keeps them (form).
 use Rattle.std.specs.Prelude.{◌≡◌, ℕ, ◌+◌, ◌<◌, ◌^◌, if◌then◌else◌, List, [], ◌∷◌, Option, Some, None}
-use Rattle.std.specs.Prelude.{length, slice_get}
+use Rattle.std.specs.Prelude.{length, map, slice_get}
 use Rattle.std.specs.Option.{option_map}
 use Rattle.ioa_operators.specs.Shapes.{PlainShape}
 use Rattle.ioa_terms.specs.declared.name.Name.{Name}
+use Rattle.ioa_terms.specs.declared.name.Name.TheVariants.{Word}
 use Rattle.ioa_terms.specs.Bindings.{same_name}
 use Rattle.ioa_terms.specs.Sorted.{NameShapes, shape_in_terms}
+use Rattle.ioa_names.specs.NameTables.{declared_names, words}
 
 -- a slot with the shape that is at it
 abbrev pub at_slot : List PlainShape → ℕ → Option (ℕ × PlainShape)
@@ -20,6 +22,10 @@ abbrev pub AreOffsets : NameShapes → NameShapes → NameShapes → ℕ → ℕ
 AreOffsets outer own constants own_offset constants_offset =
     (own_offset ≡ length outer) × (constants_offset ≡ length outer + length own)
     × (length outer + length own + length constants < 2 ^ 64)
+
+-- each name is a word
+abbrev pub AreWords : NameShapes → Type 0
+AreWords names = declared_names names ≡ map Word (words names)
 
 -- the slot of a name, and its declared shape
 abbrev pub declared_at : Name → NameShapes → Option (ℕ × PlainShape)

@@ -1,6 +1,6 @@
 //! Names with their shapes.
 
-ghost use Rattle.std.specs.Prelude.{◌≡◌, ◌+◌, ◌<◌, ◌^◌, [], IfOk, length};
+ghost use Rattle.std.specs.Prelude.{◌≡◌, ◌+◌, ◌<◌, ◌^◌, [], IfOk, length, map};
 ghost use Rattle.std.specs.List.{list_all};
 ghost use Rattle.std.specs.Option.{is_some, option_map};
 ghost use Rattle.ioa_values.specs.Outcome.{Answers};
@@ -39,7 +39,7 @@ impl Model for DeclaredShape {
 
 impl DeclaredShape {
     /// The shape as declared, with its form in terms.
-    fn new(alloc: Global, shape: Shape) -> Result<Self, AllocError>
+    pub(crate) fn new(alloc: Global, shape: Shape) -> Result<Self, AllocError>
         ensures { IfOk result (λ d. d ≡ shape) }
     {
         let in_terms = shape_in_terms(alloc, &shape)?;
@@ -61,7 +61,7 @@ impl DeclaredShape {
     }
 }
 
-/// Names that differ from each other, each with a declared shape. The slot of a name is its index among them. A
+/// Words that differ from each other, each with a declared shape. The slot of a word is its index among them. A
 /// contract sees the pairs of names and declared shapes.
 #[derive(Drop)]
 pub struct NameTable {
@@ -128,6 +128,7 @@ impl NameTable {
     pub fn pass_new(self, outer: &NameTable, constants: &NameTable) -> Result<Self, Refusal>
         ensures { Answers Refusal.Memory (λ t. t) result (spec.new_or outer.now constants.now self) }
     {
+        self.words_law();
         if are_new(self.words(), outer, constants) {
             Ok(self)
         } else {
@@ -143,7 +144,7 @@ impl NameTable {
         self.look_up(word).is_some()
     }
 
-    /// The slot of a name, and its shape, if it is one of the names.
+    /// The slot of a word, and its shape, if it is one of the names.
     #[tactic(auto, using(crate::proofs::Named::declared_zip))]
     pub(crate) fn look_up(&self, word: &Word) -> Option<(usize, &DeclaredShape)>
         ensures { option_map (λ p. (p.0, p.1.now)) result ≡ views.declared_at (Name.Word word.now) self.now }
@@ -154,7 +155,20 @@ impl NameTable {
         }
     }
 
-    /// The slot of a name behind a number of other names, and its shape, if it is one of the names.
+    /// The slot of a name, and its shape, if it is one of the names. Each of them is a word.
+    #[tactic(auto, using(crate::proofs::Named::no_word))]
+    pub(crate) fn look_up_name(&self, name: &Name) -> Option<(usize, &DeclaredShape)>
+        ensures { option_map (λ p. (p.0, p.1.now)) result ≡ views.declared_at name.now self.now }
+    {
+        self.words_law();
+        match name {
+            Name::Word(word) => self.look_up(word),
+            Name::Variable { .. } => None,
+            Name::Queue { .. } => None,
+        }
+    }
+
+    /// The slot of a word behind a number of other names, and its shape, if it is one of the names.
     #[tactic(auto, using(crate::proofs::Named::slot_below))]
     pub(crate) fn look_up_behind(
         &self,
@@ -167,6 +181,14 @@ impl NameTable {
     {
         let (slot, shape) = self.look_up(word)?;
         Some((offset + slot, shape))
+    }
+
+    /// What every table keeps: its names are words. Does nothing.
+    #[tactic(auto, using(crate::proofs::Tables::named_by_words))]
+    pub fn words_law(&self)
+        ensures { views.AreWords self.now }
+    {
+        let _names = &self.names;
     }
 
     /// The names, in order.
@@ -187,7 +209,7 @@ impl NameTable {
 }
 
 /// A slot with the shape that is at it.
-fn at_slot(shapes: &Vec<DeclaredShape>, slot: usize) -> Option<(usize, &DeclaredShape)>
+pub(crate) fn at_slot(shapes: &Vec<DeclaredShape>, slot: usize) -> Option<(usize, &DeclaredShape)>
     ensures { option_map (λ p. (p.0, p.1.now)) result ≡ views.at_slot shapes.now.items slot }
 {
     let shape = shapes.get(slot)?;
@@ -196,7 +218,7 @@ fn at_slot(shapes: &Vec<DeclaredShape>, slot: usize) -> Option<(usize, &Declared
 
 /// Whether each of these words is in neither of two tables.
 fn are_new(words: &[Word], outer: &NameTable, constants: &NameTable) -> bool
-    ensures { result ≡ list_all (spec.is_new outer.now constants.now) words.now }
+    ensures { result ≡ list_all (spec.is_new outer.now constants.now) (map Name.Word words.now) }
 {
     for word in words {
         if outer.declares(word) || constants.declares(word) {

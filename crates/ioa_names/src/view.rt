@@ -1,20 +1,23 @@
 //! Names in view.
 
-ghost use Rattle.std.specs.Prelude.{◌≡◌, ◌++◌, IfOk, take};
+ghost use Rattle.std.specs.Prelude.{◌≡◌, ◌++◌, IfOk, OnOk, take, map};
 ghost use Rattle.std.specs.Option.{option_map};
+ghost use Rattle.ioa_names.specs.OuterNames.{outer_names};
 ghost use Rattle.ioa_names.specs.Views.{declared_at, named};
 
+use crate::outer::Outer;
+use crate::readings::Readings;
 use crate::table::{DeclaredShape, NameTable};
 use ioa_terms::{Name, Shape, Word};
 use std::alloc::AllocError;
 use std::marker::Model;
 
-/// The names that a term may read, with their declared shapes: those that stand outside, then those that an entry
-/// declares itself, and then the text's constants. The slot of a name is its index among them. A contract sees the
-/// pairs of names and declared shapes.
+/// The names that a term may read, with their declared shapes: those that stand outside, or those that an invariant
+/// reads, then those that an entry declares itself, and then the text's constants. The slot of a name is its index
+/// among them. A contract sees the pairs of names and declared shapes.
 #[derive(Drop)]
 pub struct View<'a> {
-    outer: &'a NameTable,
+    outer: Outer<'a>,
     own: &'a NameTable,
     constants: &'a NameTable,
     own_offset: usize,
@@ -27,15 +30,17 @@ impl<'a> Model for View<'a> {
     ghost use Rattle.ioa_operators.specs.ShapeCode.{shape_code};
     ghost use Rattle.ioa_terms.specs.contracts.name.Name as called;
     ghost use Rattle.ioa_terms.specs.Sorted.{NameShapes};
-    ghost use Rattle.ioa_names.specs.Views.{AreOffsets};
+    ghost use Rattle.ioa_names.specs.OuterNames.{outer_names};
+    ghost use Rattle.ioa_names.specs.Views.{AreOffsets, AreWords};
 
     ghost Value = { NameShapes };
 
     ghost coded = { coded_list (coded× called.the_row.coded shape_code) };
 
-    ghost view = { λ v. v.outer.now ++ (v.own.now ++ v.constants.now) };
+    ghost view = { λ v. outer_names v.outer ++ (v.own.now ++ v.constants.now) };
 
-    ghost invariant = { λ v. AreOffsets v.outer.now v.own.now v.constants.now v.own_offset v.constants_offset };
+    ghost invariant = { λ v. AreOffsets (outer_names v.outer) v.own.now v.constants.now v.own_offset v.constants_offset
+        × AreWords v.own.now × AreWords v.constants.now };
 }
 
 impl<'a> View<'a> {
@@ -47,6 +52,30 @@ impl<'a> View<'a> {
     ) -> Result<Self, AllocError>
         ensures { IfOk result (λ v. v ≡ outer.now ++ (own.now ++ constants.now)) }
     {
+        View::behind(Outer::Words(outer), own, constants)
+    }
+
+    /// The names that an invariant reads, and those of these tables. Memory if there are more than a machine can count.
+    pub fn of_readings(
+        readings: &'a Readings,
+        own: &'a NameTable,
+        constants: &'a NameTable,
+    ) -> Result<Self, AllocError>
+        ensures { IfOk result (λ v. v ≡ readings.now ++ (own.now ++ constants.now)) }
+    {
+        View::behind(Outer::Readings(readings), own, constants)
+    }
+
+    /// The names of two tables behind others.
+    fn behind(
+        outer: Outer<'a>,
+        own: &'a NameTable,
+        constants: &'a NameTable,
+    ) -> Result<Self, AllocError>
+        ensures { IfOk result (λ v. v ≡ outer_names outer.entry ++ (own.now ++ constants.now)) }
+    {
+        own.words_law();
+        constants.words_law();
         let own_offset = outer.len();
         let constants_offset = own_offset.checked_add(own.len()).ok_or(AllocError)?;
         let _whole = constants_offset
@@ -65,8 +94,7 @@ impl<'a> View<'a> {
     pub fn find(&self, name: &Name) -> Option<(usize, &Shape)>
         ensures { option_map (λ p. (p.0, p.1.now)) result ≡ named name.now self.now }
     {
-        let Name::Word(word) = name;
-        let (slot, shape) = self.look_up(word)?;
+        let (slot, shape) = self.look_up_name(name)?;
         Some((slot, shape.in_terms()))
     }
 
@@ -83,12 +111,24 @@ impl<'a> View<'a> {
         }
     }
 
-    /// The slot of a name, and its shape, if it is in view.
+    /// The slot of a name, and its shape, if it is in view. Behind the first names are only words.
+    #[tactic(auto, using(crate::proofs::Named::in_first))]
+    fn look_up_name(&self, name: &Name) -> Option<(usize, &DeclaredShape)>
+        ensures { option_map (λ p. (p.0, p.1.now)) result ≡ declared_at name.now self.now }
+    {
+        match name {
+            Name::Word(word) => self.look_up(word),
+            Name::Variable { .. } => self.outer.look_up(name),
+            Name::Queue { .. } => self.outer.look_up(name),
+        }
+    }
+
+    /// The slot of a word, and its shape, if it is in view.
     #[tactic(auto, using(crate::proofs::Named::in_three))]
     fn look_up(&self, word: &Word) -> Option<(usize, &DeclaredShape)>
         ensures { option_map (λ p. (p.0, p.1.now)) result ≡ declared_at (Name.Word word.now) self.now }
     {
-        let found = self.outer.look_up(word);
+        let found = self.outer.look_up_word(word);
         if found.is_some() {
             return found;
         }

@@ -43,13 +43,22 @@ fn signs_about(form: DisplayForm) -> (&'static str, &'static str) {
     }
 }
 
+/// Writes a name.
+fn push_name(out: &mut String, name: &Name) -> Result<(), AllocError> {
+    match name {
+        Name::Word(word) => out.push_str(word.as_str()),
+        Name::Variable { name, node } => write!(out, "{name}@{node}"),
+        Name::Queue { from, to } => write!(out, "queue({from},{to})"),
+    }
+}
+
 /// Writes a term.
 #[cycle(short_terms)]
 pub(crate) fn push_term(out: &mut String, term: &Term) -> Result<(), AllocError> {
     match term {
         Tree::Number(number) => write!(out, "{number}"),
         Tree::Truth(truth) => write!(out, "{truth}"),
-        Tree::Name(Name::Word(word), _) => out.push_str(word.as_str()),
+        Tree::Name(name, _) => push_name(out, name),
         Tree::One(operator, part) => {
             let sign = sign_before(*operator);
             write!(out, "({sign} ")?;

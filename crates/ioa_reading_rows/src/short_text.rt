@@ -2,8 +2,8 @@
 
 use crate::short_term::{push_between, push_term, push_terms};
 use ioa_source::{
-    Automaton, Call, Declaration, Declared, Entry, Parameter, Placement, Schedule, Sort, Text,
-    Transition, TypeForm, Variable,
+    Automaton, Call, Declaration, Declared, Entry, Invariant, Parameter, Placement, Schedule, Sort,
+    Text, Transition, TypeForm, Variable,
 };
 use ioa_terms::{Arm, Firing, Kind, Statement, Target, Term, Word};
 use std::alloc::AllocError;
@@ -307,7 +307,15 @@ fn push_placement(out: &mut String, placement: &Placement<(), (), ()>) -> Result
     }
 }
 
-/// Writes a whole text: a line for each part of a declaration, `system`, and a line for each node, channel and script.
+/// Writes an invariant.
+fn push_invariant(out: &mut String, invariant: &Invariant<(), (), ()>) -> Result<(), AllocError> {
+    let name = &invariant.name;
+    write!(out, "invariant {name} ")?;
+    push_term(out, &invariant.term)
+}
+
+/// Writes a whole text: a line for each part of a declaration, `system`, and a line for each node, channel, script and
+/// invariant.
 pub(crate) fn push_text(out: &mut String, text: &Text<(), (), ()>) -> Result<(), AllocError> {
     for declaration in &text.declarations {
         push_declaration(out, declaration)?;
@@ -315,6 +323,10 @@ pub(crate) fn push_text(out: &mut String, text: &Text<(), (), ()>) -> Result<(),
     out.push_str("system\n")?;
     for placement in &text.system {
         push_placement(out, placement)?;
+        out.push_str("\n")?;
+    }
+    for invariant in &text.invariants {
+        push_invariant(out, invariant)?;
         out.push_str("\n")?;
     }
     Ok(())

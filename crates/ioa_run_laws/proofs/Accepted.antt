@@ -10,7 +10,7 @@ use Rattle.ioa_automata.specs.SortedAutomata.{IsAutomatonOf}
 use Rattle.ioa_sorts.proofs.Lookups.{contained_has, found_has}
 use Rattle.ioa_check.specs.Sections.{automata_in, nodes_in}
 use Rattle.ioa_check.specs.Systems.{AreNodesOf, IsNodeOf, IsProgramOf, IsSystemOf}
-use Rattle.ioa_run_laws.proofs.Numbered.{AreNumbered, text_numbered}
+use Rattle.ioa_run_laws.proofs.Numbered.{AreConstants, text_constants}
 
 -- each of several is related to one of others
 pub each_related : {A B : Type 0} (R : A → B → Type 0) (xs : List A) (ys : List B) → AllZip R xs ys → AllByRecursion (λ y. (x : A) × R x y) ys
@@ -46,6 +46,6 @@ all_accepted x s h = programs_accepted h.types (automata_in x.declarations) h.au
 pub is_accepted : (x : SourceText) (s : SystemParts) (h : IsSystemOf x s) (p : Parts) → Contains s.programs p → IsAcceptedProgram h.types p
 is_accepted x s h p c = contained_has (IsAcceptedProgram h.types) s.programs p (all_accepted x s h) c
 
--- and its constants are numbered
-pub system_numbered : (x : SourceText) (s : SystemParts) (h : IsSystemOf x s) → AreNumbered 0 h.types.constants
-system_numbered x s h = text_numbered x.declarations h.types h.declared
+-- and its constants are words with numbers
+pub system_constants : (x : SourceText) (s : SystemParts) (h : IsSystemOf x s) → AreConstants h.types.constants
+system_constants x s h = text_constants x.declarations h.types h.declared

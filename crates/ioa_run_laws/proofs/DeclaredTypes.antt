@@ -1,28 +1,14 @@
 -- The tuple types in the shapes of an accepted system are the declared ones of their names.
-use Rattle.std.proofs.Common.{◌≡◌, List, [], ◌∷◌, Some, sym, subst, slice_get}
+use Rattle.std.proofs.Common.{◌≡◌, List, [], ◌∷◌, Some, subst, slice_get}
 use Rattle.std.specs.List.{AllByRecursion, Contains}
 use Rattle.ioa_operators.specs.Shapes.{PlainShape}
-use Rattle.ioa_source.specs.PlainText.{type_named, automaton}
-use Rattle.ioa_source.specs.Sides.{SourceDeclaration}
 use Rattle.ioa_system.specs.Parts.{Parts, PlainRule}
 use Rattle.ioa_sort_rules.specs.DeclaredTypes.{IsDeclared}
 use Rattle.ioa_types.specs.Meanings.{AreTextTypes, tuple_types}
-use Rattle.ioa_types.specs.TextTypes.{PlainTextTypes, no_types}
-use Rattle.ioa_types.proofs.Meant.{no_text_types, type_added}
-use Rattle.ioa_types.proofs.TypeDeclarations.{type_found}
+use Rattle.ioa_types.specs.TextTypes.{PlainTextTypes}
 use Rattle.ioa_automata.proofs.DeclaredShapes.{automaton_declared}
 use Rattle.ioa_sorts.proofs.Lookups.{contained_has}
-use Rattle.ioa_check.specs.Systems.{AreTypesOf}
 use Rattle.ioa_run_laws.proofs.Accepted.{IsAcceptedProgram}
-
--- the types of declarations
-types_of : (ds : List SourceDeclaration) (t u : PlainTextTypes) → AreTextTypes t → AreTypesOf ds t u → AreTextTypes u
-types_of [] t u types h = subst AreTextTypes (sym h) types
-types_of (type_named d ∷ more) t u types h = types_of more h.0 u (type_added t h.0 d types (type_found t h.0 d h.1)) h.2
-types_of (automaton a ∷ more) t u types h = types_of more t u types h
-
-pub text_types_of : (ds : List SourceDeclaration) (t : PlainTextTypes) → AreTypesOf ds no_types t → AreTextTypes t
-text_types_of ds t h = types_of ds no_types t no_text_types h
 
 -- what holds of each element holds of the first
 of_first : {A : Type 0} (P : A → Type 0) (xs : List A) (x : A) → AllByRecursion P xs → slice_get xs 0 ≡ Some x → P x

@@ -34,7 +34,7 @@ use Rattle.ioa_compose.specs.declared.configuration.Conf.TheVariants.{Node, Queu
 use Rattle.ioa_run_laws.specs.Shaped.{IsShapedNode, AreShaped}
 use Rattle.ioa_run_laws.specs.Parts.{HasShapeThroughout}
 use Rattle.ioa_run_laws.specs.WellSorted.{IsTruthValued, TargetTakes, IsAssignmentWellSorted, IsConstantSorted, IsWellSorted, AreArmsWellSorted, AreWellSorted, AreConstantsValued, IsRuleWellSorted, IsFiringWellSorted, IsBlockWellSorted, AreBlockArmsWellSorted, AreBlockWellSorted, block_read, IsNodeWellSorted, AreConfsWellSorted}
-use Rattle.ioa_run_laws.proofs.Accepted.{IsAcceptedProgram, each_related, is_accepted, system_numbered}
+use Rattle.ioa_run_laws.proofs.Accepted.{IsAcceptedProgram, each_related, is_accepted, system_constants}
 use Rattle.ioa_run_laws.proofs.Assigned.{assigned_has}
 use Rattle.ioa_run_laws.proofs.Effects.{all_sorted, found_in_front, statement_shaped, target_declared}
 use Rattle.ioa_run_laws.proofs.Environments.{block_reads, block_valued, given_names, given_valued}
@@ -180,17 +180,17 @@ module _ (x : SourceText) (s : SystemParts) (h : IsSystemOf x s) (c : NodeState)
       let count = length b.schedule.variables in
       let site = block_of names b.variables b.schedule.variables b.rules in
       record {
-        slots = automaton_compiled h.types accepted.source b accepted.automaton;
-        given_names = given_names h.types b accepted.automaton.constants (system_numbered x s h) c.program.arguments shaped.arguments;
+        slots = automaton_compiled h.types (system_constants x s h).named accepted.source b accepted.automaton;
+        given_names = given_names h.types b accepted.automaton.constants (system_constants x s h) c.program.arguments shaped.arguments;
         constants = constants_valued h.types b.parameters b.variables accepted.source.transitions c.program.node (given_bindings b c.program.arguments)
-            (given_valued h.types b accepted.automaton.constants (system_numbered x s h) c.program.arguments shaped.arguments)
+            (given_valued h.types b accepted.automaton.constants (system_constants x s h) c.program.arguments shaped.arguments)
             b.rules accepted.program.entries
             (each_related (IsRuleOf h.types b.parameters b.variables accepted.source.transitions) accepted.source.signature b.rules accepted.automaton.rules);
         rules = rule_sorted;
         block_starts = initial_fit (given_bindings b c.program.arguments) b.schedule.variables c.program.block accepted.program.block;
-        block_names = λ is own seen fits. block_reads h.types b accepted.automaton.constants (system_numbered x s h) c.program.arguments c.variables is own shaped.arguments shaped.variables seen fits;
+        block_names = λ is own seen fits. block_reads h.types b accepted.automaton.constants (system_constants x s h) c.program.arguments c.variables is own shaped.arguments shaped.variables seen fits;
         block = λ is own seen fits. block_sorted b.schedule.variables site (own_first b.schedule.variables (inbox_shapes b.rules) (variable_shapes b.variables ++ parameter_shapes b.parameters) h.types.constants) (λ y t found. found_in_front y count names t found) (block_read c is own)
-            (block_valued h.types b accepted.automaton.constants (system_numbered x s h) c.program.arguments c.variables is own shaped.arguments shaped.variables seen fits)
+            (block_valued h.types b accepted.automaton.constants (system_constants x s h) c.program.arguments c.variables is own shaped.arguments shaped.variables seen fits)
             (statements_of b.schedule.statements) (all_sorted site accepted.source.schedule.statements b.schedule.statements accepted.automaton.schedule.statements);
       }
 

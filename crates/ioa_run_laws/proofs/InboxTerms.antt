@@ -12,8 +12,9 @@ use Rattle.ioa_actions.specs.ComponentOrder.{same_component}
 use Rattle.ioa_actions.specs.declared.component.Component.{Component}
 use Rattle.ioa_actions.specs.declared.component.Component.TheVariants as component
 use Rattle.ioa_terms.specs.declared.callee.Callee.{Callee}
+use Rattle.ioa_terms.specs.declared.name.Name.{Name}
 use Rattle.ioa_terms.specs.declared.name.Name.TheVariants.{Word}
-use Rattle.ioa_terms.specs.Bindings.{Bindings, same_word, lookup, constants_from}
+use Rattle.ioa_terms.specs.Bindings.{Bindings, same_name, lookup, constants_from}
 use Rattle.ioa_terms.specs.Inboxes.{PlainInboxes, inboxes_word, inbox_entries, inboxes_value, inbox_values}
 use Rattle.ioa_terms.specs.Meaning.{value, inbox_value}
 use Rattle.ioa_terms.specs.PlainTerm.{PlainTerm}
@@ -22,7 +23,7 @@ use Rattle.ioa_source.specs.Sides.{CheckedVariable, SourceText}
 use Rattle.ioa_system.specs.InView.{inbox_words, parameter_names, variable_names}
 use Rattle.ioa_system.specs.Parts.{Parts, message_shape}
 use Rattle.ioa_system.specs.Systems.{SystemParts}
-use Rattle.ioa_names.specs.NameTables.{AreDistinct, words}
+use Rattle.ioa_names.specs.NameTables.{AreDistinct, declared_names}
 use Rattle.ioa_automata.specs.NamesInView.{parameter_shapes, variable_shapes, inbox_shapes_of}
 use Rattle.ioa_check.proofs.Tests.{word_turned}
 use Rattle.ioa_check.specs.Systems.{IsSystemOf}
@@ -30,20 +31,21 @@ use Rattle.ioa_channels.specs.Queues.{messages_of}
 use Rattle.ioa_channels.specs.declared.queue.Item.{Item}
 use Rattle.ioa_channels.specs.declared.queue.Item.TheVariants.{Message, Stimulus}
 use Rattle.ioa_compose.specs.Composition.{component_of, find_conf}
+use Rattle.ioa_compose.specs.Readings.{queue_messages, channel_messages}
 use Rattle.ioa_compose.specs.declared.configuration.Conf.{Conf}
 use Rattle.ioa_compose.specs.declared.configuration.Conf.TheVariants.{Node, Queue}
 use Rattle.ioa_compose.proofs.Components.{component_of-find_conf}
 use Rattle.ioa_sorts.proofs.Lookups.{found_has}
 use Rattle.ioa_turns.specs.Inboxes.{inboxes_in}
 use Rattle.ioa_turns.proofs.SeenInboxes.{inbox_waits, no_inbox}
-use Rattle.ioa_run_laws.specs.Inboxes.{queue_messages, channel_messages, inbox_term, block_reads}
+use Rattle.ioa_run_laws.specs.Inboxes.{inbox_term, block_reads}
 use Rattle.ioa_run_laws.specs.Shaped.{FitsVariable, IsItemTo, IsShapedQueue, IsShapedConf, AreShaped}
 use Rattle.ioa_run_laws.proofs.Accepted.{is_accepted}
 use Rattle.ioa_run_laws.proofs.BlockTurns.{bindings_read}
 
 -- a name behind the variables of a block differs from each of them
 module _ (w : List ℕ) (s : PlainShape) (others constants : NameShapes) where
-  behind_variables : (P : List ℕ → Type 0) (xs : List CheckedVariable) → AllByRecursion P (words (((variable_shapes xs ++ (Word w, s) ∷ []) ++ others) ++ constants)) → P w
+  behind_variables : (P : Name → Type 0) (xs : List CheckedVariable) → AllByRecursion P (declared_names (((variable_shapes xs ++ (Word w, s) ∷ []) ++ others) ++ constants)) → P (Word w)
   behind_variables P [] h = h.0
   behind_variables P (x ∷ xs) h = behind_variables P xs h.1
 
@@ -54,7 +56,7 @@ module _ (w : List ℕ) (s : PlainShape) (others constants : NameShapes) where
   past_variables [] vs rest d = refl
   past_variables (x ∷ xs) [] rest d = refl
   past_variables (x ∷ xs) (v ∷ vs) rest d =
-      rw (word_turned x.declared.name w (behind_variables (λ y. same_word x.declared.name y ≡ false) xs d.0)) (past_variables xs vs rest d.1)
+      rw (word_turned x.declared.name w (behind_variables (λ y. same_name (Word x.declared.name) y ≡ false) xs d.0)) (past_variables xs vs rest d.1)
 
 -- the name of the inboxes has the map of the inboxes
 found_in_block : (p : Parts) (cs : List Conf) (state own : List Data) (s : PlainShape) (constants : NameShapes) → AllZip FitsVariable p.automaton.schedule.variables own → message_shape p.automaton.rules ≡ Some s →

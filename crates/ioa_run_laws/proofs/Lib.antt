@@ -17,3 +17,4 @@ pub mod SeenInboxes
 pub mod BlockTurns
 pub mod InboxTerms
 pub mod RunBlocks
+pub mod ReadInvariants

@@ -26,7 +26,7 @@ use Rattle.ioa_sorts.proofs.Types.{same_is}
 use Rattle.ioa_types.specs.Meanings.{tuple_types}
 use Rattle.ioa_types.specs.TypeTables.{TypeTable}
 use Rattle.ioa_automata.specs.SortedAutomata.{AreParametersOf, IsConstantAt, IsReceive, IsRuleOf, names_at}
-use Rattle.ioa_check.specs.Channels.{program_numbered}
+use Rattle.ioa_system.specs.Systems.{program_numbered}
 use Rattle.ioa_system.specs.Parts.{rule_named}
 use Rattle.ioa_check.specs.Systems.{HaveOneMessage, IsChannelOf, IsSystemOf}
 use Rattle.ioa_check.proofs.Declared.{declared_once}
@@ -39,10 +39,11 @@ use Rattle.ioa_channels.specs.declared.queue.Item.{Item}
 use Rattle.ioa_channels.specs.declared.queue.Item.TheVariants.{Message, Stimulus}
 use Rattle.ioa_run_laws.specs.Shaped.{IsShapedNode, IsMessageTo, IsItemTo, IsShapedQueue}
 use Rattle.ioa_sorts.proofs.Lookups.{contained_found, contained_has, found_contained}
-use Rattle.ioa_run_laws.proofs.Accepted.{IsAcceptedProgram, is_accepted, system_numbered}
-use Rattle.ioa_run_laws.proofs.DeclaredTypes.{message_declared, text_types_of}
+use Rattle.ioa_run_laws.proofs.Accepted.{IsAcceptedProgram, is_accepted, system_constants}
+use Rattle.ioa_run_laws.proofs.DeclaredTypes.{message_declared}
 use Rattle.ioa_run_laws.proofs.Environments.{given_valued}
 use Rattle.ioa_run_laws.proofs.NodeSteps.{is_rule}
+use Rattle.ioa_run_laws.proofs.Numbered.{text_types_of}
 
 -- the first argument has the first of an entry's shapes
 module _ (types : TypeTable) (names : NameShapes) where
@@ -123,7 +124,7 @@ message_fits x s h m i j c present from to n d shaped mine step = record {
     sent =
         let b = n.program.automaton in
         first_fits h.types.types (names_at entry_constant h.types.constants b.parameters b.variables []) (given_bindings b n.program.arguments)
-        (given_valued h.types b sender_accepted.automaton.constants (system_numbered x s h) n.program.arguments shaped.arguments).shaped
+        (given_valued h.types b sender_accepted.automaton.constants (system_constants x s h) n.program.arguments shaped.arguments).shaped
         sent_by.0.parameters rule.entry.parameters rule.shapes m (number i ∷ number j ∷ []) one.0 sent_by.1.parameters step.mine.action.arguments step.sorts one.2
 
     -- the receiver

@@ -5,17 +5,17 @@ use Rattle.std.proofs.lemmas.Slice.Eq.{bytes_eq-Decides}
 use Rattle.ioa_values.specs.Data.{Data}
 use Rattle.ioa_operators.specs.Shapes.{PlainShape}
 use Rattle.ioa_terms.specs.declared.name.Name.TheVariants.{Word}
-use Rattle.ioa_terms.specs.Bindings.{Bindings, same_word, lookup, names_of}
+use Rattle.ioa_terms.specs.Bindings.{Bindings, same_name, lookup, names_of}
 use Rattle.ioa_terms.specs.Sorted.{NameShapes, shape_named}
 use Rattle.ioa_terms.specs.Sorted.{IsShaped}
 use Rattle.ioa_actions.specs.ActionParts.{action_arguments}
 use Rattle.ioa_actions.specs.declared.action.Action.{Action}
 use Rattle.ioa_source.specs.Sides.{SourceEntry, SourceText, CheckedParameter, CheckedVariable}
 use Rattle.ioa_system.specs.InView as view
-use Rattle.ioa_system.specs.InView.{Site, guard_or_effect, variable_names, declared_names, own_names}
+use Rattle.ioa_system.specs.InView.{Site, guard_or_effect, variable_names, own_names}
 use Rattle.ioa_system.specs.Parts.{AutomatonParts, Parts, PlainRule}
 use Rattle.ioa_system.specs.Systems.{SystemParts}
-use Rattle.ioa_names.specs.NameTables.{AreDistinct, words}
+use Rattle.ioa_names.specs.NameTables.{AreDistinct, declared_names}
 use Rattle.ioa_types.specs.TextTypes.{PlainTextTypes}
 use Rattle.ioa_automata.specs.NamesInView.{parameter_shapes, variable_shapes, own_shapes}
 use Rattle.ioa_automata.specs.SortedAutomata.{IsRuleOf, names_at}
@@ -28,13 +28,13 @@ use Rattle.ioa_run_laws.proofs.Environments.{bindings_valued, bindings_names, ow
 use Rattle.ioa_run_laws.proofs.Effects.{found_in_front, effect_shaped}
 use Rattle.ioa_run_laws.proofs.Throughout.{HasValuesOf}
 use Rattle.ioa_sorts.proofs.Lookups.{contained_has}
-use Rattle.ioa_run_laws.proofs.Accepted.{IsAcceptedProgram, each_related, is_accepted, system_numbered}
+use Rattle.ioa_run_laws.proofs.Accepted.{IsAcceptedProgram, each_related, is_accepted, system_constants}
 
 -- a state variable has its declared shape among names
 abbrev IsNamed : NameShapes → CheckedVariable → Type 0
 IsNamed ns v = shape_named (Word v.declared.name) ns ≡ Some v.declared.shape
 
-named_later : (w : List ℕ) (s : PlainShape) (vs : List CheckedVariable) (more ns : NameShapes) → AllByRecursion (λ y. same_word w y ≡ false) (words (variable_shapes vs ++ more)) → AllByRecursion (IsNamed ns) vs → AllByRecursion (IsNamed ((Word w, s) ∷ ns)) vs
+named_later : (w : List ℕ) (s : PlainShape) (vs : List CheckedVariable) (more ns : NameShapes) → AllByRecursion (λ y. same_name (Word w) y ≡ false) (declared_names (variable_shapes vs ++ more)) → AllByRecursion (IsNamed ns) vs → AllByRecursion (IsNamed ((Word w, s) ∷ ns)) vs
 named_later w s [] more ns apart h = tt
 named_later w s (v ∷ vs) more ns apart h = (rw (word_turned w v.declared.name apart.0) h.0, named_later w s vs more ns apart.1 h.1)
 
@@ -74,15 +74,15 @@ pub rule_valued : (x : SourceText) (s : SystemParts) (h : IsSystemOf x s) (c : N
     HasValuesOf (names_at site h.types.constants c.program.automaton.parameters c.program.automaton.variables r.entry.parameters) (rule_bindings site r a c)
 rule_valued x s h c shaped site r a sorts =
     let p = is_accepted x s h c.program shaped.program in
-    bindings_valued h.types c.program.automaton p.automaton.constants (system_numbered x s h) site r.entry.parameters c.program.arguments c.variables (own_values r.entry.parameters (action_arguments a))
+    bindings_valued h.types c.program.automaton p.automaton.constants (system_constants x s h) site r.entry.parameters c.program.arguments c.variables (own_values r.entry.parameters (action_arguments a))
     shaped.arguments shaped.variables (own_fit r.entry.parameters (action_arguments a) sorts)
 
 -- it has the names in view
 pub rule_names : (x : SourceText) (s : SystemParts) (h : IsSystemOf x s) (c : NodeState) → IsShapedNode s c → (site : Site) (r : PlainRule) (a : Action) → AllZip IsOfSort r.entry.parameters (action_arguments a) →
-    names_of (rule_bindings site r a c) ≡ view.names_at site (declared_names c.program.automaton) (own_names r.entry.parameters)
+    names_of (rule_bindings site r a c) ≡ view.names_at site (view.declared_names c.program.automaton) (own_names r.entry.parameters)
 rule_names x s h c shaped site r a sorts =
     let p = is_accepted x s h c.program shaped.program in
-    bindings_names h.types c.program.automaton p.automaton.constants (system_numbered x s h) site r.entry.parameters c.program.arguments c.variables (own_values r.entry.parameters (action_arguments a))
+    bindings_names h.types c.program.automaton p.automaton.constants (system_constants x s h) site r.entry.parameters c.program.arguments c.variables (own_values r.entry.parameters (action_arguments a))
     shaped.arguments shaped.variables (own_fit r.entry.parameters (action_arguments a) sorts)
 
 -- a rule of a program is one of the text's

@@ -1,4 +1,4 @@
--- The constants of a text, each with its number, have the shapes of their enumerations.
+-- The types of a text, and its constants: each constant, with its number, has the shape of its enumeration.
 use Rattle.std.proofs.Common.{◌≡◌, ◌<◌, ◌≤◌, ◌+◌, ℕ, Bool, true, false, nat_le, nat_lt, ◌&&◌, List, [], ◌∷◌, ◌++◌, Some, refl, sym, subst, map, length, arith, if◌then◌else◌, le-leb, lt-ltb}
 use Rattle.ioa_values.specs.Data.{Data, constant}
 use Rattle.ioa_operators.specs.Shapes.{PlainShape, constants, has_shape}
@@ -8,10 +8,23 @@ use Rattle.ioa_terms.specs.Bindings.{Bindings, same_name, lookup, constants_from
 use Rattle.ioa_terms.specs.Sorted.{NameShapes, shape_named, IsShaped}
 use Rattle.ioa_source.specs.PlainText.{type_named, automaton, enumeration, tuple_of}
 use Rattle.ioa_source.specs.Sides.{SourceDeclaration, SourceForm, SourceType}
-use Rattle.ioa_names.specs.NameTables.{words}
+use Rattle.ioa_names.specs.NameTables.{declared_names}
+use Rattle.ioa_names.specs.Views.{AreWords}
+use Rattle.ioa_types.specs.Meanings.{AreTextTypes}
 use Rattle.ioa_types.specs.TextTypes.{PlainTextTypes, no_types}
 use Rattle.ioa_types.specs.TypeDeclarations.{IsShapeOf, constants_of, DeclaresType}
+use Rattle.ioa_types.proofs.Meant.{no_text_types, type_added}
+use Rattle.ioa_types.proofs.TypeDeclarations.{type_found}
 use Rattle.ioa_check.specs.Systems.{AreTypesOf}
+
+-- the types of declarations
+types_of : (ds : List SourceDeclaration) (t u : PlainTextTypes) → AreTextTypes t → AreTypesOf ds t u → AreTextTypes u
+types_of [] t u types h = subst AreTextTypes (sym h) types
+types_of (type_named d ∷ more) t u types h = types_of more h.0 u (type_added t h.0 d types (type_found t h.0 d h.1)) h.2
+types_of (automaton a ∷ more) t u types h = types_of more t u types h
+
+pub text_types_of : (ds : List SourceDeclaration) (t : PlainTextTypes) → AreTypesOf ds no_types t → AreTextTypes t
+text_types_of ds t h = types_of ds no_types t no_text_types h
 
 -- names that have the numbers from one on: each number has the shape of its name
 abbrev pub AreNumbered : ℕ → NameShapes → Type 0
@@ -49,9 +62,13 @@ types_numbered [] t u numbered h = subst (λ (v : PlainTextTypes). AreNumbered 0
 types_numbered (type_named d ∷ more) t u numbered h = types_numbered more h.0 u (type_numbered t h.0 d numbered h.1) h.2
 types_numbered (automaton a ∷ more) t u numbered h = types_numbered more t u numbered h
 
--- the constants that a text declares
-pub text_numbered : (ds : List SourceDeclaration) (t : PlainTextTypes) → AreTypesOf ds no_types t → AreNumbered 0 t.constants
-text_numbered ds t h = types_numbered ds no_types t tt h
+-- the constants of a text: each is a word, and has its number
+pub record AreConstants (ns : NameShapes) : Type 0 where
+  pub named : AreWords ns
+  pub numbered : AreNumbered 0 ns
+
+pub text_constants : (ds : List SourceDeclaration) (t : PlainTextTypes) → AreTypesOf ds no_types t → AreConstants t.constants
+text_constants ds t h = record { named = (text_types_of ds t h).named; numbered = types_numbered ds no_types t tt h }
 
 -- one more name in front, with its value
 pub shaped_more : (n : Name) (s : PlainShape) (v : Data) (ns : NameShapes) (e : Bindings) → has_shape s v ≡ true → IsShaped ns e → IsShaped ((n, s) ∷ ns) ((n, v) ∷ e)
@@ -64,7 +81,12 @@ shaped_more n s v ns e h g = λ x t u named found. by_same x t u (same_name x n)
         rw (← shape, ← same) h
     by_same x t u false p q = g x t u p q
 
--- what the constants mean
-pub constants_shaped : (k : ℕ) (ns : NameShapes) → AreNumbered k ns → IsShaped ns (constants_from k (words ns))
-constants_shaped k [] h = λ x s v named found. absurd (cc)
-constants_shaped k ((Word w, s) ∷ ns) h = shaped_more (Word w) s (constant k) ns (constants_from (k + 1) (words ns)) h.0 (constants_shaped (k + 1) ns h.1)
+-- what the constants mean, if their names are these words
+pub constants_shaped : (k : ℕ) (ns : NameShapes) (ws : List (List ℕ)) → declared_names ns ≡ map Word ws → AreNumbered k ns → IsShaped ns (constants_from k ws)
+constants_shaped k [] ws same h = λ x s v named found. absurd (cc)
+constants_shaped k (n ∷ ns) [] same h = absurd (cc)
+constants_shaped k (n ∷ ns) (w ∷ ws) same h =
+    let first : n.0 ≡ Word w = cc in
+    let others : declared_names ns ≡ map Word ws = cc in
+    subst (λ (x : Name). IsShaped ((x, n.1) ∷ ns) (constants_from k (w ∷ ws))) (sym first)
+    (shaped_more (Word w) n.1 (constant k) ns (constants_from (k + 1) ws) h.0 (constants_shaped (k + 1) ns ws others h.1))

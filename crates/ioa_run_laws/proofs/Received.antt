@@ -25,7 +25,7 @@ use Rattle.ioa_system.specs.Systems.{SystemParts}
 use Rattle.ioa_types.specs.TextTypes.{PlainTextTypes}
 use Rattle.ioa_types.specs.TypeTables.{TypeTable}
 use Rattle.ioa_automata.specs.SortedAutomata.{AreMessageShapes, AreParametersOf, IsConditionOf, IsNumber, IsParameterOf, IsReceive, IsRuleOf, names_at}
-use Rattle.ioa_check.specs.Channels.{program_numbered}
+use Rattle.ioa_system.specs.Systems.{program_numbered}
 use Rattle.ioa_system.specs.Parts.{rule_named}
 use Rattle.ioa_check.specs.Systems.{IsChannelOf, IsConstantOf, IsEntryOn, IsSystemOf, TakesNumber}
 use Rattle.ioa_check.proofs.Declared.{declared_once}

@@ -21,7 +21,7 @@ use Rattle.ioa_system.specs.Parts.{Parts, message_shape}
 use Rattle.ioa_system.specs.Systems.{SystemParts}
 use Rattle.ioa_sorts.proofs.Lookups.{contained_found, found_has}
 use Rattle.ioa_check.proofs.Declared.{declared_once}
-use Rattle.ioa_check.specs.Channels.{program_numbered}
+use Rattle.ioa_system.specs.Systems.{program_numbered}
 use Rattle.ioa_check.specs.Systems.{IsSystemOf}
 use Rattle.ioa_transitions.specs.NodeState.{NodeState}
 use Rattle.ioa_compose.specs.Composition.{component_of, find_conf}

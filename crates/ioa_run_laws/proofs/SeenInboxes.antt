@@ -24,7 +24,7 @@ use Rattle.ioa_system.specs.Systems.{SystemParts}
 use Rattle.ioa_sorts.proofs.Lookups.{contained_found, found_contained}
 use Rattle.ioa_automata.specs.SortedAutomata.{IsConstantAt, IsRuleOf, names_at}
 use Rattle.ioa_check.proofs.Declared.{declared_once}
-use Rattle.ioa_check.specs.Channels.{program_numbered}
+use Rattle.ioa_system.specs.Systems.{program_numbered}
 use Rattle.ioa_check.specs.Systems.{IsSystemOf}
 use Rattle.ioa_channels.specs.Queues.{messages_of}
 use Rattle.ioa_channels.specs.declared.queue.Item.{Item}
@@ -41,7 +41,7 @@ of_some : {A : Type 0} (a b : A) → Some a ≡ Some b → a ≡ b
 of_some a b e = cc
 
 -- a message to the node of a program has the shape that the program's automaton takes
-message_has : (x : SourceText) (s : SystemParts) → IsSystemOf x s → (p : Parts) → Contains s.programs p → (t : PlainShape) → message_shape p.automaton.rules ≡ Some t → (m : Data) → IsMessageTo s p.node m → Has t m
+pub message_has : (x : SourceText) (s : SystemParts) → IsSystemOf x s → (p : Parts) → Contains s.programs p → (t : PlainShape) → message_shape p.automaton.rules ≡ Some t → (m : Data) → IsMessageTo s p.node m → Has t m
 message_has x s h p present t e m k = subst (λ (z : PlainShape). Has z m) (sym shape) k.fits
   where
     found : program_numbered p.node s.programs ≡ Some p

@@ -5,3 +5,4 @@ pub mod WellSorted
 pub mod Awaited
 pub mod BlockStates
 pub mod Inboxes
+pub mod Invariants

@@ -12,7 +12,7 @@ use Rattle.ioa_source.specs.Sides.{CheckedDeclared, CheckedVariable}
 use Rattle.ioa_source.specs.declared.declaration.Channel as declaration
 use Rattle.ioa_system.specs.Parts.{Parts, PlainRule}
 use Rattle.ioa_system.specs.Systems.{SystemParts}
-use Rattle.ioa_check.specs.Channels.{program_numbered}
+use Rattle.ioa_system.specs.Systems.{program_numbered}
 use Rattle.ioa_system.specs.Parts.{rule_named}
 use Rattle.ioa_transitions.specs.NodeState.{NodeState}
 use Rattle.ioa_channels.specs.declared.queue.Item.{Item}

@@ -20,6 +20,7 @@ ghost use Rattle.ioa_check.specs.Systems.{IsSystemOf};
 ghost use Rattle.ioa_compose.specs.Automata.{IsExecution};
 ghost use Rattle.ioa_compose.specs.Executions.{replay};
 ghost use Rattle.ioa_compose.specs.JointStep.{IsJointStep};
+ghost use Rattle.ioa_compose.specs.Readings.{channel_messages};
 ghost use Rattle.ioa_transitions.specs.Entries.{PlainEntry};
 ghost use Rattle.ioa_transitions.specs.NodeState.{NodeState};
 ghost use Rattle.ioa_transitions.specs.NodeStep.{IsNodeStep};
@@ -31,7 +32,8 @@ ghost use Rattle.ioa_turns.specs.Inboxes.{inboxes_seen};
 ghost use Rattle.ioa_turns.specs.NodeTurns.{progress_at};
 ghost use Rattle.ioa_solo.specs.Solo.{rounds};
 ghost use Rattle.ioa_run_laws.specs.BlockStates.{AreBlockStates, IsBlockState};
-ghost use Rattle.ioa_run_laws.specs.Inboxes.{block_reads, channel_messages, inbox_term};
+ghost use Rattle.ioa_run_laws.specs.Inboxes.{block_reads, inbox_term};
+ghost use Rattle.ioa_run_laws.specs.Invariants.{IsWellRead};
 ghost use Rattle.ioa_run_laws.specs.Parts.{HasShapeThroughout, IsOfShape, parts_of, sum_of_truth};
 ghost use Rattle.ioa_run_laws.specs.Shaped.{FitsVariable, FitInboxes, IsShapedNode, AreShaped};
 ghost use Rattle.ioa_run_laws.specs.WellSorted.{IsNodeWellSorted, AreConfsWellSorted};
@@ -117,4 +119,13 @@ pub fn inbox_term_law()
         is_some (message_shape p.automaton.rules) ≡ true →
         value t (block_reads p cs state own) ≡ Some (number i) →
         value (inbox_term c t) (block_reads p cs state own) ≡ channel_messages i p.node cs }
+{}
+
+/// In each state that a replay of an accepted system reaches, what its invariants read is there. `x@k` has the shape of
+/// the state variable x at node k, and `queue(i, j)` is a sequence of the messages that node j takes. Each part of an
+/// invariant's term has its shape, whether it has a value or not, and what the whole gives, if anything, is a truth
+/// value.
+pub fn invariants_law()
+    ensures replay { (x : SourceText) (s : SystemParts) (entries : List PlainEntry) (cs : List Conf) →
+        IsSystemOf x s → replay entries (start s) ≡ Some cs → AllByRecursion (IsWellRead s cs) s.invariants }
 {}

@@ -3,8 +3,8 @@ use Rattle.std.proofs.Common.{◌≡◌, List, [], ◌∷◌, Option, Some, None
 use Rattle.std.specs.Option.{option_map}
 use Rattle.ioa_terms.specs.PlainTerm.{number, truth, name, one, two, call, display, field, no_terms, term, variable, at_key, at_field, assign, branch, loop, fire, firing, no_statements, statement, no_arms, arm}
 use Rattle.ioa_source.specs.PlainText.{const, named, enumeration, tuple_of, type_named, automaton, node, channel, script}
-use Rattle.ioa_source.specs.Sides.{SourceTerm, SourceTerms, SourceTarget, SourceStatement, SourceFiring, SourceStatements, SourceArms, SourceDeclared, SourceParameter, SourceEntry, SourceVariable, SourceTransition, SourceSchedule, SourceAutomaton, SourceForm, SourceType, SourceDeclaration, SourceNode, SourceCall, SourceScript, SourcePlacement, SourceText}
-use Rattle.ioa_source.specs.Erasure.{erase_term, erase_terms, erase_target, erase_statement, erase_firing, erase_statements, erase_arms, erase_declared, erase_parameter, erase_entry, erase_variable, erase_transition, erase_schedule, erase_automaton, erase_form, erase_type, erase_declaration, erase_node, erase_call, erase_script, erase_placement, erase}
+use Rattle.ioa_source.specs.Sides.{SourceTerm, SourceTerms, SourceTarget, SourceStatement, SourceFiring, SourceStatements, SourceArms, SourceDeclared, SourceParameter, SourceEntry, SourceVariable, SourceTransition, SourceSchedule, SourceAutomaton, SourceForm, SourceType, SourceDeclaration, SourceNode, SourceCall, SourceScript, SourcePlacement, SourceInvariant, SourceText}
+use Rattle.ioa_source.specs.Erasure.{erase_term, erase_terms, erase_target, erase_statement, erase_firing, erase_statements, erase_arms, erase_declared, erase_parameter, erase_entry, erase_variable, erase_transition, erase_schedule, erase_automaton, erase_form, erase_type, erase_declaration, erase_node, erase_call, erase_script, erase_placement, erase_invariant, erase}
 
 -- a function that changes no item changes no list, and no option
 each : {A : Type 0} (f : A → A) → ((x : A) → f x ≡ x) → (xs : List A) → map f xs ≡ xs
@@ -121,9 +121,13 @@ placement_erased (node n) = ap node (node_erased n)
 placement_erased (channel c) = refl
 placement_erased (script s) = ap script (script_erased s)
 
+invariant_erased : (v : SourceInvariant) → erase_invariant v ≡ v
+invariant_erased v = λ i. record { name = v.name; term = term_erased v.term i }
+
 -- whole texts
 pub text_erased : (t : SourceText) → erase t ≡ t
 text_erased t = λ i. record {
   declarations = each erase_declaration declaration_erased t.declarations i;
   system = each erase_placement placement_erased t.system i;
+  invariants = each erase_invariant invariant_erased t.invariants i;
 }

@@ -18,7 +18,7 @@ use Rattle.ioa_terms.specs.contracts.tree.Kind as kind
 use Rattle.ioa_terms.specs.PlainTerm.{PlainTerm-set, PlainTarget-set, PlainStatement-set, PlainFiring-set}
 use Rattle.ioa_source.specs.contracts.declaration.Channel as channel
 use Rattle.ioa_terms.specs.PlainSort.{PlainSort-set}
-use Rattle.ioa_source.specs.PlainText.{PlainDeclared-set, PlainParameter-set, PlainEntry-set, PlainVariable-set, PlainTransition-set, PlainSchedule-set, PlainAutomaton-set, PlainForm-set, PlainType-set, PlainDeclaration-set, PlainNode-set, PlainCall-set, PlainScript-set, PlainPlacement-set, PlainText-set}
+use Rattle.ioa_source.specs.PlainText.{PlainDeclared-set, PlainParameter-set, PlainEntry-set, PlainVariable-set, PlainTransition-set, PlainSchedule-set, PlainAutomaton-set, PlainForm-set, PlainType-set, PlainDeclaration-set, PlainNode-set, PlainCall-set, PlainScript-set, PlainPlacement-set, PlainInvariant-set, PlainText-set}
 use Rattle.ioa_source.specs.Sides.{SourceTerm, SourceTarget, SourceStatement, SourceFiring, SourceDeclared, SourceEntry, SourceVariable, SourceTransition, SourceSchedule, SourceAutomaton, SourceDeclaration, SourcePlacement, SourceText}
 
 word_set : IsSet (List ℕ)
@@ -91,4 +91,4 @@ placement_set =
 
 -- whole texts
 pub text_set : IsSet SourceText
-text_set = PlainText-set (List-set declaration_set) (List-set placement_set)
+text_set = PlainText-set (List-set declaration_set) (List-set placement_set) (List-set (PlainInvariant-set word_set term_set))

@@ -8,13 +8,15 @@ use Rattle.ioa_terms.specs.PlainTerm.{variable, at_key, at_field, assign, branch
 use Rattle.ioa_terms.specs.PlainTerm.{no_statements, statement, no_arms, arm}
 use Rattle.ioa_source.specs.PlainText.{PlainDeclared, PlainParameter, PlainEntry, PlainVariable, PlainTransition}
 use Rattle.ioa_source.specs.PlainText.{PlainSchedule, PlainAutomaton, PlainForm, PlainType, PlainDeclaration}
-use Rattle.ioa_source.specs.PlainText.{PlainNode, PlainCall, PlainScript, PlainPlacement, PlainText}
+use Rattle.ioa_source.specs.PlainText.{PlainNode, PlainCall, PlainScript, PlainPlacement, PlainInvariant}
+use Rattle.ioa_source.specs.PlainText.{PlainText}
 use Rattle.ioa_source.specs.PlainText.{const, named, enumeration, tuple_of, type_named, automaton, node, channel, script}
 use Rattle.ioa_source.specs.Sides.{SourceTerm, SourceTerms, SourceTarget, SourceStatement, SourceStatements, SourceArms}
 use Rattle.ioa_source.specs.Sides.{SourceFiring, SourceSchedule}
 use Rattle.ioa_source.specs.Sides.{SourceDeclared, SourceParameter, SourceEntry, SourceVariable, SourceTransition}
 use Rattle.ioa_source.specs.Sides.{SourceAutomaton, SourceForm, SourceType, SourceDeclaration}
-use Rattle.ioa_source.specs.Sides.{SourceNode, SourceCall, SourceScript, SourcePlacement, SourceText}
+use Rattle.ioa_source.specs.Sides.{SourceNode, SourceCall, SourceScript, SourcePlacement, SourceInvariant}
+use Rattle.ioa_source.specs.Sides.{SourceText}
 
 abbrev mutual
   -- a term without annotations
@@ -124,5 +126,12 @@ erase_placement (node n) = node (erase_node n)
 erase_placement (channel c) = channel c
 erase_placement (script s) = script (erase_script s)
 
+abbrev pub erase_invariant : {N C D : Type 0} → PlainInvariant N C D → SourceInvariant
+erase_invariant v = record { name = v.name; term = erase_term v.term }
+
 abbrev pub erase : {N C D : Type 0} → PlainText N C D → SourceText
-erase t = record { declarations = map erase_declaration t.declarations; system = map erase_placement t.system }
+erase t = record {
+  declarations = map erase_declaration t.declarations;
+  system = map erase_placement t.system;
+  invariants = map erase_invariant t.invariants;
+}

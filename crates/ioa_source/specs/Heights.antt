@@ -1,5 +1,7 @@
 -- How high the trees of terms and statements are (profile).
 use Rattle.std.specs.Prelude.{ℕ, suc, max, List, [], ◌∷◌}
+use Rattle.ioa_terms.specs.declared.name.Name.{Name}
+use Rattle.ioa_terms.specs.declared.name.Name.TheVariants.{Word, Variable, Queue}
 use Rattle.ioa_terms.specs.PlainTerm.{number, truth, name, one, two, call, display, field, no_terms, term}
 use Rattle.ioa_terms.specs.PlainTerm.{variable, at_key, at_field}
 use Rattle.ioa_terms.specs.PlainTerm.{assign, branch, loop, fire, no_statements, statement, no_arms, arm, terms_of}
@@ -15,12 +17,18 @@ abbrev pub highest : List ℕ → ℕ
 highest [] = 0
 highest (h ∷ more) = max h (highest more)
 
+-- a word and `x@k` are leaves, and `queue(i, j)` has two below it
+abbrev pub name_height : Name → ℕ
+name_height (Word w) = 1
+name_height (Variable w k) = 1
+name_height (Queue i j) = 2
+
 abbrev mutual
   -- a leaf is 1 high, all else one higher than its highest part; round brackets leave no node in the tree
   pub height : SourceTerm → ℕ
   height (number n) = 1
   height (truth b) = 1
-  height (name w at) = 1
+  height (name x at) = name_height x
   height (one op a) = suc (height a)
   height (two op a b) = suc (max (height a) (height b))
   height (call w c ts) = suc (heights ts)

@@ -103,8 +103,15 @@ pub data PlainPlacement (N C D : Type 0) : Type 0 where
   script : PlainScript N C D → PlainPlacement N C D
   deriving IsSet as PlainPlacement-set
 
+-- an invariant: a term that is to be true in each state
+pub record PlainInvariant (N C D : Type 0) : Type 0 where
+  pub name : List ℕ
+  pub term : PlainTerm N C D
+  deriving IsSet as PlainInvariant-set
+
 -- a whole text
 pub record PlainText (N C D : Type 0) : Type 0 where
   pub declarations : List (PlainDeclaration N C D)
   pub system : List (PlainPlacement N C D)
+  pub invariants : List (PlainInvariant N C D)
   deriving IsSet as PlainText-set

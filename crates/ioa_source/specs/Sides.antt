@@ -8,7 +8,8 @@ use Rattle.ioa_terms.specs.PlainTerm.{PlainTerm, PlainTerms, PlainTarget, PlainS
 use Rattle.ioa_terms.specs.PlainTerm.{PlainFiring}
 use Rattle.ioa_source.specs.PlainText.{PlainDeclared, PlainParameter, PlainEntry, PlainVariable, PlainTransition}
 use Rattle.ioa_source.specs.PlainText.{PlainSchedule, PlainAutomaton, PlainForm, PlainType, PlainDeclaration}
-use Rattle.ioa_source.specs.PlainText.{PlainNode, PlainCall, PlainScript, PlainPlacement, PlainText}
+use Rattle.ioa_source.specs.PlainText.{PlainNode, PlainCall, PlainScript, PlainPlacement, PlainInvariant}
+use Rattle.ioa_source.specs.PlainText.{PlainText}
 
 -- the trees of a text as it is spelled
 abbrev pub SourceTerm : Type 0
@@ -73,6 +74,9 @@ SourceScript = PlainScript (Unit {0}) (Unit {0}) (Unit {0})
 
 abbrev pub SourcePlacement : Type 0
 SourcePlacement = PlainPlacement (Unit {0}) (Unit {0}) (Unit {0})
+
+abbrev pub SourceInvariant : Type 0
+SourceInvariant = PlainInvariant (Unit {0}) (Unit {0}) (Unit {0})
 
 abbrev pub SourceText : Type 0
 SourceText = PlainText (Unit {0}) (Unit {0}) (Unit {0})

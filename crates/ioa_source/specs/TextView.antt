@@ -5,7 +5,8 @@ use Rattle.ioa_terms.specs.View.{term_of, statement_of}
 use Rattle.ioa_terms.specs.SortView.{sort_of}
 use Rattle.ioa_source.specs.PlainText.{PlainDeclared, PlainParameter, PlainEntry, PlainVariable, PlainTransition}
 use Rattle.ioa_source.specs.PlainText.{PlainSchedule, PlainAutomaton, PlainForm, PlainType, PlainDeclaration}
-use Rattle.ioa_source.specs.PlainText.{PlainNode, PlainCall, PlainScript, PlainPlacement, PlainText}
+use Rattle.ioa_source.specs.PlainText.{PlainNode, PlainCall, PlainScript, PlainPlacement, PlainInvariant}
+use Rattle.ioa_source.specs.PlainText.{PlainText}
 use Rattle.ioa_source.specs.PlainText.{const, named, enumeration, tuple_of, type_named, automaton, node, channel, script}
 use Rattle.ioa_source.specs.declared.declaration.Declared.{Declared}
 use Rattle.ioa_source.specs.declared.declaration.Parameter.{Parameter}
@@ -25,6 +26,7 @@ use Rattle.ioa_source.specs.declared.declaration.Call.{Call}
 use Rattle.ioa_source.specs.declared.declaration.ScriptDeclaration.{ScriptDeclaration}
 use Rattle.ioa_source.specs.declared.declaration.Placement.{Placement}
 use Rattle.ioa_source.specs.declared.declaration.Placement.TheVariants as placement
+use Rattle.ioa_source.specs.declared.declaration.Invariant.{Invariant}
 use Rattle.ioa_source.specs.declared.declaration.Text.{Text}
 
 abbrev pub declared_of : {D : Type 0} → Declared D → PlainDeclared D
@@ -95,5 +97,12 @@ placement_of (placement.Node n) = node (node_of n)
 placement_of (placement.Channel c) = channel c
 placement_of (placement.Script s) = script (script_of s)
 
+abbrev pub invariant_of : {N C D : Type 0} → Invariant N C D → PlainInvariant N C D
+invariant_of v = record { name = v.name; term = term_of v.term }
+
 abbrev pub text_of : {N C D : Type 0} → Text N C D → PlainText N C D
-text_of t = record { declarations = map declaration_of t.declarations.items; system = map placement_of t.system.items }
+text_of t = record {
+  declarations = map declaration_of t.declarations.items;
+  system = map placement_of t.system.items;
+  invariants = map invariant_of t.invariants.items;
+}

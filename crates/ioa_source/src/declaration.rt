@@ -164,6 +164,15 @@ pub enum Placement<N, C, D> {
     Script(ScriptDeclaration<N, C, D>),
 }
 
+/// `invariant A: t`: a term that is to be true in each state (profile).
+#[derive(Drop)]
+pub struct Invariant<N, C, D> {
+    /// The invariant's name.
+    pub name: Word,
+    /// The term.
+    pub term: Tree<N, C, D>,
+}
+
 /// A whole text (profile).
 #[derive(Drop)]
 pub struct Text<N, C, D> {
@@ -171,4 +180,6 @@ pub struct Text<N, C, D> {
     pub declarations: Vec<Declaration<N, C, D>>,
     /// The nodes, channels and scripts of the system section, in order.
     pub system: Vec<Placement<N, C, D>>,
+    /// The invariants behind it, in order.
+    pub invariants: Vec<Invariant<N, C, D>>,
 }

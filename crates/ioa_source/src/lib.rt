@@ -1,5 +1,5 @@
-//! The tree of a whole text: types, automata, schedule blocks and the system section, and sorts as they are
-//! spelled; and the text of a checked tree without its annotations.
+//! The tree of a whole text: types, automata, schedule blocks, the system section and invariants, and sorts as
+//! they are spelled; and the text of a checked tree without its annotations.
 //!
 //! **A crate of its own**, since readers and check share it, and neither stands on the other.
 //!
@@ -14,8 +14,8 @@ mod laws;
 mod same;
 
 pub use declaration::{
-    Automaton, Call, Channel, Declaration, Declared, Entry, Node, Parameter, Placement, Schedule,
-    ScriptDeclaration, Text, Transition, TypeDeclaration, TypeForm, Variable,
+    Automaton, Call, Channel, Declaration, Declared, Entry, Invariant, Node, Parameter, Placement,
+    Schedule, ScriptDeclaration, Text, Transition, TypeDeclaration, TypeForm, Variable,
 };
 pub use height::{HEIGHT_LIMIT, HasHeight};
 pub use ioa_terms::Sort;

@@ -72,13 +72,9 @@ declared_names a = record {
 abbrev pub scope_at : Site → DeclaredNames → List (List ℕ) → List (List ℕ)
 scope_at site d own = in_view site d.parameters d.variables own
 
--- all words that a term may read there
-abbrev pub words_at : Site → DeclaredNames → List (List ℕ) → List (List ℕ)
-words_at site d own = scope_at site d own ++ d.constants
-
--- and so all names
+-- all names that a term may read there
 abbrev pub names_at : Site → DeclaredNames → List (List ℕ) → List Name
-names_at site d own = map Word (words_at site d own)
+names_at site d own = map Word (scope_at site d own) ++ map Word d.constants
 
 -- what a term reads there, if an automaton declares these names, the entry's own parameters have those, and each of
 -- them has its value among these: the names in view with their values, and the text's constants behind them

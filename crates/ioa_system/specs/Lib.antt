@@ -3,6 +3,7 @@ pub mod Parts
 pub mod InView
 pub mod Declarations
 pub mod ResolvedPrograms
+pub mod Invariants
 pub mod Systems
 pub mod SameParts
 pub mod Indexes

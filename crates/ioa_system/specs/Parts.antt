@@ -44,6 +44,10 @@ rule_named w rs = find (λ r. same_word r.entry.name w) rs
 abbrev pub message_shape : List PlainRule → Option PlainShape
 message_shape rs = option_and_then (λ r. slice_get r.shapes 0) (rule_named receive_name rs)
 
+-- the state variable of a name, the first one if there are several
+abbrev pub variable_named : List ℕ → List CheckedVariable → Option CheckedVariable
+variable_named w vs = find (λ v. same_word w v.declared.name) vs
+
 -- an automaton: its name, the names of the text's constants, its parameters, its state variables, its rules and its
 -- schedule block
 pub record AutomatonParts : Type 0 where

@@ -2,7 +2,7 @@
 
 ghost use Rattle.std.specs.Prelude.{◌≡◌, ◌↔◌, ℕ, List, [], IsTrue, IfSome, All, map, length, slice_get};
 ghost use Rattle.std.specs.List.{IsDistinct};
-ghost use Rattle.std.specs.Option.{is_some, option_copied};
+ghost use Rattle.std.specs.Option.{is_some, option_and_then, option_copied, option_map};
 ghost use Rattle.std.specs.Arc.{arc_value};
 ghost use Rattle.ioa_terms.specs.Bindings.{names_of, same_word};
 ghost use Rattle.ioa_terms.specs.PlainTerm.{statements_of};
@@ -12,6 +12,7 @@ ghost use Rattle.ioa_system.specs.InView.{entry_constant, initial_value, entry_c
 ghost use Rattle.ioa_system.specs.InView.{block_own_names, parameter_names, variable_names};
 ghost use Rattle.ioa_system.specs.Numbered.{AreNumbered, IsNumberOf};
 ghost use Rattle.ioa_system.specs.Parts.{automaton_parts, message_shape, rule_named, rule_names};
+ghost use Rattle.ioa_system.specs.Parts.{variable_named};
 ghost use Rattle.ioa_system.specs.ResolvedPrograms.{IsCompiled, IsResolvedRule};
 ghost use Rattle.ioa_system.specs.ResolvedPrograms.{AreResolvedVariables, IsResolvedSchedule};
 ghost use Rattle.ioa_system.specs.SameParts.{same_rule, same_parameters, same_automaton};
@@ -23,7 +24,7 @@ use ioa_source::{
     Declared, Entry, Schedule, Transition, Variable, are_same_variables, is_same_declared,
     is_same_entry, is_same_schedule, is_same_transition,
 };
-use ioa_terms::{Callee, Env, NameLists, Names, Shape, Value, Word};
+use ioa_terms::{Callee, Env, Name, NameLists, Names, Shape, Value, Word};
 use std::marker::Model;
 use std::sync::Arc;
 
@@ -191,6 +192,13 @@ impl CompiledAutomaton {
         self.variables.as_slice()
     }
 
+    /// The state variable of a name, if there is one. Costs a constant expected time.
+    pub fn variable_named(&self, name: &Word) -> Option<&Variable<usize, Callee, Shape>>
+        ensures { option_map variable_of (option_copied result) ≡ variable_named name.now self.now.variables }
+    {
+        variable_at(&self.variables, self.scope.slot_of_word(name))
+    }
+
     /// The entries with their transitions, in the order of the signature.
     pub fn rules(&self) -> &[Rule]
         ensures value { result.now ≡ self.now.rules }
@@ -247,14 +255,14 @@ impl CompiledAutomaton {
 
     /// The names in view in the condition of a rule's entry.
     pub fn condition_names<'a>(&'a self, rule: &'a Rule) -> NameLists<'a>
-        ensures { result ≡ scope_at entry_condition (declared_names self.now) rule.now.own }
+        ensures { result ≡ map Name.Word (scope_at entry_condition (declared_names self.now) rule.now.own) }
     {
         NameLists::new(self.parameter_names(), rule.own.as_slice(), &[])
     }
 
     /// The names in view in the guard and the effect of a rule.
     pub fn step_names<'a>(&'a self, rule: &'a Rule) -> NameLists<'a>
-        ensures { result ≡ scope_at guard_or_effect (declared_names self.now) rule.now.own }
+        ensures { result ≡ map Name.Word (scope_at guard_or_effect (declared_names self.now) rule.now.own) }
     {
         NameLists::new(
             self.variable_names(),
@@ -273,7 +281,8 @@ impl CompiledAutomaton {
 
     /// The names in view in the statements of the schedule block: its own variables' first.
     pub fn block_names(&self) -> NameLists<'_>
-        ensures { result ≡ scope_at block_statement (declared_names self.now) (block_own_names self.now) }
+        ensures { result ≡ map Name.Word
+            (scope_at block_statement (declared_names self.now) (block_own_names self.now)) }
     {
         NameLists::new(
             self.own.as_slice(),
@@ -315,6 +324,21 @@ impl CompiledAutomaton {
                     && (are_same_variables(&self.variables, &other.variables)
                         && (self.rules.as_slice() == other.rules.as_slice()
                             && is_same_schedule(&self.schedule, &other.schedule)))))
+    }
+}
+
+/// The variable at a slot, if there is one.
+#[tactic(auto, using(crate::proofs::Scopes::got))]
+fn variable_at(
+    variables: &Vec<Variable<usize, Callee, Shape>>,
+    slot: Option<usize>,
+) -> Option<&Variable<usize, Callee, Shape>>
+    ensures { option_map variable_of (option_copied result)
+        ≡ option_and_then (slice_get (map variable_of variables.now.items)) slot }
+{
+    match slot {
+        Some(slot) => variables.get(slot),
+        None => None,
     }
 }
 

@@ -1,5 +1,5 @@
-//! Checked systems: a program for each node, which nodes of one automaton share, channels, and scripts; and what a
-//! term may read, by where it is written.
+//! Checked systems: a program for each node, which nodes of one automaton share, channels, scripts, and invariants; and
+//! what a term may read, by where it is written.
 //!
 //! **A crate of its own**, since what checks a text ends with a system and what runs begins with one, so either
 //! side changes without the other.
@@ -8,6 +8,7 @@
 #![tactic(auto)]
 
 mod automaton;
+mod invariant;
 mod program;
 mod rules;
 mod scope;
@@ -15,7 +16,8 @@ mod script;
 mod system;
 
 pub use automaton::{CompiledAutomaton, Rule, message_shape};
-pub use program::Program;
+pub use invariant::CompiledInvariant;
+pub use program::{Program, program_numbered};
 pub use rules::Rules;
 pub use scope::Scope;
 pub use script::Script;

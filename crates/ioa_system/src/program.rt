@@ -1,9 +1,11 @@
 //! The program of a node: its automaton, with what the node gives it.
 
-ghost use Rattle.std.specs.Prelude.{◌≡◌, ◌↔◌, IsTrue, length};
+ghost use Rattle.std.specs.Prelude.{◌≡◌, ◌↔◌, IsTrue, length, map};
+ghost use Rattle.std.specs.Option.{option_copied, option_map};
 ghost use Rattle.std.specs.Arc.{arc_value};
 ghost use Rattle.ioa_system.specs.Parts.{parts};
 ghost use Rattle.ioa_system.specs.SameParts.{same_program};
+ghost use Rattle.ioa_system.specs.Systems.{program_numbered};
 
 use crate::automaton::CompiledAutomaton;
 use ioa_terms::Value;
@@ -37,6 +39,18 @@ impl Model for Program {
 
     ghost invariant = { λ p. IsValuedProgram
         (parts p.node (arc_value p.automaton) p.arguments.items p.initial.items p.block.items) };
+}
+
+/// The program of the node that has a number, if there is one.
+pub fn program_numbered(programs: &[Arc<Program>], number: i64) -> Option<&Arc<Program>>
+    ensures { option_map arc_value (option_copied result) ≡ program_numbered number (map arc_value programs.now) }
+{
+    for program in programs {
+        if program.node() == number {
+            return Some(program);
+        }
+    }
+    None
 }
 
 impl Program {

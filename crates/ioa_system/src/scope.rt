@@ -46,15 +46,6 @@ impl Scope {
         Ok(fresh)
     }
 
-    /// The slot of a name that a term reads, if it is declared.
-    pub fn slot_of(&self, name: &Name) -> Option<usize>
-        ensures { result ≡ slot_in name.now (map Name.Word self.now) }
-    {
-        match name {
-            Name::Word(word) => self.slot_of_word(word),
-        }
-    }
-
     /// The slot of the name that a word is, if it is declared.
     #[tactic(auto, using(crate::proofs::Scopes::position_slot))]
     pub fn slot_of_word(&self, word: &Word) -> Option<usize>

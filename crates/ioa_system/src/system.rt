@@ -5,6 +5,7 @@ ghost use Rattle.std.specs.Arc.{arc_value};
 ghost use Rattle.std.specs.Option.{option_copied};
 ghost use Rattle.ioa_system.specs.Systems.{script_of, system};
 
+use crate::invariant::CompiledInvariant;
 use crate::program::Program;
 use crate::script::Script;
 use ioa_source::Channel;
@@ -12,13 +13,14 @@ use ioa_terms::Names;
 use std::marker::Model;
 use std::sync::Arc;
 
-/// A system: the programs of its nodes, node 0 first, and its channels and scripts as declared.
+/// A system: the programs of its nodes, node 0 first, and its channels, scripts and invariants as declared.
 #[derive(Drop)]
 pub struct System {
     names: Arc<Names>,
     programs: Vec<Arc<Program>>,
     channels: Vec<Channel>,
     scripts: Vec<Script>,
+    invariants: Vec<CompiledInvariant>,
 }
 
 impl Model for System {
@@ -32,24 +34,28 @@ impl Model for System {
     ghost use Rattle.std.specs.Prelude.{map};
     ghost use Rattle.ioa_system.specs.Systems.{system};
 
-    ghost view = { λ s. system (arc_value s.names) (map arc_value s.programs.items) s.channels.items s.scripts.items };
+    ghost view = { λ s. system (arc_value s.names) (map arc_value s.programs.items) s.channels.items s.scripts.items
+        s.invariants.items };
 }
 
 impl System {
-    /// The system of these constants, programs, channels and scripts. Nothing is checked of them here.
+    /// The system of these constants, programs, channels, scripts and invariants. Nothing is checked of them here.
     pub fn new(
         names: Arc<Names>,
         programs: Vec<Arc<Program>>,
         channels: Vec<Channel>,
         scripts: Vec<Script>,
+        invariants: Vec<CompiledInvariant>,
     ) -> Self
-        ensures { result ≡ system (arc_value names) (map arc_value programs.items) channels.items scripts.items }
+        ensures { result ≡ system (arc_value names) (map arc_value programs.items) channels.items scripts.items
+            invariants.items }
     {
         System {
             names,
             programs,
             channels,
             scripts,
+            invariants,
         }
     }
 
@@ -79,6 +85,13 @@ impl System {
         ensures { result.now ≡ self.now.scripts }
     {
         self.scripts.as_slice()
+    }
+
+    /// The invariants, as declared.
+    pub fn invariants(&self) -> &[CompiledInvariant]
+        ensures { result.now ≡ self.now.invariants }
+    {
+        self.invariants.as_slice()
     }
 
     /// The script of a node, if one is declared; the first one if there are several.

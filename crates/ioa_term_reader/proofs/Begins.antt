@@ -9,7 +9,7 @@ use Rattle.ioa_source.specs.Sides.{SourceTerm, SourceTerms}
 use Rattle.ioa_cursor.specs.Reading.{skip, peek_mark}
 use Rattle.ioa_cursor.proofs.Steps.{stays}
 use Rattle.ioa_cursor.proofs.Follow.{skip_unlike}
-use Rattle.ioa_term_reader.specs.Grammar.{SpellsAt, numeral, yes, no, word, call, brackets, empty, braces, fields, field, key, before, between, tighter, SpellsTerms, single, followed, SpellsTerm}
+use Rattle.ioa_term_reader.specs.Grammar.{SpellsAt, numeral, yes, no, word, at_node, call, brackets, empty, braces, fields, field, key, before, between, tighter, SpellsTerms, single, followed, SpellsTerm}
 use Rattle.ioa_term_reader.specs.Levels.{prefix_of}
 
 -- whether a mark begins a term
@@ -42,6 +42,7 @@ at_begins numeral = refl
 at_begins yes = refl
 at_begins no = refl
 at_begins word = refl
+at_begins at_node = refl
 at_begins (call ts) = refl
 at_begins (brackets d) = refl
 at_begins empty = refl

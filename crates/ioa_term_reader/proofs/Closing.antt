@@ -23,9 +23,11 @@ abbrev pub binds_after : Option After → ℕ
 binds_after None = 0
 binds_after (Some a) = left_of a
 
--- the same for a mark; a bracket behind a word opens a call, which is no term that goes on: it counts as tighter than all levels
+-- the same for a mark; a bracket behind a word opens a call and `@` makes it another name, which are no terms that go
+-- on: these count as tighter than all levels
 abbrev pub mark_binds : Mark → ℕ
 mark_binds mark.OpenRound = 14
+mark_binds mark.AtSign = 14
 mark_binds m = binds_after (after_of m)
 
 -- the same for what comes next
@@ -42,11 +44,13 @@ Closes xs = binds xs ≡ 0
 
 pub after_binds : (m : Mark) → binds_after (after_of m) ≤ mark_binds m
 after_binds mark.OpenRound = omega arith
+after_binds mark.AtSign = omega arith
 after_binds _ = omega arith
 
 -- a mark between two terms binds as its operator does
 pub binds_infix : (m : Mark) (op : BinaryOperator) → infix_of m ≡ Some op → mark_binds m ≡ left_level op
 binds_infix mark.OpenRound op e = absurd cc
+binds_infix mark.AtSign op e = absurd cc
 binds_infix mark.Dot op e = absurd cc
 binds_infix mark.OpenSquare op e = absurd cc
 binds_infix m op e = ap (λ o. binds_after (option_map Infix o)) e

@@ -12,7 +12,7 @@ use Rattle.ioa_operators.specs.declared.operator.BinaryOperator.{BinaryOperator}
 use Rattle.ioa_operators.specs.declared.operator.BinaryOperator.TheVariants.{At}
 use Rattle.ioa_operators.specs.declared.shape.DisplayForm.{DisplayForm}
 use Rattle.ioa_operators.specs.declared.shape.DisplayForm.TheVariants.{Braces, Brackets}
-use Rattle.ioa_terms.specs.declared.name.Name.TheVariants.{Word}
+use Rattle.ioa_terms.specs.declared.name.Name.TheVariants.{Word, Variable}
 use Rattle.ioa_terms.specs.PlainTerm as plain
 use Rattle.ioa_terms.specs.PlainTerm.{no_terms, terms_of}
 use Rattle.ioa_source.specs.Sides.{SourceTerm}
@@ -20,8 +20,9 @@ use Rattle.ioa_cursor.specs.Reading.{bind, choose, skip, expect, word, number, a
 use Rattle.ioa_cursor.proofs.Steps.{stays, read_next}
 use Rattle.ioa_cursor.proofs.Follow.{skip_same}
 use Rattle.ioa_source.specs.Heights.{height, height_limit}
+use Rattle.ioa_term_reader.specs.Grammar.{called}
 use Rattle.ioa_term_reader.specs.Levels.{prefix_level, prefix_of, infix_of, right_level, atom_level}
-use Rattle.ioa_term_reader.specs.Reading.{limited_term, term_at_level, after_of, level_of, left_of, accepted_after, terms_in, bracketed_term, display_term, braced_term, call_term, word_term, prefixed_term, operator_term, marked_term, operand, extended_term, climb, read}
+use Rattle.ioa_term_reader.specs.Reading.{limited_term, term_at_level, after_of, level_of, left_of, accepted_after, terms_in, bracketed_term, display_term, braced_term, call_term, name_term, word_term, prefixed_term, operator_term, marked_term, operand, extended_term, climb, read}
 use Rattle.ioa_term_reader.specs.declared.after.After.{After}
 use Rattle.ioa_term_reader.specs.declared.after.After.TheVariants.{Infix, Field, Key}
 use Rattle.ioa_term_reader.proofs.Closing.{binds, binds_after, after_binds}
@@ -153,12 +154,18 @@ module _ (next : ℕ → ℕ → List Token → Option (SourceTerm × List Token
   operand_prefix room least m op t xs ys is l e h =
       rw (operand_mark room least m xs, marked_prefix next room least m op xs is, test_yes least (prefix_level op) l) (rw e (rw (limited_low (plain.one op t) h) refl))
 
-  pub operand_word : (room least : ℕ) (w : List ℕ) (xs : List Token) → skip mark.OpenRound xs ≡ stays false xs → operand next room least (token.Word w ∷ xs) ≡ term_at_level atom_level (plain.name (Word w) tt) xs
-  unfolding operand at_number at_word word word_term choose bind
-  operand_word room least w xs e = rw e refl
+  pub operand_word : (room least : ℕ) (w : List ℕ) (xs : List Token) → skip mark.OpenRound xs ≡ stays false xs → skip mark.AtSign xs ≡ stays false xs →
+      operand next room least (token.Word w ∷ xs) ≡ term_at_level atom_level (plain.name (Word w) tt) xs
+  unfolding operand at_number at_word word word_term name_term choose bind
+  operand_word room least w xs e f = rw e (rw f refl)
+
+  pub operand_at_node : (room least : ℕ) (w : List ℕ) (k : ℤ) (xs : List Token) →
+      operand next room least (token.Word w ∷ token.Mark mark.AtSign ∷ token.Number k ∷ xs) ≡ term_at_level atom_level (plain.name (Variable w k) tt) xs
+  unfolding operand at_number at_word word number word_term name_term skip choose bind
+  operand_at_node room least w k xs = refl
 
   pub operand_call : (room least : ℕ) (w : List ℕ) (ts : List SourceTerm) (t : SourceTerm) (xs ys : List Token) →
-      terms_in next room xs ≡ read_next ts (token.Mark mark.CloseRound ∷ ys) → limited_term (plain.call w tt (terms_of ts)) ≡ Some t →
+      terms_in next room xs ≡ read_next ts (token.Mark mark.CloseRound ∷ ys) → limited_term (called w (terms_of ts)) ≡ Some t →
       operand next (suc room) least (token.Word w ∷ token.Mark mark.OpenRound ∷ xs) ≡ term_at_level atom_level t ys
   unfolding operand at_number at_word word word_term call_term skip expect choose bind
   operand_call room least w ts t xs ys e h = rw (opens room, opened room) (rw e (rw h refl))

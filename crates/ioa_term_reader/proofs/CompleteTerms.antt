@@ -8,7 +8,7 @@ use Rattle.ioa_tokens.specs.declared.mark.Mark.TheVariants as mark
 use Rattle.ioa_operators.specs.declared.operator.BinaryOperator.TheVariants.{At}
 use Rattle.ioa_operators.specs.declared.shape.DisplayForm.{DisplayForm}
 use Rattle.ioa_operators.specs.declared.shape.DisplayForm.TheVariants.{Braces, Brackets}
-use Rattle.ioa_terms.specs.declared.name.Name.TheVariants.{Word}
+use Rattle.ioa_terms.specs.declared.name.Name.TheVariants.{Word, Variable, Queue}
 use Rattle.ioa_terms.specs.PlainTerm as plain
 use Rattle.ioa_terms.specs.PlainTerm.{no_terms, terms_of}
 use Rattle.ioa_source.specs.Sides.{SourceTerm, SourceTerms}
@@ -19,14 +19,15 @@ use Rattle.ioa_cursor.proofs.Follow.{skip_same}
 use Rattle.ioa_source.specs.Heights.{height, heights, height_limit}
 use Rattle.ioa_term_reader.specs.Levels.{prefix_level, level, left_level, right_level, postfix_level, atom_level}
 use Rattle.ioa_term_reader.specs.Grammar as grammar
-use Rattle.ioa_term_reader.specs.Grammar.{SpellsAt, SpellsTerms, SpellsTerm, bracket_limit}
+use Rattle.ioa_term_reader.specs.Grammar.{SpellsAt, SpellsTerms, SpellsTerm, bracket_limit, called}
 use Rattle.ioa_term_reader.specs.Reading.{limited_term, term_at_level, after_of, level_of, left_of, terms_in, operand, extended_term, climb, read, term, depth_limit}
 use Rattle.ioa_term_reader.specs.declared.after.After.{After}
 use Rattle.ioa_term_reader.specs.declared.after.After.TheVariants.{Infix, Field, Key}
 use Rattle.ioa_term_reader.proofs.Closing.{binds, mark_binds, binds_infix, Closes, left_level_above, right_level_above, ends_right, ends_prefix, ends_whole}
+use Rattle.ioa_term_reader.proofs.Called.{called_height}
 use Rattle.ioa_term_reader.proofs.Shorter.{at_shorter}
 use Rattle.ioa_term_reader.proofs.Begins.{terms_begin, skip_at_term}
-use Rattle.ioa_term_reader.proofs.CompleteSteps.{limited_low, accepted_next, after_infix, climb_stops, climb_same, climb_more, grown_infix, grown_field, grown_key, operand_number, operand_truth, operand_falsity, operand_prefix, operand_word, operand_call, operand_brackets, operand_empty, operand_fields, operand_braces, read_operand}
+use Rattle.ioa_term_reader.proofs.CompleteSteps.{limited_low, accepted_next, after_infix, climb_stops, climb_same, climb_more, grown_infix, grown_field, grown_key, operand_number, operand_truth, operand_falsity, operand_prefix, operand_word, operand_at_node, operand_call, operand_brackets, operand_empty, operand_fields, operand_braces, read_operand}
 
 -- where the reader is once it has read the term `t` of level `most`, in a number of turns that are left
 record Reached (depth room least most : ℕ) (t : SourceTerm) (xs ys : List Token) : Type 0 where
@@ -37,7 +38,9 @@ record Reached (depth room least most : ℕ) (t : SourceTerm) (xs ys : List Toke
 pub height_positive : (t : SourceTerm) → 1 ≤ height t
 height_positive (plain.number n) = omega arith
 height_positive (plain.truth b) = omega arith
-height_positive (plain.name w at) = omega arith
+height_positive (plain.name (Word w) at) = omega arith
+height_positive (plain.name (Variable w k) at) = omega arith
+height_positive (plain.name (Queue i j) at) = omega arith
 height_positive (plain.one op t) = omega arith
 height_positive (plain.two op t u) = omega arith
 height_positive (plain.call w c ts) = omega arith
@@ -127,9 +130,9 @@ terms_read : (depth room : ℕ) (ts : SourceTerms) (xs ys : List Token) (r : Rea
 unfolding terms_in bind
 terms_read depth room ts xs ys r = rw r.head (r.tail (length r.middle) (r.first ∷ []) (omega arith))
 
-limited_call : (w : List ℕ) (ts : SourceTerms) (us : List SourceTerm) → terms_of us ≡ ts → height (plain.call w tt ts) ≤ height_limit →
-    limited_term (plain.call w tt (terms_of us)) ≡ Some (plain.call w tt ts)
-limited_call w ts us same h = rw same (limited_low (plain.call w tt ts) h)
+limited_call : (w : List ℕ) (ts : SourceTerms) (us : List SourceTerm) → terms_of us ≡ ts → height (called w ts) ≤ height_limit →
+    limited_term (called w (terms_of us)) ≡ Some (called w ts)
+limited_call w ts us same h = rw same (limited_low (called w ts) h)
 
 limited_display : (form : DisplayForm) (ts : SourceTerms) (us : List SourceTerm) → terms_of us ≡ ts → height (plain.display form tt ts) ≤ height_limit →
     limited_term (plain.display form tt (terms_of us)) ≡ Some (plain.display form tt ts)
@@ -149,6 +152,20 @@ not_opened (token.Number n ∷ xs) h = refl
 not_opened (token.LeftOut w ∷ xs) h = refl
 not_opened [] h = refl
 
+-- nor does it name a node
+mark_not_at : (m : Mark) (xs : List Token) → mark_binds m ≤ atom_level → skip mark.AtSign (token.Mark m ∷ xs) ≡ stays false (token.Mark m ∷ xs)
+unfolding skip
+mark_not_at mark.AtSign xs h = absurd (omega arith)
+mark_not_at _ xs h = refl
+
+not_at : (xs : List Token) → binds xs ≤ atom_level → skip mark.AtSign xs ≡ stays false xs
+unfolding skip
+not_at (token.Mark m ∷ xs) h = mark_not_at m xs h
+not_at (token.Word w ∷ xs) h = refl
+not_at (token.Number n ∷ xs) h = refl
+not_at (token.LeftOut w ∷ xs) h = refl
+not_at [] h = refl
+
 -- a closing bracket is no comma
 no_comma : (m : Mark) (ys : List Token) → same_mark m mark.Comma ≡ false → skip mark.Comma (token.Mark m ∷ ys) ≡ stays false (token.Mark m ∷ ys)
 unfolding skip
@@ -162,11 +179,14 @@ mutual
   reach (grammar.yes {room = room} {ys = ys}) depth least h high b deep = from_operand depth room least atom_level (plain.truth true) _ ys (operand_truth (read depth) room least ys)
   reach (grammar.no {room = room} {ys = ys}) depth least h high b deep = from_operand depth room least atom_level (plain.truth false) _ ys (operand_falsity (read depth) room least ys)
   reach (grammar.word {room = room} {w = w} {ys = ys}) depth least h high b deep =
-      from_operand depth room least atom_level (plain.name (Word w) tt) _ ys (operand_word (read depth) room least w ys (not_opened ys b))
+      from_operand depth room least atom_level (plain.name (Word w) tt) _ ys (operand_word (read depth) room least w ys (not_opened ys b) (not_at ys b))
+  reach (grammar.at_node {room = room} {w = w} {k = k} {ys = ys}) depth least h high b deep =
+      from_operand depth room least atom_level (plain.name (Variable w k) tt) _ ys (operand_at_node (read depth) room least w k ys)
   reach (grammar.call {room = room} {w = w} {ts = ts} {xs = xs} {ys = ys} d) depth least h high b deep =
+      let tall = called_height w ts in
       let r = reach_all d depth (omega arith) (omega arith) (omega arith) (no_comma mark.CloseRound ys refl) in
-      from_operand depth (suc room) least atom_level (plain.call w tt ts) _ ys
-      (operand_call (read depth) room least w (r.first ∷ r.others) (plain.call w tt ts) xs ys (terms_read depth room ts xs _ r) (limited_call w ts (r.first ∷ r.others) r.same high))
+      from_operand depth (suc room) least atom_level (called w ts) _ ys
+      (operand_call (read depth) room least w (r.first ∷ r.others) (called w ts) xs ys (terms_read depth room ts xs _ r) (limited_call w ts (r.first ∷ r.others) r.same high))
   reach (grammar.brackets {room = room} {t = t} {xs = xs} {ys = ys} d) depth least h high b deep =
       let p = height_positive t in
       from_operand depth (suc room) least atom_level t _ ys

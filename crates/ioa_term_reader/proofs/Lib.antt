@@ -1,6 +1,7 @@
 -- the lemmas of this crate, and those that the crates above cite
 pub mod Shorter
 pub mod Begins
+pub mod Called
 pub mod Sound
 pub mod Closing
 pub mod CompleteSteps

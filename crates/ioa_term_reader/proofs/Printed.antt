@@ -12,10 +12,11 @@ use Rattle.ioa_operators.specs.declared.operator.BinaryOperator.TheVariants as o
 use Rattle.ioa_terms.specs.PlainTerm.{two}
 use Rattle.ioa_source.specs.Sides.{SourceTerm, SourceTerms}
 use Rattle.ioa_term_reader.specs.Grammar as grammar
-use Rattle.ioa_term_reader.specs.Grammar.{SpellsAt, SpellsTerms, SpellsTerm}
+use Rattle.ioa_term_reader.specs.Grammar.{SpellsAt, SpellsTerms, SpellsTerm, called}
 use Rattle.ioa_source.specs.Heights.{height, heights, height_limit}
 use Rattle.ioa_term_reader.specs.Levels.{prefix_mark, prefix_level, prefix_of, infix_mark, infix_of, level, left_level, right_level, postfix_level}
 use Rattle.ioa_term_reader.specs.Spelling.{infix_end, is_operation, spelling, part_spelling, parts_spelling, more_parts_spelling}
+use Rattle.ioa_term_reader.proofs.Called.{called_height, called_plain, called_spelling}
 use Rattle.ioa_term_reader.proofs.Sound.{looser}
 
 -- the marks of operators, and the levels of their terms
@@ -109,11 +110,13 @@ mutual
   at_printed {t = t} grammar.yes = plain_printed t refl (λ e zs h. grammar.tighter grammar.yes)
   at_printed {t = t} grammar.no = plain_printed t refl (λ e zs h. grammar.tighter grammar.no)
   at_printed {t = t} grammar.word = plain_printed t refl (λ e zs h. grammar.tighter grammar.word)
-  at_printed {t = t} (grammar.call {ts = ts} d) =
+  at_printed {t = t} grammar.at_node = plain_printed t refl (λ e zs h. grammar.tighter grammar.at_node)
+  at_printed (grammar.call {w = w} {ts = ts} d) =
       let p = terms_printed d in
-      plain_printed t refl (λ e zs h.
+      let tall = called_height w ts in
+      plain_printed (called w ts) (called_plain w ts) (λ e zs h.
       let deeper : e ≡ suc (e - 1) = omega arith in
-      rw (append_assoc (parts_spelling ts) (token.Mark mark.CloseRound ∷ []) zs, deeper) (grammar.tighter (grammar.call (p.listed (e - 1) (token.Mark mark.CloseRound ∷ zs) (omega arith)))))
+      rw (called_spelling w ts, append_assoc (parts_spelling ts) (token.Mark mark.CloseRound ∷ []) zs, deeper) (grammar.tighter (grammar.call (p.listed (e - 1) (token.Mark mark.CloseRound ∷ zs) (omega arith)))))
   at_printed (grammar.brackets d) = at_printed d
   at_printed {t = t} grammar.empty =
       plain_printed t refl (λ e zs h. let deeper : e ≡ suc (e - 1) = omega arith in rw deeper (grammar.tighter grammar.empty))

@@ -10,6 +10,7 @@ use Rattle.ioa_source.specs.Sides.{SourceTerm, SourceTerms}
 use Rattle.ioa_term_reader.specs.Grammar as grammar
 use Rattle.ioa_term_reader.specs.Grammar.{SpellsAt, SpellsTerms, SpellsTerm}
 use Rattle.ioa_term_reader.specs.Spelling.{infix_end, is_operation, in_brackets_if, spelling, part_spelling, parts_spelling}
+use Rattle.ioa_term_reader.proofs.Called.{called_spelling}
 use Rattle.ioa_term_reader.proofs.Printed.{terms_printed}
 use Rattle.ioa_values.proofs.AllOf.{all_appended}
 
@@ -37,9 +38,10 @@ mutual
   at_good grammar.yes h = ((tt, tt), h.1)
   at_good grammar.no h = ((tt, tt), h.1)
   at_good grammar.word h = ((h.0, tt), h.1)
-  at_good (grammar.call {ts = ts} d) h =
+  at_good grammar.at_node h = ((h.0, (tt, (h.1.1.0, tt))), h.1.1.1)
+  at_good (grammar.call {w = w} {ts = ts} d) h =
       let g = terms_good d h.1.1 in
-      ((h.0, (tt, tokens_joined (parts_spelling ts) (token.Mark mark.CloseRound ∷ []) g.0 (tt, tt))), g.1.1)
+      rw (called_spelling w ts) ((h.0, (tt, tokens_joined (parts_spelling ts) (token.Mark mark.CloseRound ∷ []) g.0 (tt, tt))), g.1.1)
   at_good (grammar.brackets d) h = let g = at_good d h.1 in (g.0, g.1.1)
   at_good grammar.empty h = ((tt, (tt, tt)), h.1.1)
   at_good (grammar.braces {ts = ts} d) h =

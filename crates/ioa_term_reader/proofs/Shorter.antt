@@ -2,7 +2,7 @@
 use Rattle.std.proofs.Common.{ℕ, ◌<◌, List, length, arith}
 use Rattle.ioa_tokens.specs.declared.token.Token.{Token}
 use Rattle.ioa_source.specs.Sides.{SourceTerm, SourceTerms}
-use Rattle.ioa_term_reader.specs.Grammar.{SpellsAt, numeral, yes, no, word, call, brackets, empty, braces, fields, field, key, before, between, tighter, SpellsTerms, single, followed, SpellsTerm}
+use Rattle.ioa_term_reader.specs.Grammar.{SpellsAt, numeral, yes, no, word, at_node, call, brackets, empty, braces, fields, field, key, before, between, tighter, SpellsTerms, single, followed, SpellsTerm}
 
 mutual
   pub at_shorter : {room l : ℕ} {t : SourceTerm} {xs ys : List Token} → SpellsAt room l t xs ys → length ys < length xs
@@ -10,6 +10,7 @@ mutual
   at_shorter yes = omega arith
   at_shorter no = omega arith
   at_shorter word = omega arith
+  at_shorter at_node = omega arith
   at_shorter (call ts) = let a = terms_shorter ts in omega arith
   at_shorter (brackets d) = let a = at_shorter d in omega arith
   at_shorter empty = omega arith

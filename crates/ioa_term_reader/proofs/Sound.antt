@@ -24,7 +24,7 @@ use Rattle.ioa_term_reader.specs.Grammar as grammar
 use Rattle.ioa_term_reader.specs.Grammar.{SpellsAt, SpellsTerms, SpellsTerm}
 use Rattle.ioa_source.specs.Heights.{height, height_limit}
 use Rattle.ioa_term_reader.specs.Levels.{prefix_level, prefix_of, infix_of, level, right_level, postfix_level, atom_level}
-use Rattle.ioa_term_reader.specs.Reading.{limited_term, TermAtLevel, after_of, level_of, left_of, accepted_after, terms_in, bracketed_term, display_term, braced_term, call_term, word_term, prefixed_term, operator_term, marked_term, operand, extended_term, climb, read, depth_limit, term}
+use Rattle.ioa_term_reader.specs.Reading.{limited_term, TermAtLevel, after_of, level_of, left_of, accepted_after, terms_in, bracketed_term, display_term, braced_term, call_term, name_term, word_term, prefixed_term, operator_term, marked_term, operand, extended_term, climb, read, depth_limit, term}
 use Rattle.ioa_term_reader.specs.declared.after.After.{After}
 use Rattle.ioa_term_reader.specs.declared.after.After.TheVariants.{Infix, Field, Key}
 use Rattle.std.proofs.lemmas.Bool.{and_parts}
@@ -128,12 +128,24 @@ module _ (next : ℕ → ℕ → List Token → Option (SourceTerm × List Token
         settled (Operand (suc (room - 1)) least start) done
         (kept (λ u. Good (suc (room - 1)) atom_level u start c.1) t_is (λ low. (grammar.call (rw (expected_taken mark.CloseRound ts.1 c c_is) at s), low)), within)))))
 
+    named_sound : (room : ℕ) (w : List ℕ) (xs : List Token) (o : TermAtLevel) → name_term w xs ≡ Some o → Operand room least (token.Word w ∷ xs) o
+    unfolding name_term
+    named_sound room w xs o e =
+        choose_cases (Operand room least (token.Word w ∷ xs) o) e
+        (λ marked is.
+        let P : Type 0 = Operand room least (token.Word w ∷ token.Mark mark.AtSign ∷ (skip mark.AtSign xs).1) o in
+        rw (skip_taken mark.AtSign xs marked)
+        (bind_cases P is (λ k k_is done.
+        rw (number_taken (skip mark.AtSign xs).1 k k_is)
+        (settled (Operand room least (token.Word w ∷ token.Mark mark.AtSign ∷ token.Number k.0 ∷ k.1)) done ((grammar.at_node, omega arith), within)))))
+        (λ alone done. settled (Operand room least (token.Word w ∷ xs)) (rw (skip_left mark.AtSign xs alone) at done) ((grammar.word, omega arith), within))
+
     worded_sound : (room : ℕ) (w : List ℕ) (xs : List Token) (o : TermAtLevel) → word_term next room w xs ≡ Some o → Operand room least (token.Word w ∷ xs) o
     unfolding word_term
     worded_sound room w xs o e =
         choose_cases (Operand room least (token.Word w ∷ xs) o) e
         (λ opens is. rw (skip_taken mark.OpenRound xs opens) (called_sound room w (skip mark.OpenRound xs).1 o is))
-        (λ alone done. settled (Operand room least (token.Word w ∷ xs)) (rw (skip_left mark.OpenRound xs alone) at done) ((grammar.word, omega arith), within))
+        (λ alone is. named_sound room w xs o (rw (skip_left mark.OpenRound xs alone) at is))
 
     prefixed_sound : (m : Mark) (op : UnaryOperator) → prefix_of m ≡ Some op → (room : ℕ) (xs : List Token) (o : TermAtLevel) → prefixed_term next room least op xs ≡ Some o →
         Operand room least (token.Mark m ∷ xs) o

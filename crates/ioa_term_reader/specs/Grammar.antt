@@ -1,6 +1,7 @@
 -- The grammar of terms (profile). `SpellsAt room l t xs ys` says that the tokens `xs` are a spelling of `t` and after
 -- it `ys`: `room` is how many brackets more may be opened, and outside brackets no operator is looser than level `l`.
-use Rattle.std.specs.Prelude.{◌≡◌, ◌≤◌, ℕ, suc, ℤ, true, false, List, ◌∷◌, Some}
+use Rattle.std.specs.Prelude.{◌≡◌, ◌≤◌, ℕ, suc, ℤ, Bool, true, false, if◌then◌else◌, codes, List, ◌∷◌}
+use Rattle.std.specs.Prelude.{Option, Some, None}
 use Rattle.ioa_tokens.specs.declared.token.Token.{Token}
 use Rattle.ioa_tokens.specs.declared.token.Token.TheVariants as token
 use Rattle.ioa_tokens.specs.declared.mark.Mark.{Mark}
@@ -9,7 +10,8 @@ use Rattle.ioa_operators.specs.declared.operator.UnaryOperator.{UnaryOperator}
 use Rattle.ioa_operators.specs.declared.operator.BinaryOperator.{BinaryOperator}
 use Rattle.ioa_operators.specs.declared.operator.BinaryOperator.TheVariants.{At}
 use Rattle.ioa_operators.specs.declared.shape.DisplayForm.TheVariants.{Braces, Brackets}
-use Rattle.ioa_terms.specs.declared.name.Name.TheVariants.{Word}
+use Rattle.ioa_terms.specs.declared.name.Name.TheVariants.{Word, Variable, Queue}
+use Rattle.ioa_terms.specs.Bindings.{same_word}
 use Rattle.ioa_terms.specs.PlainTerm as plain
 use Rattle.ioa_terms.specs.PlainTerm.{no_terms, term}
 use Rattle.ioa_source.specs.Sides.{SourceTerm, SourceTerms}
@@ -22,6 +24,33 @@ use Rattle.ioa_term_reader.specs.declared.reading.TheConstants.{BRACKET_LIMIT}
 abbrev pub bracket_limit : ℕ
 bracket_limit = BRACKET_LIMIT
 
+-- the word that names what waits on a channel
+abbrev pub queue_word : List ℕ
+queue_word = codes "queue"
+
+-- whether a word is that one
+abbrev pub is_queue_word : List ℕ → Bool
+is_queue_word w = same_word w queue_word
+
+-- the numbers that two terms are, if both are numbers
+abbrev pub both_numbers : SourceTerm → SourceTerm → Option (ℤ × ℤ)
+both_numbers (plain.number i) (plain.number j) = Some (i, j)
+both_numbers t u = None
+
+-- the numbers that terms are, if they are two numbers
+abbrev pub two_numbers : SourceTerms → Option (ℤ × ℤ)
+two_numbers (term t (term u no_terms)) = both_numbers t u
+two_numbers ts = None
+
+-- the name of the queue between two nodes if two numbers are given, otherwise a call
+abbrev pub queue_or_call : List ℕ → SourceTerms → Option (ℤ × ℤ) → SourceTerm
+queue_or_call w ts (Some (i, j)) = plain.name (Queue i j) tt
+queue_or_call w ts None = plain.call w tt ts
+
+-- a word with terms in brackets behind it: `queue` of two numbers is a name, all else a call
+unfoldable pub called : List ℕ → SourceTerms → SourceTerm
+called w ts = if is_queue_word w then queue_or_call w ts (two_numbers ts) else plain.call w tt ts
+
 mutual
   pub data SpellsAt : ℕ → ℕ → SourceTerm → List Token → List Token → Type 0 where
     numeral : {room : ℕ} {n : ℤ} {ys : List Token} → SpellsAt room atom_level (plain.number n) (token.Number n ∷ ys) ys
@@ -29,10 +58,14 @@ mutual
     no : {room : ℕ} {ys : List Token} → SpellsAt room atom_level (plain.truth false) (token.Mark mark.False ∷ ys) ys
     word : {room : ℕ} {w : List ℕ} {ys : List Token} →
         SpellsAt room atom_level (plain.name (Word w) tt) (token.Word w ∷ ys) ys
+    -- Word @ Number
+    at_node : {room : ℕ} {w : List ℕ} {k : ℤ} {ys : List Token} →
+        SpellsAt room atom_level (plain.name (Variable w k) tt)
+        (token.Word w ∷ token.Mark mark.AtSign ∷ token.Number k ∷ ys) ys
     -- Word ( Term {, Term} )
     call : {room : ℕ} {w : List ℕ} {ts : SourceTerms} {xs ys : List Token} →
         SpellsTerms room ts xs (token.Mark mark.CloseRound ∷ ys) →
-        SpellsAt (suc room) atom_level (plain.call w tt ts) (token.Word w ∷ token.Mark mark.OpenRound ∷ xs) ys
+        SpellsAt (suc room) atom_level (called w ts) (token.Word w ∷ token.Mark mark.OpenRound ∷ xs) ys
     -- ( Term ), which leaves no node in the tree
     brackets : {room : ℕ} {t : SourceTerm} {xs ys : List Token} →
         SpellsAt room 1 t xs (token.Mark mark.CloseRound ∷ ys) →

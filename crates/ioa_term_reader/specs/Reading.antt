@@ -9,14 +9,14 @@ use Rattle.ioa_operators.specs.declared.operator.UnaryOperator.{UnaryOperator}
 use Rattle.ioa_operators.specs.declared.operator.BinaryOperator.TheVariants.{At}
 use Rattle.ioa_operators.specs.declared.shape.DisplayForm.{DisplayForm}
 use Rattle.ioa_operators.specs.declared.shape.DisplayForm.TheVariants.{Braces, Brackets}
-use Rattle.ioa_terms.specs.declared.name.Name.TheVariants.{Word}
+use Rattle.ioa_terms.specs.declared.name.Name.TheVariants.{Word, Variable}
 use Rattle.ioa_terms.specs.PlainTerm as plain
 use Rattle.ioa_terms.specs.PlainTerm.{no_terms, terms_of}
 use Rattle.ioa_source.specs.Sides.{SourceTerm}
 use Rattle.ioa_cursor.specs.Reading.{◌>>=◌, choose, skip, expect, word, number}
 use Rattle.ioa_cursor.specs.Reading.{at_number, at_word, peek_mark, advance, several_more}
 use Rattle.ioa_source.specs.Heights.{height, height_limit}
-use Rattle.ioa_term_reader.specs.Grammar.{bracket_limit}
+use Rattle.ioa_term_reader.specs.Grammar.{bracket_limit, called}
 use Rattle.ioa_term_reader.specs.Levels.{prefix_of, prefix_level, infix_of, level, left_level, right_level}
 use Rattle.ioa_term_reader.specs.Levels.{postfix_level, atom_level}
 use Rattle.ioa_term_reader.specs.declared.after.After.{After}
@@ -57,6 +57,13 @@ accepted_after least most xs =
     peek_mark xs >>= λ m. after_of m >>= λ a.
     choose (nat_le least (level_of a) && nat_le (left_of a) most) (Some a) None
 
+-- [ @ Number ], behind a word that opens no bracket
+unfoldable pub name_term : List ℕ → List Token → Option TermAtLevel
+name_term w xs =
+    choose (skip mark.AtSign xs).0
+    (number (skip mark.AtSign xs).1 >>= λ k. term_at_level atom_level (plain.name (Variable w k.0) tt) k.1)
+    (term_at_level atom_level (plain.name (Word w) tt) (skip mark.AtSign xs).1)
+
 -- a term is read by what reads a part of it; that takes how many brackets more may be opened, and the loosest level
 module _ (next : ℕ → ℕ → List Token → Option (SourceTerm × List Token)) where
   -- Term {, Term}
@@ -89,14 +96,14 @@ module _ (next : ℕ → ℕ → List Token → Option (SourceTerm × List Token
   call_term room w xs =
       choose (nat_eq room 0) None
       (terms_in (room - 1) xs >>= λ ts. expect mark.CloseRound ts.1 >>= λ c.
-      limited_term (plain.call w tt (terms_of ts.0)) >>= λ t. term_at_level atom_level t c.1)
+      limited_term (called w (terms_of ts.0)) >>= λ t. term_at_level atom_level t c.1)
 
-  -- [ ( Term {, Term} ) ], behind a word
+  -- [ ( Term {, Term} ) ] or [ @ Number ], behind a word
   unfoldable pub word_term : ℕ → List ℕ → List Token → Option TermAtLevel
   word_term room w xs =
       choose (skip mark.OpenRound xs).0
       (call_term room w (skip mark.OpenRound xs).1)
-      (term_at_level atom_level (plain.name (Word w) tt) (skip mark.OpenRound xs).1)
+      (name_term w (skip mark.OpenRound xs).1)
 
   -- a term of an operator's level, behind the operator
   unfoldable pub prefixed_term : ℕ → ℕ → UnaryOperator → List Token → Option TermAtLevel

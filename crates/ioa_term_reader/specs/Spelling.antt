@@ -1,6 +1,6 @@
 -- How a term is printed, as tokens (profile): an operator term that is a part of another is in round brackets, and
 -- nothing else is.
-use Rattle.std.specs.Prelude.{Bool, true, false, List, [], ◌∷◌, ◌++◌, if◌then◌else◌}
+use Rattle.std.specs.Prelude.{ℤ, Bool, true, false, List, [], ◌∷◌, ◌++◌, if◌then◌else◌}
 use Rattle.ioa_tokens.specs.declared.token.Token.{Token}
 use Rattle.ioa_tokens.specs.declared.token.Token.TheVariants as token
 use Rattle.ioa_tokens.specs.declared.mark.Mark.{Mark}
@@ -9,9 +9,11 @@ use Rattle.ioa_operators.specs.declared.operator.BinaryOperator.{BinaryOperator}
 use Rattle.ioa_operators.specs.declared.operator.BinaryOperator.TheVariants as operator
 use Rattle.ioa_operators.specs.declared.shape.DisplayForm.{DisplayForm}
 use Rattle.ioa_operators.specs.declared.shape.DisplayForm.TheVariants.{Braces, Brackets}
-use Rattle.ioa_terms.specs.declared.name.Name.TheVariants.{Word}
+use Rattle.ioa_terms.specs.declared.name.Name.{Name}
+use Rattle.ioa_terms.specs.declared.name.Name.TheVariants.{Word, Variable, Queue}
 use Rattle.ioa_terms.specs.PlainTerm.{number, truth, name, one, two, call, display, field, no_terms, term}
 use Rattle.ioa_source.specs.Sides.{SourceTerm, SourceTerms}
+use Rattle.ioa_term_reader.specs.Grammar.{queue_word}
 use Rattle.ioa_term_reader.specs.Levels.{prefix_mark, infix_mark}
 
 -- what is printed behind the second term: the last bracket of `m[k]`
@@ -45,11 +47,22 @@ is_operation _ = false
 abbrev pub in_brackets_if : Bool → List Token → List Token
 in_brackets_if b xs = if b then token.Mark mark.OpenRound ∷ (xs ++ token.Mark mark.CloseRound ∷ []) else xs
 
+-- the two numbers of a channel
+abbrev pub ends_spelling : ℤ → ℤ → List Token
+ends_spelling i j = token.Number i ∷ token.Mark mark.Comma ∷ token.Number j ∷ []
+
+-- a name: a word, `x@k` or `queue(i, j)`
+abbrev pub name_spelling : Name → List Token
+name_spelling (Word w) = token.Word w ∷ []
+name_spelling (Variable w k) = token.Word w ∷ token.Mark mark.AtSign ∷ token.Number k ∷ []
+name_spelling (Queue i j) =
+    token.Word queue_word ∷ token.Mark mark.OpenRound ∷ (ends_spelling i j ++ token.Mark mark.CloseRound ∷ [])
+
 abbrev mutual
   pub spelling : SourceTerm → List Token
   spelling (number n) = token.Number n ∷ []
   spelling (truth b) = token.Mark (truth_mark b) ∷ []
-  spelling (name (Word w) at) = token.Word w ∷ []
+  spelling (name x at) = name_spelling x
   spelling (one op a) = token.Mark (prefix_mark op) ∷ in_brackets_if (is_operation a) (spelling a)
   spelling (two op a b) =
       in_brackets_if (is_operation a) (spelling a)

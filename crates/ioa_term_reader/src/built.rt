@@ -7,6 +7,7 @@ ghost use Rattle.ioa_source.specs.Heights.{height_limit};
 ghost use Rattle.ioa_terms.specs.PlainTerm as plain;
 ghost use Rattle.ioa_terms.specs.PlainTerm.{terms_of};
 ghost use Rattle.ioa_terms.specs.View.{term_of};
+ghost use Rattle.ioa_term_reader.specs.Grammar as grammar;
 ghost use Rattle.ioa_term_reader.specs.Reading as spec;
 ghost use Rattle.ioa_values.specs.Outcome.{Matches};
 
@@ -15,6 +16,9 @@ use ioa_source::{HEIGHT_LIMIT, HasHeight};
 use ioa_terms::{BinaryOperator, DisplayForm, Name, Term, Tree, UnaryOperator};
 use ioa_values::Word;
 use std::alloc::Global;
+
+/// The word that names the queue of a channel. Source: profile.
+pub const QUEUE: &str = "queue";
 
 /// A tree, or several, at most 64 high, with the height: a leaf is 1 high, all else one higher than its
 /// highest part, and no tree is 0 high. Source: profile.
@@ -144,6 +148,16 @@ impl Built<Term> {
         }
     }
 
+    /// A state variable of a node, by the node's number.
+    pub(crate) fn variable(name: Word, node: i64) -> Self
+        ensures { term_of result.tree ≡ plain.name (Name.Variable name node) tt }
+    {
+        Built {
+            tree: Tree::Name(Name::Variable { name, node }, ()),
+            height: 1,
+        }
+    }
+
     /// An operator before a term.
     pub(crate) fn one(
         alloc: Global,
@@ -178,14 +192,15 @@ impl Built<Term> {
         Built::limited_term(Tree::Two(operator, left, right), height, deep)
     }
 
-    /// A function of terms.
-    pub(crate) fn call(name: Word, parts: Built<Vec<Term>>, deep: Unread) -> Result<Self, Unread>
+    /// A word with terms in brackets behind it: the name of a queue, or a function of the terms.
+    #[tactic(auto, using(crate::proofs::Called::called_height))]
+    pub(crate) fn called(name: Word, parts: Built<Vec<Term>>, deep: Unread) -> Result<Self, Unread>
         ensures meant { Matches Memory (λ b. term_of b.tree) result
-            (spec.limited_term (plain.call name tt (terms_of (map term_of parts.tree.items)))) }
+            (spec.limited_term (grammar.called name (terms_of (map term_of parts.tree.items)))) }
         ensures told { IfErr result (λ e. (e ≡ Memory) ⊎ (e ≡ deep)) }
     {
         let height = highest(&parts) + 1;
-        Built::limited_term(Tree::Call(name, (), parts.tree), height, deep)
+        Built::limited_term(called(name, parts.tree), height, deep)
     }
 
     /// A display of terms.
@@ -235,4 +250,55 @@ fn highest(terms: &Built<Vec<Term>>) -> usize
     ensures low { result ≤ height_limit }
 {
     terms.height
+}
+
+/// Whether a word is `queue`.
+fn is_queue(name: &Word) -> bool
+    ensures { result ≡ grammar.is_queue_word name.now }
+{
+    name.as_str() == QUEUE
+}
+
+/// The two numbers that two terms are, if both are numbers.
+fn both_numbers(first: &Term, second: &Term) -> Option<(i64, i64)>
+    ensures { result ≡ grammar.both_numbers (term_of first.now) (term_of second.now) }
+{
+    match (first, second) {
+        (Tree::Number(first), Tree::Number(second)) => Some((*first, *second)),
+        _ => None,
+    }
+}
+
+/// The two numbers that terms are, if they are two numbers.
+#[tactic(auto, using(crate::proofs::Called::no_two_numbers))]
+fn two_numbers(terms: &[Term]) -> Option<(i64, i64)>
+    ensures { result ≡ grammar.two_numbers (terms_of (map term_of terms.now)) }
+{
+    match terms {
+        [first, second] => both_numbers(first, second),
+        _ => None,
+    }
+}
+
+/// The name of a queue if two numbers are given, otherwise a call.
+fn queue_or_call(name: Word, parts: Vec<Term>, numbers: Option<(i64, i64)>) -> Term
+    ensures { term_of result ≡ grammar.queue_or_call name (terms_of (map term_of parts.items)) numbers }
+{
+    match numbers {
+        Some((from, to)) => Tree::Name(Name::Queue { from, to }, ()),
+        None => Tree::Call(name, (), parts),
+    }
+}
+
+/// A word with terms in brackets behind it: `queue` of two numbers is a name, all else a call.
+#[tactic(auto, unfolding(crate::specs::Grammar::called))]
+fn called(name: Word, parts: Vec<Term>) -> Term
+    ensures { term_of result ≡ grammar.called name (terms_of (map term_of parts.items)) }
+{
+    if is_queue(&name) {
+        let numbers = two_numbers(&parts);
+        queue_or_call(name, parts, numbers)
+    } else {
+        Tree::Call(name, (), parts)
+    }
 }

@@ -10,6 +10,6 @@ mod built;
 mod levels;
 mod reading;
 
-pub use built::Built;
+pub use built::{Built, QUEUE};
 pub use levels::{infix_mark, prefix_mark};
 pub use reading::{BRACKET_LIMIT, term};

@@ -205,7 +205,20 @@ fn operand(alloc: Global, tokens: &mut Tokens<'_>, bounds: Bounds) -> Result<Ter
     }
 }
 
-/// [`(` Term {`,` Term} `)`], behind the word of a name or a call.
+/// [`@` Number], behind a word that opens no bracket.
+#[tactic(auto, unfolding(crate::specs::Reading::name_term, crate::specs::bind, crate::specs::choose))]
+fn name_term(tokens: &mut Tokens<'_>, name: Word) -> Result<TermAtLevel, Unread>
+    ensures { Reads (λ t. (t.level, term_of t.built.tree)) (spec.name_term name tokens.old) result tokens.new }
+{
+    if tokens.skip(Mark::AtSign) {
+        let node = tokens.number()?;
+        Ok(TermAtLevel::atom(Built::variable(name, node)))
+    } else {
+        Ok(TermAtLevel::atom(Built::name(name)))
+    }
+}
+
+/// [`(` Term {`,` Term} `)`] or [`@` Number], behind the word of a name or a call.
 #[cycle(terms)]
 #[tactic(auto, unfolding(crate::specs::Reading::word_term, crate::specs::choose))]
 fn word_term(
@@ -221,7 +234,7 @@ fn word_term(
     if tokens.skip(Mark::OpenRound) {
         call_term(alloc, tokens, bounds, name, deep)
     } else {
-        Ok(TermAtLevel::atom(Built::name(name)))
+        name_term(tokens, name)
     }
 }
 
@@ -394,7 +407,7 @@ fn call_term(
     };
     let parts = terms_in(alloc, tokens, inside)?;
     tokens.expect(Mark::CloseRound)?;
-    let built = Built::call(name, parts, deep)?;
+    let built = Built::called(name, parts, deep)?;
     Ok(TermAtLevel::atom(built))
 }
 

@@ -62,6 +62,7 @@ pub fn resolved_terms(
 }
 
 /// The environment of names of which the first have values.
+#[tactic(auto, using(crate::proofs::Names::names_split))]
 pub fn environment<'a>(names: &'a [Word], values: &'a [Value]) -> Result<Env<'a>, CommandFault>
     ensures { IfOk result (λ e. names_of e ≡ map Name.Word names.now) }
 {

@@ -24,6 +24,17 @@ pub fn is_first(name: &Word, slot: usize, names: &[Word]) -> bool
     false
 }
 
+/// Whether a slot is the first one of a name, all names in view being words.
+fn is_at(name: &Name, slot: usize, names: &[Word]) -> bool
+    ensures { IsTrue result → slot_in name.now (map Name.Word names.now) ≡ Some slot }
+{
+    match name {
+        Name::Word(word) => is_first(word, slot, names),
+        Name::Variable { .. } => false,
+        Name::Queue { .. } => false,
+    }
+}
+
 /// Whether each name of a term has its slot.
 #[cycle(resolving)]
 pub fn is_resolved(term: &Checked, names: &[Word]) -> bool
@@ -32,7 +43,7 @@ pub fn is_resolved(term: &Checked, names: &[Word]) -> bool
     match term {
         Checked::Number(_) => true,
         Checked::Truth(_) => true,
-        Checked::Name(Name::Word(word), slot) => is_first(word, *slot, names),
+        Checked::Name(name, slot) => is_at(name, *slot, names),
         Checked::One(_, a) => is_resolved(a, names),
         Checked::Two(_, a, b) => is_resolved(a, names) && is_resolved(b, names),
         Checked::Call(name, callee, parts) => is_of(name, *callee) && are_resolved(parts, names),

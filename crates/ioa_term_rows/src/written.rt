@@ -97,8 +97,11 @@ fn push_number(text: &mut String, number: i64) -> Result<(), AllocError> {
 
 /// Writes a name with its slot.
 fn push_name(text: &mut String, name: &Name, slot: usize) -> Result<(), AllocError> {
-    let Name::Word(word) = name;
-    write!(text, "{word}@{slot}")
+    match name {
+        Name::Word(word) => write!(text, "{word}@{slot}"),
+        Name::Variable { name, node } => write!(text, "{name}@{node}@{slot}"),
+        Name::Queue { from, to } => write!(text, "queue({from}, {to})@{slot}"),
+    }
 }
 
 /// Writes an operator with spaces about it.

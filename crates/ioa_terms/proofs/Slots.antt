@@ -130,26 +130,26 @@ slot_within_first (n ∷ names) (suc count) x p h =
     ]
 
 -- a new value of one of the first variables is at its slot, and what is lent behind them stays
-pub put_among_first : (names : List (List ℕ)) (vs gs : List Data) (cs : List (List ℕ)) (x : Name) (p : ℕ) (v : Data) → slot_in x (take (length vs) (map Word names)) ≡ Some p → put x v (environment (map Word names) (vs ++ gs) cs) ≡ environment (map Word names) (set vs p v ++ gs) cs
+pub put_among_first : (names : List Name) (vs gs : List Data) (cs : List (List ℕ)) (x : Name) (p : ℕ) (v : Data) → slot_in x (take (length vs) names) ≡ Some p → put x v (environment names (vs ++ gs) cs) ≡ environment names (set vs p v ++ gs) cs
 put_among_first names [] gs cs x p v h = absurd (cc)
 put_among_first [] (u ∷ vs) gs cs x p v h = absurd (cc)
 put_among_first (n ∷ names) (u ∷ vs) gs cs x p v h =
-    elim (slot_first (same_name x (Word n)) (take (length vs) (map Word names)) x p h) [
+    elim (slot_first (same_name x n) (take (length vs) names) x p h) [
       | inl w ↦ rw (w.0, w.1) refl
-      | inr w ↦ rw (w.0, w.3) (ap (λ (e : Bindings). (Word n, u) ∷ e) (put_among_first names vs gs cs x w.1 v w.2))
+      | inr w ↦ rw (w.0, w.3) (ap (λ (e : Bindings). (n, u) ∷ e) (put_among_first names vs gs cs x w.1 v w.2))
     ]
 
 -- the names of pairs
-names_zip : (names : List (List ℕ)) (vs : List Data) → length names ≡ length vs → names_of (zip (map Word names) vs) ≡ map Word names
-names_zip names vs h = firsts-zip (map Word names) vs (sym (length-map names Word ∙ h))
+names_zip : (names : List Name) (vs : List Data) → length names ≡ length vs → names_of (zip names vs) ≡ names
+names_zip names vs h = firsts-zip names vs (sym h)
 
 constant_names : (k : ℕ) (cs : List (List ℕ)) → names_of (constants_from k cs) ≡ map Word cs
 constant_names k [] = refl
 constant_names k (c ∷ cs) = ap (λ (ws : List Name). Word c ∷ ws) (constant_names (k + 1) cs)
 
 -- the names of an environment are those of its variables and of its constants
-pub names_environment : (names : List (List ℕ)) (vs : List Data) (cs : List (List ℕ)) → length names ≡ length vs → names_of (environment (map Word names) vs cs) ≡ map Word (names ++ cs)
-names_environment names vs cs h = rw (map-append Word names cs, map-append (λ (b : Name × Data). b.0) (zip (map Word names) vs) (constants_from 0 cs), names_zip names vs h, constant_names 0 cs) refl
+pub names_environment : (names : List Name) (vs : List Data) (cs : List (List ℕ)) → length names ≡ length vs → names_of (environment names vs cs) ≡ names ++ map Word cs
+names_environment names vs cs h = rw (map-append (λ (b : Name × Data). b.0) (zip names vs) (constants_from 0 cs), names_zip names vs h, constant_names 0 cs) refl
 
 -- the value of a name in view is at its slot
 pub lookup_view : (v : View) (vs : List Data) (x : Name) (p : ℕ) → IsNamed v vs → slot_in x (names_in_view v) ≡ Some p → lookup x (environment_of v vs) ≡ option_map (λ (b : Name × Data). b.1) (slice_get (environment_of v vs) p)
@@ -165,12 +165,15 @@ pub none_given : (names : List Name) (vs : List Data) (cs : List (List ℕ)) →
 none_given names vs cs = ap (λ (ds : List Data). environment names ds cs) (append-nil vs)
 
 -- if as many values are there as names, all names are among the first
-pub first_names : (names : List (List ℕ)) (vs : List Data) → length names ≡ length vs → take (length vs) (map Word names) ≡ map Word names
-first_names names vs h = take_all (length vs) (map Word names) (let named = length-map names Word in omega arith)
+pub first_names : (names : List Name) (vs : List Data) → length names ≡ length vs → take (length vs) names ≡ names
+first_names names vs h = take_all (length vs) names (omega arith)
 
--- the names of one owner
-pub one_list : (names : List (List ℕ)) → names ++ ([] ++ []) ≡ names
-one_list names = append-nil names
+-- the words of one owner, and the names that an invariant reads, are all names
+pub one_list : (names : List (List ℕ)) → map Word (names ++ ([] ++ [])) ≡ map Word names
+one_list names = ap (map Word) (append-nil names)
+
+pub readings_alone : (names : List Name) → names ++ [] ≡ names
+readings_alone names = append-nil names
 
 -- a target is one too if there are more variables
 target_widely : {D : Type 0} (p : PlainTarget ℕ Callee D) (xs more names : List Name) → IsResolvedTarget p xs names → IsResolvedTarget p (xs ++ more) names
@@ -179,13 +182,11 @@ target_widely (at_key x at d k) xs more names h = (slot_among_more xs more (Word
 target_widely (at_field x at d f) xs more names h = slot_among_more xs more (Word x) at h
 
 -- a target among the variables is one among the names in view
-pub target_among_more : (p : PlainTarget ℕ Callee Shape) (names more : List (List ℕ)) → IsResolvedTarget p (map Word names) (map Word (names ++ more)) → IsResolvedTarget p (map Word (names ++ more)) (map Word (names ++ more))
-target_among_more p names more h =
-    subst (λ (ns : List Name). IsResolvedTarget p ns (map Word (names ++ more))) (sym (map-append Word names more))
-    (target_widely p (map Word names) (map Word more) (map Word (names ++ more)) h)
+pub target_among_more : (p : PlainTarget ℕ Callee Shape) (names more : List Name) → IsResolvedTarget p names (names ++ more) → IsResolvedTarget p (names ++ more) (names ++ more)
+target_among_more p names more h = target_widely p names more (names ++ more) h
 
 -- a target among the first variables is one among the names in view
-pub target_among_all : (p : PlainTarget ℕ Callee Shape) (names more : List (List ℕ)) (count : ℕ) → IsResolvedTarget p (take count (map Word names)) (map Word (names ++ more)) → IsResolvedTarget p (map Word (names ++ more)) (map Word (names ++ more))
+pub target_among_all : (p : PlainTarget ℕ Callee Shape) (names more : List Name) (count : ℕ) → IsResolvedTarget p (take count names) (names ++ more) → IsResolvedTarget p (names ++ more) (names ++ more)
 target_among_all p names more count h =
-    let widely = target_widely p (take count (map Word names)) (drop count (map Word names)) (map Word (names ++ more)) h in
-    target_among_more p names more (subst (λ (ns : List Name). IsResolvedTarget p ns (map Word (names ++ more))) (take-append-drop count (map Word names)) widely)
+    let widely = target_widely p (take count names) (drop count names) (names ++ more) h in
+    target_among_more p names more (subst (λ (ns : List Name). IsResolvedTarget p ns (names ++ more)) (take-append-drop count names) widely)

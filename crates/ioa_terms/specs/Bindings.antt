@@ -1,11 +1,12 @@
 -- Environments (profile): finite maps from names to values, as lists of pairs; the first pair of a name counts.
-use Rattle.std.specs.Prelude.{ℕ, ◌+◌, Bool, if◌then◌else◌, List, [], ◌∷◌, ◌++◌, Option, Some, None, map, nat_eq}
+use Rattle.std.specs.Prelude.{ℕ, ◌+◌, Bool, false, ◌&&◌, if◌then◌else◌, List, [], ◌∷◌, ◌++◌, Option, Some, None, map, nat_eq}
 use Rattle.std.specs.Option.{option_map}
 use Rattle.std.specs.List.{zip}
+use Rattle.std.specs.Ordering.{int_eq}
 use lib.Pointwise.{pointwise}
 use Rattle.ioa_values.specs.Data.{Data, constant}
 use Rattle.ioa_terms.specs.declared.name.Name.{Name}
-use Rattle.ioa_terms.specs.declared.name.Name.TheVariants.{Word}
+use Rattle.ioa_terms.specs.declared.name.Name.TheVariants.{Word, Variable, Queue}
 
 abbrev pub Bindings : Type 0
 Bindings = List (Name × Data)
@@ -17,6 +18,9 @@ same_word = pointwise nat_eq
 -- whether two names are the same
 abbrev pub same_name : Name → Name → Bool
 same_name (Word x) (Word y) = same_word x y
+same_name (Variable x k) (Variable y l) = same_word x y && int_eq k l
+same_name (Queue i j) (Queue k l) = int_eq i k && int_eq j l
+same_name x y = false
 
 -- the value of a name
 abbrev pub lookup : Name → Bindings → Option Data

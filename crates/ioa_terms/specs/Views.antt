@@ -17,12 +17,12 @@ IsNamed v values = length v.names ≡ length (all_values v values)
 
 -- the environment in which terms are evaluated (profile)
 abbrev pub environment_of : View → List Data → Bindings
-environment_of v values = environment (map Word v.names) (all_values v values) v.constants.now
+environment_of v values = environment v.names (all_values v values) v.constants.now
 
 -- the names of the values that statements may assign, if there are so many (profile): the first ones
 abbrev pub own_names : View → ℕ → List Name
-own_names v count = take count (map Word v.names)
+own_names v count = take count v.names
 
 -- the names in view (profile): those of the values, and those of the constants
 abbrev pub names_in_view : View → List Name
-names_in_view v = map Word (v.names ++ v.constants.now)
+names_in_view v = v.names ++ map Word v.constants.now

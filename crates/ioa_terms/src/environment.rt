@@ -18,48 +18,74 @@ use ioa_values::{Sequence, Value, Word};
 use std::alloc::{AllocError, Global};
 use std::marker::Model;
 
-/// Names that up to three owners keep, read as one list, so that none of them needs to be copied. A contract sees the
-/// list: the first owner's names, then the second's, and then the third's.
+/// Names that up to four owners keep, read as one list, so that none of them needs to be copied. A contract sees the
+/// list: the names that an invariant reads, and behind them the words of three owners, as names.
 #[derive(Drop)]
 pub struct NameLists<'a> {
+    readings: &'a [Name],
     first: &'a [Word],
     second: &'a [Word],
     third: &'a [Word],
 }
 
 impl<'a> Model for NameLists<'a> {
-    ghost use Rattle.std.specs.Prelude.{◌++◌, ℕ, List};
+    ghost use Rattle.std.specs.Prelude.{◌++◌, List, map};
+    ghost use Rattle.std.specs.Coded.{coded_list};
+    ghost use Rattle.ioa_terms.specs.declared.name.Name.{Name};
+    ghost use Rattle.ioa_terms.specs.declared.name.Name.TheVariants.{Word};
+    ghost use Rattle.ioa_terms.specs.contracts.name.Name as called;
 
-    ghost Value = { List (List ℕ) };
+    ghost Value = { List Name };
 
-    ghost view = { λ n. n.first.now ++ (n.second.now ++ n.third.now) };
+    ghost coded = { coded_list called.the_row.coded };
+
+    ghost view = { λ n. n.readings.now ++ map Word (n.first.now ++ (n.second.now ++ n.third.now)) };
 }
 
 impl<'a> NameLists<'a> {
-    /// The names of three owners.
+    /// The words of three owners.
     pub fn new(first: &'a [Word], second: &'a [Word], third: &'a [Word]) -> Self
-        ensures { result ≡ first.now ++ (second.now ++ third.now) }
+        ensures { result ≡ map Name.Word (first.now ++ (second.now ++ third.now)) }
     {
         NameLists {
+            readings: &[],
             first,
             second,
             third,
         }
     }
 
-    /// The names of one owner.
+    /// The words of one owner.
     #[tactic(auto, using(crate::proofs::Slots::one_list))]
     pub fn one(names: &'a [Word]) -> Self
-        ensures { result ≡ names.now }
+        ensures { result ≡ map Name.Word names.now }
     {
         NameLists::new(names, &[], &[])
+    }
+
+    /// The names that an invariant reads.
+    #[tactic(auto, using(crate::proofs::Slots::readings_alone))]
+    pub fn of_readings(readings: &'a [Name]) -> Self
+        ensures { result ≡ readings.now }
+    {
+        NameLists {
+            readings,
+            first: &[],
+            second: &[],
+            third: &[],
+        }
     }
 
     /// The same names of the same owners.
     pub fn reborrow(&self) -> NameLists<'a>
         ensures { result ≡ self.now }
     {
-        NameLists::new(self.first, self.second, self.third)
+        NameLists {
+            readings: self.readings,
+            first: self.first,
+            second: self.second,
+            third: self.third,
+        }
     }
 }
 
@@ -197,8 +223,8 @@ impl<'a> Env<'a> {
     #[tactic(auto, using(crate::proofs::Slots::none_given, crate::proofs::Slots::names_environment))]
     pub fn with_constants(names: NameLists<'a>, values: &'a [Value], constants: &'a [Word]) -> Self
         requires { length names ≡ length values.now }
-        ensures value { result ≡ environment (map Name.Word names.entry) values.now constants.now }
-        ensures names { names_of result ≡ map Name.Word (names.entry ++ constants.now) }
+        ensures value { result ≡ environment names.entry values.now constants.now }
+        ensures names { names_of result ≡ names.entry ++ map Name.Word constants.now }
     {
         Env {
             view: View {

@@ -1,7 +1,7 @@
 //! The value of a term.
 
-ghost use Rattle.std.specs.Prelude.{◌≡◌, Some, None, [], map, true, IfOk};
-ghost use Rattle.std.specs.Option.{option_and_then};
+ghost use Rattle.std.specs.Prelude.{◌≡◌, Some, None, [], map, slice_get, true, IfOk};
+ghost use Rattle.std.specs.Option.{option_and_then, option_map};
 ghost use Rattle.ioa_values.specs.Outcome.{Answers};
 ghost use Rattle.ioa_terms.specs.Meaning.{answer, inbox_value};
 ghost use Rattle.ioa_terms.specs.Inboxes.{inbox_entries, inboxes_of, inboxes_value, inboxes_word};
@@ -199,14 +199,13 @@ pub fn evaluate_all(alloc: Global, parts: &Vec<Checked>, env: &Env) -> Result<Ve
     Ok(values)
 }
 
-/// The value of a name, for a term.
+/// A copy of the value of a name, which is at its slot.
+#[tactic(auto, using(crate::proofs::Slots::lookup_slot))]
 fn read_name(alloc: Global, env: &Env, name: &Name, slot: usize) -> Result<Value, TermFault>
     requires { slot_in name.now (names_of env.now) ≡ Some slot }
     ensures { Answers TermFault.Memory (λ v. v) result (checked_result (lookup name.now env.now)) }
 {
-    match name {
-        Name::Word(word) => read(alloc, env, word, slot),
-    }
+    read_slot(alloc, env, slot)
 }
 
 /// A copy of the value of a word, which is at its slot.
@@ -214,6 +213,15 @@ fn read_name(alloc: Global, env: &Env, name: &Name, slot: usize) -> Result<Value
 pub(crate) fn read(alloc: Global, env: &Env, name: &Word, slot: usize) -> Result<Value, TermFault>
     requires { slot_in (Name.Word name.now) (names_of env.now) ≡ Some slot }
     ensures value { Answers TermFault.Memory (λ v. v) result (range_check [] (lookup (Name.Word name.now) env.now)) }
+    ensures within { IfOk result (λ v. is_within v ≡ true) }
+{
+    read_slot(alloc, env, slot)
+}
+
+/// A copy of the value that is at a slot.
+fn read_slot(alloc: Global, env: &Env, slot: usize) -> Result<Value, TermFault>
+    ensures value { Answers TermFault.Memory (λ v. v) result
+        (range_check [] (option_map (λ b. b.1) (slice_get env.now slot))) }
     ensures within { IfOk result (λ v. is_within v ≡ true) }
 {
     match env.get(slot) {

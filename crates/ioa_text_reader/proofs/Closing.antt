@@ -37,6 +37,7 @@ mark_level mark.Automaton = 3
 mark_level mark.Node = 3
 mark_level mark.Channel = 3
 mark_level mark.Script = 3
+mark_level mark.Invariant = 2
 mark_level m = if nat_eq (mark_binds m) 0 then 0 else 14
 
 -- the level of the first token
@@ -53,6 +54,7 @@ Below k xs = level xs < k
 
 mark_closes : (m : Mark) → mark_level m < 14 → mark_binds m ≡ 0
 mark_closes mark.OpenRound h = absurd (omega arith)
+mark_closes mark.AtSign h = absurd (omega arith)
 mark_closes _ h = omega arith
 
 -- a term ends below its level

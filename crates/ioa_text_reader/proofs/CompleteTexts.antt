@@ -6,21 +6,21 @@ use Rattle.ioa_tokens.specs.declared.mark.Mark.TheVariants as mark
 use Rattle.ioa_terms.specs.declared.tree.Kind.{Kind}
 use Rattle.ioa_terms.specs.PlainSort.{PlainSort}
 use Rattle.ioa_source.specs.PlainText as declarations
-use Rattle.ioa_source.specs.Sides.{SourceTerm as Term, SourceStatement as Statement, SourceDeclared as Declared, SourceEntry as Entry, SourceVariable as Variable, SourceTransition as Transition, SourceSchedule as Schedule, SourceForm as Form, SourceType as TypeOf, SourceAutomaton as Automaton, SourceDeclaration as Declaration, SourceNode as Node, SourceCall as Call, SourceScript as Script, SourcePlacement as Placement, SourceText}
+use Rattle.ioa_source.specs.Sides.{SourceTerm as Term, SourceStatement as Statement, SourceDeclared as Declared, SourceEntry as Entry, SourceVariable as Variable, SourceTransition as Transition, SourceSchedule as Schedule, SourceForm as Form, SourceType as TypeOf, SourceAutomaton as Automaton, SourceDeclaration as Declaration, SourceNode as Node, SourceCall as Call, SourceScript as Script, SourcePlacement as Placement, SourceInvariant as Invariant, SourceText}
 use Rattle.ioa_cursor.specs.Lists.{Several, SeparatedBy, Section, Optional, SeveralLists}
 use Rattle.ioa_cursor.specs.Reading.{bind, choose, skip, expect, word, number, at, end}
 use Rattle.ioa_cursor.proofs.Steps.{read_next, stays}
-use Rattle.ioa_cursor.proofs.Follow.{skip_same, skip_other, optional_starts, section_starts}
+use Rattle.ioa_cursor.proofs.Follow.{skip_same, skip_other, several_starts, optional_starts, section_starts}
 use Rattle.ioa_cursor.proofs.CompleteLists.{several_complete, separated_complete, section_complete, optional_complete}
 use Rattle.ioa_term_reader.specs.Grammar.{bracket_limit, SpellsTerm}
 use Rattle.ioa_term_reader.specs.Reading.{term}
 use Rattle.ioa_text_reader.specs.declared.statement.Context.TheVariants.{Effect, Block}
 use Rattle.ioa_text_reader.specs.Grammar as grammar
-use Rattle.ioa_text_reader.specs.Grammar.{inner_limit, schedule_with, SpellsGroup, SpellsVariable, SpellsLow, SpellsGuard, SpellsTransition, SpellsBlock, SpellsSchedule, SpellsHead, SpellsForm, SpellsDeclaration, SpellsPlacement, Spells}
+use Rattle.ioa_text_reader.specs.Grammar.{inner_limit, schedule_with, SpellsGroup, SpellsVariable, SpellsLow, SpellsGuard, SpellsTransition, SpellsBlock, SpellsSchedule, SpellsHead, SpellsForm, SpellsDeclaration, SpellsPlacement, SpellsInvariant, Spells}
 use Rattle.ioa_text_reader.specs.Reading as reading
 use Rattle.ioa_text_reader.specs.Reading.{at_kind, at_declaration, at_placement}
 use Rattle.ioa_text_reader.proofs.Closing.{Below, level, at_below, skip_below, at_kind_below, at_declaration_below, at_placement_below}
-use Rattle.ioa_text_reader.proofs.Shorter.{variable_shorter, transition_shorter, declaration_shorter, placement_shorter}
+use Rattle.ioa_text_reader.proofs.Shorter.{variable_shorter, transition_shorter, declaration_shorter, placement_shorter, invariant_shorter}
 use Rattle.ioa_text_reader.proofs.CompleteSorts.{sort_complete, words_complete, declared_names_complete}
 use Rattle.ioa_text_reader.proofs.CompleteSignatures.{whole_term, call_complete, calls_complete, kind_complete, kind_begins, kind_level, signature_complete}
 use Rattle.ioa_text_reader.proofs.CompleteStatements.{effect_complete, statements_complete, statements_not_over}
@@ -45,8 +45,11 @@ node_with n c = record { number = n; automaton = c.name; arguments = c.arguments
 abbrev script_with : ℤ → List Call → Script
 script_with n cs = record { node = n; calls = cs }
 
-abbrev text_with : List Declaration → List Placement → SourceText
-text_with ds ps = record { declarations = ds; system = ps }
+abbrev invariant_with : List ℕ → Term → Invariant
+invariant_with w t = record { name = w; term = t }
+
+abbrev text_with : List Declaration → List Placement → List Invariant → SourceText
+text_with ds ps vs = record { declarations = ds; system = ps; invariants = vs }
 
 -- states
 
@@ -260,18 +263,46 @@ placement_level _ _ _ (grammar.node d) = omega arith
 placement_level _ _ _ grammar.channel = omega arith
 placement_level _ _ _ (grammar.script d) = omega arith
 
-placed_complete : (ps : List Placement) (xs : List Token) → Several SpellsPlacement ps xs [] → reading.all_placements xs ≡ read_next ps []
+placed_complete : (ps : List Placement) (xs ys : List Token) → Several SpellsPlacement ps xs ys → level ys < 3 → reading.all_placements xs ≡ read_next ps ys
 unfolding reading.all_placements
-placed_complete ps xs d =
-    several_complete (Below 4) SpellsPlacement reading.placement placement_complete placement_shorter at_placement placement_begins placement_level ps xs [] d (omega arith)
-    (at_placement_below [] (omega arith))
+placed_complete ps xs ys d h =
+    several_complete (Below 4) SpellsPlacement reading.placement placement_complete placement_shorter at_placement placement_begins placement_level ps xs ys d (omega arith)
+    (at_placement_below ys h)
 
-text_read : (ds : List Declaration) (ps : List Placement) (xs ys : List Token) → reading.all_declarations xs ≡ read_next ds (token.Mark mark.System ∷ ys) → reading.all_placements ys ≡ read_next ps [] →
-    reading.whole xs ≡ read_next (text_with ds ps) []
+-- invariants
+
+invariant_read : (w : List ℕ) (t : Term) (xs ys : List Token) → term bracket_limit xs ≡ read_next t ys →
+    reading.invariant (token.Mark mark.Invariant ∷ token.Word w ∷ token.Mark mark.Colon ∷ xs) ≡ read_next (invariant_with w t) ys
+unfolding reading.invariant word expect skip bind
+invariant_read w t xs ys e = rw e refl
+
+invariant_complete : (x : Invariant) (xs ys : List Token) → SpellsInvariant x xs ys → level ys < 3 → reading.invariant xs ≡ read_next x ys
+invariant_complete _ _ ys (grammar.invariant {w = w} {t = t} {xs = xs} d) h = invariant_read w t xs ys (whole_term t xs ys d (omega arith))
+
+invariant_begins : (x : Invariant) (xs ys : List Token) → SpellsInvariant x xs ys → at mark.Invariant xs ≡ true
+unfolding at
+invariant_begins _ _ _ (grammar.invariant d) = refl
+
+invariant_level : (x : Invariant) (xs ys : List Token) → SpellsInvariant x xs ys → level xs < 3
+invariant_level _ _ _ (grammar.invariant d) = omega arith
+
+invariants_complete : (vs : List Invariant) (xs : List Token) → Several SpellsInvariant vs xs [] → reading.all_invariants xs ≡ read_next vs []
+unfolding reading.all_invariants
+invariants_complete vs xs d =
+    several_complete (Below 3) SpellsInvariant reading.invariant invariant_complete invariant_shorter (at mark.Invariant) invariant_begins invariant_level vs xs [] d (omega arith)
+    (at_below mark.Invariant [] (omega arith))
+
+invariants_level : (vs : List Invariant) (xs : List Token) → Several SpellsInvariant vs xs [] → level xs < 3
+invariants_level vs xs d = several_starts (Below 3) SpellsInvariant invariant_level d (omega arith)
+
+-- whole texts
+
+text_read : (ds : List Declaration) (ps : List Placement) (vs : List Invariant) (xs ys zs : List Token) → reading.all_declarations xs ≡ read_next ds (token.Mark mark.System ∷ ys) →
+    reading.all_placements ys ≡ read_next ps zs → reading.all_invariants zs ≡ read_next vs [] → reading.whole xs ≡ read_next (text_with ds ps vs) []
 unfolding reading.whole end expect bind
-text_read ds ps xs ys e f = rw e (rw (skip_same mark.System ys) (rw f refl))
+text_read ds ps vs xs ys zs e f i = rw e (rw (skip_same mark.System ys) (rw f (rw i refl)))
 
 -- a text is read as it is spelled
 pub whole_complete : (xs : List Token) (p : SourceText) → Spells p xs → reading.whole xs ≡ read_next p []
-whole_complete xs _ (grammar.text {declarations = ds} {system = ps} {ys = ys} dd pd) =
-    text_read ds ps xs ys (declared_complete ds xs _ dd (omega arith)) (placed_complete ps ys pd)
+whole_complete xs _ (grammar.text {declarations = ds} {system = ps} {invariants = vs} {ys = ys} {zs = zs} dd pd vd) =
+    text_read ds ps vs xs ys zs (declared_complete ds xs _ dd (omega arith)) (placed_complete ps ys zs pd (invariants_level vs zs vd)) (invariants_complete vs zs vd)

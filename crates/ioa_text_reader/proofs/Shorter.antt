@@ -4,7 +4,7 @@ use Rattle.ioa_tokens.specs.declared.token.Token.{Token}
 use Rattle.ioa_tokens.specs.declared.mark.Mark.TheVariants as mark
 use Rattle.ioa_terms.specs.declared.tree.Kind.{Kind}
 use Rattle.ioa_terms.specs.PlainSort.{PlainSort}
-use Rattle.ioa_source.specs.Sides.{SourceTerm as Term, SourceTarget as Target, SourceStatement as Statement, SourceStatements as Statements, SourceArms as Arms, SourceFiring as Firing, SourceDeclared as Declared, SourceParameter as Parameter, SourceEntry as Entry, SourceVariable as Variable, SourceTransition as Transition, SourceSchedule as Schedule, SourceForm as Form, SourceDeclaration as Declaration, SourceCall as Call, SourcePlacement as Placement}
+use Rattle.ioa_source.specs.Sides.{SourceTerm as Term, SourceTarget as Target, SourceStatement as Statement, SourceStatements as Statements, SourceArms as Arms, SourceFiring as Firing, SourceDeclared as Declared, SourceParameter as Parameter, SourceEntry as Entry, SourceVariable as Variable, SourceTransition as Transition, SourceSchedule as Schedule, SourceForm as Form, SourceDeclaration as Declaration, SourceCall as Call, SourcePlacement as Placement, SourceInvariant as Invariant}
 use Rattle.ioa_cursor.specs.Lists.{Several, SeparatedBy, ListsSeparatedBy, SeveralLists}
 use Rattle.ioa_cursor.proofs.Shorter.{several_shorter, separated_shorter, ended_shorter, gathered_shorter, gathered_several_shorter, section_shorter, optional_shorter}
 use Rattle.ioa_term_reader.specs.Grammar.{SpellsTerm, bracket_limit}
@@ -12,7 +12,7 @@ use Rattle.ioa_term_reader.proofs.Shorter.{term_shorter}
 use Rattle.ioa_text_reader.specs.declared.statement.Context.{Context}
 use Rattle.ioa_text_reader.specs.declared.statement.Context.TheVariants.{Effect}
 use Rattle.ioa_text_reader.specs.Grammar as grammar
-use Rattle.ioa_text_reader.specs.Grammar.{inner_limit, SpellsSort, SpellsWord, SpellsDeclared, SpellsParameters, InBrackets, SpellsCall, SpellsKind, SpellsEntry, SpellsGroup, SpellsVariable, SpellsTarget, SpellsStatement, SpellsArms, SpellsRest, SpellsStatements, SpellsLow, SpellsGuard, SpellsTransition, SpellsFiring, SpellsBlock, SpellsSchedule, SpellsHead, SpellsForm, SpellsDeclaration, SpellsPlacement}
+use Rattle.ioa_text_reader.specs.Grammar.{inner_limit, SpellsSort, SpellsWord, SpellsDeclared, SpellsParameters, InBrackets, SpellsCall, SpellsKind, SpellsEntry, SpellsGroup, SpellsVariable, SpellsTarget, SpellsStatement, SpellsArms, SpellsRest, SpellsStatements, SpellsLow, SpellsGuard, SpellsTransition, SpellsFiring, SpellsBlock, SpellsSchedule, SpellsHead, SpellsForm, SpellsDeclaration, SpellsPlacement, SpellsInvariant}
 
 pub sort_shorter : (room : ℕ) (s : PlainSort) (xs ys : List Token) → SpellsSort room s xs ys → length ys < length xs
 sort_shorter _ _ _ _ grammar.bool = omega arith
@@ -167,3 +167,6 @@ pub placement_shorter : (p : Placement) (xs ys : List Token) → SpellsPlacement
 placement_shorter _ _ _ (grammar.node d) = let a = call_shorter _ _ _ d in omega arith
 placement_shorter _ _ _ grammar.channel = omega arith
 placement_shorter _ _ _ (grammar.script d) = let a = separated_shorter SpellsCall call_shorter d in omega arith
+
+pub invariant_shorter : (x : Invariant) (xs ys : List Token) → SpellsInvariant x xs ys → length ys < length xs
+invariant_shorter _ _ _ (grammar.invariant d) = let a = term_shorter _ _ _ _ d in omega arith

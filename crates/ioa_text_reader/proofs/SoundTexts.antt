@@ -5,16 +5,16 @@ use Rattle.ioa_tokens.specs.declared.token.Token.{Token}
 use Rattle.ioa_tokens.specs.declared.token.Token.TheVariants as token
 use Rattle.ioa_tokens.specs.declared.mark.Mark.TheVariants as mark
 use Rattle.ioa_source.specs.PlainText.{type_named, automaton, node, channel, script}
-use Rattle.ioa_source.specs.Sides.{SourceTerm as Term, SourceStatement as Statement, SourceDeclared as Declared, SourceTransition as Transition, SourceSchedule as Schedule, SourceForm as Form, SourceType as TypeOf, SourceAutomaton as Automaton, SourceDeclaration as Declaration, SourceNode as Node, SourceScript as Script, SourcePlacement as Placement, SourceText}
+use Rattle.ioa_source.specs.Sides.{SourceTerm as Term, SourceStatement as Statement, SourceDeclared as Declared, SourceTransition as Transition, SourceSchedule as Schedule, SourceForm as Form, SourceType as TypeOf, SourceAutomaton as Automaton, SourceDeclaration as Declaration, SourceNode as Node, SourceScript as Script, SourcePlacement as Placement, SourceInvariant as Invariant, SourceText}
 use Rattle.ioa_source.specs.declared.declaration.Channel.{Channel}
 use Rattle.ioa_cursor.specs.Lists.{Several, Section, Optional}
-use Rattle.ioa_cursor.specs.Reading.{skip, end}
+use Rattle.ioa_cursor.specs.Reading.{skip, at, end}
 use Rattle.ioa_cursor.proofs.Steps.{read_next, choose_cases, bind_cases, skip_taken, skip_left, expected_taken, word_taken, number_taken}
 use Rattle.ioa_cursor.proofs.SoundLists.{several_sound, section_sound, optional_sound}
 use Rattle.ioa_term_reader.specs.Grammar.{SpellsTerm, bracket_limit}
 use Rattle.ioa_text_reader.specs.declared.statement.Context.TheVariants.{Effect, Block}
 use Rattle.ioa_text_reader.specs.Grammar as grammar
-use Rattle.ioa_text_reader.specs.Grammar.{SpellsGuard, SpellsLow, SpellsTransition, SpellsBlock, SpellsSchedule, SpellsHead, SpellsForm, SpellsDeclaration, SpellsPlacement, Spells, inner_limit}
+use Rattle.ioa_text_reader.specs.Grammar.{SpellsGuard, SpellsLow, SpellsTransition, SpellsBlock, SpellsSchedule, SpellsHead, SpellsForm, SpellsDeclaration, SpellsPlacement, SpellsInvariant, Spells, inner_limit}
 use Rattle.ioa_text_reader.specs.Reading as reading
 use Rattle.ioa_term_reader.proofs.Sound.{term_sound}
 use Rattle.ioa_text_reader.proofs.SoundDeclared.{words_sound, declared_names_sound, call_sound, calls_sound}
@@ -214,6 +214,23 @@ placed_sound : (xs ys : List Token) (all : List Placement) → reading.all_place
 unfolding reading.all_placements
 placed_sound xs ys all e = several_sound SpellsPlacement reading.placement placement_sound reading.at_placement xs ys all e
 
+-- invariants
+
+invariant_sound : (xs ys : List Token) (x : Invariant) → reading.invariant xs ≡ read_next x ys → SpellsInvariant x xs ys
+unfolding reading.invariant
+invariant_sound xs ys x e =
+    let P : Type 0 = SpellsInvariant x xs ys in
+    bind_cases P e (λ m m_is e1. bind_cases P e1 (λ w w_is e2. bind_cases P e2 (λ c c_is e3. bind_cases P e3 (λ t t_is done.
+    let p = some_pair_parts _ _ _ _ done in
+    rw (expected_taken mark.Invariant xs m m_is, word_taken m.1 w w_is, expected_taken mark.Colon w.1 c c_is, ← p.0, ← p.1)
+    (grammar.invariant (term_sound bracket_limit c.1 t.1 t.0 t_is))))))
+
+invariants_sound : (xs ys : List Token) (all : List Invariant) → reading.all_invariants xs ≡ read_next all ys → Several SpellsInvariant all xs ys
+unfolding reading.all_invariants
+invariants_sound xs ys all e = several_sound SpellsInvariant reading.invariant invariant_sound (at mark.Invariant) xs ys all e
+
+-- whole texts
+
 ended_taken : (xs : List Token) (r : Unit {0} × List Token) → end xs ≡ Some r → xs ≡ []
 unfolding end
 ended_taken [] r e = refl
@@ -224,8 +241,8 @@ pub whole_sound : (xs ys : List Token) (x : SourceText) → reading.whole xs ≡
 unfolding reading.whole
 whole_sound xs ys x e =
     let P : Type 0 = Spells x xs in
-    bind_cases P e (λ d d_is e1. bind_cases P e1 (λ s s_is e2. bind_cases P e2 (λ q q_is e3. bind_cases P e3 (λ n n_is done.
+    bind_cases P e (λ d d_is e1. bind_cases P e1 (λ s s_is e2. bind_cases P e2 (λ q q_is e3. bind_cases P e3 (λ v v_is e4. bind_cases P e4 (λ n n_is done.
     let p = some_pair_parts _ _ _ _ done in
     let before = rw (expected_taken mark.System d.1 s s_is) at (declared_sound xs d.1 d.0 d_is) in
-    let system = rw (ended_taken q.1 n n_is) at (placed_sound s.1 q.1 q.0 q_is) in
-    rw (← p.0) (grammar.text before system)))))
+    let invariants = rw (ended_taken v.1 n n_is) at (invariants_sound q.1 v.1 v.0 v_is) in
+    rw (← p.0) (grammar.text before (placed_sound s.1 q.1 q.0 q_is) invariants))))))

@@ -1,6 +1,5 @@
 -- The grammar of texts (profile), a production at a time. `SpellsX x xs ys` says that the tokens `xs` are a spelling of
--- `x`, followed by the tokens `ys`. The next token decides each choice. There are no invariants and no unordered
--- channels yet.
+-- `x`, followed by the tokens `ys`. The next token decides each choice. There are no unordered channels yet.
 use Rattle.std.specs.Prelude.{ℕ, suc, ℤ, List, [], ◌∷◌, ◌≤◌, Option, Some, None, map}
 use Rattle.ioa_tokens.specs.declared.token.Token.{Token}
 use Rattle.ioa_tokens.specs.declared.token.Token.TheVariants as token
@@ -19,7 +18,7 @@ use Rattle.ioa_source.specs.Sides.{SourceDeclared as Declared}
 use Rattle.ioa_source.specs.Sides.{SourceParameter as Parameter, SourceEntry as Entry, SourceVariable as Variable}
 use Rattle.ioa_source.specs.Sides.{SourceTransition as Transition, SourceSchedule as Schedule, SourceForm as Form}
 use Rattle.ioa_source.specs.Sides.{SourceDeclaration as Declaration, SourceCall as Call, SourcePlacement as Placement}
-use Rattle.ioa_source.specs.Sides.{SourceText}
+use Rattle.ioa_source.specs.Sides.{SourceInvariant as Invariant, SourceText}
 use Rattle.ioa_cursor.specs.Lists.{Several, SeparatedBy, SeparatedOrEndedBy, Section, Optional}
 use Rattle.ioa_cursor.specs.Lists.{ListsSeparatedBy, SeveralLists}
 use Rattle.ioa_source.specs.Heights.{height_limit, statements_height}
@@ -258,8 +257,16 @@ pub data SpellsPlacement : Placement → List Token → List Token → Type 0 wh
       SpellsPlacement (plain.script (record { node = n; calls = calls }))
       (token.Mark mark.Script ∷ token.Number n ∷ token.Mark mark.Colon ∷ xs) ys
 
--- Text: {Declaration} system {Placement}, and then nothing more
+-- Invariant: invariant Word : Term
+pub data SpellsInvariant : Invariant → List Token → List Token → Type 0 where
+  invariant : {w : List ℕ} {t : Term} {xs ys : List Token} → SpellsTerm bracket_limit t xs ys →
+      SpellsInvariant (record { name = w; term = t })
+      (token.Mark mark.Invariant ∷ token.Word w ∷ token.Mark mark.Colon ∷ xs) ys
+
+-- Text: {Declaration} system {Placement} {Invariant}, and then nothing more
 pub data Spells : SourceText → List Token → Type 0 where
-  text : {declarations : List Declaration} {system : List Placement} {xs ys : List Token} →
-      Several SpellsDeclaration declarations xs (token.Mark mark.System ∷ ys) → Several SpellsPlacement system ys [] →
-      Spells (record { declarations = declarations; system = system }) xs
+  text : {declarations : List Declaration} {system : List Placement} {invariants : List Invariant}
+      {xs ys zs : List Token} →
+      Several SpellsDeclaration declarations xs (token.Mark mark.System ∷ ys) → Several SpellsPlacement system ys zs →
+      Several SpellsInvariant invariants zs [] →
+      Spells (record { declarations = declarations; system = system; invariants = invariants }) xs

@@ -18,7 +18,7 @@ use Rattle.ioa_source.specs.Sides.{SourceTransition as Transition, SourceSchedul
 use Rattle.ioa_source.specs.Sides.{SourceType as TypeOf}
 use Rattle.ioa_source.specs.Sides.{SourceAutomaton as Automaton, SourceDeclaration as Declaration}
 use Rattle.ioa_source.specs.Sides.{SourceNode as Node, SourceCall as Call, SourceScript as Script}
-use Rattle.ioa_source.specs.Sides.{SourcePlacement as Placement, SourceText}
+use Rattle.ioa_source.specs.Sides.{SourcePlacement as Placement, SourceInvariant as Invariant, SourceText}
 use Rattle.ioa_source.specs.declared.declaration.Channel.{Channel}
 use Rattle.ioa_cursor.specs.Reading.{◌>>=◌, choose, skip, expect, word, number, end}
 use Rattle.ioa_cursor.specs.Reading.{at, at_word, peek_mark, advance, begins_with, resumes_with}
@@ -424,8 +424,18 @@ placement xs =
 unfoldable pub all_placements : List Token → Option (List Placement × List Token)
 all_placements xs = several (begins_with at_placement) placement xs
 
+-- invariant Word : Term
+unfoldable pub invariant : List Token → Option (Invariant × List Token)
+invariant xs =
+    expect mark.Invariant xs >>= λ m. word m.1 >>= λ w. expect mark.Colon w.1 >>= λ c. term bracket_limit c.1 >>= λ t.
+    Some (record { name = w.0; term = t.0 }, t.1)
+
+-- {Invariant}
+unfoldable pub all_invariants : List Token → Option (List Invariant × List Token)
+all_invariants xs = several (begins_with (at mark.Invariant)) invariant xs
+
 -- a whole text
 unfoldable pub whole : List Token → Option (SourceText × List Token)
 whole xs =
-    all_declarations xs >>= λ d. expect mark.System d.1 >>= λ s. all_placements s.1 >>= λ p. end p.1 >>= λ e.
-    Some (record { declarations = d.0; system = p.0 }, e.1)
+    all_declarations xs >>= λ d. expect mark.System d.1 >>= λ s. all_placements s.1 >>= λ p. all_invariants p.1 >>= λ v.
+    end v.1 >>= λ e. Some (record { declarations = d.0; system = p.0; invariants = v.0 }, e.1)

@@ -1,9 +1,9 @@
-//! Types, systems, and whole texts.
+//! Types, systems, invariants, and whole texts.
 
 ghost use Rattle.std.specs.Prelude.{◌≡◌, map};
 ghost use Rattle.ioa_cursor.specs.Outcome.{Reads};
 ghost use Rattle.ioa_source.specs.TextView.{form_of, type_of, declaration_of, node_of, script_of};
-ghost use Rattle.ioa_source.specs.TextView.{placement_of, text_of};
+ghost use Rattle.ioa_source.specs.TextView.{placement_of, invariant_of, text_of};
 ghost use Rattle.ioa_text_reader.specs.Reading as spec;
 
 use crate::automaton::automaton;
@@ -11,9 +11,10 @@ use crate::call::{call, calls};
 use crate::declared::{declared_names, words};
 use ioa_cursor::{Tokens, Unread};
 use ioa_source::{
-    Channel, Declaration, Node, Placement, ScriptDeclaration, Text, TypeDeclaration, TypeForm,
+    Channel, Declaration, Invariant, Node, Placement, ScriptDeclaration, Text, TypeDeclaration,
+    TypeForm,
 };
-use ioa_term_reader::BRACKET_LIMIT;
+use ioa_term_reader::{BRACKET_LIMIT, term};
 use ioa_tokens::Mark;
 use std::alloc::Global;
 
@@ -162,7 +163,37 @@ fn placements(alloc: Global, tokens: &mut Tokens<'_>) -> Result<Vec<Placement<()
     Ok(placements)
 }
 
-/// {Type or Automaton} `system` {Node or Channel or Script}, and then the end
+/// `invariant` Word `:` Term
+#[tactic(auto, unfolding(crate::specs::Reading::invariant, crate::specs::bind))]
+fn one_invariant(alloc: Global, tokens: &mut Tokens<'_>) -> Result<Invariant<(), (), ()>, Unread>
+    ensures { Reads invariant_of (spec.invariant tokens.old) result tokens.new }
+{
+    tokens.expect(Mark::Invariant)?;
+    let name = tokens.word(alloc)?;
+    tokens.expect(Mark::Colon)?;
+    let term = term(alloc, tokens, BRACKET_LIMIT)?;
+    Ok(Invariant {
+        name,
+        term: term.into_tree(),
+    })
+}
+
+/// {Invariant}
+#[tactic(auto, unfolding(crate::specs::Reading::all_invariants))]
+fn invariants(alloc: Global, tokens: &mut Tokens<'_>) -> Result<Vec<Invariant<(), (), ()>>, Unread>
+    ensures { Reads (λ v. map invariant_of v.items) (spec.all_invariants tokens.old) result tokens.new }
+{
+    let mut invariants = Vec::new(alloc);
+    for _turn in 0..tokens.len() {
+        if !tokens.at(Mark::Invariant) {
+            return Ok(invariants);
+        }
+        invariants.push(one_invariant(alloc, tokens)?)?;
+    }
+    Ok(invariants)
+}
+
+/// {Type or Automaton} `system` {Node or Channel or Script} {Invariant}, and then the end
 #[tactic(auto, unfolding(crate::specs::Reading::whole, crate::specs::bind))]
 pub(crate) fn whole(alloc: Global, tokens: &mut Tokens<'_>) -> Result<Text<(), (), ()>, Unread>
     ensures { Reads text_of (spec.whole tokens.old) result tokens.new }
@@ -170,9 +201,11 @@ pub(crate) fn whole(alloc: Global, tokens: &mut Tokens<'_>) -> Result<Text<(), (
     let declarations = declarations(alloc, tokens)?;
     tokens.expect(Mark::System)?;
     let system = placements(alloc, tokens)?;
+    let invariants = invariants(alloc, tokens)?;
     tokens.end()?;
     Ok(Text {
         declarations,
         system,
+        invariants,
     })
 }

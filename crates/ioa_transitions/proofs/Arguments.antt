@@ -53,9 +53,8 @@ pub given_there : (p : AutomatonParts) (given : List Data) (x : Name) (slot : �
     is_within (get_or given slot d) ≡ true → checked_result (lookup x (given_bindings p given)) ≡ Ok (get_or given slot d)
 given_there p given x slot d many here below within =
     let names = parameter_names p.parameters in
-    let named : length names ≡ length given = length-map p.parameters (λ (d : CheckedDeclared). d.name) ∙ sym many in
-    let counted = length-map names Word in
-    let all : names_of (given_bindings p given) ≡ names_at entry_constant (declared_names p) [] = names_environment names given p.constants named in
+    let named : length (map Word names) ≡ length given = length-map names Word ∙ length-map p.parameters (λ (d : CheckedDeclared). d.name) ∙ sym many in
+    let all : names_of (given_bindings p given) ≡ names_at entry_constant (declared_names p) [] = names_environment (map Word names) given p.constants named in
     let found : option_map (λ (b : Name × Data). b.1) (slice_get (given_bindings p given) slot) ≡ Some (get_or given slot d) =
     environment_variable (map Word names) given p.constants slot d (omega arith) below in
     ap checked_result (lookup_slot (given_bindings p given) x slot (ap (slot_in x) all ∙ here) ∙ found) ∙ rw within refl
@@ -124,12 +123,12 @@ are_natural_end f (p ∷ ps) (v ∷ vs) zero h = absurd (omega arith)
 are_natural_end f (p ∷ ps) (v ∷ vs) (suc i) h = are_natural_end f ps vs i (omega arith)
 
 -- the first n values that an effect leaves
-pub effect_answer_environment : (n : ℕ) (names : List (List ℕ)) (vs : List Data) (cs : List (List ℕ)) → length names ≡ length vs → n ≤ length vs → effect_answer n (Ok (environment (map Word names) vs cs)) ≡ Ok (take n vs)
+pub effect_answer_environment : (n : ℕ) (names : List Name) (vs : List Data) (cs : List (List ℕ)) → length names ≡ length vs → n ≤ length vs → effect_answer n (Ok (environment names vs cs)) ≡ Ok (take n vs)
 effect_answer_environment n names vs cs many within =
     let behind : List Data = map (λ (b : Name × Data). b.1) (constants_from 0 cs) in
-    let split : map (λ (b : Name × Data). b.1) (environment (map Word names) vs cs) ≡ vs ++ behind =
-    map-append (λ (b : Name × Data). b.1) (zip (map Word names) vs) (constants_from 0 cs)
-    ∙ ap (λ (ds : List Data). ds ++ behind) (seconds-zip (map Word names) vs (sym (length-map names Word ∙ many))) in
+    let split : map (λ (b : Name × Data). b.1) (environment names vs cs) ≡ vs ++ behind =
+    map-append (λ (b : Name × Data). b.1) (zip names vs) (constants_from 0 cs)
+    ∙ ap (λ (ds : List Data). ds ++ behind) (seconds-zip names vs (sym many)) in
     ap (λ (ds : List Data). Ok (take n ds)) split ∙ ap Ok (take-append-le n vs behind within)
 
 -- arguments that fit have as many values of their own as the parameters have names

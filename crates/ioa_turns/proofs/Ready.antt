@@ -56,7 +56,7 @@ following_ready p (statement s rest) own h = record { valued = h.valued; resolve
 
 -- what a block of a program sees, if it sees these inboxes, and these are the values of the state variables
 pub record Sees (p : Parts) (seen : Option PlainInboxes) (variables : List Data) (v : View) : Type 0 where
-  pub names : v.names ≡ scope_at block_statement (declared_names p.automaton) (block_own_names p.automaton)
+  pub names : v.names ≡ map Word (scope_at block_statement (declared_names p.automaton) (block_own_names p.automaton))
   pub inboxes : option_map (λ is. inboxes_of is.now) v.lent.inboxes ≡ seen
   pub first : v.lent.first.now ≡ variables
   pub second : v.lent.second.now ≡ p.arguments
@@ -68,12 +68,12 @@ own_first f n own rest h =
     rw (map-append f own rest, h, ← length-map own f) (take-append_seam (map f own) (map f rest))
 
 -- the values of the names in view
-pub own_of : (names : List (List ℕ)) (values : List Data) (cs : List (List ℕ)) (own rest : List Data) → values ≡ own ++ rest → length names ≡ length values → own_values (length own) (environment (map Word names) values cs) ≡ own
+pub own_of : (names : List Name) (values : List Data) (cs : List (List ℕ)) (own rest : List Data) → values ≡ own ++ rest → length names ≡ length values → own_values (length own) (environment names values cs) ≡ own
 own_of names values cs own rest e many =
     let behind : List Data = map (λ (b : Name × Data). b.1) (constants_from 0 cs) in
-    let split : map (λ (b : Name × Data). b.1) (environment (map Word names) values cs) ≡ values ++ behind =
-    map-append (λ (b : Name × Data). b.1) (zip (map Word names) values) (constants_from 0 cs)
-    ∙ ap (λ (ds : List Data). ds ++ behind) (seconds-zip (map Word names) values (sym (length-map names Word ∙ many))) in
+    let split : map (λ (b : Name × Data). b.1) (environment names values cs) ≡ values ++ behind =
+    map-append (λ (b : Name × Data). b.1) (zip names values) (constants_from 0 cs)
+    ∙ ap (λ (ds : List Data). ds ++ behind) (seconds-zip names values (sym many)) in
     let within : length own + length rest ≡ length values = rw e (sym (length-append own rest)) in
     ap (λ (ds : List Data). take (length own) ds) split
     ∙ take-append-le (length own) values behind (omega arith)
@@ -106,7 +106,7 @@ four_long xs os ys zs us is vs ws h n k l =
 
 module _ (p : Parts) (seen : Option PlainInboxes) (variables : List Data) (v : View) (sees : Sees p seen variables v) where
   -- the names to which it may assign, and those that it may read
-  own_seen : (n : ℕ) → n ≡ length p.automaton.schedule.variables → take n (map Word v.names) ≡ map Word (variable_names p.automaton.schedule.variables)
+  own_seen : (n : ℕ) → n ≡ length p.automaton.schedule.variables → take n v.names ≡ map Word (variable_names p.automaton.schedule.variables)
   own_seen n h =
       let own = variable_names p.automaton.schedule.variables in
       let inboxes = inbox_words (message_shape p.automaton.rules) in
@@ -114,13 +114,13 @@ module _ (p : Parts) (seen : Option PlainInboxes) (variables : List Data) (v : V
       rw (sees.names, append_assoc own inboxes others)
       (own_first Word n own (inboxes ++ others) (h ∙ sym (length-map p.automaton.schedule.variables (λ (x : CheckedVariable). x.declared.name))))
 
-  all_seen : map Word (v.names ++ v.constants.now) ≡ names_at block_statement (declared_names p.automaton) (block_own_names p.automaton)
+  all_seen : v.names ++ map Word v.constants.now ≡ names_at block_statement (declared_names p.automaton) (block_own_names p.automaton)
   all_seen = rw (sees.names, sees.constants) refl
 
   -- each value in view has a name
   pub sees_named : (values : List Data) → length values ≡ length p.automaton.schedule.variables → is_some seen ≡ is_some (message_shape p.automaton.rules) → length variables ≡ length p.automaton.variables → length p.arguments ≡ length p.automaton.parameters → IsNamed v values
   sees_named values h m k l =
-      rw (sees.names, sees.inboxes, sees.first, sees.second)
+      rw (sees.names, length-map (scope_at block_statement (declared_names p.automaton) (block_own_names p.automaton)) Word, sees.inboxes, sees.first, sees.second)
       (four_long (variable_names p.automaton.schedule.variables) (inbox_words (message_shape p.automaton.rules)) (variable_names p.automaton.variables) (parameter_names p.automaton.parameters) values (inbox_values seen) variables p.arguments
       (length-map p.automaton.schedule.variables (λ (x : CheckedVariable). x.declared.name) ∙ sym h) (as_many seen (message_shape p.automaton.rules) m) (length-map p.automaton.variables (λ (x : CheckedVariable). x.declared.name) ∙ sym k) (length-map p.automaton.parameters (λ (d : CheckedDeclared). d.name) ∙ sym l))
 

@@ -1,6 +1,6 @@
 //! The turns of a node.
 
-ghost use Rattle.std.specs.Prelude.{◌≡◌, IfOk, IfSome, OnErr, Some, is_some, length, true};
+ghost use Rattle.std.specs.Prelude.{◌≡◌, IfOk, IfSome, OnErr, Some, is_some, length, map, true};
 ghost use Rattle.std.specs.Option.{option_copied, option_map};
 ghost use Rattle.ioa_compose.specs.Composition as conf;
 ghost use Rattle.ioa_values.specs.Outcome.{Answers};
@@ -22,7 +22,7 @@ use ioa_record::NodeFault;
 use ioa_schedules::{Turn, View, next};
 use ioa_sharing::Origin;
 use ioa_system::Program;
-use ioa_terms::{Inbox, LentValues};
+use ioa_terms::{Inbox, LentValues, Name};
 use ioa_transitions::NodeConf;
 use ioa_values::Sequence;
 use std::alloc::{AllocError, Global};
@@ -34,8 +34,8 @@ fn view_of<'a>(
     conf: &'a NodeConf,
 ) -> View<'a>
     requires { length conf.now.variables ≡ length program.now.automaton.variables }
-    ensures names { result.names ≡ scope_at block_statement (declared_names program.now.automaton)
-        (block_own_names program.now.automaton) }
+    ensures names { result.names ≡ map Name.Word
+        (scope_at block_statement (declared_names program.now.automaton) (block_own_names program.now.automaton)) }
     ensures inboxes { result.lent.inboxes ≡ inboxes.entry }
     ensures first { result.lent.first.now ≡ conf.now.variables }
     ensures second { result.lent.second.now ≡ program.now.arguments }

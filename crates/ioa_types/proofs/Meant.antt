@@ -25,7 +25,9 @@ use Rattle.ioa_types.specs.Meanings.{Means, tuple_types, IsTypeTable, AreTextTyp
 use Rattle.ioa_types.specs.TextTypes.{PlainTextTypes, text_types, with_constants, with_form}
 use Rattle.ioa_types.specs.TextTypes as text
 use Rattle.ioa_names.proofs.Tables.{table_is}
+use Rattle.ioa_names.specs.Views.{AreWords}
 use Rattle.ioa_names.proofs.Names.{added_name, first_of, name_differs}
+use Rattle.ioa_names.proofs.Words.{words_both}
 
 abbrev pub shape_is : PlainShape → Result PlainShape Refusal
 shape_is s = Ok s
@@ -188,12 +190,12 @@ no_types = record { declared = tt; low = tt }
 
 pub enumeration_added : (types more : TypeTable) (w : List ℕ) (from many : ℕ) → IsTypeTable types → with_name types w (constants w from many) ≡ table_is more → IsTypeTable more
 enumeration_added types more w from many t h =
-    let a = added_name types more w (constants w from many) h in
+    let a = added_name types more (Word w) (constants w from many) h in
     subst IsTypeTable a.1 (extended types w (constants w from many) t (omega arith) tt)
 
 pub tuple_added : (types more : TypeTable) (w : List ℕ) (fs : List SourceDeclared) (s : PlainShape) → IsTypeTable types → shape_is s ≡ tuple_shape types w fs → with_name types w s ≡ table_is more → IsTypeTable more
 tuple_added types more w fs s t e h =
-    let a = added_name types more w s h in
+    let a = added_name types more (Word w) s h in
     let p : IsTuple types t w s × (height s < SHAPE_LIMIT) = subst (λ r. IfOk r (λ x. IsTuple types t w x × (height x < SHAPE_LIMIT))) (sym e) (tuple_kept types t w fs) in
     let longer = types ++ (Word w, s) ∷ [] in
     let named : tuple_types longer w ≡ Some (tuples w p.0.names p.0.fields) = named_new types w s a.0 ∙ ap Some p.0.same in
@@ -205,14 +207,21 @@ constants_behind : (types : TupleTypes) (cs : NameShapes) (s : PlainShape) (ws :
 constants_behind types cs s [] ds i h e = let same : cs ≡ ds = cc in subst (AreAllDeclared types) same h
 constants_behind types cs s (w ∷ ws) ds i h e =
     let one = first_of (with_name cs w s) (λ ns. with_constants ns s ws) ds e in
-    let a = added_name cs one.0 w s one.1 in
+    let a = added_name cs one.0 (Word w) s one.1 in
     constants_behind types one.0 s ws ds i (subst (AreAllDeclared types) a.1 (all_appended (λ n. IsDeclared types n.1) cs ((Word w, s) ∷ []) h (i, tt))) one.2
 
 constants_differ : (cs : NameShapes) (s : PlainShape) (ws : List (List ℕ)) (ds : NameShapes) → AreDistinct cs → with_constants cs s ws ≡ table_is ds → AreDistinct ds
 constants_differ cs s [] ds d e = let same : cs ≡ ds = cc in subst AreDistinct same d
 constants_differ cs s (w ∷ ws) ds d e =
     let one = first_of (with_name cs w s) (λ ns. with_constants ns s ws) ds e in
-    constants_differ one.0 s ws ds (name_differs cs one.0 w s d one.1) one.2
+    constants_differ one.0 s ws ds (name_differs cs one.0 (Word w) s d one.1) one.2
+
+constants_named : (cs : NameShapes) (s : PlainShape) (ws : List (List ℕ)) (ds : NameShapes) → AreWords cs → with_constants cs s ws ≡ table_is ds → AreWords ds
+constants_named cs s [] ds n e = let same : cs ≡ ds = cc in subst AreWords same n
+constants_named cs s (w ∷ ws) ds n e =
+    let one = first_of (with_name cs w s) (λ ns. with_constants ns s ws) ds e in
+    let a = added_name cs one.0 (Word w) s one.1 in
+    constants_named one.0 s ws ds (subst AreWords a.1 (words_both cs ((Word w, s) ∷ []) n refl)) one.2
 
 -- what is declared stays declared if one more type is
 all_still_named : (types : TypeTable) (w : List ℕ) (s : PlainShape) (cs : NameShapes) → AreAllDeclared (tuple_types types) cs → AreAllDeclared (tuple_types (types ++ (Word w, s) ∷ [])) cs
@@ -222,7 +231,7 @@ all_still_named types w s cs h =
 
 pub no_text_types : AreTextTypes text.no_types
 unfolding IsDistinct
-no_text_types = record { types = no_types; constants = tt; differ = tt }
+no_text_types = record { types = no_types; constants = tt; named = refl; differ = tt }
 
 abbrev text_is : PlainTextTypes → Result PlainTextTypes Refusal
 text_is t = Ok t
@@ -235,20 +244,22 @@ type_added t more d h e = by_form d.form e
         let s : PlainShape = constants d.name (length t.constants) (length ws) in
         let one = first_of (with_constants t.constants s ws) (λ cs. and_then (with_name t.types d.name s) (λ ts. text_is (text_types ts cs))) more e in
         let two = first_of (with_name t.types d.name s) (λ ts. text_is (text_types ts one.0)) more one.2 in
-        let a = added_name t.types two.0 d.name s two.1 in
+        let a = added_name t.types two.0 (Word d.name) s two.1 in
         let same : text_types two.0 one.0 ≡ more = cc in
         subst AreTextTypes same (record {
           types = enumeration_added t.types two.0 d.name (length t.constants) (length ws) h.types two.1;
           constants = constants_behind (tuple_types two.0) t.constants s ws one.0 tt (subst (λ ts. AreAllDeclared (tuple_types ts) t.constants) a.1 (all_still_named t.types d.name s t.constants h.constants)) one.1;
+          named = constants_named t.constants s ws one.0 h.named one.1;
           differ = constants_differ t.constants s ws one.0 h.differ one.1;
         })
     by_form (tuple_of fs) e =
         let one = first_of (tuple_shape t.types d.name fs) (λ s. and_then (with_name t.types d.name s) (λ ts. text_is (text_types ts t.constants))) more e in
         let two = first_of (with_name t.types d.name one.0) (λ ts. text_is (text_types ts t.constants)) more one.2 in
-        let a = added_name t.types two.0 d.name one.0 two.1 in
+        let a = added_name t.types two.0 (Word d.name) one.0 two.1 in
         let same : text_types two.0 t.constants ≡ more = cc in
         subst AreTextTypes same (record {
           types = tuple_added t.types two.0 d.name fs one.0 h.types (sym one.1) two.1;
           constants = subst (λ ts. AreAllDeclared (tuple_types ts) t.constants) a.1 (all_still_named t.types d.name one.0 t.constants h.constants);
+          named = h.named;
           differ = h.differ;
         })

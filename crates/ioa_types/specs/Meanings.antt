@@ -9,6 +9,7 @@ use Rattle.ioa_terms.specs.PlainSort as sort
 use Rattle.ioa_terms.specs.PlainSort.{PlainSort}
 use Rattle.ioa_sort_rules.specs.DeclaredTypes.{TupleTypes, AreAllDeclared}
 use Rattle.ioa_names.specs.NameTables.{AreDistinct}
+use Rattle.ioa_names.specs.Views.{AreWords}
 use Rattle.ioa_types.specs.TypeTables.{TypeTable}
 use Rattle.ioa_types.specs.TextTypes.{PlainTextTypes}
 use Rattle.ioa_types.specs.declared.height.TheConstants.{SHAPE_LIMIT}
@@ -34,8 +35,9 @@ pub record IsTypeTable (types : TypeTable) : Type 0 where
   pub declared : AreAllDeclared (tuple_types types) types
   pub low : AllByRecursion (λ t. height t.1 < SHAPE_LIMIT) types
 
--- types and constants that were declared one after another; no constant is declared twice
+-- types and constants that were declared one after another; each constant is a word, and none is declared twice
 pub record AreTextTypes (t : PlainTextTypes) : Type 0 where
   pub types : IsTypeTable t.types
   pub constants : AreAllDeclared (tuple_types t.types) t.constants
+  pub named : AreWords t.constants
   pub differ : AreDistinct t.constants

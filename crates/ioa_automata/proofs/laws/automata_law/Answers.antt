@@ -9,6 +9,6 @@ pub returns : goal.returns
 returns c = record {
   sound = λ t a c text h. automaton_sound t text a c h;
   found = λ t a c h. sym (automaton_found t a c h);
-  resolved = automaton_compiled;
+  resolved = λ t a c alone h. automaton_compiled t alone a c h;
   declared = λ t a c text h. automaton_declared t text a c h;
 }

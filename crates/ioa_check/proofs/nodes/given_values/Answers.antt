@@ -6,8 +6,8 @@ use Rattle.ioa_check.proofs.nodes.given_values.Goals as goal
 
 pub argument_values-requires : goal.argument_values-requires
 argument_values-requires c =
-    rw (c.with_constants-env.ensures.names, c.one.ensures, c.as_slice.ensures, c.requires.named)
-    (arguments_resolved c.args.view.now c.args.shapes.now.items (map term_of c.args.arguments.now.items) (map term_of c.in_ok-terms.terms.items) c.requires.declared c.in_ok-terms.ensures)
+    rw (c.with_constants-env.ensures.names, c.one.ensures, c.as_slice.ensures, c.requires.named.named)
+    (arguments_resolved c.args.view.now c.requires.named.all_words c.args.shapes.now.items (map term_of c.args.arguments.now.items) (map term_of c.in_ok-terms.terms.items) c.requires.declared c.in_ok-terms.ensures)
 
 pub returns-clause-many : goal.returns-clause-many
 returns-clause-many c =

@@ -2,9 +2,10 @@ use Rattle.std.proofs.Common.{◌≡◌, map, rules, subst, sym}
 use Rattle.std.specs.Arc.{arc_value}
 use Rattle.std.specs.Ordering.{int_eq}
 use Rattle.ioa_system.specs.Parts.{Parts}
-use Rattle.ioa_sorts.proofs.Lookups.{found_has}
+use Rattle.ioa_check.proofs.Grounds.{program_grounded}
 use Rattle.ioa_automata.proofs.Results.{result_is}
-use Rattle.ioa_check.specs.Channels.{program_numbered, program_or}
+use Rattle.ioa_check.specs.Channels.{program_or}
+use Rattle.ioa_system.specs.Systems.{program_numbered}
 use Rattle.ioa_check.specs.Grounds.{IsGrounded}
 use Rattle.ioa_check.proofs.SoundChannels.{program_found}
 use Rattle.ioa_check.proofs.scripts.script_at.Goals as goal
@@ -16,6 +17,6 @@ stimuli_of-requires-clause-grounded c =
     let program = arc_value c.in_ok-program.program.now in
     let made : program_or (program_numbered c.args.number programs) ≡ result_is program = search rules in
     let found = program_found (program_numbered c.args.number programs) program made in
-    let grounded = found_has (λ (p : Parts). IsGrounded c.args.ground.now.view.now p.automaton) (λ (p : Parts). int_eq p.node c.args.number) programs program c.requires.grounded found in
+    let grounded = program_grounded c.args.ground.now.view.now programs c.requires.grounded (λ (p : Parts). int_eq p.node c.args.number) program found in
     let same : c.automaton.result.now ≡ program.automaton = search rules in
     subst (IsGrounded c.args.ground.now.view.now) (sym same) grounded

@@ -1,8 +1,7 @@
-use Rattle.std.proofs.Common.{◌++◌, ◌-◌, [], ◌∷◌, Some, length, map, arith, sym, ap, ◌∙◌}
+use Rattle.std.proofs.Common.{◌++◌, ◌-◌, [], ◌∷◌, Some, length, arith, sym, ap, ◌∙◌}
 use Rattle.std.specs.Option.{option_map}
-use Rattle.std.proofs.lemmas.List.{length-append, length-map}
+use Rattle.std.proofs.lemmas.List.{length-append}
 use Rattle.ioa_terms.specs.Inboxes.{inbox_values, inboxes_of, inboxes_value}
-use Rattle.ioa_terms.specs.declared.name.Name.TheVariants.{Word}
 use Rattle.ioa_terms.proofs.Slots.{environment_constant, environment_first, environment_middle, environment_last, environment_beyond}
 use Rattle.ioa_terms.proofs.environment.View.get.Goals as goal
 
@@ -15,12 +14,11 @@ returns-then-slot-values c =
     let fs = env.lent.first.now in
     let gs = env.lent.second.now in
     let cs = env.constants.now in
-    let named = length-map ws Word in
     let further = length-append fs gs in
     let lent = length-append is (fs ++ gs) in
     let many = length-append vs (is ++ (fs ++ gs)) in
     let valued = c.requires in
-    ap (λ v. Some v) c.index-values-slot.is ∙ sym (environment_first (map Word ws) vs (is ++ (fs ++ gs)) cs c.args.slot c.index-values-slot.result (omega arith) (omega arith))
+    ap (λ v. Some v) c.index-values-slot.is ∙ sym (environment_first ws vs (is ++ (fs ++ gs)) cs c.args.slot c.index-values-slot.result (omega arith) (omega arith))
 
 pub returns-in-Some : goal.returns-in-Some
 returns-in-Some c =
@@ -31,14 +29,13 @@ returns-in-Some c =
     let fs = env.lent.first.now in
     let gs = env.lent.second.now in
     let cs = env.constants.now in
-    let named = length-map ws Word in
     let further = length-append fs gs in
     let lent = length-append is (fs ++ gs) in
     let many = length-append vs (is ++ (fs ++ gs)) in
     let valued = c.requires in
     let some = ap (λ o. length (inbox_values (option_map (λ is. inboxes_of is.now) o))) c.in-Some.is in
     let slots = c.inbox_slots-inbox_slots.ensures in
-    rw c.in-Some.is (sym (environment_middle (map Word ws) vs (inboxes_value (inboxes_of c.in-Some.inboxes.now) ∷ []) (fs ++ gs) cs c.args.slot 0 (inboxes_value (inboxes_of c.in-Some.inboxes.now)) (omega arith) (omega arith) (omega arith)))
+    rw c.in-Some.is (sym (environment_middle ws vs (inboxes_value (inboxes_of c.in-Some.inboxes.now) ∷ []) (fs ++ gs) cs c.args.slot 0 (inboxes_value (inboxes_of c.in-Some.inboxes.now)) (omega arith) (omega arith) (omega arith)))
 
 pub returns-in-None : goal.returns-in-None
 returns-in-None c =
@@ -49,7 +46,6 @@ returns-in-None c =
     let fs = env.lent.first.now in
     let gs = env.lent.second.now in
     let cs = env.constants.now in
-    let named = length-map ws Word in
     let further = length-append fs gs in
     let lent = length-append is (fs ++ gs) in
     let many = length-append vs (is ++ (fs ++ gs)) in
@@ -67,13 +63,12 @@ returns-then-lent-self c =
     let fs = env.lent.first.now in
     let gs = env.lent.second.now in
     let cs = env.constants.now in
-    let named = length-map ws Word in
     let further = length-append fs gs in
     let lent = length-append is (fs ++ gs) in
     let many = length-append vs (is ++ (fs ++ gs)) in
     let valued = c.requires in
     let slots = c.inbox_slots-inbox_slots.ensures in
-    (sym (environment_last (map Word ws) vs is fs gs cs c.args.slot (c.args.slot - length vs - c.inbox_slots-inbox_slots.result) c.index-self-lent.result (omega arith) (omega arith) (omega arith)))
+    (sym (environment_last ws vs is fs gs cs c.args.slot (c.args.slot - length vs - c.inbox_slots-inbox_slots.result) c.index-self-lent.result (omega arith) (omega arith) (omega arith)))
 
 pub returns-then-further-self : goal.returns-then-further-self
 returns-then-further-self c =
@@ -84,13 +79,12 @@ returns-then-further-self c =
     let fs = env.lent.first.now in
     let gs = env.lent.second.now in
     let cs = env.constants.now in
-    let named = length-map ws Word in
     let further = length-append fs gs in
     let lent = length-append is (fs ++ gs) in
     let many = length-append vs (is ++ (fs ++ gs)) in
     let valued = c.requires in
     let slots = c.inbox_slots-inbox_slots.ensures in
-    (sym (environment_beyond (map Word ws) vs is fs gs cs c.args.slot (c.args.slot - length vs - c.inbox_slots-inbox_slots.result - length fs) c.index-self-further.result (omega arith) (omega arith) (omega arith)))
+    (sym (environment_beyond ws vs is fs gs cs c.args.slot (c.args.slot - length vs - c.inbox_slots-inbox_slots.result - length fs) c.index-self-further.result (omega arith) (omega arith) (omega arith)))
 
 pub returns : goal.returns
 returns c =
@@ -101,10 +95,9 @@ returns c =
     let fs = env.lent.first.now in
     let gs = env.lent.second.now in
     let cs = env.constants.now in
-    let named = length-map ws Word in
     let further = length-append fs gs in
     let lent = length-append is (fs ++ gs) in
     let many = length-append vs (is ++ (fs ++ gs)) in
     let valued = c.requires in
     let slots = c.inbox_slots-inbox_slots.ensures in
-    c.constant_at.ensures ∙ (sym (environment_constant (map Word ws) (vs ++ (is ++ (fs ++ gs))) cs c.args.slot (c.args.slot - length vs - c.inbox_slots-inbox_slots.result - length fs - length gs) (omega arith)))
+    c.constant_at.ensures ∙ (sym (environment_constant ws (vs ++ (is ++ (fs ++ gs))) cs c.args.slot (c.args.slot - length vs - c.inbox_slots-inbox_slots.result - length fs - length gs) (omega arith)))

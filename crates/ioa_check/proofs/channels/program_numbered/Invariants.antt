@@ -1,9 +1,0 @@
-use Rattle.std.proofs.Common.{◌≡◌, map, drop}
-use Rattle.std.specs.Arc.{arc_value}
-use Rattle.ioa_check.specs.Channels.{program_numbered}
-use Rattle.ioa_check.proofs.channels.program_numbered.Given as goal
-
--- no program so far has the number
-abbrev pub invariant-loop-program : goal.invariant-loop-program
-invariant-loop-program l =
-    program_numbered l.number (map arc_value l.programs.items) ≡ program_numbered l.number (map arc_value (drop l.program-index l.program-items))

@@ -1,0 +1,81 @@
+//! The check of an invariant.
+
+ghost use Rattle.std.specs.Prelude.{◌≡◌, ◌++◌, map};
+ghost use Rattle.std.specs.Arc.{arc_value};
+ghost use Rattle.ioa_values.specs.Outcome.{Answers};
+ghost use Rattle.ioa_operators.specs.Shapes.{truths};
+ghost use Rattle.ioa_terms.specs.View.{term_of};
+ghost use Rattle.ioa_source.specs.TextView.{invariant_of};
+ghost use Rattle.ioa_names.specs.NameTables.{words};
+ghost use Rattle.ioa_names.specs.Views.{AreWords};
+ghost use Rattle.ioa_sorts.specs.Sorting.{fit, sorting};
+ghost use Rattle.ioa_invariants.specs.Checked as spec;
+ghost use Rattle.ioa_invariants.specs.Checked.{AreDeclaredParts};
+
+use crate::names::names_read;
+use crate::shapes::reading_shapes;
+use ioa_names::{NameTable, Readings, View};
+use ioa_sort_rules::Refusal;
+use ioa_sorts::fit;
+use ioa_source::{Channel, Invariant};
+use ioa_system::{CompiledInvariant, Program};
+use ioa_terms::{Checked, Names, Shape, ShapeForm, Term};
+use std::alloc::Global;
+use std::sync::Arc;
+
+/// What an invariant may speak of: the text's constants, and what its system section places.
+#[derive(Drop)]
+pub struct Section<'a> {
+    /// The text's constants with their shapes.
+    pub constants: &'a NameTable,
+    /// Their names.
+    pub names: &'a Arc<Names>,
+    /// The programs of the nodes, node 0 first.
+    pub programs: &'a [Arc<Program>],
+    /// The channels.
+    pub channels: &'a [Channel],
+}
+
+/// Makes the checked invariant that an invariant of a text is. Returns `Unknown` (20) if it reads a name that is not
+/// there: no node, state variable or channel, or a word that is no constant; `Sorts` (22) if its term is no truth value
+/// or a part of it has a wrong sort, or if `queue` has other terms than two numbers; `EmptyOfWhat` (32) if nothing gives
+/// a display its sort; `Memory` (3) if no memory is left. Costs time in proportion to the term and to the shapes of its
+/// parts, and for each node or channel that it names to how many there are.
+#[tactic(auto, unfolding(crate::specs::Checked::invariant_at))]
+pub fn check_invariant(
+    alloc: Global,
+    section: &Section,
+    invariant: &Invariant<(), (), ()>,
+) -> Result<CompiledInvariant, Refusal>
+    requires named { arc_value section.now.names.now ≡ words section.now.constants.now }
+    requires declared { AreDeclaredParts section.now.constants.now (map arc_value section.now.programs.now) }
+    ensures { Answers Refusal.Memory (λ v. v) result (spec.invariant_at section.now.constants.now
+        (map arc_value section.now.programs.now) section.now.channels.now (invariant_of invariant.now)) }
+{
+    section.constants.words_law();
+    let names = names_read(alloc, &invariant.term)?;
+    let shapes = reading_shapes(alloc, section.programs, section.channels, names.as_slice())?;
+    let readings = Readings::new(alloc, names, shapes)?;
+    let term = truth_term(alloc, &readings, section.constants, &invariant.term)?;
+    let name = invariant.name.try_copy(alloc)?;
+    let constants = Arc::try_clone(section.names)?;
+    let readings = readings.into_names(alloc)?;
+    Ok(CompiledInvariant::new(name, constants, readings, term))
+}
+
+/// The term of an invariant, which is a truth value, if these are the names that it reads.
+fn truth_term(
+    alloc: Global,
+    readings: &Readings,
+    constants: &NameTable,
+    term: &Term,
+) -> Result<Checked, Refusal>
+    ensures { Answers Refusal.Memory term_of result
+        (fit (sorting (readings.now ++ constants.now) (term_of term.now)) truths) }
+{
+    let none = NameTable::new(alloc);
+    let view = View::of_readings(readings, &none, constants)?;
+    let truths = Shape::of(ShapeForm::Truths);
+    let found = fit(alloc, &view, term, &truths);
+    found
+}
