@@ -22,7 +22,7 @@ use Rattle.ioa_compose.proofs.SameConfs.{same_conf_is}
 use Rattle.ioa_commits.specs.Books.{PlainBook, held_of, states_held}
 use Rattle.ioa_book.specs.Looks.{snapshot_after}
 use Rattle.ioa_commits.specs.Commits.{first_refusal, full, refusal_by, refusal_of}
-use Rattle.ioa_commits.specs.Own.{concerns}
+use Rattle.ioa_index.specs.Own.{concerns}
 use Rattle.ioa_commits.specs.Proposals.{plain_proposal}
 use Rattle.ioa_book.specs.Proposals.{find_read, one_or_none, proposal_answer, reads_at, reads_held}
 use Rattle.ioa_commits.specs.Versions.{PlainVersionedConf, read_confs, with_version}

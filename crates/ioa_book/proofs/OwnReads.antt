@@ -8,10 +8,10 @@ use Rattle.ioa_transitions.specs.Entries.{PlainEntry}
 use Rattle.ioa_compose.specs.Composition.{component_names, component_of}
 use Rattle.ioa_compose.specs.declared.configuration.Conf.{Conf}
 use Rattle.ioa_commits.specs.Books.{PlainBook, states_held}
-use Rattle.ioa_commits.specs.Own.{concerns, own_slots}
+use Rattle.ioa_index.specs.Own.{concerns, own_slots}
 use Rattle.ioa_commits.specs.Versions.{PlainVersionedConf, read_confs, with_version}
 use Rattle.ioa_commits.proofs.Commits.{confs_among}
-use Rattle.ioa_commits.proofs.Lookups.{get_behind, one_more}
+use Rattle.ioa_index.proofs.Slots.{get_behind, one_more}
 use Rattle.ioa_book.specs.Looks.{IsLookAt, PlainSnapshot, plain_snapshot}
 use Rattle.ioa_book.specs.Slots.{items_at, places_at}
 

@@ -6,7 +6,7 @@ use Rattle.ioa_transitions.specs.Entries.{PlainEntry}
 use Rattle.ioa_compose.specs.Composition.{component_of}
 use Rattle.ioa_compose.specs.declared.configuration.Conf.{Conf}
 use Rattle.ioa_commits.specs.Books.{PlainBook, held_of, states_after}
-use Rattle.ioa_commits.specs.Own.{concerns}
+use Rattle.ioa_index.specs.Own.{concerns}
 use Rattle.ioa_commits.specs.Versions.{PlainVersionedConf, versioned_conf_code, with_version}
 use Rattle.ioa_book.specs.declared.outcome.LookFault.{LookFault}
 use Rattle.ioa_book.specs.declared.outcome.LookFault.TheVariants.{Unknown}

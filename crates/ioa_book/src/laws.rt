@@ -7,7 +7,7 @@ ghost use Rattle.ioa_values.specs.Outcome.{and_then};
 ghost use Rattle.ioa_actions.specs.ActionParts.{node_of};
 ghost use Rattle.ioa_actions.specs.declared.action.Action.{Action};
 ghost use Rattle.ioa_actions.specs.declared.component.Component.{Component};
-ghost use Rattle.ioa_commits.specs.Own.{concerns};
+ghost use Rattle.ioa_index.specs.Own.{concerns};
 ghost use Rattle.ioa_compose.specs.Composition.{component_of, find_conf, find_confs, picks_of};
 ghost use Rattle.ioa_compose.specs.Participants.{participants_of};
 ghost use Rattle.ioa_commits.specs.Books.{PlainBook, states_held};

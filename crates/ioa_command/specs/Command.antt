@@ -12,13 +12,18 @@ use Rattle.ioa_streams.specs.declared.input.InputFault.{InputFault}
 use Rattle.ioa_streams.specs.declared.input.InputFault.TheVariants as input
 use Rattle.ioa_pipeline.specs.declared.whole_run.RunFault.{RunFault}
 use Rattle.ioa_pipeline.specs.declared.whole_run.RunFault.TheVariants as run
+use Rattle.ioa_pipeline.specs.declared.schedule_check.CheckScheduleFault.{CheckScheduleFault}
+use Rattle.ioa_pipeline.specs.declared.schedule_check.CheckScheduleFault.TheVariants as check
+use Rattle.ioa_command.specs.declared.words.Subcommand.{Subcommand}
 use Rattle.ioa_command.specs.declared.words.Subcommand.TheVariants as subcommand
 use Rattle.ioa_command.specs.declared.command_line.TextFault.{TextFault}
-use Rattle.ioa_command.specs.declared.command_line.TextFault.TheVariants.{Input, Run}
+use Rattle.ioa_command.specs.declared.command_line.TextFault.TheVariants.{Input, Run, Check}
 use Rattle.ioa_streams.specs.Input.{IsFaultOf, input_fault_text}
+use Rattle.ioa_streams.specs.Parts.{lines_part, text_part}
 use Rattle.ioa_record.specs.Options.{PlainOptions}
 use Rattle.ioa_streams.specs.Output.{AppendsBeginning}
 use Rattle.ioa_pipeline.specs.WholeRun.{IsExactFor, IsFaultOfWorkers, IsRefusalOf, WritesReport, run_fault_text}
+use Rattle.ioa_pipeline.specs.ScheduleChecks.{IsExactForCheck, IsFaultOfCheck, SaysExecution, check_schedule_fault_text}
 use Rattle.ioa_command.specs.CommandLine.{AsksForText, Chooses, IsErrorOf, words_status}
 
 -- an output before and after: its bytes, if they are known, and whether it has failed
@@ -58,11 +63,28 @@ RunsText options given out result =
     × IfErr result (λ f. IsRefusalOf f text) × IsExactFor result text
     × IfErr result (λ f. IsFaultOfWorkers options.workers f)
 
+-- the lines in the input were checked against the text in it; a fault is one of them, and no fault of the text that is
+-- always found is passed over
+abbrev pub ChecksLines : Option (List ℕ) → Output → Result (Unit {0}) CheckScheduleFault → Type 0
+ChecksLines given out result =
+    (input : List ℕ) × IsTextOf given input
+    × SaysExecution (text_part input) (lines_part input) out.old out.new out.failed result
+    × IfErr result (λ f. IsFaultOfCheck f (text_part input) (lines_part input))
+    × IsExactForCheck result (text_part input)
+
 -- what `run` read and what it wrote as its report, if it ends so: nothing if the input gives no text
 abbrev pub Executes : PlainOptions → Option (List ℕ) → Output → Result (Unit {0}) TextFault → Type 0
 Executes options given out (Ok x) = RunsText options given out (Ok x)
 Executes options given out (Err (Input f)) = IfSome given (IsFaultOf f) × IsKept out
 Executes options given out (Err (Run f)) = RunsText options given out (Err f)
+Executes options given out (Err (Check f)) = ⊥
+
+-- what `check` read and what it said, if it ends so: nothing if the input gives no text
+abbrev pub Follows : Option (List ℕ) → Output → Result (Unit {0}) TextFault → Type 0
+Follows given out (Ok x) = ChecksLines given out (Ok x)
+Follows given out (Err (Input f)) = IfSome given (IsFaultOf f) × IsKept out
+Follows given out (Err (Run f)) = ⊥
+Follows given out (Err (Check f)) = ChecksLines given out (Err f)
 
 -- 1 if the input is refused, and 3 if memory or reading failed
 abbrev pub input_status : InputFault → ℕ
@@ -79,6 +101,14 @@ run_status (run.Finish f) = 3
 run_status run.Memory = 3
 run_status run.Write = 3
 
+-- 1 if the text or the schedule is refused, and 3 if memory or writing failed
+abbrev pub check_status : CheckScheduleFault → ℕ
+check_status (check.Front f) = 1
+check_status (check.Check f) = 1
+check_status (check.Schedule f) = 1
+check_status check.Memory = 3
+check_status check.Write = 3
+
 -- the line of an input that gives no text: a read has `failed`, all else is `refused`
 abbrev pub input_line : InputFault → List ℕ
 input_line input.Read = codes "failed " ++ input_fault_text input.Read
@@ -93,6 +123,25 @@ run_line (run.Check f) = codes "refused " ++ run_fault_text (run.Check f)
 run_line (run.Finish f) = codes "refused " ++ run_fault_text (run.Finish f)
 run_line run.Memory = codes "refused " ++ run_fault_text run.Memory
 run_line run.Write = codes "failed " ++ run_fault_text run.Write
+
+-- the line of a schedule that is not said to be an execution: a write has `failed`, all else is `refused`
+abbrev pub check_line : CheckScheduleFault → List ℕ
+check_line (check.Front f) = codes "refused " ++ check_schedule_fault_text (check.Front f)
+check_line (check.Check f) = codes "refused " ++ check_schedule_fault_text (check.Check f)
+check_line (check.Schedule f) = codes "refused " ++ check_schedule_fault_text (check.Schedule f)
+check_line check.Memory = codes "refused " ++ check_schedule_fault_text check.Memory
+check_line check.Write = codes "failed " ++ check_schedule_fault_text check.Write
+
+-- the status of a fault, and its line
+abbrev pub fault_status : TextFault → ℕ
+fault_status (Input f) = input_status f
+fault_status (Run f) = run_status f
+fault_status (Check f) = check_status f
+
+abbrev pub fault_line : TextFault → List ℕ
+fault_line (Input f) = input_line f
+fault_line (Run f) = run_line f
+fault_line (Check f) = check_line f
 
 -- the line of want of memory
 abbrev pub memory_line : List ℕ
@@ -117,19 +166,21 @@ pub record ShowsWords (kind : ErrorKind) (status : ℕ) (out err : Output) : Typ
   pub refused : (words_status kind ≡ 0 → ⊥)
       → IsKept out × (((status ≡ words_status kind) × ShowsText err) ⊎ ((status ≡ 3) × Shows memory_line err))
 
--- the status of `run`, and what it shows, if it ends so: nothing if the report was written, else the line of the fault
-abbrev pub EndsText : PlainOptions → Option (List ℕ) → Output → Output → ℕ → Result (Unit {0}) TextFault → Type 0
-EndsText options given out err status (Ok x) = Executes options given out (Ok x) × (status ≡ 0) × IsKept err
-EndsText options given out err status (Err (Input f)) =
-    Executes options given out (Err (Input f)) × ShowsLine (input_line f) (input_status f) status err
-EndsText options given out err status (Err (Run f)) =
-    Executes options given out (Err (Run f)) × ShowsLine (run_line f) (run_status f) status err
+-- a status, and what is shown as an error: nothing if all was done, else the line of the fault
+abbrev pub Tells : Output → ℕ → Result (Unit {0}) TextFault → Type 0
+Tells err status (Ok x) = (status ≡ 0) × IsKept err
+Tells err status (Err f) = ShowsLine (fault_line f) (fault_status f) status err
 
--- the words choose to run the text with their options, and the program ends as `run`
-abbrev pub EndsRun : List Text → Option (List ℕ) → Output → Output → ℕ → Type 0
-EndsRun words given out err status =
-    (options : PlainOptions) × (outcome : Result (Unit {0}) TextFault) × Chooses words (subcommand.Run options)
-    × EndsText options given out err status outcome
+-- the program ends as `run` with its options, or as `check`
+abbrev pub EndsAs : Subcommand → Option (List ℕ) → Output → Output → ℕ → Type 0
+EndsAs (subcommand.Run options) given out err status =
+    (outcome : Result (Unit {0}) TextFault) × Executes options given out outcome × Tells err status outcome
+EndsAs subcommand.Check given out err status =
+    (outcome : Result (Unit {0}) TextFault) × Follows given out outcome × Tells err status outcome
+
+-- the words choose a subcommand, and the program ends as that does
+abbrev pub EndsChosen : List Text → Option (List ℕ) → Output → Output → ℕ → Type 0
+EndsChosen words given out err status = (chosen : Subcommand) × Chooses words chosen × EndsAs chosen given out err status
 
 -- the words choose nothing, and the program shows the text of their error
 abbrev pub EndsWords : List Text → Output → Output → ℕ → Type 0
@@ -137,10 +188,11 @@ EndsWords words out err status = (e : Error) × IsErrorOf words e × ShowsWords 
 
 -- the status that the program returns, and what it reads, writes and shows
 abbrev pub Ends : List Text → Option (List ℕ) → Output → Output → ℕ → Type 0
-Ends words given out err status = EndsRun words given out err status ⊎ EndsWords words out err status
+Ends words given out err status = EndsChosen words given out err status ⊎ EndsWords words out err status
 
--- what status 0 says: the report of the text that was read went out, or a text for which the words ask
+-- what status 0 says: the report of the text that was read went out; or the lines that were read are an execution of its
+-- system; or a text for which the words ask
 abbrev pub IsDone : List Text → Option (List ℕ) → Output → Type 0
 IsDone words given out =
     ((options : PlainOptions) × Chooses words (subcommand.Run options) × RunsText options given out (Ok tt))
-    ⊎ (AsksForText words × ShowsText out)
+    ⊎ ((Chooses words subcommand.Check × ChecksLines given out (Ok tt)) ⊎ (AsksForText words × ShowsText out))

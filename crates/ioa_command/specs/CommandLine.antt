@@ -14,7 +14,7 @@ use Rattle.clap.specs.declared.error.kind.ErrorKind.TheVariants.{DisplayHelp, Di
 use Rattle.clap.specs.declared.error.kind.ErrorKind.TheVariants.{OutOfMemory, ValueValidation}
 use Rattle.ioa_record.specs.declared.options.TheConstants.{GREATEST_WORKERS, GREATEST_STEPS, GREATEST_ATTEMPTS}
 use Rattle.ioa_command.specs.declared.words.Subcommand.{Subcommand}
-use Rattle.ioa_command.specs.declared.words.Subcommand.TheVariants.{Run}
+use Rattle.ioa_command.specs.declared.words.Subcommand.TheVariants.{Run, Check}
 
 -- `--name N`, a number that a parser takes; if it is not given, another text is read in its place
 abbrev pub number_rule : Text → ValueParser → Text → Rule
@@ -34,25 +34,32 @@ attempts_rule = number_rule (codes "attempts") (Unsigned 1 GREATEST_ATTEMPTS) (c
 abbrev pub run_app : App
 run_app = with_rule (with_rule (with_rule (new_app (codes "run")) workers_rule) steps_rule) attempts_rule
 
+-- `check`
+abbrev pub check_app : App
+check_app = new_app (codes "check")
+
 -- the program's name, and then one of its subcommands; it has a version, and shows its help if there are no words
 abbrev pub program_app : App
 program_app =
     with_subcommand
+    (with_subcommand
     (on_top (λ s. record s { has_version = true; subcommand_required = true; arg_required_else_help = true })
     (new_app (codes "ioarun")))
-    run_app.top
+    run_app.top)
+    check_app.top
 
 -- the number that an option has in the matches: that of its decimal digits
 abbrev pub IsNumberOf : List Row → Text → ℕ → Type 0
 IsNumberOf rows name n =
     (t : Text) × (one_of name rows ≡ Some t) × (n ≡ digits_value 10 (without_leading_plus t))
 
--- the subcommand that the matches name, with its numbers
+-- the subcommand that the matches name, with its numbers if it has some
 abbrev pub IsChosenBy : Option (Text × List Row) → Subcommand → Type 0
 IsChosenBy None choice = ⊥
 IsChosenBy (Some (name, rows)) (Run o) =
     (name ≡ codes "run") × IsNumberOf rows (codes "workers") o.workers × IsNumberOf rows (codes "steps") o.steps
     × IsNumberOf rows (codes "attempts") o.attempts
+IsChosenBy (Some (name, rows)) Check = name ≡ codes "check"
 
 -- what the words choose, the program's name first
 abbrev pub Chooses : List Text → Subcommand → Type 0

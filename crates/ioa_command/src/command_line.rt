@@ -5,16 +5,17 @@ ghost use Rattle.std.specs.Io.KnownBytes.{Keeps};
 ghost use Rattle.std.specs.String.{string_bytes};
 ghost use Rattle.clap.specs.Values.{kind_of};
 ghost use Rattle.ioa_command.specs.declared.command_line.TextFault.{TextFault};
-ghost use Rattle.ioa_command.specs.Command.{Ends, EndsText, Executes, IsDone};
+ghost use Rattle.ioa_command.specs.Command.{Ends, EndsAs, Executes, Follows, IsDone, Tells};
 ghost use Rattle.ioa_command.specs.Command.{Shows, ShowsAsked, ShowsWords, output};
-ghost use Rattle.ioa_command.specs.Command.{input_line, input_status, memory_line, run_line, run_status};
+ghost use Rattle.ioa_command.specs.Command.{check_line, check_status, fault_line, fault_status, input_line, input_status};
+ghost use Rattle.ioa_command.specs.Command.{memory_line, run_line, run_status};
 ghost use Rattle.ioa_command.specs.CommandLine.{words_status};
 
-use crate::words::options;
+use crate::words::{Subcommand, options};
 use clap::Error;
 use clap::error::ErrorKind;
-use ioa_pipeline::{Open, Options, RunFault, run_system};
-use ioa_streams::{InputFault, Out, put_all, read_input};
+use ioa_pipeline::{CheckScheduleFault, Open, Options, RunFault, check_text, run_system};
+use ioa_streams::{InputFault, Out, parts, put_all, read_input};
 use std::alloc::{AllocError, Global};
 use std::io::Read;
 use std::sync::Wait;
@@ -32,19 +33,23 @@ pub const BAD_WORDS: u8 = 2;
 /// The status if memory, finishing, reading or writing failed.
 pub const FAILED: u8 = 3;
 
-/// Why `run` wrote no report.
+/// Why `run` wrote no report, or `check` did not say that a schedule is an execution.
 #[derive(Debug, Drop)]
 enum TextFault {
     /// The input gives no text.
     Input(InputFault),
     /// The text gave no report.
     Run(RunFault),
+    /// The schedule is not said to be an execution.
+    Check(CheckScheduleFault),
 }
 
 /// The program (profile): `words` are those of the command line, its own name first, and choose what it does. `run`
-/// reads a text, runs its system by workers in this runtime, and writes the report. Returns the status: 0 if the report
-/// was written, or the help or the version for which the words ask; 1 if the text was refused; 2 if the words were
-/// refused; and 3 if memory ran out, what several workers left could not be put together, or reading or writing failed.
+/// reads a text, runs its system by workers in this runtime, and writes the report. `check` reads a text and a schedule,
+/// and says whether the schedule is an execution. Returns the status: 0 if the report was written, if the schedule is an
+/// execution, or if the help or the version for which the words ask was shown; 1 if the text or the schedule was refused;
+/// 2 if the words were refused; and 3 if memory ran out, what several workers left could not be put together, or reading
+/// or writing failed.
 /// If it is not 0, `err` says why; a fault of `err` is ignored. If there is no memory for what it has to say, the
 /// status is 3 and a line says so.
 #[tactic(auto, using(crate::proofs::Endings::refused_of))]
@@ -87,8 +92,29 @@ fn execute_words<'a, R: Threads + Wait + Sync, I: Read, O: Out, E: Out>(
         (output (E.bytes err.old) (E.bytes err.new) (E.failed err.new)) result }
 {
     match options(alloc, words) {
-        Ok(subcommand) => run_text(rt, alloc, &subcommand.options(), reader, out, err),
+        Ok(subcommand) => obey(rt, alloc, &subcommand, reader, out, err),
         Err(error) => show_words(alloc, &error, out, err),
+    }
+}
+
+/// Does what a subcommand asks for, and tells of a fault.
+fn obey<R: Threads + Wait + Sync, I: Read, O: Out, E: Out>(
+    rt: &R,
+    alloc: Global,
+    subcommand: &Subcommand,
+    reader: &mut I,
+    out: &mut O,
+    err: &mut E,
+) -> u8
+    requires out { O.failed out.old ≡ false }
+    requires err { E.failed err.old ≡ false }
+    ensures { EndsAs subcommand.now (I.remaining reader.old)
+        (output (O.bytes out.old) (O.bytes out.new) (O.failed out.new))
+        (output (E.bytes err.old) (E.bytes err.new) (E.failed err.new)) result }
+{
+    match subcommand {
+        Subcommand::Run(options) => run_text(rt, alloc, options, reader, out, err),
+        Subcommand::Check => check_lines(alloc, reader, out, err),
     }
 }
 
@@ -103,16 +129,39 @@ fn run_text<R: Threads + Wait + Sync, I: Read, O: Out, E: Out>(
 ) -> u8
     requires out { O.failed out.old ≡ false }
     requires err { E.failed err.old ≡ false }
-    ensures { (outcome : Result (Unit {0}) TextFault) × EndsText options.now (I.remaining reader.old)
-        (output (O.bytes out.old) (O.bytes out.new) (O.failed out.new))
-        (output (E.bytes err.old) (E.bytes err.new) (E.failed err.new)) result outcome }
+    ensures { (outcome : Result (Unit {0}) TextFault) × Executes options.now (I.remaining reader.old)
+        (output (O.bytes out.old) (O.bytes out.new) (O.failed out.new)) outcome
+        × Tells (output (E.bytes err.old) (E.bytes err.new) (E.failed err.new)) result outcome }
 {
-    match execute(rt, alloc, options, reader, out) {
+    let outcome = execute(rt, alloc, options, reader, out);
+    tell(alloc, &outcome, err)
+}
+
+/// Checks the lines of a schedule against the text before them, and tells of a fault.
+fn check_lines<I: Read, O: Out, E: Out>(
+    alloc: Global,
+    reader: &mut I,
+    out: &mut O,
+    err: &mut E,
+) -> u8
+    requires out { O.failed out.old ≡ false }
+    requires err { E.failed err.old ≡ false }
+    ensures { (outcome : Result (Unit {0}) TextFault) × Follows (I.remaining reader.old)
+        (output (O.bytes out.old) (O.bytes out.new) (O.failed out.new)) outcome
+        × Tells (output (E.bytes err.old) (E.bytes err.new) (E.failed err.new)) result outcome }
+{
+    let outcome = follow(alloc, reader, out);
+    tell(alloc, &outcome, err)
+}
+
+/// The status of an outcome. Of a fault it shows a line.
+fn tell<E: Out>(alloc: Global, outcome: &Result<(), TextFault>, err: &mut E) -> u8
+    requires { E.failed err.old ≡ false }
+    ensures { Tells (output (E.bytes err.old) (E.bytes err.new) (E.failed err.new)) result outcome.now }
+{
+    match outcome {
         Ok(()) => DONE,
-        Err(TextFault::Input(fault)) => {
-            show_line(input_line(alloc, &fault), input_status(&fault), err)
-        }
-        Err(TextFault::Run(fault)) => show_line(run_line(alloc, &fault), run_status(&fault), err),
+        Err(fault) => show_line(fault_line(alloc, fault), fault_status(fault), err),
     }
 }
 
@@ -130,6 +179,17 @@ fn execute<R: Threads + Wait + Sync, I: Read, O: Out>(
 {
     let text = read_input(alloc, reader).map_err(TextFault::Input)?;
     run_system(rt, alloc, text.as_str(), options, &Open, out).map_err(TextFault::Run)
+}
+
+/// Reads the text and the schedule, and says whether the schedule is an execution of the text's system.
+fn follow<I: Read, O: Out>(alloc: Global, reader: &mut I, out: &mut O) -> Result<(), TextFault>
+    requires { O.failed out.old ≡ false }
+    ensures { Follows (I.remaining reader.old)
+        (output (O.bytes out.old) (O.bytes out.new) (O.failed out.new)) result }
+{
+    let input = read_input(alloc, reader).map_err(TextFault::Input)?;
+    let (text, lines) = parts(input.as_str());
+    check_text(alloc, text, lines, out).map_err(TextFault::Check)
 }
 
 /// The status if the words ask for a text or are refused.
@@ -163,6 +223,40 @@ fn run_status(fault: &RunFault) -> u8
     }
 }
 
+/// The status if the schedule is not said to be an execution.
+fn check_status(fault: &CheckScheduleFault) -> u8
+    ensures { result ≡ check_status fault.now }
+{
+    match fault {
+        CheckScheduleFault::Front(_)
+        | CheckScheduleFault::Check(_)
+        | CheckScheduleFault::Schedule(_) => REFUSED,
+        CheckScheduleFault::Memory | CheckScheduleFault::Write => FAILED,
+    }
+}
+
+/// The status of a fault.
+fn fault_status(fault: &TextFault) -> u8
+    ensures { result ≡ fault_status fault.now }
+{
+    match fault {
+        TextFault::Input(fault) => input_status(fault),
+        TextFault::Run(fault) => run_status(fault),
+        TextFault::Check(fault) => check_status(fault),
+    }
+}
+
+/// The line of a fault.
+fn fault_line(alloc: Global, fault: &TextFault) -> Result<String, AllocError>
+    ensures { IfOk result (λ s. string_bytes s ≡ fault_line fault.now ++ codes "\n") }
+{
+    match fault {
+        TextFault::Input(fault) => input_line(alloc, fault),
+        TextFault::Run(fault) => run_line(alloc, fault),
+        TextFault::Check(fault) => check_line(alloc, fault),
+    }
+}
+
 /// The line of an input that gives no text.
 fn input_line(alloc: Global, fault: &InputFault) -> Result<String, AllocError>
     ensures { IfOk result (λ s. string_bytes s ≡ input_line fault.now ++ codes "\n") }
@@ -184,6 +278,19 @@ fn run_line(alloc: Global, fault: &RunFault) -> Result<String, AllocError>
             format!(in alloc; "refused {fault}\n")
         }
         RunFault::Write => format!(in alloc; "failed {fault}\n"),
+    }
+}
+
+/// The line of a schedule that is not said to be an execution.
+fn check_line(alloc: Global, fault: &CheckScheduleFault) -> Result<String, AllocError>
+    ensures { IfOk result (λ s. string_bytes s ≡ check_line fault.now ++ codes "\n") }
+{
+    match fault {
+        CheckScheduleFault::Front(_)
+        | CheckScheduleFault::Check(_)
+        | CheckScheduleFault::Schedule(_)
+        | CheckScheduleFault::Memory => format!(in alloc; "refused {fault}\n"),
+        CheckScheduleFault::Write => format!(in alloc; "failed {fault}\n"),
     }
 }
 

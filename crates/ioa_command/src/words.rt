@@ -6,9 +6,8 @@ ghost use Rattle.clap.specs.Walk.{rows_of};
 ghost use Rattle.clap.specs.Words.{rule_of, app_of, subcommand_rows_of};
 ghost use Rattle.clap.specs.declared.builder.command.Command.TheViews.{out-Command};
 ghost use Rattle.clap.specs.declared.builder.value_parser.ValueParser.TheVariants.{Unsigned};
-ghost use Rattle.ioa_command.specs.declared.words.Subcommand.TheVariants.{Run};
 ghost use Rattle.ioa_command.specs.CommandLine.{number_rule, workers_rule, steps_rule, attempts_rule};
-ghost use Rattle.ioa_command.specs.CommandLine.{run_app, program_app, Chooses, IsChosenBy, IsErrorOf, IsNumberOf};
+ghost use Rattle.ioa_command.specs.CommandLine.{check_app, run_app, program_app, Chooses, IsChosenBy, IsErrorOf, IsNumberOf};
 
 use clap::builder::ValueParser;
 use clap::error::ErrorKind;
@@ -21,36 +20,39 @@ const ABOUT: &str = "Runs systems of I/O automata, and prints what happened.";
 
 /// What is shown at the end of the help of the program.
 const STATUSES: &str = "\
-`ioarun run` reads a system text on standard input: automata with their schedule blocks, and the
-nodes, channels and scripts on which they are placed. It writes the report of the run on standard
-output: the schedule, the last states, how each node ended, and how many actions each worker
-took. With several workers the schedule may be another each time.
+`ioarun run` reads a system text on standard input: automata with their schedule blocks, the
+nodes, channels and scripts on which they are placed, and invariants. It writes the report of the
+run on standard output: the schedule, the last states, how each node ended, how many actions each
+worker took, and which invariants held. With several workers the schedule may be another each
+time.
+
+`ioarun check` reads a system text on standard input, a line `---`, and then a schedule, one action
+a line, as in a report. It writes `execution` if the actions are an execution of the system.
 
 Statuses:
-  0  the report was written, or this help
-  1  the text was refused: one line on standard error has the number, the name and the place
+  0  the report was written, the schedule is an execution, or this help
+  1  the text or the schedule was refused: one line on standard error has the number, the name and
+     the place
   2  these words were refused
   3  memory ran out, or finishing, reading or writing failed
 
-Example:
-  ioarun run --steps 100 < relay.ioa";
+Examples:
+  ioarun run --steps 100 < relay.ioa
+  (cat relay.ioa; echo ---; ioarun run < relay.ioa | grep '^[0-9]') | ioarun check";
+
+/// What is shown at the end of the help of `check`.
+const CHECK_INPUT: &str = "\
+Standard input is the text, a line `---`, and the lines of the schedule. A line has an action, and
+in front of it a number or none: send(7, 0, 1), receive(7, 0, 1), tick@2 or put({1, 2}, red)@0.
+Without the line `---` the schedule is empty.";
 
 /// What the program is asked to do.
 #[derive(Clone, Copy, Debug, PartialEq, Eq)]
 pub enum Subcommand {
     /// `run`: run the system of the text with these options, and write the report.
     Run(Options),
-}
-
-impl Subcommand {
-    /// The options of the run.
-    pub fn options(&self) -> Options
-        ensures { self.now ≡ Run result }
-    {
-        match self {
-            Subcommand::Run(options) => *options,
-        }
-    }
+    /// `check`: say whether the schedule behind the text is an execution of its system.
+    Check,
 }
 
 /// What the words choose, the program's name first (profile). `--workers N`, `--steps N` and `--attempts N` have
@@ -82,7 +84,8 @@ fn program<'a>(alloc: Global) -> Result<Command<'a>, AllocError>
         .after_help(STATUSES)
         .subcommand_required(true)
         .arg_required_else_help(true)
-        .subcommand(run(alloc)?)
+        .subcommand(run(alloc)?)?
+        .subcommand(check(alloc)?)
 }
 
 /// The subcommand `run`.
@@ -94,6 +97,17 @@ fn run<'a>(alloc: Global) -> Result<Command<'a>, AllocError>
         .arg(workers_option(alloc))?
         .arg(steps_option(alloc))?
         .arg(attempts_option(alloc))
+}
+
+/// The subcommand `check`.
+fn check<'a>(alloc: Global) -> Result<Command<'a>, AllocError>
+    ensures { IfOk result (λ c. (app_of c ≡ check_app) × ((out-Command c).has_globals ≡ false)) }
+{
+    Ok(
+        Command::new(alloc, "check")
+            .about("Says whether a schedule is an execution of the system of the text before it")
+            .after_help(CHECK_INPUT),
+    )
 }
 
 /// `--workers N`.
@@ -157,6 +171,8 @@ fn choice_of(matches: &ArgMatches<'_>) -> Option<Subcommand>
         let steps = number_given(found, "steps")?;
         let attempts = number_given(found, "attempts")?;
         Some(Subcommand::Run(Options::within(workers, steps, attempts)?))
+    } else if name == "check" {
+        Some(Subcommand::Check)
     } else {
         None
     }

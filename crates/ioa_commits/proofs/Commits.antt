@@ -9,7 +9,7 @@ use Rattle.std.proofs.lemmas.List.{length-append}
 use Rattle.ioa_actions.specs.ActionParts.{node_of}
 use Rattle.ioa_actions.specs.ComponentOrder.{same_component}
 use Rattle.ioa_actions.specs.declared.component.Component.{Component}
-use Rattle.ioa_commits.specs.Own.{own_slots}
+use Rattle.ioa_index.specs.Own.{own_slots}
 use Rattle.ioa_transitions.specs.Entries.{PlainEntry}
 use Rattle.ioa_compose.specs.Composition.{component_names, find_conf, find_confs, joint_answer, put_confs}
 use Rattle.ioa_compose.specs.Executions.{replay}

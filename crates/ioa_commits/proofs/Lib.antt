@@ -1,5 +1,4 @@
 -- the lemmas of this crate
-pub mod Indexes
 pub mod SameConfs
 pub mod Lookups
 pub mod Raises

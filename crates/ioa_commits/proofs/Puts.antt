@@ -12,7 +12,7 @@ use Rattle.ioa_compose.specs.Composition.{component_of, put_conf, put_confs}
 use Rattle.ioa_compose.specs.declared.configuration.Conf.{Conf}
 use Rattle.ioa_commits.specs.Slots.{put_all_held, put_held}
 use Rattle.ioa_commits.specs.Versions.{PlainVersionedConf, read_component, version, with_version}
-use Rattle.ioa_commits.proofs.Lookups.{get_behind, one_more}
+use Rattle.ioa_index.proofs.Slots.{get_behind, one_more}
 
 -- a configuration is put at the slot of its component
 pub record IsPutAt (d : Conf) (held : List PlainVersionedConf) (m : ℕ) (left : List PlainVersionedConf) : Type 0 where

@@ -11,14 +11,14 @@ use Rattle.ioa_actions.specs.declared.action.Action.{Action}
 use Rattle.ioa_actions.specs.declared.action.Action.TheVariants.{Send, Receive, Local, Stimulus}
 use Rattle.ioa_actions.specs.declared.component.Component.{Component}
 use Rattle.ioa_actions.specs.declared.component.Component.TheVariants.{Node, Channel, Script}
-use Rattle.ioa_commits.specs.Own.{concerns, own_slots}
+use Rattle.ioa_index.specs.Own.{concerns, own_slots}
 use Rattle.ioa_transitions.specs.Entries.{PlainEntry}
 use Rattle.ioa_compose.specs.Composition.{component_names, component_of}
 use Rattle.ioa_compose.specs.Participants.{takes_part}
 use Rattle.ioa_compose.specs.declared.configuration.Conf.{Conf}
 use Rattle.ioa_commits.specs.Slots.{next_version, raise_at, raise_found, raise_one}
 use Rattle.ioa_commits.specs.Versions.{PlainVersionedConf, read_component, version, with_version}
-use Rattle.ioa_commits.proofs.Lookups.{get_behind, one_more}
+use Rattle.ioa_index.proofs.Slots.{get_behind, one_more}
 
 -- the version after one more entry
 version_push : (k : Component) (log : List PlainEntry) (e : PlainEntry) → version k (log ++ e ∷ []) ≡ (if takes_part k e.action then version k log + 1 else version k log)

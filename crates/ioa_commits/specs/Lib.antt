@@ -1,6 +1,4 @@
 -- what the contracts of this crate and of those above it cite
-pub mod Own
-pub mod Indexes
 pub mod Versions
 pub mod Books
 pub mod Proposals

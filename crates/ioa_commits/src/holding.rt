@@ -11,11 +11,11 @@ ghost use Rattle.ioa_commits.specs.Proposals.{participants_next, participants_re
 ghost use Rattle.ioa_commits.specs.Slots as spec;
 ghost use Rattle.ioa_commits.specs.Versions.{read_component, with_version};
 
-use crate::index::Index;
 use crate::proposal::Participant;
 use crate::versioned::VersionedConf;
 use ioa_actions::{Action, Component};
 use ioa_compose::{Conf, Parties, participants};
+use ioa_index::Index;
 use ioa_sharing::{MakerOf, Origin};
 use std::alloc::{AllocError, Global};
 use std::sync::Arc;

@@ -11,13 +11,13 @@ ghost use Rattle.ioa_commits.specs.Proposals.{reads_of};
 ghost use Rattle.ioa_commits.specs.Versions.{read_component, with_version};
 
 use crate::holding::{at_slot, components_of, first_versions, put_all, raise_at};
-use crate::index::Index;
 use crate::outcome::{CommitRefusal, Committed, Refused};
 use crate::proposal::Proposal;
 use crate::standing::{Test, refusal_by};
 use crate::versioned::VersionedConf;
 use ioa_actions::Component;
 use ioa_compose::Conf;
+use ioa_index::Index;
 use ioa_rawlog::{RawLog, Spare};
 use ioa_sharing::{MakerOf, Origin};
 use ioa_transitions::Entry;

@@ -7,14 +7,12 @@
 #![tactic(auto)]
 
 mod holding;
-mod index;
 mod journal;
 mod outcome;
 mod proposal;
 mod standing;
 mod versioned;
 
-pub use index::Index;
 pub use journal::Journal;
 pub use outcome::{CommitRefusal, Committed, Refused};
 pub use proposal::{Participant, Proposal};

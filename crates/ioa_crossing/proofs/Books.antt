@@ -33,7 +33,7 @@ use Rattle.ioa_receipts.specs.contracts.receipts.Receipts as Receipts
 use Rattle.ioa_rawlog.specs.contracts.log.RawLog as RawLog
 use Rattle.ioa_rawlog.proofs.log.RawLog.TheSendSync as log
 use Rattle.ioa_commits.specs.contracts.versioned.VersionedConf as VersionedConf
-use Rattle.ioa_commits.specs.contracts.index.Index as Index
+use Rattle.ioa_index.specs.contracts.index.Index as Index
 use Rattle.ioa_commits.specs.contracts.journal.Journal as Journal
 use Rattle.ioa_crossing.proofs.Actions.{owners, values_send, values_sync, node_action_send, node_action_sync, action_send, action_sync}
 use Rattle.ioa_crossing.proofs.Programs.{program_send, program_sync, system_send, system_sync}

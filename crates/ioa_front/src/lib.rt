@@ -15,4 +15,5 @@ mod texts;
 mod writing;
 
 pub use ioa_text_reader::{FrontFault, LeftOut, Source, one_source, parse};
+pub use ioa_tokens::cut_line;
 pub use printing::print;

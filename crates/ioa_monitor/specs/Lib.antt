@@ -4,3 +4,4 @@ pub mod Outcomes
 pub mod Papers
 pub mod Pieces
 pub mod Reports
+pub mod Traces

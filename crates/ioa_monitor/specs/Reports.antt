@@ -9,6 +9,7 @@ use Rattle.ioa_transitions.specs.Entries.{PlainEntry}
 use Rattle.ioa_actions.specs.declared.component.Component.{Component}
 use Rattle.ioa_actions.specs.declared.component.Component.TheVariants as component
 use Rattle.ioa_source.specs.Sides.{CheckedVariable}
+use Rattle.ioa_system.specs.Invariants.{InvariantParts}
 use Rattle.ioa_system.specs.Systems.{ScriptParts, SystemParts, script_of}
 use Rattle.ioa_compose.specs.declared.configuration.Conf.{Conf}
 use Rattle.ioa_compose.specs.declared.configuration.Conf.TheVariants.{Node, Queue}
@@ -17,6 +18,8 @@ use Rattle.ioa_channels.specs.declared.queue.Item.TheVariants.{Message, Stimulus
 use Rattle.ioa_record.specs.declared.ending.Ending.{Ending}
 use Rattle.ioa_record.specs.declared.record.Record.{Record}
 use Rattle.ioa_record.specs.Endings.{ending_text}
+use Rattle.ioa_verdicts.specs.declared.verdict.Verdict.{Verdict}
+use Rattle.ioa_verdicts.specs.Verdicts.{verdict_text, verdicts_of}
 
 -- `k action`, one line an entry, counted from k
 abbrev pub entry_lines : List (List ℕ) → ℕ → List PlainEntry → List ℕ
@@ -86,8 +89,22 @@ commit_lines w (c ∷ more) =
 abbrev pub commits_text : List ℕ → List ℕ
 commits_text commits = commit_lines 0 commits ++ (codes "total " ++ (decimal (sum commits) ++ codes "\n"))
 
--- the whole report
-abbrev pub report_text : SystemParts → Record → List Ending → List ℕ
-report_text s r endings =
+-- `invariant x holds`, or since when it does not
+abbrev pub invariant_line : List ℕ → Verdict → List ℕ
+invariant_line x f = codes "invariant " ++ (x ++ (codes " " ++ (verdict_text f ++ codes "\n")))
+
+-- one line an invariant, in the order of their declaration
+abbrev pub invariant_lines : List InvariantParts → List Verdict → List ℕ
+invariant_lines [] fs = []
+invariant_lines (v ∷ vs) [] = []
+invariant_lines (v ∷ vs) (f ∷ fs) = invariant_line v.name f ++ invariant_lines vs fs
+
+-- what a run left: the schedule, the last states, the endings and the commits
+abbrev pub run_text : SystemParts → Record → List Ending → List ℕ
+run_text s r endings =
     schedule_text s.names r.schedule ++ states_text s r.states.items ++ ending_lines 0 endings
     ++ commits_text r.commits.items
+
+-- the whole report: what a run left, and the verdicts on the invariants along its schedule
+abbrev pub report_text : SystemParts → Record → List Ending → List ℕ
+report_text s r endings = run_text s r endings ++ invariant_lines s.invariants (verdicts_of s r.schedule)

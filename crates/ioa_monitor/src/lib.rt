@@ -1,4 +1,5 @@
-//! The report of a run, put out piece by piece: no text of the whole run, and none of a line, is kept.
+//! The report of a run, put out piece by piece: no text of the whole run, and none of a line, is kept. Beside it the
+//! trace of a run, and what ioa_verdicts and ioa_schedule_check have.
 //!
 //! **A crate of its own**, since reports stand on runs alone, and neither on texts nor on how a system was checked.
 //!
@@ -10,6 +11,7 @@ mod commits;
 mod endings;
 mod fault;
 mod handed;
+mod invariants;
 mod nodes;
 mod outlet;
 mod paper;
@@ -17,7 +19,11 @@ mod piece;
 mod queues;
 mod reporting;
 mod schedule;
+mod traces;
 mod values;
 
 pub use fault::ReportFault;
+pub use ioa_schedule_check::{ScheduleFault, check_schedule, schedule_law};
+pub use ioa_verdicts::{Verdict, verdict_law, verdicts};
 pub use reporting::report;
+pub use traces::trace;

@@ -1,13 +1,14 @@
 //! The report of a run.
 
-ghost use Rattle.std.specs.Prelude.{◌≡◌, false};
+ghost use Rattle.std.specs.Prelude.{◌≡◌, ◌++◌, false};
 ghost use Rattle.ioa_monitor.specs.Outcomes.{PutsOut};
 ghost use Rattle.ioa_monitor.specs.Papers.{and_text};
-ghost use Rattle.ioa_monitor.specs.Reports.{component_lines, report_text, states_text};
+ghost use Rattle.ioa_monitor.specs.Reports.{component_lines, invariant_lines, report_text, run_text, states_text};
 
 use crate::commits::put_commits;
 use crate::endings::put_endings;
 use crate::fault::ReportFault;
+use crate::invariants::put_verdicts;
 use crate::nodes::put_variables;
 use crate::paper::{Paper, room};
 use crate::queues::put_queue;
@@ -16,11 +17,13 @@ use ioa_compose::Conf;
 use ioa_record::{Ending, Record};
 use ioa_streams::{Out, OutFailed};
 use ioa_system::System;
+use ioa_verdicts::{Verdict, verdicts};
 use std::alloc::Global;
 
 /// Puts out the report of a run that left this record, with an ending for each node, node 0 first (profile): the
-/// schedule, the nodes' variables, the channels' queues, what is left of the declared scripts, the endings and the
-/// commits. Memory is asked for once, before anything goes out, and as much for every report.
+/// schedule, the nodes' variables, the channels' queues, what is left of the declared scripts, the endings, the commits,
+/// and the verdicts on the invariants along the schedule. All memory is asked for before anything goes out: as much for
+/// every report, and what the verdicts take if there are invariants.
 pub fn report<O: Out>(
     alloc: Global,
     system: &System,
@@ -32,9 +35,10 @@ pub fn report<O: Out>(
     ensures { PutsOut (report_text system.now run_record.now endings.now)
         (O.bytes out.old) (O.bytes out.new) (O.failed out.new) result }
 {
+    let verdicts = verdicts(alloc, system, run_record)?;
     let room = room(alloc)?;
     let mut paper = Paper::new(out, room);
-    put_report(&mut paper, system, run_record, endings);
+    put_report(&mut paper, system, run_record, endings, &verdicts);
     let (out, outcome) = paper.finish();
     // No effect at run time. The proof reads what `out` holds from the reference that comes back.
     let _ = &*out;
@@ -44,14 +48,29 @@ pub fn report<O: Out>(
     }
 }
 
-/// Writes the report.
+/// Writes the report, if these are the verdicts.
 fn put_report<O: Out>(
     paper: &mut Paper<'_, O>,
     system: &System,
     run_record: &Record,
     endings: &[Ending],
+    verdicts: &[Verdict],
 )
-    ensures { paper.new ≡ and_text paper.old (report_text system.now run_record.now endings.now) }
+    ensures { paper.new ≡ and_text paper.old
+        (run_text system.now run_record.now endings.now ++ invariant_lines system.now.invariants verdicts.now) }
+{
+    put_run(paper, system, run_record, endings);
+    put_verdicts(paper, system.invariants(), verdicts);
+}
+
+/// Writes what a run left.
+fn put_run<O: Out>(
+    paper: &mut Paper<'_, O>,
+    system: &System,
+    run_record: &Record,
+    endings: &[Ending],
+)
+    ensures { paper.new ≡ and_text paper.old (run_text system.now run_record.now endings.now) }
 {
     put_schedule(paper, system.names(), &run_record.schedule);
     put_states(paper, system, &run_record.states);

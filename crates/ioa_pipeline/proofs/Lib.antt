@@ -1,2 +1,3 @@
 -- the lemmas of this crate
+pub mod Refusals
 pub mod Reported

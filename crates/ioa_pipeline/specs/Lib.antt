@@ -1,2 +1,4 @@
 -- what the contracts of this crate and of those above it cite
+pub mod Described
 pub mod WholeRun
+pub mod ScheduleChecks

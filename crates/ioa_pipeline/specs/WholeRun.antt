@@ -1,16 +1,9 @@
 -- What a whole run writes (profile).
-use Rattle.std.specs.Prelude.{◌≡◌, ◌⊎◌, ◌≤◌, ⊤, ℕ, Bool, true, false, List, length, codes}
-use Rattle.std.specs.Prelude.{Option, Result, Ok, Err, MatchResult}
+use Rattle.std.specs.Prelude.{◌≡◌, ⊤, ℕ, Bool, true, false, List, length, codes}
+use Rattle.std.specs.Prelude.{Option, Result, Ok, Err}
 use Rattle.std.specs.Io.KnownBytes.{Keeps, Appends}
-use Rattle.ioa_text_reader.specs.declared.fault.FrontFault.{FrontFault}
-use Rattle.ioa_text_reader.specs.declared.fault.FrontFault.TheVariants as front
 use Rattle.ioa_text_reader.specs.FaultText.{front_fault_text}
-use Rattle.ioa_text_reader.specs.Texts.{TextSpells, StandsInText, is_exact, length_limit}
-use Rattle.ioa_check.specs.declared.fault.CheckFault.{CheckFault}
-use Rattle.ioa_check.specs.declared.fault.CheckFault.TheVariants as check
 use Rattle.ioa_check.specs.Faults.{check_fault_text}
-use Rattle.ioa_check.specs.Systems.{IsSystemOf, SaysNoSystem}
-use Rattle.ioa_system.specs.Declarations.{IsWellDeclared}
 use Rattle.ioa_system.specs.Systems.{SystemParts}
 use Rattle.ioa_shared.specs.declared.finish.FinishFault.{FinishFault}
 use Rattle.ioa_shared.specs.declared.finish.FinishFault.TheVariants as finish
@@ -24,15 +17,9 @@ use Rattle.ioa_streams.specs.Output.{AppendsBeginning}
 use Rattle.ioa_monitor.specs.Reports.{report_text}
 use Rattle.ioa_record.specs.Recorded.{IsOfOneWorker, IsRunOf}
 use Rattle.ioa_solo.specs.Solo.{IsSoloRun}
-use Rattle.ioa_source.specs.Sides.{SourceText}
-
--- a system that a text describes: the tokens of the text spell a source, and the system is that source's; so it
--- declares each thing once
-pub record IsDescribed (text : List ℕ) (s : SystemParts) : Type 0 where
-  pub source : SourceText
-  pub spelled : TextSpells source text
-  pub system : IsSystemOf source s
-  pub declared : IsWellDeclared s
+use Rattle.ioa_pipeline.specs.declared.described.SystemFault.{SystemFault}
+use Rattle.ioa_pipeline.specs.declared.described.SystemFault.TheVariants as system
+use Rattle.ioa_pipeline.specs.Described.{IsDescribed, IsExactBy, IsFaultOfText}
 
 -- what a run of a system that a text describes left, with these options: a count for each worker; one worker alone
 -- makes the run that goes round the nodes
@@ -56,21 +43,11 @@ pub record IsReport (text : List ℕ) (options : PlainOptions) (report : List �
   pub solo : options.workers ≡ 1 → IsSoloRun parts options left endings
   pub written : report ≡ report_text parts left endings
 
--- a fault of reading as a run's: want of memory is one fault wherever it comes
-abbrev pub run_fault_of_front : FrontFault → RunFault
-run_fault_of_front front.Empty = Front front.Empty
-run_fault_of_front (front.BadCharacter offset) = Front (front.BadCharacter offset)
-run_fault_of_front (front.Unexpected offset) = Front (front.Unexpected offset)
-run_fault_of_front (front.NumberTooLarge offset) = Front (front.NumberTooLarge offset)
-run_fault_of_front (front.TooDeep offset) = Front (front.TooDeep offset)
-run_fault_of_front front.TooLong = Front front.TooLong
-run_fault_of_front (front.LeftOut w offset) = Front (front.LeftOut w offset)
-run_fault_of_front front.Memory = Memory
-
--- a fault of the check as a run's
-abbrev pub run_fault_of_check : CheckFault → RunFault
-run_fault_of_check (check.Refused refusal index) = Check (check.Refused refusal index)
-run_fault_of_check check.Memory = Memory
+-- why a text describes no system, as a fault of its run
+abbrev pub run_fault_of_system : SystemFault → RunFault
+run_fault_of_system (system.Front f) = Front f
+run_fault_of_system (system.Check f) = Check f
+run_fault_of_system system.Memory = Memory
 
 -- a fault of finishing as a run's
 abbrev pub run_fault_of_finish : FinishFault → RunFault
@@ -87,21 +64,18 @@ IsFaultOfWorkers workers (Finish f) = workers ≡ 1 → ⊥
 IsFaultOfWorkers workers Memory = ⊤
 IsFaultOfWorkers workers Write = ⊤
 
--- what a fault says of the text: a fault of reading is one of the text, and a fault of the check means that no system
--- is that of a source that the text spells; want of memory, a fault of finishing and a failed write say nothing
+-- what a fault says of the text: that it describes no system, and why; want of memory, a fault of finishing and a
+-- failed write say nothing
 abbrev pub IsRefusalOf : RunFault → List ℕ → Type 0
-IsRefusalOf (Front f) text = (f ≡ front.Memory → ⊥) × StandsInText f text
-IsRefusalOf (Check f) text =
-    (f ≡ check.Memory → ⊥) × (p : SourceText) × TextSpells p text × SaysNoSystem f p
+IsRefusalOf (Front f) text = IsFaultOfText (system.Front f) text
+IsRefusalOf (Check f) text = IsFaultOfText (system.Check f) text
 IsRefusalOf (Finish f) text = f ≡ finish.Memory → ⊥
 IsRefusalOf Memory text = ⊤
 IsRefusalOf Write text = ⊤
 
--- if the text has a fault of reading that is always found, the outcome is that fault, or want of memory for a text
--- within the length limit; so a text that was run has no such fault
+-- a fault of reading that is always found is not passed over
 abbrev pub IsExactFor : {T : Type 0} → Result T RunFault → List ℕ → Type 0
-IsExactFor result text = (e : FrontFault) → is_exact e ≡ true → StandsInText e text →
-    MatchResult result (λ _. ⊥) (λ f. (f ≡ Front e) ⊎ ((f ≡ Memory) × (length text ≤ length_limit)))
+IsExactFor result text = IsExactBy Front Memory result text
 
 -- a fault as text: its number and its name, then its offset or its index if it has one
 abbrev pub run_fault_text : RunFault → List ℕ

@@ -3,17 +3,19 @@
 ghost use Rattle.std.specs.Prelude.{◌≡◌, ℕ, false, IfOk, IfErr};
 ghost use Rattle.std.specs.Arc.{arc_value};
 ghost use Rattle.ioa_monitor.specs.Reports.{report_text};
-ghost use Rattle.ioa_pipeline.specs.WholeRun.{IsDescribed, IsEarly, IsExactFor, IsFaultOfWorkers, IsLeftBy};
+ghost use Rattle.ioa_pipeline.specs.Described.{IsDescribed};
+ghost use Rattle.ioa_pipeline.specs.WholeRun.{IsEarly, IsExactFor, IsFaultOfWorkers, IsLeftBy};
 ghost use Rattle.ioa_pipeline.specs.WholeRun.{IsRefusalOf, WritesReport, WritesText};
 
+use crate::described::{SystemFault, system_of};
 use ioa_boards::Gate;
-use ioa_check::{CheckFault, check};
+use ioa_check::CheckFault;
 use ioa_monitor::{ReportFault, report};
 use ioa_record::{Ending, Options, Record};
 use ioa_shared::FinishFault;
 use ioa_streams::Out;
 use ioa_system::System;
-use ioa_text_reader::{FrontFault, parse};
+use ioa_text_reader::FrontFault;
 use ioa_workers::run;
 use std::alloc::Global;
 use std::fmt;
@@ -53,30 +55,17 @@ impl fmt::Display for RunFault {
     }
 }
 
-impl From<FrontFault> for RunFault {
+impl From<SystemFault> for RunFault {
     ghost use Rattle.std.specs.Prelude.{◌≡◌};
-    ghost use Rattle.ioa_pipeline.specs.WholeRun.{run_fault_of_front};
+    ghost use Rattle.ioa_pipeline.specs.WholeRun.{run_fault_of_system};
 
-    ghost from_gives = { λ e f. f ≡ run_fault_of_front e };
+    ghost from_gives = { λ e f. f ≡ run_fault_of_system e };
 
-    fn from(fault: FrontFault) -> Self {
+    fn from(fault: SystemFault) -> Self {
         match fault {
-            FrontFault::Memory => RunFault::Memory,
-            refusal => RunFault::Front(refusal),
-        }
-    }
-}
-
-impl From<CheckFault> for RunFault {
-    ghost use Rattle.std.specs.Prelude.{◌≡◌};
-    ghost use Rattle.ioa_pipeline.specs.WholeRun.{run_fault_of_check};
-
-    ghost from_gives = { λ e f. f ≡ run_fault_of_check e };
-
-    fn from(fault: CheckFault) -> Self {
-        match fault {
-            CheckFault::Memory => RunFault::Memory,
-            refusal => RunFault::Check(refusal),
+            SystemFault::Front(fault) => RunFault::Front(fault),
+            SystemFault::Check(fault) => RunFault::Check(fault),
+            SystemFault::Memory => RunFault::Memory,
         }
     }
 }
@@ -152,23 +141,22 @@ fn run_of<R: Threads + Wait + Sync, G: Gate + Sync>(
     ensures exact { IsExactFor result text.now }
     ensures alone { IfErr result (λ f. IsFaultOfWorkers options.now.workers f) }
 {
-    let system = system_of(alloc, text)?;
+    let system = system_to_run(alloc, text)?;
     let (record, endings) = run(rt, alloc, &system, options, gate)?;
     Ok((system, record, endings))
 }
 
-/// The system that a text describes.
-fn system_of(alloc: Global, text: &str) -> Result<Arc<System>, RunFault>
+/// The system that a text describes, or why it is not run.
+#[tactic(auto, using(crate::proofs::Refusals::run_rules))]
+fn system_to_run(alloc: Global, text: &str) -> Result<Arc<System>, RunFault>
     ensures described { IfOk result (λ s. IsDescribed text.now (arc_value s)) }
     ensures early { IfErr result (λ f. IsEarly f) }
     ensures refused { IfErr result (λ f. IsRefusalOf f text.now) }
     ensures exact { IsExactFor result text.now }
     ensures calm { IfErr result (λ f. (workers : ℕ) → IsFaultOfWorkers workers f) }
 {
-    let source = parse(alloc, text)?;
-    let system = check(alloc, source.text())?;
-    match Arc::new(alloc, system) {
+    match system_of(alloc, text) {
         Ok(system) => Ok(system),
-        Err(_) => Err(RunFault::Memory),
+        Err(fault) => Err(RunFault::from(fault)),
     }
 }

@@ -9,7 +9,7 @@ use Rattle.std.proofs.lemmas.Option.{get_or_from_slice_get, slice_get-map}
 use Rattle.ioa_actions.specs.ComponentOrder.{same_component}
 use Rattle.ioa_actions.specs.declared.component.Component.{Component}
 use Rattle.ioa_actions.specs.declared.component.Component.TheVariants as variant
-use Rattle.ioa_commits.specs.Indexes.{IsFirst}
+use Rattle.ioa_index.specs.Indexes.{IsFirst}
 use Rattle.ioa_commits.specs.Versions.{PlainVersionedConf, read_component}
 use Rattle.ioa_shared.specs.Passes.{IsSeen, PlainPass, components_seen, older_read, plain_pass, raise_place, raise_seen}
 use Rattle.ioa_shared.specs.Passes.{risen, seen_at, seen_in, seen_of, unseen}

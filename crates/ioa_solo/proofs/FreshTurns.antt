@@ -6,7 +6,7 @@ use Rattle.ioa_values.specs.Data.{Data}
 use Rattle.ioa_actions.specs.declared.component.Component.{Component}
 use Rattle.ioa_actions.specs.declared.component.Component.TheVariants as component
 use Rattle.ioa_actions.proofs.SameComponents.{same_component-itself}
-use Rattle.ioa_commits.specs.Own.{concerns}
+use Rattle.ioa_index.specs.Own.{concerns}
 use Rattle.ioa_terms.specs.Inboxes.{PlainInboxes}
 use Rattle.ioa_channels.specs.Queues.{messages_of}
 use Rattle.ioa_compose.specs.Composition.{component_of, find_conf}

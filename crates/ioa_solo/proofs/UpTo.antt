@@ -23,7 +23,7 @@ use Rattle.ioa_compose.specs.Participants.{participants_of, takes_part}
 use Rattle.ioa_compose.specs.declared.configuration.Conf.{Conf}
 use Rattle.ioa_compose.proofs.Components.{component_of-find_conf}
 use Rattle.ioa_commits.specs.Books.{PlainBook, held_of, states_held}
-use Rattle.ioa_commits.specs.Own.{concerns}
+use Rattle.ioa_index.specs.Own.{concerns}
 use Rattle.ioa_commits.specs.Proposals.{PlainProposal, plain_proposal}
 use Rattle.ioa_commits.specs.Slots.{next_version}
 use Rattle.ioa_commits.specs.Versions.{PlainVersionedConf, read_component, version, with_version}

@@ -1,3 +1,4 @@
 -- lemmas of streams
 mod Appended
+mod Marks
 mod Utf8

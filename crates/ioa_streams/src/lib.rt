@@ -7,7 +7,9 @@
 #![tactic(auto)]
 
 mod input;
+mod input_parts;
 mod output;
 
 pub use input::{INPUT_LIMIT, InputFault, read_input};
+pub use input_parts::parts;
 pub use output::{Out, OutFailed, Over, put_all};

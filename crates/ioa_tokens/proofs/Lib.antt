@@ -3,6 +3,8 @@ pub mod Tables
 pub mod Numbers
 pub mod Sizes
 pub mod Cuts
+pub mod LeastAmount
+pub mod LineCuts
 pub mod Spaces
 pub mod Touching
 pub mod Ends

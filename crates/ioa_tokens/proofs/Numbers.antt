@@ -7,7 +7,7 @@ use Rattle.std.proofs.lemmas.List.{take-append-drop}
 use Rattle.std.proofs.lemmas.Bool.Decides.{nat_tests}
 
 -- a digit's value
-digit_value_is : (c : ℕ) → IsAsciiDigit c → digit_value c ≡ c - 48
+pub digit_value_is : (c : ℕ) → IsAsciiDigit c → digit_value c ≡ c - 48
 digit_value_is c digit = grind (arith, nat_tests, digit)
 
 -- digits leave a value no less than the one before them

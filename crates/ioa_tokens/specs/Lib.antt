@@ -2,5 +2,6 @@
 pub mod Tables
 pub mod Lexeme
 pub mod Tokens
+pub mod LineTokens
 pub mod Written
 pub mod Faults

@@ -41,7 +41,7 @@ fn fixed_token<'a>(word: &[u8]) -> Option<Token<'a>>
 }
 
 /// The number that digits write, if it is not above the greatest.
-fn number(digits: &[u8]) -> Option<i64>
+pub(crate) fn number(digits: &[u8]) -> Option<i64>
     requires { All IsAsciiDigit digits.now }
     ensures { let n = digits_value 10 digits.now in
         SomeIff result (n ≤ spec.greatest_number) (pos n) }

@@ -9,6 +9,7 @@
 mod cut;
 mod fault;
 mod lexeme;
+mod line;
 mod mark;
 mod prefixes;
 mod table;
@@ -17,6 +18,7 @@ mod written;
 
 pub use cut::tokens;
 pub use fault::CutFault;
+pub use line::{cut_line, cut_line_into};
 pub use mark::{LeftOut, Mark};
 pub use token::{LocatedToken, Token, TokenWord};
 pub use written::{Gap, push_mark, push_number, push_word};

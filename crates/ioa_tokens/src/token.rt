@@ -37,7 +37,8 @@ impl<'a> TokenWord<'a> {
 pub enum Token<'a> {
     /// A name.
     Word(TokenWord<'a>),
-    /// A number, at most 9223372036854775807.
+    /// A number from 0 to 9223372036854775807. Behind a `-` in a line it may be -9223372036854775808, whose amount it
+    /// stands for.
     Number(i64),
     /// A sign or a reserved word.
     Mark(Mark),

@@ -2,7 +2,7 @@ use Rattle.std.proofs.Common.{◌≡◌, ◌∙◌, rules}
 use Rattle.ioa_actions.specs.declared.component.Component.TheVariants.{Node}
 use Rattle.ioa_compose.specs.Composition.{component_names}
 use Rattle.ioa_commits.specs.Books.{states_held}
-use Rattle.ioa_commits.specs.Indexes.{has_node}
+use Rattle.ioa_index.specs.Indexes.{has_node}
 use Rattle.ioa_book.proofs.FoundNodes.{held_found}
 use Rattle.ioa_book.proofs.book.Book.has_node.Goals as goal
 

@@ -2,7 +2,7 @@ use Rattle.std.proofs.Common.{◌≡◌, None, rules}
 use Rattle.ioa_actions.specs.ActionParts.{node_of}
 use Rattle.ioa_commits.specs.Books.{plain_book}
 use Rattle.ioa_commits.specs.Commits.{refusal_of}
-use Rattle.ioa_commits.specs.Own.{own_slots}
+use Rattle.ioa_index.specs.Own.{own_slots}
 use Rattle.ioa_commits.specs.Proposals.{participants_next, participants_read}
 use Rattle.ioa_commits.proofs.Commits.{committed, kept_commit, raised_components}
 use Rattle.ioa_commits.proofs.journal.Journal.record.Goals as goal

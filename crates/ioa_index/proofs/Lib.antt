@@ -1,0 +1,3 @@
+-- the lemmas of this crate
+pub mod Indexes
+pub mod Slots

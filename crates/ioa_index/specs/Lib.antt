@@ -1,0 +1,3 @@
+-- what the contracts of this crate and of those above it cite
+pub mod Own
+pub mod Indexes

@@ -1,0 +1,139 @@
+//! A text gone through line by line.
+
+ghost use Rattle.std.specs.Prelude.{◌≡◌, ◌<◌, ◌≤◌, ◌∷◌, IfOk, IfSome, length};
+ghost use Rattle.ioa_values.specs.Outcome.{Answers};
+ghost use Rattle.ioa_tokens.specs.LineTokens.{line_tokens};
+ghost use Rattle.ioa_lines.specs.Lines as spec;
+ghost use Rattle.ioa_lines.specs.Lines.{bytes_behind, lines_behind, lines_left, lines_of};
+
+use crate::action::action_of;
+use crate::fault::LineFault;
+use ioa_actions::Action;
+use ioa_system::System;
+use ioa_tokens::{CutFault, LocatedToken, cut_line_into};
+use std::alloc::Global;
+use std::marker::Model;
+
+/// The lines of a text that are still to be read, and how many with tokens came before them. All lines are cut into one
+/// list of tokens, so that no line takes memory but for its action. A contract sees the lines and the number.
+#[derive(Drop)]
+pub struct ScheduleLines<'a> {
+    /// The text behind the lines that were read; nothing behind the last line.
+    rest: Option<&'a str>,
+    /// The tokens of the line that was read last.
+    tokens: Vec<LocatedToken<'a>>,
+    /// How many lines with tokens were read.
+    count: usize,
+}
+
+impl<'a> Model for ScheduleLines<'a> {
+    ghost use Rattle.ioa_lines.specs.Lines.{LinesLeft, lines_behind, lines_left};
+
+    ghost Value = { LinesLeft };
+
+    ghost view = { λ l. lines_left l.count (lines_behind l.rest) };
+
+    ghost use Rattle.std.specs.Prelude.{◌+◌, ◌<◌, ◌^◌};
+    ghost use Rattle.ioa_lines.specs.Lines.{bytes_behind};
+
+    ghost invariant = { λ l. l.count + bytes_behind l.rest < 2 ^ 64 };
+}
+
+/// The first line of a text, and the text behind it, if the line ends with a line feed.
+fn first_line(text: &str) -> (&str, Option<&str>)
+    ensures lines { lines_of text.now ≡ result.0.now ∷ lines_behind result.1 }
+    ensures fewer { bytes_behind result.1 ≤ length text.now }
+{
+    match text.split_once('\n') {
+        Some((line, rest)) => (line, Some(rest)),
+        None => (text, None),
+    }
+}
+
+/// The action that a line spells, behind `count` others that have tokens; nothing if it has no token.
+fn line_action<'a>(
+    alloc: Global,
+    system: &System,
+    count: usize,
+    line: &'a str,
+    tokens: &mut Vec<LocatedToken<'a>>,
+) -> Result<Option<Action>, LineFault>
+    ensures { Answers LineFault.Memory (λ o. o) result
+        (spec.cut_action system.now count (line_tokens line.now)) }
+{
+    match cut_line_into(line, tokens) {
+        Ok(()) => {}
+        Err(CutFault::Memory) => return Err(LineFault::Memory),
+        Err(CutFault::BadCharacter(_) | CutFault::NumberTooLarge(_)) => {
+            return Err(LineFault::BadLine(count));
+        }
+    }
+    if tokens.is_empty() {
+        return Ok(None);
+    }
+    match action_of(alloc, system, tokens)? {
+        Some(action) => Ok(Some(action)),
+        None => Err(LineFault::BadLine(count)),
+    }
+}
+
+impl<'a> ScheduleLines<'a> {
+    /// The lines of a text.
+    pub fn new(alloc: Global, text: &'a str) -> Self
+        ensures { result ≡ lines_left 0 (lines_of text.now) }
+    {
+        ScheduleLines {
+            rest: Some(text),
+            tokens: Vec::new(alloc),
+            count: 0,
+        }
+    }
+
+    /// How many lines with tokens were read.
+    pub fn count(&self) -> usize
+        ensures { result ≡ self.now.count }
+    {
+        self.count
+    }
+
+    /// Reads on up to the next line that has tokens, and returns the action of the system that it spells. None at the
+    /// end. Returns `BadLine` (61), with how many lines with tokens came before, if the line spells no action of the
+    /// system, and `Memory` (3) if memory runs out; then it is not said what is left.
+    pub fn next(&mut self, alloc: Global, system: &System) -> Result<Option<Action>, LineFault>
+        ensures answer { Answers LineFault.Memory (λ o. (o, self.new)) result (spec.next_answer system.now self.old) }
+        ensures actions { spec.TellsActions system.now self.old result self.new }
+        ensures fewer { IfOk result (λ o. IfSome o (λ _. length self.new.lines < length self.old.lines)) }
+    {
+        self.read_on(alloc, system)
+    }
+
+    /// Reads on up to the next line that has tokens.
+    #[tactic(auto, unfolding(crate::specs::Lines::next_answer))]
+    fn read_on(&mut self, alloc: Global, system: &System) -> Result<Option<Action>, LineFault>
+        ensures { Answers LineFault.Memory (λ o. (o, self.new)) result (spec.next_answer system.now self.old) }
+    {
+        while let Some(text) = self.rest {
+            let (line, rest) = first_line(text);
+            self.rest = rest;
+            if let Some(action) = line_action(alloc, system, self.count, line, &mut self.tokens)? {
+                self.count += 1;
+                return Ok(Some(action));
+            }
+        }
+        Ok(None)
+    }
+}
+
+/// The actions that the lines of a text spell, first to last. Returns `BadLine` (61) at the first line that spells no
+/// action of the system, and `Memory` (3) if memory runs out.
+#[tactic(auto, using(crate::proofs::Left::behind_rules))]
+pub fn actions_of(alloc: Global, system: &System, text: &str) -> Result<Vec<Action>, LineFault>
+    ensures { Answers LineFault.Memory (λ v. v.items) result (spec.lines_answer system.now text.now) }
+{
+    let mut lines = ScheduleLines::new(alloc, text);
+    let mut actions = Vec::new(alloc);
+    while let Some(action) = lines.next(alloc, system)? {
+        actions.push(action)?;
+    }
+    Ok(actions)
+}

@@ -1,0 +1,11 @@
+pub mod WrittenLines
+pub mod Printables
+pub mod ValuePieces
+pub mod GoodPieces
+pub mod ValueSpellings
+pub mod ShapedValues
+pub mod ValuesRead
+pub mod ActionPieces
+pub mod ActionSpellings
+pub mod LineFeeds
+pub mod LinesRead
