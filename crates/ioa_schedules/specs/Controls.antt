@@ -16,6 +16,10 @@ todo_of c = todo_in c.state
 abbrev pub values_of : Control → List Data
 values_of c = values_in c.state
 
+-- the arguments that are kept (view): those of the `fire` at which the last turn ended, if it ended at one
+abbrev pub arguments_of : Control → List Data
+arguments_of c = c.arguments.items
+
 -- where a block is put back to after a fault (view): its copy, if it was copied
 abbrev pub state_before : Bool → Control → State
 state_before true c = c.copy

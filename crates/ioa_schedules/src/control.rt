@@ -6,7 +6,7 @@ ghost use Rattle.ioa_terms.specs.PlainTerm.{fire, terms_of};
 ghost use Rattle.ioa_terms.specs.Resolved.{AreTermsResolved};
 ghost use Rattle.ioa_terms.specs.Stepwise.{stepwise_answers};
 ghost use Rattle.ioa_terms.specs.View.{firing_of, statement_of};
-ghost use Rattle.ioa_schedules.specs.Controls.{state_before, todo_of, values_of};
+ghost use Rattle.ioa_schedules.specs.Controls.{arguments_of, state_before, todo_of, values_of};
 ghost use Rattle.ioa_schedules.specs.Turns as spec;
 ghost use Rattle.ioa_schedules.specs.Positions.{statements_in};
 ghost use Rattle.ioa_schedules.specs.States.{todo_in, values_in};
@@ -16,21 +16,24 @@ ghost use Rattle.ioa_schedules.specs.TurnsByStep.{LeadsOn, stepwise_turn};
 ghost use Rattle.ioa_schedules.specs.Views.{AreResolvedIn, StandsAt, turn_of};
 ghost use Rattle.ioa_terms.specs.Views.{IsNamed, environment_of, names_in_view};
 
+use crate::arguments::evaluate_arguments;
 use crate::position::Position;
 use crate::state::State;
 use crate::step::take_first;
-use crate::turn::{Fired, TURN_LIMIT, Turn};
-use ioa_terms::{Callee, Firing, Shape, Statement, TermFault, Value, View, evaluate_each};
+use crate::turn::{TURN_LIMIT, Turn};
+use ioa_terms::{Callee, Firing, Shape, Statement, TermFault, Value, View};
 use ioa_values::copies;
 use std::alloc::{AllocError, Global};
 use std::mem;
 
 /// A block that runs (profile): what it has still to do, and the values of its own variables. The statements are
-/// the block's own, and none is copied. Beside them is room for a copy, to which the block is put back after a fault.
+/// the block's own, and none is copied. Beside them is room for a copy, to which the block is put back after a fault,
+/// and room for the arguments of a `fire`.
 #[derive(Drop)]
 pub struct Control<'a> {
     pub(crate) state: State<'a>,
     copy: State<'a>,
+    arguments: Vec<Value>,
 }
 
 impl<'a> Control<'a> {
@@ -53,7 +56,24 @@ impl<'a> Control<'a> {
                 position: Position::start(alloc, statements),
                 variables: Vec::new(alloc),
             },
+            arguments: Vec::new(alloc),
         })
+    }
+
+    /// The values of the arguments of the `fire` at which the last turn ended, if it ended at one.
+    pub fn arguments(&self) -> &[Value]
+        ensures { result.now ≡ arguments_of self.now }
+    {
+        &self.arguments
+    }
+
+    /// Takes these values out, with their room: the next ones ask for memory.
+    pub fn take_arguments(&mut self, alloc: Global) -> Vec<Value>
+        ensures arguments { result.items ≡ arguments_of self.old }
+        ensures todo { todo_of self.new ≡ todo_of self.old }
+        ensures values { values_of self.new ≡ values_of self.old }
+    {
+        mem::replace(&mut self.arguments, Vec::new(alloc))
     }
 }
 
@@ -63,7 +83,8 @@ impl<'a> Control<'a> {
 /// value has not the variable's shape, `Range (2)` if a number lies outside 64 bits, an intermediate one too,
 /// and `Memory (3)` if no memory is left. The values of the block's own variables are copied only where the
 /// turn takes a statement, and its statements never. Whole rounds of a `while` that change nothing are counted
-/// and not taken.
+/// and not taken. The arguments of a `fire` are written over those of the one before, in the room that the control
+/// keeps for them.
 #[tactic(auto, using(crate::proofs::Firsts::turn_ends, crate::proofs::ByStep::stepwise_turn_is))]
 pub fn next<'a>(
     alloc: Global,
@@ -73,8 +94,8 @@ pub fn next<'a>(
     requires named { IsNamed view.now (values_of control.old) }
     requires resolved { AreResolvedIn view.now (length (values_of control.old)) (todo_of control.old) }
     ensures turn { Answers TermFault.Memory
-        (turn_of (todo_of control.new) (environment_of view.now (values_of control.new))) result
-        (turn_answer (todo_of control.old) turn_limit (environment_of view.now (values_of control.old))) }
+        (turn_of (todo_of control.new) (environment_of view.now (values_of control.new)) (arguments_of control.new))
+        result (turn_answer (todo_of control.old) turn_limit (environment_of view.now (values_of control.old))) }
     ensures stands { IfOk result (StandsAt (todo_of control.new)) }
     ensures resolved { AreResolvedIn view.now (length (values_of control.new)) (todo_of control.new) }
     ensures kept { length (values_of control.new) ≡ length (values_of control.old) }
@@ -208,8 +229,8 @@ fn turn_here<'a>(
     requires named { IsNamed view.now (values_of control.old) }
     requires resolved { AreResolvedIn view.now (length (values_of control.old)) (todo_of control.old) }
     ensures turn { Answers TermFault.Memory
-        (turn_of (todo_of control.old) (environment_of view.now (values_of control.old))) result
-        (stepwise_turn (todo_of control.old) 0 (environment_of view.now (values_of control.old))) }
+        (turn_of (todo_of control.old) (environment_of view.now (values_of control.old)) (arguments_of control.new))
+        result (stepwise_turn (todo_of control.old) 0 (environment_of view.now (values_of control.old))) }
     ensures stands { IfOk result (StandsAt (todo_of control.old)) }
     ensures state { MatchResult result (λ _. control.new.state ≡ control.old.state)
         (λ _. control.new.state ≡ state_before copied control.old) }
@@ -235,8 +256,8 @@ fn fired<'a>(
     requires resolved { AreTermsResolved (terms_of (firing_of firing.now).arguments) (names_in_view view.now) }
     requires stands { IsAtFiring (firing_of firing.now) (todo_of control.old) }
     ensures turn { Answers TermFault.Memory
-        (turn_of (todo_of control.old) (environment_of view.now (values_of control.old))) result
-        (and_then (stepwise_answers (terms_of (firing_of firing.now).arguments)
+        (turn_of (todo_of control.old) (environment_of view.now (values_of control.old)) (arguments_of control.new))
+        result (and_then (stepwise_answers (terms_of (firing_of firing.now).arguments)
         (environment_of view.now (values_of control.old)))
         (λ vs. Ok (turn_result (fires (firing_of firing.now).kind (firing_of firing.now).action vs)
         (todo_of control.old) (environment_of view.now (values_of control.old))))) }
@@ -244,8 +265,15 @@ fn fired<'a>(
     ensures state { MatchResult result (λ _. control.new.state ≡ control.old.state)
         (λ _. control.new.state ≡ state_before copied control.old) }
 {
-    match evaluate_each(alloc, &firing.arguments, view, &control.state.variables) {
-        Ok(arguments) => Ok(Turn::Fire(Fired { firing, arguments })),
+    let found = evaluate_arguments(
+        alloc,
+        &firing.arguments,
+        view,
+        &control.state.variables,
+        &mut control.arguments,
+    );
+    match found {
+        Ok(()) => Ok(Turn::Fire(firing)),
         Err(fault) => {
             if copied {
                 put_back(control);

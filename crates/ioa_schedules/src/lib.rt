@@ -7,6 +7,7 @@
 //! **Laws**: `turn_law`.
 #![tactic(auto)]
 
+mod arguments;
 mod control;
 mod laws;
 mod lists;
@@ -19,4 +20,4 @@ mod turn;
 pub use control::{Control, next, passed};
 pub use ioa_terms::View;
 pub use laws::turn_law;
-pub use turn::{Fired, TURN_LIMIT, Turn};
+pub use turn::{TURN_LIMIT, Turn};

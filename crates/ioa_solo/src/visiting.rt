@@ -7,7 +7,7 @@ ghost use Rattle.ioa_schedules.specs.Turns.{IsAtFiring};
 ghost use Rattle.ioa_schedules.specs.Views.{StandsAt};
 ghost use Rattle.ioa_terms.specs.View.{firing_of};
 ghost use Rattle.ioa_turns.specs.Fired.{action_fired};
-ghost use Rattle.ioa_turns.specs.NodeTurns.{end_of, progress_of, turn_at};
+ghost use Rattle.ioa_turns.specs.NodeTurns.{arguments_in, end_of, progress_of, turn_at};
 ghost use Rattle.ioa_values.specs.Outcome.{Answers};
 ghost use Rattle.ioa_solo.specs.Fires as spec;
 ghost use Rattle.ioa_solo.specs.Fires.{Comes, IsAfterEnd, IsAfterFire};
@@ -22,9 +22,10 @@ use ioa_boards::{Board, Gate, Place};
 use ioa_book::Snapshot;
 use ioa_rawlog::Spare;
 use ioa_record::{Ending, NodeFault};
-use ioa_schedules::{Fired, Turn};
+use ioa_schedules::Turn;
 use ioa_shared::{Pass, ViewFault};
 use ioa_sharing::Origin;
+use ioa_terms::{Callee, Firing, Shape};
 use ioa_transitions::Entry;
 use ioa_turns::{Progress, turn_of};
 use std::alloc::{AllocError, Global};
@@ -206,8 +207,8 @@ fn after_turn<O: Origin, L: Ledger, B: Board<O, L>, G: Gate>(
         WorksOn (B.tells board.old) hand.old (B.tells board.new) hand.new }
     ensures came { IsToldTo B.told (B.tells board.old) hand.old.pass →
         IsLookAt (B.tells board.old) (progress_of node.old).program.node snapshot.now →
-        OnOk result (IsAfterEnd (B.tells board.old) (progress_of node.old) (end_of turn.entry) (B.tells board.new)
-        (progress_of node.new)) }
+        OnOk result (IsAfterEnd (B.tells board.old) (progress_of node.old) (end_of (arguments_in node.old) turn.entry)
+        (B.tells board.new) (progress_of node.new)) }
 {
     match turn {
         Turn::Done => {
@@ -215,9 +216,9 @@ fn after_turn<O: Origin, L: Ledger, B: Board<O, L>, G: Gate>(
             Ok(())
         }
         Turn::Idle => Ok(()),
-        Turn::Fire(fired) => {
+        Turn::Fire(firing) => {
             go_past(
-                alloc, board, gate, worker, snapshot, node, fired, hand, spare,
+                alloc, board, gate, worker, snapshot, node, firing, hand, spare,
             )
         }
     }
@@ -230,7 +231,7 @@ fn turn_on<'a, O: Origin>(
     node: &mut Progress<'a>,
 ) -> Result<Turn<'a>, NodeFault>
     ensures told { (b : PlainBook) → IsLookAt b (progress_of node.old).program.node snapshot.now →
-        Answers NodeFault.Memory (λ t. (end_of t, progress_of node.new)) result
+        Answers NodeFault.Memory (λ t. (end_of (arguments_in node.new) t, progress_of node.new)) result
         (turn_at (states_held b) (progress_of node.old)) }
     ensures stands { IfOk result (StandsAt (progress_of node.new).todo) }
     ensures kept { node.new.attempts ≡ node.old.attempts }
@@ -250,11 +251,11 @@ fn go_past<O: Origin, L: Ledger, B: Board<O, L>, G: Gate>(
     worker: usize,
     snapshot: &Snapshot<O>,
     node: &mut Progress,
-    fired: Fired,
+    firing: &Firing<usize, Callee, Shape>,
     hand: &mut Hand<L>,
     spare: &mut Option<Spare<Entry>>,
 ) -> Result<(), AllocError>
-    requires stands { IsAtFiring (firing_of fired.firing.now) (progress_of node.old).todo }
+    requires stands { IsAtFiring (firing_of firing.now) (progress_of node.old).todo }
     requires under_way { node.old.ending ≡ None }
     ensures gained { Gains 1 0 hand.old hand.new }
     ensures kept { node.new.attempts ≡ node.old.attempts }
@@ -266,10 +267,10 @@ fn go_past<O: Origin, L: Ledger, B: Board<O, L>, G: Gate>(
     ensures passed { IsToldTo B.told (B.tells board.old) hand.old.pass →
         IsLookAt (B.tells board.old) (progress_of node.old).program.node snapshot.now →
         OnOk result (IsAfterFire (B.tells board.old) (progress_of node.old)
-        (action_fired (progress_of node.old).program (firing_of fired.entry.firing.now).action
-        fired.entry.arguments.items) (B.tells board.new) (progress_of node.new)) }
+        (action_fired (progress_of node.old).program (firing_of firing.now).action (arguments_in node.old))
+        (B.tells board.new) (progress_of node.new)) }
 {
-    let action = node.action_fired(alloc, fired)?;
+    let action = node.action_fired(alloc, firing)?;
     match snapshot.propose(alloc, &action) {
         Ok(proposal) => commit(alloc, board, gate, worker, proposal, node, hand, spare),
         Err(fault) => after_fault(node, fault),

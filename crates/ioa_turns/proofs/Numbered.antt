@@ -12,7 +12,7 @@ use Rattle.ioa_terms.specs.declared.callee.Callee.{Callee}
 use Rattle.ioa_terms.specs.Bindings.{Bindings}
 use Rattle.ioa_terms.specs.Meaning.{values}
 use Rattle.ioa_terms.specs.Performance.{after_one, by_test, test_value}
-use Rattle.ioa_terms.specs.PlainTerm.{PlainStatement, PlainStatements, PlainArms, PlainFiring, assign, branch, loop, fire, no_statements, statement, no_arms, arm, terms_of}
+use Rattle.ioa_terms.specs.PlainTerm.{PlainStatement, PlainStatements, PlainArms, assign, branch, loop, fire, no_statements, statement, no_arms, arm, terms_of}
 use Rattle.ioa_system.specs.Numbered.{IsNumbered, AreArmsNumbered, AreNumbered}
 use Rattle.ioa_system.specs.Parts.{PlainRule}
 use Rattle.ioa_schedules.specs.Turns.{TurnResult, turn_result, fires, joined_statements, following_statements, choice, after_step, numbers_met_by_turn, turn, turn_answer}
@@ -75,10 +75,10 @@ module _ (rules : List PlainRule) where
       and_then_holds IsLeftNumbered IsTurnNumbered (λ p. turn p.0 n p.1) (after_step (loop t body) rest e) (step_numbered (loop t body) rest e h.0 h.1) (λ p k. turn_kept p.0 n p.1 k)
 
   -- where a turn ends
-  todo_left : (next : PlainStatements ℕ Callee Shape) (d : Bindings) (t : Turn) → (turn_of next d t).todo ≡ next
-  todo_left next d (turned.Fire f) = refl
-  todo_left next d turned.Idle = refl
-  todo_left next d turned.Done = refl
+  todo_left : (next : PlainStatements ℕ Callee Shape) (d : Bindings) (vs : List Data) (t : Turn) → (turn_of next d vs t).todo ≡ next
+  todo_left next d vs (turned.Fire f) = refl
+  todo_left next d vs turned.Idle = refl
+  todo_left next d vs turned.Done = refl
 
   answered : (ds : List Data) (o : Option TurnResult) (r : TurnResult) → (if list_all is_within ds then ok_or o Undefined else Err Range) ≡ Ok r → IfSome o IsTurnNumbered → IsTurnNumbered r
   answered ds o r = by_range (list_all is_within ds) o
@@ -88,11 +88,11 @@ module _ (rules : List PlainRule) where
       by_range true None h k = absurd (cc)
       by_range false o h k = absurd (cc)
 
-  turn_numbered : (todo next : PlainStatements ℕ Callee Shape) (n : ℕ) (e d : Bindings) (t : Turn) → turn_answer todo n e ≡ Ok (turn_of next d t) → AreNumbered rules todo → AreNumbered rules next
-  turn_numbered todo next n e d t h k =
-      subst (AreNumbered rules) (todo_left next d t) (answered (numbers_met_by_turn todo n e) (turn todo n e) (turn_of next d t) h (turn_kept todo n e k))
+  turn_numbered : (todo next : PlainStatements ℕ Callee Shape) (n : ℕ) (e d : Bindings) (vs : List Data) (t : Turn) → turn_answer todo n e ≡ Ok (turn_of next d vs t) → AreNumbered rules todo → AreNumbered rules next
+  turn_numbered todo next n e d vs t h k =
+      subst (AreNumbered rules) (todo_left next d vs t) (answered (numbers_met_by_turn todo n e) (turn todo n e) (turn_of next d vs t) h (turn_kept todo n e k))
 
   -- what is left after a turn, or after a fault, which leaves all as it was
-  pub left_numbered : (todo next : PlainStatements ℕ Callee Shape) (n : ℕ) (e d : Bindings) (r : Result Turn TermFault) → Answers Memory (turn_of next d) r (turn_answer todo n e) → IfErr r (λ _. next ≡ todo) → AreNumbered rules todo → AreNumbered rules next
-  left_numbered todo next n e d (Ok t) h k numbered = turn_numbered todo next n e d t h numbered
-  left_numbered todo next n e d (Err f) h k numbered = subst (AreNumbered rules) (sym k) numbered
+  pub left_numbered : (todo next : PlainStatements ℕ Callee Shape) (n : ℕ) (e d : Bindings) (vs : List Data) (r : Result Turn TermFault) → Answers Memory (turn_of next d vs) r (turn_answer todo n e) → IfErr r (λ _. next ≡ todo) → AreNumbered rules todo → AreNumbered rules next
+  left_numbered todo next n e d vs (Ok t) h k numbered = turn_numbered todo next n e d vs t h numbered
+  left_numbered todo next n e d vs (Err f) h k numbered = subst (AreNumbered rules) (sym k) numbered

@@ -142,19 +142,19 @@ module _ (p : Parts) (seen : Option PlainInboxes) (variables : List Data) (v : V
       rw (sees.names, sees.inboxes, sees.first, sees.second, sees.constants, append_assoc values (inbox_values seen) (variables ++ p.arguments)) refl
 
 -- where a turn leaves a node
-reached_by : (p : PlainProgress) (todo : PlainStatements ℕ Callee Shape) (e : Bindings) (t : Turn) → reached p (Ok (turn_of todo e t)) ≡ Ok (end_of t, record p { todo = todo; own = own_values (length p.own) e })
-reached_by p todo e (turn.Fire f) = refl
-reached_by p todo e turn.Idle = refl
-reached_by p todo e turn.Done = refl
+reached_by : (p : PlainProgress) (todo : PlainStatements ℕ Callee Shape) (e : Bindings) (vs : List Data) (t : Turn) → reached p (Ok (turn_of todo e vs t)) ≡ Ok (end_of vs t, record p { todo = todo; own = own_values (length p.own) e })
+reached_by p todo e vs (turn.Fire f) = refl
+reached_by p todo e vs turn.Idle = refl
+reached_by p todo e vs turn.Done = refl
 
 module _ (p : PlainProgress) (seen : Option PlainInboxes) (variables : List Data) (v : View) (sees : Sees p.program seen variables v) where
-  pub turn_told : (todo : PlainStatements ℕ Callee Shape) (values : List Data) (t : Turn) → turn_answer p.todo turn_limit (environment_of v p.own) ≡ Ok (turn_of todo (environment_of v values) t) → length values ≡ length p.own → IsNamed v values →
-      block_turn p seen variables ≡ Ok (end_of t, record p { todo = todo; own = values })
-  turn_told todo values t h same named =
+  pub turn_told : (todo : PlainStatements ℕ Callee Shape) (values vs : List Data) (t : Turn) → turn_answer p.todo turn_limit (environment_of v p.own) ≡ Ok (turn_of todo (environment_of v values) vs t) → length values ≡ length p.own → IsNamed v values →
+      block_turn p seen variables ≡ Ok (end_of vs t, record p { todo = todo; own = values })
+  turn_told todo values vs t h same named =
       ap (λ (e : Bindings). reached p (turn_answer p.todo turn_limit e)) (sym (sees_bindings p.program seen variables v sees p.own))
       ∙ ap (λ (r : Result _ TermFault). reached p r) h
-      ∙ reached_by p todo (environment_of v values) t
-      ∙ ap (λ (ds : List Data). Ok (end_of t, record p { todo = todo; own = ds }))
+      ∙ reached_by p todo (environment_of v values) vs t
+      ∙ ap (λ (ds : List Data). Ok (end_of vs t, record p { todo = todo; own = ds }))
       (rw (← same) (own_of v.names (values ++ lent_values v.lent) v.constants.now values (lent_values v.lent) refl named))
 
   pub turn_missed : (f : TermFault) → turn_answer p.todo turn_limit (environment_of v p.own) ≡ Err f → block_turn p seen variables ≡ reached p (Err f)

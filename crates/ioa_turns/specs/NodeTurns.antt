@@ -19,7 +19,7 @@ use Rattle.ioa_record.specs.NodeFaults.{fault_of_term}
 use Rattle.ioa_record.specs.declared.ending.Ending.{Ending}
 use Rattle.ioa_record.specs.declared.ending.NodeFault.{NodeFault}
 use Rattle.ioa_record.specs.declared.ending.NodeFault.TheVariants.{Differs, Unknown}
-use Rattle.ioa_schedules.specs.Controls.{todo_of, values_of}
+use Rattle.ioa_schedules.specs.Controls.{arguments_of, todo_of, values_of}
 use Rattle.ioa_schedules.specs.Turns.{TurnEnd, TurnResult, fires, idle, done, following_statements, turn_answer, turn_limit}
 use Rattle.ioa_schedules.specs.declared.turn.Turn.{Turn}
 use Rattle.ioa_schedules.specs.declared.turn.Turn.TheVariants as turn
@@ -44,6 +44,10 @@ progress_of p = record {
   attempts = p.attempts;
   ending = p.ending;
 }
+
+-- the arguments that a node keeps (view): those of the `fire` at which its last turn ended, if it ended at one
+abbrev pub arguments_in : Progress → List Data
+arguments_in p = arguments_of p.control
 
 -- a node before a run: all of its block is to do, the block's variables have their first values, and the node has all
 -- its attempts
@@ -95,8 +99,8 @@ turn_on p inboxes None = Err Unknown
 abbrev pub turn_at : List Conf → PlainProgress → Result (TurnEnd × PlainProgress) NodeFault
 turn_at states p = turn_on p (inboxes_seen p.program states) (find_conf (component.Node p.program.node) states)
 
--- how a turn ends (view)
-abbrev pub end_of : Turn → TurnEnd
-end_of (turn.Fire f) = fires (firing_of f.firing.now).kind (firing_of f.firing.now).action f.arguments.items
-end_of turn.Idle = idle
-end_of turn.Done = done
+-- how a turn ends, if these are the arguments of a `fire` (view)
+abbrev pub end_of : List Data → Turn → TurnEnd
+end_of vs (turn.Fire f) = fires (firing_of f.now).kind (firing_of f.now).action vs
+end_of vs turn.Idle = idle
+end_of vs turn.Done = done

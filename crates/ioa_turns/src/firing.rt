@@ -11,11 +11,10 @@ ghost use Rattle.ioa_schedules.specs.Turns.{IsAtFiring};
 ghost use Rattle.ioa_system.specs.Numbered.{IsNumberOf};
 ghost use Rattle.ioa_terms.specs.View.{firing_of};
 ghost use Rattle.ioa_turns.specs.Fired as spec;
-ghost use Rattle.ioa_turns.specs.NodeTurns.{progress_of};
+ghost use Rattle.ioa_turns.specs.NodeTurns.{arguments_in, progress_of};
 
 use crate::progress::{LastFired, Progress};
 use ioa_actions::Action;
-use ioa_schedules::Fired;
 use ioa_system::{Program, Rule};
 use ioa_terms::{Callee, Firing, Kind, Shape, Value};
 use std::alloc::{AllocError, Global};
@@ -51,18 +50,25 @@ fn is_input(rule: Option<&Rule>) -> bool
 }
 
 impl Progress<'_> {
-    /// The action of a firing at which the node stands. If it is the one that the node fired last, that gets one more
-    /// owner, and nothing is built.
-    pub fn action_fired(&mut self, alloc: Global, fired: Fired) -> Result<Arc<Action>, AllocError>
-        requires { IsAtFiring (firing_of fired.firing.now) (progress_of self.old).todo }
+    /// The action of a firing at which the node stands, with the arguments that its turn found. If it is the one that
+    /// the node fired last, that gets one more owner, and nothing is built. Else the arguments become those of the
+    /// action.
+    pub fn action_fired(
+        &mut self,
+        alloc: Global,
+        firing: &Firing<usize, Callee, Shape>,
+    ) -> Result<Arc<Action>, AllocError>
+        requires { IsAtFiring (firing_of firing.now) (progress_of self.old).todo }
         ensures action { IfOk result (λ a. arc_value a ≡ spec.action_fired (progress_of self.old).program
-            (firing_of fired.entry.firing.now).action fired.entry.arguments.items) }
+            (firing_of firing.now).action (arguments_in self.old)) }
         ensures unchanged { progress_of self.new ≡ progress_of self.old }
     {
-        let Fired { firing, arguments } = fired;
-        match self.last_fired(firing, &arguments) {
+        match self.last_fired(firing, self.control.arguments()) {
             Some(action) => Arc::try_clone(action),
-            None => self.fire_anew(alloc, firing, arguments),
+            None => {
+                let arguments = self.control.take_arguments(alloc);
+                self.fire_anew(alloc, firing, arguments)
+            }
         }
     }
 

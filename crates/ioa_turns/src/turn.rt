@@ -11,7 +11,7 @@ ghost use Rattle.ioa_schedules.specs.Controls.{todo_of};
 ghost use Rattle.ioa_schedules.specs.Views.{StandsAt};
 ghost use Rattle.ioa_turns.specs.Inboxes.{inbox_at, inbox_of, inboxes_in, inboxes_seen, one_or_none};
 ghost use Rattle.ioa_turns.specs.NodeTurns as spec;
-ghost use Rattle.ioa_turns.specs.NodeTurns.{end_of, progress_of};
+ghost use Rattle.ioa_turns.specs.NodeTurns.{arguments_in, end_of, progress_of};
 ghost use Rattle.ioa_commits.specs.Versions.{read_confs};
 
 use crate::progress::Progress;
@@ -139,8 +139,8 @@ pub fn turn_of<'a, O: Origin>(
     snapshot: &Snapshot<O>,
     node: &mut Progress<'a>,
 ) -> Result<Turn<'a>, NodeFault>
-    ensures turn { Answers NodeFault.Memory (λ t. (end_of t, progress_of node.new)) result
-        (spec.turn_at (read_confs snapshot.now.reads) (progress_of node.old)) }
+    ensures turn { Answers NodeFault.Memory (λ t. (end_of (arguments_in node.new) t, progress_of node.new))
+        result (spec.turn_at (read_confs snapshot.now.reads) (progress_of node.old)) }
     ensures stands { IfOk result (StandsAt (progress_of node.new).todo) }
     ensures same_program { (progress_of node.new).program ≡ (progress_of node.old).program }
     ensures same_ending { node.new.ending ≡ node.old.ending }
@@ -160,8 +160,8 @@ fn turn_on<'a, O: Origin>(
     conf: &NodeConf,
     node: &mut Progress<'a>,
 ) -> Result<Turn<'a>, NodeFault>
-    ensures turn { Answers NodeFault.Memory (λ t. (end_of t, progress_of node.new)) result
-        (spec.turn_on (progress_of node.old) (inboxes_seen node.old.program.now (read_confs snapshot.now.reads))
+    ensures turn { Answers NodeFault.Memory (λ t. (end_of (arguments_in node.new) t, progress_of node.new))
+        result (spec.turn_on (progress_of node.old) (inboxes_seen node.old.program.now (read_confs snapshot.now.reads))
         (Some (Conf.Node conf.now))) }
     ensures stands { IfOk result (StandsAt (todo_of node.new.control)) }
     ensures same_program { node.new.program.now ≡ node.old.program.now }
@@ -191,9 +191,9 @@ fn turn_among<'a, O: Origin>(
     node: &mut Progress<'a>,
 ) -> Result<Turn<'a>, NodeFault>
     requires { length conf.now.variables ≡ length node.old.program.now.automaton.variables }
-    ensures turn { Answers NodeFault.Memory (λ t. (end_of t, progress_of node.new)) result
-        (spec.block_turn (progress_of node.old) (inboxes_seen node.old.program.now (read_confs snapshot.now.reads))
-        conf.now.variables) }
+    ensures turn { Answers NodeFault.Memory (λ t. (end_of (arguments_in node.new) t, progress_of node.new))
+        result (spec.block_turn (progress_of node.old)
+        (inboxes_seen node.old.program.now (read_confs snapshot.now.reads)) conf.now.variables) }
     ensures stands { IfOk result (StandsAt (todo_of node.new.control)) }
     ensures same_program { node.new.program.now ≡ node.old.program.now }
     ensures same_ending { node.new.ending ≡ node.old.ending }
@@ -215,8 +215,8 @@ fn turn_by_inboxes<'a, O: Origin>(
 ) -> Result<Turn<'a>, NodeFault>
     requires valued { length conf.now.variables ≡ length node.old.program.now.automaton.variables }
     requires takes { is_some (message_shape node.old.program.now.automaton.rules) ≡ true }
-    ensures turn { Answers NodeFault.Memory (λ t. (end_of t, progress_of node.new)) result
-        (spec.block_turn (progress_of node.old)
+    ensures turn { Answers NodeFault.Memory (λ t. (end_of (arguments_in node.new) t, progress_of node.new))
+        result (spec.block_turn (progress_of node.old)
         (Some (inboxes_in node.old.program.now.node (read_confs snapshot.now.reads))) conf.now.variables) }
     ensures stands { IfOk result (StandsAt (todo_of node.new.control)) }
     ensures same_program { node.new.program.now ≡ node.old.program.now }
@@ -239,8 +239,8 @@ fn turn_by_all_inboxes<'a, O: Origin>(
 ) -> Result<Turn<'a>, NodeFault>
     requires valued { length conf.now.variables ≡ length node.old.program.now.automaton.variables }
     requires takes { is_some (message_shape node.old.program.now.automaton.rules) ≡ true }
-    ensures turn { Answers NodeFault.Memory (λ t. (end_of t, progress_of node.new)) result
-        (spec.block_turn (progress_of node.old)
+    ensures turn { Answers NodeFault.Memory (λ t. (end_of (arguments_in node.new) t, progress_of node.new))
+        result (spec.block_turn (progress_of node.old)
         (Some (inboxes_in node.old.program.now.node (read_confs snapshot.now.reads))) conf.now.variables) }
     ensures stands { IfOk result (StandsAt (todo_of node.new.control)) }
     ensures same_program { node.new.program.now ≡ node.old.program.now }
@@ -262,8 +262,8 @@ fn block_turn<'a>(
 ) -> Result<Turn<'a>, NodeFault>
     requires valued { length conf.now.variables ≡ length node.old.program.now.automaton.variables }
     requires seen { is_some inboxes ≡ is_some (message_shape node.old.program.now.automaton.rules) }
-    ensures turn { Answers NodeFault.Memory (λ t. (end_of t, progress_of node.new)) result
-        (spec.block_turn (progress_of node.old) (option_map (λ is. inboxes_of is.now) inboxes.entry)
+    ensures turn { Answers NodeFault.Memory (λ t. (end_of (arguments_in node.new) t, progress_of node.new))
+        result (spec.block_turn (progress_of node.old) (option_map (λ is. inboxes_of is.now) inboxes.entry)
         conf.now.variables) }
     ensures stands { IfOk result (StandsAt (todo_of node.new.control)) }
     ensures same_program { node.new.program.now ≡ node.old.program.now }

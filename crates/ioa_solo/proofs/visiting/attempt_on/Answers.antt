@@ -1,6 +1,6 @@
 use Rattle.std.proofs.Common.{refl}
 use Rattle.ioa_book.specs.Looks.{IsLookAt}
-use Rattle.ioa_turns.specs.NodeTurns.{end_of, progress_of}
+use Rattle.ioa_turns.specs.NodeTurns.{arguments_in, end_of, progress_of}
 use Rattle.ioa_solo.proofs.GoesOn.{goes_nowhere}
 use Rattle.ioa_solo.proofs.Rounds.{if_failed}
 use Rattle.ioa_solo.proofs.ToldTurns.{turn_came, turn_failed}
@@ -15,7 +15,7 @@ pub returns-in-Ok-clause-attempted : goal.returns-in-Ok-clause-attempted
 returns-in-Ok-clause-attempted g c = λ t fresh.
     let still : IsLookAt (g.B.Board.tells c.args.board.now) (progress_of c.turn_on.new.node).program.node c.args.snapshot.now = rw c.turn_on.ensures.same_program fresh in
     turn_came c.after_turn.result (g.B.Board.tells c.args.board.now) (g.B.Board.tells c.after_turn.new.board) (progress_of c.args.node.now) (progress_of c.turn_on.new.node) (progress_of c.after_turn.new.node)
-    (end_of c.in-Ok.turn) (c.in-Ok.ensures.told (g.B.Board.tells c.args.board.now) fresh) (c.after_turn.ensures.came t still)
+    (end_of (arguments_in c.turn_on.new.node) c.in-Ok.turn) (c.in-Ok.ensures.told (g.B.Board.tells c.args.board.now) fresh) (c.after_turn.ensures.came t still)
 
 pub returns-in-Err-clause-goes : goal.returns-in-Err-clause-goes
 returns-in-Err-clause-goes g c = λ t fresh. goes_nowhere _ _ _ _ _ refl refl t.not_ahead

@@ -1,0 +1,48 @@
+//! The arguments of a `fire`.
+
+ghost use Rattle.std.specs.Prelude.{◌≡◌, ◌≤◌, ◌<◌, ◌+◌, ◌++◌, ◌∷◌, [], OnOk, length, map, take};
+ghost use Rattle.ioa_values.specs.Outcome.{Answers};
+ghost use Rattle.ioa_terms.specs.PlainTerm.{terms_of};
+ghost use Rattle.ioa_terms.specs.Resolved.{AreTermsResolved};
+ghost use Rattle.ioa_terms.specs.Stepwise.{stepwise_answers};
+ghost use Rattle.ioa_terms.specs.View.{term_of};
+ghost use Rattle.ioa_terms.specs.Views.{IsNamed, environment_of, names_in_view};
+
+use ioa_terms::{Checked, TermFault, Value, View, evaluate};
+use std::alloc::{AllocError, Global};
+
+/// Evaluates terms, in order, and writes their values in the place of those that are there. The list takes no memory if
+/// it has the room. The first fault is returned, and the values are some values then.
+pub(crate) fn evaluate_arguments(
+    alloc: Global,
+    terms: &Vec<Checked>,
+    view: &View,
+    values: &[Value],
+    found: &mut Vec<Value>,
+) -> Result<(), TermFault>
+    requires named { IsNamed view.now values.now }
+    requires resolved { AreTermsResolved (terms_of (map term_of terms.now.items)) (names_in_view view.now) }
+    ensures { Answers TermFault.Memory (λ _. found.new.items) result
+        (stepwise_answers (terms_of (map term_of terms.now.items)) (environment_of view.now values.now)) }
+{
+    for position in 0..terms.len() {
+        let value = evaluate(alloc, &terms[position], view, values)?;
+        put(value, position, found)?;
+    }
+    found.truncate(terms.len());
+    Ok(())
+}
+
+/// Writes a value over the one at a position, or behind the others.
+fn put(value: Value, position: usize, values: &mut Vec<Value>) -> Result<(), AllocError>
+    requires { position ≤ length values.old.items }
+    ensures first { OnOk result (take (position + 1) values.new.items ≡ take position values.old.items ++ value ∷ []) }
+    ensures further { OnOk result (position < length values.new.items) }
+{
+    if position < values.len() {
+        values[position] = value;
+        return Ok(());
+    }
+    values.push(value)?;
+    Ok(())
+}
