@@ -21,8 +21,8 @@ pub fn printed_value_law()
         IsReadBack names s v (text names v) }
 {}
 
-/// The schedule that a run prints is read back: its lines spell the actions that were printed, one by one, and these
-/// are read from it.
+/// The printed schedule of a text's system is read back, if each action may be taken. Its lines spell the actions that
+/// were printed, one by one, and these are read from it. That the actions of a run may be taken is not proved here.
 pub fn printed_lines_law()
     ensures spelled { (s : SystemParts) (k : ℕ) (actions : List Action) → IsTextSystem s →
         AllByRecursion (MayTake s) actions → k + length actions ≤ greatest_number →
