@@ -18,7 +18,8 @@ pub fn reading_law()
         read_value names s xs ≡ Some (v, ys) → SpellsValue names v xs ys × (has_shape (wide_shape s) v ≡ true) }
     ensures complete { (names : List (List ℕ)) (s : PlainShape) (v : Data) (xs ys : List Token) →
         SpellsValue names v xs ys → has_shape (wide_shape s) v ≡ true → read_value names s xs ≡ Some (v, ys) }
-    ensures ascends { (names : List (List ℕ)) (v : Data) (xs ys : List Token) → SpellsValue names v xs ys → IsCanonical v }
+    ensures ascends { (names : List (List ℕ)) (v : Data) (xs ys : List Token) →
+        SpellsValue names v xs ys → IsCanonical v }
 {}
 
 /// The constant of a name has that name. If no two constants have one name, each is the constant of its name.
