@@ -1,6 +1,2 @@
 -- the lemmas of this crate
-pub mod Listed
-pub mod Papers
-pub mod Pieces
 pub mod QueueTexts
-pub mod Sent

@@ -10,9 +10,9 @@ use Rattle.ioa_channels.specs.declared.queue.Item.{Item}
 use Rattle.ioa_channels.specs.declared.queue.Item.TheVariants.{Message, Stimulus}
 use Rattle.ioa_channels.specs.Queues.{queue_items}
 use Rattle.ioa_channels.proofs.Parts.{one_more_message, length_of_parts}
-use Rattle.ioa_monitor.specs.Papers.{PlainPaper, and_text}
+use Rattle.ioa_paper.specs.Papers.{PlainPaper, and_text}
 use Rattle.ioa_monitor.specs.Reports.{item_text}
-use Rattle.ioa_monitor.proofs.Listed.{written_more}
+use Rattle.ioa_paper.proofs.Listed.{written_more}
 
 -- the text of one more item
 one_more : (names : List (List ℕ)) (items : List Item) (x : Item) → with_commas (map (item_text names) (items ++ x ∷ [])) ≡ with_commas (map (item_text names) items) ++ (separator (length items) ++ item_text names x)

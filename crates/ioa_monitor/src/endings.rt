@@ -3,10 +3,10 @@
 ghost use Rattle.std.specs.Prelude.{◌≡◌, ◌++◌, codes};
 ghost use Rattle.std.specs.Fmt.{decimal};
 ghost use Rattle.ioa_record.specs.Endings.{ending_text, fault_name};
-ghost use Rattle.ioa_monitor.specs.Papers.{and_text};
+ghost use Rattle.ioa_paper.specs.Papers.{and_text};
 ghost use Rattle.ioa_monitor.specs.Reports.{ending_lines};
 
-use crate::paper::Paper;
+use ioa_paper::Paper;
 use ioa_record::{Ending, NodeFault};
 use ioa_streams::Out;
 

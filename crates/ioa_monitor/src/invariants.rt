@@ -2,11 +2,11 @@
 
 ghost use Rattle.std.specs.Prelude.{◌≡◌, ◌++◌};
 ghost use Rattle.std.specs.Fmt.{decimal};
-ghost use Rattle.ioa_monitor.specs.Papers.{and_text};
+ghost use Rattle.ioa_paper.specs.Papers.{and_text};
 ghost use Rattle.ioa_monitor.specs.Reports.{invariant_line, invariant_lines};
 ghost use Rattle.ioa_verdicts.specs.Verdicts.{verdict_text};
 
-use crate::paper::Paper;
+use ioa_paper::Paper;
 use ioa_streams::Out;
 use ioa_system::CompiledInvariant;
 use ioa_verdicts::Verdict;

@@ -6,23 +6,16 @@
 //! **Must not know**: how a run was made.
 #![tactic(auto)]
 
-mod actions;
 mod commits;
 mod endings;
-mod fault;
-mod handed;
 mod invariants;
 mod nodes;
-mod outlet;
-mod paper;
-mod piece;
 mod queues;
 mod reporting;
 mod schedule;
 mod traces;
-mod values;
 
-pub use fault::ReportFault;
+pub use ioa_paper::ReportFault;
 pub use ioa_schedule_check::{ScheduleFault, check_schedule, schedule_law};
 pub use ioa_verdicts::{Verdict, verdict_law, verdicts};
 pub use reporting::report;

@@ -3,11 +3,10 @@
 ghost use Rattle.std.specs.Prelude.{◌≡◌, ◌++◌, codes, map};
 ghost use Rattle.ioa_source.specs.TextView.{variable_of};
 ghost use Rattle.ioa_values.specs.Text.{text};
-ghost use Rattle.ioa_monitor.specs.Papers.{and_text};
+ghost use Rattle.ioa_paper.specs.Papers.{and_text};
 ghost use Rattle.ioa_monitor.specs.Reports.{variable_line, variable_lines};
 
-use crate::paper::Paper;
-use crate::values::put_value;
+use ioa_paper::{Paper, put_value};
 use ioa_source::Variable;
 use ioa_streams::Out;
 use ioa_terms::{Callee, Shape};

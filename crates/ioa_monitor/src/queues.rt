@@ -3,14 +3,12 @@
 ghost use Rattle.std.specs.Prelude.{◌≡◌, ◌++◌, codes, map};
 ghost use Rattle.std.specs.Fmt.{decimal, signed_decimal};
 ghost use Rattle.ioa_values.specs.Text.{with_commas};
-ghost use Rattle.ioa_monitor.specs.Papers.{and_text};
+ghost use Rattle.ioa_paper.specs.Papers.{and_text};
 ghost use Rattle.ioa_monitor.specs.Reports.{item_text, queue_line, script_line};
 
-use crate::actions::put_node_action;
-use crate::paper::Paper;
-use crate::values::{put_separator, put_value};
 use ioa_actions::Component;
 use ioa_channels::Queue;
+use ioa_paper::{Paper, put_node_action, put_separator, put_value};
 use ioa_streams::Out;
 use ioa_system::System;
 use ioa_values::Names;

@@ -1,16 +1,15 @@
 //! The report of a run.
 
 ghost use Rattle.std.specs.Prelude.{◌≡◌, ◌++◌, false};
-ghost use Rattle.ioa_monitor.specs.Outcomes.{PutsOut};
-ghost use Rattle.ioa_monitor.specs.Papers.{and_text};
+ghost use Rattle.ioa_paper.specs.Outcomes.{PutsOut};
+ghost use Rattle.ioa_paper.specs.Papers.{and_text};
 ghost use Rattle.ioa_monitor.specs.Reports.{component_lines, invariant_lines, report_text, run_text, states_text};
 
 use crate::commits::put_commits;
 use crate::endings::put_endings;
-use crate::fault::ReportFault;
 use crate::invariants::put_verdicts;
 use crate::nodes::put_variables;
-use crate::paper::{Paper, room};
+use ioa_paper::{Paper, ReportFault, room};
 use crate::queues::put_queue;
 use crate::schedule::put_schedule;
 use ioa_compose::Conf;

@@ -4,14 +4,11 @@ ghost use Rattle.std.specs.Prelude.{◌≡◌, ◌++◌, ◌≤◌, [], codes, l
 ghost use Rattle.std.specs.Fmt.{decimal, signed_decimal};
 ghost use Rattle.ioa_values.specs.Text.{text};
 ghost use Rattle.ioa_actions.specs.ActionText.{action_text, message_text, node_action_text};
-ghost use Rattle.ioa_monitor.specs.Papers.{and_text};
+ghost use Rattle.ioa_paper.specs.Papers.{and_text};
 ghost use Rattle.ioa_monitor.specs.Reports.{entry_lines, schedule_text};
 
-use crate::actions::put_node_action;
-use crate::paper::Paper;
-use crate::piece::Piece;
-use crate::values::put_value;
 use ioa_actions::{Action, NodeAction, RECEIVE, SEND};
+use ioa_paper::{Paper, Piece, put_node_action, put_value};
 use ioa_rawlog::RawLog;
 use ioa_streams::Out;
 use ioa_transitions::Entry;

@@ -1,5 +1,5 @@
 use Rattle.std.proofs.Common.{◌≡◌, drop}
-use Rattle.ioa_monitor.specs.Papers.{and_text}
+use Rattle.ioa_paper.specs.Papers.{and_text}
 use Rattle.ioa_monitor.specs.Reports.{invariant_lines}
 use Rattle.ioa_monitor.proofs.invariants.put_verdicts.Given as goal
 

@@ -1,6 +1,6 @@
 use Rattle.std.proofs.Common.{◌≡◌, drop, map}
 use Rattle.ioa_source.specs.TextView.{variable_of}
-use Rattle.ioa_monitor.specs.Papers.{and_text}
+use Rattle.ioa_paper.specs.Papers.{and_text}
 use Rattle.ioa_monitor.specs.Reports.{variable_lines}
 use Rattle.ioa_monitor.proofs.nodes.put_variables.Given as goal
 

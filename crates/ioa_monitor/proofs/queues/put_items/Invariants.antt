@@ -1,7 +1,7 @@
 use Rattle.std.proofs.Common.{◌≡◌, [], map, take}
 use Rattle.ioa_values.specs.Text.{with_commas}
 use Rattle.ioa_channels.specs.Queues.{queue_items}
-use Rattle.ioa_monitor.specs.Papers.{and_text}
+use Rattle.ioa_paper.specs.Papers.{and_text}
 use Rattle.ioa_monitor.specs.Reports.{item_text}
 use Rattle.ioa_monitor.proofs.queues.put_items.Given as goal
 

@@ -2,7 +2,7 @@ use Rattle.std.proofs.Common.{◌≡◌, ◌++◌, map, rules}
 use Rattle.std.specs.Prelude.{codes}
 use Rattle.std.specs.Fmt.{signed_decimal}
 use Rattle.ioa_values.specs.Text.{with_commas}
-use Rattle.ioa_monitor.specs.Papers.{and_text}
+use Rattle.ioa_paper.specs.Papers.{and_text}
 use Rattle.ioa_monitor.specs.Reports.{item_text}
 use Rattle.ioa_monitor.proofs.queues.put_queue.Goals as goal
 

@@ -1,5 +1,5 @@
 use Rattle.std.proofs.Common.{◌≡◌, take}
-use Rattle.ioa_monitor.specs.Papers.{and_text}
+use Rattle.ioa_paper.specs.Papers.{and_text}
 use Rattle.ioa_monitor.specs.Reports.{states_text}
 use Rattle.ioa_monitor.proofs.reporting.put_states.Given as goal
 

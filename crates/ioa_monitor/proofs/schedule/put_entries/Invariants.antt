@@ -1,5 +1,5 @@
 use Rattle.std.proofs.Common.{◌≡◌, ◌+◌, length}
-use Rattle.ioa_monitor.specs.Papers.{and_text}
+use Rattle.ioa_paper.specs.Papers.{and_text}
 use Rattle.ioa_monitor.specs.Reports.{entry_lines}
 use Rattle.ioa_monitor.proofs.schedule.put_entries.Given as goal
 
