@@ -1,4 +1,5 @@
 -- lemmas of streams
 mod Appended
+mod Ends
 mod Marks
 mod Utf8

@@ -9,7 +9,9 @@
 mod input;
 mod input_parts;
 mod output;
+mod schedule_lines;
 
 pub use input::{INPUT_LIMIT, InputFault, read_input};
 pub use input_parts::parts;
 pub use output::{Out, OutFailed, Over, put_all};
+pub use schedule_lines::schedule_part;
