@@ -7,7 +7,7 @@ use Rattle.ioa_paper.specs.declared.fault.ReportFault.TheVariants.{Memory, Write
 
 -- if the bytes of the output are known, they grow by the text, which goes out whole if the call passes; if writing
 -- failed, a beginning of it went out, and the output says that it failed; if memory ran out, nothing was written
-abbrev pub PutsOut : List ℕ → Option (List ℕ) → Option (List ℕ) → Bool → Result (Unit {0}) ReportFault → Type 0
+abbrev pub PutsOut : {T : Type 0} → List ℕ → Option (List ℕ) → Option (List ℕ) → Bool → Result T ReportFault → Type 0
 PutsOut text old new failed (Ok x) = (failed ≡ false) × Appends old new text
 PutsOut text old new failed (Err Write) = (failed ≡ true) × AppendsBeginning old new text
 PutsOut text old new failed (Err Memory) = (failed ≡ false) × Keeps old new

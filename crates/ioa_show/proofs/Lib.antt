@@ -1,0 +1,4 @@
+-- the lemmas of this crate
+pub mod Jsons
+pub mod Passing
+pub mod Puts

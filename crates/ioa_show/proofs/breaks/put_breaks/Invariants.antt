@@ -1,0 +1,6 @@
+use Rattle.ioa_show.specs.Shown.{Continues}
+use Rattle.ioa_show.proofs.breaks.put_breaks.Given as goal
+
+-- more was written
+abbrev pub invariant-loop-position : goal.invariant-loop-position
+invariant-loop-position g l = Continues l.initial.paper l.paper

@@ -1,0 +1,106 @@
+-- The sequence diagram of a run for Mermaid (form): its lines in order, each ended by a line feed.
+use Rattle.std.specs.Prelude.{ℕ, ℤ, ◌+◌, nat_lt, if◌then◌else◌, List, [], ◌∷◌, ◌++◌, codes, length}
+use Rattle.std.specs.Prelude.{◌≡◌, Bool, true, false, Option, Some, None, Result, Ok, Err, slice_get}
+use Rattle.std.specs.Io.KnownBytes.{Keeps, Appends}
+use Rattle.std.specs.Fmt.{decimal, signed_decimal}
+use Rattle.ioa_values.specs.Text.{text}
+use Rattle.ioa_actions.specs.ActionText.{arguments_text}
+use Rattle.ioa_actions.specs.declared.action.NodeAction.{NodeAction}
+use Rattle.ioa_actions.specs.declared.action.Action.{Action}
+use Rattle.ioa_actions.specs.declared.action.Action.TheVariants.{Send, Receive, Local, Stimulus}
+use Rattle.ioa_system.specs.Parts.{Parts}
+use Rattle.ioa_system.specs.Systems.{SystemParts}
+use Rattle.ioa_transitions.specs.Entries.{PlainEntry}
+use Rattle.ioa_streams.specs.Output.{AppendsBeginning}
+use Rattle.ioa_paper.specs.declared.fault.ReportFault.{ReportFault}
+use Rattle.ioa_paper.specs.declared.fault.ReportFault.TheVariants.{Memory, Write}
+use Rattle.ioa_show.specs.declared.sequence.TheConstants.{MANY}
+
+-- the first line
+unfoldable pub title : List ℕ
+title = codes "sequenceDiagram\n"
+
+-- a node with the name of its automaton
+unfoldable pub participant_text : ℤ → List ℕ → List ℕ
+participant_text i x =
+    codes "    participant n" ++ (signed_decimal i ++ (codes " as node " ++ (signed_decimal i
+    ++ (codes ": " ++ (x ++ codes "\n")))))
+
+abbrev pub participant_line : Parts → List ℕ
+participant_line p = participant_text p.node p.automaton.name
+
+-- the nodes, node 0 first
+abbrev pub participant_lines : List Parts → List ℕ
+participant_lines [] = []
+participant_lines (p ∷ ps) = participant_line p ++ participant_lines ps
+
+-- a note that there are many actions
+unfoldable pub many_note : ℕ → List ℕ
+many_note count = codes "    Note over n0: " ++ (decimal count ++ codes " actions, which viewers may refuse\n")
+
+-- that note, if there are many
+abbrev pub warning : ℕ → List ℕ
+warning count = if nat_lt MANY count then many_note count else []
+
+-- the partner of the action at a position, if it has one
+abbrev pub partner_in : Option (Option ℕ) → Option ℕ
+partner_in None = None
+partner_in (Some p) = p
+
+abbrev pub partner_at : ℕ → List (Option ℕ) → Option ℕ
+partner_at k ps = partner_in (slice_get ps k)
+
+-- the positions of a send, if it is known, and of its receive
+abbrev pub positions : Option ℕ → ℕ → List ℕ
+positions None k = decimal k ++ codes " "
+positions (Some s) k = decimal s ++ (codes "-" ++ (decimal k ++ codes " "))
+
+-- the beginning of a note at a node
+unfoldable pub note : ℤ → ℕ → List ℕ
+note i k = codes "    Note over n" ++ (signed_decimal i ++ (codes ": " ++ (decimal k ++ codes " ")))
+
+-- from which node to which a message goes
+unfoldable pub ends : ℤ → ℤ → List ℕ
+ends i j = codes "    n" ++ (signed_decimal i ++ (codes "->>n" ++ (signed_decimal j ++ codes ": ")))
+
+-- a message at its receive
+abbrev pub arrow : List (List ℕ) → ℕ → Option ℕ → List ℕ → ℤ → ℤ → List ℕ
+arrow names k p message i j = ends i j ++ (positions p k ++ (message ++ codes "\n"))
+
+-- a note on a send whose message is not received; nothing if it is
+abbrev pub send_note : ℕ → Option ℕ → List ℕ → ℤ → ℤ → List ℕ
+send_note k (Some r) message i j = []
+send_note k None message i j =
+    note i k ++ (codes "sends " ++ (message ++ (codes " to n" ++ (signed_decimal j ++ codes ", not received\n"))))
+
+-- a note on an action of a node
+abbrev pub action_note : List (List ℕ) → ℕ → NodeAction → List ℕ
+action_note names k a = note a.node k ++ (a.name ++ (arguments_text names a.arguments ++ codes "\n"))
+
+-- the line of the action at position k, which has this partner
+abbrev pub entry_line : List (List ℕ) → ℕ → Option ℕ → Action → List ℕ
+entry_line names k p (Send m i j) = send_note k p (text names m) i j
+entry_line names k p (Receive m i j) = arrow names k p (text names m) i j
+entry_line names k p (Local a) = action_note names k a
+entry_line names k p (Stimulus a) = action_note names k a
+
+-- the lines of the actions, counted from k, with their partners
+abbrev pub entry_lines : List (List ℕ) → List (Option ℕ) → ℕ → List PlainEntry → List ℕ
+entry_lines names ps k [] = []
+entry_lines names ps k (e ∷ more) = entry_line names k (partner_at k ps) e.action ++ entry_lines names ps (k + 1) more
+
+-- the whole diagram
+abbrev pub sequence_text : SystemParts → List (Option ℕ) → List PlainEntry → List ℕ
+sequence_text s ps entries =
+    title ++ (participant_lines s.programs
+    ++ (warning (length entries) ++ entry_lines s.names ps 0 entries))
+
+-- the diagram goes out whole, with some partners of the actions; if writing failed, a beginning of it went out, and the
+-- output says that it failed; if memory ran out, nothing was written
+abbrev pub PutsSequence : SystemParts → List PlainEntry → Option (List ℕ) → Option (List ℕ) → Bool
+    → Result (Unit {0}) ReportFault → Type 0
+PutsSequence s entries old new failed (Ok x) =
+    (failed ≡ false) × ((ps : List (Option ℕ)) × Appends old new (sequence_text s ps entries))
+PutsSequence s entries old new failed (Err Write) =
+    (failed ≡ true) × ((ps : List (Option ℕ)) × AppendsBeginning old new (sequence_text s ps entries))
+PutsSequence s entries old new failed (Err Memory) = (failed ≡ false) × Keeps old new

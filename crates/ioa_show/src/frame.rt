@@ -1,0 +1,128 @@
+//! Where things stand in a diagram.
+
+use ioa_system::{CompiledInvariant, Program, System};
+use ioa_verdicts::Verdict;
+use std::sync::Arc;
+
+/// From which number of actions on these stand closer together.
+const WIDE_LIMIT: usize = 200;
+
+/// How many pixels an action has.
+const WIDE_STEP: usize = 24;
+
+/// How many pixels an action has if there are many.
+const CLOSE_STEP: usize = 8;
+
+/// Where the first action's room begins.
+const START: usize = 72;
+
+/// How many pixels there are between the lines of two nodes.
+const ROW: usize = 48;
+
+/// Where the line of node 0 is.
+const TOP: usize = 32;
+
+/// How many pixels there are on the right of the lines.
+const ROOM: usize = 24;
+
+/// How many pixels a letter has at most.
+const LETTER: usize = 7;
+
+/// How many letters stand around the name of an automaton.
+const AROUND_AUTOMATON: usize = 12;
+
+/// How many letters stand around the name of an invariant.
+const AROUND_INVARIANT: usize = 30;
+
+/// Where the labels of the nodes end.
+pub const LABEL_END: usize = 60;
+
+/// How many pixels a line of text has.
+pub const LINE: usize = 16;
+
+/// The measures of a diagram, in pixels. What stands left of 0 is for the labels of the nodes.
+#[derive(Clone, Copy, Debug)]
+pub struct Frame {
+    /// How many actions there are.
+    pub count: usize,
+    /// How far two actions stand apart.
+    pub step: usize,
+    /// How far the labels of the nodes reach to the left of 0.
+    pub margin: usize,
+    /// Where the diagram ends on the right.
+    pub right: usize,
+    /// Where the lines of the nodes end, and the lines of text begin.
+    pub base: usize,
+    /// Where the diagram ends below.
+    pub bottom: usize,
+}
+
+impl Frame {
+    /// The measures for the runs of a system with so many actions, and verdicts on so many invariants.
+    pub fn of(system: &System, count: usize, verdicts: &[Verdict]) -> Frame {
+        let step = if count > WIDE_LIMIT {
+            CLOSE_STEP
+        } else {
+            WIDE_STEP
+        };
+        let base = row(system.programs().len());
+        let lines = verdicts.len().saturating_mul(LINE);
+        Frame {
+            count,
+            step,
+            margin: margin(system.programs()),
+            right: right(system.invariants(), count.saturating_mul(step)),
+            base,
+            bottom: base.saturating_add(lines),
+        }
+    }
+
+    /// Where an action stands.
+    pub fn x(self, position: usize) -> usize {
+        self.between(position).saturating_add(self.step / 2)
+    }
+
+    /// Where the state behind so many actions stands: between the actions before it and those after it.
+    pub fn between(self, passed: usize) -> usize {
+        START.saturating_add(passed.saturating_mul(self.step))
+    }
+
+    /// How wide the diagram is.
+    pub fn width(self) -> usize {
+        self.margin.saturating_add(self.right)
+    }
+}
+
+/// Where the line of a node is.
+pub fn y(node: i64) -> usize {
+    row(usize::try_from(node).unwrap_or(0))
+}
+
+/// Where the line of a number is, the first at the top.
+pub fn row(number: usize) -> usize {
+    number.saturating_mul(ROW).saturating_add(TOP)
+}
+
+/// How far the labels of nodes reach to the left of 0.
+fn margin(programs: &[Arc<Program>]) -> usize {
+    let mut longest = 0;
+    for program in programs {
+        longest = program.automaton().name().as_str().len().max(longest);
+    }
+    letters(longest, AROUND_AUTOMATON).saturating_sub(LABEL_END)
+}
+
+/// Where the diagram ends on the right, if its actions take so many pixels.
+fn right(invariants: &[CompiledInvariant], length: usize) -> usize {
+    let mut longest = 0;
+    for invariant in invariants {
+        let text = letters(invariant.name().as_str().len(), AROUND_INVARIANT);
+        longest = text.max(longest);
+    }
+    length.max(longest).saturating_add(START + ROOM)
+}
+
+/// How many pixels a name has with so many letters around it.
+fn letters(name: usize, around: usize) -> usize {
+    name.saturating_add(around).saturating_mul(LETTER)
+}

@@ -1,0 +1,199 @@
+//! The states of a run in the informal trace format.
+
+ghost use Rattle.std.specs.Prelude.{◌≡◌, ◌++◌, false, IfOk, OnOk, OnErr, codes};
+ghost use Rattle.std.specs.List.{flat_map};
+ghost use Rattle.ioa_actions.specs.ActionText.{action_text};
+ghost use Rattle.ioa_compose.specs.Composition.{joint_answer};
+ghost use Rattle.ioa_compose.specs.Start.{start};
+ghost use Rattle.ioa_paper.specs.Papers.{and_text};
+ghost use Rattle.ioa_show.specs.Shown.{Continues, PutsStates};
+ghost use Rattle.ioa_show.specs.States.{Steps, conf_fields, head_text, index_words, later_states};
+ghost use Rattle.ioa_show.specs.States.{opening_words, state_text, states_from, states_text, states_words};
+
+use crate::state_parts::{put_confs, put_keys};
+use ioa_actions::StepFault;
+use ioa_compose::Conf;
+use ioa_course::Course;
+use ioa_paper::{Paper, ReportFault, put_action, room};
+use ioa_rawlog::RawLog;
+use ioa_record::Record;
+use ioa_streams::{Out, OutFailed};
+use ioa_system::System;
+use ioa_transitions::Entry;
+use ioa_values::Names;
+use std::alloc::{AllocError, Global};
+
+/// Puts out the states of a run in the informal trace format (form: profile), which is JSON: the names of what a state
+/// has, and then a state a line, the start first, each with the action that leads to it. A state has each variable `x`
+/// of node k as `x@k`, and the messages that wait on a channel as `queue(i, j)`. Behind an entry that is no step there
+/// is no state. `Memory` (3) can come when a part is out already, since each state is made when the one before it is
+/// written.
+pub fn itf<O: Out>(
+    alloc: Global,
+    system: &System,
+    run_record: &Record,
+    out: &mut O,
+) -> Result<(), ReportFault>
+    requires { O.failed out.old ≡ false }
+    ensures { PutsStates (states_text system.now run_record.now.schedule)
+        (O.bytes out.old) (O.bytes out.new) (O.failed out.new) result }
+{
+    let mut course = Course::start(alloc, system)?;
+    let room = room(alloc)?;
+    let mut paper = Paper::new(out, room);
+    let walked = put_all(alloc, &mut paper, system, &mut course, &run_record.schedule);
+    let (out, outcome) = paper.finish();
+    // No effect at run time. The proof reads what `out` holds from the reference that comes back.
+    let _ = &*out;
+    walked?;
+    match outcome {
+        Ok(()) => Ok(()),
+        Err(OutFailed) => Err(ReportFault::Write),
+    }
+}
+
+/// Writes the names of what a state has, and all states of a system from its start.
+#[tactic(auto, unfolding(crate::specs::States::states_text))]
+fn put_all<O: Out>(
+    alloc: Global,
+    paper: &mut Paper<'_, O>,
+    system: &System,
+    course: &mut Course,
+    schedule: &RawLog<Entry>,
+) -> Result<(), AllocError>
+    requires { course.old ≡ start system.now }
+    ensures whole { OnOk result (paper.new ≡ and_text paper.old (states_text system.now schedule.now)) }
+    ensures part { Continues paper.old paper.new }
+{
+    put_states(alloc, paper, system.names(), course, schedule)
+}
+
+/// Writes the names of what a state has, and all states from this one on.
+fn put_states<O: Out>(
+    alloc: Global,
+    paper: &mut Paper<'_, O>,
+    names: &Names,
+    course: &mut Course,
+    schedule: &RawLog<Entry>,
+) -> Result<(), AllocError>
+    ensures whole { OnOk result (paper.new ≡ and_text paper.old (states_from names.now schedule.now course.old)) }
+    ensures part { Continues paper.old paper.new }
+{
+    put_head(paper, names, course.confs());
+    put_later(alloc, paper, names, course, schedule)?;
+    paper.put("\n]}\n");
+    Ok(())
+}
+
+/// Writes the names of what a state has, and the first state.
+fn put_head<O: Out>(paper: &mut Paper<'_, O>, names: &Names, confs: &[Conf])
+    ensures { paper.new ≡ and_text paper.old (head_text names.now confs.now) }
+{
+    put_opening(paper);
+    put_keys(paper, confs);
+    put_between(paper);
+    put_start(paper, names, confs);
+}
+
+/// Writes what stands in front of the names of what a state has.
+fn put_opening<O: Out>(paper: &mut Paper<'_, O>)
+    ensures { paper.new ≡ and_text paper.old opening_words }
+{
+    paper.put("{\"#meta\":{\"format\":\"ITF\",\"varTypes\":{}},\"vars\":[\"action\"");
+}
+
+/// Writes what stands behind these names.
+fn put_between<O: Out>(paper: &mut Paper<'_, O>)
+    ensures { paper.new ≡ and_text paper.old states_words }
+{
+    paper.put("],\"states\":[\n");
+}
+
+/// Writes the first state.
+fn put_start<O: Out>(paper: &mut Paper<'_, O>, names: &Names, confs: &[Conf])
+    ensures { paper.new ≡ and_text paper.old (state_text names.now 0 (codes "start") confs.now) }
+{
+    put_index(paper, 0);
+    paper.put("start");
+    put_end(paper, names, confs);
+}
+
+/// Writes the states behind the entries of a schedule, as far as these are steps.
+fn put_later<O: Out>(
+    alloc: Global,
+    paper: &mut Paper<'_, O>,
+    names: &Names,
+    course: &mut Course,
+    schedule: &RawLog<Entry>,
+) -> Result<(), AllocError>
+    ensures whole { OnOk result (paper.new ≡ and_text paper.old (later_states names.now 0 schedule.now course.old)) }
+    ensures part { Continues paper.old paper.new }
+{
+    let mut passed = 0;
+    for entry in schedule.walk() {
+        passed += 1;
+        if !put_step(alloc, paper, names, course, entry, passed)? {
+            return Ok(());
+        }
+    }
+    Ok(())
+}
+
+/// Takes the step of an entry, the last of so many, and writes the state behind it. Answers whether it is a step.
+fn put_step<O: Out>(
+    alloc: Global,
+    paper: &mut Paper<'_, O>,
+    names: &Names,
+    course: &mut Course,
+    entry: &Entry,
+    passed: usize,
+) -> Result<bool, AllocError>
+    ensures step { IfOk result (λ b. Steps b (joint_answer entry.now course.old) course.new paper.old paper.new
+        (codes ",\n" ++ state_text names.now passed (action_text names.now entry.now.action) course.new)) }
+    ensures part { Continues paper.old paper.new }
+{
+    match course.advance(alloc, entry) {
+        Ok(()) => {
+            put_state(paper, names, course.confs(), entry, passed);
+            Ok(true)
+        }
+        Err(StepFault::Memory) => Err(AllocError),
+        Err(_) => Ok(false),
+    }
+}
+
+/// Writes the state behind so many entries, of which this is the last one.
+fn put_state<O: Out>(
+    paper: &mut Paper<'_, O>,
+    names: &Names,
+    confs: &[Conf],
+    entry: &Entry,
+    passed: usize,
+)
+    ensures { paper.new ≡ and_text paper.old
+        (codes ",\n" ++ state_text names.now passed (action_text names.now entry.now.action) confs.now) }
+{
+    paper.put(",\n");
+    put_index(paper, passed);
+    put_action(paper, names, entry.action());
+    put_end(paper, names, confs);
+}
+
+/// Writes the beginning of a state, as far as the words of what leads to it.
+fn put_index<O: Out>(paper: &mut Paper<'_, O>, passed: usize)
+    ensures { paper.new ≡ and_text paper.old (index_words passed) }
+{
+    paper.put("{\"#meta\":{\"index\":");
+    paper.put_number(passed);
+    paper.put("},\"action\":\"");
+}
+
+/// Writes what a state has behind these words.
+fn put_end<O: Out>(paper: &mut Paper<'_, O>, names: &Names, confs: &[Conf])
+    ensures { paper.new ≡ and_text paper.old
+        (codes "\"" ++ (flat_map (conf_fields names.now) confs.now ++ codes "}")) }
+{
+    paper.put("\"");
+    put_confs(paper, names, confs);
+    paper.put("}");
+}
