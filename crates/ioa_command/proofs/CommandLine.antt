@@ -1,8 +1,8 @@
 -- What the matches of the command line say of what they choose.
-use Rattle.std.proofs.Common.{◌≡◌, ◌∙◌, ℕ, true, List, Option, Some, None, Result, Ok, codes, refl, subst, sym}
+use Rattle.std.proofs.Common.{◌≡◌, ◌∙◌, ℕ, true, List, Option, Some, None, Result, Ok, refl, subst, sym}
 use Rattle.std.specs.Prelude.{IfSome}
 use Rattle.std.specs.Str.Parse.{digits_value, without_leading_plus}
-use Rattle.clap.specs.Walk.{Row, Text, rows_of}
+use Rattle.clap.specs.Walk.{Text, rows_of}
 use Rattle.clap.specs.Matches.{ReadsOne, one_text}
 use Rattle.clap.specs.Simple.{App}
 use Rattle.clap.specs.Faults.{fault_of, is_simple_and_free}
@@ -10,9 +10,7 @@ use Rattle.clap.specs.Kinds.{HasKind}
 use Rattle.clap.specs.declared.error.Error.{Error}
 use Rattle.clap.specs.declared.parser.matches.Found.{Found}
 use Rattle.clap.proofs.WalkLemmas.{one_text-rows}
-use Rattle.ioa_command.specs.CommandLine.{IsNumberOf, IsChosenBy, program_app}
-use Rattle.ioa_record.specs.Options.{PlainOptions}
-use Rattle.ioa_command.specs.declared.words.Subcommand.TheVariants.{Run}
+use Rattle.ioa_command.specs.CommandLine.{IsNumberOf, program_app}
 
 -- what a typed getter reads is the number of the option
 pub number_is : {E : Type 0} → (gives : List ℕ → Result ℕ E → Type 0) (f : Found) (id : Text) (n : ℕ) (r : Option ℕ)
@@ -36,13 +34,6 @@ pub number_if : {E : Type 0} → (gives : List ℕ → Result ℕ E → Type 0) 
     → IfSome r (IsNumberOf (rows_of f) id)
 number_if gives f id None none value parsed = tt
 number_if gives f id (Some n) none value parsed = number_is gives f id n (Some n) none value refl (parsed n)
-
--- the name and the rows of the subcommand, with its three numbers
-pub run_is : (met : Option (Text × List Row)) (name : Text) (rows : List Row) (o : PlainOptions)
-    → met ≡ Some (name, rows) → name ≡ codes "run" → IsNumberOf rows (codes "workers") o.workers
-    → IsNumberOf rows (codes "steps") o.steps → IsNumberOf rows (codes "attempts") o.attempts → IsChosenBy met (Run o)
-run_is met name rows o is run workers steps attempts =
-    subst (λ m. IsChosenBy m (Run o)) (sym is) (run, workers, steps, attempts)
 
 -- what clap refuses of a command, it refuses of the program's command line, if that is what it was told
 pub kinds_are : (a : App) (words : List Text) (e : Error) → a ≡ program_app

@@ -1,5 +1,5 @@
 -- What a status says, whatever fault there was.
-use Rattle.std.proofs.Common.{◌≡◌, ◌⊎◌, ◌∙◌, ℕ, zero, suc, List, Option, Result, Ok, Err}
+use Rattle.std.proofs.Common.{◌≡◌, ◌⊎◌, ◌∙◌, ℕ, zero, suc, Bool, true, false, if◌then◌else◌, List, Option, Some, None, Result, Ok, Err}
 use Rattle.std.proofs.Common.{refl, subst, sym, inl, inr, arith}
 use Rattle.std.specs.Io.KnownBytes.{Keeps}
 use Rattle.clap.specs.Values.{kind_of}
@@ -10,19 +10,93 @@ use Rattle.clap.specs.declared.error.Error.{Error}
 use Rattle.clap.specs.declared.error.kind.ErrorKind.{ErrorKind}
 use Rattle.clap.specs.declared.error.kind.ErrorKind.TheVariants.{DisplayHelp, DisplayVersion}
 use Rattle.clap.specs.declared.error.kind.ErrorKind.TheVariants.{OutOfMemory, ValueValidation}
+use Rattle.ioa_streams.specs.Parts.{lines_part, text_part}
+use Rattle.ioa_streams.specs.ScheduleParts.{schedule_part}
 use Rattle.ioa_streams.specs.declared.input.InputFault.{InputFault}
 use Rattle.ioa_streams.specs.declared.input.InputFault.TheVariants as input
+use Rattle.ioa_monitor.specs.declared.findings.Findings.{Findings}
+use Rattle.ioa_pipeline.specs.declared.printing.PrintFault.{PrintFault}
+use Rattle.ioa_pipeline.specs.declared.printing.PrintFault.TheVariants as print
 use Rattle.ioa_pipeline.specs.declared.whole_run.RunFault.{RunFault}
 use Rattle.ioa_pipeline.specs.declared.whole_run.RunFault.TheVariants as run
 use Rattle.ioa_pipeline.specs.declared.schedule_check.CheckScheduleFault.{CheckScheduleFault}
 use Rattle.ioa_pipeline.specs.declared.schedule_check.CheckScheduleFault.TheVariants as check
-use Rattle.ioa_record.specs.Options.{PlainOptions}
-use Rattle.ioa_command.specs.declared.words.Subcommand.TheVariants as subcommand
-use Rattle.ioa_command.specs.declared.command_line.TextFault.{TextFault}
-use Rattle.ioa_command.specs.declared.command_line.TextFault.TheVariants.{Input, Run, Check}
-use Rattle.ioa_command.specs.Command.{ChecksLines, Ends, Executes, Follows, IsDone, Output, RunsText, ShowsWords, Tells}
-use Rattle.ioa_command.specs.Command.{check_status, fault_status, input_status, run_status}
-use Rattle.ioa_command.specs.CommandLine.{AsksForText, IsErrorOf, program_app, words_status}
+use Rattle.ioa_command.specs.declared.choice.InputName.{InputName}
+use Rattle.ioa_command.specs.declared.choice.RunChoice.{RunChoice}
+use Rattle.ioa_command.specs.declared.choice.TraceChoice.{TraceChoice}
+use Rattle.ioa_command.specs.declared.choice.CheckChoice.{CheckChoice}
+use Rattle.ioa_command.specs.declared.choice.Subcommand.TheVariants as subcommand
+use Rattle.ioa_command.specs.declared.faults.TextFault.{TextFault}
+use Rattle.ioa_command.specs.declared.faults.TextFault.TheVariants.{Input, Unread, Run, Check, Print}
+use Rattle.ioa_command.specs.Command.{ChecksGivenIn, ChecksIn, ChecksSchedule}
+use Rattle.ioa_command.specs.Command.{Ends, Executes, Follows, IsDone, IsTraced, Output, Prints, PrintsText, Reports}
+use Rattle.ioa_command.specs.Command.{RunsText, ShowsWords, Tells, TracesText, found_status, no_finding}
+use Rattle.ioa_command.specs.Faults.{check_status, fault_status, input_status, print_status, run_status}
+use Rattle.ioa_command.specs.FailOn.{meet}
+use Rattle.ioa_command.specs.Inputs.{given_by}
+use Rattle.ioa_command.specs.CommandLine.{AsksForText, Chooses, IsErrorOf, program_app, words_status}
+
+-- ---- statuses of faults
+
+-- a fault has status 1 or 3
+abbrev IsOneOrThree : ℕ → Type 0
+IsOneOrThree n = (n ≡ 1) ⊎ (n ≡ 3)
+
+input_range : (f : InputFault) → IsOneOrThree (input_status f)
+input_range input.Read = inr refl
+input_range input.TooLong = inl refl
+input_range (input.BadCharacter offset) = inl refl
+input_range input.Memory = inr refl
+
+run_range : (f : RunFault) → IsOneOrThree (run_status f)
+run_range (run.Front f) = inl refl
+run_range (run.Check f) = inl refl
+run_range (run.Finish f) = inr refl
+run_range run.Memory = inr refl
+run_range run.Write = inr refl
+
+check_range : (f : CheckScheduleFault) → IsOneOrThree (check_status f)
+check_range (check.Front f) = inl refl
+check_range (check.Check f) = inl refl
+check_range (check.Schedule f) = inl refl
+check_range check.Memory = inr refl
+check_range check.Write = inr refl
+
+print_range : (f : PrintFault) → IsOneOrThree (print_status f)
+print_range (print.Front f) = inl refl
+print_range print.Memory = inr refl
+print_range print.Write = inr refl
+
+fault_range : (f : TextFault) → IsOneOrThree (fault_status f)
+fault_range (Input f) = input_range f
+fault_range (Unread name) = inr refl
+fault_range (Run f) = run_range f
+fault_range (Check f) = check_range f
+fault_range (Print f) = print_range f
+
+-- a status that no fault has
+abbrev IsOfNoFault : ℕ → Type 0
+IsOfNoFault status = (status ≡ 1 → ⊥) × (status ≡ 3 → ⊥)
+
+-- so it is that of what was done
+done_of_told : {T : Type 0} (done : T → ℕ) (err : Output) (status : ℕ) (outcome : Result T TextFault)
+    → Tells done err status outcome → IsOfNoFault status → (x : T) × (outcome ≡ Ok x) × (status ≡ done x)
+done_of_told done err status (Ok x) told free = (x, refl, told.0)
+done_of_told done err status (Err f) told free = absurd (elim told [
+  | inl line ↦ elim (fault_range f) [
+    | inl one ↦ free.0 (line.0 ∙ one)
+    | inr three ↦ free.1 (line.0 ∙ three)
+  ]
+  | inr memory ↦ free.1 memory.0
+])
+
+none_is_one : (n : ℕ) → n ≡ 0 → IsOfNoFault n
+none_is_one n none = ((λ e. absurd (omega arith)), (λ e. absurd (omega arith)))
+
+four_is_none : (n : ℕ) → n ≡ 4 → IsOfNoFault n
+four_is_none n four = ((λ e. absurd (omega arith)), (λ e. absurd (omega arith)))
+
+-- ---- words that choose nothing
 
 -- a kind whose status is 0 is that of a text that was asked for
 is_asked : (k : ErrorKind) → words_status k ≡ 0 → (k ≡ DisplayHelp) ⊎ (k ≡ DisplayVersion)
@@ -44,46 +118,14 @@ asks words e (inl (inr among)) none = go (is_asked (kind_of e) none)
     go (inl is) = inl (subst (λ k. IsAmong k (fault_of program_app words)) is among)
     go (inr is) = inr (subst (λ k. IsAmong k (fault_of program_app words)) is among)
 
-input_fails : (f : InputFault) → input_status f ≡ 0 → ⊥
-input_fails input.Read e = cc
-input_fails input.TooLong e = cc
-input_fails (input.BadCharacter offset) e = cc
-input_fails input.Memory e = cc
-
-run_fails : (f : RunFault) → run_status f ≡ 0 → ⊥
-run_fails (run.Front f) e = cc
-run_fails (run.Check f) e = cc
-run_fails (run.Finish f) e = cc
-run_fails run.Memory e = cc
-run_fails run.Write e = cc
-
-check_fails : (f : CheckScheduleFault) → check_status f ≡ 0 → ⊥
-check_fails (check.Front f) e = cc
-check_fails (check.Check f) e = cc
-check_fails (check.Schedule f) e = cc
-check_fails check.Memory e = cc
-check_fails check.Write e = cc
-
-fault_fails : (f : TextFault) → fault_status f ≡ 0 → ⊥
-fault_fails (Input f) e = input_fails f e
-fault_fails (Run f) e = run_fails f e
-fault_fails (Check f) e = check_fails f e
-
--- status 0 is that of no fault
-told_fails : (err : Output) (status : ℕ) (f : TextFault) → Tells err status (Err f) → status ≡ 0 → ⊥
-told_fails err status f told done = elim told [
-  | inl line ↦ fault_fails f (sym line.0 ∙ done)
-  | inr memory ↦ absurd (omega arith)
-]
-
--- status 0 comes from a report or from a text that was asked for
+-- status 0 comes from a text that was asked for
 words_done : (words : List Text) (given : Option (List ℕ)) (out err : Output) (status : ℕ) (e : Error)
     → IsErrorOf words e → ShowsWords (kind_of e) status out err → status ≡ 0 → IsDone words given out
 words_done words given out err status e error shows done = go (words_status (kind_of e)) refl
   where
     go : (n : ℕ) → words_status (kind_of e) ≡ n → IsDone words given out
     go zero is = elim (shows.asked is) [
-      | inl whole ↦ inr (inr (asks words e error is, whole.2))
+      | inl whole ↦ inr (inr (inr (inr (asks words e error is, whole.2))))
       | inr failed ↦ absurd (omega arith)
     ]
     go (suc n) is =
@@ -95,25 +137,101 @@ words_done words given out err status e error shows done = go (words_status (kin
           | inr memory ↦ absurd (omega arith)
         ]
 
-run_done : (options : PlainOptions) (given : Option (List ℕ)) (out err : Output) (status : ℕ)
-    (outcome : Result (Unit {0}) TextFault) → Executes options given out outcome → Tells err status outcome → status ≡ 0
-    → RunsText options given out (Ok tt)
-run_done options given out err status (Ok x) ran told done = ran
-run_done options given out err status (Err f) ran told done = absurd (told_fails err status f told done)
+-- no kind has a status above 3
+at_most_three : (k : ErrorKind) → words_status k ≡ 4 → ⊥
+at_most_three DisplayHelp e = cc
+at_most_three DisplayVersion e = cc
+at_most_three OutOfMemory e = cc
+at_most_three k e = cc
 
-check_done : (given : Option (List ℕ)) (out err : Output) (status : ℕ) (outcome : Result (Unit {0}) TextFault)
-    → Follows given out outcome → Tells err status outcome → status ≡ 0 → ChecksLines given out (Ok tt)
-check_done given out err status (Ok x) followed told done = followed
-check_done given out err status (Err f) followed told done = absurd (told_fails err status f told done)
+-- so words that choose nothing have not status 4
+words_find_none : (out err : Output) (status : ℕ) (e : Error) → ShowsWords (kind_of e) status out err → status ≡ 4 → ⊥
+words_find_none out err status e shows four = go (words_status (kind_of e)) refl
+  where
+    go : (n : ℕ) → words_status (kind_of e) ≡ n → ⊥
+    go zero is = elim (shows.asked is) [
+      | inl whole ↦ absurd (omega arith)
+      | inr failed ↦ absurd (omega arith)
+    ]
+    go (suc n) is =
+        let shown = shows.refused (λ none. let bad : suc n ≡ 0 = sym is ∙ none in cc) in
+        elim shown.1 [
+          | inl text ↦ at_most_three (kind_of e) (sym text.0 ∙ four)
+          | inr memory ↦ absurd (omega arith)
+        ]
+
+-- ---- what was done
+
+-- a status that no fault has is that of a report, if the words choose `run`
+reports : (words : List Text) (given : Option (List ℕ)) (out err : Output) (status : ℕ) (r : RunChoice)
+    (outcome : Result Findings TextFault) → Chooses words (subcommand.Run r) → Executes r given out outcome
+    → Tells (found_status r.fail_on) err status outcome → IsOfNoFault status → Reports words given out status
+reports words given out err status r outcome chosen ran told free =
+    let done = done_of_told (found_status r.fail_on) err status outcome told free in
+    (r, chosen, (done.0, subst (Executes r given out) done.1 ran, done.2))
+
+check_done : (given : Option (List ℕ)) (out err : Output) (status : ℕ) (c : CheckChoice)
+    (outcome : Result (Unit {0}) TextFault) → Follows c given out outcome → Tells no_finding err status outcome
+    → IsOfNoFault status → ChecksSchedule c given out (Ok tt)
+check_done given out err status c outcome followed told free =
+    let done = done_of_told no_finding err status outcome told free in
+    subst (Follows c given out) done.1 followed
+
+trace_done : (given : Option (List ℕ)) (out err : Output) (status : ℕ) (t : TraceChoice)
+    (outcome : Result (Unit {0}) TextFault) → IsTraced t given out outcome → Tells no_finding err status outcome
+    → IsOfNoFault status → TracesText t given out (Ok tt)
+trace_done given out err status t outcome traced told free =
+    let done = done_of_told no_finding err status outcome told free in
+    subst (IsTraced t given out) done.1 traced
+
+print_done : (given : Option (List ℕ)) (out err : Output) (status : ℕ) (input : InputName)
+    (outcome : Result (Unit {0}) TextFault) → Prints input given out outcome → Tells no_finding err status outcome
+    → IsOfNoFault status → PrintsText (given_by input given) out (Ok tt)
+print_done given out err status input outcome printed told free =
+    let done = done_of_told no_finding err status outcome told free in
+    subst (Prints input given out) done.1 printed
 
 pub done_of : (words : List Text) (given : Option (List ℕ)) (out err : Output) (status : ℕ)
     → Ends words given out err status → status ≡ 0 → IsDone words given out
-done_of words given out err status (inl (subcommand.Run options, chosen, (outcome, ran, told))) done =
-    inl (options, chosen, run_done options given out err status outcome ran told done)
-done_of words given out err status (inl (subcommand.Check, chosen, (outcome, followed, told))) done =
-    inr (inl (chosen, check_done given out err status outcome followed told done))
+done_of words given out err status (inl (subcommand.Run r, chosen, (outcome, ran, told))) done =
+    inl (subst (Reports words given out) done
+    (reports words given out err status r outcome chosen ran told (none_is_one status done)))
+done_of words given out err status (inl (subcommand.Trace t, chosen, (outcome, traced, told))) done =
+    inr (inl (t, chosen, trace_done given out err status t outcome traced told (none_is_one status done)))
+done_of words given out err status (inl (subcommand.Check c, chosen, (outcome, followed, told))) done =
+    inr (inr (inl (c, chosen, check_done given out err status c outcome followed told (none_is_one status done))))
+done_of words given out err status (inl (subcommand.Print input, chosen, (outcome, printed, told))) done =
+    inr (inr (inr (inl (
+      input,
+      chosen,
+      print_done given out err status input outcome printed told (none_is_one status done),
+    ))))
 done_of words given out err status (inr said) done =
     words_done words given out err status said.0 said.1 said.2 done
+
+-- what has no findings has not status 4
+finds_none : {T : Type 0} (done : T → ℕ) (err : Output) (status : ℕ) (outcome : Result T TextFault)
+    → ((x : T) → done x ≡ 0) → Tells done err status outcome → status ≡ 4 → ⊥
+finds_none done err status outcome none told four =
+    let what = done_of_told done err status outcome told (four_is_none status four) in
+    let is : status ≡ 0 = what.2 ∙ none what.0 in
+    absurd (omega arith)
+
+pub found_of : (words : List Text) (given : Option (List ℕ)) (out err : Output) (status : ℕ)
+    → Ends words given out err status → status ≡ 4 → Reports words given out 4
+found_of words given out err status (inl (subcommand.Run r, chosen, (outcome, ran, told))) four =
+    subst (Reports words given out) four
+    (reports words given out err status r outcome chosen ran told (four_is_none status four))
+found_of words given out err status (inl (subcommand.Trace t, chosen, (outcome, traced, told))) four =
+    absurd (finds_none no_finding err status outcome (λ x. refl) told four)
+found_of words given out err status (inl (subcommand.Check c, chosen, (outcome, followed, told))) four =
+    absurd (finds_none no_finding err status outcome (λ x. refl) told four)
+found_of words given out err status (inl (subcommand.Print input, chosen, (outcome, printed, told))) four =
+    absurd (finds_none no_finding err status outcome (λ x. refl) told four)
+found_of words given out err status (inr said) four =
+    absurd (words_find_none out err status said.0 said.2 four)
+
+-- ---- refusals
 
 -- a refusal has status 1 or 2
 abbrev Refuses : ℕ → Type 0
@@ -127,6 +245,10 @@ not_failed : (n : ℕ) → Refuses n → n ≡ 3 → ⊥
 not_failed n (inl one) failed = absurd (omega arith)
 not_failed n (inr two) failed = absurd (omega arith)
 
+not_found : (n : ℕ) → Refuses n → n ≡ 4 → ⊥
+not_found n (inl one) found = absurd (omega arith)
+not_found n (inr two) found = absurd (omega arith)
+
 words_kept : (out err : Output) (status : ℕ) (e : Error) → ShowsWords (kind_of e) status out err → Refuses status
     → Keeps out.old out.new
 words_kept out err status e shows refuses = go (words_status (kind_of e)) refl
@@ -138,50 +260,110 @@ words_kept out err status e shows refuses = go (words_status (kind_of e)) refl
     ]
     go (suc n) is = (shows.refused (λ none. let bad : suc n ≡ 0 = sym is ∙ none in cc)).0.1
 
-run_kept : (options : PlainOptions) (given : Option (List ℕ)) (out : Output) (f : RunFault)
-    → RunsText options given out (Err f) → Refuses (run_status f) → Keeps out.old out.new
-run_kept options given out (run.Front f) ran refuses = ran.2.1
-run_kept options given out (run.Check f) ran refuses = ran.2.1
-run_kept options given out (run.Finish f) ran refuses = absurd (not_failed 3 refuses refl)
-run_kept options given out run.Memory ran refuses = absurd (not_failed 3 refuses refl)
-run_kept options given out run.Write ran refuses = absurd (not_failed 3 refuses refl)
+run_kept : (r : RunChoice) (given : Option (List ℕ)) (out : Output) (f : RunFault)
+    → RunsText r.options (given_by r.input given) out (Err f) → Refuses (run_status f) → Keeps out.old out.new
+run_kept r given out (run.Front f) ran refuses = ran.2.1
+run_kept r given out (run.Check f) ran refuses = ran.2.1
+run_kept r given out (run.Finish f) ran refuses = absurd (not_failed 3 refuses refl)
+run_kept r given out run.Memory ran refuses = absurd (not_failed 3 refuses refl)
+run_kept r given out run.Write ran refuses = absurd (not_failed 3 refuses refl)
 
-check_kept : (given : Option (List ℕ)) (out : Output) (f : CheckScheduleFault)
-    → ChecksLines given out (Err f) → Refuses (check_status f) → Keeps out.old out.new
-check_kept given out (check.Front f) followed refuses = followed.2.1
-check_kept given out (check.Check f) followed refuses = followed.2.1
-check_kept given out (check.Schedule f) followed refuses = followed.2.1
-check_kept given out check.Memory followed refuses = absurd (not_failed 3 refuses refl)
-check_kept given out check.Write followed refuses = absurd (not_failed 3 refuses refl)
+print_kept : (given : Option (List ℕ)) (out : Output) (f : PrintFault)
+    → PrintsText given out (Err f) → Refuses (print_status f) → Keeps out.old out.new
+print_kept given out (print.Front f) printed refuses = printed.2.1
+print_kept given out print.Memory printed refuses = absurd (not_failed 3 refuses refl)
+print_kept given out print.Write printed refuses = absurd (not_failed 3 refuses refl)
 
-executed_kept : (options : PlainOptions) (given : Option (List ℕ)) (out : Output) (f : TextFault)
-    → Executes options given out (Err f) → Refuses (fault_status f) → Keeps out.old out.new
-executed_kept options given out (Input f) ran refuses = ran.1.1
-executed_kept options given out (Run f) ran refuses = run_kept options given out f ran refuses
-executed_kept options given out (Check f) ran refuses = absurd ran
+trace_kept : (t : TraceChoice) (given : Option (List ℕ)) (out : Output) (f : RunFault)
+    → TracesText t given out (Err f) → Refuses (run_status f) → Keeps out.old out.new
+trace_kept t given out (run.Front f) traced refuses = traced.2.1
+trace_kept t given out (run.Check f) traced refuses = traced.2.1
+trace_kept t given out (run.Finish f) traced refuses = absurd (not_failed 3 refuses refl)
+trace_kept t given out run.Memory traced refuses = absurd (not_failed 3 refuses refl)
+trace_kept t given out run.Write traced refuses = absurd (not_failed 3 refuses refl)
 
-followed_kept : (given : Option (List ℕ)) (out : Output) (f : TextFault)
-    → Follows given out (Err f) → Refuses (fault_status f) → Keeps out.old out.new
-followed_kept given out (Input f) followed refuses = followed.1.1
-followed_kept given out (Run f) followed refuses = absurd followed
-followed_kept given out (Check f) followed refuses = check_kept given out f followed refuses
+traced_kept : (t : TraceChoice) (given : Option (List ℕ)) (out : Output) (f : TextFault)
+    → IsTraced t given out (Err f) → Refuses (fault_status f) → Keeps out.old out.new
+traced_kept t given out (Input f) traced refuses = traced.1.1
+traced_kept t given out (Unread name) traced refuses = traced.1.1
+traced_kept t given out (Run f) traced refuses = trace_kept t given out f traced refuses
+traced_kept t given out (Check f) traced refuses = absurd traced
+traced_kept t given out (Print f) traced refuses = absurd traced
+
+executed_kept : (r : RunChoice) (given : Option (List ℕ)) (out : Output) (f : TextFault)
+    → Executes r given out (Err f) → Refuses (fault_status f) → Keeps out.old out.new
+executed_kept r given out (Input f) ran refuses = ran.1.1
+executed_kept r given out (Unread name) ran refuses = ran.1.1
+executed_kept r given out (Run f) ran refuses = run_kept r given out f ran refuses
+executed_kept r given out (Check f) ran refuses = absurd ran
+executed_kept r given out (Print f) ran refuses = absurd ran
+
+printed_kept : (input : InputName) (given : Option (List ℕ)) (out : Output) (f : TextFault)
+    → Prints input given out (Err f) → Refuses (fault_status f) → Keeps out.old out.new
+printed_kept input given out (Input f) printed refuses = printed.1.1
+printed_kept input given out (Unread name) printed refuses = printed.1.1
+printed_kept input given out (Run f) printed refuses = absurd printed
+printed_kept input given out (Check f) printed refuses = absurd printed
+printed_kept input given out (Print f) printed refuses = print_kept (given_by input given) out f printed refuses
+
+in_kept : (text lines : List ℕ) (out : Output) (f : CheckScheduleFault) → ChecksIn text lines out (Err f)
+    → Refuses (check_status f) → Keeps out.old out.new
+in_kept text lines out (check.Front f) checks refuses = checks.0.1
+in_kept text lines out (check.Check f) checks refuses = checks.0.1
+in_kept text lines out (check.Schedule f) checks refuses = checks.0.1
+in_kept text lines out check.Memory checks refuses = absurd (not_failed 3 refuses refl)
+in_kept text lines out check.Write checks refuses = absurd (not_failed 3 refuses refl)
+
+check_kept : (input : InputName) (schedule : Option InputName) (given : Option (List ℕ)) (out : Output)
+    (f : CheckScheduleFault)
+    → ChecksGivenIn input schedule given out (Err f) → Refuses (check_status f) → Keeps out.old out.new
+check_kept input None given out f checks refuses =
+    in_kept (text_part checks.0) (lines_part checks.0) out f checks.2 refuses
+check_kept input (Some s) given out f checks refuses =
+    in_kept checks.0 (schedule_part checks.2.0) out f checks.2.2 refuses
+
+followed_kept : (c : CheckChoice) (given : Option (List ℕ)) (out : Output) (f : TextFault)
+    → Follows c given out (Err f) → Refuses (fault_status f) → Keeps out.old out.new
+followed_kept c given out (Input f) followed refuses = followed.1.1
+followed_kept c given out (Unread name) followed refuses = followed.1.1
+followed_kept c given out (Run f) followed refuses = absurd followed
+followed_kept c given out (Check f) followed refuses = check_kept c.input c.schedule given out f followed refuses
+followed_kept c given out (Print f) followed refuses = absurd followed
 
 -- nothing went out before a refusal
-told_kept : (out err : Output) (status : ℕ) (outcome : Result (Unit {0}) TextFault) → Tells err status outcome
+told_kept : {T : Type 0} (done : T → ℕ) (out err : Output) (status : ℕ) (outcome : Result T TextFault)
+    → Tells done err status outcome → ((x : T) → Refuses (done x) → ⊥)
     → ((f : TextFault) → outcome ≡ Err f → Refuses (fault_status f) → Keeps out.old out.new) → Refuses status
     → Keeps out.old out.new
-told_kept out err status (Ok x) told kept refuses = absurd (not_done status refuses told.0)
-told_kept out err status (Err f) told kept refuses = elim told [
+told_kept done out err status (Ok x) told free kept refuses = absurd (free x (subst Refuses told.0 refuses))
+told_kept done out err status (Err f) told free kept refuses = elim told [
   | inl line ↦ kept f refl (subst Refuses line.0 refuses)
   | inr memory ↦ absurd (not_failed status refuses memory.0)
 ]
 
+-- what was done is no refusal
+found_free : (fail_on found : Findings) → Refuses (found_status fail_on found) → ⊥
+found_free fail_on found refuses = by_test (meet fail_on found) refuses
+  where
+    by_test : (b : Bool) → Refuses (if b then 4 else 0) → ⊥
+    by_test true r = not_found 4 r refl
+    by_test false r = not_done 0 r refl
+
+none_free : (x : Unit {0}) → Refuses (no_finding x) → ⊥
+none_free x refuses = not_done 0 refuses refl
+
 pub refused_of : (words : List Text) (given : Option (List ℕ)) (out err : Output) (status : ℕ)
     → Ends words given out err status → Refuses status → Keeps out.old out.new
-refused_of words given out err status (inl (subcommand.Run options, chosen, (outcome, ran, told))) refuses =
-    told_kept out err status outcome told
-    (λ f is. executed_kept options given out f (subst (Executes options given out) is ran)) refuses
-refused_of words given out err status (inl (subcommand.Check, chosen, (outcome, followed, told))) refuses =
-    told_kept out err status outcome told
-    (λ f is. followed_kept given out f (subst (Follows given out) is followed)) refuses
+refused_of words given out err status (inl (subcommand.Run r, chosen, (outcome, ran, told))) refuses =
+    told_kept (found_status r.fail_on) out err status outcome told (found_free r.fail_on)
+    (λ f is. executed_kept r given out f (subst (Executes r given out) is ran)) refuses
+refused_of words given out err status (inl (subcommand.Trace t, chosen, (outcome, traced, told))) refuses =
+    told_kept no_finding out err status outcome told none_free
+    (λ f is. traced_kept t given out f (subst (IsTraced t given out) is traced)) refuses
+refused_of words given out err status (inl (subcommand.Check c, chosen, (outcome, followed, told))) refuses =
+    told_kept no_finding out err status outcome told none_free
+    (λ f is. followed_kept c given out f (subst (Follows c given out) is followed)) refuses
+refused_of words given out err status (inl (subcommand.Print input, chosen, (outcome, printed, told))) refuses =
+    told_kept no_finding out err status outcome told none_free
+    (λ f is. printed_kept input given out f (subst (Prints input given out) is printed)) refuses
 refused_of words given out err status (inr said) refuses = words_kept out err status said.0 said.2 refuses

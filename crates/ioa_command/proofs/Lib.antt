@@ -1,2 +1,4 @@
+mod CommaWords
 mod CommandLine
 mod Endings
+pub mod Readings

@@ -1,30 +1,35 @@
 -- What the program does with its words, its input and its two outputs (profile).
-use Rattle.std.specs.Prelude.{◌≡◌, ◌⊎◌, ◌≤◌, ◌++◌, ℕ, Bool, true, false, List, length, codes}
-use Rattle.std.specs.Prelude.{Option, Result, Ok, Err, IfSome, IfErr}
-use Rattle.std.specs.Str.{IsUtf8}
+use Rattle.std.specs.Prelude.{◌≡◌, ◌⊎◌, ◌++◌, ℕ, Bool, true, false, if◌then◌else◌, List, codes}
+use Rattle.std.specs.Prelude.{Option, Some, None, Result, Ok, Err, IfErr}
 use Rattle.std.specs.Io.KnownBytes.{Keeps, Appends}
 use Rattle.clap.specs.Values.{kind_of}
 use Rattle.clap.specs.Walk.{Text}
 use Rattle.clap.specs.declared.error.Error.{Error}
 use Rattle.clap.specs.declared.error.kind.ErrorKind.{ErrorKind}
-use Rattle.ioa_streams.specs.declared.input.TheConstants.{INPUT_LIMIT}
-use Rattle.ioa_streams.specs.declared.input.InputFault.{InputFault}
-use Rattle.ioa_streams.specs.declared.input.InputFault.TheVariants as input
-use Rattle.ioa_pipeline.specs.declared.whole_run.RunFault.{RunFault}
-use Rattle.ioa_pipeline.specs.declared.whole_run.RunFault.TheVariants as run
-use Rattle.ioa_pipeline.specs.declared.schedule_check.CheckScheduleFault.{CheckScheduleFault}
-use Rattle.ioa_pipeline.specs.declared.schedule_check.CheckScheduleFault.TheVariants as check
-use Rattle.ioa_command.specs.declared.words.Subcommand.{Subcommand}
-use Rattle.ioa_command.specs.declared.words.Subcommand.TheVariants as subcommand
-use Rattle.ioa_command.specs.declared.command_line.TextFault.{TextFault}
-use Rattle.ioa_command.specs.declared.command_line.TextFault.TheVariants.{Input, Run, Check}
-use Rattle.ioa_streams.specs.Input.{IsFaultOf, input_fault_text}
-use Rattle.ioa_streams.specs.Parts.{lines_part, text_part}
-use Rattle.ioa_record.specs.Options.{PlainOptions}
 use Rattle.ioa_streams.specs.Output.{AppendsBeginning}
-use Rattle.ioa_pipeline.specs.WholeRun.{IsExactFor, IsFaultOfWorkers, IsRefusalOf, WritesReport, run_fault_text}
-use Rattle.ioa_pipeline.specs.ScheduleChecks.{IsExactForCheck, IsFaultOfCheck, SaysExecution, check_schedule_fault_text}
+use Rattle.ioa_streams.specs.Parts.{lines_part, text_part}
+use Rattle.ioa_streams.specs.ScheduleParts.{schedule_part}
+use Rattle.ioa_record.specs.Options.{PlainOptions}
+use Rattle.ioa_monitor.specs.declared.findings.Findings.{Findings}
+use Rattle.ioa_pipeline.specs.declared.printing.PrintFault.{PrintFault}
+use Rattle.ioa_pipeline.specs.declared.whole_run.RunFault.{RunFault}
+use Rattle.ioa_pipeline.specs.declared.schedule_check.CheckScheduleFault.{CheckScheduleFault}
+use Rattle.ioa_pipeline.specs.Tracing.{ShowsRun}
+use Rattle.ioa_pipeline.specs.Printing.{IsFaultOfPrint, PrintsAnew}
+use Rattle.ioa_pipeline.specs.WholeRun.{IsExactFor, IsFaultOfWorkers, IsRefusalOf, WritesReport}
+use Rattle.ioa_pipeline.specs.ScheduleChecks.{IsExactForCheck, IsFaultOfCheck, SaysExecution}
+use Rattle.ioa_command.specs.declared.choice.InputName.{InputName}
+use Rattle.ioa_command.specs.declared.choice.RunChoice.{RunChoice}
+use Rattle.ioa_command.specs.declared.choice.TraceChoice.{TraceChoice}
+use Rattle.ioa_command.specs.declared.choice.CheckChoice.{CheckChoice}
+use Rattle.ioa_command.specs.declared.choice.Subcommand.{Subcommand}
+use Rattle.ioa_command.specs.declared.choice.Subcommand.TheVariants as subcommand
+use Rattle.ioa_command.specs.declared.faults.TextFault.{TextFault}
+use Rattle.ioa_command.specs.declared.faults.TextFault.TheVariants.{Input, Unread, Run, Check, Print}
 use Rattle.ioa_command.specs.CommandLine.{AsksForText, Chooses, IsErrorOf, words_status}
+use Rattle.ioa_command.specs.FailOn.{meet}
+use Rattle.ioa_command.specs.Faults.{fault_line, fault_status}
+use Rattle.ioa_command.specs.Inputs.{IsFaultOfInput, IsTextOf, behind, given_behind, given_by}
 
 -- an output before and after: its bytes, if they are known, and whether it has failed
 pub record Output : Type 0 where
@@ -51,97 +56,123 @@ Shows text o = ShowsBy o.failed text o
 abbrev pub ShowsText : Output → Type 0
 ShowsText o = (text : Text) × Shows text o
 
--- a text that is UTF-8 and no longer than the limit; if the bytes of the input are known, it is them
-abbrev pub IsTextOf : Option (List ℕ) → List ℕ → Type 0
-IsTextOf given text = (length text ≤ INPUT_LIMIT) × IsUtf8 text × IfSome given (λ bytes. text ≡ bytes)
-
 -- the text of the input was run with these options; a fault is one of that text, and no fault that is always found is
 -- passed over; with one worker none is of finishing
-abbrev pub RunsText : PlainOptions → Option (List ℕ) → Output → Result (Unit {0}) RunFault → Type 0
+abbrev pub RunsText : PlainOptions → Option (List ℕ) → Output → Result Findings RunFault → Type 0
 RunsText options given out result =
     (text : List ℕ) × IsTextOf given text × WritesReport text options out.old out.new out.failed result
     × IfErr result (λ f. IsRefusalOf f text) × IsExactFor result text
     × IfErr result (λ f. IsFaultOfWorkers options.workers f)
 
--- the lines in the input were checked against the text in it; a fault is one of them, and no fault of the text that is
--- always found is passed over
+-- lines were checked against a text; a fault is one of them, and no fault of the text that is always found is passed over
+abbrev pub ChecksIn : (text lines : List ℕ) → Output → Result (Unit {0}) CheckScheduleFault → Type 0
+ChecksIn text lines out result =
+    SaysExecution text lines out.old out.new out.failed result × IfErr result (λ f. IsFaultOfCheck f text lines)
+    × IsExactForCheck result text
+
+-- the lines in the input were checked against the text in it
 abbrev pub ChecksLines : Option (List ℕ) → Output → Result (Unit {0}) CheckScheduleFault → Type 0
 ChecksLines given out result =
-    (input : List ℕ) × IsTextOf given input
-    × SaysExecution (text_part input) (lines_part input) out.old out.new out.failed result
-    × IfErr result (λ f. IsFaultOfCheck f (text_part input) (lines_part input))
-    × IsExactForCheck result (text_part input)
+    (input : List ℕ) × IsTextOf given input × ChecksIn (text_part input) (lines_part input) out result
+
+-- the schedule in an input was checked against a text
+abbrev pub ChecksGiven : List ℕ → Option (List ℕ) → Output → Result (Unit {0}) CheckScheduleFault → Type 0
+ChecksGiven text other out result =
+    (lines : List ℕ) × IsTextOf other lines × ChecksIn text (schedule_part lines) out result
+
+-- the schedule in one input was checked against the text in another
+abbrev pub ChecksApart : (given other : Option (List ℕ)) → Output → Result (Unit {0}) CheckScheduleFault → Type 0
+ChecksApart given other out result = (text : List ℕ) × IsTextOf given text × ChecksGiven text other out result
+
+-- the schedule was checked that stands behind the text in its input, or in an input of its own
+abbrev pub ChecksGivenIn : InputName → Option InputName → Option (List ℕ) → Output
+    → Result (Unit {0}) CheckScheduleFault → Type 0
+ChecksGivenIn input None given out result = ChecksLines (given_by input given) out result
+ChecksGivenIn input (Some s) given out result =
+    ChecksApart (given_by input given) (given_behind input s given) out result
+
+abbrev pub ChecksSchedule : CheckChoice → Option (List ℕ) → Output → Result (Unit {0}) CheckScheduleFault → Type 0
+ChecksSchedule c given out result = ChecksGivenIn c.input c.schedule given out result
+
+-- the text of the input was laid out anew; a fault is one of that text
+abbrev pub PrintsText : Option (List ℕ) → Output → Result (Unit {0}) PrintFault → Type 0
+PrintsText given out result =
+    (text : List ℕ) × IsTextOf given text × PrintsAnew text out.old out.new out.failed result
+    × IfErr result (λ f. IsFaultOfPrint f text)
+
+-- why an input of `check` gives no text
+abbrev pub IsFaultOfSchedule : Option InputName → Option (List ℕ) → TextFault → Type 0
+IsFaultOfSchedule None given f = ⊥
+IsFaultOfSchedule (Some s) given f = IsFaultOfInput s given f
+
+abbrev pub IsFaultOfInputs : CheckChoice → Option (List ℕ) → TextFault → Type 0
+IsFaultOfInputs c given f =
+    IsFaultOfInput c.input given f ⊎ IsFaultOfSchedule c.schedule (behind c.input given) f
+
+-- lines were checked against a text, if that ends so
+abbrev pub IsChecked : (text lines : List ℕ) → Output → Result (Unit {0}) TextFault → Type 0
+IsChecked text lines out (Ok x) = ChecksIn text lines out (Ok x)
+IsChecked text lines out (Err (Input f)) = ⊥
+IsChecked text lines out (Err (Unread name)) = ⊥
+IsChecked text lines out (Err (Run f)) = ⊥
+IsChecked text lines out (Err (Check f)) = ChecksIn text lines out (Err f)
+IsChecked text lines out (Err (Print f)) = ⊥
+
+-- the same, if it ends so: nothing if the input gives no text
+abbrev pub IsCheckedBy : List ℕ → InputName → Option (List ℕ) → Output → Result (Unit {0}) TextFault → Type 0
+IsCheckedBy text schedule given out (Ok x) = ChecksGiven text (given_by schedule given) out (Ok x)
+IsCheckedBy text schedule given out (Err (Input f)) = IsFaultOfInput schedule given (Input f) × IsKept out
+IsCheckedBy text schedule given out (Err (Unread name)) = IsFaultOfInput schedule given (Unread name) × IsKept out
+IsCheckedBy text schedule given out (Err (Run f)) = ⊥
+IsCheckedBy text schedule given out (Err (Check f)) = ChecksGiven text (given_by schedule given) out (Err f)
+IsCheckedBy text schedule given out (Err (Print f)) = ⊥
 
 -- what `run` read and what it wrote as its report, if it ends so: nothing if the input gives no text
-abbrev pub Executes : PlainOptions → Option (List ℕ) → Output → Result (Unit {0}) TextFault → Type 0
-Executes options given out (Ok x) = RunsText options given out (Ok x)
-Executes options given out (Err (Input f)) = IfSome given (IsFaultOf f) × IsKept out
-Executes options given out (Err (Run f)) = RunsText options given out (Err f)
-Executes options given out (Err (Check f)) = ⊥
+abbrev pub Executes : RunChoice → Option (List ℕ) → Output → Result Findings TextFault → Type 0
+Executes r given out (Ok x) = RunsText r.options (given_by r.input given) out (Ok x)
+Executes r given out (Err (Input f)) = IsFaultOfInput r.input given (Input f) × IsKept out
+Executes r given out (Err (Unread name)) = IsFaultOfInput r.input given (Unread name) × IsKept out
+Executes r given out (Err (Run f)) = RunsText r.options (given_by r.input given) out (Err f)
+Executes r given out (Err (Check f)) = ⊥
+Executes r given out (Err (Print f)) = ⊥
 
--- what `check` read and what it said, if it ends so: nothing if the input gives no text
-abbrev pub Follows : Option (List ℕ) → Output → Result (Unit {0}) TextFault → Type 0
-Follows given out (Ok x) = ChecksLines given out (Ok x)
-Follows given out (Err (Input f)) = IfSome given (IsFaultOf f) × IsKept out
-Follows given out (Err (Run f)) = ⊥
-Follows given out (Err (Check f)) = ChecksLines given out (Err f)
+-- what `check` read and what it said, if it ends so: nothing if an input gives no text
+abbrev pub Follows : CheckChoice → Option (List ℕ) → Output → Result (Unit {0}) TextFault → Type 0
+Follows c given out (Ok x) = ChecksSchedule c given out (Ok x)
+Follows c given out (Err (Input f)) = IsFaultOfInputs c given (Input f) × IsKept out
+Follows c given out (Err (Unread name)) = IsFaultOfInputs c given (Unread name) × IsKept out
+Follows c given out (Err (Run f)) = ⊥
+Follows c given out (Err (Check f)) = ChecksSchedule c given out (Err f)
+Follows c given out (Err (Print f)) = ⊥
 
--- 1 if the input is refused, and 3 if memory or reading failed
-abbrev pub input_status : InputFault → ℕ
-input_status input.Read = 3
-input_status input.TooLong = 1
-input_status (input.BadCharacter offset) = 1
-input_status input.Memory = 3
+-- what `print` read and wrote, if it ends so: nothing if the input gives no text
+abbrev pub Prints : InputName → Option (List ℕ) → Output → Result (Unit {0}) TextFault → Type 0
+Prints input given out (Ok x) = PrintsText (given_by input given) out (Ok x)
+Prints input given out (Err (Input f)) = IsFaultOfInput input given (Input f) × IsKept out
+Prints input given out (Err (Unread name)) = IsFaultOfInput input given (Unread name) × IsKept out
+Prints input given out (Err (Run f)) = ⊥
+Prints input given out (Err (Check f)) = ⊥
+Prints input given out (Err (Print f)) = PrintsText (given_by input given) out (Err f)
 
--- 1 if the text is refused, and 3 if memory, finishing or writing failed
-abbrev pub run_status : RunFault → ℕ
-run_status (run.Front f) = 1
-run_status (run.Check f) = 1
-run_status (run.Finish f) = 3
-run_status run.Memory = 3
-run_status run.Write = 3
+-- the run of the text of the input was shown
+abbrev pub TracesText : TraceChoice → Option (List ℕ) → Output → Result (Unit {0}) RunFault → Type 0
+TracesText t given out result =
+    (text : List ℕ) × IsTextOf (given_by t.input given) text
+    × ShowsRun text t.options t.format out.old out.new out.failed result
+    × IfErr result (λ f. IsRefusalOf f text)
 
--- 1 if the text or the schedule is refused, and 3 if memory or writing failed
-abbrev pub check_status : CheckScheduleFault → ℕ
-check_status (check.Front f) = 1
-check_status (check.Check f) = 1
-check_status (check.Schedule f) = 1
-check_status check.Memory = 3
-check_status check.Write = 3
+-- what `trace` read and showed, if it ends so: nothing if the input gives no text
+abbrev pub IsTraced : TraceChoice → Option (List ℕ) → Output → Result (Unit {0}) TextFault → Type 0
+IsTraced t given out (Ok x) = TracesText t given out (Ok x)
+IsTraced t given out (Err (Input f)) = IsFaultOfInput t.input given (Input f) × IsKept out
+IsTraced t given out (Err (Unread name)) = IsFaultOfInput t.input given (Unread name) × IsKept out
+IsTraced t given out (Err (Run f)) = TracesText t given out (Err f)
+IsTraced t given out (Err (Check f)) = ⊥
+IsTraced t given out (Err (Print f)) = ⊥
 
--- the line of an input that gives no text: a read has `failed`, all else is `refused`
-abbrev pub input_line : InputFault → List ℕ
-input_line input.Read = codes "failed " ++ input_fault_text input.Read
-input_line input.TooLong = codes "refused " ++ input_fault_text input.TooLong
-input_line (input.BadCharacter offset) = codes "refused " ++ input_fault_text (input.BadCharacter offset)
-input_line input.Memory = codes "refused " ++ input_fault_text input.Memory
-
--- the line of a text that gave no report: a write has `failed`, all else is `refused`
-abbrev pub run_line : RunFault → List ℕ
-run_line (run.Front f) = codes "refused " ++ run_fault_text (run.Front f)
-run_line (run.Check f) = codes "refused " ++ run_fault_text (run.Check f)
-run_line (run.Finish f) = codes "refused " ++ run_fault_text (run.Finish f)
-run_line run.Memory = codes "refused " ++ run_fault_text run.Memory
-run_line run.Write = codes "failed " ++ run_fault_text run.Write
-
--- the line of a schedule that is not said to be an execution: a write has `failed`, all else is `refused`
-abbrev pub check_line : CheckScheduleFault → List ℕ
-check_line (check.Front f) = codes "refused " ++ check_schedule_fault_text (check.Front f)
-check_line (check.Check f) = codes "refused " ++ check_schedule_fault_text (check.Check f)
-check_line (check.Schedule f) = codes "refused " ++ check_schedule_fault_text (check.Schedule f)
-check_line check.Memory = codes "refused " ++ check_schedule_fault_text check.Memory
-check_line check.Write = codes "failed " ++ check_schedule_fault_text check.Write
-
--- the status of a fault, and its line
-abbrev pub fault_status : TextFault → ℕ
-fault_status (Input f) = input_status f
-fault_status (Run f) = run_status f
-fault_status (Check f) = check_status f
-
-abbrev pub fault_line : TextFault → List ℕ
-fault_line (Input f) = input_line f
-fault_line (Run f) = run_line f
-fault_line (Check f) = check_line f
+-- the status of a run that wrote its report: 4 if the report has a finding at which the status is to tell
+abbrev pub found_status : (fail_on found : Findings) → ℕ
+found_status fail_on found = if meet fail_on found then 4 else 0
 
 -- the line of want of memory
 abbrev pub memory_line : List ℕ
@@ -167,16 +198,25 @@ pub record ShowsWords (kind : ErrorKind) (status : ℕ) (out err : Output) : Typ
       → IsKept out × (((status ≡ words_status kind) × ShowsText err) ⊎ ((status ≡ 3) × Shows memory_line err))
 
 -- a status, and what is shown as an error: nothing if all was done, else the line of the fault
-abbrev pub Tells : Output → ℕ → Result (Unit {0}) TextFault → Type 0
-Tells err status (Ok x) = (status ≡ 0) × IsKept err
-Tells err status (Err f) = ShowsLine (fault_line f) (fault_status f) status err
+abbrev pub Tells : {T : Type 0} → (T → ℕ) → Output → ℕ → Result T TextFault → Type 0
+Tells done err status (Ok x) = (status ≡ done x) × IsKept err
+Tells done err status (Err f) = ShowsLine (fault_line f) (fault_status f) status err
 
--- the program ends as `run` with its options, or as `check`
+-- the status of what is done without a finding
+abbrev pub no_finding : Unit {0} → ℕ
+no_finding x = 0
+
+-- the program ends as the subcommand does
 abbrev pub EndsAs : Subcommand → Option (List ℕ) → Output → Output → ℕ → Type 0
-EndsAs (subcommand.Run options) given out err status =
-    (outcome : Result (Unit {0}) TextFault) × Executes options given out outcome × Tells err status outcome
-EndsAs subcommand.Check given out err status =
-    (outcome : Result (Unit {0}) TextFault) × Follows given out outcome × Tells err status outcome
+EndsAs (subcommand.Run r) given out err status =
+    (outcome : Result Findings TextFault) × Executes r given out outcome
+    × Tells (found_status r.fail_on) err status outcome
+EndsAs (subcommand.Trace t) given out err status =
+    (outcome : Result (Unit {0}) TextFault) × IsTraced t given out outcome × Tells no_finding err status outcome
+EndsAs (subcommand.Check c) given out err status =
+    (outcome : Result (Unit {0}) TextFault) × Follows c given out outcome × Tells no_finding err status outcome
+EndsAs (subcommand.Print input) given out err status =
+    (outcome : Result (Unit {0}) TextFault) × Prints input given out outcome × Tells no_finding err status outcome
 
 -- the words choose a subcommand, and the program ends as that does
 abbrev pub EndsChosen : List Text → Option (List ℕ) → Output → Output → ℕ → Type 0
@@ -190,9 +230,25 @@ EndsWords words out err status = (e : Error) × IsErrorOf words e × ShowsWords 
 abbrev pub Ends : List Text → Option (List ℕ) → Output → Output → ℕ → Type 0
 Ends words given out err status = EndsChosen words given out err status ⊎ EndsWords words out err status
 
--- what status 0 says: the report of the text that was read went out; or the lines that were read are an execution of its
--- system; or a text for which the words ask
+-- a report went out, and the status tells what it has
+abbrev pub Reports : List Text → Option (List ℕ) → Output → ℕ → Type 0
+Reports words given out status =
+    (r : RunChoice) × Chooses words (subcommand.Run r)
+    × ((found : Findings) × RunsText r.options (given_by r.input given) out (Ok found)
+    × (status ≡ found_status r.fail_on found))
+
+-- a run was shown
+abbrev pub Traces : List Text → Option (List ℕ) → Output → Type 0
+Traces words given out =
+    (t : TraceChoice) × Chooses words (subcommand.Trace t) × TracesText t given out (Ok tt)
+
+-- what status 0 says: the report of the text that was read went out, and it has no finding at which the status is to
+-- tell; or the run of the text was shown; or the schedule that was read is an execution of the
+-- text's system; or the text went out laid out anew; or a text for which the words ask
 abbrev pub IsDone : List Text → Option (List ℕ) → Output → Type 0
 IsDone words given out =
-    ((options : PlainOptions) × Chooses words (subcommand.Run options) × RunsText options given out (Ok tt))
-    ⊎ ((Chooses words subcommand.Check × ChecksLines given out (Ok tt)) ⊎ (AsksForText words × ShowsText out))
+    Reports words given out 0
+    ⊎ (Traces words given out
+    ⊎ (((c : CheckChoice) × Chooses words (subcommand.Check c) × ChecksSchedule c given out (Ok tt))
+    ⊎ (((input : InputName) × Chooses words (subcommand.Print input) × PrintsText (given_by input given) out (Ok tt))
+    ⊎ (AsksForText words × ShowsText out))))

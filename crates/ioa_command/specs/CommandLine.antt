@@ -1,7 +1,9 @@
 -- The words of the command line (profile): what clap is told of them, and what its matches choose.
-use Rattle.std.specs.Prelude.{◌≡◌, ◌⊎◌, ℕ, true, List, [], ◌∷◌, Option, Some, None, codes}
+use Rattle.std.specs.Prelude.{◌≡◌, ◌⊎◌, ℕ, true, if◌then◌else◌, List, [], ◌∷◌, Option, Some, None, codes}
+use Rattle.std.specs.Prelude.{option_and_then, option_map, string_bytes}
+use Rattle.std.specs.Str.{bytes_eq}
 use Rattle.std.specs.Str.Parse.{digits_value, without_leading_plus}
-use Rattle.clap.specs.Walk.{Row, Rule, Text, one_of}
+use Rattle.clap.specs.Walk.{Row, Rule, Text, first_of, one_of}
 use Rattle.clap.specs.Simple.{App, new_app, new_rule, on_top, with_rule, with_subcommand, subcommand_of}
 use Rattle.clap.specs.Faults.{fault_of}
 use Rattle.clap.specs.Kinds.{HasKind, IsAmong}
@@ -13,8 +15,19 @@ use Rattle.clap.specs.declared.error.kind.ErrorKind.{ErrorKind}
 use Rattle.clap.specs.declared.error.kind.ErrorKind.TheVariants.{DisplayHelp, DisplayVersion}
 use Rattle.clap.specs.declared.error.kind.ErrorKind.TheVariants.{OutOfMemory, ValueValidation}
 use Rattle.ioa_record.specs.declared.options.TheConstants.{GREATEST_WORKERS, GREATEST_STEPS, GREATEST_ATTEMPTS}
-use Rattle.ioa_command.specs.declared.words.Subcommand.{Subcommand}
-use Rattle.ioa_command.specs.declared.words.Subcommand.TheVariants.{Run, Check}
+use Rattle.ioa_record.specs.declared.options.TheConstants.{DEFAULT_WORKERS}
+use Rattle.ioa_pipeline.specs.declared.tracing.Format.{Format}
+use Rattle.ioa_pipeline.specs.declared.tracing.Format.TheVariants.{Json, States, Diagram, Sequence}
+use Rattle.ioa_record.specs.Options.{PlainOptions}
+use Rattle.ioa_monitor.specs.declared.findings.Findings.{Findings}
+use Rattle.ioa_command.specs.declared.choice.InputName.{InputName}
+use Rattle.ioa_command.specs.declared.choice.InputName.TheVariants.{Standard, File}
+use Rattle.ioa_command.specs.declared.choice.RunChoice.{RunChoice}
+use Rattle.ioa_command.specs.declared.choice.TraceChoice.{TraceChoice}
+use Rattle.ioa_command.specs.declared.choice.CheckChoice.{CheckChoice}
+use Rattle.ioa_command.specs.declared.choice.Subcommand.{Subcommand}
+use Rattle.ioa_command.specs.declared.choice.Subcommand.TheVariants.{Run, Trace, Check, Print}
+use Rattle.ioa_command.specs.FailOn.{findings_named, no_findings}
 
 -- `--name N`, a number that a parser takes; if it is not given, another text is read in its place
 abbrev pub number_rule : Text → ValueParser → Text → Rule
@@ -30,36 +43,129 @@ steps_rule = number_rule (codes "steps") (Unsigned 0 GREATEST_STEPS) (codes "100
 abbrev pub attempts_rule : Rule
 attempts_rule = number_rule (codes "attempts") (Unsigned 1 GREATEST_ATTEMPTS) (codes "1000")
 
--- `run --workers N --steps N --attempts N`
-abbrev pub run_app : App
-run_app = with_rule (with_rule (with_rule (new_app (codes "run")) workers_rule) steps_rule) attempts_rule
+-- a word that may be left out
+abbrev pub word_rule : Text → Rule
+word_rule id = record (new_rule id) { value_names = 1 }
 
--- `check`
+-- `--fail-on NAMES`
+abbrev pub fail_on_rule : Rule
+fail_on_rule = record (new_rule (codes "fail-on")) { long = Some (codes "fail-on"); value_names = 1 }
+
+-- `run FILE --workers N --steps N --attempts N --fail-on NAMES`
+abbrev pub run_app : App
+run_app =
+    with_rule
+    (with_rule
+    (with_rule (with_rule (with_rule (new_app (codes "run")) (word_rule (codes "file"))) workers_rule) steps_rule)
+    attempts_rule)
+    fail_on_rule
+
+-- `--format NAME`
+abbrev pub format_rule : Rule
+format_rule = record (new_rule (codes "format")) { long = Some (codes "format"); value_names = 1 }
+
+-- `trace FILE --steps N --attempts N --format NAME`
+abbrev pub trace_app : App
+trace_app =
+    with_rule
+    (with_rule (with_rule (with_rule (new_app (codes "trace")) (word_rule (codes "file"))) steps_rule) attempts_rule)
+    format_rule
+
+-- `check FILE SCHEDULE`
 abbrev pub check_app : App
-check_app = new_app (codes "check")
+check_app = with_rule (with_rule (new_app (codes "check")) (word_rule (codes "file"))) (word_rule (codes "schedule"))
+
+-- `print FILE`
+abbrev pub print_app : App
+print_app = with_rule (new_app (codes "print")) (word_rule (codes "file"))
 
 -- the program's name, and then one of its subcommands; it has a version, and shows its help if there are no words
 abbrev pub program_app : App
 program_app =
     with_subcommand
     (with_subcommand
+    (with_subcommand
+    (with_subcommand
     (on_top (λ s. record s { has_version = true; subcommand_required = true; arg_required_else_help = true })
     (new_app (codes "ioarun")))
     run_app.top)
-    check_app.top
+    trace_app.top)
+    check_app.top)
+    print_app.top
 
 -- the number that an option has in the matches: that of its decimal digits
 abbrev pub IsNumberOf : List Row → Text → ℕ → Type 0
 IsNumberOf rows name n =
     (t : Text) × (one_of name rows ≡ Some t) × (n ≡ digits_value 10 (without_leading_plus t))
 
--- the subcommand that the matches name, with its numbers if it has some
+-- the three numbers of options
+abbrev pub AreNumbersOf : List Row → PlainOptions → Type 0
+AreNumbersOf rows o =
+    IsNumberOf rows (codes "workers") o.workers × IsNumberOf rows (codes "steps") o.steps
+    × IsNumberOf rows (codes "attempts") o.attempts
+
+-- the file of an input, if it is none of standard input
+abbrev pub name_of : InputName → Option Text
+name_of Standard = None
+name_of (File name) = Some (string_bytes name)
+
+-- the file that a word names: none if it is `-`
+abbrev pub input_named : Text → Option Text
+input_named word = if bytes_eq word (codes "-") then None else Some word
+
+-- the file that a word names, which may be left out
+abbrev pub input_given : Option Text → Option Text
+input_given word = option_and_then input_named word
+
+-- the findings that a word names: none if it is left out
+abbrev pub findings_given : Option Text → Option Findings
+findings_given None = Some no_findings
+findings_given (Some names) = findings_named names
+
+-- the format of a name; nothing if there is none
+abbrev pub format_named : Text → Option Format
+format_named name =
+    if bytes_eq name (codes "json") then Some Json
+    else (if bytes_eq name (codes "itf") then Some States
+    else (if bytes_eq name (codes "svg") then Some Diagram
+    else (if bytes_eq name (codes "mermaid") then Some Sequence else None)))
+
+-- the format that a word names: JSON if it is left out
+abbrev pub format_given : Option Text → Option Format
+format_given None = Some Json
+format_given (Some name) = format_named name
+
+-- options of one worker, with two numbers
+abbrev pub AreLimitsOf : List Row → PlainOptions → Type 0
+AreLimitsOf rows o =
+    (o.workers ≡ DEFAULT_WORKERS) × IsNumberOf rows (codes "steps") o.steps
+    × IsNumberOf rows (codes "attempts") o.attempts
+
+-- what the matches of `trace` choose
+pub record IsTraceOf (rows : List Row) (t : TraceChoice) : Type 0 where
+  pub input : name_of t.input ≡ input_given (first_of (codes "file") rows)
+  pub options : AreLimitsOf rows t.options
+  pub format : format_given (first_of (codes "format") rows) ≡ Some t.format
+
+-- what the matches of `run` choose
+pub record IsRunOf (rows : List Row) (r : RunChoice) : Type 0 where
+  pub input : name_of r.input ≡ input_given (first_of (codes "file") rows)
+  pub options : AreNumbersOf rows r.options
+  pub fail_on : findings_given (first_of (codes "fail-on") rows) ≡ Some r.fail_on
+
+-- what the matches of `check` choose
+pub record IsCheckOf (rows : List Row) (c : CheckChoice) : Type 0 where
+  pub input : name_of c.input ≡ input_given (first_of (codes "file") rows)
+  pub schedule : option_map name_of c.schedule ≡ option_map input_named (first_of (codes "schedule") rows)
+
+-- the subcommand that the matches name, with what it is asked to do
 abbrev pub IsChosenBy : Option (Text × List Row) → Subcommand → Type 0
 IsChosenBy None choice = ⊥
-IsChosenBy (Some (name, rows)) (Run o) =
-    (name ≡ codes "run") × IsNumberOf rows (codes "workers") o.workers × IsNumberOf rows (codes "steps") o.steps
-    × IsNumberOf rows (codes "attempts") o.attempts
-IsChosenBy (Some (name, rows)) Check = name ≡ codes "check"
+IsChosenBy (Some (name, rows)) (Run r) = (name ≡ codes "run") × IsRunOf rows r
+IsChosenBy (Some (name, rows)) (Trace t) = (name ≡ codes "trace") × IsTraceOf rows t
+IsChosenBy (Some (name, rows)) (Check c) = (name ≡ codes "check") × IsCheckOf rows c
+IsChosenBy (Some (name, rows)) (Print input) =
+    (name ≡ codes "print") × (name_of input ≡ input_given (first_of (codes "file") rows))
 
 -- what the words choose, the program's name first
 abbrev pub Chooses : List Text → Subcommand → Type 0

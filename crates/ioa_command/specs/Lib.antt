@@ -1,3 +1,6 @@
 -- what the contracts of this crate cite
 pub mod Command
 pub mod CommandLine
+pub mod FailOn
+pub mod Faults
+pub mod Inputs

@@ -1,59 +1,53 @@
 //! The program as a function of its words and its streams.
 
-ghost use Rattle.std.specs.Prelude.{◌≡◌, ◌⊎◌, ◌++◌, false, not, codes, map, IfOk, MatchResult, Result};
+ghost use Rattle.std.specs.Prelude.{◌≡◌, ◌⊎◌, false, not, codes, map, MatchResult, Result};
 ghost use Rattle.std.specs.Io.KnownBytes.{Keeps};
 ghost use Rattle.std.specs.String.{string_bytes};
 ghost use Rattle.clap.specs.Values.{kind_of};
-ghost use Rattle.ioa_command.specs.declared.command_line.TextFault.{TextFault};
-ghost use Rattle.ioa_command.specs.Command.{Ends, EndsAs, Executes, Follows, IsDone, Tells};
-ghost use Rattle.ioa_command.specs.Command.{Shows, ShowsAsked, ShowsWords, output};
-ghost use Rattle.ioa_command.specs.Command.{check_line, check_status, fault_line, fault_status, input_line, input_status};
-ghost use Rattle.ioa_command.specs.Command.{memory_line, run_line, run_status};
+ghost use Rattle.ioa_streams.specs.Parts.{lines_part, text_part};
+ghost use Rattle.ioa_monitor.specs.declared.findings.Findings.{Findings};
+ghost use Rattle.ioa_command.specs.declared.faults.TextFault.{TextFault};
+ghost use Rattle.ioa_command.specs.Command.{Ends, EndsAs, Executes, Follows, IsChecked, IsCheckedBy, IsDone, Prints, Tells};
+ghost use Rattle.ioa_command.specs.Command.{Reports, Shows, ShowsAsked, ShowsLine, ShowsWords, found_status, no_finding, output};
+ghost use Rattle.ioa_command.specs.Command.{IsTraced, memory_line};
+ghost use Rattle.ioa_command.specs.Faults.{fault_line, fault_status};
 ghost use Rattle.ioa_command.specs.CommandLine.{words_status};
 
-use crate::words::{Subcommand, options};
+use crate::choice::{CheckChoice, InputName, RunChoice, Subcommand, TraceChoice};
+use crate::fail_on::meet;
+use crate::faults::{FAILED, TextFault, fault_line, fault_status};
+use crate::inputs::text_of;
+use crate::words::options;
 use clap::Error;
 use clap::error::ErrorKind;
-use ioa_pipeline::{CheckScheduleFault, Open, Options, RunFault, check_text, run_system};
-use ioa_streams::{InputFault, Out, parts, put_all, read_input};
+use ioa_pipeline::{Findings, Open, check_text, print_text, run_system, trace_text};
+use ioa_streams::{Out, parts, put_all, schedule_part};
 use std::alloc::{AllocError, Global};
 use std::io::Read;
+use std::rt::Files;
 use std::sync::Wait;
 use std::thread::Threads;
 
 /// The status of a program that did what it was asked.
 const DONE: u8 = 0;
 
-/// The status if the text was refused.
-const REFUSED: u8 = 1;
-
 /// The status if the command line was refused.
 pub const BAD_WORDS: u8 = 2;
 
-/// The status if memory, finishing, reading or writing failed.
-pub const FAILED: u8 = 3;
-
-/// Why `run` wrote no report, or `check` did not say that a schedule is an execution.
-#[derive(Debug, Drop)]
-enum TextFault {
-    /// The input gives no text.
-    Input(InputFault),
-    /// The text gave no report.
-    Run(RunFault),
-    /// The schedule is not said to be an execution.
-    Check(CheckScheduleFault),
-}
+/// The status if a report has what the words ask to be told.
+const FOUND: u8 = 4;
 
 /// The program (profile): `words` are those of the command line, its own name first, and choose what it does. `run`
-/// reads a text, runs its system by workers in this runtime, and writes the report. `check` reads a text and a schedule,
-/// and says whether the schedule is an execution. Returns the status: 0 if the report was written, if the schedule is an
-/// execution, or if the help or the version for which the words ask was shown; 1 if the text or the schedule was refused;
-/// 2 if the words were refused; and 3 if memory ran out, what several workers left could not be put together, or reading
-/// or writing failed.
-/// If it is not 0, `err` says why; a fault of `err` is ignored. If there is no memory for what it has to say, the
+/// reads a text, runs its system by workers in this runtime, and writes the report. `trace` reads a text, runs its system by one worker, and shows the run. `check` reads a text and a
+/// schedule, and says whether the schedule is an execution. `print` reads a text and writes it laid out anew. A text is read from
+/// the file that is named, else from `reader`. Returns the status: 0 if all was done, or if the help or the version for
+/// which the words ask was shown; 1 if the text or the schedule was refused; 2 if the words were refused; 3 if memory ran
+/// out, what several workers left could not be put together, or reading or writing failed; and 4 if the report was
+/// written and has what `--fail-on` names.
+/// If it is 1, 2 or 3, `err` says why; a fault of `err` is ignored. If there is no memory for what it has to say, the
 /// status is 3 and a line says so.
 #[tactic(auto, using(crate::proofs::Endings::refused_of))]
-pub fn command<'a, R: Threads + Wait + Sync, I: Read, O: Out, E: Out>(
+pub fn command<'a, R: Files + Threads + Wait + Sync, I: Read, O: Out, E: Out>(
     rt: &R,
     alloc: Global,
     words: &'a [&'a str],
@@ -67,6 +61,8 @@ pub fn command<'a, R: Threads + Wait + Sync, I: Read, O: Out, E: Out>(
     // what the status says of the output
     ensures done { result ≡ 0 → IsDone (map (λ w. w.now) words.entry.now) (I.remaining reader.old)
         (output (O.bytes out.old) (O.bytes out.new) (O.failed out.new)) }
+    ensures found { result ≡ 4 → Reports (map (λ w. w.now) words.entry.now) (I.remaining reader.old)
+        (output (O.bytes out.old) (O.bytes out.new) (O.failed out.new)) 4 }
     ensures refused { (result ≡ 1) ⊎ (result ≡ 2) → Keeps (O.bytes out.old) (O.bytes out.new) }
     // of which fault the status and what is shown are
     ensures ends { Ends (map (λ w. w.now) words.entry.now) (I.remaining reader.old)
@@ -77,7 +73,7 @@ pub fn command<'a, R: Threads + Wait + Sync, I: Read, O: Out, E: Out>(
 }
 
 /// Does what the words choose, and tells of a fault.
-fn execute_words<'a, R: Threads + Wait + Sync, I: Read, O: Out, E: Out>(
+fn execute_words<'a, R: Files + Threads + Wait + Sync, I: Read, O: Out, E: Out>(
     rt: &R,
     alloc: Global,
     words: &'a [&'a str],
@@ -98,7 +94,7 @@ fn execute_words<'a, R: Threads + Wait + Sync, I: Read, O: Out, E: Out>(
 }
 
 /// Does what a subcommand asks for, and tells of a fault.
-fn obey<R: Threads + Wait + Sync, I: Read, O: Out, E: Out>(
+fn obey<R: Files + Threads + Wait + Sync, I: Read, O: Out, E: Out>(
     rt: &R,
     alloc: Global,
     subcommand: &Subcommand,
@@ -113,83 +109,228 @@ fn obey<R: Threads + Wait + Sync, I: Read, O: Out, E: Out>(
         (output (E.bytes err.old) (E.bytes err.new) (E.failed err.new)) result }
 {
     match subcommand {
-        Subcommand::Run(options) => run_text(rt, alloc, options, reader, out, err),
-        Subcommand::Check => check_lines(alloc, reader, out, err),
+        Subcommand::Run(choice) => run_text(rt, alloc, choice, reader, out, err),
+        Subcommand::Trace(choice) => show_run(rt, alloc, choice, reader, out, err),
+        Subcommand::Check(choice) => check_lines(rt, alloc, choice, reader, out, err),
+        Subcommand::Print(input) => print_again(rt, alloc, input, reader, out, err),
     }
 }
 
-/// Runs the text with these options, and tells of a fault.
-fn run_text<R: Threads + Wait + Sync, I: Read, O: Out, E: Out>(
+/// Runs a text, and tells of a fault or of what was found.
+fn run_text<R: Files + Threads + Wait + Sync, I: Read, O: Out, E: Out>(
     rt: &R,
     alloc: Global,
-    options: &Options,
+    choice: &RunChoice,
     reader: &mut I,
     out: &mut O,
     err: &mut E,
 ) -> u8
     requires out { O.failed out.old ≡ false }
     requires err { E.failed err.old ≡ false }
-    ensures { (outcome : Result (Unit {0}) TextFault) × Executes options.now (I.remaining reader.old)
+    ensures { (outcome : Result Findings TextFault) × Executes choice.now (I.remaining reader.old)
         (output (O.bytes out.old) (O.bytes out.new) (O.failed out.new)) outcome
-        × Tells (output (E.bytes err.old) (E.bytes err.new) (E.failed err.new)) result outcome }
+        × Tells (found_status choice.now.fail_on) (output (E.bytes err.old) (E.bytes err.new) (E.failed err.new))
+        result outcome }
 {
-    let outcome = execute(rt, alloc, options, reader, out);
+    let outcome = execute(rt, alloc, choice, reader, out);
+    match &outcome {
+        Ok(found) => found_status(&choice.fail_on, found),
+        Err(fault) => tell_fault(alloc, fault, err),
+    }
+}
+
+/// The status of a report with these findings.
+fn found_status(fail_on: &Findings, found: &Findings) -> u8
+    ensures { result ≡ found_status fail_on.now found.now }
+{
+    if meet(fail_on, found) { FOUND } else { DONE }
+}
+
+/// Shows the run of a text, and tells of a fault.
+fn show_run<R: Files + Threads + Wait + Sync, I: Read, O: Out, E: Out>(
+    rt: &R,
+    alloc: Global,
+    choice: &TraceChoice,
+    reader: &mut I,
+    out: &mut O,
+    err: &mut E,
+) -> u8
+    requires out { O.failed out.old ≡ false }
+    requires err { E.failed err.old ≡ false }
+    ensures { (outcome : Result (Unit {0}) TextFault) × IsTraced choice.now (I.remaining reader.old)
+        (output (O.bytes out.old) (O.bytes out.new) (O.failed out.new)) outcome
+        × Tells no_finding (output (E.bytes err.old) (E.bytes err.new) (E.failed err.new)) result outcome }
+{
+    let outcome = trace_from(rt, alloc, choice, reader, out);
     tell(alloc, &outcome, err)
 }
 
-/// Checks the lines of a schedule against the text before them, and tells of a fault.
-fn check_lines<I: Read, O: Out, E: Out>(
+/// Checks the lines of a schedule against a text, and tells of a fault.
+fn check_lines<R: Files, I: Read, O: Out, E: Out>(
+    rt: &R,
     alloc: Global,
+    choice: &CheckChoice,
     reader: &mut I,
     out: &mut O,
     err: &mut E,
 ) -> u8
     requires out { O.failed out.old ≡ false }
     requires err { E.failed err.old ≡ false }
-    ensures { (outcome : Result (Unit {0}) TextFault) × Follows (I.remaining reader.old)
+    ensures { (outcome : Result (Unit {0}) TextFault) × Follows choice.now (I.remaining reader.old)
         (output (O.bytes out.old) (O.bytes out.new) (O.failed out.new)) outcome
-        × Tells (output (E.bytes err.old) (E.bytes err.new) (E.failed err.new)) result outcome }
+        × Tells no_finding (output (E.bytes err.old) (E.bytes err.new) (E.failed err.new)) result outcome }
 {
-    let outcome = follow(alloc, reader, out);
+    let outcome = follow(rt, alloc, choice, reader, out);
+    tell(alloc, &outcome, err)
+}
+
+/// Lays a text out anew, and tells of a fault.
+fn print_again<R: Files, I: Read, O: Out, E: Out>(
+    rt: &R,
+    alloc: Global,
+    input: &InputName,
+    reader: &mut I,
+    out: &mut O,
+    err: &mut E,
+) -> u8
+    requires out { O.failed out.old ≡ false }
+    requires err { E.failed err.old ≡ false }
+    ensures { (outcome : Result (Unit {0}) TextFault) × Prints input.now (I.remaining reader.old)
+        (output (O.bytes out.old) (O.bytes out.new) (O.failed out.new)) outcome
+        × Tells no_finding (output (E.bytes err.old) (E.bytes err.new) (E.failed err.new)) result outcome }
+{
+    let outcome = print_from(rt, alloc, input, reader, out);
     tell(alloc, &outcome, err)
 }
 
 /// The status of an outcome. Of a fault it shows a line.
 fn tell<E: Out>(alloc: Global, outcome: &Result<(), TextFault>, err: &mut E) -> u8
     requires { E.failed err.old ≡ false }
-    ensures { Tells (output (E.bytes err.old) (E.bytes err.new) (E.failed err.new)) result outcome.now }
+    ensures { Tells no_finding (output (E.bytes err.old) (E.bytes err.new) (E.failed err.new)) result outcome.now }
 {
     match outcome {
         Ok(()) => DONE,
-        Err(fault) => show_line(fault_line(alloc, fault), fault_status(fault), err),
+        Err(fault) => tell_fault(alloc, fault, err),
     }
 }
 
-/// Reads the text, runs its system and writes the report.
-fn execute<R: Threads + Wait + Sync, I: Read, O: Out>(
+/// The status of a fault, of which it shows a line.
+fn tell_fault<E: Out>(alloc: Global, fault: &TextFault, err: &mut E) -> u8
+    requires { E.failed err.old ≡ false }
+    ensures { ShowsLine (fault_line fault.now) (fault_status fault.now) result
+        (output (E.bytes err.old) (E.bytes err.new) (E.failed err.new)) }
+{
+    show_line(fault_line(alloc, fault), fault_status(fault), err)
+}
+
+/// Reads a text, runs its system and writes the report.
+#[tactic(auto, using(crate::proofs::Readings::run_rules))]
+fn execute<R: Files + Threads + Wait + Sync, I: Read, O: Out>(
     rt: &R,
     alloc: Global,
-    options: &Options,
+    choice: &RunChoice,
+    reader: &mut I,
+    out: &mut O,
+) -> Result<Findings, TextFault>
+    requires { O.failed out.old ≡ false }
+    ensures { Executes choice.now (I.remaining reader.old)
+        (output (O.bytes out.old) (O.bytes out.new) (O.failed out.new)) result }
+{
+    let text = text_of(rt, alloc, &choice.input, reader)?;
+    match run_system(rt, alloc, text.as_str(), &choice.options, &Open, out) {
+        Ok(found) => Ok(found),
+        Err(fault) => Err(TextFault::Run(fault)),
+    }
+}
+
+/// Reads a text and shows its run.
+#[tactic(auto, using(crate::proofs::Readings::traces_unread))]
+fn trace_from<R: Files + Threads + Wait + Sync, I: Read, O: Out>(
+    rt: &R,
+    alloc: Global,
+    choice: &TraceChoice,
     reader: &mut I,
     out: &mut O,
 ) -> Result<(), TextFault>
     requires { O.failed out.old ≡ false }
-    ensures { Executes options.now (I.remaining reader.old)
+    ensures { IsTraced choice.now (I.remaining reader.old)
         (output (O.bytes out.old) (O.bytes out.new) (O.failed out.new)) result }
 {
-    let text = read_input(alloc, reader).map_err(TextFault::Input)?;
-    run_system(rt, alloc, text.as_str(), options, &Open, out).map_err(TextFault::Run)
+    let text = text_of(rt, alloc, &choice.input, reader)?;
+    trace_text(
+        rt,
+        alloc,
+        text.as_str(),
+        &choice.options,
+        choice.format,
+        out,
+    )
+    .map_err(TextFault::Run)
 }
 
-/// Reads the text and the schedule, and says whether the schedule is an execution of the text's system.
-fn follow<I: Read, O: Out>(alloc: Global, reader: &mut I, out: &mut O) -> Result<(), TextFault>
+/// Reads a text and a schedule, and says whether the schedule is an execution of the text's system.
+#[tactic(auto, using(crate::proofs::Readings::follow_rules))]
+fn follow<R: Files, I: Read, O: Out>(
+    rt: &R,
+    alloc: Global,
+    choice: &CheckChoice,
+    reader: &mut I,
+    out: &mut O,
+) -> Result<(), TextFault>
     requires { O.failed out.old ≡ false }
-    ensures { Follows (I.remaining reader.old)
+    ensures { Follows choice.now (I.remaining reader.old)
         (output (O.bytes out.old) (O.bytes out.new) (O.failed out.new)) result }
 {
-    let input = read_input(alloc, reader).map_err(TextFault::Input)?;
-    let (text, lines) = parts(input.as_str());
+    let input = text_of(rt, alloc, &choice.input, reader)?;
+    match &choice.schedule {
+        None => follow_parts(alloc, input.as_str(), out),
+        Some(schedule) => follow_apart(rt, alloc, input.as_str(), schedule, reader, out),
+    }
+}
+
+/// Says whether the schedule behind a text is an execution of the text's system.
+fn follow_parts<O: Out>(alloc: Global, input: &str, out: &mut O) -> Result<(), TextFault>
+    requires { O.failed out.old ≡ false }
+    ensures { IsChecked (text_part input.now) (lines_part input.now)
+        (output (O.bytes out.old) (O.bytes out.new) (O.failed out.new)) result }
+{
+    let (text, lines) = parts(input);
     check_text(alloc, text, lines, out).map_err(TextFault::Check)
+}
+
+/// Reads a schedule, and says whether it is an execution of a text's system.
+#[tactic(auto, using(crate::proofs::Readings::checked_unread))]
+fn follow_apart<R: Files, I: Read, O: Out>(
+    rt: &R,
+    alloc: Global,
+    text: &str,
+    schedule: &InputName,
+    reader: &mut I,
+    out: &mut O,
+) -> Result<(), TextFault>
+    requires { O.failed out.old ≡ false }
+    ensures { IsCheckedBy text.now schedule.now (I.remaining reader.old)
+        (output (O.bytes out.old) (O.bytes out.new) (O.failed out.new)) result }
+{
+    let lines = text_of(rt, alloc, schedule, reader)?;
+    check_text(alloc, text, schedule_part(lines.as_str()), out).map_err(TextFault::Check)
+}
+
+/// Reads a text and writes it laid out anew.
+#[tactic(auto, using(crate::proofs::Readings::prints_unread))]
+fn print_from<R: Files, I: Read, O: Out>(
+    rt: &R,
+    alloc: Global,
+    input: &InputName,
+    reader: &mut I,
+    out: &mut O,
+) -> Result<(), TextFault>
+    requires { O.failed out.old ≡ false }
+    ensures { Prints input.now (I.remaining reader.old)
+        (output (O.bytes out.old) (O.bytes out.new) (O.failed out.new)) result }
+{
+    let text = text_of(rt, alloc, input, reader)?;
+    print_text(alloc, text.as_str(), out).map_err(TextFault::Print)
 }
 
 /// The status if the words ask for a text or are refused.
@@ -200,97 +341,6 @@ fn words_status(error: &Error) -> u8
         ErrorKind::DisplayHelp | ErrorKind::DisplayVersion => DONE,
         ErrorKind::OutOfMemory => FAILED,
         _ => BAD_WORDS,
-    }
-}
-
-/// The status if the input gives no text.
-fn input_status(fault: &InputFault) -> u8
-    ensures { result ≡ input_status fault.now }
-{
-    match fault {
-        InputFault::TooLong | InputFault::BadCharacter(_) => REFUSED,
-        InputFault::Read | InputFault::Memory => FAILED,
-    }
-}
-
-/// The status if the text gave no report.
-fn run_status(fault: &RunFault) -> u8
-    ensures { result ≡ run_status fault.now }
-{
-    match fault {
-        RunFault::Front(_) | RunFault::Check(_) => REFUSED,
-        RunFault::Finish(_) | RunFault::Memory | RunFault::Write => FAILED,
-    }
-}
-
-/// The status if the schedule is not said to be an execution.
-fn check_status(fault: &CheckScheduleFault) -> u8
-    ensures { result ≡ check_status fault.now }
-{
-    match fault {
-        CheckScheduleFault::Front(_)
-        | CheckScheduleFault::Check(_)
-        | CheckScheduleFault::Schedule(_) => REFUSED,
-        CheckScheduleFault::Memory | CheckScheduleFault::Write => FAILED,
-    }
-}
-
-/// The status of a fault.
-fn fault_status(fault: &TextFault) -> u8
-    ensures { result ≡ fault_status fault.now }
-{
-    match fault {
-        TextFault::Input(fault) => input_status(fault),
-        TextFault::Run(fault) => run_status(fault),
-        TextFault::Check(fault) => check_status(fault),
-    }
-}
-
-/// The line of a fault.
-fn fault_line(alloc: Global, fault: &TextFault) -> Result<String, AllocError>
-    ensures { IfOk result (λ s. string_bytes s ≡ fault_line fault.now ++ codes "\n") }
-{
-    match fault {
-        TextFault::Input(fault) => input_line(alloc, fault),
-        TextFault::Run(fault) => run_line(alloc, fault),
-        TextFault::Check(fault) => check_line(alloc, fault),
-    }
-}
-
-/// The line of an input that gives no text.
-fn input_line(alloc: Global, fault: &InputFault) -> Result<String, AllocError>
-    ensures { IfOk result (λ s. string_bytes s ≡ input_line fault.now ++ codes "\n") }
-{
-    match fault {
-        InputFault::Read => format!(in alloc; "failed {fault}\n"),
-        InputFault::TooLong | InputFault::BadCharacter(_) | InputFault::Memory => {
-            format!(in alloc; "refused {fault}\n")
-        }
-    }
-}
-
-/// The line of a text that gave no report.
-fn run_line(alloc: Global, fault: &RunFault) -> Result<String, AllocError>
-    ensures { IfOk result (λ s. string_bytes s ≡ run_line fault.now ++ codes "\n") }
-{
-    match fault {
-        RunFault::Front(_) | RunFault::Check(_) | RunFault::Finish(_) | RunFault::Memory => {
-            format!(in alloc; "refused {fault}\n")
-        }
-        RunFault::Write => format!(in alloc; "failed {fault}\n"),
-    }
-}
-
-/// The line of a schedule that is not said to be an execution.
-fn check_line(alloc: Global, fault: &CheckScheduleFault) -> Result<String, AllocError>
-    ensures { IfOk result (λ s. string_bytes s ≡ check_line fault.now ++ codes "\n") }
-{
-    match fault {
-        CheckScheduleFault::Front(_)
-        | CheckScheduleFault::Check(_)
-        | CheckScheduleFault::Schedule(_)
-        | CheckScheduleFault::Memory => format!(in alloc; "refused {fault}\n"),
-        CheckScheduleFault::Write => format!(in alloc; "failed {fault}\n"),
     }
 }
 

@@ -5,8 +5,15 @@
 //! **Must not know**: how a text is run.
 #![tactic(auto)]
 
+mod choice;
 mod command_line;
+mod fail_on;
+mod faults;
+mod formats;
+mod inputs;
 mod words;
 
-pub use command_line::{BAD_WORDS, FAILED, command};
-pub use words::{Subcommand, options};
+pub use choice::{CheckChoice, InputName, RunChoice, Subcommand, TraceChoice};
+pub use command_line::{BAD_WORDS, command};
+pub use faults::FAILED;
+pub use words::options;

@@ -1,18 +1,28 @@
 //! What the words of the command line choose.
 
-ghost use Rattle.std.specs.Prelude.{◌≡◌, ◌<◌, ◌^◌, false, map, IfOk, IfErr, IfSome};
+ghost use Rattle.std.specs.Prelude.{◌≡◌, ◌<◌, ◌^◌, codes, false, map, option_map, IfOk, IfErr, IfSome};
 ghost use Rattle.clap.specs.Matches.{found_of};
-ghost use Rattle.clap.specs.Walk.{rows_of};
+ghost use Rattle.clap.specs.Walk.{first_of, rows_of};
+ghost use Rattle.clap.specs.Simple.{with_rule, with_subcommand};
 ghost use Rattle.clap.specs.Words.{rule_of, app_of, subcommand_rows_of};
 ghost use Rattle.clap.specs.declared.builder.command.Command.TheViews.{out-Command};
 ghost use Rattle.clap.specs.declared.builder.value_parser.ValueParser.TheVariants.{Unsigned};
-ghost use Rattle.ioa_command.specs.CommandLine.{number_rule, workers_rule, steps_rule, attempts_rule};
-ghost use Rattle.ioa_command.specs.CommandLine.{check_app, run_app, program_app, Chooses, IsChosenBy, IsErrorOf, IsNumberOf};
+ghost use Rattle.ioa_command.specs.CommandLine.{number_rule, word_rule, workers_rule, steps_rule, attempts_rule};
+ghost use Rattle.ioa_command.specs.CommandLine.{check_app, print_app, run_app, trace_app, program_app};
+ghost use Rattle.ioa_command.specs.CommandLine.{fail_on_rule, format_rule};
+ghost use Rattle.ioa_command.specs.CommandLine.{Chooses, IsCheckOf, IsChosenBy, IsErrorOf, IsNumberOf, IsRunOf, IsTraceOf};
+ghost use Rattle.ioa_command.specs.CommandLine as spec;
+ghost use Rattle.ioa_command.specs.CommandLine.{AreLimitsOf, AreNumbersOf, name_of};
 
+use crate::choice::{CheckChoice, ChoiceFault, InputName, RunChoice, Subcommand, TraceChoice};
+use crate::fail_on::{findings_named, no_findings};
+use crate::formats::format_named;
 use clap::builder::ValueParser;
 use clap::error::ErrorKind;
 use clap::{Arg, ArgMatches, Command, Error, value_parser};
-use ioa_pipeline::{GREATEST_ATTEMPTS, GREATEST_STEPS, GREATEST_WORKERS, Options};
+use ioa_pipeline::{
+    DEFAULT_WORKERS, Findings, Format, GREATEST_ATTEMPTS, GREATEST_STEPS, GREATEST_WORKERS, Options,
+};
 use std::alloc::{AllocError, Global};
 
 /// What is shown before the list of subcommands.
@@ -20,40 +30,57 @@ const ABOUT: &str = "Runs systems of I/O automata, and prints what happened.";
 
 /// What is shown at the end of the help of the program.
 const STATUSES: &str = "\
-`ioarun run` reads a system text on standard input: automata with their schedule blocks, the
-nodes, channels and scripts on which they are placed, and invariants. It writes the report of the
-run on standard output: the schedule, the last states, how each node ended, how many actions each
-worker took, and which invariants held. With several workers the schedule may be another each
-time.
-
-`ioarun check` reads a system text on standard input, a line `---`, and then a schedule, one action
-a line, as in a report. It writes `execution` if the actions are an execution of the system.
+A system text has automata with their schedule blocks, the nodes, channels and scripts on which they
+are placed, and invariants. Each subcommand reads it from a file, or from standard input if no file
+is named, or if the name is `-`. `ioarun help run` says more of `run`, and so on.
 
 Statuses:
-  0  the report was written, the schedule is an execution, or this help
+  0  all was done, or this help was asked for
   1  the text or the schedule was refused: one line on standard error has the number, the name and
      the place
   2  these words were refused
   3  memory ran out, or finishing, reading or writing failed
+  4  the report was written, and has what `--fail-on` names
 
 Examples:
-  ioarun run --steps 100 < relay.ioa
-  (cat relay.ioa; echo ---; ioarun run < relay.ioa | grep '^[0-9]') | ioarun check";
+  ioarun run examples/relay.ioa
+  ioarun trace --format svg examples/relay3.ioa > relay3.svg
+  ioarun run examples/relay.ioa | ioarun check examples/relay.ioa -
+  ioarun print examples/relay.ioa";
+
+/// What is shown at the end of the help of `run`.
+const RUN_EXAMPLE: &str = "\
+The report has the schedule, the last states, how each node ended, how many actions each worker took,
+and which invariants held. With several workers the schedule may be another each time.
+
+Example:
+  ioarun run examples/two_holders.ioa --fail-on fault,invariant";
+
+/// What is shown at the end of the help of `trace`.
+const TRACE_EXAMPLE: &str = "\
+The run is that of `ioarun run` with the same options. `json` is an object a line for each action, with
+what it changed; `itf` the states in the informal trace format, which viewers of model checkers read;
+`svg` a space-time diagram; `mermaid` a sequence diagram.
+
+Examples:
+  ioarun trace examples/relay3.ioa
+  ioarun trace --format svg examples/relay3.ioa > relay3.svg";
 
 /// What is shown at the end of the help of `check`.
 const CHECK_INPUT: &str = "\
-Standard input is the text, a line `---`, and the lines of the schedule. A line has an action, and
-in front of it a number or none: send(7, 0, 1), receive(7, 0, 1), tick@2 or put({1, 2}, red)@0.
-Without the line `---` the schedule is empty.";
+The schedule is a report, of which its actions are read, or lines. A line has an action, and in front
+of it a number or none: send(7, 0, 1), receive(7, 0, 1), tick@2 or put({1, 2}, red)@0. If no SCHEDULE
+is named, the lines stand behind the text, after a line `---`; without that line there are none.
 
-/// What the program is asked to do.
-#[derive(Clone, Copy, Debug, PartialEq, Eq)]
-pub enum Subcommand {
-    /// `run`: run the system of the text with these options, and write the report.
-    Run(Options),
-    /// `check`: say whether the schedule behind the text is an execution of its system.
-    Check,
-}
+Example:
+  ioarun run examples/relay.ioa | ioarun check examples/relay.ioa -";
+
+/// What is shown at the end of the help of `print`.
+const PRINT_EXAMPLE: &str = "\
+Each part stands two spaces further than what it is a part of. Comments are not kept.
+
+Example:
+  ioarun print examples/relay.ioa";
 
 /// What the words choose, the program's name first (profile). `--workers N`, `--steps N` and `--attempts N` have
 /// decimal numbers, each in its range of [`Options`]; if one is not given, it is that of `Options::default`. The error
@@ -68,9 +95,9 @@ pub fn options<'a>(alloc: Global, words: &'a [&'a str]) -> Result<Subcommand, Er
         Ok(matches) => matches,
         Err(error) => return Err(error),
     };
-    match choice_of(&matches) {
-        Some(subcommand) => Ok(subcommand),
-        None => Err(command.error(ErrorKind::ValueValidation, "a number is outside its range")?),
+    match choice_of(alloc, &matches) {
+        Ok(subcommand) => Ok(subcommand),
+        Err(fault) => Err(command.error(ErrorKind::ValueValidation, fault.text())?),
     }
 }
 
@@ -78,36 +105,143 @@ pub fn options<'a>(alloc: Global, words: &'a [&'a str]) -> Result<Subcommand, Er
 fn program<'a>(alloc: Global) -> Result<Command<'a>, AllocError>
     ensures { IfOk result (λ c. (app_of c ≡ program_app) × ((out-Command c).has_globals ≡ false)) }
 {
-    Command::new(alloc, "ioarun")
+    let command = Command::new(alloc, "ioarun")
         .version("0.1.0")
         .about(ABOUT)
         .after_help(STATUSES)
         .subcommand_required(true)
         .arg_required_else_help(true)
-        .subcommand(run(alloc)?)?
-        .subcommand(check(alloc)?)
+        .subcommand(run(alloc)?)?;
+    let command = with_trace(alloc, command)?;
+    with_check_and_print(alloc, command)
+}
+
+/// The command line with the subcommand `trace`.
+fn with_trace<'a>(alloc: Global, command: Command<'a>) -> Result<Command<'a>, AllocError>
+    requires { (out-Command command).has_globals ≡ false }
+    ensures { IfOk result (λ c. (app_of c ≡ with_subcommand (app_of command.entry) trace_app.top)
+        × ((out-Command c).has_globals ≡ false)) }
+{
+    command.subcommand(trace(alloc)?)
+}
+
+/// The command line with the subcommands `check` and `print`.
+fn with_check_and_print<'a>(alloc: Global, command: Command<'a>) -> Result<Command<'a>, AllocError>
+    requires { (out-Command command).has_globals ≡ false }
+    ensures { IfOk result (λ c. (app_of c
+        ≡ with_subcommand (with_subcommand (app_of command.entry) check_app.top) print_app.top)
+        × ((out-Command c).has_globals ≡ false)) }
+{
+    command.subcommand(check(alloc)?)?.subcommand(print(alloc)?)
 }
 
 /// The subcommand `run`.
 fn run<'a>(alloc: Global) -> Result<Command<'a>, AllocError>
     ensures { IfOk result (λ c. (app_of c ≡ run_app) × ((out-Command c).has_globals ≡ false)) }
 {
-    Command::new(alloc, "run")
-        .about("Runs the system of the text on standard input, and writes the report of the run")
-        .arg(workers_option(alloc))?
+    let command = Command::new(alloc, "run")
+        .about("Runs the system of a text, and writes the report of the run")
+        .after_help(RUN_EXAMPLE)
+        .arg(file_word(alloc))?
+        .arg(workers_option(alloc))?;
+    with_limits(alloc, command)?.arg(fail_on_option(alloc))
+}
+
+/// A subcommand with `--steps N` and `--attempts N`.
+fn with_limits<'a>(alloc: Global, command: Command<'a>) -> Result<Command<'a>, AllocError>
+    requires { (out-Command command).has_globals ≡ false }
+    ensures { IfOk result (λ c. (app_of c ≡ with_rule (with_rule (app_of command.entry) steps_rule) attempts_rule)
+        × ((out-Command c).has_globals ≡ false)) }
+{
+    command
         .arg(steps_option(alloc))?
         .arg(attempts_option(alloc))
+}
+
+/// The subcommand `trace`.
+fn trace<'a>(alloc: Global) -> Result<Command<'a>, AllocError>
+    ensures { IfOk result (λ c. (app_of c ≡ trace_app) × ((out-Command c).has_globals ≡ false)) }
+{
+    let command = Command::new(alloc, "trace")
+        .about(
+            "Runs the system of a text by one worker, and shows the run step by step, or as a picture",
+        )
+        .after_help(TRACE_EXAMPLE)
+        .arg(file_word(alloc))?;
+    with_limits(alloc, command)?.arg(format_option(alloc))
 }
 
 /// The subcommand `check`.
 fn check<'a>(alloc: Global) -> Result<Command<'a>, AllocError>
     ensures { IfOk result (λ c. (app_of c ≡ check_app) × ((out-Command c).has_globals ≡ false)) }
 {
-    Ok(
-        Command::new(alloc, "check")
-            .about("Says whether a schedule is an execution of the system of the text before it")
-            .after_help(CHECK_INPUT),
+    Command::new(alloc, "check")
+        .about("Says whether a schedule is an execution of the system of a text")
+        .after_help(CHECK_INPUT)
+        .arg(file_word(alloc))?
+        .arg(schedule_word(alloc))
+}
+
+/// The subcommand `print`.
+fn print<'a>(alloc: Global) -> Result<Command<'a>, AllocError>
+    ensures { IfOk result (λ c. (app_of c ≡ print_app) × ((out-Command c).has_globals ≡ false)) }
+{
+    Command::new(alloc, "print")
+        .about("Writes a text laid out anew")
+        .after_help(PRINT_EXAMPLE)
+        .arg(file_word(alloc))
+}
+
+/// `--format NAME`.
+fn format_option<'a>(alloc: Global) -> Arg<'a>
+    ensures rule { rule_of result ≡ format_rule }
+    ensures global { result.global ≡ false }
+{
+    Arg::new(alloc, "format")
+        .long("format")
+        .value_name("NAME")
+        .help("How the run is shown: json, which is the default, itf, svg or mermaid")
+}
+
+/// `FILE`.
+fn file_word<'a>(alloc: Global) -> Arg<'a>
+    ensures rule { rule_of result ≡ word_rule (codes "file") }
+    ensures global { result.global ≡ false }
+{
+    word(alloc, "file", "FILE").help(
+        "The file of the text; standard input if it is `-` or left out",
     )
+}
+
+/// `SCHEDULE`.
+fn schedule_word<'a>(alloc: Global) -> Arg<'a>
+    ensures rule { rule_of result ≡ word_rule (codes "schedule") }
+    ensures global { result.global ≡ false }
+{
+    word(alloc, "schedule", "SCHEDULE").help(
+        "The file of the schedule, a report or its lines; standard input if it is `-`",
+    )
+}
+
+/// A word that may be left out.
+fn word<'a>(alloc: Global, id: &'a str, shown: &'a str) -> Arg<'a>
+    ensures rule { rule_of result ≡ word_rule id.entry.now }
+    ensures global { result.global ≡ false }
+{
+    Arg::new(alloc, id).value_name(shown)
+}
+
+/// `--fail-on NAMES`.
+fn fail_on_option<'a>(alloc: Global) -> Arg<'a>
+    ensures rule { rule_of result ≡ fail_on_rule }
+    ensures global { result.global ≡ false }
+{
+    Arg::new(alloc, "fail-on")
+        .long("fail-on")
+        .value_name("NAMES")
+        .help(
+            "Which endings and verdicts make the status 4: fault, spent, invariant, or several with commas",
+        )
 }
 
 /// `--workers N`.
@@ -161,21 +295,151 @@ fn number<'a>(alloc: Global, name: &'a str, default: &'a str, parser: ValueParse
         .value_parser(parser)
 }
 
-/// What the matches choose; nothing if they name no subcommand, or if a number is missing or outside its range.
-fn choice_of(matches: &ArgMatches<'_>) -> Option<Subcommand>
-    ensures { IfSome result (IsChosenBy (subcommand_rows_of matches.now)) }
+/// What the matches choose.
+fn choice_of(alloc: Global, matches: &ArgMatches<'_>) -> Result<Subcommand, ChoiceFault>
+    ensures { IfOk result (IsChosenBy (subcommand_rows_of matches.now)) }
 {
-    let (name, found) = matches.subcommand()?;
+    let Some((name, found)) = matches.subcommand() else {
+        return Err(ChoiceFault::Number);
+    };
     if name == "run" {
-        let workers = number_given(found, "workers")?;
-        let steps = number_given(found, "steps")?;
-        let attempts = number_given(found, "attempts")?;
-        Some(Subcommand::Run(Options::within(workers, steps, attempts)?))
+        Ok(Subcommand::Run(run_choice(alloc, found)?))
+    } else if name == "trace" {
+        Ok(Subcommand::Trace(trace_choice(alloc, found)?))
     } else if name == "check" {
-        Some(Subcommand::Check)
+        Ok(Subcommand::Check(check_choice(alloc, found)?))
+    } else if name == "print" {
+        Ok(Subcommand::Print(input_given(alloc, found)?))
     } else {
-        None
+        Err(ChoiceFault::Number)
     }
+}
+
+/// What `run` is asked to do.
+fn run_choice(alloc: Global, matches: &ArgMatches<'_>) -> Result<RunChoice, ChoiceFault>
+    ensures { IfOk result (IsRunOf (rows_of (found_of matches.now))) }
+{
+    let Some(options) = options_given(matches) else {
+        return Err(ChoiceFault::Number);
+    };
+    let Some(fail_on) = findings_given(matches) else {
+        return Err(ChoiceFault::FailOn);
+    };
+    let input = input_given(alloc, matches)?;
+    Ok(RunChoice {
+        input,
+        options,
+        fail_on,
+    })
+}
+
+/// The three numbers, if each is there and in its range.
+fn options_given(matches: &ArgMatches<'_>) -> Option<Options>
+    ensures { IfSome result (AreNumbersOf (rows_of (found_of matches.now))) }
+{
+    let workers = number_given(matches, "workers")?;
+    let steps = number_given(matches, "steps")?;
+    let attempts = number_given(matches, "attempts")?;
+    Options::within(workers, steps, attempts)
+}
+
+/// What `trace` is asked to do.
+fn trace_choice(alloc: Global, matches: &ArgMatches<'_>) -> Result<TraceChoice, ChoiceFault>
+    ensures { IfOk result (IsTraceOf (rows_of (found_of matches.now))) }
+{
+    let Some(options) = limits_given(matches) else {
+        return Err(ChoiceFault::Number);
+    };
+    let Some(format) = format_given(matches) else {
+        return Err(ChoiceFault::Format);
+    };
+    let input = input_given(alloc, matches)?;
+    Ok(TraceChoice {
+        input,
+        options,
+        format,
+    })
+}
+
+/// The options of one worker, with the two numbers, if each is there and in its range.
+fn limits_given(matches: &ArgMatches<'_>) -> Option<Options>
+    ensures { IfSome result (AreLimitsOf (rows_of (found_of matches.now))) }
+{
+    let steps = number_given(matches, "steps")?;
+    let attempts = number_given(matches, "attempts")?;
+    Options::within(DEFAULT_WORKERS, steps, attempts)
+}
+
+/// The format that `--format` names, if there is one of that name.
+fn format_given(matches: &ArgMatches<'_>) -> Option<Format>
+    ensures { result ≡ spec.format_given (first_of (codes "format") (rows_of (found_of matches.now))) }
+{
+    match word_given(matches, "format") {
+        None => Some(Format::Json),
+        Some(name) => format_named(name),
+    }
+}
+
+/// The findings that `--fail-on` names, if all its names are some.
+fn findings_given(matches: &ArgMatches<'_>) -> Option<Findings>
+    ensures { result ≡ spec.findings_given (first_of (codes "fail-on") (rows_of (found_of matches.now))) }
+{
+    match word_given(matches, "fail-on") {
+        None => Some(no_findings()),
+        Some(names) => findings_named(names),
+    }
+}
+
+/// What `check` is asked to do.
+fn check_choice(alloc: Global, matches: &ArgMatches<'_>) -> Result<CheckChoice, ChoiceFault>
+    ensures { IfOk result (IsCheckOf (rows_of (found_of matches.now))) }
+{
+    let input = input_given(alloc, matches)?;
+    let schedule = schedule_given(alloc, matches)?;
+    match (&input, &schedule) {
+        (InputName::Standard, Some(InputName::Standard)) => Err(ChoiceFault::Twice),
+        _ => Ok(CheckChoice { input, schedule }),
+    }
+}
+
+/// Where the text is read.
+fn input_given(alloc: Global, matches: &ArgMatches<'_>) -> Result<InputName, AllocError>
+    ensures { IfOk result (λ n. name_of n
+        ≡ spec.input_given (first_of (codes "file") (rows_of (found_of matches.now)))) }
+{
+    match word_given(matches, "file") {
+        None => Ok(InputName::Standard),
+        Some(name) => input_named(alloc, name),
+    }
+}
+
+/// Where the schedule is read, if it has a word of its own.
+fn schedule_given(alloc: Global, matches: &ArgMatches<'_>) -> Result<Option<InputName>, AllocError>
+    ensures { IfOk result (λ s. option_map name_of s
+        ≡ option_map spec.input_named (first_of (codes "schedule") (rows_of (found_of matches.now)))) }
+{
+    match word_given(matches, "schedule") {
+        None => Ok(None),
+        Some(name) => Ok(Some(input_named(alloc, name)?)),
+    }
+}
+
+/// The input of a name.
+fn input_named(alloc: Global, name: &str) -> Result<InputName, AllocError>
+    ensures { IfOk result (λ n. name_of n ≡ spec.input_named name.now) }
+{
+    if name == "-" {
+        Ok(InputName::Standard)
+    } else {
+        Ok(InputName::File(String::from_str(alloc, name)?))
+    }
+}
+
+/// The word that the matches have for a name.
+fn word_given<'a>(matches: &ArgMatches<'a>, name: &str) -> Option<&'a str>
+    ensures { option_map (λ w. w.now) result ≡ first_of name.now (rows_of (found_of matches.now)) }
+{
+    matches.get_str(name)
 }
 
 /// The number that the matches have for an option.

@@ -1,3 +1,4 @@
 -- what the contracts of this crate and of those above it cite
+pub mod Findings
 pub mod Reports
 pub mod Traces

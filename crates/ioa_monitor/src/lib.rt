@@ -8,6 +8,7 @@
 
 mod commits;
 mod endings;
+mod findings;
 mod invariants;
 mod nodes;
 mod queues;
@@ -15,6 +16,7 @@ mod reporting;
 mod schedule;
 mod traces;
 
+pub use findings::Findings;
 pub use ioa_paper::ReportFault;
 pub use ioa_schedule_check::{ScheduleFault, check_schedule, schedule_law};
 pub use ioa_verdicts::{Verdict, verdict_law, verdicts};

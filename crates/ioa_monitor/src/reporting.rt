@@ -1,18 +1,21 @@
 //! The report of a run.
 
-ghost use Rattle.std.specs.Prelude.{◌≡◌, ◌++◌, false};
+ghost use Rattle.std.specs.Prelude.{◌≡◌, ◌++◌, false, IfOk};
+ghost use Rattle.ioa_monitor.specs.Findings.{findings_of};
 ghost use Rattle.ioa_paper.specs.Outcomes.{PutsOut};
 ghost use Rattle.ioa_paper.specs.Papers.{and_text};
 ghost use Rattle.ioa_monitor.specs.Reports.{component_lines, invariant_lines, report_text, run_text, states_text};
+ghost use Rattle.ioa_verdicts.specs.Verdicts.{verdicts_of};
 
 use crate::commits::put_commits;
 use crate::endings::put_endings;
+use crate::findings::{Findings, findings_of};
 use crate::invariants::put_verdicts;
 use crate::nodes::put_variables;
-use ioa_paper::{Paper, ReportFault, room};
 use crate::queues::put_queue;
 use crate::schedule::put_schedule;
 use ioa_compose::Conf;
+use ioa_paper::{Paper, ReportFault, room};
 use ioa_record::{Ending, Record};
 use ioa_streams::{Out, OutFailed};
 use ioa_system::System;
@@ -21,18 +24,19 @@ use std::alloc::Global;
 
 /// Puts out the report of a run that left this record, with an ending for each node, node 0 first (profile): the
 /// schedule, the nodes' variables, the channels' queues, what is left of the declared scripts, the endings, the commits,
-/// and the verdicts on the invariants along the schedule. All memory is asked for before anything goes out: as much for
-/// every report, and what the verdicts take if there are invariants.
+/// and the verdicts on the invariants along the schedule. Returns what the endings and the verdicts come to. All memory is
+/// asked for before anything goes out: as much for every report, and what the verdicts take if there are invariants.
 pub fn report<O: Out>(
     alloc: Global,
     system: &System,
     run_record: &Record,
     endings: &[Ending],
     out: &mut O,
-) -> Result<(), ReportFault>
+) -> Result<Findings, ReportFault>
     requires { O.failed out.old ≡ false }
-    ensures { PutsOut (report_text system.now run_record.now endings.now)
+    ensures written { PutsOut (report_text system.now run_record.now endings.now)
         (O.bytes out.old) (O.bytes out.new) (O.failed out.new) result }
+    ensures found { IfOk result (λ f. f ≡ findings_of endings.now (verdicts_of system.now run_record.now.schedule)) }
 {
     let verdicts = verdicts(alloc, system, run_record)?;
     let room = room(alloc)?;
@@ -42,7 +46,7 @@ pub fn report<O: Out>(
     // No effect at run time. The proof reads what `out` holds from the reference that comes back.
     let _ = &*out;
     match outcome {
-        Ok(()) => Ok(()),
+        Ok(()) => Ok(findings_of(endings, &verdicts)),
         Err(OutFailed) => Err(ReportFault::Write),
     }
 }

@@ -1,3 +1,4 @@
 -- the lemmas of this crate
 pub mod Refusals
 pub mod Reported
+pub mod Shown

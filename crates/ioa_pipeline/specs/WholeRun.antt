@@ -15,6 +15,9 @@ use Rattle.ioa_pipeline.specs.declared.whole_run.RunFault.TheVariants.{Front, Ch
 use Rattle.ioa_record.specs.Options.{PlainOptions}
 use Rattle.ioa_streams.specs.Output.{AppendsBeginning}
 use Rattle.ioa_monitor.specs.Reports.{report_text}
+use Rattle.ioa_monitor.specs.Findings.{findings_of}
+use Rattle.ioa_monitor.specs.declared.findings.Findings.{Findings}
+use Rattle.ioa_verdicts.specs.Verdicts.{verdicts_of}
 use Rattle.ioa_record.specs.Recorded.{IsOfOneWorker, IsRunOf}
 use Rattle.ioa_solo.specs.Solo.{IsSoloRun}
 use Rattle.ioa_pipeline.specs.declared.described.SystemFault.{SystemFault}
@@ -42,6 +45,10 @@ pub record IsReport (text : List ℕ) (options : PlainOptions) (report : List �
   pub alone : options.workers ≡ 1 → IsOfOneWorker left
   pub solo : options.workers ≡ 1 → IsSoloRun parts options left endings
   pub written : report ≡ report_text parts left endings
+
+-- what the endings and the verdicts of a run come to
+abbrev pub found_in : SystemParts → Record → List Ending → Findings
+found_in s left endings = findings_of endings (verdicts_of s left.schedule)
 
 -- why a text describes no system, as a fault of its run
 abbrev pub run_fault_of_system : SystemFault → RunFault
@@ -93,12 +100,14 @@ IsEarly (Finish f) = ⊤
 IsEarly Memory = ⊤
 IsEarly Write = ⊥
 
--- if the bytes of the output are known, they grow by a report, which goes out whole if the call passes; if writing
--- failed, a beginning of one went out, and the output says that it failed; after every other fault nothing was written
+-- if the bytes of the output are known, they grow by a report, which goes out whole if the call passes, and what its
+-- endings and verdicts come to is told; if writing failed, a beginning of one went out, and the output says that it
+-- failed; after every other fault nothing was written
 abbrev pub WritesReport : List ℕ → PlainOptions → Option (List ℕ) → Option (List ℕ) → Bool
-    → Result (Unit {0}) RunFault → Type 0
+    → Result Findings RunFault → Type 0
 WritesReport text options old new failed (Ok x) =
-    (failed ≡ false) × ((report : List ℕ) × IsReport text options report × Appends old new report)
+    (failed ≡ false) × ((report : List ℕ) × (is : IsReport text options report)
+    × (x ≡ found_in is.parts is.left is.endings) × Appends old new report)
 WritesReport text options old new failed (Err Write) =
     (failed ≡ true) × ((report : List ℕ) × IsReport text options report × AppendsBeginning old new report)
 WritesReport text options old new failed (Err (Front f)) = (failed ≡ false) × Keeps old new
@@ -106,11 +115,11 @@ WritesReport text options old new failed (Err (Check f)) = (failed ≡ false) ×
 WritesReport text options old new failed (Err (Finish f)) = (failed ≡ false) × Keeps old new
 WritesReport text options old new failed (Err Memory) = (failed ≡ false) × Keeps old new
 
--- the same of one text, before which no other fault can come
-abbrev pub WritesText : List ℕ → Option (List ℕ) → Option (List ℕ) → Bool → Result (Unit {0}) RunFault → Type 0
-WritesText text old new failed (Ok x) = (failed ≡ false) × Appends old new text
-WritesText text old new failed (Err Write) = (failed ≡ true) × AppendsBeginning old new text
-WritesText text old new failed (Err Memory) = (failed ≡ false) × Keeps old new
-WritesText text old new failed (Err (Front f)) = ⊥
-WritesText text old new failed (Err (Check f)) = ⊥
-WritesText text old new failed (Err (Finish f)) = ⊥
+-- the same of one text with its findings, before which no other fault can come
+abbrev pub WritesText : List ℕ → Findings → Option (List ℕ) → Option (List ℕ) → Bool → Result Findings RunFault → Type 0
+WritesText text found old new failed (Ok x) = (failed ≡ false) × (x ≡ found) × Appends old new text
+WritesText text found old new failed (Err Write) = (failed ≡ true) × AppendsBeginning old new text
+WritesText text found old new failed (Err Memory) = (failed ≡ false) × Keeps old new
+WritesText text found old new failed (Err (Front f)) = ⊥
+WritesText text found old new failed (Err (Check f)) = ⊥
+WritesText text found old new failed (Err (Finish f)) = ⊥

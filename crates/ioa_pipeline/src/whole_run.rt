@@ -4,13 +4,13 @@ ghost use Rattle.std.specs.Prelude.{◌≡◌, ℕ, false, IfOk, IfErr};
 ghost use Rattle.std.specs.Arc.{arc_value};
 ghost use Rattle.ioa_monitor.specs.Reports.{report_text};
 ghost use Rattle.ioa_pipeline.specs.Described.{IsDescribed};
-ghost use Rattle.ioa_pipeline.specs.WholeRun.{IsEarly, IsExactFor, IsFaultOfWorkers, IsLeftBy};
+ghost use Rattle.ioa_pipeline.specs.WholeRun.{IsEarly, IsExactFor, IsFaultOfWorkers, IsLeftBy, found_in};
 ghost use Rattle.ioa_pipeline.specs.WholeRun.{IsRefusalOf, WritesReport, WritesText};
 
 use crate::described::{SystemFault, system_of};
 use ioa_boards::Gate;
 use ioa_check::CheckFault;
-use ioa_monitor::{ReportFault, report};
+use ioa_monitor::{Findings, ReportFault, report};
 use ioa_record::{Ending, Options, Record};
 use ioa_shared::FinishFault;
 use ioa_streams::Out;
@@ -84,9 +84,9 @@ impl From<FinishFault> for RunFault {
     }
 }
 
-/// Runs the system that a text describes, by as many workers as the options say, and writes the report. With one worker
-/// the run is on the calling thread; with several each has a thread of its own, and all of them have ended when this
-/// returns. The gate is called between the steps of the workers.
+/// Runs the system that a text describes, by as many workers as the options say, and writes the report. Returns what the
+/// report's endings and verdicts come to. With one worker the run is on the calling thread; with several each has a thread
+/// of its own, and all of them have ended when this returns. The gate is called between the steps of the workers.
 #[tactic(auto, using(crate::proofs::Reported::late, crate::proofs::Reported::calm))]
 pub fn run_system<R: Threads + Wait + Sync, G: Gate + Sync, O: Out>(
     rt: &R,
@@ -95,7 +95,7 @@ pub fn run_system<R: Threads + Wait + Sync, G: Gate + Sync, O: Out>(
     options: &Options,
     gate: &G,
     out: &mut O,
-) -> Result<(), RunFault>
+) -> Result<Findings, RunFault>
     requires { O.failed out.old ≡ false }
     ensures written { WritesReport text.now options.now
         (O.bytes out.old) (O.bytes out.new) (O.failed out.new) result }
@@ -115,20 +115,21 @@ fn write_report<O: Out>(
     run_record: &Record,
     endings: &[Ending],
     out: &mut O,
-) -> Result<(), RunFault>
+) -> Result<Findings, RunFault>
     requires { O.failed out.old ≡ false }
     ensures { WritesText (report_text system.now run_record.now endings.now)
+        (found_in system.now run_record.now endings.now)
         (O.bytes out.old) (O.bytes out.new) (O.failed out.new) result }
 {
     match report(alloc, system, run_record, endings, out) {
-        Ok(()) => Ok(()),
+        Ok(findings) => Ok(findings),
         Err(ReportFault::Memory) => Err(RunFault::Memory),
         Err(ReportFault::Write) => Err(RunFault::Write),
     }
 }
 
 /// The system that a text describes, what a run of it left, and how its nodes ended.
-fn run_of<R: Threads + Wait + Sync, G: Gate + Sync>(
+pub(crate) fn run_of<R: Threads + Wait + Sync, G: Gate + Sync>(
     rt: &R,
     alloc: Global,
     text: &str,

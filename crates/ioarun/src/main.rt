@@ -1,4 +1,4 @@
-//! The program `ioarun`: system text on standard input, report on standard output.
+//! The program `ioarun`: a system text comes in, by a file's name or on standard input, and its report goes out.
 //!
 //! **A crate of its own**, since it has the runtime and the standard streams and nothing else.
 //!
@@ -7,10 +7,14 @@
 
 ghost use Rattle.std.specs.Prelude.{◌≡◌, false};
 
+mod asking;
+
+use asking::Asking;
 use ioa_command::{BAD_WORDS, FAILED, command};
 use ioa_streams::{Out, Over};
+use std::io::{IsTerminal, Read};
 use std::process::ExitCode;
-use std::rt::Env;
+use std::rt::{Env, Files};
 use std::sync::Wait;
 use std::thread::Threads;
 use std::{env, io};
@@ -18,7 +22,8 @@ use std::{env, io};
 fn main(rt: HostRuntime) -> ExitCode {
     let mut out = Over::new(rt.stdout());
     let mut err = Over::new(rt.stderr());
-    match run_words(&rt, &mut out, &mut err) {
+    let mut input = Asking::new(rt.stdin(), rt.stderr(), rt.stdin().is_terminal());
+    match run_words(&rt, &mut input, &mut out, &mut err) {
         Ok(status) => ExitCode::from(status),
         Err(fault) => ExitCode::from(status_of(&fault)),
     }
@@ -33,16 +38,17 @@ fn status_of(fault: &io::Error) -> u8 {
 }
 
 /// Runs the program on the words of the command line and on standard input; a fault is one of reading the words.
-fn run_words<R: AllocGlobal + Env + Input + Threads + Wait + Sync, O: Out, E: Out>(
-    rt: &R,
-    out: &mut O,
-    err: &mut E,
-) -> io::Result<u8>
+fn run_words<R, I, O, E>(rt: &R, input: &mut I, out: &mut O, err: &mut E) -> io::Result<u8>
+where
+    R: AllocGlobal + Env + Files + Threads + Wait + Sync,
+    I: Read,
+    O: Out,
+    E: Out,
     requires out { O.failed out.old ≡ false }
     requires err { E.failed err.old ≡ false }
 {
     let alloc = rt.alloc();
     let owned: Vec<String> = env::args(rt)?.collect(alloc)?;
     let words: Vec<&str> = owned.iter().map(|word| word.as_str()).collect(alloc)?;
-    Ok(command(rt, alloc, &words, &mut rt.reader(), out, err))
+    Ok(command(rt, alloc, &words, input, out, err))
 }

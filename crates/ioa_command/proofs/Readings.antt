@@ -1,0 +1,148 @@
+-- What was read, and why nothing was.
+use Rattle.std.proofs.Common.{◌≡◌, List, ℕ, Option, Some, None, Result, Ok, Err, inl, inr, subst, sym}
+use Rattle.ioa_monitor.specs.declared.findings.Findings.{Findings}
+use Rattle.ioa_streams.specs.Parts.{lines_part, text_part}
+use Rattle.ioa_pipeline.specs.declared.whole_run.RunFault.{RunFault}
+use Rattle.ioa_pipeline.specs.WholeRun.{IsExactFor, IsFaultOfWorkers, IsRefusalOf, WritesReport}
+use Rattle.ioa_command.specs.declared.choice.InputName.{InputName}
+use Rattle.ioa_command.specs.declared.choice.InputName.TheVariants.{Standard, File}
+use Rattle.ioa_command.specs.declared.choice.RunChoice.{RunChoice}
+use Rattle.ioa_command.specs.declared.choice.TraceChoice.{TraceChoice}
+use Rattle.ioa_command.specs.declared.choice.CheckChoice.{CheckChoice}
+use Rattle.ioa_command.specs.declared.faults.TextFault.{TextFault}
+use Rattle.ioa_command.specs.declared.faults.TextFault.TheVariants.{Input, Unread, Run, Check, Print}
+use Rattle.ioa_command.specs.Command.{ChecksGivenIn, Executes, Follows, IsChecked, IsCheckedBy}
+use Rattle.ioa_command.specs.Command.{IsFaultOfSchedule, IsKept, IsTraced, Output, Prints}
+use Rattle.ioa_command.specs.Inputs.{IsFaultOfInput, IsTextOf, KeepsStandard, behind, given_behind, given_by}
+
+-- a fault of reading
+abbrev IsReading : TextFault → Type 0
+IsReading (Input f) = Unit {0}
+IsReading (Unread name) = Unit {0}
+IsReading (Run f) = ⊥
+IsReading (Check f) = ⊥
+IsReading (Print f) = ⊥
+
+-- what gives no text has no other fault
+is_reading : (input : InputName) (given : Option (List ℕ)) (f : TextFault) → IsFaultOfInput input given f → IsReading f
+is_reading Standard given (Input f) h = tt
+is_reading Standard given (Unread name) h = absurd h
+is_reading Standard given (Run f) h = absurd h
+is_reading Standard given (Check f) h = absurd h
+is_reading Standard given (Print f) h = absurd h
+is_reading (File of) given (Input f) h = tt
+is_reading (File of) given (Unread name) h = tt
+is_reading (File of) given (Run f) h = absurd h
+is_reading (File of) given (Check f) h = absurd h
+is_reading (File of) given (Print f) h = absurd h
+
+-- a subcommand ends so if its input gives no text
+pub executes_unread : (r : RunChoice) (given : Option (List ℕ)) (out : Output) (f : TextFault)
+    → IsFaultOfInput r.input given f → IsKept out → Executes r given out (Err f)
+executes_unread r given out (Input f) h kept = (h, kept)
+executes_unread r given out (Unread name) h kept = (h, kept)
+executes_unread r given out (Run f) h kept = absurd (is_reading r.input given (Run f) h)
+executes_unread r given out (Check f) h kept = absurd (is_reading r.input given (Check f) h)
+executes_unread r given out (Print f) h kept = absurd (is_reading r.input given (Print f) h)
+
+-- and so if its text was run
+pub executes_run : (r : RunChoice) (given : Option (List ℕ)) (text : List ℕ) (out : Output) (found : Findings)
+    → IsTextOf (given_by r.input given) text
+    → WritesReport text r.options out.old out.new out.failed (Ok found) → IsExactFor {T = Findings} (Ok found) text
+    → Executes r given out (Ok found)
+executes_run r given text out found t written exact = (text, t, written, tt, exact, tt)
+
+pub executes_fault : (r : RunChoice) (given : Option (List ℕ)) (text : List ℕ) (out : Output) (f : RunFault)
+    → IsTextOf (given_by r.input given) text
+    → WritesReport text r.options out.old out.new out.failed (Err f) → IsRefusalOf f text
+    → IsExactFor {T = Findings} (Err f) text → IsFaultOfWorkers r.options.workers f → Executes r given out (Err (Run f))
+executes_fault r given text out f t written refused exact workers = (text, t, written, refused, exact, workers)
+
+pub traces_unread : (t : TraceChoice) (given : Option (List ℕ)) (out : Output) (f : TextFault)
+    → IsFaultOfInput t.input given f → IsKept out → IsTraced t given out (Err f)
+traces_unread t given out (Input f) h kept = (h, kept)
+traces_unread t given out (Unread name) h kept = (h, kept)
+traces_unread t given out (Run f) h kept = absurd (is_reading t.input given (Run f) h)
+traces_unread t given out (Check f) h kept = absurd (is_reading t.input given (Check f) h)
+traces_unread t given out (Print f) h kept = absurd (is_reading t.input given (Print f) h)
+
+pub prints_unread : (input : InputName) (given : Option (List ℕ)) (out : Output) (f : TextFault)
+    → IsFaultOfInput input given f → IsKept out → Prints input given out (Err f)
+prints_unread input given out (Input f) h kept = (h, kept)
+prints_unread input given out (Unread name) h kept = (h, kept)
+prints_unread input given out (Run f) h kept = absurd (is_reading input given (Run f) h)
+prints_unread input given out (Check f) h kept = absurd (is_reading input given (Check f) h)
+prints_unread input given out (Print f) h kept = absurd (is_reading input given (Print f) h)
+
+pub follows_unread : (c : CheckChoice) (given : Option (List ℕ)) (out : Output) (f : TextFault)
+    → IsFaultOfInput c.input given f → IsKept out → Follows c given out (Err f)
+follows_unread c given out (Input f) h kept = (inl h, kept)
+follows_unread c given out (Unread name) h kept = (inl h, kept)
+follows_unread c given out (Run f) h kept = absurd (is_reading c.input given (Run f) h)
+follows_unread c given out (Check f) h kept = absurd (is_reading c.input given (Check f) h)
+follows_unread c given out (Print f) h kept = absurd (is_reading c.input given (Print f) h)
+
+pub checked_unread : (text : List ℕ) (s : InputName) (given : Option (List ℕ)) (out : Output) (f : TextFault)
+    → IsFaultOfInput s given f → IsKept out → IsCheckedBy text s given out (Err f)
+checked_unread text s given out (Input f) h kept = (h, kept)
+checked_unread text s given out (Unread name) h kept = (h, kept)
+checked_unread text s given out (Run f) h kept = absurd (is_reading s given (Run f) h)
+checked_unread text s given out (Check f) h kept = absurd (is_reading s given (Check f) h)
+checked_unread text s given out (Print f) h kept = absurd (is_reading s given (Print f) h)
+
+-- what is known of an input that is read behind another
+text_behind : (input s : InputName) (old mid : Option (List ℕ)) (text : List ℕ) → KeepsStandard input old mid
+    → IsTextOf (given_by s mid) text → IsTextOf (given_behind input s old) text
+text_behind Standard Standard old mid text kept h = (h.0, h.1, tt)
+text_behind Standard (File name) old mid text kept h = h
+text_behind (File of) s old mid text kept h = subst (λ m. IsTextOf (given_by s m) text) kept h
+
+fault_behind : (input s : InputName) (old mid : Option (List ℕ)) (f : TextFault) → KeepsStandard input old mid
+    → IsFaultOfInput s mid f → IsFaultOfInput s (behind input old) f
+fault_behind Standard Standard old mid (Input f) kept h = tt
+fault_behind Standard Standard old mid (Unread name) kept h = absurd h
+fault_behind Standard Standard old mid (Run f) kept h = absurd h
+fault_behind Standard Standard old mid (Check f) kept h = absurd h
+fault_behind Standard Standard old mid (Print f) kept h = absurd h
+fault_behind Standard (File name) old mid f kept h = h
+fault_behind (File of) s old mid f kept h = subst (λ m. IsFaultOfInput s m f) kept h
+
+-- a schedule of its own
+pub follows_apart : (c : CheckChoice) (s : InputName) (given mid : Option (List ℕ)) (text : List ℕ) (out : Output)
+    (r : Result (Unit {0}) TextFault) → c.schedule ≡ Some s → KeepsStandard c.input given mid
+    → IsTextOf (given_by c.input given) text → IsCheckedBy text s mid out r → Follows c given out r
+follows_apart c s given mid text out (Ok x) is kept t h =
+    subst (λ o. ChecksGivenIn c.input o given out (Ok x)) (sym is)
+    (text, t, (h.0, text_behind c.input s given mid h.0 kept h.1, h.2))
+follows_apart c s given mid text out (Err (Input f)) is kept t h = (
+  inr (subst (λ o. IsFaultOfSchedule o (behind c.input given) (Input f)) (sym is)
+      (fault_behind c.input s given mid (Input f) kept h.0)),
+  h.1,
+)
+follows_apart c s given mid text out (Err (Unread name)) is kept t h = (
+  inr (subst (λ o. IsFaultOfSchedule o (behind c.input given) (Unread name)) (sym is)
+      (fault_behind c.input s given mid (Unread name) kept h.0)),
+  h.1,
+)
+follows_apart c s given mid text out (Err (Run f)) is kept t h = absurd h
+follows_apart c s given mid text out (Err (Check f)) is kept t h =
+    subst (λ o. ChecksGivenIn c.input o given out (Err f)) (sym is)
+    (text, t, (h.0, text_behind c.input s given mid h.0 kept h.1, h.2))
+follows_apart c s given mid text out (Err (Print f)) is kept t h = absurd h
+
+-- a schedule behind the text
+pub follows_parts : (c : CheckChoice) (given : Option (List ℕ)) (input : List ℕ) (out : Output)
+    (r : Result (Unit {0}) TextFault) → c.schedule ≡ None → IsTextOf (given_by c.input given) input
+    → IsChecked (text_part input) (lines_part input) out r → Follows c given out r
+follows_parts c given input out (Ok x) is t h =
+    subst (λ o. ChecksGivenIn c.input o given out (Ok x)) (sym is) (input, t, h)
+follows_parts c given input out (Err (Input f)) is t h = absurd h
+follows_parts c given input out (Err (Unread name)) is t h = absurd h
+follows_parts c given input out (Err (Run f)) is t h = absurd h
+follows_parts c given input out (Err (Check f)) is t h =
+    subst (λ o. ChecksGivenIn c.input o given out (Err f)) (sym is) (input, t, h)
+follows_parts c given input out (Err (Print f)) is t h = absurd h
+
+pub ruleset follow_rules = (follows_unread, follows_apart, follows_parts)
+
+pub ruleset run_rules = (executes_unread, executes_run, executes_fault)

@@ -1,0 +1,93 @@
+//! What the words of the command line can choose.
+
+use ioa_pipeline::{Findings, Format, Options};
+use std::alloc::AllocError;
+
+/// Where a text is read.
+#[derive(Debug, Drop)]
+pub enum InputName {
+    /// Standard input: no name is given, or `-`.
+    Standard,
+    /// The file of this name.
+    File(String),
+}
+
+/// What `run` is asked to do.
+#[derive(Debug, Drop)]
+pub struct RunChoice {
+    /// Where the text is read.
+    pub input: InputName,
+    /// How the system is run.
+    pub options: Options,
+    /// The findings at each of which the status is to tell.
+    pub fail_on: Findings,
+}
+
+/// What `trace` is asked to do.
+#[derive(Debug, Drop)]
+pub struct TraceChoice {
+    /// Where the text is read.
+    pub input: InputName,
+    /// How the system is run: by one worker.
+    pub options: Options,
+    /// How the run is shown.
+    pub format: Format,
+}
+
+/// What `check` is asked to do.
+#[derive(Debug, Drop)]
+pub struct CheckChoice {
+    /// Where the text is read.
+    pub input: InputName,
+    /// Where the schedule is read, if it does not stand behind the text.
+    pub schedule: Option<InputName>,
+}
+
+/// What the program is asked to do.
+#[derive(Debug, Drop)]
+pub enum Subcommand {
+    /// `run`: run the system of a text, and write the report.
+    Run(RunChoice),
+    /// `trace`: run the system of a text, and show the run step by step, or as a picture.
+    Trace(TraceChoice),
+    /// `check`: say whether a schedule is an execution of a text's system.
+    Check(CheckChoice),
+    /// `print`: write a text laid out anew.
+    Print(InputName),
+}
+
+/// Why words that clap takes choose nothing.
+#[derive(Debug, Drop)]
+pub(crate) enum ChoiceFault {
+    /// Memory ran out.
+    Memory(AllocError),
+    /// No subcommand is named, or a number is outside its range.
+    Number,
+    /// `--fail-on` has a name that is none of its three.
+    FailOn,
+    /// `--format` has a name that is none of a format.
+    Format,
+    /// Text and schedule are both to be read from standard input.
+    Twice,
+}
+
+impl ChoiceFault {
+    /// What is told of it.
+    pub(crate) fn text(&self) -> &'static str {
+        match self {
+            ChoiceFault::Memory(_) => "memory ran out",
+            ChoiceFault::Number => "a number is outside its range",
+            ChoiceFault::FailOn => {
+                "--fail-on takes fault, spent and invariant: one of them, or several with commas between"
+            }
+            ChoiceFault::Format => "--format takes json, itf, svg or mermaid",
+            ChoiceFault::Twice => "only one of FILE and SCHEDULE can be standard input",
+        }
+    }
+}
+
+impl From<AllocError> for ChoiceFault {
+    fn from(fault: AllocError) -> Self {
+        ChoiceFault::Memory(fault)
+    }
+}

@@ -1,0 +1,91 @@
+//! Texts that are read from a file or from standard input.
+
+ghost use Rattle.std.specs.Prelude.{◌≡◌, IfErr, IfOk, None, string_bytes};
+ghost use Rattle.ioa_command.specs.Inputs.{IsFaultOfFile, IsFaultOfInput, IsFaultOfStandard};
+ghost use Rattle.ioa_command.specs.Inputs.{IsTextOf, KeepsStandard, given_by};
+
+use crate::choice::InputName;
+use crate::faults::TextFault;
+use ioa_streams::{InputFault, read_input};
+use std::alloc::Global;
+use std::fs;
+use std::io::Read;
+use std::rt::Files;
+
+/// Reads the text of an input: that of the file, if one is named, else that of standard input, which `reader` is.
+pub(crate) fn text_of<R: Files, I: Read>(
+    rt: &R,
+    alloc: Global,
+    input: &InputName,
+    reader: &mut I,
+) -> Result<String, TextFault>
+    ensures read { IfOk result (λ s. IsTextOf (given_by input.now (I.remaining reader.old)) (string_bytes s)) }
+    ensures refused { IfErr result (IsFaultOfInput input.now (I.remaining reader.old)) }
+    ensures kept { KeepsStandard input.now (I.remaining reader.old) (I.remaining reader.new) }
+{
+    match input {
+        InputName::Standard => text_of_standard(alloc, reader),
+        InputName::File(name) => text_of_file(rt, alloc, name),
+    }
+}
+
+/// Reads the text of standard input.
+fn text_of_standard<I: Read>(alloc: Global, reader: &mut I) -> Result<String, TextFault>
+    ensures read { IfOk result (λ s. IsTextOf (I.remaining reader.old) (string_bytes s)) }
+    ensures refused { IfErr result (IsFaultOfStandard (I.remaining reader.old)) }
+{
+    match read_input(alloc, reader) {
+        Ok(text) => {
+            // No effect at run time. The proof reads from it that a text is UTF-8.
+            let _text = text.as_str();
+            Ok(text)
+        }
+        Err(fault) => Err(TextFault::Input(fault)),
+    }
+}
+
+/// Reads the text of a file.
+fn text_of_file<R: Files>(rt: &R, alloc: Global, name: &String) -> Result<String, TextFault>
+    ensures read { IfOk result (λ s. IsTextOf None (string_bytes s)) }
+    ensures refused { IfErr result (IsFaultOfFile (string_bytes name.now)) }
+{
+    match bytes_of_file(rt, alloc, name.as_str()) {
+        Ok(text) => Ok(text),
+        Err(InputFault::Read) => Err(unread(alloc, name)),
+        Err(InputFault::TooLong) => Err(TextFault::Input(InputFault::TooLong)),
+        Err(InputFault::BadCharacter(offset)) => {
+            Err(TextFault::Input(InputFault::BadCharacter(offset)))
+        }
+        Err(InputFault::Memory) => Err(TextFault::Input(InputFault::Memory)),
+    }
+}
+
+/// Opens a file and reads its text.
+fn bytes_of_file<R: Files>(rt: &R, alloc: Global, name: &str) -> Result<String, InputFault>
+    ensures { IfOk result (λ s. IsTextOf None (string_bytes s)) }
+{
+    match fs::open(rt, name) {
+        Ok(file) => text_in(alloc, file),
+        Err(_) => Err(InputFault::Read),
+    }
+}
+
+/// Reads the text of an open file.
+fn text_in<I: Read + Drop>(alloc: Global, mut file: I) -> Result<String, InputFault>
+    ensures { IfOk result (λ s. IsTextOf None (string_bytes s)) }
+{
+    let text = read_input(alloc, &mut file)?;
+    // No effect at run time. The proof reads from it that a text is UTF-8.
+    let _text = text.as_str();
+    Ok(text)
+}
+
+/// The fault of a file that can't be read.
+fn unread(alloc: Global, name: &String) -> TextFault
+    ensures { IsFaultOfFile (string_bytes name.now) result }
+{
+    match String::from_str(alloc, name.as_str()) {
+        Ok(name) => TextFault::Unread(name),
+        Err(_) => TextFault::Input(InputFault::Memory),
+    }
+}
