@@ -1,0 +1,3 @@
+pub mod TakenActions
+pub mod Schedules
+pub mod PrintedRuns

@@ -1,0 +1,5 @@
+pub mod DeclaredNames
+pub mod OneSystem
+pub mod TextShapes
+pub mod TermShapes
+pub mod TextSystems
