@@ -1,0 +1,186 @@
+//! What is asked of parts, and the asks.
+
+ghost use Rattle.std.specs.Prelude.{◌≡◌, true, Err, IfOk};
+ghost use Rattle.ioa_terms.specs.View.{term_of};
+ghost use Rattle.ioa_sorts.specs.Sorting.{fit, infer, sorting};
+ghost use Rattle.ioa_sort_rules.specs.declared.refusal.Refusal.TheVariants.{Memory};
+
+use crate::halt::{Halt, halt_of};
+use crate::shortened::InvariantText;
+use ioa_names::{NameTable, View};
+use ioa_sort_rules::{Refusal, shape_in_terms};
+use ioa_sorts::{fit, infer};
+use ioa_source::Sort;
+use ioa_terms::{Shape, Term, Word};
+use ioa_types::Types;
+use ioa_walk::Part;
+use std::alloc::{AllocError, Global};
+
+/// What is looked for, in a text of these types and constants.
+#[derive(Clone, Copy)]
+pub(crate) struct Ask<'a> {
+    pub alloc: Global,
+    /// The refusal that was told.
+    pub told: Refusal,
+    /// The text's types.
+    pub types: &'a Types,
+    /// The constants of its enumerations.
+    pub constants: &'a NameTable,
+}
+
+/// How terms are asked.
+#[derive(Clone, Copy)]
+pub(crate) enum Way<'a> {
+    /// They are passed and not asked.
+    Passed,
+    /// By the sorts of terms that read these names.
+    Names(&'a View<'a>),
+    /// By the check of the text in which an invariant says that a term equals itself.
+    Invariant(&'a InvariantText<'a>),
+}
+
+/// What is looked for in terms.
+#[derive(Clone, Copy)]
+pub(crate) struct TermAsk<'a> {
+    pub alloc: Global,
+    /// The refusal that was told.
+    pub told: Refusal,
+    /// How they are asked.
+    pub way: Way<'a>,
+}
+
+/// Terms that are passed and not asked.
+pub(crate) fn no_ask<'a>(alloc: Global, told: Refusal) -> TermAsk<'a> {
+    TermAsk {
+        alloc,
+        told,
+        way: Way::Passed,
+    }
+}
+
+impl<'a> Ask<'a> {
+    /// What is looked for in terms that read these names.
+    pub(crate) fn in_view<'b>(&self, view: &'b View<'b>) -> TermAsk<'b> {
+        TermAsk {
+            alloc: self.alloc,
+            told: self.told,
+            way: Way::Names(view),
+        }
+    }
+
+    /// Ends the walk at a part, if the refusal that was told is this one.
+    pub(crate) fn told_at(&self, refusal: Refusal, part: Part) -> Result<(), Halt> {
+        if self.told == refusal {
+            Err(Halt::Found(part))
+        } else {
+            Ok(())
+        }
+    }
+
+    /// The shape of a sort that was asked before.
+    pub(crate) fn shape_of(&self, sort: &Sort) -> Result<Shape, Halt> {
+        match self.types.shape_of(self.alloc, sort) {
+            Ok(found) => Ok(found.into_shape()),
+            Err(refusal) => Err(halt_of(refusal)),
+        }
+    }
+
+    /// Ends the walk at the part of a sort, if it is refused as was told.
+    pub(crate) fn sort_at(&self, sort: &Sort, part: Part) -> Result<(), Halt> {
+        match self.types.shape_of(self.alloc, sort) {
+            Ok(_) => Ok(()),
+            Err(Refusal::Memory) => Err(Halt::Memory),
+            Err(refusal) => self.told_at(refusal, part),
+        }
+    }
+
+    /// A table with one more name, which was asked before.
+    pub(crate) fn with_name(
+        &self,
+        table: NameTable,
+        name: &Word,
+        shape: Shape,
+    ) -> Result<NameTable, Halt> {
+        match table.with(self.alloc, name.try_copy(self.alloc)?, shape) {
+            Ok(more) => Ok(more),
+            Err(refusal) => Err(halt_of(refusal)),
+        }
+    }
+}
+
+/// Whether a refusal is the one that was told.
+fn is_told(refusal: Refusal, told: Refusal) -> Result<bool, AllocError>
+    ensures memory { IfOk result (λ _. refusal ≡ Memory → ⊥) }
+    ensures told { IfOk result (λ b. b ≡ true → refusal ≡ told) }
+{
+    if refusal == Refusal::Memory {
+        return Err(AllocError);
+    }
+    Ok(refusal == told)
+}
+
+/// Whether a term that stands for itself is refused as was told.
+fn is_refused(alloc: Global, view: &View, term: &Term, told: Refusal) -> Result<bool, AllocError>
+    ensures { IfOk result (λ b. b ≡ true → infer (sorting view.now (term_of term.now)) ≡ Err told) }
+{
+    match infer(alloc, view, term) {
+        Ok(_) => Ok(false),
+        Err(refusal) => is_told(refusal, told),
+    }
+}
+
+/// Whether a term at the place of a shape is refused as was told.
+fn is_refused_at(
+    alloc: Global,
+    view: &View,
+    term: &Term,
+    want: &Shape,
+    told: Refusal,
+) -> Result<bool, AllocError>
+    ensures { IfOk result (λ b. b ≡ true → fit (sorting view.now (term_of term.now)) want.now ≡ Err told) }
+{
+    match fit(alloc, view, term, want) {
+        Ok(_) => Ok(false),
+        Err(refusal) => is_told(refusal, told),
+    }
+}
+
+/// Whether an invariant is refused as was told that says that the term of a part equals itself. A display has no sort
+/// of its own, and is not asked.
+fn refuses_invariant(
+    alloc: Global,
+    text: &InvariantText<'_>,
+    term: &Term,
+    part: Part,
+    told: Refusal,
+) -> Result<bool, AllocError> {
+    match term {
+        Term::Display(_, _, _) => Ok(false),
+        _ => text.refuses(alloc, part, told),
+    }
+}
+
+impl<'a> TermAsk<'a> {
+    /// Whether a term that stands for itself is refused as was told. It has this part.
+    pub(crate) fn refuses(&self, term: &Term, part: Part) -> Result<bool, AllocError> {
+        match self.way {
+            Way::Passed => Ok(false),
+            Way::Names(view) => is_refused(self.alloc, view, term, self.told),
+            Way::Invariant(text) => refuses_invariant(self.alloc, text, term, part, self.told),
+        }
+    }
+
+    /// Whether a term at the place of a shape is refused as was told.
+    pub(crate) fn refuses_at(&self, term: &Term, want: &Shape) -> Result<bool, AllocError> {
+        match self.way {
+            Way::Passed => Ok(false),
+            Way::Names(view) => is_refused_at(self.alloc, view, term, want, self.told),
+            Way::Invariant(_) => Ok(false),
+        }
+    }
+
+    /// The shape in terms of a declared one.
+    pub(crate) fn in_terms(&self, shape: &Shape) -> Result<Shape, AllocError> {
+        shape_in_terms(self.alloc, shape)
+    }
+}

@@ -1,0 +1,58 @@
+//! The walk over an automaton.
+
+use crate::asking::Ask;
+use crate::block::seek_schedule;
+use crate::halt::Halt;
+use crate::heading::{Heading, seek_parameters, seek_states};
+use crate::rules::{seek_signature, seek_transitions};
+use ioa_sort_rules::Refusal;
+use ioa_source::{Automaton, Declaration};
+use ioa_terms::Word;
+use ioa_walk::{Walk, one_token};
+
+/// Whether one of these declarations is an automaton of a name.
+pub(crate) fn has_automaton(declarations: &[Declaration<(), (), ()>], name: &Word) -> bool {
+    for declaration in declarations {
+        match declaration {
+            Declaration::Type(_) => {}
+            Declaration::Automaton(automaton) => {
+                if automaton.name == *name {
+                    return true;
+                }
+            }
+        }
+    }
+    false
+}
+
+/// The walk over an automaton behind other declarations.
+pub(crate) fn seek_automaton(
+    walk: &mut Walk<'_>,
+    ask: &Ask<'_>,
+    before: &[Declaration<(), (), ()>],
+    automaton: &Automaton<(), (), ()>,
+) -> Result<(), Halt> {
+    let name = walk.word(&automaton.name)?;
+    if has_automaton(before, &automaton.name) {
+        ask.told_at(Refusal::Twice, one_token(name))?;
+    }
+    let given = seek_parameters(walk, ask, &automaton.parameters)?;
+    let mut states = *walk;
+    let outer = seek_states(&mut states, ask, &given, automaton)?;
+    let heading = Heading {
+        ask,
+        automaton,
+        given: &given,
+        outer: &outer,
+    };
+    seek_parts(walk, &heading)
+}
+
+/// The walk over what an automaton has behind its heading.
+fn seek_parts(walk: &mut Walk<'_>, heading: &Heading<'_>) -> Result<(), Halt> {
+    let mut entries = *walk;
+    seek_signature(&mut entries, heading)?;
+    let mut transitions = *walk;
+    seek_transitions(&mut transitions, heading)?;
+    seek_schedule(walk, heading)
+}

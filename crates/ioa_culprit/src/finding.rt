@@ -1,0 +1,208 @@
+//! The culprit of a refused text.
+
+ghost use Rattle.std.specs.Prelude.{◌≡◌, IfOk, IfSome, Ok};
+ghost use Rattle.ioa_tokens.specs.Tokens as cutting;
+ghost use Rattle.ioa_walk.specs.Places.{IsSpanIn};
+
+use crate::asking::Ask;
+use crate::automaton::seek_automaton;
+use crate::halt::{Halt, halt_of};
+use crate::invariant::seek_invariant;
+use crate::section::{Section, seek_section};
+use crate::shortened::Cut;
+use crate::types::seek_type;
+use ioa_sort_rules::Refusal;
+use ioa_source::{Declaration, Invariant, Text};
+use ioa_tokens::{CutFault, LocatedToken, Mark, tokens};
+use ioa_types::TextTypes;
+use ioa_walk::{Part, Span, Walk, is_mark};
+use std::alloc::{AllocError, Global};
+
+/// Finds the smallest part of a refused declaration that is refused with the same number when it is asked alone, in the
+/// names that are in view there. `source` is the tree of the text, and the check refused it so, in the top declaration
+/// of this index. If no part is found with that number, there is none. Memory if none is left. Costs a few times what
+/// the check costs, and for a fault of the system section or of an invariant some more checks of the text.
+pub fn culprit(
+    alloc: Global,
+    text: &str,
+    source: &Text<(), (), ()>,
+    index: usize,
+    refusal: Refusal,
+) -> Result<Option<Span>, AllocError>
+    ensures { IfOk result (λ found. IfSome found (IsSpanIn text.now)) }
+{
+    let located = match tokens(alloc, text) {
+        Ok(located) => located,
+        Err(CutFault::Memory) => return Err(AllocError),
+        Err(_) => return Ok(None),
+    };
+    let cut = Cut {
+        text,
+        tokens: located.as_slice(),
+    };
+    match seek(alloc, cut, source, index, refusal) {
+        Ok(()) => Ok(None),
+        Err(Halt::Found(part)) => Ok(place_of(&cut, part)),
+        Err(Halt::Lost) => Ok(None),
+        Err(Halt::Memory) => Err(AllocError),
+    }
+}
+
+/// The place of a part with the brackets about it.
+fn place_of(cut: &Cut<'_>, part: Part) -> Option<Span>
+    requires { cutting.tokens cut.now.text.now ≡ Ok cut.now.tokens.now }
+    ensures { IfSome result (IsSpanIn cut.now.text.now) }
+{
+    cut.span(cut.walk_from(0).balanced(part))
+}
+
+/// Whether a token begins a top declaration.
+fn begins_declaration(located: &LocatedToken<'_>) -> bool {
+    is_mark(located, Mark::Type)
+        || is_mark(located, Mark::Automaton)
+        || is_mark(located, Mark::System)
+        || is_mark(located, Mark::Invariant)
+}
+
+/// The position of the first token of the top declaration of an index.
+fn start_of(tokens: &[LocatedToken<'_>], index: usize) -> Option<usize> {
+    let mut before: usize = 0;
+    for (position, located) in tokens.iter().enumerate() {
+        if begins_declaration(located) {
+            if before == index {
+                return Some(position);
+            }
+            before = before.saturating_add(1);
+        }
+    }
+    None
+}
+
+/// The types of declarations.
+fn types_of(alloc: Global, declarations: &[Declaration<(), (), ()>]) -> Result<TextTypes, Halt> {
+    let mut types = TextTypes::new(alloc);
+    for declaration in declarations {
+        match declaration {
+            Declaration::Automaton(_) => {}
+            Declaration::Type(declared) => match types.with(alloc, declared) {
+                Ok(more) => types = more,
+                Err(refusal) => return Err(halt_of(refusal)),
+            },
+        }
+    }
+    Ok(types)
+}
+
+/// The declarations before the one of an index.
+fn declarations_before(
+    declarations: &[Declaration<(), (), ()>],
+    index: usize,
+) -> &[Declaration<(), (), ()>] {
+    if index < declarations.len() {
+        &declarations[..index]
+    } else {
+        declarations
+    }
+}
+
+/// The invariants before the one at a position.
+fn invariants_before(
+    invariants: &[Invariant<(), (), ()>],
+    position: usize,
+) -> &[Invariant<(), (), ()>] {
+    if position < invariants.len() {
+        &invariants[..position]
+    } else {
+        invariants
+    }
+}
+
+/// The walk to the culprit.
+fn seek(
+    alloc: Global,
+    cut: Cut<'_>,
+    source: &Text<(), (), ()>,
+    index: usize,
+    told: Refusal,
+) -> Result<(), Halt> {
+    let Some(start) = start_of(cut.tokens, index) else {
+        return Err(Halt::Lost);
+    };
+    let mut walk = cut.walk_from(start);
+    match source.declarations.get(index) {
+        Some(declaration) => {
+            let before = declarations_before(&source.declarations, index);
+            seek_declaration(&mut walk, alloc, source, before, declaration, told)
+        }
+        None => seek_behind(&mut walk, alloc, cut, source, index, told),
+    }
+}
+
+/// The walk over a type or an automaton behind other declarations.
+fn seek_declaration(
+    walk: &mut Walk<'_>,
+    alloc: Global,
+    source: &Text<(), (), ()>,
+    before: &[Declaration<(), (), ()>],
+    declaration: &Declaration<(), (), ()>,
+    told: Refusal,
+) -> Result<(), Halt> {
+    match declaration {
+        Declaration::Type(declared) => {
+            let types = types_of(alloc, before)?;
+            seek_type(walk, &ask_of(alloc, &types, told), declared)
+        }
+        Declaration::Automaton(automaton) => {
+            let types = types_of(alloc, &source.declarations)?;
+            seek_automaton(walk, &ask_of(alloc, &types, told), before, automaton)
+        }
+    }
+}
+
+/// What is looked for in a text of these types.
+fn ask_of<'a>(alloc: Global, types: &'a TextTypes, told: Refusal) -> Ask<'a> {
+    Ask {
+        alloc,
+        told,
+        types: types.types(),
+        constants: types.constants(),
+    }
+}
+
+/// The walk over the system section or an invariant behind it.
+fn seek_behind(
+    walk: &mut Walk<'_>,
+    alloc: Global,
+    cut: Cut<'_>,
+    source: &Text<(), (), ()>,
+    index: usize,
+    told: Refusal,
+) -> Result<(), Halt> {
+    let types = types_of(alloc, &source.declarations)?;
+    let ask = ask_of(alloc, &types, told);
+    let section = Section {
+        ask: &ask,
+        cut,
+        source,
+        index,
+    };
+    seek_behind_declarations(walk, &section)
+}
+
+/// The walk over the system section, or an invariant behind it, of which all declarations are known.
+fn seek_behind_declarations(walk: &mut Walk<'_>, section: &Section<'_>) -> Result<(), Halt> {
+    let source = section.source;
+    if section.index == source.declarations.len() {
+        return seek_section(walk, section);
+    }
+    let position = section
+        .index
+        .saturating_sub(source.declarations.len().saturating_add(1));
+    match source.invariants.get(position) {
+        None => Err(Halt::Lost),
+        Some(invariant) => {
+            let before = invariants_before(&source.invariants, position);
+            seek_invariant(walk, section, before, invariant)
+        }
+    }
+}

@@ -1,0 +1,25 @@
+//! Which part of a refused text is the culprit: from a text that was read and what the check refused, the smallest part
+//! of the refused declaration that is refused with the same number when it is asked alone, and its place in the text.
+//!
+//! **A crate of its own**, since the check knows no places, and nothing that runs needs them.
+//!
+//! **Must not know**: the words in which a refusal is told, and runs.
+#![tactic(auto)]
+
+mod asking;
+mod automaton;
+mod block;
+mod declared;
+mod finding;
+mod halt;
+mod heading;
+mod invariant;
+mod rules;
+mod section;
+mod shortened;
+mod statements;
+mod terms;
+mod types;
+
+pub use finding::culprit;
+pub use ioa_walk::Span;

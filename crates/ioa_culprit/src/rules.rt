@@ -1,0 +1,411 @@
+//! Walks over the entries and the transitions of an automaton.
+
+use crate::asking::{Ask, no_ask};
+use crate::declared::{pass_declared, with_declared};
+use crate::halt::Halt;
+use crate::heading::Heading;
+use crate::statements::{Site, pass_statements};
+use crate::terms::{pass_fit, pass_own, pass_term};
+use ioa_actions::{RECEIVE, SEND};
+use ioa_names::{NameTable, View};
+use ioa_sort_rules::Refusal;
+use ioa_sorts::infer;
+use ioa_source::{Automaton, Entry, Parameter, Transition};
+use ioa_terms::{Kind, Name, Shape, ShapeForm, Term, Tree, Word, is_same_term};
+use ioa_tokens::Mark;
+use ioa_walk::{Part, Walk, one_token};
+use std::alloc::Global;
+
+/// The entry that has the name of an action.
+pub(crate) fn entry_named<'a>(
+    entries: &'a [Entry<(), (), ()>],
+    name: &Word,
+) -> Option<&'a Entry<(), (), ()>> {
+    for entry in entries {
+        if entry.name == *name {
+            return Some(entry);
+        }
+    }
+    None
+}
+
+/// Whether one of these transitions has the name of an action.
+fn has_transition_named(transitions: &[Transition<(), (), ()>], name: &Word) -> bool {
+    transitions
+        .iter()
+        .any(|transition| transition.name == *name)
+}
+
+/// Whether an entry has a transition of its name and kind.
+fn has_transition(transitions: &[Transition<(), (), ()>], entry: &Entry<(), (), ()>) -> bool {
+    transitions.iter().any(|transition| transition.name == entry.name
+        && transition.kind == entry.kind)
+}
+
+/// The entry that has the name and the kind of a transition.
+fn entry_for<'a>(
+    automaton: &'a Automaton<(), (), ()>,
+    transition: &Transition<(), (), ()>,
+) -> Option<&'a Entry<(), (), ()>> {
+    let entry = entry_named(&automaton.signature, &transition.name)?;
+    if entry.kind == transition.kind {
+        Some(entry)
+    } else {
+        None
+    }
+}
+
+/// The reserved word of a kind.
+fn kind_mark(kind: Kind) -> Mark {
+    match kind {
+        Kind::Input => Mark::Input,
+        Kind::Output => Mark::Output,
+        Kind::Internal => Mark::Internal,
+    }
+}
+
+/// The walk over a signature.
+pub(crate) fn seek_signature(walk: &mut Walk<'_>, heading: &Heading<'_>) -> Result<(), Halt> {
+    let entries = &heading.automaton.signature;
+    if entries.is_empty() {
+        return Ok(());
+    }
+    let _signature = walk.mark(Mark::Signature)?;
+    for (position, entry) in entries.iter().enumerate() {
+        seek_entry(walk, heading, &entries[..position], entry)?;
+    }
+    Ok(())
+}
+
+/// The walk over an entry behind others.
+fn seek_entry(
+    walk: &mut Walk<'_>,
+    heading: &Heading<'_>,
+    before: &[Entry<(), (), ()>],
+    entry: &Entry<(), (), ()>,
+) -> Result<(), Halt> {
+    let first = walk.word(&entry.name)?;
+    let last = walk.called(first)?;
+    let part = Part { first, last };
+    if entry_named(before, &entry.name).is_some() {
+        heading.ask.told_at(Refusal::Twice, one_token(first))?;
+    }
+    if !has_transition(&heading.automaton.transitions, entry) {
+        heading.ask.told_at(Refusal::NoTransition, part)?;
+    }
+    let own = seek_own(walk, heading, &entry.parameters)?;
+    walk.go_behind(last);
+    seek_where(walk, heading, &own, entry)?;
+    seek_message(heading, entry, part)
+}
+
+/// The walk over the parameters of an entry. Returns the table of their names.
+fn seek_own(
+    walk: &mut Walk<'_>,
+    heading: &Heading<'_>,
+    parameters: &Vec<Parameter<(), (), ()>>,
+) -> Result<NameTable, Halt> {
+    let ask = heading.ask;
+    let none = NameTable::new(ask.alloc);
+    let view = View::new(heading.given, &none, ask.constants)?;
+    seek_own_in(walk, heading, &view, parameters)
+}
+
+/// The walk over the parameters of an entry, whose constants read the names of a view.
+fn seek_own_in(
+    walk: &mut Walk<'_>,
+    heading: &Heading<'_>,
+    view: &View<'_>,
+    parameters: &Vec<Parameter<(), (), ()>>,
+) -> Result<NameTable, Halt> {
+    let mut own = NameTable::new(heading.ask.alloc);
+    for parameter in parameters {
+        own = seek_parameter(walk, heading, view, own, parameter)?;
+    }
+    Ok(own)
+}
+
+/// The walk over a parameter of an entry. Returns the table with its name, if it declares one.
+fn seek_parameter(
+    walk: &mut Walk<'_>,
+    heading: &Heading<'_>,
+    view: &View<'_>,
+    own: NameTable,
+    parameter: &Parameter<(), (), ()>,
+) -> Result<NameTable, Halt> {
+    let ask = heading.ask;
+    match parameter {
+        Parameter::Const(term) => {
+            let _part = pass_own(walk, &ask.in_view(view), term)?;
+            Ok(own)
+        }
+        Parameter::Declared(declared) => {
+            let _part = pass_declared(walk, ask, heading.outer, &own, declared)?;
+            with_declared(ask, own, declared)
+        }
+    }
+}
+
+/// The names of the parameters of an entry that was passed.
+fn own_of(ask: &Ask<'_>, entry: &Entry<(), (), ()>) -> Result<NameTable, Halt> {
+    let mut own = NameTable::new(ask.alloc);
+    for parameter in &entry.parameters {
+        match parameter {
+            Parameter::Const(_) => {}
+            Parameter::Declared(declared) => own = with_declared(ask, own, declared)?,
+        }
+    }
+    Ok(own)
+}
+
+/// The walk over the condition of an entry whose parameters have these names.
+fn seek_where(
+    walk: &mut Walk<'_>,
+    heading: &Heading<'_>,
+    own: &NameTable,
+    entry: &Entry<(), (), ()>,
+) -> Result<(), Halt> {
+    match &entry.condition {
+        None => Ok(()),
+        Some(term) => {
+            let view = View::new(heading.given, own, heading.ask.constants)?;
+            seek_condition(
+                walk,
+                heading.ask,
+                &view,
+                entry.kind,
+                Refusal::InputWhere,
+                term,
+            )
+        }
+    }
+}
+
+/// The walk over a condition or a guard. An input has none.
+fn seek_condition(
+    walk: &mut Walk<'_>,
+    ask: &Ask<'_>,
+    view: &View<'_>,
+    kind: Kind,
+    refusal: Refusal,
+    term: &Term,
+) -> Result<(), Halt> {
+    if kind == Kind::Input {
+        let part = pass_term(walk, &no_ask(ask.alloc, ask.told), term)?;
+        return ask.told_at(refusal, part);
+    }
+    let truths = Shape::of(ShapeForm::Truths);
+    let _part = pass_fit(walk, &ask.in_view(view), term, &truths)?;
+    Ok(())
+}
+
+/// The shape of a term's value. Nothing for a display.
+fn shape_of_term(alloc: Global, view: &View<'_>, term: &Term) -> Result<Option<Shape>, Refusal> {
+    match infer(alloc, view, term)? {
+        None => Ok(None),
+        Some(typed) => Ok(Some(typed.shape)),
+    }
+}
+
+/// The shape of the arguments that a parameter takes, which was passed. Nothing for a display.
+fn shape_taken(
+    ask: &Ask<'_>,
+    view: &View<'_>,
+    parameter: &Parameter<(), (), ()>,
+) -> Result<Option<Shape>, Halt> {
+    match parameter {
+        Parameter::Declared(declared) => Ok(Some(ask.shape_of(&declared.sort)?)),
+        Parameter::Const(term) => match shape_of_term(ask.alloc, view, term) {
+            Ok(shape) => Ok(shape),
+            Err(Refusal::Memory) => Err(Halt::Memory),
+            Err(_) => Ok(None),
+        },
+    }
+}
+
+/// The shapes of the arguments that an entry takes, which was passed.
+pub(crate) fn shapes_taken(
+    heading: &Heading<'_>,
+    entry: &Entry<(), (), ()>,
+) -> Result<Vec<Shape>, Halt> {
+    let ask = heading.ask;
+    let none = NameTable::new(ask.alloc);
+    let view = View::new(heading.given, &none, ask.constants)?;
+    let mut shapes = Vec::new(ask.alloc);
+    for parameter in &entry.parameters {
+        match shape_taken(ask, &view, parameter)? {
+            None => return Err(Halt::Lost),
+            Some(shape) => shapes.push(shape)?,
+        }
+    }
+    Ok(shapes)
+}
+
+/// Whether there is a shape at a position, and it is that of numbers.
+fn is_number_at(shapes: &Vec<Shape>, position: usize) -> bool {
+    match shapes.get(position) {
+        None => false,
+        Some(shape) => match &shape.form {
+            ShapeForm::Integers | ShapeForm::Naturals => true,
+            _ => false,
+        },
+    }
+}
+
+/// Whether there is a parameter at a position, and it is a constant.
+fn is_constant_at(entry: &Entry<(), (), ()>, position: usize) -> bool {
+    match entry.parameters.get(position) {
+        None => false,
+        Some(parameter) => match parameter {
+            Parameter::Const(_) => true,
+            Parameter::Declared(_) => false,
+        },
+    }
+}
+
+/// Whether an entry that takes these shapes may have its name.
+fn may_have_name(entry: &Entry<(), (), ()>, shapes: &Vec<Shape>) -> bool {
+    let is_message = shapes.len() == 3 && is_number_at(shapes, 1) && is_number_at(shapes, 2);
+    if entry.name.as_str() == SEND {
+        return is_message && entry.kind == Kind::Output && is_constant_at(entry, 1);
+    }
+    if entry.name.as_str() == RECEIVE {
+        return is_message
+            && entry.kind == Kind::Input
+            && is_constant_at(entry, 2)
+            && !is_constant_at(entry, 0);
+    }
+    true
+}
+
+/// Ends the walk at an entry that may not have its name, if that was told.
+fn seek_message(heading: &Heading<'_>, entry: &Entry<(), (), ()>, part: Part) -> Result<(), Halt> {
+    if heading.ask.told != Refusal::BadArgument {
+        return Ok(());
+    }
+    let shapes = shapes_taken(heading, entry)?;
+    if may_have_name(entry, &shapes) {
+        Ok(())
+    } else {
+        Err(Halt::Found(part))
+    }
+}
+
+/// Whether an argument of a transition's head repeats a parameter.
+fn repeats(parameter: &Parameter<(), (), ()>, argument: &Term) -> bool {
+    match parameter {
+        Parameter::Const(term) => is_same_term(term, argument),
+        Parameter::Declared(declared) => match argument {
+            Tree::Name(name, _) => is_word(name, &declared.name),
+            _ => false,
+        },
+    }
+}
+
+/// Whether a name is this word.
+fn is_word(name: &Name, word: &Word) -> bool {
+    match name {
+        Name::Word(other) => other == word,
+        Name::Variable { .. } => false,
+        Name::Queue { .. } => false,
+    }
+}
+
+/// Whether the arguments of a transition's head repeat the parameters of its entry, one by one.
+fn head_repeats(parameters: &Vec<Parameter<(), (), ()>>, arguments: &Vec<Term>) -> bool {
+    for position in 0..parameters.len().min(arguments.len()) {
+        if !repeats(&parameters[position], &arguments[position]) {
+            return false;
+        }
+    }
+    parameters.len() == arguments.len()
+}
+
+/// The walk over transitions.
+pub(crate) fn seek_transitions(walk: &mut Walk<'_>, heading: &Heading<'_>) -> Result<(), Halt> {
+    let transitions = &heading.automaton.transitions;
+    if transitions.is_empty() {
+        return Ok(());
+    }
+    let _transitions = walk.mark(Mark::Transitions)?;
+    for (position, transition) in transitions.iter().enumerate() {
+        seek_transition(walk, heading, &transitions[..position], transition)?;
+    }
+    Ok(())
+}
+
+/// The walk over a transition behind others. One that has no entry is passed, but for its head, and not asked.
+fn seek_transition(
+    walk: &mut Walk<'_>,
+    heading: &Heading<'_>,
+    before: &[Transition<(), (), ()>],
+    transition: &Transition<(), (), ()>,
+) -> Result<(), Halt> {
+    let first = walk.mark(kind_mark(transition.kind))?;
+    let name = walk.word(&transition.name)?;
+    let last = walk.called(name)?;
+    let head = Part { first, last };
+    if has_transition_named(before, &transition.name) {
+        heading.ask.told_at(Refusal::Twice, head)?;
+    }
+    match entry_for(heading.automaton, transition) {
+        None => heading.ask.told_at(Refusal::Unknown, head),
+        Some(entry) => seek_rule(walk, heading, entry, head, transition),
+    }
+}
+
+/// The walk over a transition of an entry, behind its head.
+fn seek_rule(
+    walk: &mut Walk<'_>,
+    heading: &Heading<'_>,
+    entry: &Entry<(), (), ()>,
+    head: Part,
+    transition: &Transition<(), (), ()>,
+) -> Result<(), Halt> {
+    let ask = heading.ask;
+    if !head_repeats(&entry.parameters, &transition.arguments) {
+        ask.told_at(Refusal::BadArgument, head)?;
+    }
+    let own = own_of(ask, entry)?;
+    let view = View::new(heading.outer, &own, ask.constants)?;
+    seek_arguments(walk, ask, &view, &transition.arguments)?;
+    walk.go_behind(head.last);
+    if let Some(term) = &transition.pre {
+        seek_condition(walk, ask, &view, transition.kind, Refusal::InputPre, term)?;
+    }
+    seek_effect(walk, heading, &view, transition)
+}
+
+/// The walk over the arguments of a transition's head.
+fn seek_arguments(
+    walk: &mut Walk<'_>,
+    ask: &Ask<'_>,
+    view: &View<'_>,
+    arguments: &Vec<Term>,
+) -> Result<(), Halt> {
+    for argument in arguments {
+        let _part = pass_own(walk, &ask.in_view(&*view), argument)?;
+    }
+    Ok(())
+}
+
+/// The walk over the effect of a transition.
+fn seek_effect(
+    walk: &mut Walk<'_>,
+    heading: &Heading<'_>,
+    view: &View<'_>,
+    transition: &Transition<(), (), ()>,
+) -> Result<(), Halt> {
+    if transition.effect.is_empty() {
+        return Ok(());
+    }
+    let _effect = walk.mark(Mark::Eff)?;
+    let variables = heading.automaton.states.len();
+    let site = Site {
+        heading,
+        view,
+        variables,
+        all_variables: variables,
+    };
+    pass_statements(walk, &site, &transition.effect)
+}

@@ -1,0 +1,503 @@
+//! The walk over the system section.
+
+use crate::asking::Ask;
+use crate::automaton::has_automaton;
+use crate::halt::Halt;
+use crate::heading::{Heading, given_of};
+use crate::rules::{entry_named, shapes_taken};
+use crate::shortened::{Cut, blank, is_refused_so};
+use crate::terms::pass_each;
+use ioa_actions::{RECEIVE, SEND};
+use ioa_check::{MOST_CHANNELS, MOST_NODES};
+use ioa_names::{NameTable, View};
+use ioa_sort_rules::Refusal;
+use ioa_source::{Automaton, Call, Channel, Declaration, Node, Placement, ScriptDeclaration, Text};
+use ioa_terms::{Kind, Shape, Term, Word};
+use ioa_tokens::Mark;
+use ioa_walk::{Part, Span, Walk, one_token};
+use std::alloc::{AllocError, Global};
+
+/// The powers of two up to the number of nodes, channels and scripts that a section may have.
+const POWERS: [usize; 9] = [256, 128, 64, 32, 16, 8, 4, 2, 1];
+
+/// A refused system section: the text, its tree, and its index among the top declarations.
+#[derive(Clone, Copy)]
+pub(crate) struct Section<'a> {
+    pub ask: &'a Ask<'a>,
+    pub cut: Cut<'a>,
+    pub source: &'a Text<(), (), ()>,
+    pub index: usize,
+}
+
+/// The walk over a system section.
+pub(crate) fn seek_section(walk: &mut Walk<'_>, section: &Section<'_>) -> Result<(), Halt> {
+    let placements = &section.source.system;
+    let parts = parts_of(walk, section.ask.alloc, placements)?;
+    for position in 0..placements.len().min(parts.len()) {
+        if is_misplaced(
+            section.ask.told,
+            &placements[..position],
+            &placements[position],
+        ) || is_gap(section.ask.told, placements, &placements[position])
+        {
+            return Err(Halt::Found(parts[position]));
+        }
+    }
+    seek_refused(section, &parts)
+}
+
+/// The parts of nodes, channels and scripts.
+fn parts_of(
+    walk: &mut Walk<'_>,
+    alloc: Global,
+    placements: &Vec<Placement<(), (), ()>>,
+) -> Result<Vec<Part>, Halt> {
+    let mut parts = Vec::new(alloc);
+    for placement in placements {
+        let part = pass_placement(walk, placement)?;
+        parts.push(part)?;
+    }
+    Ok(parts)
+}
+
+/// Passes a node, a channel or a script.
+fn pass_placement(walk: &mut Walk<'_>, placement: &Placement<(), (), ()>) -> Result<Part, Halt> {
+    match placement {
+        Placement::Node(node) => {
+            let first = walk.mark(Mark::Node)?;
+            let _number = walk.number(node.number)?;
+            let last = pass_call(walk, &node.automaton)?.last;
+            Ok(Part { first, last })
+        }
+        Placement::Channel(channel) => {
+            let first = walk.mark(Mark::Channel)?;
+            let _from = walk.number(channel.from)?;
+            let last = walk.number(channel.to)?;
+            Ok(Part { first, last })
+        }
+        Placement::Script(script) => {
+            let first = walk.mark(Mark::Script)?;
+            let last = walk.number(script.node)?;
+            let last = pass_calls(walk, last, &script.calls)?;
+            Ok(Part { first, last })
+        }
+    }
+}
+
+/// Passes a name with its arguments.
+fn pass_call(walk: &mut Walk<'_>, name: &Word) -> Result<Part, Halt> {
+    let first = walk.word(name)?;
+    let last = walk.called(first)?;
+    walk.go_behind(last);
+    Ok(Part { first, last })
+}
+
+/// Passes the calls of a script. Returns the position of the last token, which is this one if there are none.
+fn pass_calls(
+    walk: &mut Walk<'_>,
+    before: usize,
+    calls: &Vec<Call<(), (), ()>>,
+) -> Result<usize, Halt> {
+    let mut last = before;
+    for call in calls {
+        last = pass_call(walk, &call.name)?.last;
+    }
+    Ok(last)
+}
+
+/// How many nodes there are.
+fn count_of_nodes(placements: &[Placement<(), (), ()>]) -> usize {
+    let mut count: usize = 0;
+    for placement in placements {
+        match placement {
+            Placement::Node(_) => count = count.saturating_add(1),
+            Placement::Channel(_) | Placement::Script(_) => {}
+        }
+    }
+    count
+}
+
+/// How many channels there are.
+fn count_of_channels(placements: &[Placement<(), (), ()>]) -> usize {
+    let mut count: usize = 0;
+    for placement in placements {
+        match placement {
+            Placement::Channel(_) => count = count.saturating_add(1),
+            Placement::Node(_) | Placement::Script(_) => {}
+        }
+    }
+    count
+}
+
+/// Whether a node has a number.
+fn has_node(placements: &[Placement<(), (), ()>], number: i64) -> bool {
+    for placement in placements {
+        if is_node_of(placement, number) {
+            return true;
+        }
+    }
+    false
+}
+
+/// Whether a placement is the node of a number.
+fn is_node_of(placement: &Placement<(), (), ()>, number: i64) -> bool {
+    match placement {
+        Placement::Node(node) => node.number == number,
+        Placement::Channel(_) | Placement::Script(_) => false,
+    }
+}
+
+/// Whether a channel is one of these.
+fn has_channel(placements: &[Placement<(), (), ()>], channel: &Channel) -> bool {
+    for placement in placements {
+        match placement {
+            Placement::Channel(other) => {
+                if other.from == channel.from && other.to == channel.to {
+                    return true;
+                }
+            }
+            Placement::Node(_) | Placement::Script(_) => {}
+        }
+    }
+    false
+}
+
+/// Whether one of these is the script of a node.
+fn has_script(placements: &[Placement<(), (), ()>], number: i64) -> bool {
+    for placement in placements {
+        match placement {
+            Placement::Script(script) => {
+                if script.node == number {
+                    return true;
+                }
+            }
+            Placement::Node(_) | Placement::Channel(_) => {}
+        }
+    }
+    false
+}
+
+/// Whether a placement behind others is refused as was told whatever it places: it is there twice, one too many, or a
+/// channel from a node to itself.
+fn is_misplaced(
+    told: Refusal,
+    before: &[Placement<(), (), ()>],
+    placement: &Placement<(), (), ()>,
+) -> bool {
+    match placement {
+        Placement::Node(node) => {
+            (told == Refusal::Twice && has_node(before, node.number))
+                || (told == Refusal::Limit && count_of_nodes(before) >= MOST_NODES)
+        }
+        Placement::Channel(channel) => {
+            (told == Refusal::Twice && has_channel(before, channel))
+                || (told == Refusal::SelfChannel && channel.from == channel.to)
+                || (told == Refusal::Limit && count_of_channels(before) >= MOST_CHANNELS)
+        }
+        Placement::Script(script) => told == Refusal::Twice && has_script(before, script.node),
+    }
+}
+
+/// Whether a node's number is none of those that nodes may have, and that was told.
+fn is_gap(
+    told: Refusal,
+    placements: &[Placement<(), (), ()>],
+    placement: &Placement<(), (), ()>,
+) -> bool {
+    match placement {
+        Placement::Node(node) => {
+            told == Refusal::NodeGap && !is_below(node.number, count_of_nodes(placements))
+        }
+        Placement::Channel(_) | Placement::Script(_) => false,
+    }
+}
+
+/// Whether a number is one of so many from 0 on.
+fn is_below(number: i64, count: usize) -> bool {
+    match usize::try_from(number) {
+        Ok(number) => number < count,
+        Err(_) => false,
+    }
+}
+
+/// The walk to the first node, channel or script, in the order of the check, that is refused as was told together with
+/// those before it.
+fn seek_refused(section: &Section<'_>, parts: &Vec<Part>) -> Result<(), Halt> {
+    let order = order_of(section.ask.alloc, &section.source.system)?;
+    let mut good: usize = 0;
+    for power in POWERS {
+        let more = good.saturating_add(power);
+        if more <= order.len() && !is_refused_with(section, parts, &order, more)? {
+            good = more;
+        }
+    }
+    match order.get(good) {
+        None => Ok(()),
+        Some(position) => seek_at(section, parts, *position),
+    }
+}
+
+/// The walk over the placement at a position, which is refused.
+fn seek_at(section: &Section<'_>, parts: &Vec<Part>, position: usize) -> Result<(), Halt> {
+    let Some(part) = parts.get(position) else {
+        return Err(Halt::Lost);
+    };
+    let Some(placement) = section.source.system.get(position) else {
+        return Err(Halt::Lost);
+    };
+    let mut walk = section.cut.walk_from(part.first);
+    seek_placement(&mut walk, section, placement)?;
+    Err(Halt::Found(*part))
+}
+
+/// The positions of nodes, channels and scripts in the order in which the check goes: the nodes by their numbers, then
+/// the channels, then the scripts.
+fn order_of(
+    alloc: Global,
+    placements: &Vec<Placement<(), (), ()>>,
+) -> Result<Vec<usize>, AllocError> {
+    let mut order = Vec::new(alloc);
+    for number in 0..placements.len() {
+        if let Some(position) = position_of_node(placements, number) {
+            order.push(position)?;
+        }
+    }
+    for (position, placement) in placements.iter().enumerate() {
+        if let Placement::Channel(_) = placement {
+            order.push(position)?;
+        }
+    }
+    for (position, placement) in placements.iter().enumerate() {
+        if let Placement::Script(_) = placement {
+            order.push(position)?;
+        }
+    }
+    Ok(order)
+}
+
+/// The position of the node of a number.
+fn position_of_node(placements: &[Placement<(), (), ()>], number: usize) -> Option<usize> {
+    let number = i64::try_from(number).ok()?;
+    for (position, placement) in placements.iter().enumerate() {
+        if is_node_of(placement, number) {
+            return Some(position);
+        }
+    }
+    None
+}
+
+/// Whether the text is refused as was told with the first nodes, channels and scripts alone, so many of this order, and
+/// with no invariants.
+fn is_refused_with(
+    section: &Section<'_>,
+    parts: &Vec<Part>,
+    order: &Vec<usize>,
+    count: usize,
+) -> Result<bool, AllocError> {
+    let alloc = section.ask.alloc;
+    let mut bytes = Vec::new(alloc);
+    bytes.extend_from_slice(section.cut.text.as_bytes())?;
+    for position in order.iter().skip(count) {
+        leave_out(&mut bytes, section, parts, *position);
+    }
+    leave_out_invariants(&mut bytes, section);
+    is_refused_so(alloc, bytes, section.index, section.ask.told)
+}
+
+/// Puts spaces in the place of a part.
+fn leave_out(bytes: &mut Vec<u8>, section: &Section<'_>, parts: &Vec<Part>, position: usize) {
+    if let Some(part) = parts.get(position) {
+        if let Some(span) = section.cut.span(*part) {
+            blank(bytes, span);
+        }
+    }
+}
+
+/// Puts spaces in the place of the invariants.
+fn leave_out_invariants(bytes: &mut Vec<u8>, section: &Section<'_>) {
+    let end = bytes.len();
+    if let Ok(first) = section.cut.walk_from(0).mark(Mark::Invariant) {
+        if let Some(span) = section.cut.span(one_token(first)) {
+            blank(
+                bytes,
+                Span {
+                    offset: span.offset,
+                    end,
+                },
+            );
+        }
+    }
+}
+
+/// The walk over a node, a channel or a script that is refused.
+fn seek_placement(
+    walk: &mut Walk<'_>,
+    section: &Section<'_>,
+    placement: &Placement<(), (), ()>,
+) -> Result<(), Halt> {
+    match placement {
+        Placement::Node(node) => seek_node(walk, section, node),
+        Placement::Channel(channel) => seek_channel(walk, section, channel),
+        Placement::Script(script) => seek_script(walk, section, script),
+    }
+}
+
+/// The automaton of a name.
+fn automaton_named<'a>(
+    declarations: &'a [Declaration<(), (), ()>],
+    name: &Word,
+) -> Option<&'a Automaton<(), (), ()>> {
+    for declaration in declarations {
+        match declaration {
+            Declaration::Type(_) => {}
+            Declaration::Automaton(automaton) => {
+                if automaton.name == *name {
+                    return Some(automaton);
+                }
+            }
+        }
+    }
+    None
+}
+
+/// The shapes of the parameters of an automaton.
+fn parameter_shapes(ask: &Ask<'_>, automaton: &Automaton<(), (), ()>) -> Result<Vec<Shape>, Halt> {
+    let mut shapes = Vec::new(ask.alloc);
+    for parameter in &automaton.parameters {
+        let shape = ask.shape_of(&parameter.sort)?;
+        shapes.push(shape)?;
+    }
+    Ok(shapes)
+}
+
+/// The walk over arguments that read constants alone, at the places of these shapes. They have this part with the name
+/// before them.
+fn seek_given(
+    walk: &mut Walk<'_>,
+    ask: &Ask<'_>,
+    shapes: &Vec<Shape>,
+    arguments: &Vec<Term>,
+    part: Part,
+) -> Result<(), Halt> {
+    let none = NameTable::new(ask.alloc);
+    let view = View::new(&none, &none, ask.constants)?;
+    pass_each(walk, &ask.in_view(&view), arguments, shapes)?;
+    if arguments.len() != shapes.len() {
+        ask.told_at(Refusal::Sorts, part)?;
+    }
+    walk.go_behind(part.last);
+    Ok(())
+}
+
+/// The walk over a node.
+fn seek_node(
+    walk: &mut Walk<'_>,
+    section: &Section<'_>,
+    node: &Node<(), (), ()>,
+) -> Result<(), Halt> {
+    let _number = walk.number(node.number)?;
+    let first = walk.word(&node.automaton)?;
+    let last = walk.called(first)?;
+    match automaton_named(&section.source.declarations, &node.automaton) {
+        None => section.ask.told_at(Refusal::Unknown, one_token(first)),
+        Some(automaton) => {
+            let shapes = parameter_shapes(section.ask, automaton)?;
+            seek_given(
+                walk,
+                section.ask,
+                &shapes,
+                &node.arguments,
+                Part { first, last },
+            )
+        }
+    }
+}
+
+/// The walk over a channel.
+fn seek_channel(walk: &mut Walk<'_>, section: &Section<'_>, channel: &Channel) -> Result<(), Halt> {
+    let from = walk.number(channel.from)?;
+    let to = walk.number(channel.to)?;
+    if !has_node(&section.source.system, channel.from) {
+        section.ask.told_at(Refusal::Unknown, one_token(from))?;
+    }
+    if !has_node(&section.source.system, channel.to) {
+        section.ask.told_at(Refusal::Unknown, one_token(to))?;
+    }
+    Ok(())
+}
+
+/// The automaton that is placed on the node of a number.
+fn automaton_of<'a>(
+    source: &'a Text<(), (), ()>,
+    number: i64,
+) -> Option<&'a Automaton<(), (), ()>> {
+    for placement in &source.system {
+        match placement {
+            Placement::Node(node) => {
+                if node.number == number {
+                    return automaton_named(&source.declarations, &node.automaton);
+                }
+            }
+            Placement::Channel(_) | Placement::Script(_) => {}
+        }
+    }
+    None
+}
+
+/// The walk over a script.
+fn seek_script(
+    walk: &mut Walk<'_>,
+    section: &Section<'_>,
+    script: &ScriptDeclaration<(), (), ()>,
+) -> Result<(), Halt> {
+    let number = walk.number(script.node)?;
+    match automaton_of(section.source, script.node) {
+        None => section.ask.told_at(Refusal::Unknown, one_token(number)),
+        Some(automaton) => {
+            let given = given_of(section.ask, automaton)?;
+            let heading = Heading {
+                ask: section.ask,
+                automaton,
+                given: &given,
+                outer: &given,
+            };
+            seek_calls(walk, &heading, &script.calls)
+        }
+    }
+}
+
+/// The walk over the calls of a script at a node of an automaton.
+fn seek_calls(
+    walk: &mut Walk<'_>,
+    heading: &Heading<'_>,
+    calls: &Vec<Call<(), (), ()>>,
+) -> Result<(), Halt> {
+    for call in calls {
+        seek_call(walk, heading, call)?;
+    }
+    Ok(())
+}
+
+/// The walk over a call of a script.
+fn seek_call(
+    walk: &mut Walk<'_>,
+    heading: &Heading<'_>,
+    call: &Call<(), (), ()>,
+) -> Result<(), Halt> {
+    let first = walk.word(&call.name)?;
+    let last = walk.called(first)?;
+    let part = Part { first, last };
+    if call.name.as_str() == SEND || call.name.as_str() == RECEIVE {
+        heading.ask.told_at(Refusal::BadArgument, part)?;
+    }
+    match entry_named(&heading.automaton.signature, &call.name) {
+        None => heading.ask.told_at(Refusal::Unknown, one_token(first)),
+        Some(entry) => {
+            if entry.kind != Kind::Input {
+                heading.ask.told_at(Refusal::Unknown, one_token(first))?;
+            }
+            let shapes = shapes_taken(heading, entry)?;
+            seek_given(walk, heading.ask, &shapes, &call.arguments, part)
+        }
+    }
+}

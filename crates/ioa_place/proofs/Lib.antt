@@ -1,0 +1,3 @@
+-- lemmas of places
+mod Ends
+mod Repeats
