@@ -1,0 +1,4 @@
+-- lemmas of explanations
+mod Positions
+mod Verdicts
+mod Explained

@@ -1,0 +1,111 @@
+//! Explanations: from a text to what is wrong with it.
+
+ghost use Rattle.std.specs.Prelude.{◌≡◌, false, IfOk, codes};
+ghost use Rattle.ioa_explain.specs.Explanations as spec;
+
+use crate::fault::ExplainFault;
+use crate::reading::unread_page;
+use crate::refused::refused_page;
+use crate::verdict::{Verdict, judge};
+use ioa_streams::{Out, OutFailed, put_all};
+use std::alloc::{AllocError, Global};
+
+/// What is told of a text that describes a system.
+const NOTHING_WRONG: &[u8] = b"nothing wrong\n";
+
+/// What an explanation says of a text.
+#[derive(Clone, Copy, Debug, PartialEq, Eq)]
+pub enum Finding {
+    /// The text describes a system.
+    NothingWrong,
+    /// The text is refused.
+    Refused,
+}
+
+/// Tells people what is wrong with a text, or `nothing wrong`. The first line has the name of the text as it is given,
+/// the line and the column of the place, and the number and the name of the refusal, which are those of the reader and
+/// the check. For a refusal of the check it names the declaration. Below stand the line with carets, what is found, and
+/// what is asked for.
+pub fn explain<O: Out>(
+    alloc: Global,
+    name: &str,
+    text: &str,
+    out: &mut O,
+) -> Result<Finding, ExplainFault>
+    requires { O.failed out.old ≡ false }
+    ensures found { IfOk result (λ f. spec.IsFindingOn f text.now) }
+    ensures told { spec.Explains name.now text.now
+        (O.bytes out.old) (O.bytes out.new) (O.failed out.new) result }
+{
+    match explanation_of(alloc, name, text) {
+        Ok(explanation) => put_explanation(out, &explanation),
+        Err(AllocError) => Err(ExplainFault::Memory),
+    }
+}
+
+/// What is wrong with a text, and what is told of it.
+#[derive(Drop)]
+struct Explanation {
+    /// Whether the text is refused.
+    finding: Finding,
+    /// What is told of it.
+    page: Vec<u8>,
+}
+
+/// Puts out an explanation.
+fn put_explanation<O: Out>(out: &mut O, explanation: &Explanation) -> Result<Finding, ExplainFault>
+    requires { O.failed out.old ≡ false }
+    ensures finding { IfOk result (λ f. f ≡ explanation.now.finding) }
+    ensures put { spec.Puts explanation.now.page.items
+        (O.bytes out.old) (O.bytes out.new) (O.failed out.new) result }
+{
+    match put_all(out, &explanation.page) {
+        Ok(()) => Ok(explanation.finding),
+        Err(OutFailed) => Err(ExplainFault::Write),
+    }
+}
+
+/// What is wrong with a text, and what is told of it.
+fn explanation_of(alloc: Global, name: &str, text: &str) -> Result<Explanation, AllocError>
+    ensures found { IfOk result (λ e. spec.IsFindingOn e.finding text.now) }
+    ensures told { IfOk result (λ e. spec.IsExplanationOf name.now text.now e.page.items) }
+{
+    let verdict = judge(alloc, text)?;
+    let page = page_of(alloc, name, text, &verdict)?;
+    let finding = finding_of(&verdict);
+    Ok(Explanation { finding, page })
+}
+
+/// Whether a verdict is a refusal.
+fn finding_of(verdict: &Verdict) -> Finding
+    ensures { result ≡ spec.finding_of verdict.now }
+{
+    match verdict {
+        Verdict::Accepted => Finding::NothingWrong,
+        Verdict::Unread(_) | Verdict::Refused { .. } => Finding::Refused,
+    }
+}
+
+/// What is told of a verdict on a text.
+fn page_of(alloc: Global, name: &str, text: &str, verdict: &Verdict) -> Result<Vec<u8>, AllocError>
+    ensures { IfOk result (λ page. spec.Tells name.now text.now verdict.now page.items) }
+{
+    match verdict {
+        Verdict::Accepted => good_page(alloc),
+        Verdict::Unread(fault) => unread_page(alloc, name, text, fault),
+        Verdict::Refused {
+            refusal,
+            index,
+            part,
+        } => refused_page(alloc, name, text, *refusal, *index, *part),
+    }
+}
+
+/// What is told of a text that describes a system.
+fn good_page(alloc: Global) -> Result<Vec<u8>, AllocError>
+    ensures { IfOk result (λ page. page.items ≡ codes "nothing wrong\n") }
+{
+    let mut page = Vec::new(alloc);
+    page.extend_from_slice(NOTHING_WRONG)?;
+    Ok(page)
+}
