@@ -20,7 +20,7 @@ pub fn put_endings<O: Out>(paper: &mut Paper<'_, O>, endings: &[Ending])
 }
 
 /// Writes the ending of a node.
-fn put_ending<O: Out>(paper: &mut Paper<'_, O>, node: usize, ending: Ending)
+pub fn put_ending<O: Out>(paper: &mut Paper<'_, O>, node: usize, ending: Ending)
     ensures { paper.new ≡ and_text paper.old
         (codes "ending " ++ (decimal node ++ (codes " " ++ (ending_text ending ++ codes "\n")))) }
 {

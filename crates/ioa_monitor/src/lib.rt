@@ -16,6 +16,7 @@ mod reporting;
 mod schedule;
 mod traces;
 
+pub use endings::put_ending;
 pub use findings::Findings;
 pub use ioa_paper::ReportFault;
 pub use ioa_schedule_check::{ScheduleFault, check_schedule, schedule_law};

@@ -1,0 +1,4 @@
+-- the lemmas of this crate
+pub mod Firsts
+pub mod Taking
+pub mod Tellings

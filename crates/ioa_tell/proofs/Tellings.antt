@@ -1,0 +1,115 @@
+-- What is told in several parts.
+use Rattle.std.proofs.Common.{◌≡◌, List, [], ◌∷◌, ◌++◌, ℕ, ℤ, ◌+◌, Result, Ok, Err, refl, sym, ap, subst, ◌∙◌, length, append_assoc}
+use Rattle.std.proofs.lemmas.List.{append-nil}
+use Rattle.std.specs.Prelude.{OnOk}
+use Rattle.ioa_actions.specs.declared.action.Action.{Action}
+use Rattle.ioa_commits.specs.Books.{PlainBook, states_after}
+use Rattle.ioa_compose.specs.declared.configuration.Conf.{Conf}
+use Rattle.ioa_record.specs.declared.ending.Ending.{Ending}
+use Rattle.ioa_transitions.specs.Entries.{PlainEntry}
+use Rattle.ioa_tell.specs.Events.{PlainEvent, PlainReason, taken, missed, idle, stopped, ended}
+use Rattle.ioa_tell.specs.Told.{AreHeard, AreTold, IsMissedIn, TellsOn, TellsRun, endings_told}
+
+-- what follows from what a call has done, where it has
+pub on_map : {X E : Type 0} {P Q : Type 0} (r : Result X E) → (P → Q) → OnOk r P → OnOk r Q
+on_map (Ok x) f h = f h
+on_map (Err e) f h = tt
+
+pub on_from : {X E : Type 0} {P Q : Type 0} (r : Result X E) → OnOk r P → (P → Q) → OnOk r Q
+on_from r h f = on_map r f h
+
+-- what holds anyway
+pub on_any : {X E : Type 0} {P : Type 0} (r : Result X E) → P → OnOk r P
+on_any (Ok x) h = h
+on_any (Err e) h = tt
+
+-- what goes along a schedule, and then what goes on
+pub told_then : (start : List Conf) (log : List PlainEntry) (xs ys : List PlainEvent) (mid last : List PlainEntry) → AreTold start log xs mid → AreTold start mid ys last → AreTold start log (xs ++ ys) last
+told_then start log [] ys mid last h g = subst (λ (l : List PlainEntry). AreTold start l ys last) (sym h) g
+told_then start log (taken k e before after queue ∷ xs) ys mid last h g = (h.0, h.1, told_then start (log ++ e ∷ []) xs ys mid last h.2 g)
+told_then start log (missed k a r ∷ xs) ys mid last h g = (h.0, h.1, told_then start log xs ys mid last h.2 g)
+told_then start log (idle k n ∷ xs) ys mid last h g = (h.0, told_then start log xs ys mid last h.1 g)
+told_then start log (stopped k n ∷ xs) ys mid last h g = (h.0, told_then start log xs ys mid last h.1 g)
+told_then start log (ended n e ∷ xs) ys mid last h g = absurd h
+
+-- who is told one thing after another
+pub heard_then : {S : Type 0} (hears : PlainEvent → S → S → Type 0) (xs ys : List PlainEvent) (a b c : S) → AreHeard hears xs a b → AreHeard hears ys b c → AreHeard hears (xs ++ ys) a c
+heard_then {S} hears [] ys a b c h g = subst (λ (s : S). AreHeard hears ys s c) (sym h) g
+heard_then hears (e ∷ xs) ys a b c h g = (h.0, h.1, heard_then hears xs ys h.0 b c h.2 g)
+
+module _ {S : Type 0} (hears : PlainEvent → S → S → Type 0) where
+  -- nothing is told
+  pub tells_nothing : (b : PlainBook) (left : List PlainEntry) (x : S) → TellsOn hears b b left left x x
+  tells_nothing b left x = record { start = refl; schedule = refl; events = []; heard = refl; told = refl }
+
+  -- something is told, and then more
+  pub tells_further : (a b c : PlainBook) (l m r : List PlainEntry) (x y z : S) → TellsOn hears a b l m x y → TellsOn hears b c m r y z → TellsOn hears a c l r x z
+  tells_further a b c l m r x y z f g = record {
+    start = g.start ∙ f.start;
+    schedule = g.schedule ∙ f.schedule;
+    events = f.events ++ g.events;
+    heard = heard_then hears f.events g.events x y z f.heard g.heard;
+    told = told_then a.start a.log f.events g.events b.log c.log f.told (subst (λ (s : List Conf). AreTold s b.log g.events c.log) f.start g.told);
+  }
+
+  -- what is told stands before what is left
+  pub tells_before : (a b : PlainBook) (l : List PlainEntry) (x y : S) (rest : List PlainEntry) → TellsOn hears a b l [] x y → TellsOn hears a b (l ++ rest) rest x y
+  tells_before a b l x y rest f = record {
+    start = f.start;
+    schedule = ap (λ (s : List PlainEntry). s ++ rest) (sym (append-nil b.log) ∙ f.schedule) ∙ append_assoc a.log l rest;
+    events = f.events;
+    heard = f.heard;
+    told = f.told;
+  }
+
+  -- the same before entries that are left
+  pub tells_beside : (a b : PlainBook) (x y : S) (rest : List PlainEntry) → TellsOn hears a b [] [] x y → TellsOn hears a b rest rest x y
+  tells_beside a b x y rest f = tells_before a b [] x y rest f
+
+  -- an entry is told that was the next one
+  pub tells_next : (a b : PlainBook) (e : PlainEntry) (l rest : List PlainEntry) (x y : S) → l ≡ e ∷ rest → TellsOn hears a b (e ∷ []) [] x y → TellsOn hears a b l rest x y
+  tells_next a b e l rest x y split f = subst (λ (m : List PlainEntry). TellsOn hears a b m rest x y) (sym split) (tells_before a b (e ∷ []) x y rest f)
+
+  -- nothing is told, and what is left stays
+  pub tells_none : (b : PlainBook) (l m : List PlainEntry) (x : S) → m ≡ l → TellsOn hears b b l m x x
+  tells_none b l m x same = subst (λ (r : List PlainEntry). TellsOn hears b b l r x x) (sym same) (tells_nothing b l x)
+
+  -- one thing is told that takes no action
+  pub tells_idle : (b : PlainBook) (k : ℕ) (n : ℤ) (x y : S) → k ≡ length b.log → hears (idle k n) x y → TellsOn hears b b [] [] x y
+  tells_idle b k n x y e h = record { start = refl; schedule = refl; events = idle k n ∷ []; heard = (y, h, refl); told = (e, refl) }
+
+  pub tells_stopped : (b : PlainBook) (k : ℕ) (n : ℤ) (x y : S) → k ≡ length b.log → hears (stopped k n) x y → TellsOn hears b b [] [] x y
+  tells_stopped b k n x y e h = record { start = refl; schedule = refl; events = stopped k n ∷ []; heard = (y, h, refl); told = (e, refl) }
+
+  pub tells_missed : (b : PlainBook) (k : ℕ) (a : Action) (r : PlainReason) (x y : S) → k ≡ length b.log → IsMissedIn (states_after b.start b.log) a r → hears (missed k a r) x y → TellsOn hears b b [] [] x y
+  tells_missed b k a r x y e m h = record { start = refl; schedule = refl; events = missed k a r ∷ []; heard = (y, h, refl); told = (e, m, refl) }
+
+  -- the whole run is told, and then the endings
+  pub run_told : (a b : PlainBook) (start : List Conf) (schedule rest : List PlainEntry) (endings : List Ending) (x y z : S) → a.start ≡ start → a.log ≡ [] → rest ≡ [] → TellsOn hears a b schedule rest x y →
+      AreHeard hears (endings_told 0 endings) y z → TellsRun hears start schedule endings x z
+  run_told a b start schedule rest endings x y z begins fresh over f g =
+      let whole : b.log ≡ schedule =
+      sym (append-nil b.log)
+      ∙ ap (λ (l : List PlainEntry). b.log ++ l) (sym over)
+      ∙ f.schedule
+      ∙ ap (λ (l : List PlainEntry). l ++ schedule) fresh in
+      let from : AreTold a.start [] f.events b.log = subst (λ (l : List PlainEntry). AreTold a.start l f.events b.log) fresh f.told in
+      let to : AreTold a.start [] f.events schedule = subst (λ (l : List PlainEntry). AreTold a.start [] f.events l) whole from in
+      record {
+        events = f.events;
+        told = subst (λ (s : List Conf). AreTold s [] f.events schedule) begins to;
+        heard = heard_then hears f.events (endings_told 0 endings) x y z f.heard g;
+      }
+
+-- what is told of the endings that are left goes on from what was told of the first ones
+abbrev pub LeadsOn : {S : Type 0} → (PlainEvent → S → S → Type 0) → ℕ → List Ending → List Ending → S → S → Type 0
+LeadsOn {S} hears i rest all x y = (z : S) → AreHeard hears (endings_told i rest) y z → AreHeard hears (endings_told 0 all) x z
+
+pub leads_first : {S : Type 0} (hears : PlainEvent → S → S → Type 0) (all : List Ending) (x : S) → LeadsOn hears 0 all all x x
+leads_first hears all x = λ z h. h
+
+pub leads_further : {S : Type 0} (hears : PlainEvent → S → S → Type 0) (i : ℕ) (e : Ending) (rest more all : List Ending) (x y w : S) → rest ≡ e ∷ more → LeadsOn hears i rest all x y → hears (ended i e) y w → LeadsOn hears (i + 1) more all x w
+leads_further {S} hears i e rest more all x y w split f told = λ z h. f z (subst (λ (l : List Ending). AreHeard hears (endings_told i l) y z) (sym split) (w, told, h))
+
+pub leads_last : {S : Type 0} (hears : PlainEvent → S → S → Type 0) (i : ℕ) (rest all : List Ending) (x y : S) → rest ≡ [] → LeadsOn hears i rest all x y → AreHeard hears (endings_told 0 all) x y
+leads_last {S} hears i rest all x y over f = f y (subst (λ (l : List Ending). AreHeard hears (endings_told i l) y y) (sym over) refl)

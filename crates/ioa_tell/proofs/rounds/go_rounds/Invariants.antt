@@ -1,0 +1,6 @@
+use Rattle.ioa_tell.specs.Told.{TellsOn}
+use Rattle.ioa_tell.proofs.rounds.go_rounds.Given as goal
+
+-- what was told so far goes along the schedule
+abbrev pub invariant-loop-round : goal.invariant-loop-round
+invariant-loop-round g l = TellsOn g.T.Tells.hears l.initial.book l.book l.initial.left l.left l.initial.out l.out

@@ -1,0 +1,22 @@
+//! A run told again, event by event: each action with what it changed, each miss with its reason, each idle turn, and
+//! how each node stopped. Whoever is told decides what becomes of it.
+//!
+//! **A crate of its own**, since it goes over a run that is over, and no run needs it.
+//!
+//! **Must not know**: texts, how a system was checked, and what becomes of an event.
+#![tactic(auto)]
+
+mod event;
+mod fault;
+mod misses;
+mod rounds;
+mod steps;
+mod telling;
+mod tells;
+mod visited;
+mod visits;
+
+pub use event::{Event, Reason};
+pub use fault::TellFault;
+pub use telling::tell;
+pub use tells::Tells;

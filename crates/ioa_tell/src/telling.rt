@@ -1,0 +1,121 @@
+//! A run, told again.
+
+ghost use Rattle.std.specs.Prelude.{◌≡◌, [], OnOk};
+ghost use Rattle.ioa_commits.specs.Books.{plain_book};
+ghost use Rattle.ioa_compose.specs.Start.{start};
+ghost use Rattle.ioa_sharing.specs.Shared.{maker_name};
+ghost use Rattle.ioa_tell.specs.Told.{AreHeard, TellsRun, endings_told};
+
+use crate::event::Event;
+use crate::fault::TellFault;
+use crate::rounds::go_rounds;
+use crate::tells::Tells;
+use crate::visited::Visited;
+use ioa_book::Book;
+use ioa_record::{Ending, Options, Record};
+use ioa_sharing::{Maker, MakerOf, Origin};
+use ioa_system::{Program, System};
+use std::alloc::Global;
+use std::marker::Brand;
+use std::sync::Arc;
+
+/// Tells the run by one worker that left a record and endings, with these options: the run is made once more, in a book
+/// of its own, and each action that is taken is to be the next one of the record. So what is told first is the
+/// schedule, action by action, in between what was missed, which turns were idle, and which nodes stopped; and at last
+/// the endings of the record. Takes about as long as the run.
+///
+/// `Differs` (51) if the record is not one of a run of this system by one worker with these options. `Memory` (3) if
+/// memory runs out. A fault of who is told ends it too. After a fault the contract says nothing of what was told.
+pub fn tell<T: Tells>(
+    alloc: Global,
+    system: &System,
+    options: &Options,
+    run_record: &Record,
+    endings: &[Ending],
+    out: &mut T,
+) -> Result<(), TellFault>
+    ensures told { OnOk result
+        (TellsRun T.hears (start system.now) run_record.now.schedule endings.now out.old out.new) }
+{
+    tell_by::<Brand, T>(
+        alloc,
+        Maker::new(),
+        system,
+        options,
+        run_record,
+        endings,
+        out,
+    )
+}
+
+/// The same by a maker of this origin, which numbers what the book holds.
+fn tell_by<O: Origin, T: Tells>(
+    alloc: Global,
+    maker: Maker,
+    system: &System,
+    options: &Options,
+    run_record: &Record,
+    endings: &[Ending],
+    out: &mut T,
+) -> Result<(), TellFault>
+    requires { maker_name maker ≡ O.name }
+    ensures told { OnOk result
+        (TellsRun T.hears (start system.now) run_record.now.schedule endings.now out.old out.new) }
+{
+    let maker: MakerOf<O> = MakerOf::of(maker);
+    let mut book = Book::new(alloc, maker, system, options.steps() as usize)?;
+    tell_in(alloc, &mut book, system, options, run_record, endings, out)
+}
+
+/// The same in a book in which nothing is recorded.
+fn tell_in<O: Origin, T: Tells>(
+    alloc: Global,
+    book: &mut Book<O>,
+    system: &System,
+    options: &Options,
+    run_record: &Record,
+    endings: &[Ending],
+    out: &mut T,
+) -> Result<(), TellFault>
+    requires fresh { book.old ≡ plain_book (start system.now) [] book.old.limit }
+    ensures told { OnOk result
+        (TellsRun T.hears (start system.now) run_record.now.schedule endings.now out.old out.new) }
+{
+    let attempts = options.attempts();
+    let mut nodes = start_nodes(alloc, book, system.programs(), attempts, endings)?;
+    let mut left = run_record.schedule.walk();
+    go_rounds(alloc, book, attempts, &mut nodes, &mut left, out)?;
+    match left.next() {
+        Some(_) => Err(TellFault::Differs),
+        None => tell_endings(alloc, endings, out),
+    }
+}
+
+/// The nodes before the run, each with its ending in the record.
+fn start_nodes<'a, O: Origin>(
+    alloc: Global,
+    book: &Book<O>,
+    programs: &'a [Arc<Program>],
+    attempts: u64,
+    endings: &[Ending],
+) -> Result<Vec<Visited<'a, O>>, TellFault> {
+    let mut nodes = Vec::new(alloc);
+    for (position, program) in programs.iter().enumerate() {
+        let Some(recorded) = endings.get(position) else {
+            return Err(TellFault::Differs);
+        };
+        nodes.push(Visited::start(alloc, book, program, attempts, *recorded)?)?;
+    }
+    Ok(nodes)
+}
+
+/// Tells the endings, that of the first node first.
+fn tell_endings<T: Tells>(alloc: Global, endings: &[Ending], out: &mut T) -> Result<(), TellFault>
+    ensures { OnOk result (AreHeard T.hears (endings_told 0 endings.now) out.old out.new) }
+{
+    for (node, ending) in endings.iter().enumerate() {
+        let ending = *ending;
+        out.event(alloc, Event::Ended { node, ending })?;
+    }
+    Ok(())
+}

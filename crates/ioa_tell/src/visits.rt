@@ -1,0 +1,258 @@
+//! Visits of a node, once more.
+
+ghost use Rattle.std.specs.Prelude.{◌≡◌, ◌⊎◌, [], OnOk, Ok, Err};
+ghost use Rattle.std.specs.Arc.{arc_value};
+ghost use Rattle.ioa_actions.specs.declared.fault.StepFault.{StepFault};
+ghost use Rattle.ioa_book.specs.Looks.{IsLookAt};
+ghost use Rattle.ioa_book.specs.Proposals.{proposal_answer};
+ghost use Rattle.ioa_schedules.specs.Turns.{IsAtFire, IsAtFiring};
+ghost use Rattle.ioa_terms.specs.View.{firing_of};
+ghost use Rattle.ioa_turns.specs.NodeTurns.{progress_of};
+ghost use Rattle.ioa_tell.specs.Told.{TellsOn};
+
+use crate::event::Event;
+use crate::fault::TellFault;
+use crate::misses::reason_of;
+use crate::steps::{refresh, take};
+use crate::tells::Tells;
+use crate::visited::Visited;
+use ioa_actions::{Action, StepFault};
+use ioa_book::{Book, Proposal, Snapshot};
+use ioa_rawlog::{Spare, Walk};
+use ioa_record::{Ending, NodeFault};
+use ioa_schedules::Turn;
+use ioa_sharing::Origin;
+use ioa_terms::{Callee, Firing, Shape};
+use ioa_transitions::Entry;
+use ioa_turns::{Progress, fault_of_step, turn_of};
+use std::alloc::Global;
+use std::sync::Arc;
+
+/// A visit of a node, unless it has an ending. If the node comes to its end, that is told too.
+pub(crate) fn visit_unless_ended<O: Origin, T: Tells>(
+    alloc: Global,
+    book: &mut Book<O>,
+    node: &mut Visited<O>,
+    left: &mut Walk<'_, Entry>,
+    spare: &mut Option<Spare<Entry>>,
+    out: &mut T,
+) -> Result<(), TellFault>
+    ensures { OnOk result (TellsOn T.hears book.old book.new left.old left.new out.old out.new) }
+{
+    match node.progress.ending {
+        Some(_) => Ok(()),
+        None => {
+            let Visited {
+                progress,
+                look,
+                recorded,
+            } = node;
+            visit(alloc, book, progress, look, left, spare, out)?;
+            tell_stopped(alloc, book, progress, *recorded, out)
+        }
+    }
+}
+
+/// Tells that a node stopped, if it has an ending. That is to be the one in the record, unless memory ran out there.
+fn tell_stopped<O: Origin, T: Tells>(
+    alloc: Global,
+    book: &Book<O>,
+    node: &Progress,
+    recorded: Ending,
+    out: &mut T,
+) -> Result<(), TellFault>
+    ensures { OnOk result (TellsOn T.hears book.now book.now [] [] out.old out.new) }
+{
+    match node.ending {
+        None => Ok(()),
+        Some(ending) => {
+            if ending != recorded && recorded != Ending::Fault(NodeFault::Memory) {
+                return Err(TellFault::Differs);
+            }
+            let number = book.log().len();
+            let node = node.program().node();
+            out.event(alloc, Event::Stopped { number, node })
+        }
+    }
+}
+
+/// One visit of a node that has no ending: an attempt, if one is left; else the node is spent.
+fn visit<O: Origin, T: Tells>(
+    alloc: Global,
+    book: &mut Book<O>,
+    node: &mut Progress,
+    look: &mut Snapshot<O>,
+    left: &mut Walk<'_, Entry>,
+    spare: &mut Option<Spare<Entry>>,
+    out: &mut T,
+) -> Result<(), TellFault>
+    ensures { OnOk result (TellsOn T.hears book.old book.new left.old left.new out.old out.new) }
+{
+    if node.attempts == 0 {
+        node.ending = Some(Ending::Spent);
+        return Ok(());
+    }
+    node.attempts -= 1;
+    refresh(book, look)?;
+    attempt(alloc, book, node, look, left, spare, out)
+}
+
+/// One attempt of a node on a look at it: its turn, and what follows from that.
+fn attempt<O: Origin, T: Tells>(
+    alloc: Global,
+    book: &mut Book<O>,
+    node: &mut Progress,
+    look: &mut Snapshot<O>,
+    left: &mut Walk<'_, Entry>,
+    spare: &mut Option<Spare<Entry>>,
+    out: &mut T,
+) -> Result<(), TellFault>
+    requires { IsLookAt book.old look.old.node look.old }
+    ensures { OnOk result (TellsOn T.hears book.old book.new left.old left.new out.old out.new) }
+{
+    match turn_of(alloc, look, node) {
+        Ok(Turn::Done) => {
+            node.ending = Some(Ending::Done);
+            Ok(())
+        }
+        Ok(Turn::Idle) => tell_idle(alloc, book, look, out),
+        Ok(Turn::Fire(firing)) => go_past(alloc, book, node, look, firing, left, spare, out),
+        Err(fault) => end_by_fault(node, fault),
+    }
+}
+
+/// Tells that a turn of the node that was looked at was idle.
+fn tell_idle<O: Origin, T: Tells>(
+    alloc: Global,
+    book: &Book<O>,
+    look: &Snapshot<O>,
+    out: &mut T,
+) -> Result<(), TellFault>
+    requires { IsLookAt book.now look.now.node look.now }
+    ensures { OnOk result (TellsOn T.hears book.now book.now [] [] out.old out.new) }
+{
+    let event = Event::Idle {
+        number: look.length(),
+        node: look.node(),
+    };
+    out.event(alloc, event)
+}
+
+/// Ends a node by a fault. `Memory` (3) ends the telling.
+fn end_by_fault(node: &mut Progress, fault: NodeFault) -> Result<(), TellFault> {
+    match fault {
+        NodeFault::Memory => Err(TellFault::Memory),
+        fault => {
+            node.ending = Some(Ending::Fault(fault));
+            Ok(())
+        }
+    }
+}
+
+/// What follows from the fire at which a node stands: the action is proposed, and its entry is taken or it is missed.
+#[tactic(auto, using(ioa_schedules::proofs::Firsts::firing_stands))]
+fn go_past<O: Origin, T: Tells>(
+    alloc: Global,
+    book: &mut Book<O>,
+    node: &mut Progress,
+    look: &mut Snapshot<O>,
+    firing: &Firing<usize, Callee, Shape>,
+    left: &mut Walk<'_, Entry>,
+    spare: &mut Option<Spare<Entry>>,
+    out: &mut T,
+) -> Result<(), TellFault>
+    requires fresh { IsLookAt book.old look.old.node look.old }
+    requires stands { IsAtFiring (firing_of firing.now) (progress_of node.old).todo }
+    ensures { OnOk result (TellsOn T.hears book.old book.new left.old left.new out.old out.new) }
+{
+    let action = node.action_fired(alloc, firing)?;
+    match look.propose(alloc, &action) {
+        Ok(proposal) => fire(alloc, book, node, look, proposal, left, spare, out),
+        Err(fault) => after_fault(alloc, book, node, look, &action, fault, out),
+    }
+}
+
+/// Takes the next entry of the record, which is to be that of the proposal. If none is left, the run ended here: its
+/// schedule was full, or memory ran out.
+fn fire<O: Origin, T: Tells>(
+    alloc: Global,
+    book: &mut Book<O>,
+    node: &mut Progress,
+    look: &mut Snapshot<O>,
+    proposal: Proposal<O>,
+    left: &mut Walk<'_, Entry>,
+    spare: &mut Option<Spare<Entry>>,
+    out: &mut T,
+) -> Result<(), TellFault>
+    requires fresh { IsLookAt book.old look.old.node look.old }
+    requires stands { IsAtFire (progress_of node.old).todo }
+    requires proposed { proposal_answer proposal.entry.action look.old ≡ Ok proposal }
+    ensures { OnOk result (TellsOn T.hears book.old book.new left.old left.new out.old out.new) }
+{
+    match left.next() {
+        Some(entry) => {
+            take(alloc, book, look, entry, proposal, spare, out)?;
+            node.pass();
+            Ok(())
+        }
+        None => {
+            node.ending = Some(Ending::Fault(last_fault(book)));
+            Ok(())
+        }
+    }
+}
+
+/// The fault with which a node ends that fires an action behind the last entry.
+fn last_fault<O: Origin>(book: &Book<O>) -> NodeFault {
+    if book.log().len() < book.limit() {
+        NodeFault::Memory
+    } else {
+        NodeFault::Full
+    }
+}
+
+/// What follows from a step that an action has not: one that is not enabled is missed, and any other fault ends the
+/// node, but that memory ran out.
+fn after_fault<O: Origin, T: Tells>(
+    alloc: Global,
+    book: &Book<O>,
+    node: &mut Progress,
+    look: &Snapshot<O>,
+    action: &Arc<Action>,
+    fault: StepFault,
+    out: &mut T,
+) -> Result<(), TellFault>
+    requires fresh { IsLookAt book.now look.now.node look.now }
+    requires stands { IsAtFire (progress_of node.old).todo }
+    requires failed { (fault ≡ StepFault.Memory) ⊎ (proposal_answer (arc_value action.now) look.now ≡ Err fault) }
+    ensures { OnOk result (TellsOn T.hears book.now book.now [] [] out.old out.new) }
+{
+    match fault_of_step(fault) {
+        None => {
+            tell_missed(alloc, book, look, action, out)?;
+            node.pass();
+            Ok(())
+        }
+        Some(fault) => end_by_fault(node, fault),
+    }
+}
+
+/// Tells that an action was not enabled.
+fn tell_missed<O: Origin, T: Tells>(
+    alloc: Global,
+    book: &Book<O>,
+    look: &Snapshot<O>,
+    action: &Arc<Action>,
+    out: &mut T,
+) -> Result<(), TellFault>
+    requires fresh { IsLookAt book.now look.now.node look.now }
+    requires missed { proposal_answer (arc_value action.now) look.now ≡ Err StepFault.NotEnabled }
+    ensures { OnOk result (TellsOn T.hears book.now book.now [] [] out.old out.new) }
+{
+    let event = Event::Missed {
+        number: look.length(),
+        action,
+        reason: reason_of(look, action),
+    };
+    out.event(alloc, event)
+}

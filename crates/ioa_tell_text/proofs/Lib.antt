@@ -1,0 +1,3 @@
+-- the lemmas of this crate
+pub mod Firsts
+pub mod Places

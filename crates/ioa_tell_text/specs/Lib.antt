@@ -1,0 +1,5 @@
+-- what the contracts of this crate and of those above it cite
+pub mod Changes
+pub mod Kept
+pub mod Lines
+pub mod Teller

@@ -1,0 +1,71 @@
+-- Who writes what is told of a run (form), and what each event makes of what is written.
+use Rattle.std.specs.Prelude.{ℕ, ℤ, if◌then◌else◌, List, [], ◌∷◌, ◌++◌, Option, Some, None, codes, find}
+use Rattle.std.specs.Fmt.{decimal}
+use Rattle.ioa_actions.specs.ActionParts.{node_of}
+use Rattle.ioa_paper.specs.Papers.{PlainPaper, and_text}
+use Rattle.ioa_record.specs.Endings.{ending_text}
+use Rattle.ioa_transitions.specs.Entries.{entry_of}
+use Rattle.ioa_tell.specs.Events.{PlainEvent, taken, missed, idle, stopped, ended}
+use Rattle.ioa_tell_text.specs.Kept.{is_of, next_waiting, same_passing, why_of, without}
+use Rattle.ioa_tell_text.specs.Lines.{taken_line, waiting_text}
+use Rattle.ioa_tell_text.specs.declared.waiting.Passing.{Passing}
+use Rattle.ioa_tell_text.specs.declared.waiting.Passing.TheVariants.{Idle, Missed}
+use Rattle.ioa_tell_text.specs.declared.waiting.Waiting.{Waiting}
+
+-- what was written, the names of constants, and what waits to be written, one line a node
+pub record PlainTeller : Type 0 where
+  pub paper : PlainPaper
+  pub names : List (List ℕ)
+  pub waiting : List Waiting
+
+-- more is written
+abbrev pub and_written : PlainTeller → List ℕ → PlainTeller
+and_written t text = record { paper = and_text t.paper text; names = t.names; waiting = t.waiting }
+
+-- one more waits
+abbrev pub with_waiting : Waiting → PlainTeller → PlainTeller
+with_waiting w t = record { paper = t.paper; names = t.names; waiting = t.waiting ++ w ∷ [] }
+
+-- what waits is written, if something does
+abbrev pub and_waiting : List (List ℕ) → Option Waiting → PlainPaper → PlainPaper
+and_waiting names None paper = paper
+and_waiting names (Some w) paper = and_text paper (waiting_text names w)
+
+-- the line of a node is written, if one waits
+abbrev pub flushed : ℤ → PlainTeller → PlainTeller
+flushed n t = record {
+  paper = and_waiting t.names (find (is_of n) t.waiting) t.paper;
+  names = t.names;
+  waiting = without (is_of n) t.waiting;
+}
+
+-- what waits is written, unless the node does the same again
+abbrev pub and_other : List (List ℕ) → Passing → Option Waiting → PlainPaper → PlainPaper
+and_other names p None paper = paper
+and_other names p (Some w) paper =
+    if same_passing w.passing p then paper else and_text paper (waiting_text names w)
+
+-- a node does this, of which that waited: it waits now
+abbrev pub waits_behind : ℤ → Passing → Option Waiting → PlainTeller → PlainTeller
+waits_behind n p last t = record {
+  paper = and_other t.names p last t.paper;
+  names = t.names;
+  waiting = t.waiting ++ next_waiting n p last ∷ [];
+}
+
+-- a node does what takes no action: it waits until the node does something else
+abbrev pub waits : ℤ → Passing → PlainTeller → PlainTeller
+waits n p t =
+    waits_behind n p (find (is_of n) t.waiting)
+    (record { paper = t.paper; names = t.names; waiting = without (is_of n) t.waiting })
+
+-- after an event: the line of an action that was taken and the line of an ending are written at once, each action behind
+-- what waits of its node; what a node does that takes no action waits; and of a node that stopped nothing waits
+abbrev pub teller_after : PlainEvent → PlainTeller → PlainTeller
+teller_after (taken k e before after queue) t =
+    and_written (flushed (node_of e.action) t) (taken_line t.names k e before after queue)
+teller_after (missed k a r) t = waits (node_of a) (Missed (entry_of a) (why_of r)) t
+teller_after (idle k n) t = waits n Idle t
+teller_after (stopped k n) t = flushed n t
+teller_after (ended n e) t =
+    and_written t (codes "ending " ++ (decimal n ++ (codes " " ++ (ending_text e ++ codes "\n"))))

@@ -1,0 +1,245 @@
+//! A run as a text.
+
+ghost use Rattle.std.specs.Prelude.{◌≡◌, ◌++◌, ◌∷◌, ◌<◌, [], OnOk, Some, None, false};
+ghost use Rattle.std.specs.Arc.{arc_value};
+ghost use Rattle.std.specs.Option.{option_copied};
+ghost use Rattle.std.specs.Vec.{vec_capacity};
+ghost use Rattle.ioa_actions.specs.ActionParts.{node_of};
+ghost use Rattle.ioa_paper.specs.Papers.{Ended};
+ghost use Rattle.ioa_tell.specs.Events.{reason_of};
+ghost use Rattle.ioa_transitions.specs.Entries.{entry_of};
+ghost use Rattle.ioa_tell_text.specs.Kept.{once, why_of};
+ghost use Rattle.ioa_tell_text.specs.Lines.{taken_line, waiting_text};
+ghost use Rattle.ioa_tell_text.specs.Teller.{and_written, flushed, waits, waits_behind, with_waiting};
+
+use crate::keeping::taken_out;
+use crate::lines::{put_taken, put_waiting};
+use crate::waiting::{Passing, Waiting, kept};
+use ioa_actions::Action;
+use ioa_compose::Conf;
+use ioa_monitor::put_ending;
+use ioa_paper::Paper;
+use ioa_streams::{Out, OutFailed};
+use ioa_tell::{Event, Reason, TellFault, Tells};
+use ioa_transitions::Entry;
+use ioa_values::Names;
+use std::alloc::{AllocError, Global};
+use std::marker::Model;
+use std::sync::Arc;
+
+/// Writes what is told as a text: `k action   node i: x = v -> w; channel i -> j holds n` for an action that was taken,
+/// `  missed action@i: why   (n times)` for n misses one after another, `  idle @i   (n times)` for idle turns, and
+/// `ending i e` for the endings. A miss or an idle turn is written once its node does something else, just before that.
+pub struct TextTeller<'a, O: Out> {
+    paper: Paper<'a, O>,
+    names: &'a Names,
+    waiting: Vec<Waiting>,
+}
+
+impl<'a, O: Out> Model for TextTeller<'a, O> {
+    ghost use Rattle.std.specs.Coded.{codes};
+    ghost use Rattle.ioa_values.specs.contracts.value.Value as value;
+    ghost use Rattle.ioa_tell_text.specs.Teller.{PlainTeller};
+
+    ghost Value = { PlainTeller };
+
+    ghost coded = { Prim.hlevel (codes, value.the_row.coded) };
+
+    ghost view = { λ t. record { paper = t.paper; names = t.names.now; waiting = t.waiting.items } };
+}
+
+impl<'a, O: Out> TextTeller<'a, O> {
+    /// Who writes on this output, by these names of constants, and holds back as many bytes as there is room for.
+    pub fn new(alloc: Global, names: &'a Names, out: &'a mut O, room: Vec<u8>) -> Self
+        requires well { O.failed out.old ≡ false }
+        requires empty { room.items ≡ [] }
+        requires room { 0 < vec_capacity room }
+        ensures start { result.paper.start ≡ O.bytes out.old }
+        ensures text { result.paper.text ≡ [] }
+        ensures output { result.paper.output ≡ out.entry.ghost_name }
+        ensures names { result.names ≡ names.now }
+        ensures waiting { result.waiting ≡ [] }
+    {
+        TextTeller {
+            paper: Paper::new(out, room),
+            names,
+            waiting: Vec::new(alloc),
+        }
+    }
+
+    /// Sends what is held back. The output comes back, and whether all of the text went out. What waits is written
+    /// nowhere: a node of which something waits has not stopped.
+    pub fn finish(self) -> (&'a mut O, Result<(), OutFailed>)
+        ensures output { result.0.ghost_name ≡ self.entry.paper.output }
+        ensures sent { Ended self.entry.paper.start (O.bytes result.0.now) (O.failed result.0.now)
+            self.entry.paper.text result.1 }
+    {
+        let TextTeller {
+            paper,
+            names: _,
+            waiting,
+        } = self;
+        drop(waiting);
+        paper.finish()
+    }
+
+    /// Writes what waits of a node.
+    fn flush(&mut self, node: i64)
+        ensures { self.new ≡ flushed node self.old }
+    {
+        match taken_out(&mut self.waiting, node) {
+            None => {}
+            Some(waiting) => self.write(waiting),
+        }
+    }
+
+    /// Writes what waited.
+    fn write(&mut self, waiting: Waiting)
+        ensures { self.new ≡ and_written self.old (waiting_text self.old.names waiting) }
+    {
+        put_waiting(&mut self.paper, self.names, &waiting);
+    }
+
+    /// Writes an action that was taken.
+    fn taken(
+        &mut self,
+        number: usize,
+        entry: &Entry,
+        before: &Conf,
+        after: &Conf,
+        queue: Option<&Conf>,
+    )
+        ensures { self.new ≡ and_written (flushed (node_of entry.now.action) self.old)
+            (taken_line self.old.names number entry.now before.now after.now (option_copied queue.entry)) }
+    {
+        self.flush(entry.action().node());
+        put_taken(
+            &mut self.paper,
+            self.names,
+            number,
+            entry,
+            before,
+            after,
+            queue,
+        );
+    }
+
+    /// Counts a miss.
+    fn missed(
+        &mut self,
+        alloc: Global,
+        action: &Arc<Action>,
+        reason: Reason<'_>,
+    ) -> Result<(), AllocError>
+        ensures { OnOk result (self.new ≡ waits (node_of (arc_value action.now))
+            (Passing.Missed (entry_of (arc_value action.now)) (why_of (reason_of reason.entry))) self.old) }
+    {
+        match taken_out(&mut self.waiting, action.node()) {
+            None => self.miss_first(alloc, action, reason),
+            Some(last) => self.miss_behind(alloc, action, reason, last),
+        }
+    }
+
+    /// The same, if this waited of the node.
+    fn miss_behind(
+        &mut self,
+        alloc: Global,
+        action: &Arc<Action>,
+        reason: Reason<'_>,
+        last: Waiting,
+    ) -> Result<(), AllocError>
+        ensures { OnOk result (self.new ≡ waits_behind (node_of (arc_value action.now))
+            (Passing.Missed (entry_of (arc_value action.now)) (why_of (reason_of reason.entry)))
+            (Some last) self.old) }
+    {
+        if last.passing.is_miss(action, reason) {
+            self.wait(last.once_more())
+        } else {
+            self.write(last);
+            self.miss_first(alloc, action, reason)
+        }
+    }
+
+    /// The same, if nothing waits of the node.
+    fn miss_first(
+        &mut self,
+        alloc: Global,
+        action: &Arc<Action>,
+        reason: Reason<'_>,
+    ) -> Result<(), AllocError>
+        ensures { OnOk result (self.new ≡ with_waiting (once (node_of (arc_value action.now))
+            (Passing.Missed (entry_of (arc_value action.now)) (why_of (reason_of reason.entry)))) self.old) }
+    {
+        let why = kept(alloc, reason)?;
+        let entry = Entry::of(Arc::try_clone(action)?);
+        self.wait(Waiting::once(action.node(), Passing::Missed(entry, why)))
+    }
+
+    /// Counts an idle turn.
+    fn idle(&mut self, node: i64) -> Result<(), AllocError>
+        ensures { OnOk result (self.new ≡ waits node Passing.Idle self.old) }
+    {
+        match taken_out(&mut self.waiting, node) {
+            None => self.wait(Waiting::once(node, Passing::Idle)),
+            Some(last) => self.idle_behind(node, last),
+        }
+    }
+
+    /// The same, if this waited of the node.
+    fn idle_behind(&mut self, node: i64, last: Waiting) -> Result<(), AllocError>
+        ensures { OnOk result (self.new ≡ waits_behind node Passing.Idle (Some last) self.old) }
+    {
+        if last.passing.is_idle() {
+            self.wait(last.once_more())
+        } else {
+            self.write(last);
+            self.wait(Waiting::once(node, Passing::Idle))
+        }
+    }
+
+    /// Lets this wait.
+    fn wait(&mut self, waiting: Waiting) -> Result<(), AllocError>
+        ensures { OnOk result (self.new ≡ with_waiting waiting self.old) }
+    {
+        self.waiting.push(waiting)?;
+        Ok(())
+    }
+}
+
+impl<'a, O: Out> Tells for TextTeller<'a, O> {
+    ghost use Rattle.std.specs.Prelude.{◌≡◌};
+    ghost use Rattle.ioa_tell_text.specs.Teller.{teller_after};
+
+    ghost hears = { λ e old new. new ≡ teller_after e old };
+
+    fn event(&mut self, alloc: Global, event: Event<'_>) -> Result<(), TellFault> {
+        match event {
+            Event::Taken {
+                number,
+                entry,
+                before,
+                after,
+                queue,
+            } => {
+                self.taken(number, entry, before, after, queue);
+                Ok(())
+            }
+            Event::Missed { action, reason, .. } => {
+                self.missed(alloc, action, reason)?;
+                Ok(())
+            }
+            Event::Idle { node, .. } => {
+                self.idle(node)?;
+                Ok(())
+            }
+            Event::Stopped { node, .. } => {
+                self.flush(node);
+                Ok(())
+            }
+            Event::Ended { node, ending } => {
+                put_ending(&mut self.paper, node, ending);
+                Ok(())
+            }
+        }
+    }
+}
