@@ -1,4 +1,5 @@
-//! Tests of workers: threads that are refused, and boards whose book is not of the system that a worker is given.
+//! Tests of workers: threads that are refused, boards whose book is not of the system that a worker is given, and the
+//! traces of runs.
 //!
 //! **A crate of its own**, since a crate with tests is proved twice, and no program of whole runs shows these.
 //!
@@ -11,3 +12,5 @@ mod boards;
 mod texts;
 #[cfg(test)]
 mod threads;
+#[cfg(test)]
+mod traces;

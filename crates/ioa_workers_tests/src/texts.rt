@@ -34,6 +34,19 @@ pub(crate) const LEAP: &str = "automaton Leap(c: Nat)
           do while k < c do fire internal tick; k := k + 1 od od
       system node 0: Leap(1) node 1: Tick(5)";
 
+/// Two nodes that hand two messages over one channel.
+pub(crate) const RELAY: &str = "automaton Src
+        signature output send(m: Int, const 0, const 1)
+        states n: Int := 7
+        transitions output send(m, 0, 1) pre m = n eff n := n + 1
+        schedule do fire send(n, 0, 1); fire send(n, 0, 1) od
+      automaton Dst
+        signature input receive(m: Int, const 0, const 1)
+        states got: Seq[Int] := {}
+        transitions input receive(m, 0, 1) eff got := got |- m
+        schedule do fire receive(7, 0, 1); fire receive(8, 0, 1) od
+      system node 0: Src node 1: Dst channel 0 -> 1";
+
 /// The system of a text.
 pub(crate) fn system(alloc: Global, text: &str) -> Result<Arc<System>, Fail> {
     let source = Box::new(alloc, parse(alloc, text).ok().ok_or("refused")?)?;
