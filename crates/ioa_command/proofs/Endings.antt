@@ -15,8 +15,12 @@ use Rattle.ioa_streams.specs.ScheduleParts.{schedule_part}
 use Rattle.ioa_streams.specs.declared.input.InputFault.{InputFault}
 use Rattle.ioa_streams.specs.declared.input.InputFault.TheVariants as input
 use Rattle.ioa_monitor.specs.declared.findings.Findings.{Findings}
+use Rattle.ioa_explain.specs.declared.explaining.Finding.{Finding}
+use Rattle.ioa_explain.specs.declared.explaining.Finding.TheVariants.{NothingWrong, Refused}
 use Rattle.ioa_pipeline.specs.declared.printing.PrintFault.{PrintFault}
 use Rattle.ioa_pipeline.specs.declared.printing.PrintFault.TheVariants as print
+use Rattle.ioa_pipeline.specs.declared.tracing.TraceFault.{TraceFault}
+use Rattle.ioa_pipeline.specs.declared.tracing.TraceFault.TheVariants as trace
 use Rattle.ioa_pipeline.specs.declared.whole_run.RunFault.{RunFault}
 use Rattle.ioa_pipeline.specs.declared.whole_run.RunFault.TheVariants as run
 use Rattle.ioa_pipeline.specs.declared.schedule_check.CheckScheduleFault.{CheckScheduleFault}
@@ -27,11 +31,12 @@ use Rattle.ioa_command.specs.declared.choice.TraceChoice.{TraceChoice}
 use Rattle.ioa_command.specs.declared.choice.CheckChoice.{CheckChoice}
 use Rattle.ioa_command.specs.declared.choice.Subcommand.TheVariants as subcommand
 use Rattle.ioa_command.specs.declared.faults.TextFault.{TextFault}
-use Rattle.ioa_command.specs.declared.faults.TextFault.TheVariants.{Input, Unread, Run, Check, Print}
+use Rattle.ioa_command.specs.declared.faults.TextFault.TheVariants.{Input, Unread, Run, Explain, Trace, Check, Print}
 use Rattle.ioa_command.specs.Command.{ChecksGivenIn, ChecksIn, ChecksSchedule}
 use Rattle.ioa_command.specs.Command.{Ends, Executes, Follows, IsDone, IsTraced, Output, Prints, PrintsText, Reports}
-use Rattle.ioa_command.specs.Command.{RunsText, ShowsWords, Tells, TracesText, found_status, no_finding}
-use Rattle.ioa_command.specs.Faults.{check_status, fault_status, input_status, print_status, run_status}
+use Rattle.ioa_command.specs.Command.{ExplainsAs, ExplainsText, IsExplained, RunsText, ShowsWords, Tells, TracesText}
+use Rattle.ioa_command.specs.Command.{explained_status, found_status, no_finding}
+use Rattle.ioa_command.specs.Faults.{check_status, fault_status, input_status, print_status, run_status, trace_status}
 use Rattle.ioa_command.specs.FailOn.{meet}
 use Rattle.ioa_command.specs.Inputs.{given_by}
 use Rattle.ioa_command.specs.CommandLine.{AsksForText, Chooses, IsErrorOf, program_app, words_status}
@@ -67,10 +72,16 @@ print_range (print.Front f) = inl refl
 print_range print.Memory = inr refl
 print_range print.Write = inr refl
 
+trace_range : (f : TraceFault) → IsOneOrThree (trace_status f)
+trace_range (trace.Run f) = run_range f
+trace_range trace.Differs = inr refl
+
 fault_range : (f : TextFault) → IsOneOrThree (fault_status f)
 fault_range (Input f) = input_range f
 fault_range (Unread name) = inr refl
 fault_range (Run f) = run_range f
+fault_range (Explain f) = inr refl
+fault_range (Trace f) = trace_range f
 fault_range (Check f) = check_range f
 fault_range (Print f) = print_range f
 
@@ -125,7 +136,7 @@ words_done words given out err status e error shows done = go (words_status (kin
   where
     go : (n : ℕ) → words_status (kind_of e) ≡ n → IsDone words given out
     go zero is = elim (shows.asked is) [
-      | inl whole ↦ inr (inr (inr (inr (asks words e error is, whole.2))))
+      | inl whole ↦ inr (inr (inr (inr (inr (asks words e error is, whole.2)))))
       | inr failed ↦ absurd (omega arith)
     ]
     go (suc n) is =
@@ -184,6 +195,22 @@ trace_done given out err status t outcome traced told free =
     let done = done_of_told no_finding err status outcome told free in
     subst (IsTraced t given out) done.1 traced
 
+-- a status that no fault has is that of what is told of a text, if the words choose `explain`
+explain_done : (words : List Text) (given : Option (List ℕ)) (out err : Output) (status : ℕ) (input : InputName)
+    (outcome : Result Finding TextFault) → Chooses words (subcommand.Explain input) → IsExplained input given out outcome
+    → Tells explained_status err status outcome → status ≡ 0 → ExplainsAs NothingWrong words given out
+explain_done words given out err status input outcome chosen explained told done =
+    let what = done_of_told explained_status err status outcome told (none_is_one status done) in
+    let found : explained_status what.0 ≡ 0 = sym what.2 ∙ done in
+    (input, chosen, go what.0 found (subst (IsExplained input given out) what.1 explained))
+  where
+    go : (f : Finding) → explained_status f ≡ 0 → ExplainsText input given out (Ok f)
+        → ExplainsText input given out (Ok NothingWrong)
+    go NothingWrong none h = h
+    go Refused none h =
+        let bad : 1 ≡ 0 = none in
+        absurd (omega arith)
+
 print_done : (given : Option (List ℕ)) (out err : Output) (status : ℕ) (input : InputName)
     (outcome : Result (Unit {0}) TextFault) → Prints input given out outcome → Tells no_finding err status outcome
     → IsOfNoFault status → PrintsText (given_by input given) out (Ok tt)
@@ -196,16 +223,22 @@ pub done_of : (words : List Text) (given : Option (List ℕ)) (out err : Output)
 done_of words given out err status (inl (subcommand.Run r, chosen, (outcome, ran, told))) done =
     inl (subst (Reports words given out) done
     (reports words given out err status r outcome chosen ran told (none_is_one status done)))
+done_of words given out err status (inl (subcommand.Explain input, chosen, (outcome, explained, told))) done =
+    inr (inl (explain_done words given out err status input outcome chosen explained told done))
 done_of words given out err status (inl (subcommand.Trace t, chosen, (outcome, traced, told))) done =
-    inr (inl (t, chosen, trace_done given out err status t outcome traced told (none_is_one status done)))
+    inr (inr (inl (t, chosen, trace_done given out err status t outcome traced told (none_is_one status done))))
 done_of words given out err status (inl (subcommand.Check c, chosen, (outcome, followed, told))) done =
-    inr (inr (inl (c, chosen, check_done given out err status c outcome followed told (none_is_one status done))))
-done_of words given out err status (inl (subcommand.Print input, chosen, (outcome, printed, told))) done =
     inr (inr (inr (inl (
+      c,
+      chosen,
+      check_done given out err status c outcome followed told (none_is_one status done),
+    ))))
+done_of words given out err status (inl (subcommand.Print input, chosen, (outcome, printed, told))) done =
+    inr (inr (inr (inr (inl (
       input,
       chosen,
       print_done given out err status input outcome printed told (none_is_one status done),
-    ))))
+    )))))
 done_of words given out err status (inr said) done =
     words_done words given out err status said.0 said.1 said.2 done
 
@@ -217,11 +250,28 @@ finds_none done err status outcome none told four =
     let is : status ≡ 0 = what.2 ∙ none what.0 in
     absurd (omega arith)
 
+-- and what is told of a text has another status
+explained_none : (f : Finding) → explained_status f ≡ 4 → ⊥
+explained_none NothingWrong four =
+    let bad : 0 ≡ 4 = four in
+    absurd (omega arith)
+explained_none Refused four =
+    let bad : 1 ≡ 4 = four in
+    absurd (omega arith)
+
+explain_finds_none : (err : Output) (status : ℕ) (outcome : Result Finding TextFault)
+    → Tells explained_status err status outcome → status ≡ 4 → ⊥
+explain_finds_none err status outcome told four =
+    let what = done_of_told explained_status err status outcome told (four_is_none status four) in
+    explained_none what.0 (sym what.2 ∙ four)
+
 pub found_of : (words : List Text) (given : Option (List ℕ)) (out err : Output) (status : ℕ)
     → Ends words given out err status → status ≡ 4 → Reports words given out 4
 found_of words given out err status (inl (subcommand.Run r, chosen, (outcome, ran, told))) four =
     subst (Reports words given out) four
     (reports words given out err status r outcome chosen ran told (four_is_none status four))
+found_of words given out err status (inl (subcommand.Explain input, chosen, (outcome, explained, told))) four =
+    absurd (explain_finds_none err status outcome told four)
 found_of words given out err status (inl (subcommand.Trace t, chosen, (outcome, traced, told))) four =
     absurd (finds_none no_finding err status outcome (λ x. refl) told four)
 found_of words given out err status (inl (subcommand.Check c, chosen, (outcome, followed, told))) four =
@@ -274,19 +324,22 @@ print_kept given out (print.Front f) printed refuses = printed.2.1
 print_kept given out print.Memory printed refuses = absurd (not_failed 3 refuses refl)
 print_kept given out print.Write printed refuses = absurd (not_failed 3 refuses refl)
 
-trace_kept : (t : TraceChoice) (given : Option (List ℕ)) (out : Output) (f : RunFault)
-    → TracesText t given out (Err f) → Refuses (run_status f) → Keeps out.old out.new
-trace_kept t given out (run.Front f) traced refuses = traced.2.1
-trace_kept t given out (run.Check f) traced refuses = traced.2.1
-trace_kept t given out (run.Finish f) traced refuses = absurd (not_failed 3 refuses refl)
-trace_kept t given out run.Memory traced refuses = absurd (not_failed 3 refuses refl)
-trace_kept t given out run.Write traced refuses = absurd (not_failed 3 refuses refl)
+trace_kept : (t : TraceChoice) (given : Option (List ℕ)) (out : Output) (f : TraceFault)
+    → TracesText t given out (Err f) → Refuses (trace_status f) → Keeps out.old out.new
+trace_kept t given out (trace.Run (run.Front f)) traced refuses = traced.2.1
+trace_kept t given out (trace.Run (run.Check f)) traced refuses = traced.2.1
+trace_kept t given out (trace.Run (run.Finish f)) traced refuses = absurd (not_failed 3 refuses refl)
+trace_kept t given out (trace.Run run.Memory) traced refuses = absurd (not_failed 3 refuses refl)
+trace_kept t given out (trace.Run run.Write) traced refuses = absurd (not_failed 3 refuses refl)
+trace_kept t given out trace.Differs traced refuses = absurd (not_failed 3 refuses refl)
 
 traced_kept : (t : TraceChoice) (given : Option (List ℕ)) (out : Output) (f : TextFault)
     → IsTraced t given out (Err f) → Refuses (fault_status f) → Keeps out.old out.new
 traced_kept t given out (Input f) traced refuses = traced.1.1
 traced_kept t given out (Unread name) traced refuses = traced.1.1
-traced_kept t given out (Run f) traced refuses = trace_kept t given out f traced refuses
+traced_kept t given out (Run f) traced refuses = absurd traced
+traced_kept t given out (Explain f) traced refuses = absurd traced
+traced_kept t given out (Trace f) traced refuses = trace_kept t given out f traced refuses
 traced_kept t given out (Check f) traced refuses = absurd traced
 traced_kept t given out (Print f) traced refuses = absurd traced
 
@@ -295,6 +348,8 @@ executed_kept : (r : RunChoice) (given : Option (List ℕ)) (out : Output) (f : 
 executed_kept r given out (Input f) ran refuses = ran.1.1
 executed_kept r given out (Unread name) ran refuses = ran.1.1
 executed_kept r given out (Run f) ran refuses = run_kept r given out f ran refuses
+executed_kept r given out (Explain f) ran refuses = absurd ran
+executed_kept r given out (Trace f) ran refuses = absurd ran
 executed_kept r given out (Check f) ran refuses = absurd ran
 executed_kept r given out (Print f) ran refuses = absurd ran
 
@@ -303,6 +358,8 @@ printed_kept : (input : InputName) (given : Option (List ℕ)) (out : Output) (f
 printed_kept input given out (Input f) printed refuses = printed.1.1
 printed_kept input given out (Unread name) printed refuses = printed.1.1
 printed_kept input given out (Run f) printed refuses = absurd printed
+printed_kept input given out (Explain f) printed refuses = absurd printed
+printed_kept input given out (Trace f) printed refuses = absurd printed
 printed_kept input given out (Check f) printed refuses = absurd printed
 printed_kept input given out (Print f) printed refuses = print_kept (given_by input given) out f printed refuses
 
@@ -327,6 +384,8 @@ followed_kept : (c : CheckChoice) (given : Option (List ℕ)) (out : Output) (f 
 followed_kept c given out (Input f) followed refuses = followed.1.1
 followed_kept c given out (Unread name) followed refuses = followed.1.1
 followed_kept c given out (Run f) followed refuses = absurd followed
+followed_kept c given out (Explain f) followed refuses = absurd followed
+followed_kept c given out (Trace f) followed refuses = absurd followed
 followed_kept c given out (Check f) followed refuses = check_kept c.input c.schedule given out f followed refuses
 followed_kept c given out (Print f) followed refuses = absurd followed
 
@@ -352,18 +411,46 @@ found_free fail_on found refuses = by_test (meet fail_on found) refuses
 none_free : (x : Unit {0}) → Refuses (no_finding x) → ⊥
 none_free x refuses = not_done 0 refuses refl
 
+-- what a refusal leaves: nothing went out, or an explanation that says so of the text
+abbrev pub LeavesRefused : List Text → Option (List ℕ) → Output → Type 0
+LeavesRefused words given out = Keeps out.old out.new ⊎ ExplainsAs Refused words given out
+
+explained_kept : (input : InputName) (given : Option (List ℕ)) (out : Output) (f : TextFault)
+    → IsExplained input given out (Err f) → Refuses (fault_status f) → Keeps out.old out.new
+explained_kept input given out (Input f) explained refuses = explained.1.1
+explained_kept input given out (Unread name) explained refuses = explained.1.1
+explained_kept input given out (Run f) explained refuses = absurd explained
+explained_kept input given out (Explain f) explained refuses = absurd (not_failed 3 refuses refl)
+explained_kept input given out (Trace f) explained refuses = absurd explained
+explained_kept input given out (Check f) explained refuses = absurd explained
+explained_kept input given out (Print f) explained refuses = absurd explained
+
+explain_leaves : (words : List Text) (given : Option (List ℕ)) (out err : Output) (status : ℕ) (input : InputName)
+    (outcome : Result Finding TextFault) → Chooses words (subcommand.Explain input) → IsExplained input given out outcome
+    → Tells explained_status err status outcome → Refuses status → LeavesRefused words given out
+explain_leaves words given out err status input (Ok NothingWrong) chosen explained told refuses =
+    absurd (not_done status refuses told.0)
+explain_leaves words given out err status input (Ok Refused) chosen explained told refuses =
+    inr (input, chosen, explained)
+explain_leaves words given out err status input (Err f) chosen explained told refuses = elim told [
+  | inl line ↦ inl (explained_kept input given out f explained (subst Refuses line.0 refuses))
+  | inr memory ↦ absurd (not_failed status refuses memory.0)
+]
+
 pub refused_of : (words : List Text) (given : Option (List ℕ)) (out err : Output) (status : ℕ)
-    → Ends words given out err status → Refuses status → Keeps out.old out.new
+    → Ends words given out err status → Refuses status → LeavesRefused words given out
 refused_of words given out err status (inl (subcommand.Run r, chosen, (outcome, ran, told))) refuses =
-    told_kept (found_status r.fail_on) out err status outcome told (found_free r.fail_on)
-    (λ f is. executed_kept r given out f (subst (Executes r given out) is ran)) refuses
+    inl (told_kept (found_status r.fail_on) out err status outcome told (found_free r.fail_on)
+    (λ f is. executed_kept r given out f (subst (Executes r given out) is ran)) refuses)
+refused_of words given out err status (inl (subcommand.Explain input, chosen, (outcome, explained, told))) refuses =
+    explain_leaves words given out err status input outcome chosen explained told refuses
 refused_of words given out err status (inl (subcommand.Trace t, chosen, (outcome, traced, told))) refuses =
-    told_kept no_finding out err status outcome told none_free
-    (λ f is. traced_kept t given out f (subst (IsTraced t given out) is traced)) refuses
+    inl (told_kept no_finding out err status outcome told none_free
+    (λ f is. traced_kept t given out f (subst (IsTraced t given out) is traced)) refuses)
 refused_of words given out err status (inl (subcommand.Check c, chosen, (outcome, followed, told))) refuses =
-    told_kept no_finding out err status outcome told none_free
-    (λ f is. followed_kept c given out f (subst (Follows c given out) is followed)) refuses
+    inl (told_kept no_finding out err status outcome told none_free
+    (λ f is. followed_kept c given out f (subst (Follows c given out) is followed)) refuses)
 refused_of words given out err status (inl (subcommand.Print input, chosen, (outcome, printed, told))) refuses =
-    told_kept no_finding out err status outcome told none_free
-    (λ f is. printed_kept input given out f (subst (Prints input given out) is printed)) refuses
-refused_of words given out err status (inr said) refuses = words_kept out err status said.0 said.2 refuses
+    inl (told_kept no_finding out err status outcome told none_free
+    (λ f is. printed_kept input given out f (subst (Prints input given out) is printed)) refuses)
+refused_of words given out err status (inr said) refuses = inl (words_kept out err status said.0 said.2 refuses)

@@ -2,6 +2,9 @@
 use Rattle.std.proofs.Common.{◌≡◌, List, ℕ, Option, Some, None, Result, Ok, Err, inl, inr, subst, sym}
 use Rattle.ioa_monitor.specs.declared.findings.Findings.{Findings}
 use Rattle.ioa_streams.specs.Parts.{lines_part, text_part}
+use Rattle.ioa_explain.specs.Explanations.{Explains, IsFindingOn}
+use Rattle.ioa_explain.specs.declared.explaining.Finding.{Finding}
+use Rattle.ioa_explain.specs.declared.fault.ExplainFault.{ExplainFault}
 use Rattle.ioa_pipeline.specs.declared.whole_run.RunFault.{RunFault}
 use Rattle.ioa_pipeline.specs.WholeRun.{IsExactFor, IsFaultOfWorkers, IsRefusalOf, WritesReport}
 use Rattle.ioa_command.specs.declared.choice.InputName.{InputName}
@@ -10,16 +13,18 @@ use Rattle.ioa_command.specs.declared.choice.RunChoice.{RunChoice}
 use Rattle.ioa_command.specs.declared.choice.TraceChoice.{TraceChoice}
 use Rattle.ioa_command.specs.declared.choice.CheckChoice.{CheckChoice}
 use Rattle.ioa_command.specs.declared.faults.TextFault.{TextFault}
-use Rattle.ioa_command.specs.declared.faults.TextFault.TheVariants.{Input, Unread, Run, Check, Print}
+use Rattle.ioa_command.specs.declared.faults.TextFault.TheVariants.{Input, Unread, Run, Explain, Trace, Check, Print}
 use Rattle.ioa_command.specs.Command.{ChecksGivenIn, Executes, Follows, IsChecked, IsCheckedBy}
-use Rattle.ioa_command.specs.Command.{IsFaultOfSchedule, IsKept, IsTraced, Output, Prints}
-use Rattle.ioa_command.specs.Inputs.{IsFaultOfInput, IsTextOf, KeepsStandard, behind, given_behind, given_by}
+use Rattle.ioa_command.specs.Command.{IsExplained, IsFaultOfSchedule, IsKept, IsTraced, Output, Prints}
+use Rattle.ioa_command.specs.Inputs.{IsFaultOfInput, IsTextOf, KeepsStandard, behind, given_behind, given_by, shown_name}
 
 -- a fault of reading
 abbrev IsReading : TextFault → Type 0
 IsReading (Input f) = Unit {0}
 IsReading (Unread name) = Unit {0}
 IsReading (Run f) = ⊥
+IsReading (Explain f) = ⊥
+IsReading (Trace f) = ⊥
 IsReading (Check f) = ⊥
 IsReading (Print f) = ⊥
 
@@ -28,11 +33,15 @@ is_reading : (input : InputName) (given : Option (List ℕ)) (f : TextFault) →
 is_reading Standard given (Input f) h = tt
 is_reading Standard given (Unread name) h = absurd h
 is_reading Standard given (Run f) h = absurd h
+is_reading Standard given (Explain f) h = absurd h
+is_reading Standard given (Trace f) h = absurd h
 is_reading Standard given (Check f) h = absurd h
 is_reading Standard given (Print f) h = absurd h
 is_reading (File of) given (Input f) h = tt
 is_reading (File of) given (Unread name) h = tt
 is_reading (File of) given (Run f) h = absurd h
+is_reading (File of) given (Explain f) h = absurd h
+is_reading (File of) given (Trace f) h = absurd h
 is_reading (File of) given (Check f) h = absurd h
 is_reading (File of) given (Print f) h = absurd h
 
@@ -42,6 +51,8 @@ pub executes_unread : (r : RunChoice) (given : Option (List ℕ)) (out : Output)
 executes_unread r given out (Input f) h kept = (h, kept)
 executes_unread r given out (Unread name) h kept = (h, kept)
 executes_unread r given out (Run f) h kept = absurd (is_reading r.input given (Run f) h)
+executes_unread r given out (Explain f) h kept = absurd (is_reading r.input given (Explain f) h)
+executes_unread r given out (Trace f) h kept = absurd (is_reading r.input given (Trace f) h)
 executes_unread r given out (Check f) h kept = absurd (is_reading r.input given (Check f) h)
 executes_unread r given out (Print f) h kept = absurd (is_reading r.input given (Print f) h)
 
@@ -63,14 +74,40 @@ pub traces_unread : (t : TraceChoice) (given : Option (List ℕ)) (out : Output)
 traces_unread t given out (Input f) h kept = (h, kept)
 traces_unread t given out (Unread name) h kept = (h, kept)
 traces_unread t given out (Run f) h kept = absurd (is_reading t.input given (Run f) h)
+traces_unread t given out (Explain f) h kept = absurd (is_reading t.input given (Explain f) h)
+traces_unread t given out (Trace f) h kept = absurd (is_reading t.input given (Trace f) h)
 traces_unread t given out (Check f) h kept = absurd (is_reading t.input given (Check f) h)
 traces_unread t given out (Print f) h kept = absurd (is_reading t.input given (Print f) h)
+
+pub explains_unread : (input : InputName) (given : Option (List ℕ)) (out : Output) (f : TextFault)
+    → IsFaultOfInput input given f → IsKept out → IsExplained input given out (Err f)
+explains_unread input given out (Input f) h kept = (h, kept)
+explains_unread input given out (Unread name) h kept = (h, kept)
+explains_unread input given out (Run f) h kept = absurd (is_reading input given (Run f) h)
+explains_unread input given out (Explain f) h kept = absurd (is_reading input given (Explain f) h)
+explains_unread input given out (Trace f) h kept = absurd (is_reading input given (Trace f) h)
+explains_unread input given out (Check f) h kept = absurd (is_reading input given (Check f) h)
+explains_unread input given out (Print f) h kept = absurd (is_reading input given (Print f) h)
+
+-- and so if it was told what is wrong with its text
+pub explains_text : (input : InputName) (given : Option (List ℕ)) (text : List ℕ) (out : Output) (f : Finding)
+    → IsTextOf (given_by input given) text
+    → Explains (shown_name input) text out.old out.new out.failed (Ok f) → IsFindingOn f text
+    → IsExplained input given out (Ok f)
+explains_text input given text out f t told found = (text, t, told, found)
+
+pub explains_fault : (input : InputName) (given : Option (List ℕ)) (text : List ℕ) (out : Output) (f : ExplainFault)
+    → IsTextOf (given_by input given) text
+    → Explains (shown_name input) text out.old out.new out.failed (Err f) → IsExplained input given out (Err (Explain f))
+explains_fault input given text out f t told = (text, t, told, tt)
 
 pub prints_unread : (input : InputName) (given : Option (List ℕ)) (out : Output) (f : TextFault)
     → IsFaultOfInput input given f → IsKept out → Prints input given out (Err f)
 prints_unread input given out (Input f) h kept = (h, kept)
 prints_unread input given out (Unread name) h kept = (h, kept)
 prints_unread input given out (Run f) h kept = absurd (is_reading input given (Run f) h)
+prints_unread input given out (Explain f) h kept = absurd (is_reading input given (Explain f) h)
+prints_unread input given out (Trace f) h kept = absurd (is_reading input given (Trace f) h)
 prints_unread input given out (Check f) h kept = absurd (is_reading input given (Check f) h)
 prints_unread input given out (Print f) h kept = absurd (is_reading input given (Print f) h)
 
@@ -79,6 +116,8 @@ pub follows_unread : (c : CheckChoice) (given : Option (List ℕ)) (out : Output
 follows_unread c given out (Input f) h kept = (inl h, kept)
 follows_unread c given out (Unread name) h kept = (inl h, kept)
 follows_unread c given out (Run f) h kept = absurd (is_reading c.input given (Run f) h)
+follows_unread c given out (Explain f) h kept = absurd (is_reading c.input given (Explain f) h)
+follows_unread c given out (Trace f) h kept = absurd (is_reading c.input given (Trace f) h)
 follows_unread c given out (Check f) h kept = absurd (is_reading c.input given (Check f) h)
 follows_unread c given out (Print f) h kept = absurd (is_reading c.input given (Print f) h)
 
@@ -87,6 +126,8 @@ pub checked_unread : (text : List ℕ) (s : InputName) (given : Option (List ℕ
 checked_unread text s given out (Input f) h kept = (h, kept)
 checked_unread text s given out (Unread name) h kept = (h, kept)
 checked_unread text s given out (Run f) h kept = absurd (is_reading s given (Run f) h)
+checked_unread text s given out (Explain f) h kept = absurd (is_reading s given (Explain f) h)
+checked_unread text s given out (Trace f) h kept = absurd (is_reading s given (Trace f) h)
 checked_unread text s given out (Check f) h kept = absurd (is_reading s given (Check f) h)
 checked_unread text s given out (Print f) h kept = absurd (is_reading s given (Print f) h)
 
@@ -102,6 +143,8 @@ fault_behind : (input s : InputName) (old mid : Option (List ℕ)) (f : TextFaul
 fault_behind Standard Standard old mid (Input f) kept h = tt
 fault_behind Standard Standard old mid (Unread name) kept h = absurd h
 fault_behind Standard Standard old mid (Run f) kept h = absurd h
+fault_behind Standard Standard old mid (Explain f) kept h = absurd h
+fault_behind Standard Standard old mid (Trace f) kept h = absurd h
 fault_behind Standard Standard old mid (Check f) kept h = absurd h
 fault_behind Standard Standard old mid (Print f) kept h = absurd h
 fault_behind Standard (File name) old mid f kept h = h
@@ -125,6 +168,8 @@ follows_apart c s given mid text out (Err (Unread name)) is kept t h = (
   h.1,
 )
 follows_apart c s given mid text out (Err (Run f)) is kept t h = absurd h
+follows_apart c s given mid text out (Err (Explain f)) is kept t h = absurd h
+follows_apart c s given mid text out (Err (Trace f)) is kept t h = absurd h
 follows_apart c s given mid text out (Err (Check f)) is kept t h =
     subst (λ o. ChecksGivenIn c.input o given out (Err f)) (sym is)
     (text, t, (h.0, text_behind c.input s given mid h.0 kept h.1, h.2))
@@ -139,6 +184,8 @@ follows_parts c given input out (Ok x) is t h =
 follows_parts c given input out (Err (Input f)) is t h = absurd h
 follows_parts c given input out (Err (Unread name)) is t h = absurd h
 follows_parts c given input out (Err (Run f)) is t h = absurd h
+follows_parts c given input out (Err (Explain f)) is t h = absurd h
+follows_parts c given input out (Err (Trace f)) is t h = absurd h
 follows_parts c given input out (Err (Check f)) is t h =
     subst (λ o. ChecksGivenIn c.input o given out (Err f)) (sym is) (input, t, h)
 follows_parts c given input out (Err (Print f)) is t h = absurd h
@@ -146,3 +193,5 @@ follows_parts c given input out (Err (Print f)) is t h = absurd h
 pub ruleset follow_rules = (follows_unread, follows_apart, follows_parts)
 
 pub ruleset run_rules = (executes_unread, executes_run, executes_fault)
+
+pub ruleset explain_rules = (explains_unread, explains_text, explains_fault)

@@ -1,6 +1,6 @@
 -- What the program does with its words, its input and its two outputs (profile).
 use Rattle.std.specs.Prelude.{◌≡◌, ◌⊎◌, ◌++◌, ℕ, Bool, true, false, if◌then◌else◌, List, codes}
-use Rattle.std.specs.Prelude.{Option, Some, None, Result, Ok, Err, IfErr}
+use Rattle.std.specs.Prelude.{Option, Some, None, Result, Ok, Err, IfErr, IfOk}
 use Rattle.std.specs.Io.KnownBytes.{Keeps, Appends}
 use Rattle.clap.specs.Values.{kind_of}
 use Rattle.clap.specs.Walk.{Text}
@@ -11,10 +11,15 @@ use Rattle.ioa_streams.specs.Parts.{lines_part, text_part}
 use Rattle.ioa_streams.specs.ScheduleParts.{schedule_part}
 use Rattle.ioa_record.specs.Options.{PlainOptions}
 use Rattle.ioa_monitor.specs.declared.findings.Findings.{Findings}
+use Rattle.ioa_explain.specs.Explanations.{Explains, IsFindingOn}
+use Rattle.ioa_explain.specs.declared.explaining.Finding.{Finding}
+use Rattle.ioa_explain.specs.declared.explaining.Finding.TheVariants.{NothingWrong, Refused}
+use Rattle.ioa_explain.specs.declared.fault.ExplainFault.{ExplainFault}
 use Rattle.ioa_pipeline.specs.declared.printing.PrintFault.{PrintFault}
+use Rattle.ioa_pipeline.specs.declared.tracing.TraceFault.{TraceFault}
 use Rattle.ioa_pipeline.specs.declared.whole_run.RunFault.{RunFault}
 use Rattle.ioa_pipeline.specs.declared.schedule_check.CheckScheduleFault.{CheckScheduleFault}
-use Rattle.ioa_pipeline.specs.Tracing.{ShowsRun}
+use Rattle.ioa_pipeline.specs.Tracing.{IsRefusalOfTrace, ShowsRun}
 use Rattle.ioa_pipeline.specs.Printing.{IsFaultOfPrint, PrintsAnew}
 use Rattle.ioa_pipeline.specs.WholeRun.{IsExactFor, IsFaultOfWorkers, IsRefusalOf, WritesReport}
 use Rattle.ioa_pipeline.specs.ScheduleChecks.{IsExactForCheck, IsFaultOfCheck, SaysExecution}
@@ -25,11 +30,11 @@ use Rattle.ioa_command.specs.declared.choice.CheckChoice.{CheckChoice}
 use Rattle.ioa_command.specs.declared.choice.Subcommand.{Subcommand}
 use Rattle.ioa_command.specs.declared.choice.Subcommand.TheVariants as subcommand
 use Rattle.ioa_command.specs.declared.faults.TextFault.{TextFault}
-use Rattle.ioa_command.specs.declared.faults.TextFault.TheVariants.{Input, Unread, Run, Check, Print}
+use Rattle.ioa_command.specs.declared.faults.TextFault.TheVariants.{Input, Unread, Run, Explain, Trace, Check, Print}
 use Rattle.ioa_command.specs.CommandLine.{AsksForText, Chooses, IsErrorOf, words_status}
 use Rattle.ioa_command.specs.FailOn.{meet}
 use Rattle.ioa_command.specs.Faults.{fault_line, fault_status}
-use Rattle.ioa_command.specs.Inputs.{IsFaultOfInput, IsTextOf, behind, given_behind, given_by}
+use Rattle.ioa_command.specs.Inputs.{IsFaultOfInput, IsTextOf, behind, given_behind, given_by, shown_name}
 
 -- an output before and after: its bytes, if they are known, and whether it has failed
 pub record Output : Type 0 where
@@ -115,6 +120,8 @@ IsChecked text lines out (Ok x) = ChecksIn text lines out (Ok x)
 IsChecked text lines out (Err (Input f)) = ⊥
 IsChecked text lines out (Err (Unread name)) = ⊥
 IsChecked text lines out (Err (Run f)) = ⊥
+IsChecked text lines out (Err (Explain f)) = ⊥
+IsChecked text lines out (Err (Trace f)) = ⊥
 IsChecked text lines out (Err (Check f)) = ChecksIn text lines out (Err f)
 IsChecked text lines out (Err (Print f)) = ⊥
 
@@ -124,6 +131,8 @@ IsCheckedBy text schedule given out (Ok x) = ChecksGiven text (given_by schedule
 IsCheckedBy text schedule given out (Err (Input f)) = IsFaultOfInput schedule given (Input f) × IsKept out
 IsCheckedBy text schedule given out (Err (Unread name)) = IsFaultOfInput schedule given (Unread name) × IsKept out
 IsCheckedBy text schedule given out (Err (Run f)) = ⊥
+IsCheckedBy text schedule given out (Err (Explain f)) = ⊥
+IsCheckedBy text schedule given out (Err (Trace f)) = ⊥
 IsCheckedBy text schedule given out (Err (Check f)) = ChecksGiven text (given_by schedule given) out (Err f)
 IsCheckedBy text schedule given out (Err (Print f)) = ⊥
 
@@ -133,6 +142,8 @@ Executes r given out (Ok x) = RunsText r.options (given_by r.input given) out (O
 Executes r given out (Err (Input f)) = IsFaultOfInput r.input given (Input f) × IsKept out
 Executes r given out (Err (Unread name)) = IsFaultOfInput r.input given (Unread name) × IsKept out
 Executes r given out (Err (Run f)) = RunsText r.options (given_by r.input given) out (Err f)
+Executes r given out (Err (Explain f)) = ⊥
+Executes r given out (Err (Trace f)) = ⊥
 Executes r given out (Err (Check f)) = ⊥
 Executes r given out (Err (Print f)) = ⊥
 
@@ -142,6 +153,8 @@ Follows c given out (Ok x) = ChecksSchedule c given out (Ok x)
 Follows c given out (Err (Input f)) = IsFaultOfInputs c given (Input f) × IsKept out
 Follows c given out (Err (Unread name)) = IsFaultOfInputs c given (Unread name) × IsKept out
 Follows c given out (Err (Run f)) = ⊥
+Follows c given out (Err (Explain f)) = ⊥
+Follows c given out (Err (Trace f)) = ⊥
 Follows c given out (Err (Check f)) = ChecksSchedule c given out (Err f)
 Follows c given out (Err (Print f)) = ⊥
 
@@ -151,22 +164,43 @@ Prints input given out (Ok x) = PrintsText (given_by input given) out (Ok x)
 Prints input given out (Err (Input f)) = IsFaultOfInput input given (Input f) × IsKept out
 Prints input given out (Err (Unread name)) = IsFaultOfInput input given (Unread name) × IsKept out
 Prints input given out (Err (Run f)) = ⊥
+Prints input given out (Err (Explain f)) = ⊥
+Prints input given out (Err (Trace f)) = ⊥
 Prints input given out (Err (Check f)) = ⊥
 Prints input given out (Err (Print f)) = PrintsText (given_by input given) out (Err f)
 
+-- the text of the input was explained, under the name of the input
+abbrev pub ExplainsText : InputName → Option (List ℕ) → Output → Result Finding ExplainFault → Type 0
+ExplainsText input given out result =
+    (text : List ℕ) × IsTextOf (given_by input given) text
+    × Explains (shown_name input) text out.old out.new out.failed result × IfOk result (λ f. IsFindingOn f text)
+
+-- what `explain` read and told, if it ends so: nothing if the input gives no text
+abbrev pub IsExplained : InputName → Option (List ℕ) → Output → Result Finding TextFault → Type 0
+IsExplained input given out (Ok x) = ExplainsText input given out (Ok x)
+IsExplained input given out (Err (Input f)) = IsFaultOfInput input given (Input f) × IsKept out
+IsExplained input given out (Err (Unread name)) = IsFaultOfInput input given (Unread name) × IsKept out
+IsExplained input given out (Err (Run f)) = ⊥
+IsExplained input given out (Err (Explain f)) = ExplainsText input given out (Err f)
+IsExplained input given out (Err (Trace f)) = ⊥
+IsExplained input given out (Err (Check f)) = ⊥
+IsExplained input given out (Err (Print f)) = ⊥
+
 -- the run of the text of the input was shown
-abbrev pub TracesText : TraceChoice → Option (List ℕ) → Output → Result (Unit {0}) RunFault → Type 0
+abbrev pub TracesText : TraceChoice → Option (List ℕ) → Output → Result (Unit {0}) TraceFault → Type 0
 TracesText t given out result =
     (text : List ℕ) × IsTextOf (given_by t.input given) text
     × ShowsRun text t.options t.format out.old out.new out.failed result
-    × IfErr result (λ f. IsRefusalOf f text)
+    × IfErr result (λ f. IsRefusalOfTrace f text)
 
 -- what `trace` read and showed, if it ends so: nothing if the input gives no text
 abbrev pub IsTraced : TraceChoice → Option (List ℕ) → Output → Result (Unit {0}) TextFault → Type 0
 IsTraced t given out (Ok x) = TracesText t given out (Ok x)
 IsTraced t given out (Err (Input f)) = IsFaultOfInput t.input given (Input f) × IsKept out
 IsTraced t given out (Err (Unread name)) = IsFaultOfInput t.input given (Unread name) × IsKept out
-IsTraced t given out (Err (Run f)) = TracesText t given out (Err f)
+IsTraced t given out (Err (Run f)) = ⊥
+IsTraced t given out (Err (Explain f)) = ⊥
+IsTraced t given out (Err (Trace f)) = TracesText t given out (Err f)
 IsTraced t given out (Err (Check f)) = ⊥
 IsTraced t given out (Err (Print f)) = ⊥
 
@@ -206,11 +240,19 @@ Tells done err status (Err f) = ShowsLine (fault_line f) (fault_status f) status
 abbrev pub no_finding : Unit {0} → ℕ
 no_finding x = 0
 
+-- the status of what is told of a text: 1 if it is refused
+abbrev pub explained_status : Finding → ℕ
+explained_status NothingWrong = 0
+explained_status Refused = 1
+
 -- the program ends as the subcommand does
 abbrev pub EndsAs : Subcommand → Option (List ℕ) → Output → Output → ℕ → Type 0
 EndsAs (subcommand.Run r) given out err status =
     (outcome : Result Findings TextFault) × Executes r given out outcome
     × Tells (found_status r.fail_on) err status outcome
+EndsAs (subcommand.Explain input) given out err status =
+    (outcome : Result Finding TextFault) × IsExplained input given out outcome
+    × Tells explained_status err status outcome
 EndsAs (subcommand.Trace t) given out err status =
     (outcome : Result (Unit {0}) TextFault) × IsTraced t given out outcome × Tells no_finding err status outcome
 EndsAs (subcommand.Check c) given out err status =
@@ -242,13 +284,19 @@ abbrev pub Traces : List Text → Option (List ℕ) → Output → Type 0
 Traces words given out =
     (t : TraceChoice) × Chooses words (subcommand.Trace t) × TracesText t given out (Ok tt)
 
+-- an explanation went out, and it says so of the text
+abbrev pub ExplainsAs : Finding → List Text → Option (List ℕ) → Output → Type 0
+ExplainsAs f words given out =
+    (input : InputName) × Chooses words (subcommand.Explain input) × ExplainsText input given out (Ok f)
+
 -- what status 0 says: the report of the text that was read went out, and it has no finding at which the status is to
--- tell; or the run of the text was shown; or the schedule that was read is an execution of the
+-- tell; or nothing is wrong with the text; or its run was shown; or the schedule that was read is an execution of the
 -- text's system; or the text went out laid out anew; or a text for which the words ask
 abbrev pub IsDone : List Text → Option (List ℕ) → Output → Type 0
 IsDone words given out =
     Reports words given out 0
+    ⊎ (ExplainsAs NothingWrong words given out
     ⊎ (Traces words given out
     ⊎ (((c : CheckChoice) × Chooses words (subcommand.Check c) × ChecksSchedule c given out (Ok tt))
     ⊎ (((input : InputName) × Chooses words (subcommand.Print input) × PrintsText (given_by input given) out (Ok tt))
-    ⊎ (AsksForText words × ShowsText out))))
+    ⊎ (AsksForText words × ShowsText out)))))

@@ -17,6 +17,7 @@ use Rattle.clap.specs.declared.error.kind.ErrorKind.TheVariants.{OutOfMemory, Va
 use Rattle.ioa_record.specs.declared.options.TheConstants.{GREATEST_WORKERS, GREATEST_STEPS, GREATEST_ATTEMPTS}
 use Rattle.ioa_record.specs.declared.options.TheConstants.{DEFAULT_WORKERS}
 use Rattle.ioa_pipeline.specs.declared.tracing.Format.{Format}
+use Rattle.ioa_pipeline.specs.declared.tracing.Format.TheVariants as format
 use Rattle.ioa_pipeline.specs.declared.tracing.Format.TheVariants.{Json, States, Diagram, Sequence}
 use Rattle.ioa_record.specs.Options.{PlainOptions}
 use Rattle.ioa_monitor.specs.declared.findings.Findings.{Findings}
@@ -26,7 +27,7 @@ use Rattle.ioa_command.specs.declared.choice.RunChoice.{RunChoice}
 use Rattle.ioa_command.specs.declared.choice.TraceChoice.{TraceChoice}
 use Rattle.ioa_command.specs.declared.choice.CheckChoice.{CheckChoice}
 use Rattle.ioa_command.specs.declared.choice.Subcommand.{Subcommand}
-use Rattle.ioa_command.specs.declared.choice.Subcommand.TheVariants.{Run, Trace, Check, Print}
+use Rattle.ioa_command.specs.declared.choice.Subcommand.TheVariants.{Run, Explain, Trace, Check, Print}
 use Rattle.ioa_command.specs.FailOn.{findings_named, no_findings}
 
 -- `--name N`, a number that a parser takes; if it is not given, another text is read in its place
@@ -60,6 +61,10 @@ run_app =
     attempts_rule)
     fail_on_rule
 
+-- `explain FILE`
+abbrev pub explain_app : App
+explain_app = with_rule (new_app (codes "explain")) (word_rule (codes "file"))
+
 -- `--format NAME`
 abbrev pub format_rule : Rule
 format_rule = record (new_rule (codes "format")) { long = Some (codes "format"); value_names = 1 }
@@ -86,9 +91,11 @@ program_app =
     (with_subcommand
     (with_subcommand
     (with_subcommand
+    (with_subcommand
     (on_top (λ s. record s { has_version = true; subcommand_required = true; arg_required_else_help = true })
     (new_app (codes "ioarun")))
     run_app.top)
+    explain_app.top)
     trace_app.top)
     check_app.top)
     print_app.top
@@ -125,14 +132,15 @@ findings_given (Some names) = findings_named names
 -- the format of a name; nothing if there is none
 abbrev pub format_named : Text → Option Format
 format_named name =
-    if bytes_eq name (codes "json") then Some Json
+    if bytes_eq name (codes "text") then Some format.Text
+    else (if bytes_eq name (codes "json") then Some Json
     else (if bytes_eq name (codes "itf") then Some States
     else (if bytes_eq name (codes "svg") then Some Diagram
-    else (if bytes_eq name (codes "mermaid") then Some Sequence else None)))
+    else (if bytes_eq name (codes "mermaid") then Some Sequence else None))))
 
--- the format that a word names: JSON if it is left out
+-- the format that a word names: text if it is left out
 abbrev pub format_given : Option Text → Option Format
-format_given None = Some Json
+format_given None = Some format.Text
 format_given (Some name) = format_named name
 
 -- options of one worker, with two numbers
@@ -162,6 +170,8 @@ pub record IsCheckOf (rows : List Row) (c : CheckChoice) : Type 0 where
 abbrev pub IsChosenBy : Option (Text × List Row) → Subcommand → Type 0
 IsChosenBy None choice = ⊥
 IsChosenBy (Some (name, rows)) (Run r) = (name ≡ codes "run") × IsRunOf rows r
+IsChosenBy (Some (name, rows)) (Explain input) =
+    (name ≡ codes "explain") × (name_of input ≡ input_given (first_of (codes "file") rows))
 IsChosenBy (Some (name, rows)) (Trace t) = (name ≡ codes "trace") × IsTraceOf rows t
 IsChosenBy (Some (name, rows)) (Check c) = (name ≡ codes "check") × IsCheckOf rows c
 IsChosenBy (Some (name, rows)) (Print input) =

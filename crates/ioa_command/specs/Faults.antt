@@ -3,7 +3,12 @@ use Rattle.std.specs.Prelude.{ℕ, List, ◌++◌, codes, string_bytes}
 use Rattle.ioa_streams.specs.Input.{input_fault_text}
 use Rattle.ioa_streams.specs.declared.input.InputFault.{InputFault}
 use Rattle.ioa_streams.specs.declared.input.InputFault.TheVariants as input
+use Rattle.ioa_explain.specs.Faults.{explain_fault_text}
+use Rattle.ioa_explain.specs.declared.fault.ExplainFault.{ExplainFault}
+use Rattle.ioa_explain.specs.declared.fault.ExplainFault.TheVariants as explain
 use Rattle.ioa_pipeline.specs.Printing.{print_fault_text}
+use Rattle.ioa_pipeline.specs.declared.tracing.TraceFault.{TraceFault}
+use Rattle.ioa_pipeline.specs.declared.tracing.TraceFault.TheVariants as trace
 use Rattle.ioa_pipeline.specs.WholeRun.{run_fault_text}
 use Rattle.ioa_pipeline.specs.ScheduleChecks.{check_schedule_fault_text}
 use Rattle.ioa_pipeline.specs.declared.printing.PrintFault.{PrintFault}
@@ -13,7 +18,7 @@ use Rattle.ioa_pipeline.specs.declared.whole_run.RunFault.TheVariants as run
 use Rattle.ioa_pipeline.specs.declared.schedule_check.CheckScheduleFault.{CheckScheduleFault}
 use Rattle.ioa_pipeline.specs.declared.schedule_check.CheckScheduleFault.TheVariants as check
 use Rattle.ioa_command.specs.declared.faults.TextFault.{TextFault}
-use Rattle.ioa_command.specs.declared.faults.TextFault.TheVariants.{Input, Unread, Run, Check, Print}
+use Rattle.ioa_command.specs.declared.faults.TextFault.TheVariants.{Input, Unread, Run, Explain, Trace, Check, Print}
 
 -- 1 if the input is refused, and 3 if memory or reading failed
 abbrev pub input_status : InputFault → ℕ
@@ -73,6 +78,21 @@ print_line (print.Front f) = codes "refused " ++ print_fault_text (print.Front f
 print_line print.Memory = codes "refused " ++ print_fault_text print.Memory
 print_line print.Write = codes "failed " ++ print_fault_text print.Write
 
+-- that of the run, and 3 if the run that is told is not that of the record
+abbrev pub trace_status : TraceFault → ℕ
+trace_status (trace.Run f) = run_status f
+trace_status trace.Differs = 3
+
+-- the line of a run that was not shown
+abbrev pub trace_line : TraceFault → List ℕ
+trace_line (trace.Run f) = run_line f
+trace_line trace.Differs = codes "refused 51 Differs"
+
+-- the line if it was not told what is wrong with a text: a write has `failed`, want of memory is `refused`
+abbrev pub explain_line : ExplainFault → List ℕ
+explain_line explain.Memory = codes "refused " ++ explain_fault_text explain.Memory
+explain_line explain.Write = codes "failed " ++ explain_fault_text explain.Write
+
 -- the line of a file that can't be read, by its name
 abbrev pub unread_line : List ℕ → List ℕ
 unread_line name = codes "failed 70 Read " ++ name
@@ -82,6 +102,8 @@ abbrev pub fault_status : TextFault → ℕ
 fault_status (Input f) = input_status f
 fault_status (Unread name) = 3
 fault_status (Run f) = run_status f
+fault_status (Explain f) = 3
+fault_status (Trace f) = trace_status f
 fault_status (Check f) = check_status f
 fault_status (Print f) = print_status f
 
@@ -89,5 +111,7 @@ abbrev pub fault_line : TextFault → List ℕ
 fault_line (Input f) = input_line f
 fault_line (Unread name) = unread_line (string_bytes name)
 fault_line (Run f) = run_line f
+fault_line (Explain f) = explain_line f
+fault_line (Trace f) = trace_line f
 fault_line (Check f) = check_line f
 fault_line (Print f) = print_line f

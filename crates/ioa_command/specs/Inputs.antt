@@ -1,5 +1,5 @@
 -- Texts that are read from a file or from standard input (profile).
-use Rattle.std.specs.Prelude.{◌≡◌, ◌≤◌, ⊤, ℕ, List, length, Option, None, IfSome, string_bytes}
+use Rattle.std.specs.Prelude.{◌≡◌, ◌≤◌, ⊤, ℕ, List, length, Option, None, IfSome, codes, string_bytes}
 use Rattle.std.specs.Str.{IsUtf8}
 use Rattle.ioa_streams.specs.declared.input.TheConstants.{INPUT_LIMIT}
 use Rattle.ioa_streams.specs.declared.input.InputFault.TheVariants.{Read}
@@ -8,6 +8,11 @@ use Rattle.ioa_command.specs.declared.choice.InputName.{InputName}
 use Rattle.ioa_command.specs.declared.choice.InputName.TheVariants.{Standard, File}
 use Rattle.ioa_command.specs.declared.faults.TextFault.{TextFault}
 use Rattle.ioa_command.specs.declared.faults.TextFault.TheVariants as fault
+
+-- the name of an input as it is shown
+abbrev pub shown_name : InputName → List ℕ
+shown_name Standard = codes "-"
+shown_name (File name) = string_bytes name
 
 -- what is known of the bytes of an input, if so much is known of standard input: nothing is known of a file
 abbrev pub given_by : InputName → Option (List ℕ) → Option (List ℕ)
@@ -37,6 +42,8 @@ abbrev pub IsFaultOfFile : List ℕ → TextFault → Type 0
 IsFaultOfFile name (fault.Input f) = f ≡ Read → ⊥
 IsFaultOfFile name (fault.Unread of) = string_bytes of ≡ name
 IsFaultOfFile name (fault.Run f) = ⊥
+IsFaultOfFile name (fault.Explain f) = ⊥
+IsFaultOfFile name (fault.Trace f) = ⊥
 IsFaultOfFile name (fault.Check f) = ⊥
 IsFaultOfFile name (fault.Print f) = ⊥
 
@@ -45,6 +52,8 @@ abbrev pub IsFaultOfStandard : Option (List ℕ) → TextFault → Type 0
 IsFaultOfStandard given (fault.Input f) = IfSome given (IsFaultOf f)
 IsFaultOfStandard given (fault.Unread of) = ⊥
 IsFaultOfStandard given (fault.Run f) = ⊥
+IsFaultOfStandard given (fault.Explain f) = ⊥
+IsFaultOfStandard given (fault.Trace f) = ⊥
 IsFaultOfStandard given (fault.Check f) = ⊥
 IsFaultOfStandard given (fault.Print f) = ⊥
 

@@ -48,6 +48,8 @@ pub struct CheckChoice {
 pub enum Subcommand {
     /// `run`: run the system of a text, and write the report.
     Run(RunChoice),
+    /// `explain`: tell people what is wrong with a text.
+    Explain(InputName),
     /// `trace`: run the system of a text, and show the run step by step, or as a picture.
     Trace(TraceChoice),
     /// `check`: say whether a schedule is an execution of a text's system.
@@ -80,7 +82,7 @@ impl ChoiceFault {
             ChoiceFault::FailOn => {
                 "--fail-on takes fault, spent and invariant: one of them, or several with commas between"
             }
-            ChoiceFault::Format => "--format takes json, itf, svg or mermaid",
+            ChoiceFault::Format => "--format takes text, json, itf, svg or mermaid",
             ChoiceFault::Twice => "only one of FILE and SCHEDULE can be standard input",
         }
     }

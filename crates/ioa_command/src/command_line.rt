@@ -9,17 +9,20 @@ ghost use Rattle.ioa_monitor.specs.declared.findings.Findings.{Findings};
 ghost use Rattle.ioa_command.specs.declared.faults.TextFault.{TextFault};
 ghost use Rattle.ioa_command.specs.Command.{Ends, EndsAs, Executes, Follows, IsChecked, IsCheckedBy, IsDone, Prints, Tells};
 ghost use Rattle.ioa_command.specs.Command.{Reports, Shows, ShowsAsked, ShowsLine, ShowsWords, found_status, no_finding, output};
-ghost use Rattle.ioa_command.specs.Command.{IsTraced, memory_line};
+ghost use Rattle.ioa_command.specs.Command.{ExplainsAs, IsExplained, IsTraced, explained_status, memory_line};
+ghost use Rattle.ioa_explain.specs.declared.explaining.Finding.{Finding};
+ghost use Rattle.ioa_explain.specs.declared.explaining.Finding.TheVariants.{Refused};
 ghost use Rattle.ioa_command.specs.Faults.{fault_line, fault_status};
 ghost use Rattle.ioa_command.specs.CommandLine.{words_status};
 
 use crate::choice::{CheckChoice, InputName, RunChoice, Subcommand, TraceChoice};
 use crate::fail_on::meet;
-use crate::faults::{FAILED, TextFault, fault_line, fault_status};
-use crate::inputs::text_of;
+use crate::faults::{FAILED, REFUSED, TextFault, fault_line, fault_status};
+use crate::inputs::{shown_name, text_of};
 use crate::words::options;
 use clap::Error;
 use clap::error::ErrorKind;
+use ioa_explain::{Finding, explain};
 use ioa_pipeline::{Findings, Open, check_text, print_text, run_system, trace_text};
 use ioa_streams::{Out, parts, put_all, schedule_part};
 use std::alloc::{AllocError, Global};
@@ -38,14 +41,15 @@ pub const BAD_WORDS: u8 = 2;
 const FOUND: u8 = 4;
 
 /// The program (profile): `words` are those of the command line, its own name first, and choose what it does. `run`
-/// reads a text, runs its system by workers in this runtime, and writes the report. `trace` reads a text, runs its system by one worker, and shows the run. `check` reads a text and a
-/// schedule, and says whether the schedule is an execution. `print` reads a text and writes it laid out anew. A text is read from
-/// the file that is named, else from `reader`. Returns the status: 0 if all was done, or if the help or the version for
-/// which the words ask was shown; 1 if the text or the schedule was refused; 2 if the words were refused; 3 if memory ran
-/// out, what several workers left could not be put together, or reading or writing failed; and 4 if the report was
-/// written and has what `--fail-on` names.
-/// If it is 1, 2 or 3, `err` says why; a fault of `err` is ignored. If there is no memory for what it has to say, the
-/// status is 3 and a line says so.
+/// reads a text, runs its system by workers in this runtime, and writes the report. `explain` reads a text and tells what
+/// is wrong with it. `trace` reads a text, runs its system by one worker, and shows the run. `check` reads a text and a
+/// schedule, and says whether the schedule is an execution. `print` reads a text and writes it laid out anew. A text is
+/// read from the file that is named, else from `reader`. Returns the status: 0 if all was done, or if the help or the
+/// version for which the words ask was shown; 1 if the text or the schedule was refused; 2 if the words were refused; 3
+/// if memory ran out, what several workers left could not be put together, or reading or writing failed; and 4 if the
+/// report was written and has what `--fail-on` names.
+/// If it is 1, 2 or 3, `err` says why, but where `explain` says it on `out`; a fault of `err` is ignored. If there is no
+/// memory for what it has to say, the status is 3 and a line says so.
 #[tactic(auto, using(crate::proofs::Endings::refused_of))]
 pub fn command<'a, R: Files + Threads + Wait + Sync, I: Read, O: Out, E: Out>(
     rt: &R,
@@ -63,7 +67,9 @@ pub fn command<'a, R: Files + Threads + Wait + Sync, I: Read, O: Out, E: Out>(
         (output (O.bytes out.old) (O.bytes out.new) (O.failed out.new)) }
     ensures found { result ≡ 4 → Reports (map (λ w. w.now) words.entry.now) (I.remaining reader.old)
         (output (O.bytes out.old) (O.bytes out.new) (O.failed out.new)) 4 }
-    ensures refused { (result ≡ 1) ⊎ (result ≡ 2) → Keeps (O.bytes out.old) (O.bytes out.new) }
+    ensures refused { (result ≡ 1) ⊎ (result ≡ 2) → Keeps (O.bytes out.old) (O.bytes out.new)
+        ⊎ ExplainsAs Refused (map (λ w. w.now) words.entry.now) (I.remaining reader.old)
+        (output (O.bytes out.old) (O.bytes out.new) (O.failed out.new)) }
     // of which fault the status and what is shown are
     ensures ends { Ends (map (λ w. w.now) words.entry.now) (I.remaining reader.old)
         (output (O.bytes out.old) (O.bytes out.new) (O.failed out.new))
@@ -110,6 +116,7 @@ fn obey<R: Files + Threads + Wait + Sync, I: Read, O: Out, E: Out>(
 {
     match subcommand {
         Subcommand::Run(choice) => run_text(rt, alloc, choice, reader, out, err),
+        Subcommand::Explain(input) => explain_text(rt, alloc, input, reader, out, err),
         Subcommand::Trace(choice) => show_run(rt, alloc, choice, reader, out, err),
         Subcommand::Check(choice) => check_lines(rt, alloc, choice, reader, out, err),
         Subcommand::Print(input) => print_again(rt, alloc, input, reader, out, err),
@@ -144,6 +151,38 @@ fn found_status(fail_on: &Findings, found: &Findings) -> u8
     ensures { result ≡ found_status fail_on.now found.now }
 {
     if meet(fail_on, found) { FOUND } else { DONE }
+}
+
+/// Tells what is wrong with a text, and of a fault.
+fn explain_text<R: Files, I: Read, O: Out, E: Out>(
+    rt: &R,
+    alloc: Global,
+    input: &InputName,
+    reader: &mut I,
+    out: &mut O,
+    err: &mut E,
+) -> u8
+    requires out { O.failed out.old ≡ false }
+    requires err { E.failed err.old ≡ false }
+    ensures { (outcome : Result Finding TextFault) × IsExplained input.now (I.remaining reader.old)
+        (output (O.bytes out.old) (O.bytes out.new) (O.failed out.new)) outcome
+        × Tells explained_status (output (E.bytes err.old) (E.bytes err.new) (E.failed err.new)) result outcome }
+{
+    let outcome = explain_from(rt, alloc, input, reader, out);
+    match &outcome {
+        Ok(finding) => explained_status(*finding),
+        Err(fault) => tell_fault(alloc, fault, err),
+    }
+}
+
+/// The status of what is told of a text.
+fn explained_status(finding: Finding) -> u8
+    ensures { result ≡ explained_status finding }
+{
+    match finding {
+        Finding::NothingWrong => DONE,
+        Finding::Refused => REFUSED,
+    }
 }
 
 /// Shows the run of a text, and tells of a fault.
@@ -243,6 +282,26 @@ fn execute<R: Files + Threads + Wait + Sync, I: Read, O: Out>(
     }
 }
 
+/// Reads a text and tells what is wrong with it.
+#[tactic(auto, using(crate::proofs::Readings::explain_rules))]
+fn explain_from<R: Files, I: Read, O: Out>(
+    rt: &R,
+    alloc: Global,
+    input: &InputName,
+    reader: &mut I,
+    out: &mut O,
+) -> Result<Finding, TextFault>
+    requires { O.failed out.old ≡ false }
+    ensures { IsExplained input.now (I.remaining reader.old)
+        (output (O.bytes out.old) (O.bytes out.new) (O.failed out.new)) result }
+{
+    let text = text_of(rt, alloc, input, reader)?;
+    match explain(alloc, shown_name(input), text.as_str(), out) {
+        Ok(finding) => Ok(finding),
+        Err(fault) => Err(TextFault::Explain(fault)),
+    }
+}
+
 /// Reads a text and shows its run.
 #[tactic(auto, using(crate::proofs::Readings::traces_unread))]
 fn trace_from<R: Files + Threads + Wait + Sync, I: Read, O: Out>(
@@ -265,7 +324,7 @@ fn trace_from<R: Files + Threads + Wait + Sync, I: Read, O: Out>(
         choice.format,
         out,
     )
-    .map_err(TextFault::Run)
+    .map_err(TextFault::Trace)
 }
 
 /// Reads a text and a schedule, and says whether the schedule is an execution of the text's system.

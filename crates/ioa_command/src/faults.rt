@@ -4,12 +4,13 @@ ghost use Rattle.std.specs.Prelude.{◌≡◌, ◌++◌, codes, IfOk};
 ghost use Rattle.std.specs.String.{string_bytes};
 ghost use Rattle.ioa_command.specs.Faults as spec;
 
-use ioa_pipeline::{CheckScheduleFault, PrintFault, RunFault};
+use ioa_explain::ExplainFault;
+use ioa_pipeline::{CheckScheduleFault, PrintFault, RunFault, TraceFault};
 use ioa_streams::InputFault;
 use std::alloc::{AllocError, Global};
 
 /// The status if the text was refused.
-const REFUSED: u8 = 1;
+pub(crate) const REFUSED: u8 = 1;
 
 /// The status if memory, finishing, reading or writing failed.
 pub const FAILED: u8 = 3;
@@ -21,8 +22,12 @@ pub(crate) enum TextFault {
     Input(InputFault),
     /// The file of this name can't be read.
     Unread(String),
-    /// The text gave no report, or its run was not shown.
+    /// The text gave no report.
     Run(RunFault),
+    /// It was not told what is wrong with the text.
+    Explain(ExplainFault),
+    /// The run of the text was not shown.
+    Trace(TraceFault),
     /// The schedule is not said to be an execution.
     Check(CheckScheduleFault),
     /// The text was not laid out anew.
@@ -37,6 +42,8 @@ pub(crate) fn fault_status(fault: &TextFault) -> u8
         TextFault::Input(fault) => input_status(fault),
         TextFault::Unread(_) => FAILED,
         TextFault::Run(fault) => run_status(fault),
+        TextFault::Explain(_) => FAILED,
+        TextFault::Trace(fault) => trace_status(fault),
         TextFault::Check(fault) => check_status(fault),
         TextFault::Print(fault) => print_status(fault),
     }
@@ -59,6 +66,16 @@ fn run_status(fault: &RunFault) -> u8
     match fault {
         RunFault::Front(_) | RunFault::Check(_) => REFUSED,
         RunFault::Finish(_) | RunFault::Memory | RunFault::Write => FAILED,
+    }
+}
+
+/// The status if the run of the text was not shown.
+fn trace_status(fault: &TraceFault) -> u8
+    ensures { result ≡ spec.trace_status fault.now }
+{
+    match fault {
+        TraceFault::Run(fault) => run_status(fault),
+        TraceFault::Differs => FAILED,
     }
 }
 
@@ -92,6 +109,8 @@ pub(crate) fn fault_line(alloc: Global, fault: &TextFault) -> Result<String, All
         TextFault::Input(fault) => input_line(alloc, fault),
         TextFault::Unread(name) => unread_line(alloc, name),
         TextFault::Run(fault) => run_line(alloc, fault),
+        TextFault::Explain(fault) => explain_line(alloc, fault),
+        TextFault::Trace(fault) => trace_line(alloc, fault),
         TextFault::Check(fault) => check_line(alloc, fault),
         TextFault::Print(fault) => print_line(alloc, fault),
     }
@@ -125,6 +144,26 @@ fn run_line(alloc: Global, fault: &RunFault) -> Result<String, AllocError>
             format!(in alloc; "refused {fault}\n")
         }
         RunFault::Write => format!(in alloc; "failed {fault}\n"),
+    }
+}
+
+/// The line if it was not told what is wrong with a text.
+fn explain_line(alloc: Global, fault: &ExplainFault) -> Result<String, AllocError>
+    ensures { IfOk result (λ s. string_bytes s ≡ spec.explain_line fault.now ++ codes "\n") }
+{
+    match fault {
+        ExplainFault::Memory => format!(in alloc; "refused {fault}\n"),
+        ExplainFault::Write => format!(in alloc; "failed {fault}\n"),
+    }
+}
+
+/// The line of a run that was not shown.
+fn trace_line(alloc: Global, fault: &TraceFault) -> Result<String, AllocError>
+    ensures { IfOk result (λ s. string_bytes s ≡ spec.trace_line fault.now ++ codes "\n") }
+{
+    match fault {
+        TraceFault::Run(fault) => run_line(alloc, fault),
+        TraceFault::Differs => format!(in alloc; "refused 51 Differs\n"),
     }
 }
 

@@ -9,7 +9,9 @@ use ioa_pipeline::Format;
 pub(crate) fn format_named(name: &str) -> Option<Format>
     ensures { result ≡ spec.format_named name.now }
 {
-    if name == "json" {
+    if name == "text" {
+        Some(Format::Text)
+    } else if name == "json" {
         Some(Format::Json)
     } else if name == "itf" {
         Some(Format::States)

@@ -2,7 +2,7 @@
 
 ghost use Rattle.std.specs.Prelude.{◌≡◌, IfErr, IfOk, None, string_bytes};
 ghost use Rattle.ioa_command.specs.Inputs.{IsFaultOfFile, IsFaultOfInput, IsFaultOfStandard};
-ghost use Rattle.ioa_command.specs.Inputs.{IsTextOf, KeepsStandard, given_by};
+ghost use Rattle.ioa_command.specs.Inputs.{IsTextOf, KeepsStandard, given_by, shown_name};
 
 use crate::choice::InputName;
 use crate::faults::TextFault;
@@ -26,6 +26,16 @@ pub(crate) fn text_of<R: Files, I: Read>(
     match input {
         InputName::Standard => text_of_standard(alloc, reader),
         InputName::File(name) => text_of_file(rt, alloc, name),
+    }
+}
+
+/// The name of an input as it is shown.
+pub(crate) fn shown_name(input: &InputName) -> &str
+    ensures { result.now ≡ shown_name input.now }
+{
+    match input {
+        InputName::Standard => "-",
+        InputName::File(name) => name.as_str(),
     }
 }
 

@@ -8,7 +8,7 @@ ghost use Rattle.clap.specs.Words.{rule_of, app_of, subcommand_rows_of};
 ghost use Rattle.clap.specs.declared.builder.command.Command.TheViews.{out-Command};
 ghost use Rattle.clap.specs.declared.builder.value_parser.ValueParser.TheVariants.{Unsigned};
 ghost use Rattle.ioa_command.specs.CommandLine.{number_rule, word_rule, workers_rule, steps_rule, attempts_rule};
-ghost use Rattle.ioa_command.specs.CommandLine.{check_app, print_app, run_app, trace_app, program_app};
+ghost use Rattle.ioa_command.specs.CommandLine.{check_app, explain_app, print_app, run_app, trace_app, program_app};
 ghost use Rattle.ioa_command.specs.CommandLine.{fail_on_rule, format_rule};
 ghost use Rattle.ioa_command.specs.CommandLine.{Chooses, IsCheckOf, IsChosenBy, IsErrorOf, IsNumberOf, IsRunOf, IsTraceOf};
 ghost use Rattle.ioa_command.specs.CommandLine as spec;
@@ -37,14 +37,15 @@ is named, or if the name is `-`. `ioarun help run` says more of `run`, and so on
 Statuses:
   0  all was done, or this help was asked for
   1  the text or the schedule was refused: one line on standard error has the number, the name and
-     the place
+     the place (`explain` says more, on standard output)
   2  these words were refused
   3  memory ran out, or finishing, reading or writing failed
   4  the report was written, and has what `--fail-on` names
 
 Examples:
   ioarun run examples/relay.ioa
-  ioarun trace --format svg examples/relay3.ioa > relay3.svg
+  ioarun explain examples/refused/missing_colon.ioa
+  ioarun trace examples/missed.ioa
   ioarun run examples/relay.ioa | ioarun check examples/relay.ioa -
   ioarun print examples/relay.ioa";
 
@@ -56,14 +57,23 @@ and which invariants held. With several workers the schedule may be another each
 Example:
   ioarun run examples/two_holders.ioa --fail-on fault,invariant";
 
+/// What is shown at the end of the help of `explain`.
+const EXPLAIN_EXAMPLE: &str = "\
+It shows the line and the part of it that is refused, what the refusal asks for, and what could stand
+there. The number is that with which `ioarun run` refuses the text.
+
+Example:
+  ioarun explain examples/refused/missing_colon.ioa";
+
 /// What is shown at the end of the help of `trace`.
 const TRACE_EXAMPLE: &str = "\
-The run is that of `ioarun run` with the same options. `json` is an object a line for each action, with
-what it changed; `itf` the states in the informal trace format, which viewers of model checkers read;
-`svg` a space-time diagram; `mermaid` a sequence diagram.
+The run is that of `ioarun run` with the same options. As text, each action stands with what it
+changed, and each fire that was missed with the reason. The other formats are for programs and viewers:
+`json` is an object a line for each action; `itf` the states in the informal trace format, which viewers
+of model checkers read; `svg` a space-time diagram; `mermaid` a sequence diagram.
 
 Examples:
-  ioarun trace examples/relay3.ioa
+  ioarun trace examples/missed.ioa
   ioarun trace --format svg examples/relay3.ioa > relay3.svg";
 
 /// What is shown at the end of the help of `check`.
@@ -112,17 +122,23 @@ fn program<'a>(alloc: Global) -> Result<Command<'a>, AllocError>
         .subcommand_required(true)
         .arg_required_else_help(true)
         .subcommand(run(alloc)?)?;
-    let command = with_trace(alloc, command)?;
+    let command = with_explain_and_trace(alloc, command)?;
     with_check_and_print(alloc, command)
 }
 
-/// The command line with the subcommand `trace`.
-fn with_trace<'a>(alloc: Global, command: Command<'a>) -> Result<Command<'a>, AllocError>
+/// The command line with the subcommands `explain` and `trace`.
+fn with_explain_and_trace<'a>(
+    alloc: Global,
+    command: Command<'a>,
+) -> Result<Command<'a>, AllocError>
     requires { (out-Command command).has_globals ≡ false }
-    ensures { IfOk result (λ c. (app_of c ≡ with_subcommand (app_of command.entry) trace_app.top)
+    ensures { IfOk result (λ c. (app_of c
+        ≡ with_subcommand (with_subcommand (app_of command.entry) explain_app.top) trace_app.top)
         × ((out-Command c).has_globals ≡ false)) }
 {
-    command.subcommand(trace(alloc)?)
+    command
+        .subcommand(explain(alloc)?)?
+        .subcommand(trace(alloc)?)
 }
 
 /// The command line with the subcommands `check` and `print`.
@@ -156,6 +172,16 @@ fn with_limits<'a>(alloc: Global, command: Command<'a>) -> Result<Command<'a>, A
     command
         .arg(steps_option(alloc))?
         .arg(attempts_option(alloc))
+}
+
+/// The subcommand `explain`.
+fn explain<'a>(alloc: Global) -> Result<Command<'a>, AllocError>
+    ensures { IfOk result (λ c. (app_of c ≡ explain_app) × ((out-Command c).has_globals ≡ false)) }
+{
+    Command::new(alloc, "explain")
+        .about("Tells what is wrong with a text, and where")
+        .after_help(EXPLAIN_EXAMPLE)
+        .arg(file_word(alloc))
 }
 
 /// The subcommand `trace`.
@@ -200,7 +226,7 @@ fn format_option<'a>(alloc: Global) -> Arg<'a>
     Arg::new(alloc, "format")
         .long("format")
         .value_name("NAME")
-        .help("How the run is shown: json, which is the default, itf, svg or mermaid")
+        .help("How the run is shown: text, which is the default, json, itf, svg or mermaid")
 }
 
 /// `FILE`.
@@ -304,6 +330,8 @@ fn choice_of(alloc: Global, matches: &ArgMatches<'_>) -> Result<Subcommand, Choi
     };
     if name == "run" {
         Ok(Subcommand::Run(run_choice(alloc, found)?))
+    } else if name == "explain" {
+        Ok(Subcommand::Explain(input_given(alloc, found)?))
     } else if name == "trace" {
         Ok(Subcommand::Trace(trace_choice(alloc, found)?))
     } else if name == "check" {
@@ -375,7 +403,7 @@ fn format_given(matches: &ArgMatches<'_>) -> Option<Format>
     ensures { result ≡ spec.format_given (first_of (codes "format") (rows_of (found_of matches.now))) }
 {
     match word_given(matches, "format") {
-        None => Some(Format::Json),
+        None => Some(Format::Text),
         Some(name) => format_named(name),
     }
 }

@@ -2,3 +2,4 @@
 pub mod Refusals
 pub mod Reported
 pub mod Shown
+pub mod Tellings

@@ -15,64 +15,68 @@ use Rattle.ioa_pipeline.specs.declared.whole_run.RunFault.{RunFault}
 use Rattle.ioa_pipeline.specs.declared.whole_run.RunFault.TheVariants as run
 use Rattle.ioa_pipeline.specs.declared.tracing.Format.{Format}
 use Rattle.ioa_pipeline.specs.declared.tracing.Format.TheVariants as format
-use Rattle.ioa_pipeline.specs.Tracing.{ShowsLeft, ShowsRun, shown}
+use Rattle.ioa_pipeline.specs.declared.tracing.TraceFault.{TraceFault}
+use Rattle.ioa_pipeline.specs.declared.tracing.TraceFault.TheVariants.{Run, Differs}
+use Rattle.ioa_pipeline.specs.Tracing.{IsRefusalOfTrace, ShowsLeft, ShowsRun, shown}
 
 -- what a picture puts out is how its format is shown
-pub steps_shown : (s : SystemParts) (left : Record) (old new : Option (List ℕ)) (failed : Bool)
+pub steps_shown : (s : SystemParts) (left : Record) (endings : List Ending) (old new : Option (List ℕ)) (failed : Bool)
     (r : Result (Unit {0}) ReportFault) → PutsLines old new failed r
-    → ShowsLeft s left format.Json old new failed (shown r)
-steps_shown s left old new failed (Ok x) h = h
-steps_shown s left old new failed (Err report.Memory) h = tt
-steps_shown s left old new failed (Err report.Write) h = tt
+    → ShowsLeft s left endings format.Json old new failed (shown r)
+steps_shown s left endings old new failed (Ok x) h = h
+steps_shown s left endings old new failed (Err report.Memory) h = tt
+steps_shown s left endings old new failed (Err report.Write) h = tt
 
-pub states_shown : (s : SystemParts) (left : Record) (old new : Option (List ℕ)) (failed : Bool)
+pub states_shown : (s : SystemParts) (left : Record) (endings : List Ending) (old new : Option (List ℕ)) (failed : Bool)
     (r : Result (Unit {0}) ReportFault) → PutsStates (states_text s left.schedule) old new failed r
-    → ShowsLeft s left format.States old new failed (shown r)
-states_shown s left old new failed (Ok x) h = h
-states_shown s left old new failed (Err report.Memory) h = tt
-states_shown s left old new failed (Err report.Write) h = tt
+    → ShowsLeft s left endings format.States old new failed (shown r)
+states_shown s left endings old new failed (Ok x) h = h
+states_shown s left endings old new failed (Err report.Memory) h = tt
+states_shown s left endings old new failed (Err report.Write) h = tt
 
-pub diagram_shown : (s : SystemParts) (left : Record) (old new : Option (List ℕ)) (failed : Bool)
+pub diagram_shown : (s : SystemParts) (left : Record) (endings : List Ending) (old new : Option (List ℕ)) (failed : Bool)
     (r : Result (Unit {0}) ReportFault) → PutsSome old new failed r
-    → ShowsLeft s left format.Diagram old new failed (shown r)
-diagram_shown s left old new failed (Ok x) h = h
-diagram_shown s left old new failed (Err report.Memory) h = tt
-diagram_shown s left old new failed (Err report.Write) h = tt
+    → ShowsLeft s left endings format.Diagram old new failed (shown r)
+diagram_shown s left endings old new failed (Ok x) h = h
+diagram_shown s left endings old new failed (Err report.Memory) h = tt
+diagram_shown s left endings old new failed (Err report.Write) h = tt
 
-pub sequence_shown : (s : SystemParts) (left : Record) (old new : Option (List ℕ)) (failed : Bool)
+pub sequence_shown : (s : SystemParts) (left : Record) (endings : List Ending) (old new : Option (List ℕ)) (failed : Bool)
     (r : Result (Unit {0}) ReportFault) → PutsSequence s left.schedule old new failed r
-    → ShowsLeft s left format.Sequence old new failed (shown r)
-sequence_shown s left old new failed (Ok x) h = h
-sequence_shown s left old new failed (Err report.Memory) h = tt
-sequence_shown s left old new failed (Err report.Write) h = tt
+    → ShowsLeft s left endings format.Sequence old new failed (shown r)
+sequence_shown s left endings old new failed (Ok x) h = h
+sequence_shown s left endings old new failed (Err report.Memory) h = tt
+sequence_shown s left endings old new failed (Err report.Write) h = tt
 
 -- a run that is shown is that of the text
 pub run_shown : (text : List ℕ) (options : PlainOptions) (s : SystemParts) (left : Record) (endings : List Ending)
-    (f : Format) (old new : Option (List ℕ)) (failed : Bool) (r : Result (Unit {0}) RunFault)
-    → IsLeftBy text options s left endings → ShowsLeft s left f old new failed r
+    (f : Format) (old new : Option (List ℕ)) (failed : Bool) (r : Result (Unit {0}) TraceFault)
+    → IsLeftBy text options s left endings → ShowsLeft s left endings f old new failed r
     → ShowsRun text options f old new failed r
 run_shown text options s left endings f old new failed (Ok x) is h =
     record { parts = s; left = left; endings = endings; run = is; shown = h }
-run_shown text options s left endings f old new failed (Err (run.Front e)) is h = absurd h
-run_shown text options s left endings f old new failed (Err (run.Check e)) is h = absurd h
-run_shown text options s left endings f old new failed (Err (run.Finish e)) is h = absurd h
-run_shown text options s left endings f old new failed (Err run.Memory) is h = tt
-run_shown text options s left endings f old new failed (Err run.Write) is h = tt
+run_shown text options s left endings f old new failed (Err (Run (run.Front e))) is h = absurd h
+run_shown text options s left endings f old new failed (Err (Run (run.Check e))) is h = absurd h
+run_shown text options s left endings f old new failed (Err (Run (run.Finish e))) is h = absurd h
+run_shown text options s left endings f old new failed (Err (Run run.Memory)) is h = tt
+run_shown text options s left endings f old new failed (Err (Run run.Write)) is h = tt
+run_shown text options s left endings f old new failed (Err Differs) is h = tt
 
 -- and its faults say nothing of the text
-pub late_trace : (text : List ℕ) (s : SystemParts) (left : Record) (f : Format) (old new : Option (List ℕ))
-    (failed : Bool) (r : Result (Unit {0}) RunFault) → ShowsLeft s left f old new failed r
-    → IfErr r (λ e. IsRefusalOf e text)
-late_trace text s left f old new failed (Ok x) h = tt
-late_trace text s left f old new failed (Err (run.Front e)) h = absurd h
-late_trace text s left f old new failed (Err (run.Check e)) h = absurd h
-late_trace text s left f old new failed (Err (run.Finish e)) h = absurd h
-late_trace text s left f old new failed (Err run.Memory) h = tt
-late_trace text s left f old new failed (Err run.Write) h = tt
+pub late_trace : (text : List ℕ) (s : SystemParts) (left : Record) (endings : List Ending) (f : Format) (old new : Option (List ℕ))
+    (failed : Bool) (r : Result (Unit {0}) TraceFault) → ShowsLeft s left endings f old new failed r
+    → IfErr r (λ e. IsRefusalOfTrace e text)
+late_trace text s left endings f old new failed (Ok x) h = tt
+late_trace text s left endings f old new failed (Err (Run (run.Front e))) h = absurd h
+late_trace text s left endings f old new failed (Err (Run (run.Check e))) h = absurd h
+late_trace text s left endings f old new failed (Err (Run (run.Finish e))) h = absurd h
+late_trace text s left endings f old new failed (Err (Run run.Memory)) h = tt
+late_trace text s left endings f old new failed (Err (Run run.Write)) h = tt
+late_trace text s left endings f old new failed (Err Differs) h = tt
 
 -- before a fault of the run nothing went out
 pub early_shown : (text : List ℕ) (options : PlainOptions) (f : Format) (old new : Option (List ℕ)) (failed : Bool)
-    (e : RunFault) → IsEarly e → failed ≡ false → Keeps old new → ShowsRun text options f old new failed (Err e)
+    (e : RunFault) → IsEarly e → failed ≡ false → Keeps old new → ShowsRun text options f old new failed (Err (Run e))
 early_shown text options f old new failed (run.Front e) early well kept = (well, kept)
 early_shown text options f old new failed (run.Check e) early well kept = (well, kept)
 early_shown text options f old new failed (run.Finish e) early well kept = (well, kept)

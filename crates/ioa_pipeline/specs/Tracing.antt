@@ -1,47 +1,82 @@
 -- Runs that are shown step by step, or as pictures (profile).
-use Rattle.std.specs.Prelude.{◌≡◌, ⊤, ℕ, Bool, true, false, List, Option, Result, Ok, Err}
-use Rattle.std.specs.Io.KnownBytes.{Keeps}
+use Rattle.std.specs.Prelude.{◌≡◌, ⊤, ℕ, Bool, true, false, List, [], Option, Result, Ok, Err, codes}
+use Rattle.std.specs.Io.KnownBytes.{Keeps, Appends}
+use Rattle.ioa_streams.specs.declared.output.OutFailed.{OutFailed}
 use Rattle.ioa_system.specs.Systems.{SystemParts}
 use Rattle.ioa_record.specs.Options.{PlainOptions}
 use Rattle.ioa_record.specs.declared.ending.Ending.{Ending}
 use Rattle.ioa_record.specs.declared.record.Record.{Record}
 use Rattle.ioa_paper.specs.declared.fault.ReportFault.{ReportFault}
 use Rattle.ioa_paper.specs.declared.fault.ReportFault.TheVariants as report
+use Rattle.ioa_compose.specs.Start.{start}
+use Rattle.ioa_tell.specs.Told.{TellsRun}
+use Rattle.ioa_tell.specs.declared.fault.TellFault.{TellFault}
+use Rattle.ioa_tell.specs.declared.fault.TellFault.TheVariants as tell
+use Rattle.ioa_tell_text.specs.Teller.{PlainTeller, teller_after}
 use Rattle.ioa_show.specs.Sequences.{PutsSequence}
 use Rattle.ioa_show.specs.Shown.{PutsLines, PutsSome, PutsStates}
 use Rattle.ioa_show.specs.States.{states_text}
-use Rattle.ioa_pipeline.specs.WholeRun.{IsLeftBy}
+use Rattle.ioa_pipeline.specs.WholeRun.{IsLeftBy, IsRefusalOf, run_fault_text}
 use Rattle.ioa_pipeline.specs.declared.whole_run.RunFault.{RunFault}
 use Rattle.ioa_pipeline.specs.declared.whole_run.RunFault.TheVariants as run
 use Rattle.ioa_pipeline.specs.declared.tracing.Format.{Format}
 use Rattle.ioa_pipeline.specs.declared.tracing.Format.TheVariants as format
+use Rattle.ioa_pipeline.specs.declared.tracing.TraceFault.{TraceFault}
+use Rattle.ioa_pipeline.specs.declared.tracing.TraceFault.TheVariants.{Run, Differs}
 
 -- a fault that can come when something went out
-abbrev pub IsLate : RunFault → Type 0
-IsLate (run.Front f) = ⊥
-IsLate (run.Check f) = ⊥
-IsLate (run.Finish f) = ⊥
-IsLate run.Memory = ⊤
-IsLate run.Write = ⊤
+abbrev pub IsLate : TraceFault → Type 0
+IsLate (Run (run.Front f)) = ⊥
+IsLate (Run (run.Check f)) = ⊥
+IsLate (Run (run.Finish f)) = ⊥
+IsLate (Run run.Memory) = ⊤
+IsLate (Run run.Write) = ⊤
+IsLate Differs = ⊤
+
+-- who tells a run as text, by these names of constants, before anything is told: it writes behind what went out before
+abbrev pub fresh_teller : List (List ℕ) → Option (List ℕ) → ℕ → PlainTeller
+fresh_teller names before output = record {
+  paper = record { start = before; text = []; output = output };
+  names = names;
+  waiting = [];
+}
+
+-- the text of a run that is told goes out whole: what is told is true of its schedule, from the start of the system on,
+-- has each of its actions in order, and at last the endings
+pub record PutsTelling (s : SystemParts) (left : Record) (endings : List Ending) (old new : Option (List ℕ))
+    (failed : Bool) : Type 0 where
+  pub output : ℕ
+  pub told : PlainTeller
+  pub tells : TellsRun (λ e a b. b ≡ teller_after e a) (start s) left.schedule endings (fresh_teller s.names old output) told
+  pub well : failed ≡ false
+  pub whole : Appends old new told.paper.text
+
+-- what it came to: the telling, and then whether all of its text went out
+abbrev pub told_outcome : Result (Unit {0}) TellFault → Result (Unit {0}) OutFailed → Result (Unit {0}) TraceFault
+told_outcome (Err tell.Memory) sent = Err (Run run.Memory)
+told_outcome (Err tell.Differs) sent = Err Differs
+told_outcome (Ok x) (Err f) = Err (Run run.Write)
+told_outcome (Ok x) (Ok y) = Ok tt
 
 -- what a picture came to
-abbrev pub shown : Result (Unit {0}) ReportFault → Result (Unit {0}) RunFault
+abbrev pub shown : Result (Unit {0}) ReportFault → Result (Unit {0}) TraceFault
 shown (Ok x) = Ok tt
-shown (Err report.Memory) = Err run.Memory
-shown (Err report.Write) = Err run.Write
+shown (Err report.Memory) = Err (Run run.Memory)
+shown (Err report.Write) = Err (Run run.Write)
 
 -- what went out whole of a run in a format: of its states and of its sequence diagram which text it is
-abbrev pub IsShown : Format → SystemParts → Record → (old new : Option (List ℕ)) → Bool → Type 0
-IsShown format.Json s left old new failed = PutsLines old new failed (Ok tt)
-IsShown format.States s left old new failed = PutsStates (states_text s left.schedule) old new failed (Ok tt)
-IsShown format.Diagram s left old new failed = PutsSome old new failed (Ok tt)
-IsShown format.Sequence s left old new failed = PutsSequence s left.schedule old new failed (Ok tt)
+abbrev pub IsShown : Format → SystemParts → Record → List Ending → (old new : Option (List ℕ)) → Bool → Type 0
+IsShown format.Text s left endings old new failed = PutsTelling s left endings old new failed
+IsShown format.Json s left endings old new failed = PutsLines old new failed (Ok tt)
+IsShown format.States s left endings old new failed = PutsStates (states_text s left.schedule) old new failed (Ok tt)
+IsShown format.Diagram s left endings old new failed = PutsSome old new failed (Ok tt)
+IsShown format.Sequence s left endings old new failed = PutsSequence s left.schedule old new failed (Ok tt)
 
 -- how a run that left this is shown: a fault comes late
-abbrev pub ShowsLeft : SystemParts → Record → Format → (old new : Option (List ℕ)) → Bool
-    → Result (Unit {0}) RunFault → Type 0
-ShowsLeft s left f old new failed (Ok x) = IsShown f s left old new failed
-ShowsLeft s left f old new failed (Err e) = IsLate e
+abbrev pub ShowsLeft : SystemParts → Record → List Ending → Format → (old new : Option (List ℕ)) → Bool
+    → Result (Unit {0}) TraceFault → Type 0
+ShowsLeft s left endings f old new failed (Ok x) = IsShown f s left endings old new failed
+ShowsLeft s left endings f old new failed (Err e) = IsLate e
 
 -- a run of a system that the text describes, with these options, and how it is shown
 pub record IsRunShown (text : List ℕ) (options : PlainOptions) (f : Format) (old new : Option (List ℕ)) (failed : Bool)
@@ -50,14 +85,25 @@ pub record IsRunShown (text : List ℕ) (options : PlainOptions) (f : Format) (o
   pub left : Record
   pub endings : List Ending
   pub run : IsLeftBy text options parts left endings
-  pub shown : IsShown f parts left old new failed
+  pub shown : IsShown f parts left endings old new failed
 
 -- the run of a text was shown; before any other fault than a late one nothing was written
 abbrev pub ShowsRun : List ℕ → PlainOptions → Format → (old new : Option (List ℕ)) → Bool
-    → Result (Unit {0}) RunFault → Type 0
+    → Result (Unit {0}) TraceFault → Type 0
 ShowsRun text options f old new failed (Ok x) = IsRunShown text options f old new failed
-ShowsRun text options f old new failed (Err (run.Front e)) = (failed ≡ false) × Keeps old new
-ShowsRun text options f old new failed (Err (run.Check e)) = (failed ≡ false) × Keeps old new
-ShowsRun text options f old new failed (Err (run.Finish e)) = (failed ≡ false) × Keeps old new
-ShowsRun text options f old new failed (Err run.Memory) = ⊤
-ShowsRun text options f old new failed (Err run.Write) = ⊤
+ShowsRun text options f old new failed (Err (Run (run.Front e))) = (failed ≡ false) × Keeps old new
+ShowsRun text options f old new failed (Err (Run (run.Check e))) = (failed ≡ false) × Keeps old new
+ShowsRun text options f old new failed (Err (Run (run.Finish e))) = (failed ≡ false) × Keeps old new
+ShowsRun text options f old new failed (Err (Run run.Memory)) = ⊤
+ShowsRun text options f old new failed (Err (Run run.Write)) = ⊤
+ShowsRun text options f old new failed (Err Differs) = ⊤
+
+-- what a fault says of the text: that of the run, if it is one
+abbrev pub IsRefusalOfTrace : TraceFault → List ℕ → Type 0
+IsRefusalOfTrace (Run f) text = IsRefusalOf f text
+IsRefusalOfTrace Differs text = ⊤
+
+-- a fault as text: its number and its name, then its place if it has one
+abbrev pub trace_fault_text : TraceFault → List ℕ
+trace_fault_text (Run f) = run_fault_text f
+trace_fault_text Differs = codes "51 Differs"

@@ -21,5 +21,5 @@ pub use ioa_record::{
 };
 pub use printing::{PrintFault, print_text};
 pub use schedule_check::{CheckScheduleFault, check_text};
-pub use tracing::{Format, trace_text};
+pub use tracing::{Format, TraceFault, trace_text};
 pub use whole_run::{RunFault, run_system};

@@ -1,24 +1,34 @@
 //! Runs that are shown step by step, or as pictures.
 
-ghost use Rattle.std.specs.Prelude.{◌≡◌, false, IfErr};
+ghost use Rattle.std.specs.Prelude.{◌≡◌, false, IfErr, OnOk};
+ghost use Rattle.ioa_compose.specs.Start.{start};
+ghost use Rattle.ioa_show.specs.Shown.{Continues};
+ghost use Rattle.ioa_tell.specs.Told.{TellsRun};
+ghost use Rattle.ioa_tell_text.specs.Teller.{teller_after};
 ghost use Rattle.ioa_pipeline.specs.Tracing as spec;
-ghost use Rattle.ioa_pipeline.specs.Tracing.{ShowsLeft, ShowsRun};
-ghost use Rattle.ioa_pipeline.specs.WholeRun.{IsRefusalOf};
+ghost use Rattle.ioa_pipeline.specs.Tracing.{IsRefusalOfTrace, ShowsLeft, ShowsRun};
 
 use crate::whole_run::{RunFault, run_of};
 use ioa_boards::Open;
 use ioa_monitor::ReportFault;
-use ioa_record::{Options, Record};
+use ioa_paper::room;
+use ioa_record::{Ending, Options, Record};
 use ioa_show::{itf, json, mermaid, svg};
-use ioa_streams::Out;
+use ioa_streams::{Out, OutFailed};
 use ioa_system::System;
-use std::alloc::Global;
+use ioa_tell::{TellFault, tell};
+use ioa_tell_text::TextTeller;
+use std::alloc::{AllocError, Global};
+use std::fmt;
 use std::sync::Wait;
 use std::thread::Threads;
+use thiserror::Error;
 
 /// How a run is shown.
 #[derive(Clone, Copy, Debug, PartialEq, Eq)]
 pub enum Format {
+    /// As text: each action with what it changed, each miss with its reason.
+    Text,
     /// As JSON: an object a line for each action, with what it changed.
     Json,
     /// The states along the schedule, in the informal trace format.
@@ -27,6 +37,40 @@ pub enum Format {
     Diagram,
     /// A sequence diagram, for Mermaid.
     Sequence,
+}
+
+/// Why a run was not shown.
+#[derive(Debug, Drop, Error)]
+pub enum TraceFault {
+    /// The run came to no record, or the output failed.
+    Run(RunFault),
+    /// `Differs` (51): the run that was told is not that of the record. No run is known to come to it.
+    Differs,
+}
+
+impl fmt::Display for TraceFault {
+    ghost use Rattle.std.specs.Prelude.{Some};
+    ghost use Rattle.ioa_pipeline.specs.Tracing.{trace_fault_text};
+
+    ghost output = { λ f. Some (trace_fault_text f) };
+
+    fn fmt<W: fmt::Write>(&self, f: &mut fmt::Formatter<W>) -> fmt::Result {
+        match self {
+            TraceFault::Run(fault) => write!(f, "{fault}"),
+            TraceFault::Differs => write!(f, "51 Differs"),
+        }
+    }
+}
+
+impl From<RunFault> for TraceFault {
+    ghost use Rattle.std.specs.Prelude.{◌≡◌};
+    ghost use Rattle.ioa_pipeline.specs.declared.tracing.TraceFault.TheVariants.{Run};
+
+    ghost from_gives = { λ e f. f ≡ Run e };
+
+    fn from(fault: RunFault) -> Self {
+        TraceFault::Run(fault)
+    }
 }
 
 /// Runs the system that a text describes, with these options, and shows the run in a format. With the options of one
@@ -39,14 +83,14 @@ pub fn trace_text<R: Threads + Wait + Sync, O: Out>(
     options: &Options,
     format: Format,
     out: &mut O,
-) -> Result<(), RunFault>
+) -> Result<(), TraceFault>
     requires { O.failed out.old ≡ false }
     ensures shown { ShowsRun text.now options.now format
         (O.bytes out.old) (O.bytes out.new) (O.failed out.new) result }
-    ensures refused { IfErr result (λ f. IsRefusalOf f text.now) }
+    ensures refused { IfErr result (λ f. IsRefusalOfTrace f text.now) }
 {
-    let (system, record, _endings) = run_of(rt, alloc, text, options, &Open)?;
-    show(alloc, &system, &record, format, out)
+    let (system, record, endings) = run_of(rt, alloc, text, options, &Open)?;
+    show(alloc, &system, options, &record, &endings, format, out)
 }
 
 /// Shows a run that left this record and these endings.
@@ -54,15 +98,18 @@ pub fn trace_text<R: Threads + Wait + Sync, O: Out>(
 fn show<O: Out>(
     alloc: Global,
     system: &System,
+    options: &Options,
     run_record: &Record,
+    endings: &[Ending],
     format: Format,
     out: &mut O,
-) -> Result<(), RunFault>
+) -> Result<(), TraceFault>
     requires { O.failed out.old ≡ false }
-    ensures { ShowsLeft system.now run_record.now format
+    ensures { ShowsLeft system.now run_record.now endings.now format
         (O.bytes out.old) (O.bytes out.new) (O.failed out.new) result }
 {
     match format {
+        Format::Text => tell_as_text(alloc, system, options, run_record, endings, out),
         Format::Json => shown(json(alloc, system, run_record, out)),
         Format::States => shown(itf(alloc, system, run_record, out)),
         Format::Diagram => shown(svg(alloc, system, run_record, out)),
@@ -71,12 +118,67 @@ fn show<O: Out>(
 }
 
 /// What a picture came to.
-fn shown(outcome: Result<(), ReportFault>) -> Result<(), RunFault>
+fn shown(outcome: Result<(), ReportFault>) -> Result<(), TraceFault>
     ensures { result ≡ spec.shown outcome }
 {
     match outcome {
         Ok(()) => Ok(()),
-        Err(ReportFault::Memory) => Err(RunFault::Memory),
-        Err(ReportFault::Write) => Err(RunFault::Write),
+        Err(ReportFault::Memory) => Err(TraceFault::Run(RunFault::Memory)),
+        Err(ReportFault::Write) => Err(TraceFault::Run(RunFault::Write)),
+    }
+}
+
+/// Tells a run as text.
+#[tactic(auto, using(crate::proofs::Tellings::telling_shown))]
+fn tell_as_text<O: Out>(
+    alloc: Global,
+    system: &System,
+    options: &Options,
+    run_record: &Record,
+    endings: &[Ending],
+    out: &mut O,
+) -> Result<(), TraceFault>
+    requires { O.failed out.old ≡ false }
+    ensures { ShowsLeft system.now run_record.now endings.now Format.Text
+        (O.bytes out.old) (O.bytes out.new) (O.failed out.new) result }
+{
+    let room = match room(alloc) {
+        Ok(room) => room,
+        Err(AllocError) => return Err(TraceFault::Run(RunFault::Memory)),
+    };
+    let mut teller = TextTeller::new(alloc, system.names(), out, room);
+    let told = tell_on(alloc, system, options, run_record, endings, &mut teller);
+    let (out, sent) = teller.finish();
+    // No effect at run time. The proof reads what `out` holds from the reference that comes back.
+    let _ = &*out;
+    told_outcome(told, sent)
+}
+
+/// Tells a run to who writes it as text.
+#[tactic(auto, using(crate::proofs::Tellings::telling_kept))]
+fn tell_on<O: Out>(
+    alloc: Global,
+    system: &System,
+    options: &Options,
+    run_record: &Record,
+    endings: &[Ending],
+    teller: &mut TextTeller<'_, O>,
+) -> Result<(), TellFault>
+    ensures told { OnOk result (TellsRun (λ e a b. b ≡ teller_after e a) (start system.now) run_record.now.schedule
+        endings.now teller.old teller.new) }
+    ensures kept { OnOk result (Continues teller.old.paper teller.new.paper) }
+{
+    tell(alloc, system, options, run_record, endings, teller)
+}
+
+/// What a telling came to.
+fn told_outcome(told: Result<(), TellFault>, sent: Result<(), OutFailed>) -> Result<(), TraceFault>
+    ensures { result ≡ spec.told_outcome told sent }
+{
+    match (told, sent) {
+        (Err(TellFault::Memory), _) => Err(TraceFault::Run(RunFault::Memory)),
+        (Err(TellFault::Differs), _) => Err(TraceFault::Differs),
+        (Ok(()), Err(OutFailed)) => Err(TraceFault::Run(RunFault::Write)),
+        (Ok(()), Ok(())) => Ok(()),
     }
 }
