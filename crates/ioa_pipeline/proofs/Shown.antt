@@ -10,7 +10,7 @@ use Rattle.ioa_paper.specs.declared.fault.ReportFault.TheVariants as report
 use Rattle.ioa_show.specs.Sequences.{PutsSequence}
 use Rattle.ioa_show.specs.Shown.{PutsLines, PutsSome, PutsStates}
 use Rattle.ioa_show.specs.States.{states_text}
-use Rattle.ioa_pipeline.specs.WholeRun.{IsEarly, IsLeftBy, IsRefusalOf}
+use Rattle.ioa_pipeline.specs.WholeRun.{IsEarly, IsLeftBy}
 use Rattle.ioa_pipeline.specs.declared.whole_run.RunFault.{RunFault}
 use Rattle.ioa_pipeline.specs.declared.whole_run.RunFault.TheVariants as run
 use Rattle.ioa_pipeline.specs.declared.tracing.Format.{Format}

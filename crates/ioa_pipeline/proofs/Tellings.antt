@@ -1,5 +1,5 @@
 -- A run that is told as text: where its text stands, and what it comes to.
-use Rattle.std.proofs.Common.{◌≡◌, ◌∙◌, ℕ, ℤ, Bool, true, false, if◌then◌else◌, List, [], ◌∷◌, ◌++◌, Option, Some, None}
+use Rattle.std.proofs.Common.{◌≡◌, ◌∙◌, ℕ, Bool, true, false, if◌then◌else◌, List, [], ◌∷◌, ◌++◌, Option, Some, None}
 use Rattle.std.proofs.Common.{Result, Ok, Err, refl, sym, subst}
 use Rattle.std.specs.Prelude.{OnOk, find}
 use Rattle.ioa_streams.specs.declared.output.OutFailed.{OutFailed}
@@ -23,7 +23,7 @@ use Rattle.ioa_tell_text.specs.declared.waiting.Passing.{Passing}
 use Rattle.ioa_tell_text.specs.declared.waiting.Passing.TheVariants.{Idle, Missed}
 use Rattle.ioa_tell_text.specs.declared.waiting.Waiting.{Waiting}
 use Rattle.ioa_pipeline.specs.declared.tracing.Format.TheVariants as format
-use Rattle.ioa_pipeline.specs.Tracing.{PutsTelling, ShowsLeft, fresh_teller, told_outcome}
+use Rattle.ioa_pipeline.specs.Tracing.{ShowsLeft, fresh_teller, told_outcome}
 
 -- what waits goes on the same paper
 waiting_kept : (names : List (List ℕ)) (w : Option Waiting) (paper : PlainPaper) → Continues paper (and_waiting names w paper)

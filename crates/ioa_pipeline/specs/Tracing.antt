@@ -1,5 +1,5 @@
 -- Runs that are shown step by step, or as pictures (profile).
-use Rattle.std.specs.Prelude.{◌≡◌, ⊤, ℕ, Bool, true, false, List, [], Option, Result, Ok, Err, codes}
+use Rattle.std.specs.Prelude.{◌≡◌, ⊤, ℕ, Bool, false, List, [], Option, Result, Ok, Err, codes}
 use Rattle.std.specs.Io.KnownBytes.{Keeps, Appends}
 use Rattle.ioa_streams.specs.declared.output.OutFailed.{OutFailed}
 use Rattle.ioa_system.specs.Systems.{SystemParts}
@@ -17,7 +17,6 @@ use Rattle.ioa_show.specs.Sequences.{PutsSequence}
 use Rattle.ioa_show.specs.Shown.{PutsLines, PutsSome, PutsStates}
 use Rattle.ioa_show.specs.States.{states_text}
 use Rattle.ioa_pipeline.specs.WholeRun.{IsLeftBy, IsRefusalOf, run_fault_text}
-use Rattle.ioa_pipeline.specs.declared.whole_run.RunFault.{RunFault}
 use Rattle.ioa_pipeline.specs.declared.whole_run.RunFault.TheVariants as run
 use Rattle.ioa_pipeline.specs.declared.tracing.Format.{Format}
 use Rattle.ioa_pipeline.specs.declared.tracing.Format.TheVariants as format

@@ -1,5 +1,5 @@
 -- A run of a text, by options in their range, has a report that is read back.
-use Rattle.std.proofs.Common.{◌≡◌, ◌≤◌, ℕ, List, arith, subst}
+use Rattle.std.proofs.Common.{◌≡◌, ◌≤◌, ℕ, List, arith}
 use Rattle.std.specs.List.{AllByRecursion}
 use Rattle.ioa_tokens.specs.Lexeme.{greatest_number}
 use Rattle.ioa_system.specs.Systems.{SystemParts}

@@ -1,5 +1,5 @@
 -- An entry that is taken once more, on a look at the book as it is.
-use Rattle.std.proofs.Common.{◌≡◌, ◌⊎◌, inl, inr, ℕ, ℤ, Bool, true, false, List, [], ◌∷◌, ◌++◌, Option, Some, None, Result, Ok, Err, if◌then◌else◌, refl, sym, ap, subst, ◌∙◌, length}
+use Rattle.std.proofs.Common.{◌≡◌, ℕ, ℤ, Bool, true, false, List, [], ◌∷◌, ◌++◌, Option, Some, Result, Ok, Err, if◌then◌else◌, refl, sym, ap, subst, ◌∙◌, length}
 use Rattle.std.specs.Prelude.{◌||◌}
 use Rattle.std.proofs.lemmas.List.{append-nil}
 use Rattle.std.specs.Option.{option_map}
@@ -14,7 +14,6 @@ use Rattle.ioa_actions.specs.declared.fault.StepFault.{StepFault}
 use Rattle.ioa_actions.specs.declared.fault.StepFault.TheVariants.{NotEnabled, NotMine}
 use Rattle.ioa_actions.proofs.SameComponents.{Decides-same_component, same_component-itself}
 use Rattle.ioa_transitions.specs.Entries.{PlainEntry, entry_of}
-use Rattle.ioa_index.specs.Own.{concerns}
 use Rattle.ioa_compose.specs.Composition.{changes_of, find_conf, find_confs, joint_answer, picks_of, put_confs}
 use Rattle.ioa_compose.specs.Participants.{participants_of}
 use Rattle.ioa_compose.specs.declared.configuration.Conf.{Conf}
@@ -29,7 +28,7 @@ use Rattle.ioa_book.proofs.FreshLooks.{conf_seen, fresh_proposal}
 use Rattle.ioa_tell.specs.Events.{PlainEvent, PlainReason, taken}
 use Rattle.ioa_tell.specs.Reasons.{IsReason}
 use Rattle.ioa_tell.specs.Steps.{HearsTaken, IsNext}
-use Rattle.ioa_tell.specs.Told.{AreTold, IsMissedIn, IsTakenFrom, TellsOn, queue_among}
+use Rattle.ioa_tell.specs.Told.{IsMissedIn, IsTakenFrom, TellsOn, queue_among}
 
 -- the configuration of what was read is the one that is found
 pub conf_read : (k : Component) (rs : List PlainVersionedConf) (r : PlainVersionedConf) → find_read k rs ≡ Some r → find_conf k (read_confs rs) ≡ Some r.conf

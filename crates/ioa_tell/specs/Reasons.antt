@@ -1,5 +1,5 @@
 -- Why an action is not enabled (Lynch 14.1), by the queue that takes part in it.
-use Rattle.std.specs.Prelude.{◌≡◌, Bool, false, List, [], Option, Some, slice_get}
+use Rattle.std.specs.Prelude.{◌≡◌, Bool, false, [], Option, Some, slice_get}
 use Rattle.ioa_values.specs.DataOrder.{same}
 use Rattle.ioa_actions.specs.Actions.{same_node_action}
 use Rattle.ioa_actions.specs.declared.action.Action.{Action}

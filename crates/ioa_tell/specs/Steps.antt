@@ -1,5 +1,5 @@
 -- What the parts of a telling come to (form).
-use Rattle.std.specs.Prelude.{◌≡◌, ℕ, List, [], ◌∷◌, ◌++◌, Option, Some, Ok}
+use Rattle.std.specs.Prelude.{◌≡◌, ℕ, [], ◌∷◌, ◌++◌, Some, Ok}
 use Rattle.ioa_actions.specs.ActionParts.{node_of}
 use Rattle.ioa_actions.specs.declared.component.Component.TheVariants.{Node}
 use Rattle.ioa_book.specs.Looks.{PlainSnapshot}

@@ -1,5 +1,5 @@
 -- The first of a list that passes, and the others.
-use Rattle.std.proofs.Common.{◌≡◌, ◌⊎◌, inl, inr, ℕ, ◌+◌, ◌<◌, ◌≤◌, Bool, true, false, cond, List, [], ◌++◌, Option, Some, None, refl, sym, ap, ◌∙◌, length, get_or, take, drop, remove, arith, suc}
+use Rattle.std.proofs.Common.{◌≡◌, inl, inr, ℕ, ◌+◌, ◌<◌, ◌≤◌, Bool, true, false, cond, List, ◌++◌, Some, None, refl, sym, ap, ◌∙◌, length, get_or, take, drop, remove, arith, suc}
 use Rattle.std.specs.Prelude.{nat_lt, find, position, slice_get}
 use Rattle.std.specs.List.{position_or_len}
 use Rattle.std.proofs.lemmas.List.{append-nil, take_all, drop_all}

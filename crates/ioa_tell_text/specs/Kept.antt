@@ -1,5 +1,5 @@
 -- What waits to be written of a node (form).
-use Rattle.std.specs.Prelude.{ℕ, ℤ, ◌+◌, ◌-◌, ◌^◌, ◌&&◌, min, Bool, true, false, if◌then◌else◌, List, ◌++◌}
+use Rattle.std.specs.Prelude.{ℤ, ◌+◌, ◌-◌, ◌^◌, ◌&&◌, min, Bool, true, false, if◌then◌else◌, List, ◌++◌}
 use Rattle.std.specs.Prelude.{Option, Some, None}
 use Rattle.std.specs.List.{before_first, after_first}
 use Rattle.std.specs.Ordering.{int_eq}

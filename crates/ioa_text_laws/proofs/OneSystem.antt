@@ -1,7 +1,6 @@
 -- A text describes at most one system.
 use Rattle.std.proofs.Common.{◌≡◌, List, ℕ, Ok, sym, subst}
 use Rattle.std.specs.Prelude.{Result}
-use Rattle.ioa_tokens.specs.declared.fault.CutFault.{CutFault}
 use Rattle.ioa_tokens.specs.declared.token.LocatedToken.{LocatedToken}
 use Rattle.ioa_tokens.specs.declared.token.Token.{Token}
 use Rattle.ioa_tokens.specs.Tokens.{tokens}
@@ -11,7 +10,6 @@ use Rattle.ioa_text_reader.specs.Grammar.{Spells}
 use Rattle.ioa_text_reader.specs.Texts.{TextSpells, bare}
 use Rattle.ioa_check.specs.Checking.{system_of}
 use Rattle.ioa_check.specs.Systems.{IsSystemOf}
-use Rattle.ioa_check.specs.declared.fault.CheckFault.{CheckFault}
 
 -- tokens spell one source, and the system of a source is found
 abbrev pub OneSource : Type 0

@@ -1,6 +1,6 @@
-use Rattle.std.proofs.Common.{drop, length, arith, ◌+◌, ◌≤◌}
+use Rattle.std.proofs.Common.{drop, length, arith, ◌≤◌}
 use Rattle.std.proofs.lemmas.List.{drop_all}
-use Rattle.ioa_tell.proofs.Tellings.{leads_first, leads_further, leads_last}
+use Rattle.ioa_tell.proofs.Tellings.{leads_first, leads_last}
 use Rattle.ioa_tell.proofs.telling.tell_endings.Goals as goal
 
 pub loop-node-init : goal.loop-node-init

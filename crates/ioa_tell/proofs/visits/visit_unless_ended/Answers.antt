@@ -1,4 +1,3 @@
-use Rattle.std.proofs.Common.{ℕ}
 use Rattle.ioa_tell.proofs.Tellings.{on_map, tells_beside, tells_further, tells_nothing}
 use Rattle.ioa_tell.proofs.visits.visit_unless_ended.Goals as goal
 
