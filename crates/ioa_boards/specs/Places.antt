@@ -1,5 +1,5 @@
 -- Looks that are put into their place (profile).
-use Rattle.std.specs.Prelude.{◌≡◌, ◌⊎◌, ℤ, Option, Some, Result, Ok, Err}
+use Rattle.std.specs.Prelude.{◌≡◌, ◌⊎◌, ℤ, Option, Some, None, Result, Ok, Err}
 use Rattle.ioa_book.specs.Looks.{PlainSnapshot}
 use Rattle.ioa_commits.specs.Books.{PlainBook}
 use Rattle.ioa_shared.specs.Looks.{view_answer}
@@ -30,3 +30,14 @@ pub record Sees (b : PlainBook) (p : PlainPass) (n : ℤ) (place : Option PlainS
 abbrev pub Puts : {U : Type 0} → PlainBook → PlainPass → ℤ → Option PlainSnapshot → Result U ViewFault → Type 0
 Puts b p n place (Ok u) = Sees b p n place
 Puts b p n place (Err f) = (f ≡ Memory) ⊎ (view_answer b p n ≡ Err f)
+
+-- two looks show the same: they are at one node, and have read the same of the same components
+pub record ShowsSame (s t : PlainSnapshot) : Type 0 where
+  pub node : t.node ≡ s.node
+  pub reads : t.reads ≡ s.reads
+
+-- there was a look in its place before, and the one that is there now shows the same
+abbrev pub IsSeenAgain : Option PlainSnapshot → Option PlainSnapshot → Type 0
+IsSeenAgain (Some s) (Some t) = ShowsSame s t
+IsSeenAgain (Some s) None = ⊥
+IsSeenAgain None o = ⊥

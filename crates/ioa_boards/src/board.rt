@@ -14,7 +14,7 @@ use std::sync::ledger::Ledger;
 /// attempt are exactly those of that book. If it isn't told, since others commit to it too, some lawful book answers.
 pub trait Board<O: Origin, L: Ledger> {
     ghost use Rattle.std.specs.Prelude.{◌≡◌, ◌+◌, Bool, IfErr, IfOk, IfSome, IsSome, IsTrue, None, Some, true};
-    ghost use Rattle.ioa_boards.specs.Places.{Puts, PutsSome};
+    ghost use Rattle.ioa_boards.specs.Places.{IsSeenAgain, Puts, PutsSome};
     ghost use Rattle.ioa_commits.specs.Books.{PlainBook};
     ghost use Rattle.ioa_shared.specs.Attempts.{IsMissed, IsTaken, commits};
     ghost use Rattle.ioa_shared.specs.Openings.{BeginsAt};
@@ -34,16 +34,18 @@ pub trait Board<O: Origin, L: Ledger> {
 
     /// A look at a node, which is put into its place. A look at the node that is there already is refreshed; else one
     /// is made. `Unknown` (53) if there is no such node; `Older` (54) if what it would show is older than the pass has
-    /// seen. The pass rises to what is seen. After a fault nothing is said of what is in the place.
+    /// seen. The pass rises to what is seen. After a fault nothing is said of what is in the place. Returns whether the
+    /// look that was there before showed the same, as of `look_again` of the book.
     fn look(
         &mut self,
         alloc: Global,
         place: &mut Place<O>,
         pass: &mut Pass,
         node: i64,
-    ) -> Result<(), ViewFault>
+    ) -> Result<bool, ViewFault>
         ensures some { PutsSome pass.old node place.new pass.new result }
         ensures told { told ≡ true → Puts (tells self.old) pass.old node place.new result }
+        ensures again { IfOk result (λ b. b ≡ true → IsSeenAgain place.old place.new) }
         ensures same { told ≡ true → tells self.new ≡ tells self.old };
 
     /// The same as [`Board::attempt`], which calls it. The board takes the proposal out of the place where it is

@@ -1,7 +1,7 @@
 //! The board of one of several workers.
 
-ghost use Rattle.std.specs.Prelude.{◌≡◌, ◌+◌, IfErr, IfOk, IfSome, IsSome, None, Some};
-ghost use Rattle.ioa_boards.specs.Places.{PutsSome};
+ghost use Rattle.std.specs.Prelude.{◌≡◌, ◌+◌, IfErr, IfOk, IfSome, IsSome, None, Some, true};
+ghost use Rattle.ioa_boards.specs.Places.{IsSeenAgain, PutsSome};
 ghost use Rattle.ioa_shared.specs.Attempts.{commits};
 ghost use Rattle.ioa_shared.specs.SomeBook.{MissesInSome, TakesInSome};
 
@@ -48,15 +48,17 @@ impl<'a, R: Wait, O: Origin, L: Ledger> Board<O, L> for Locked<'a, R, O, L> {
         place: &mut Place<O>,
         pass: &mut Pass,
         node: i64,
-    ) -> Result<(), ViewFault>
+    ) -> Result<bool, ViewFault>
         ensures some { PutsSome pass.old node place.new pass.new result }
+        ensures again { IfOk result (λ b. b ≡ true → IsSeenAgain place.old place.new) }
     {
         if let Some(last) = &mut *place.room {
             if last.node() == node {
                 return self.shared.look_again(self.rt, last, pass);
             }
         }
-        look_first(self.rt, self.shared, alloc, place, pass, node)
+        look_first(self.rt, self.shared, alloc, place, pass, node)?;
+        Ok(false)
     }
 
     fn attempt_offer(

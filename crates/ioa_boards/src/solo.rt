@@ -1,7 +1,7 @@
 //! The board of one worker.
 
-ghost use Rattle.std.specs.Prelude.{◌≡◌, ◌+◌, IfErr, IfOk, IfSome, IsSome, IsTrue, None, Some};
-ghost use Rattle.ioa_boards.specs.Places.{Puts, PutsSome};
+ghost use Rattle.std.specs.Prelude.{◌≡◌, ◌+◌, IfErr, IfOk, IfSome, IsSome, IsTrue, None, Some, true};
+ghost use Rattle.ioa_boards.specs.Places.{IsSeenAgain, Puts, PutsSome};
 ghost use Rattle.ioa_shared.specs.Attempts.{IsMissed, IsTaken, commits};
 ghost use Rattle.ioa_shared.specs.Openings.{BeginsAt};
 ghost use Rattle.ioa_shared.specs.SomeBook.{MissesInSome, TakesInSome};
@@ -37,9 +37,10 @@ impl<O: Origin, L: Ledger> Board<O, L> for Solo<O, L> {
         place: &mut Place<O>,
         pass: &mut Pass,
         node: i64,
-    ) -> Result<(), ViewFault>
+    ) -> Result<bool, ViewFault>
         ensures some { PutsSome pass.old node place.new pass.new result }
         ensures told { Puts self.old pass.old node place.new result }
+        ensures again { IfOk result (λ b. b ≡ true → IsSeenAgain place.old place.new) }
         ensures same { self.new ≡ self.old }
     {
         if let Some(last) = &mut *place.room {
@@ -47,7 +48,8 @@ impl<O: Origin, L: Ledger> Board<O, L> for Solo<O, L> {
                 return self.look_again(last, pass);
             }
         }
-        look_first(self, alloc, place, pass, node)
+        look_first(self, alloc, place, pass, node)?;
+        Ok(false)
     }
 
     fn attempt_offer(

@@ -1,6 +1,6 @@
 -- What a look reads by slots.
 use Rattle.std.proofs.Common.{◌≡◌, ◌+◌, ◌<◌, ◌≤◌, ℕ, ℤ, suc, Bool, true, false, List, [], ◌∷◌, ◌++◌, Option, Some, if◌then◌else◌, refl, sym, ap, ◌∙◌, map, take, drop, get_or, length, append_assoc, arith}
-use Rattle.std.specs.Prelude.{filter, slice_get}
+use Rattle.std.specs.Prelude.{◌&&◌, filter, slice_get}
 use Rattle.std.proofs.Math.Seq.{drop-cons}
 use Rattle.std.proofs.lemmas.List.{take_more}
 use Rattle.std.proofs.lemmas.Option.{get_or_from_slice_get, slice_get_within}
@@ -64,3 +64,9 @@ next_place slots i slot held old new o within is before here found so_far =
     let next : drop i slots ≡ slot ∷ drop (suc i) slots = drop-cons slots i slot within ∙ ap (λ (n : ℕ). n ∷ drop (suc i) slots) (sym is) in
     let all : take i old ++ slice_get held slot ∷ places_at (drop (suc i) slots) held ≡ places_at slots held = rw next at so_far in
     (omega (arith, there), rw (take_more new i o there, item, found, one, before) (append_assoc (take i old) (slice_get held slot ∷ []) (places_at (drop (suc i) slots) held) ∙ all))
+
+-- what stayed so far and stays in one more place is as it was
+pub same_so_far : {A : Type 0} (so_far here : Bool) (xs ys zs : List A) → (so_far ≡ true → ys ≡ zs) → (here ≡ true → xs ≡ ys) → (so_far && here) ≡ true → xs ≡ zs
+same_so_far true true xs ys zs h k e = k refl ∙ h refl
+same_so_far true false xs ys zs h k e = absurd (cc)
+same_so_far false here xs ys zs h k e = absurd (cc)

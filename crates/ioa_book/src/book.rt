@@ -1,6 +1,6 @@
 //! The book of commits.
 
-ghost use Rattle.std.specs.Prelude.{◌≡◌, ◌≤◌, ◌%◌, [], IfOk, IfErr, OnOk, Some, None, if◌then◌else◌, is_some, length, nat_eq};
+ghost use Rattle.std.specs.Prelude.{◌≡◌, ◌≤◌, ◌%◌, [], IfOk, IfErr, OnOk, Some, None, if◌then◌else◌, is_some, length, nat_eq, true};
 ghost use Rattle.ioa_values.specs.Outcome.{Answers};
 ghost use Rattle.ioa_actions.specs.declared.component.Component.{Component};
 ghost use Rattle.ioa_compose.specs.Start.{start};
@@ -95,15 +95,18 @@ impl<O: Origin> Book<O> {
 
     /// The same look once more, in its place: it shows the book as it is now. What is held as it was read stays; only of
     /// what is another one now a new owner is taken. `Unknown` (53) if there is no such node, and then the look is as it
-    /// was. After `Memory` (3) it may be partly of before and partly of now.
-    pub fn look_again(&self, look: &mut Snapshot<O>) -> Result<(), LookFault>
+    /// was. After `Memory` (3) it may be partly of before and partly of now. Returns whether it shows the same as
+    /// before, but for the length of the log. That is found in constant time for each component, and may be missed where
+    /// equal configurations were made apart.
+    pub fn look_again(&self, look: &mut Snapshot<O>) -> Result<bool, LookFault>
         ensures again { Answers LookFault.Memory (λ _. look.new) result (spec.look_answer self.now look.old.node) }
         ensures node { look.new.node ≡ look.old.node }
+        ensures same { IfOk result (λ b. b ≡ true → look.new.reads ≡ look.old.reads) }
         ensures unknown { IfErr result (λ f. f ≡ LookFault.Unknown → look.new ≡ look.old) }
     {
         if self.has_node(look.node()) {
-            self.refresh(look)?;
-            Ok(())
+            let is_same = self.refresh(look)?;
+            Ok(is_same)
         } else {
             Err(LookFault::Unknown)
         }
@@ -131,15 +134,17 @@ impl<O: Origin> Book<O> {
         Ok(())
     }
 
-    /// Reads what the node of a look has to do with, into the places that there are.
+    /// Reads what the node of a look has to do with, into the places that there are. Returns whether all was there
+    /// already.
     #[tactic(auto, using(crate::proofs::OwnReads::look_made))]
-    fn refresh(&self, look: &mut Snapshot<O>) -> Result<(), AllocError>
+    fn refresh(&self, look: &mut Snapshot<O>) -> Result<bool, AllocError>
         ensures again { OnOk result (spec.IsLookAt self.now look.old.node look.new) }
         ensures node { look.new.node ≡ look.old.node }
+        ensures same { IfOk result (λ b. b ≡ true → look.new.reads ≡ look.old.reads) }
     {
         let slots = self.journal.index().own(look.node());
-        look.refresh(self.log().len(), slots, self.journal.held())?;
-        Ok(())
+        let is_same = look.refresh(self.log().len(), slots, self.journal.held())?;
+        Ok(is_same)
     }
 
     /// Whether there is a node of this number.

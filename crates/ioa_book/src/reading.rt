@@ -1,6 +1,6 @@
 //! How a look reads what a book holds.
 
-ghost use Rattle.std.specs.Prelude.{◌≡◌, ◌≤◌, ◌<◌, IfOk, IsTrue, OnOk, Some, length, slice_get, take};
+ghost use Rattle.std.specs.Prelude.{◌≡◌, ◌≤◌, ◌<◌, IfOk, IsTrue, OnOk, Some, length, slice_get, take, true};
 ghost use Rattle.std.specs.Option.{option_copied};
 ghost use Rattle.ioa_book.specs.Slots.{places_at};
 
@@ -30,35 +30,41 @@ pub(crate) fn read_again<O: Origin>(
 }
 
 /// The same if there are as many places as slots. Mostly the same is held as was read, which is told in constant time.
+/// Returns whether all was there already.
 pub(crate) fn read_in_place<O: Origin>(
     places: &mut [Option<VersionedConf<O>>],
     slots: &[usize],
     held: &[VersionedConf<O>],
-) -> Result<(), AllocError>
+) -> Result<bool, AllocError>
     requires { length places.old ≡ length slots.now }
-    ensures { OnOk result (places.new ≡ places_at slots.now held.now) }
+    ensures read { OnOk result (places.new ≡ places_at slots.now held.now) }
+    ensures same { IfOk result (λ b. b ≡ true → places.new ≡ places.old) }
 {
+    let mut is_same = true;
     for position in 0..slots.len() {
-        read_here(places, position, at_slot(held, slots[position]))?;
+        let was_there = read_here(places, position, at_slot(held, slots[position]))?;
+        is_same = is_same & was_there;
     }
-    Ok(())
+    Ok(is_same)
 }
 
-/// Reads what is found into a place, if it is not there.
+/// Reads what is found into a place, if it is not there. Returns whether it was.
 fn read_here<O: Origin>(
     places: &mut [Option<VersionedConf<O>>],
     position: usize,
     found: Option<&VersionedConf<O>>,
-) -> Result<(), AllocError>
+) -> Result<bool, AllocError>
     requires { position < length places.old }
     ensures before { OnOk result (take position places.new ≡ take position places.old) }
     ensures here { OnOk result (slice_get places.new position ≡ Some (option_copied found.entry)) }
     ensures many { OnOk result (length places.new ≡ length places.old) }
+    ensures same { IfOk result (λ b. b ≡ true → places.new ≡ places.old) }
 {
     if is_there(&places[position], found) {
-        return Ok(());
+        return Ok(true);
     }
-    refresh(&mut places[position], found)
+    refresh(&mut places[position], found)?;
+    Ok(false)
 }
 
 /// Whether what is found is in a place. It takes constant time, and is false of equal configurations made apart.

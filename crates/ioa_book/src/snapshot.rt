@@ -1,6 +1,6 @@
 //! Looks at a node.
 
-ghost use Rattle.std.specs.Prelude.{◌≡◌, [], ◌∷◌, OnOk, Some};
+ghost use Rattle.std.specs.Prelude.{◌≡◌, [], ◌∷◌, IfOk, OnOk, Some, true};
 ghost use Rattle.std.specs.Arc.{arc_value};
 ghost use Rattle.std.specs.Option.{option_copied};
 ghost use Rattle.std.specs.Ordering.{int_eq};
@@ -73,22 +73,24 @@ impl<O: Origin> Snapshot<O> {
         Ok(())
     }
 
-    /// The same, into the places that there are if these are as many.
+    /// The same, into the places that there are if these are as many. Returns whether all was there already.
     pub(crate) fn refresh(
         &mut self,
         length: usize,
         slots: &[usize],
         held: &[VersionedConf<O>],
-    ) -> Result<(), AllocError>
+    ) -> Result<bool, AllocError>
         ensures again { OnOk result (self.new ≡ plain_snapshot self.old.node length (items_at slots.now held.now)) }
         ensures node { self.new.node ≡ self.old.node }
+        ensures same { IfOk result (λ b. b ≡ true → self.new.reads ≡ self.old.reads) }
     {
         if self.reads.len() == slots.len() {
-            read_in_place(self.reads.as_mut_slice(), slots, held)?;
+            let is_same = read_in_place(self.reads.as_mut_slice(), slots, held)?;
             self.length = length;
-            Ok(())
+            Ok(is_same)
         } else {
-            self.fill(length, slots, held)
+            self.fill(length, slots, held)?;
+            Ok(false)
         }
     }
 

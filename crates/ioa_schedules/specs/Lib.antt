@@ -6,3 +6,5 @@ pub mod Views
 pub mod States
 pub mod Controls
 pub mod Rounds
+pub mod StatementSets
+pub mod StateSets

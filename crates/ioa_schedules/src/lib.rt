@@ -16,8 +16,10 @@ mod rounds;
 mod state;
 mod step;
 mod turn;
+mod turning;
 
-pub use control::{Control, next, passed};
+pub use control::Control;
 pub use ioa_terms::View;
 pub use laws::turn_law;
 pub use turn::{TURN_LIMIT, Turn};
+pub use turning::{next, passed};

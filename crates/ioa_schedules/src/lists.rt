@@ -2,7 +2,7 @@
 
 ghost use Rattle.std.specs.Prelude.{◌≡◌, ◌≤◌, OnOk, length};
 ghost use Rattle.ioa_schedules.specs.Turns.{joined_statements};
-ghost use Rattle.ioa_schedules.specs.Positions.{statements_in, below_of};
+ghost use Rattle.ioa_schedules.specs.Positions.{below_of, bottom_by, statements_in};
 
 use ioa_terms::{Callee, Shape, Statement};
 use std::alloc::AllocError;
@@ -18,6 +18,7 @@ pub(crate) fn first_list<'a>(
         ≡ joined_statements (statements_in first.now) (below_of below.old.items) }
     ensures none { length result.now ≡ 0 → length below.new.items ≡ 0 }
     ensures fewer { length below.new.items ≤ length below.old.items }
+    ensures bottom { bottom_by result.now below.new.items ≡ bottom_by first.now below.old.items }
 {
     let mut top = first;
     while top.len() == 0 {

@@ -1,13 +1,13 @@
 //! One statement of a block, taken.
 
-ghost use Rattle.std.specs.Prelude.{◌≡◌, ◌<◌, ◌≤◌, IfOk, length, map};
+ghost use Rattle.std.specs.Prelude.{◌≡◌, ◌<◌, ◌≤◌, IfOk, OnOk, length, map};
 ghost use Rattle.ioa_values.specs.Outcome.{Answers};
-ghost use Rattle.ioa_terms.specs.PlainTerm.{arms_of, branch, loop, statement};
+ghost use Rattle.ioa_terms.specs.PlainTerm.{arms_of, branch, loop, no_statements, statement};
 ghost use Rattle.ioa_terms.specs.Resolved.{AreArmsResolved, IsResolvedStatement};
 ghost use Rattle.ioa_terms.specs.View.{arm_of, statement_of, term_of};
 ghost use Rattle.ioa_terms.specs.Views.{IsNamed, environment_of, names_in_view, own_names};
-ghost use Rattle.ioa_schedules.specs.Positions.{statements_in};
-ghost use Rattle.ioa_schedules.specs.States.{todo_in, values_in};
+ghost use Rattle.ioa_schedules.specs.Positions.{IsEndOf, statements_in};
+ghost use Rattle.ioa_schedules.specs.States.{bottom_in, todo_in, values_in};
 ghost use Rattle.ioa_schedules.specs.Turns as spec;
 ghost use Rattle.ioa_schedules.specs.Turns.{following_statements};
 ghost use Rattle.ioa_schedules.specs.TurnsByStep.{stepwise_choice, stepwise_first, stepwise_step, stepwise_turn};
@@ -78,6 +78,7 @@ pub(crate) fn take_first<'a>(
     ensures some { IfOk result (λ n. 0 < n) }
     ensures fewer { IfOk result (λ n. n ≤ left) }
     ensures kept { length (values_in state.new) ≡ length (values_in state.old) }
+    ensures end { OnOk result (IsEndOf (bottom_in state.new) (bottom_in state.old)) }
 {
     match state.position.first() {
         None => Err(TermFault::Undefined),
@@ -109,6 +110,7 @@ fn take_statement<'a>(
     ensures some { IfOk result (λ n. 0 < n) }
     ensures fewer { IfOk result (λ n. n ≤ left) }
     ensures kept { length (values_in state.new) ≡ length (values_in state.old) }
+    ensures end { OnOk result (IsEndOf (bottom_in state.new) (bottom_in state.old)) }
 {
     match first {
         Statement::Assign(target, term) => {
@@ -133,6 +135,7 @@ fn take_branch<'a>(
     arms: &'a [Arm<usize, Callee, Shape>],
     others: &'a [Statement<usize, Callee, Shape>],
 ) -> Result<(), TermFault>
+    requires some { todo_in state.old ≡ no_statements → ⊥ }
     requires named { IsNamed view.now (values_in state.old) }
     requires resolved { IsResolvedStatement (branch (arms_of (map arm_of arms.now)) (statements_in others.now))
         (own_names view.now (length (values_in state.old))) (names_in_view view.now) }
@@ -141,6 +144,7 @@ fn take_branch<'a>(
         (stepwise_step (branch (arms_of (map arm_of arms.now)) (statements_in others.now))
         (following_statements (todo_in state.old)) (environment_of view.now (values_in state.old))) }
     ensures kept { values_in state.new ≡ values_in state.old }
+    ensures end { OnOk result (IsEndOf (bottom_in state.new) (bottom_in state.old)) }
 {
     let body = choice(alloc, view, arms, others, &state.variables)?;
     state.position.enter(body)?;
@@ -173,6 +177,7 @@ fn take_loop<'a>(
     ensures some { IfOk result (λ n. 0 < n) }
     ensures fewer { IfOk result (λ n. n ≤ left) }
     ensures kept { values_in state.new ≡ values_in state.old }
+    ensures end { OnOk result (IsEndOf (bottom_in state.new) (bottom_in state.old)) }
 {
     if evaluate_test(alloc, test, view, &state.variables)? {
         let rest = left_over(alloc, body, view, &state.variables, left);

@@ -1,7 +1,7 @@
 //! What stands under the commit lock.
 
 ghost use Rattle.std.specs.Prelude.{◌≡◌, ◌<◌, ◌≤◌, ◌+◌, ◌%◌, [], IfErr, IfOk, IsTrue, None, OnErr, OnOk, Some};
-ghost use Rattle.std.specs.Prelude.{if◌then◌else◌, length, nat_eq, replicate};
+ghost use Rattle.std.specs.Prelude.{if◌then◌else◌, length, nat_eq, replicate, true};
 ghost use Rattle.ioa_book.specs.BookLaws.{IsLawful};
 ghost use Rattle.ioa_commits.specs.Books.{plain_book};
 ghost use Rattle.ioa_compose.specs.Start.{start};
@@ -112,21 +112,23 @@ impl<O: Origin, L: Ledger> Held<O, L> {
     }
 
     /// The same look once more, in its place, with the same answer. After a fault nothing is said of it but its node,
-    /// and whoever has it lets it go.
-    pub fn look_again(&self, look: &mut Snapshot<O>, pass: &mut Pass) -> Result<(), ViewFault>
+    /// and whoever has it lets it go. Returns whether it shows the same as before, as of [`Book::look_again`].
+    pub fn look_again(&self, look: &mut Snapshot<O>, pass: &mut Pass) -> Result<bool, ViewFault>
         ensures again { Answers ViewFault.Memory (λ _. look.new) result (view_answer self.now pass.old look.old.node) }
         ensures risen { OnOk result (pass.new ≡ risen_by_look look.new pass.old) }
         ensures kept { OnErr result (pass.new ≡ pass.old) }
         ensures node { look.new.node ≡ look.old.node }
+        ensures same { IfOk result (λ b. b ≡ true → look.new.reads ≡ look.old.reads) }
         ensures lawful { IsLawful self.now }
     {
         let _law = self.book.log();
         match self.book.look_again(look) {
-            Ok(()) => {
+            Ok(is_same) => {
                 if pass.rise_quickly(look) {
-                    return Ok(());
+                    return Ok(is_same);
                 }
-                admitted_again(look, pass)
+                admitted_again(look, pass)?;
+                Ok(is_same)
             }
             Err(LookFault::Unknown) => Err(ViewFault::Unknown),
             Err(LookFault::Memory) => Err(ViewFault::Memory),

@@ -1,6 +1,6 @@
 //! The commit lock.
 
-ghost use Rattle.std.specs.Prelude.{◌≡◌, ◌+◌, ◌<◌, ◌≤◌, IfErr, IfOk, IsTrue, OnErr, OnOk, Some, replicate};
+ghost use Rattle.std.specs.Prelude.{◌≡◌, ◌+◌, ◌<◌, ◌≤◌, IfErr, IfOk, IsTrue, OnErr, OnOk, Some, replicate, true};
 ghost use Rattle.ioa_sharing.specs.Named.{shared_of_value};
 ghost use Rattle.ioa_sharing.specs.Shared.{maker_name};
 ghost use Rattle.ioa_shared.specs.Attempts.{commits};
@@ -59,11 +59,12 @@ impl<O: Origin, L: Ledger> Shared<O, L> {
         rt: &impl Wait,
         look: &mut Snapshot<O>,
         pass: &mut Pass,
-    ) -> Result<(), ViewFault>
+    ) -> Result<bool, ViewFault>
         ensures again { LooksAtSome pass.old look.old.node (told_again look.new result) }
         ensures risen { OnOk result (pass.new ≡ risen_by_look look.new pass.old) }
         ensures kept { OnErr result (pass.new ≡ pass.old) }
         ensures node { look.new.node ≡ look.old.node }
+        ensures same { IfOk result (λ b. b ≡ true → look.new.reads ≡ look.old.reads) }
     {
         self.held.lock(rt).look_again(look, pass)
     }

@@ -1,7 +1,7 @@
 //! The book of one worker.
 
 ghost use Rattle.std.specs.Prelude.{◌≡◌, ◌≤◌, ◌+◌, ◌%◌, [], IfErr, IfOk, IsTrue, None, OnErr, OnOk, Some};
-ghost use Rattle.std.specs.Prelude.{if◌then◌else◌, length, nat_eq};
+ghost use Rattle.std.specs.Prelude.{if◌then◌else◌, length, nat_eq, true};
 ghost use Rattle.ioa_book.specs.BookLaws.{IsLawful};
 ghost use Rattle.ioa_commits.specs.Books.{plain_book};
 ghost use Rattle.ioa_compose.specs.Start.{start};
@@ -86,11 +86,12 @@ impl<O: Origin, L: Ledger> Solo<O, L> {
     }
 
     /// The same look once more, in its place, as of [`Held::look_again`].
-    pub fn look_again(&self, look: &mut Snapshot<O>, pass: &mut Pass) -> Result<(), ViewFault>
+    pub fn look_again(&self, look: &mut Snapshot<O>, pass: &mut Pass) -> Result<bool, ViewFault>
         ensures again { Answers ViewFault.Memory (λ _. look.new) result (view_answer self.now pass.old look.old.node) }
         ensures risen { OnOk result (pass.new ≡ risen_by_look look.new pass.old) }
         ensures kept { OnErr result (pass.new ≡ pass.old) }
         ensures node { look.new.node ≡ look.old.node }
+        ensures same { IfOk result (λ b. b ≡ true → look.new.reads ≡ look.old.reads) }
         ensures lawful { IsLawful self.now }
     {
         self.held.look_again(look, pass)

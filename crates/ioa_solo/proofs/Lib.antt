@@ -12,6 +12,7 @@ mod ToldFires
 mod ToldRounds
 mod ToldTurns
 mod Turns
+pub mod SettledNodes
 mod Rounds
 mod Runs
 mod SoloRuns

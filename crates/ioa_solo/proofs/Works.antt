@@ -12,6 +12,7 @@ use Rattle.ioa_compose.specs.Start.{start}
 use Rattle.ioa_compose.specs.declared.configuration.Conf.{Conf}
 use Rattle.ioa_compose.proofs.Starts.{is_start}
 use Rattle.ioa_record.specs.declared.ending.Ending.{Ending}
+use Rattle.ioa_sharing.specs.declared.named.Origin as Origin
 use Rattle.ioa_system.specs.Declarations.{IsWellDeclared}
 use Rattle.ioa_system.specs.Parts.{Parts}
 use Rattle.ioa_system.specs.Systems.{SystemParts}
@@ -96,11 +97,11 @@ none_visited f [] h = refl
 none_visited f (x ∷ xs) h = absurd (cc)
 
 -- if memory runs out before the first visit, an ending says so, or there is no node
-short_at_once : {O : Type 0} (s : SystemParts) (after : List (Visited O)) → after ≡ [] → (p : Parts) (ps : List Parts) → s.programs ≡ p ∷ ps → list_any is_cut_short (map (ending_at s.programs after) (map (λ q. q.node) s.programs)) ≡ true
+short_at_once : {O : Type 0} {g : Origin.Ghosts O} (s : SystemParts) (after : List (Visited O g)) → after ≡ [] → (p : Parts) (ps : List Parts) → s.programs ≡ p ∷ ps → list_any is_cut_short (map (ending_at s.programs after) (map (λ q. q.node) s.programs)) ≡ true
 short_at_once s after none p ps h = rw (none, h, int_itself p.node) refl
 
 -- what a worker alone comes to
-module _ {O : Type 0} (s : SystemParts) (attempts : ℕ) (old new : PlainBook) (before after : List (Visited O)) (endings : List Ending) (w : IsWellDeclared s)
+module _ {O : Type 0} {g : Origin.Ghosts O} (s : SystemParts) (attempts : ℕ) (old new : PlainBook) (before after : List (Visited O g)) (endings : List Ending) (w : IsWellDeclared s)
     (fresh : old ≡ plain_book (start s) [] old.limit) (numbers : numbers_of after ≡ numbers_of before) (each : endings ≡ map (ending_at s.programs after) (map (λ q. q.node) s.programs))
     (came : IsCutShort (rounds old.limit (attempts + 1) (course_of old) (map progress_in before)) new.log (map ending_of (map progress_in after))
     ⊎ ((course_of new, map progress_in after) ≡ rounds old.limit (attempts + 1) (course_of old) (map progress_in before))) where
@@ -125,7 +126,7 @@ module _ {O : Type 0} (s : SystemParts) (attempts : ℕ) (old new : PlainBook) (
         let differ : IsDistinct int_eq (numbers_of after) = subst (λ (ks : List ℤ). IsDistinct int_eq ks) (sym whole_numbers) w.nodes in
         each
         ∙ ap (λ (ks : List ℤ). map (ending_at s.programs after) ks) (sym whole_numbers)
-        ∙ each_own (λ (v : Visited O). v.number) (λ v. ending_of (progress_in v)) (λ k. ending_unvisited (program_of k s.programs)) after differ
+        ∙ each_own (λ (v : Visited O g). v.number) (λ v. ending_of (progress_in v)) (λ k. ending_unvisited (program_of k s.programs)) after differ
         ∙ sym (parts_map ending_of progress_in after)
 
     begun : course_of old ≡ record { schedule = []; states = start s }
@@ -160,7 +161,7 @@ module _ {O : Type 0} (s : SystemParts) (attempts : ℕ) (old new : PlainBook) (
       let met : map visited_of before ≡ map (first_visited attempts) s.programs = rw (none, e) refl in
       as_solo met came
   when_none none (p ∷ ps) e =
-      let nobody : after ≡ [] = none_visited (λ (v : Visited O). v.number) after (numbers ∙ ap numbers_of none) in
+      let nobody : after ≡ [] = none_visited (λ (v : Visited O g). v.number) after (numbers ∙ ap numbers_of none) in
       inl (rw each (short_at_once s after nobody p ps e), begins_any new.log (course_of old) (solo s attempts old.limit).0 (ap (λ (b : PlainBook). b.log) fresh) (nothing_added none came))
 
   by_met : (before ≡ []) ⊎ (map visited_of before ≡ all_met s.programs attempts (states_held old) (map (λ q. q.node) s.programs)) → IsSoloWork s attempts old.limit new endings
@@ -169,7 +170,7 @@ module _ {O : Type 0} (s : SystemParts) (attempts : ℕ) (old new : PlainBook) (
       as_solo (met ∙ (λ j. all_met s.programs attempts (states_held (fresh j)) (map (λ q. q.node) s.programs)) ∙ all_started s attempts w) came
 
 -- the same as the calls say it, which lend the nodes
-module _ {O : Type 0} (s : SystemParts) (attempts : ℕ) (old new : PlainBook) (nodes : List ℤ) (before lent after seen : List (Visited O)) (endings : List Ending) where
+module _ {O : Type 0} {g : Origin.Ghosts O} (s : SystemParts) (attempts : ℕ) (old new : PlainBook) (nodes : List ℤ) (before lent after seen : List (Visited O g)) (endings : List Ending) where
   pub works_alone : IsWellDeclared s → old ≡ plain_book (start s) [] old.limit → nodes ≡ map (λ q. q.node) s.programs →
       (before ≡ []) ⊎ (map visited_of before ≡ all_met s.programs attempts (states_held old) nodes) → lent ≡ before → numbers_of after ≡ numbers_of lent →
       IsCutShort (rounds old.limit (attempts + 1) (course_of old) (map progress_in lent)) new.log (map ending_of (map progress_in after))

@@ -3,6 +3,8 @@ pub mod Attempts
 pub mod Fires
 pub mod Hands
 pub mod Meets
+pub mod Settled
+pub mod SettledProps
 pub mod Solo
 pub mod Told
 pub mod Visits

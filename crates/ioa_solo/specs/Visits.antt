@@ -1,10 +1,11 @@
 -- The nodes of a worker, as the code keeps them (view).
 use Rattle.std.specs.Prelude.{ℕ, ℤ, List, map, sum_by}
+use Rattle.ioa_sharing.specs.declared.named.Origin as Origin
 use Rattle.ioa_turns.specs.NodeTurns.{PlainProgress, progress_of}
 use Rattle.ioa_solo.specs.declared.visited.Visited.{Visited}
 
 -- how far a node has come; the last look at it is nothing that a run is of
-abbrev pub progress_in : {O : Type 0} → Visited O → PlainProgress
+abbrev pub progress_in : {O : Type 0} {g : Origin.Ghosts O} → Visited O g → PlainProgress
 progress_in n = progress_of n.progress
 
 -- a node of a worker: its number, and how far it has come
@@ -12,13 +13,13 @@ pub record PlainVisited : Type 0 where
   pub number : ℤ
   pub progress : PlainProgress
 
-abbrev pub visited_of : {O : Type 0} → Visited O → PlainVisited
+abbrev pub visited_of : {O : Type 0} {g : Origin.Ghosts O} → Visited O g → PlainVisited
 visited_of n = record { number = n.number; progress = progress_in n }
 
 -- how many attempts some nodes have left
-abbrev pub attempts_left : {O : Type 0} → List (Visited O) → ℕ
+abbrev pub attempts_left : {O : Type 0} {g : Origin.Ghosts O} → List (Visited O g) → ℕ
 attempts_left nodes = sum_by (λ n. n.progress.attempts) nodes
 
 -- the numbers of some nodes
-abbrev pub numbers_of : {O : Type 0} → List (Visited O) → List ℤ
+abbrev pub numbers_of : {O : Type 0} {g : Origin.Ghosts O} → List (Visited O g) → List ℤ
 numbers_of nodes = map (λ n. n.number) nodes

@@ -9,6 +9,7 @@ use Rattle.ioa_record.specs.declared.ending.Ending.{Ending}
 use Rattle.ioa_record.specs.declared.ending.Ending.TheVariants.{Fault}
 use Rattle.ioa_record.specs.declared.ending.NodeFault.TheVariants as fault
 use Rattle.ioa_shared.specs.Passes.{PlainPass}
+use Rattle.ioa_sharing.specs.declared.named.Origin as Origin
 use Rattle.ioa_system.specs.Declarations.{IsWellDeclared}
 use Rattle.ioa_system.specs.Parts.{Parts}
 use Rattle.ioa_system.specs.Systems.{SystemParts}
@@ -34,7 +35,7 @@ abbrev pub all_met : List Parts → ℕ → List Conf → List ℤ → List Plai
 all_met ps attempts states ks = flat_map (λ k. met_first attempts states (program_of k ps)) ks
 
 -- the first of some nodes with number k
-abbrev pub visited_at : {O : Type 0} → ℤ → List (Visited O) → Option (Visited O)
+abbrev pub visited_at : {O : Type 0} {g : Origin.Ghosts O} → ℤ → List (Visited O g) → Option (Visited O g)
 visited_at k nodes = find (λ n. int_eq n.number k) nodes
 
 -- the ending of a node that was not visited, by its program: want of memory, or the system has no such node
@@ -43,7 +44,7 @@ ending_unvisited (Some p) = Fault fault.Memory
 ending_unvisited None = Fault fault.Unknown
 
 -- the ending that is reported of node k
-abbrev pub ending_at : {O : Type 0} → List Parts → List (Visited O) → ℤ → Ending
+abbrev pub ending_at : {O : Type 0} {g : Origin.Ghosts O} → List Parts → List (Visited O g) → ℤ → Ending
 ending_at ps nodes k =
     unwrap_or (option_map (λ n. ending_of (progress_in n)) (visited_at k nodes)) (ending_unvisited (program_of k ps))
 

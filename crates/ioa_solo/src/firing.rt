@@ -1,9 +1,11 @@
 //! The commit of what a node fires.
 
-ghost use Rattle.std.specs.Prelude.{◌≡◌, ◌<◌, ◌+◌, IfErr, IfOk, None, OnErr, OnOk, length, true};
+ghost use Rattle.std.specs.Prelude.{◌≡◌, ◌<◌, ◌+◌, IfErr, IfOk, None, OnErr, OnOk, false, length, true};
+ghost use Rattle.ioa_solo.specs.Settled.{HasComeBack};
 ghost use Rattle.ioa_schedules.specs.Turns.{IsAtFire};
 ghost use Rattle.ioa_shared.specs.Attempts.{IsMissed, IsTaken, commits};
-ghost use Rattle.ioa_turns.specs.NodeTurns.{progress_of};
+ghost use Rattle.ioa_turns.specs.Faults as faults;
+ghost use Rattle.ioa_turns.specs.NodeTurns.{kept_in, progress_of};
 ghost use Rattle.ioa_solo.specs.Fires.{IsAfterFire, IsProposedIn, failed_by, missed_by, refused_by};
 ghost use Rattle.ioa_solo.specs.Hands.{Gains};
 ghost use Rattle.ioa_solo.specs.Solo.{IsEndedBy};
@@ -24,7 +26,7 @@ use std::sync::ledger::Ledger;
 
 /// The commit of a proposal of a node. If it is made, the block moves past the fire. A stale proposal ends the attempt,
 /// and any other fault the node. Memory for the receipt and the log is asked for before, so that only then it can run
-/// out.
+/// out. Returns false: whatever comes of it, the node is not settled.
 pub(crate) fn commit<O: Origin, L: Ledger, B: Board<O, L>, G: Gate>(
     alloc: Global,
     board: &mut B,
@@ -34,7 +36,7 @@ pub(crate) fn commit<O: Origin, L: Ledger, B: Board<O, L>, G: Gate>(
     node: &mut Progress,
     hand: &mut Hand<L>,
     spare: &mut Option<Spare<Entry>>,
-) -> Result<(), AllocError>
+) -> Result<bool, AllocError>
     requires stands { IsAtFire (progress_of node.old).todo }
     requires under_way { node.old.ending ≡ None }
     ensures gained { Gains 1 0 hand.old hand.new }
@@ -48,6 +50,7 @@ pub(crate) fn commit<O: Origin, L: Ledger, B: Board<O, L>, G: Gate>(
         IsProposedIn (B.tells board.old) (progress_of node.old).program.node proposal →
         OnOk result (IsAfterFire (B.tells board.old) (progress_of node.old) proposal.entry.action
         (B.tells board.new) (progress_of node.new)) }
+    ensures unsettled { IfOk result (λ b. b ≡ false) }
 {
     let block = block_for(alloc, &mut hand.receipts, spare)?;
     gate.before_commit(worker);
@@ -56,11 +59,11 @@ pub(crate) fn commit<O: Origin, L: Ledger, B: Board<O, L>, G: Gate>(
             hand.receipts.put(receipt);
             gate.after_commit(worker);
             node.pass();
-            Ok(())
+            Ok(false)
         }
         Err(miss) => {
             after_miss(node, miss);
-            Ok(())
+            Ok(false)
         }
     }
 }
@@ -149,20 +152,26 @@ fn after_refusal(node: &mut Progress, refusal: CommitRefusal)
 }
 
 /// What follows from a step that an action has not: the block moves past an action that is not enabled, and any other
-/// fault ends the node, but that memory ran out.
-pub(crate) fn after_fault(node: &mut Progress, fault: StepFault) -> Result<(), AllocError>
+/// fault ends the node, but that memory ran out. Returns whether the block has come back to where it was before its
+/// turn.
+pub(crate) fn after_fault(node: &mut Progress, fault: StepFault) -> Result<bool, AllocError>
     requires { IsAtFire (progress_of node.old).todo }
     ensures kept { node.new.attempts ≡ node.old.attempts }
     ensures failed { OnOk result (progress_of node.new ≡ failed_by fault (progress_of node.old)) }
     ensures real { OnOk result (fault ≡ StepFault.Memory → ⊥) }
     ensures unchanged { OnErr result (node.new.ending ≡ node.old.ending) }
+    ensures back { IfOk result (λ b. b ≡ true →
+        HasComeBack (faults.fault_of_step fault) (kept_in node.old) (progress_of node.new)) }
 {
     match fault_of_step(fault) {
         None => {
             node.pass();
-            Ok(())
+            Ok(node.has_come_back())
         }
-        Some(fault) => end_by_fault(node, fault),
+        Some(fault) => {
+            end_by_fault(node, fault)?;
+            Ok(false)
+        }
     }
 }
 

@@ -4,6 +4,7 @@ ghost use Rattle.std.specs.Prelude.{◌≡◌, ◌⊎◌, ◌+◌, None, OnErr, 
 ghost use Rattle.std.specs.List.{list_all, list_any};
 ghost use Rattle.ioa_solo.specs.Fires.{Comes};
 ghost use Rattle.ioa_solo.specs.Hands.{Gains};
+ghost use Rattle.ioa_solo.specs.Solo as spec;
 ghost use Rattle.ioa_solo.specs.Solo.{Begins, IsCutShort, course_of, ending_of, has_ended, is_under_way, round};
 ghost use Rattle.ioa_solo.specs.Solo.{rounds, short_of_memory, visit_unless_ended};
 ghost use Rattle.ioa_solo.specs.Told.{IsToldTo, WorksOn};
@@ -153,11 +154,50 @@ fn visit_unless_ended<O: Origin, L: Ledger, B: Board<O, L>, G: Gate>(
 {
     match node.progress.ending {
         Some(_) => Ok(()),
-        None => {
-            let Visited { progress, look, .. } = node;
-            visit(alloc, board, gate, worker, progress, look, hand, spare)
-        }
+        None => visit_under_way(alloc, board, gate, worker, node, hand, spare),
     }
+}
+
+/// A visit of a node that has no ending.
+fn visit_under_way<O: Origin, L: Ledger, B: Board<O, L>, G: Gate>(
+    alloc: Global,
+    board: &mut B,
+    gate: &G,
+    worker: usize,
+    node: &mut Visited<O>,
+    hand: &mut Hand<L>,
+    spare: &mut Option<Spare<Entry>>,
+) -> Result<(), AllocError>
+    requires { node.old.progress.ending ≡ None }
+    ensures gained { Gains node.old.progress.attempts node.new.progress.attempts hand.old hand.new }
+    ensures number { node.new.number ≡ node.old.number }
+    ensures stopped { OnErr result (node.new.progress.ending ≡ None) }
+    ensures stays { B.told ≡ true → OnErr result (B.tells board.new ≡ B.tells board.old) }
+    ensures goes { IsToldTo B.told (B.tells board.old) hand.old.pass →
+        WorksOn (B.tells board.old) hand.old (B.tells board.new) hand.new }
+    ensures visited { IsToldTo B.told (B.tells board.old) hand.old.pass → OnOk result
+        (Comes spec.visit (B.tells board.old) (progress_in node.old) (B.tells board.new) (progress_in node.new)) }
+{
+    let was_settled = node.is_settled;
+    node.is_settled = false;
+    let Visited {
+        progress,
+        look,
+        is_settled,
+        ..
+    } = node;
+    *is_settled = visit(
+        alloc,
+        board,
+        gate,
+        worker,
+        progress,
+        look,
+        was_settled,
+        hand,
+        spare,
+    )?;
+    Ok(())
 }
 
 /// Whether each node has an ending.
@@ -188,6 +228,7 @@ fn end_for_memory<O: Origin>(node: &mut Visited<O>)
     ensures number { node.new.number ≡ node.old.number }
 {
     if node.progress.ending.is_none() {
+        node.is_settled = false;
         node.progress.ending = Some(Ending::Fault(NodeFault::Memory));
     }
 }

@@ -73,10 +73,11 @@ fn meet_by_look<O: Origin, L: Ledger, B: Board<O, L>>(
     ensures met { IsToldTo B.told (B.tells board.old) hand.old.pass → OnOk result
         (progress_in node.new ≡ met_in (states_held (B.tells board.old)) (progress_in node.old)) }
 {
+    node.is_settled = false;
     let Visited { progress, look, .. } = node;
     let number = progress.program().node();
     match look_at(alloc, board, number, look, &mut hand.pass) {
-        Ok(()) => {
+        Ok(_) => {
             recognize(progress, look);
             Ok(())
         }

@@ -1,7 +1,10 @@
 //! A node of a worker.
 
-ghost use Rattle.std.specs.Prelude.{◌≡◌, IfOk};
-ghost use Rattle.ioa_turns.specs.NodeTurns.{progress_at};
+ghost use Rattle.std.proofs.Props.{props};
+ghost use Rattle.std.specs.Prelude.{◌≡◌, IfOk, true};
+ghost use Rattle.ioa_turns.specs.NodeTurns.{progress_at, progress_of};
+ghost use Rattle.ioa_solo.specs.Settled.{IsSettledIn};
+ghost use Rattle.ioa_solo.specs.SettledProps.{IsSettledIn-prop};
 
 use ioa_boards::Place;
 use ioa_sharing::Origin;
@@ -9,12 +12,15 @@ use ioa_system::Program;
 use ioa_turns::Progress;
 use std::alloc::{AllocError, Global};
 
-/// A node of a worker: its number, how far it has come, and the place of the last look at it.
+/// A node of a worker: its number, how far it has come, and the place of the last look at it. If it is settled on that
+/// look, an attempt on another one that shows the same does nothing, and need not be made.
 #[derive(Drop)]
 pub(crate) struct Visited<'a, O: Origin> {
     pub(crate) number: i64,
     pub(crate) progress: Progress<'a>,
     pub(crate) look: Place<O>,
+    pub(crate) is_settled: bool,
+    ghost settled: { is_settled ≡ true → IsSettledIn (progress_of progress) look } by { Prim.hlevel (props, IsSettledIn-prop) },
 }
 
 impl<'a, O: Origin> Visited<'a, O> {
@@ -35,6 +41,7 @@ impl<'a, O: Origin> Visited<'a, O> {
             number: program.node(),
             progress,
             look,
+            is_settled: false,
         })
     }
 }

@@ -1,5 +1,6 @@
 -- What a turn leaves to do bears the numbers of its rules, if what was to do did.
-use Rattle.std.proofs.Common.{◌≡◌, ℕ, zero, suc, Bool, true, false, Option, Some, None, Result, Ok, Err, List, IfErr, if◌then◌else◌, refl, sym, subst}
+use Rattle.std.proofs.Common.{◌≡◌, ℕ, zero, suc, Bool, true, false, Option, Some, None, Result, Ok, Err, List, IfErr, if◌then◌else◌, refl, sym, ap, subst}
+use Rattle.std.specs.Prelude.{OnErr}
 use Rattle.std.specs.List.{list_all}
 use Rattle.std.specs.Option.{IfSome, ok_or}
 use Rattle.ioa_values.specs.Data.{Data, is_within}
@@ -16,6 +17,7 @@ use Rattle.ioa_terms.specs.PlainTerm.{PlainStatement, PlainStatements, PlainArms
 use Rattle.ioa_system.specs.Numbered.{IsNumbered, AreArmsNumbered, AreNumbered}
 use Rattle.ioa_system.specs.Parts.{PlainRule}
 use Rattle.ioa_schedules.specs.Turns.{TurnResult, turn_result, fires, joined_statements, following_statements, choice, after_step, numbers_met_by_turn, turn, turn_answer}
+use Rattle.ioa_schedules.specs.States.{PlainState}
 use Rattle.ioa_schedules.specs.Views.{turn_of}
 use Rattle.ioa_schedules.specs.declared.turn.Turn.{Turn}
 use Rattle.ioa_schedules.specs.declared.turn.Turn.TheVariants as turned
@@ -96,3 +98,8 @@ module _ (rules : List PlainRule) where
   pub left_numbered : (todo next : PlainStatements ℕ Callee Shape) (n : ℕ) (e d : Bindings) (vs : List Data) (r : Result Turn TermFault) → Answers Memory (turn_of next d vs) r (turn_answer todo n e) → IfErr r (λ _. next ≡ todo) → AreNumbered rules todo → AreNumbered rules next
   left_numbered todo next n e d vs (Ok t) h k numbered = turn_numbered todo next n e d vs t h numbered
   left_numbered todo next n e d vs (Err f) h k numbered = subst (AreNumbered rules) (sym k) numbered
+
+-- where a call failed, what was to do of a block that is as it was
+pub todo_kept : {X E : Type 0} (r : Result X E) (s t : PlainState) → OnErr r (s ≡ t) → IfErr r (λ _. s.todo ≡ t.todo)
+todo_kept (Ok x) s t h = tt
+todo_kept (Err e) s t h = ap (λ (b : PlainState). b.todo) h

@@ -19,7 +19,8 @@ use Rattle.ioa_record.specs.NodeFaults.{fault_of_term}
 use Rattle.ioa_record.specs.declared.ending.Ending.{Ending}
 use Rattle.ioa_record.specs.declared.ending.NodeFault.{NodeFault}
 use Rattle.ioa_record.specs.declared.ending.NodeFault.TheVariants.{Differs, Unknown}
-use Rattle.ioa_schedules.specs.Controls.{arguments_of, todo_of, values_of}
+use Rattle.ioa_schedules.specs.Controls.{arguments_of, kept_of, todo_of, values_of}
+use Rattle.ioa_schedules.specs.States.{PlainState}
 use Rattle.ioa_schedules.specs.Turns.{TurnEnd, TurnResult, fires, idle, done, following_statements, turn_answer, turn_limit}
 use Rattle.ioa_schedules.specs.declared.turn.Turn.{Turn}
 use Rattle.ioa_schedules.specs.declared.turn.Turn.TheVariants as turn
@@ -48,6 +49,18 @@ progress_of p = record {
 -- the arguments that a node keeps (view): those of the `fire` at which its last turn ended, if it ended at one
 abbrev pub arguments_in : Progress → List Data
 arguments_in p = arguments_of p.control
+
+-- the block of a node (view)
+abbrev pub block_of : PlainProgress → PlainState
+block_of p = record { todo = p.todo; own = p.own }
+
+-- a node with another block
+abbrev pub with_block : PlainState → PlainProgress → PlainProgress
+with_block s p = record p { todo = s.todo; own = s.own }
+
+-- the block of a node before its last turn (view), which is kept if that turn took statements
+abbrev pub kept_in : Progress → Option PlainState
+kept_in p = kept_of p.control
 
 -- a node before a run: all of its block is to do, the block's variables have their first values, and the node has all
 -- its attempts

@@ -11,7 +11,7 @@ ghost use Rattle.ioa_schedules.specs.Turns.{IsAtFiring};
 ghost use Rattle.ioa_system.specs.Numbered.{IsNumberOf};
 ghost use Rattle.ioa_terms.specs.View.{firing_of};
 ghost use Rattle.ioa_turns.specs.Fired as spec;
-ghost use Rattle.ioa_turns.specs.NodeTurns.{arguments_in, progress_of};
+ghost use Rattle.ioa_turns.specs.NodeTurns.{arguments_in, kept_in, progress_of};
 
 use crate::progress::{LastFired, Progress};
 use ioa_actions::Action;
@@ -62,6 +62,7 @@ impl Progress<'_> {
         ensures action { IfOk result (λ a. arc_value a ≡ spec.action_fired (progress_of self.old).program
             (firing_of firing.now).action (arguments_in self.old)) }
         ensures unchanged { progress_of self.new ≡ progress_of self.old }
+        ensures kept { kept_in self.new ≡ kept_in self.old }
     {
         match self.last_fired(firing, self.control.arguments()) {
             Some(action) => Arc::try_clone(action),
@@ -105,6 +106,7 @@ impl Progress<'_> {
         ensures action { IfOk result
             (λ a. arc_value a ≡ spec.action_fired self.old.program.now firing.now.action arguments.items) }
         ensures unchanged { progress_of self.new ≡ progress_of self.old }
+        ensures kept { kept_in self.new ≡ kept_in self.old }
     {
         let action = Arc::new(alloc, action_of(alloc, self.program, firing, arguments)?)?;
         let kept = Arc::try_clone(&action)?;

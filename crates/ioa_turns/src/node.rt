@@ -1,8 +1,8 @@
 //! What a node does around its turns.
 
-ghost use Rattle.std.specs.Prelude.{◌≡◌, IfOk};
+ghost use Rattle.std.specs.Prelude.{◌≡◌, IfOk, IsTrue, Some};
 ghost use Rattle.ioa_schedules.specs.Turns.{IsAtFire};
-ghost use Rattle.ioa_turns.specs.NodeTurns.{past_fire, progress_at, progress_of};
+ghost use Rattle.ioa_turns.specs.NodeTurns.{block_of, kept_in, past_fire, progress_at, progress_of};
 
 use crate::progress::Progress;
 use ioa_schedules::{Control, passed};
@@ -39,8 +39,17 @@ impl<'a> Progress<'a> {
     /// Moves the block past the `fire` at which it stands. Takes no memory.
     pub fn pass(&mut self)
         requires { IsAtFire (progress_of self.old).todo }
-        ensures { progress_of self.new ≡ past_fire (progress_of self.old) }
+        ensures past { progress_of self.new ≡ past_fire (progress_of self.old) }
+        ensures kept { kept_in self.new ≡ kept_in self.old }
     {
         passed(&mut self.control);
+    }
+
+    /// Whether the block is again what it was before its last turn, in which it took statements, as of
+    /// [`Control::has_come_back`].
+    pub fn has_come_back(&self) -> bool
+        ensures { IsTrue result → kept_in self.now ≡ Some (block_of (progress_of self.now)) }
+    {
+        self.control.has_come_back()
     }
 }

@@ -1,6 +1,6 @@
 //! The turns of a node.
 
-ghost use Rattle.std.specs.Prelude.{◌≡◌, IfOk, IfSome, OnErr, Some, is_some, length, map, true};
+ghost use Rattle.std.specs.Prelude.{◌≡◌, IfOk, IfSome, OnErr, OnOk, Some, is_some, length, map, true};
 ghost use Rattle.std.specs.Option.{option_copied, option_map};
 ghost use Rattle.ioa_compose.specs.Composition as conf;
 ghost use Rattle.ioa_values.specs.Outcome.{Answers};
@@ -11,7 +11,7 @@ ghost use Rattle.ioa_schedules.specs.Controls.{todo_of};
 ghost use Rattle.ioa_schedules.specs.Views.{StandsAt};
 ghost use Rattle.ioa_turns.specs.Inboxes.{inbox_at, inbox_of, inboxes_in, inboxes_seen, one_or_none};
 ghost use Rattle.ioa_turns.specs.NodeTurns as spec;
-ghost use Rattle.ioa_turns.specs.NodeTurns.{arguments_in, end_of, progress_of};
+ghost use Rattle.ioa_turns.specs.NodeTurns.{arguments_in, block_of, end_of, kept_in, progress_of};
 ghost use Rattle.ioa_commits.specs.Versions.{read_confs};
 
 use crate::progress::Progress;
@@ -144,6 +144,7 @@ pub fn turn_of<'a, O: Origin>(
     ensures stands { IfOk result (StandsAt (progress_of node.new).todo) }
     ensures same_program { (progress_of node.new).program ≡ (progress_of node.old).program }
     ensures same_ending { node.new.ending ≡ node.old.ending }
+    ensures kept { OnOk result (IfSome (kept_in node.new) (λ s. s ≡ block_of (progress_of node.old))) }
     ensures unchanged { OnErr result (progress_of node.new ≡ progress_of node.old) }
 {
     match find_conf(snapshot, Component::Node(node.program.node())) {
@@ -166,6 +167,7 @@ fn turn_on<'a, O: Origin>(
     ensures stands { IfOk result (StandsAt (todo_of node.new.control)) }
     ensures same_program { node.new.program.now ≡ node.old.program.now }
     ensures same_ending { node.new.ending ≡ node.old.ending }
+    ensures kept { OnOk result (IfSome (kept_in node.new) (λ s. s ≡ block_of (progress_of node.old))) }
     ensures unchanged { OnErr result (progress_of node.new ≡ progress_of node.old) }
 {
     if shows_program(node.program, conf) {
@@ -197,6 +199,7 @@ fn turn_among<'a, O: Origin>(
     ensures stands { IfOk result (StandsAt (todo_of node.new.control)) }
     ensures same_program { node.new.program.now ≡ node.old.program.now }
     ensures same_ending { node.new.ending ≡ node.old.ending }
+    ensures kept { OnOk result (IfSome (kept_in node.new) (λ s. s ≡ block_of (progress_of node.old))) }
     ensures unchanged { OnErr result (progress_of node.new ≡ progress_of node.old) }
 {
     if node.program.automaton().takes_messages() {
@@ -221,6 +224,7 @@ fn turn_by_inboxes<'a, O: Origin>(
     ensures stands { IfOk result (StandsAt (todo_of node.new.control)) }
     ensures same_program { node.new.program.now ≡ node.old.program.now }
     ensures same_ending { node.new.ending ≡ node.old.ending }
+    ensures kept { OnOk result (IfSome (kept_in node.new) (λ s. s ≡ block_of (progress_of node.old))) }
     ensures unchanged { OnErr result (progress_of node.new ≡ progress_of node.old) }
 {
     match only_inbox(snapshot, node.program.node()) {
@@ -245,6 +249,7 @@ fn turn_by_all_inboxes<'a, O: Origin>(
     ensures stands { IfOk result (StandsAt (todo_of node.new.control)) }
     ensures same_program { node.new.program.now ≡ node.old.program.now }
     ensures same_ending { node.new.ending ≡ node.old.ending }
+    ensures kept { OnOk result (IfSome (kept_in node.new) (λ s. s ≡ block_of (progress_of node.old))) }
     ensures unchanged { OnErr result (progress_of node.new ≡ progress_of node.old) }
 {
     let Ok(inboxes) = inboxes_to(alloc, snapshot, node.program.node()) else {
@@ -268,6 +273,7 @@ fn block_turn<'a>(
     ensures stands { IfOk result (StandsAt (todo_of node.new.control)) }
     ensures same_program { node.new.program.now ≡ node.old.program.now }
     ensures same_ending { node.new.ending ≡ node.old.ending }
+    ensures kept { OnOk result (IfSome (kept_in node.new) (λ s. s ≡ block_of (progress_of node.old))) }
     ensures unchanged { OnErr result (progress_of node.new ≡ progress_of node.old) }
 {
     let view = view_of(node.program, inboxes, conf);

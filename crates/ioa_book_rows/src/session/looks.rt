@@ -127,10 +127,10 @@ fn again_text(
     alloc: Global,
     number: usize,
     node: i64,
-    again: Result<(), LookFault>,
+    again: Result<bool, LookFault>,
 ) -> Result<String, AllocError> {
     match again {
-        Ok(()) => look_text(alloc, number, node),
+        Ok(_) => look_text(alloc, number, node),
         Err(fault) => format!(in alloc; "{fault}"),
     }
 }

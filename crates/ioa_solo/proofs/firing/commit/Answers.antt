@@ -23,7 +23,7 @@ returns-in-Ok-clause-goes g c = λ t p.
 pub returns-in-Ok-clause-fired : goal.returns-in-Ok-clause-fired
 returns-in-Ok-clause-fired g c = λ t p.
     taken_comes _ (progress_of c.args.node.now) c.args.proposal p _ _ _ _ _ (c.in-Ok.ensures.taken t.told)
-    ∙ ap (λ (q : PlainProgress). (course_of (g.B.Board.tells c.attempt.new.board), q)) (sym c.pass.ensures)
+    ∙ ap (λ (q : PlainProgress). (course_of (g.B.Board.tells c.attempt.new.board), q)) (sym c.pass.ensures.past)
 
 pub returns-in-Err-clause-gained : goal.returns-in-Err-clause-gained
 returns-in-Err-clause-gained g c =

@@ -10,6 +10,7 @@ use Rattle.ioa_solo.specs.Solo.{attempt}
 use Rattle.ioa_solo.specs.Told.{IsToldTo, IsUpTo}
 use Rattle.ioa_solo.proofs.GoesOn.{goes_further, goes_nowhere}
 use Rattle.ioa_solo.proofs.Rounds.{if_failed}
+use Rattle.ioa_solo.proofs.SettledNodes.{both_settled, never_settled}
 use Rattle.ioa_solo.proofs.ToldTurns.{unseen_came}
 use Rattle.ioa_solo.proofs.visiting.attempt.Goals as goal
 
@@ -23,7 +24,7 @@ returns-in-Ok-clause-goes g c = λ t.
     let as_told = c.in-Ok.ensures.told t in
     let first : c.look_at.new.look ≡ Some (snapshot_after n old.start old.log) = search rules in
     let seen = subst (λ (b : PlainBook). c.look_at.new.look ≡ Some (snapshot_after n b.start b.log)) (sym same) first in
-    goes_further _ _ _ _ _ _ _ _ (goes_nowhere _ _ _ _ _ same refl up) (c.attempt_seen.ensures.goes then_told seen)
+    goes_further _ _ _ _ _ _ _ _ (goes_nowhere _ _ _ _ _ same refl up) (c.attempt_unless_settled.ensures.goes then_told seen)
 
 pub returns-in-Ok-clause-attempted : goal.returns-in-Ok-clause-attempted
 returns-in-Ok-clause-attempted g c = λ t.
@@ -35,8 +36,8 @@ returns-in-Ok-clause-attempted g c = λ t.
     let as_told = c.in-Ok.ensures.told t in
     let first : c.look_at.new.look ≡ Some (snapshot_after n old.start old.log) = search rules in
     let seen = subst (λ (b : PlainBook). c.look_at.new.look ≡ Some (snapshot_after n b.start b.log)) (sym same) first in
-    subst (λ (b : PlainBook). OnOk c.attempt_seen.result (Comes attempt b (progress_of c.args.node.now) (g.B.Board.tells c.attempt_seen.new.board) (progress_of c.attempt_seen.new.node))) same
-    (c.attempt_seen.ensures.attempted then_told seen)
+    subst (λ (b : PlainBook). OnOk c.attempt_unless_settled.result (Comes attempt b (progress_of c.args.node.now) (g.B.Board.tells c.attempt_unless_settled.new.board) (progress_of c.attempt_unless_settled.new.node))) same
+    (c.attempt_unless_settled.ensures.attempted then_told seen)
 
 pub returns-in-Err-clause-goes : goal.returns-in-Err-clause-goes
 returns-in-Err-clause-goes g c = λ t. goes_nowhere _ _ _ _ _ (c.look_at.ensures.same t.told) refl (c.look_at.ensures.not_ahead t)
@@ -47,12 +48,19 @@ returns-in-Err-clause-attempted g c = λ t.
     let p = progress_of c.args.node.now in
     let as_told = c.in-Err.ensures.fault t in
     let why : (c.in-Err.fault ≡ Memory) ⊎ ((c.in-Err.fault ≡ Unknown) × (is_some (held_of b (Node p.program.node)) ≡ false)) = search rules in
-    unseen_came c.end_by_fault.result b (g.B.Board.tells c.look_at.new.board) p p (progress_of c.end_by_fault.new.node) c.in-Err.fault c.fault_of_view.result
-    c.fault_of_view.ensures why (c.look_at.ensures.same t.told) c.end_by_fault.ensures.ended
+    unseen_came c.end_attempt.result b (g.B.Board.tells c.look_at.new.board) p p (progress_of c.end_attempt.new.node) c.in-Err.fault c.fault_of_view.result
+    c.fault_of_view.ensures why (c.look_at.ensures.same t.told) c.end_attempt.ensures.ended
 
 pub returns-in-Ok-clause-stays : goal.returns-in-Ok-clause-stays
 returns-in-Ok-clause-stays g c = λ told.
-    subst (λ (b : PlainBook). OnErr c.attempt_seen.result (g.B.Board.tells c.attempt_seen.new.board ≡ b)) (c.look_at.ensures.same told) (c.attempt_seen.ensures.stays told)
+    subst (λ (b : PlainBook). OnErr c.attempt_unless_settled.result (g.B.Board.tells c.attempt_unless_settled.new.board ≡ b)) (c.look_at.ensures.same told) (c.attempt_unless_settled.ensures.stays told)
 
 pub returns-in-Err-clause-stays : goal.returns-in-Err-clause-stays
-returns-in-Err-clause-stays g c = λ told. if_failed c.end_by_fault.result (c.look_at.ensures.same told)
+returns-in-Err-clause-stays g c = λ told. if_failed c.end_attempt.result (c.look_at.ensures.same told)
+
+pub attempt_unless_settled-requires-clause-settled : goal.attempt_unless_settled-requires-clause-settled
+attempt_unless_settled-requires-clause-settled g c = λ e.
+    both_settled c.in-Ok.is_same c.args.is_settled (progress_of c.args.node.now) c.args.look.now c.look_at.new.look c.requires.settled c.in-Ok.ensures.again e
+
+pub returns-in-Err-clause-settled : goal.returns-in-Err-clause-settled
+returns-in-Err-clause-settled g c = never_settled _ c.end_attempt.result c.end_attempt.ensures.unsettled

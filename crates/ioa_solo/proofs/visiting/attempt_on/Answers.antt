@@ -3,6 +3,7 @@ use Rattle.ioa_book.specs.Looks.{IsLookAt}
 use Rattle.ioa_turns.specs.NodeTurns.{arguments_in, end_of, progress_of}
 use Rattle.ioa_solo.proofs.GoesOn.{goes_nowhere}
 use Rattle.ioa_solo.proofs.Rounds.{if_failed}
+use Rattle.ioa_solo.proofs.SettledNodes.{never_settled}
 use Rattle.ioa_solo.proofs.ToldTurns.{turn_came, turn_failed}
 use Rattle.ioa_solo.proofs.visiting.attempt_on.Goals as goal
 
@@ -22,8 +23,11 @@ returns-in-Err-clause-goes g c = λ t fresh. goes_nowhere _ _ _ _ _ refl refl t.
 
 pub returns-in-Err-clause-attempted : goal.returns-in-Err-clause-attempted
 returns-in-Err-clause-attempted g c = λ t fresh.
-    turn_failed c.end_by_fault.result (g.B.Board.tells c.args.board.now) (g.B.Board.tells c.args.board.now) (progress_of c.args.node.now) (progress_of c.turn_on.new.node) (progress_of c.end_by_fault.new.node)
-    c.in-Err.fault (c.in-Err.ensures.told (g.B.Board.tells c.args.board.now) fresh) c.in-Err.ensures.unchanged c.end_by_fault.ensures.ended
+    turn_failed c.end_attempt.result (g.B.Board.tells c.args.board.now) (g.B.Board.tells c.args.board.now) (progress_of c.args.node.now) (progress_of c.turn_on.new.node) (progress_of c.end_attempt.new.node)
+    c.in-Err.fault (c.in-Err.ensures.told (g.B.Board.tells c.args.board.now) fresh) c.in-Err.ensures.unchanged c.end_attempt.ensures.ended
 
 pub returns-in-Err-clause-stays : goal.returns-in-Err-clause-stays
-returns-in-Err-clause-stays g c = λ told. if_failed c.end_by_fault.result refl
+returns-in-Err-clause-stays g c = λ told. if_failed c.end_attempt.result refl
+
+pub returns-in-Err-clause-settled : goal.returns-in-Err-clause-settled
+returns-in-Err-clause-settled g c = never_settled _ c.end_attempt.result c.end_attempt.ensures.unsettled

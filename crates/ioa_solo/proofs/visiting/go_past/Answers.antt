@@ -2,7 +2,9 @@ use Rattle.std.proofs.Common.{refl, sym, ap, subst, ◌∙◌}
 use Rattle.std.specs.Arc.{arc_value}
 use Rattle.std.specs.Prelude.{OnOk}
 use Rattle.ioa_actions.specs.declared.action.Action.{Action}
-use Rattle.ioa_turns.specs.NodeTurns.{PlainProgress, progress_of}
+use Rattle.ioa_terms.specs.View.{firing_of}
+use Rattle.ioa_turns.specs.NodeTurns.{PlainProgress, arguments_in, kept_in, progress_of}
+use Rattle.ioa_solo.proofs.SettledNodes.{fire_settled}
 use Rattle.ioa_solo.specs.Fires.{IsAfterFire, IsProposedIn, failed_by}
 use Rattle.ioa_solo.specs.Solo.{course_of}
 use Rattle.ioa_solo.proofs.GoesOn.{goes_nowhere}
@@ -44,3 +46,11 @@ returns-clause-passed g c = λ t fresh.
 
 pub returns-clause-stays : goal.returns-clause-stays
 returns-clause-stays g c = λ told. if_failed c.after_fault.result refl
+
+pub returns-clause-settled : goal.returns-clause-settled
+returns-clause-settled g c =
+    let p = progress_of c.args.node.now in
+    let fired = firing_of c.args.firing.now in
+    fire_settled c.after_fault.result (kept_in c.args.node.now) (kept_in c.action_fired.new.self) c.args.snapshot.now p (progress_of c.action_fired.new.self) (progress_of c.after_fault.new.node)
+    fired.kind fired.action (arguments_in c.args.node.now) (arc_value c.in_ok-action.action) c.in-Err.fault
+    c.requires.turned c.action_fired.ensures.unchanged c.action_fired.ensures.kept c.in_ok-action.ensures.action c.in-Err.ensures c.after_fault.ensures.failed c.after_fault.ensures.back

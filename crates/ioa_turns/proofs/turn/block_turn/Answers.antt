@@ -5,7 +5,7 @@ use Rattle.ioa_schedules.specs.Controls.{arguments_of, todo_of, values_of}
 use Rattle.ioa_turns.specs.NodeTurns.{progress_of}
 use Rattle.ioa_terms.specs.Views.{environment_of}
 use Rattle.ioa_schedules.specs.Turns.{turn_limit}
-use Rattle.ioa_turns.proofs.Numbered.{left_numbered}
+use Rattle.ioa_turns.proofs.Numbered.{left_numbered, todo_kept}
 use Rattle.ioa_turns.proofs.Ready.{Sees, ready_after, sees_named, seen_as, turn_told}
 use Rattle.ioa_turns.proofs.turn.block_turn.Goals as goal
 
@@ -30,6 +30,6 @@ invariant_of-node c =
     let left = values_of c.next.new.control in
     record {
       ready = ready_after c.args.node.now.program.now seen c.args.conf.now.variables c.view_of-view.result sees (todo_of c.next.new.control) left c.next.ensures.resolved (c.next.ensures.kept ∙ c.args.node.now.ready.valued)
-          (left_numbered c.args.node.now.program.now.automaton.rules (todo_of c.args.node.now.control) (todo_of c.next.new.control) turn_limit (environment_of c.view_of-view.result own) (environment_of c.view_of-view.result left) (arguments_of c.next.new.control) c.next.result c.next.ensures.turn c.next.ensures.todo c.args.node.now.ready.numbered);
+          (left_numbered c.args.node.now.program.now.automaton.rules (todo_of c.args.node.now.control) (todo_of c.next.new.control) turn_limit (environment_of c.view_of-view.result own) (environment_of c.view_of-view.result left) (arguments_of c.next.new.control) c.next.result c.next.ensures.turn (todo_kept c.next.result _ _ c.next.ensures.state) c.args.node.now.ready.numbered);
       fired = c.args.node.now.fired;
     }

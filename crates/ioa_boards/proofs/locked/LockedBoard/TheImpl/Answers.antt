@@ -7,7 +7,7 @@ pub is_opened_with-tells : goal.is_opened_with-tells
 is_opened_with-tells g c = λ e. absurd (false≢true e)
 
 pub look-tells : goal.look-tells
-look-tells g c = record { some = c.ensures.some; told = λ e. absurd (false≢true e); same = λ _. refl }
+look-tells g c = record { some = c.ensures.some; told = λ e. absurd (false≢true e); again = c.ensures.again; same = λ _. refl }
 
 pub attempt_offer-tells : goal.attempt_offer-tells
 attempt_offer-tells g c =

@@ -2,7 +2,7 @@ use Rattle.ioa_terms.specs.View.{firing_of, statement_of}
 use Rattle.ioa_terms.specs.Views.{names_in_view}
 use Rattle.ioa_schedules.specs.Controls.{todo_of}
 use Rattle.ioa_schedules.proofs.Firsts.{firing_resolved}
-use Rattle.ioa_schedules.proofs.control.turn_here.Goals as goal
+use Rattle.ioa_schedules.proofs.turning.turn_here.Goals as goal
 
 pub fired-requires-clause-resolved : goal.fired-requires-clause-resolved
 fired-requires-clause-resolved c =

@@ -1,10 +1,11 @@
 use Rattle.std.proofs.Common.{◌≡◌, length}
-use Rattle.ioa_schedules.specs.States.{todo_in, values_in}
+use Rattle.ioa_schedules.specs.Positions.{IsEndOf}
+use Rattle.ioa_schedules.specs.States.{bottom_in, todo_in, values_in}
 use Rattle.ioa_schedules.specs.Turns.{turn_limit}
 use Rattle.ioa_schedules.specs.TurnsByStep.{stepwise_turn}
 use Rattle.ioa_terms.specs.Views.{IsNamed, environment_of}
 use Rattle.ioa_schedules.specs.Views.{AreResolvedIn}
-use Rattle.ioa_schedules.proofs.control.run.Given as goal
+use Rattle.ioa_schedules.proofs.turning.run.Given as goal
 
 -- the turn is what may still be taken of it from here
 abbrev pub invariant-loop-left : goal.invariant-loop-left
@@ -14,6 +15,7 @@ invariant-loop-left l = record {
   kept : length (values_in l.state) ≡ length (values_in l.fn.state);
   same : stepwise_turn (todo_in l.fn.state) turn_limit (environment_of l.view (values_in l.fn.state))
       ≡ stepwise_turn (todo_in l.state) l.left (environment_of l.view (values_in l.state));
+  end : IsEndOf (bottom_in l.state) (bottom_in l.fn.state);
 }
 
 abbrev pub decreases-loop-left : goal.decreases-loop-left

@@ -1,0 +1,6 @@
+use Rattle.ioa_turns.specs.NodeTurns.{progress_of}
+use Rattle.ioa_solo.proofs.SettledNodes.{settled_there}
+use Rattle.ioa_solo.proofs.visiting.attempt_unless_settled.Goals as goal
+
+pub returns-then-is_settled-clause-attempted : goal.returns-then-is_settled-clause-attempted
+returns-then-is_settled-clause-attempted g c = λ t seen. settled_there (g.B.Board.tells c.args.board.now) (progress_of c.args.node.now) c.args.look.now seen (c.requires.settled c.if-is_settled.true)
