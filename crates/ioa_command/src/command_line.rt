@@ -23,7 +23,7 @@ use crate::words::options;
 use clap::Error;
 use clap::error::ErrorKind;
 use ioa_explain::{Finding, explain};
-use ioa_pipeline::{Findings, Open, check_text, print_text, run_system, trace_text};
+use ioa_pipeline::{Findings, Gate, check_text, print_text, run_system, trace_text};
 use ioa_streams::{Out, parts, put_all, schedule_part};
 use std::alloc::{AllocError, Global};
 use std::io::Read;
@@ -49,12 +49,13 @@ const FOUND: u8 = 4;
 /// if memory ran out, what several workers left could not be put together, or reading or writing failed; and 4 if the
 /// report was written and has what `--fail-on` names.
 /// If it is 1, 2 or 3, `err` says why, but where `explain` says it on `out`; a fault of `err` is ignored. If there is no
-/// memory for what it has to say, the status is 3 and a line says so.
-#[tactic(auto, using(crate::proofs::Endings::refused_of))]
-pub fn command<'a, R: Files + Threads + Wait + Sync, I: Read, O: Out, E: Out>(
+/// memory for what it has to say, the status is 3 and a line says so. The gate is called between the steps of `run`'s
+/// workers, so who watches the program sees how far it has come.
+pub fn command<'a, R: Files + Threads + Wait + Sync, G: Gate + Sync, I: Read, O: Out, E: Out>(
     rt: &R,
     alloc: Global,
     words: &'a [&'a str],
+    gate: &G,
     reader: &mut I,
     out: &mut O,
     err: &mut E,
@@ -75,14 +76,15 @@ pub fn command<'a, R: Files + Threads + Wait + Sync, I: Read, O: Out, E: Out>(
         (output (O.bytes out.old) (O.bytes out.new) (O.failed out.new))
         (output (E.bytes err.old) (E.bytes err.new) (E.failed err.new)) result }
 {
-    execute_words(rt, alloc, words, reader, out, err)
+    execute_words(rt, alloc, words, gate, reader, out, err)
 }
 
 /// Does what the words choose, and tells of a fault.
-fn execute_words<'a, R: Files + Threads + Wait + Sync, I: Read, O: Out, E: Out>(
+fn execute_words<'a, R: Files + Threads + Wait + Sync, G: Gate + Sync, I: Read, O: Out, E: Out>(
     rt: &R,
     alloc: Global,
     words: &'a [&'a str],
+    gate: &G,
     reader: &mut I,
     out: &mut O,
     err: &mut E,
@@ -94,16 +96,17 @@ fn execute_words<'a, R: Files + Threads + Wait + Sync, I: Read, O: Out, E: Out>(
         (output (E.bytes err.old) (E.bytes err.new) (E.failed err.new)) result }
 {
     match options(alloc, words) {
-        Ok(subcommand) => obey(rt, alloc, &subcommand, reader, out, err),
+        Ok(subcommand) => obey(rt, alloc, &subcommand, gate, reader, out, err),
         Err(error) => show_words(alloc, &error, out, err),
     }
 }
 
 /// Does what a subcommand asks for, and tells of a fault.
-fn obey<R: Files + Threads + Wait + Sync, I: Read, O: Out, E: Out>(
+fn obey<R: Files + Threads + Wait + Sync, G: Gate + Sync, I: Read, O: Out, E: Out>(
     rt: &R,
     alloc: Global,
     subcommand: &Subcommand,
+    gate: &G,
     reader: &mut I,
     out: &mut O,
     err: &mut E,
@@ -115,7 +118,7 @@ fn obey<R: Files + Threads + Wait + Sync, I: Read, O: Out, E: Out>(
         (output (E.bytes err.old) (E.bytes err.new) (E.failed err.new)) result }
 {
     match subcommand {
-        Subcommand::Run(choice) => run_text(rt, alloc, choice, reader, out, err),
+        Subcommand::Run(choice) => run_text(rt, alloc, choice, gate, reader, out, err),
         Subcommand::Explain(input) => explain_text(rt, alloc, input, reader, out, err),
         Subcommand::Trace(choice) => show_run(rt, alloc, choice, reader, out, err),
         Subcommand::Check(choice) => check_lines(rt, alloc, choice, reader, out, err),
@@ -124,10 +127,11 @@ fn obey<R: Files + Threads + Wait + Sync, I: Read, O: Out, E: Out>(
 }
 
 /// Runs a text, and tells of a fault or of what was found.
-fn run_text<R: Files + Threads + Wait + Sync, I: Read, O: Out, E: Out>(
+fn run_text<R: Files + Threads + Wait + Sync, G: Gate + Sync, I: Read, O: Out, E: Out>(
     rt: &R,
     alloc: Global,
     choice: &RunChoice,
+    gate: &G,
     reader: &mut I,
     out: &mut O,
     err: &mut E,
@@ -139,7 +143,7 @@ fn run_text<R: Files + Threads + Wait + Sync, I: Read, O: Out, E: Out>(
         × Tells (found_status choice.now.fail_on) (output (E.bytes err.old) (E.bytes err.new) (E.failed err.new))
         result outcome }
 {
-    let outcome = execute(rt, alloc, choice, reader, out);
+    let outcome = execute(rt, alloc, choice, gate, reader, out);
     match &outcome {
         Ok(found) => found_status(&choice.fail_on, found),
         Err(fault) => tell_fault(alloc, fault, err),
@@ -264,10 +268,11 @@ fn tell_fault<E: Out>(alloc: Global, fault: &TextFault, err: &mut E) -> u8
 
 /// Reads a text, runs its system and writes the report.
 #[tactic(auto, using(crate::proofs::Readings::run_rules))]
-fn execute<R: Files + Threads + Wait + Sync, I: Read, O: Out>(
+fn execute<R: Files + Threads + Wait + Sync, G: Gate + Sync, I: Read, O: Out>(
     rt: &R,
     alloc: Global,
     choice: &RunChoice,
+    gate: &G,
     reader: &mut I,
     out: &mut O,
 ) -> Result<Findings, TextFault>
@@ -276,7 +281,7 @@ fn execute<R: Files + Threads + Wait + Sync, I: Read, O: Out>(
         (output (O.bytes out.old) (O.bytes out.new) (O.failed out.new)) result }
 {
     let text = text_of(rt, alloc, &choice.input, reader)?;
-    match run_system(rt, alloc, text.as_str(), &choice.options, &Open, out) {
+    match run_system(rt, alloc, text.as_str(), &choice.options, gate, out) {
         Ok(found) => Ok(found),
         Err(fault) => Err(TextFault::Run(fault)),
     }

@@ -16,4 +16,5 @@ mod words;
 pub use choice::{CheckChoice, InputName, RunChoice, Subcommand, TraceChoice};
 pub use command_line::{BAD_WORDS, command};
 pub use faults::FAILED;
+pub use ioa_pipeline::Gate;
 pub use words::options;
