@@ -8,8 +8,9 @@ use Rattle.ioa_record.specs.declared.record.Record.{Record}
 use Rattle.ioa_paper.specs.declared.fault.ReportFault.{ReportFault}
 use Rattle.ioa_paper.specs.declared.fault.ReportFault.TheVariants as report
 use Rattle.ioa_show.specs.Sequences.{PutsSequence}
-use Rattle.ioa_show.specs.Shown.{PutsLines, PutsSome, PutsStates}
+use Rattle.ioa_show.specs.Shown.{PutsSome, PutsText}
 use Rattle.ioa_show.specs.States.{states_text}
+use Rattle.ioa_show.specs.Steps.{steps_text}
 use Rattle.ioa_pipeline.specs.WholeRun.{IsEarly, IsLeftBy}
 use Rattle.ioa_pipeline.specs.declared.whole_run.RunFault.{RunFault}
 use Rattle.ioa_pipeline.specs.declared.whole_run.RunFault.TheVariants as run
@@ -21,14 +22,14 @@ use Rattle.ioa_pipeline.specs.Tracing.{IsRefusalOfTrace, ShowsLeft, ShowsRun, sh
 
 -- what a picture puts out is how its format is shown
 pub steps_shown : (s : SystemParts) (left : Record) (endings : List Ending) (old new : Option (List ℕ)) (failed : Bool)
-    (r : Result (Unit {0}) ReportFault) → PutsLines old new failed r
+    (r : Result (Unit {0}) ReportFault) → PutsText (steps_text s left.schedule) old new failed r
     → ShowsLeft s left endings format.Json old new failed (shown r)
 steps_shown s left endings old new failed (Ok x) h = h
 steps_shown s left endings old new failed (Err report.Memory) h = tt
 steps_shown s left endings old new failed (Err report.Write) h = tt
 
 pub states_shown : (s : SystemParts) (left : Record) (endings : List Ending) (old new : Option (List ℕ)) (failed : Bool)
-    (r : Result (Unit {0}) ReportFault) → PutsStates (states_text s left.schedule) old new failed r
+    (r : Result (Unit {0}) ReportFault) → PutsText (states_text s left.schedule) old new failed r
     → ShowsLeft s left endings format.States old new failed (shown r)
 states_shown s left endings old new failed (Ok x) h = h
 states_shown s left endings old new failed (Err report.Memory) h = tt

@@ -1,4 +1,6 @@
 -- the lemmas of this crate
+pub mod Going
 pub mod Jsons
 pub mod Passing
 pub mod Puts
+pub mod Tags

@@ -3,3 +3,5 @@ pub mod Json
 pub mod Sequences
 pub mod Shown
 pub mod States
+pub mod Steps
+pub mod Tagged

@@ -13,18 +13,13 @@ PutsSome old new failed (Ok x) = (failed ≡ false) × ((text : List ℕ) × App
 PutsSome old new failed (Err Write) = (failed ≡ true) × ((text : List ℕ) × AppendsBeginning old new text)
 PutsSome old new failed (Err Memory) = (failed ≡ false) × Keeps old new
 
--- the same of a text whose parts are made one by one: if memory ran out, nothing is said of what went out before
-abbrev pub PutsLines : Option (List ℕ) → Option (List ℕ) → Bool → Result (Unit {0}) ReportFault → Type 0
-PutsLines old new failed (Ok x) = (failed ≡ false) × ((text : List ℕ) × Appends old new text)
-PutsLines old new failed (Err Write) = (failed ≡ true) × ((text : List ℕ) × AppendsBeginning old new text)
-PutsLines old new failed (Err Memory) = Unit {0}
-
--- the same of this text
-abbrev pub PutsStates : List ℕ → Option (List ℕ) → Option (List ℕ) → Bool → Result (Unit {0}) ReportFault
+-- this text goes out whole; if writing failed, a beginning of it went out, and the output says that it failed; if
+-- memory ran out, nothing is said of what went out before, since the parts of the text are made one by one
+abbrev pub PutsText : List ℕ → Option (List ℕ) → Option (List ℕ) → Bool → Result (Unit {0}) ReportFault
     → Type 0
-PutsStates text old new failed (Ok x) = (failed ≡ false) × Appends old new text
-PutsStates text old new failed (Err Write) = (failed ≡ true) × AppendsBeginning old new text
-PutsStates text old new failed (Err Memory) = Unit {0}
+PutsText text old new failed (Ok x) = (failed ≡ false) × Appends old new text
+PutsText text old new failed (Err Write) = (failed ≡ true) × AppendsBeginning old new text
+PutsText text old new failed (Err Memory) = Unit {0}
 
 -- on a paper there is more, or what there was: it stands behind what had gone out before it, on the same output
 abbrev pub Continues : PlainPaper → PlainPaper → Type 0

@@ -6,7 +6,7 @@ ghost use Rattle.ioa_actions.specs.ActionText.{action_text};
 ghost use Rattle.ioa_compose.specs.Composition.{joint_answer};
 ghost use Rattle.ioa_compose.specs.Start.{start};
 ghost use Rattle.ioa_paper.specs.Papers.{and_text};
-ghost use Rattle.ioa_show.specs.Shown.{Continues, PutsStates};
+ghost use Rattle.ioa_show.specs.Shown.{Continues, PutsText};
 ghost use Rattle.ioa_show.specs.States.{Steps, conf_fields, head_text, index_words, later_states};
 ghost use Rattle.ioa_show.specs.States.{opening_words, state_text, states_from, states_text, states_words};
 
@@ -35,7 +35,7 @@ pub fn itf<O: Out>(
     out: &mut O,
 ) -> Result<(), ReportFault>
     requires { O.failed out.old ≡ false }
-    ensures { PutsStates (states_text system.now run_record.now.schedule)
+    ensures { PutsText (states_text system.now run_record.now.schedule)
         (O.bytes out.old) (O.bytes out.new) (O.failed out.new) result }
 {
     let mut course = Course::start(alloc, system)?;

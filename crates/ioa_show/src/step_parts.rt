@@ -1,8 +1,20 @@
 //! The parts of the line of a step.
 
-ghost use Rattle.ioa_show.specs.Shown.{Continues};
+ghost use Rattle.std.specs.Prelude.{◌≡◌, ◌++◌, ◌∷◌, [], codes, false, map, slice_get};
+ghost use Rattle.std.specs.Fmt.{decimal, signed_decimal};
+ghost use Rattle.std.specs.Option.{option_copied};
+ghost use Rattle.ioa_actions.specs.ActionParts.{action_arguments};
+ghost use Rattle.ioa_compose.specs.Composition.{find_conf};
+ghost use Rattle.ioa_compose.specs.Participants.{participants_of};
+ghost use Rattle.ioa_source.specs.TextView.{variable_of};
+ghost use Rattle.ioa_values.specs.Data.{number};
+ghost use Rattle.ioa_values.specs.DataOrder.{same};
+ghost use Rattle.ioa_paper.specs.Papers.{and_text};
+ghost use Rattle.ioa_show.specs.Steps.{behind_then, between, change_told, change_unless, changes_behind, changes_of};
+ghost use Rattle.ioa_show.specs.Steps.{conf_changes, conf_length, queue_among, queue_name, queue_told, values_told};
+ghost use Rattle.ioa_show.specs.Steps as spec;
 
-use crate::step_values::put_plain;
+use crate::step_values::put_tagged;
 use ioa_actions::{Action, Component};
 use ioa_compose::{Conf, Parties, participants};
 use ioa_course::Course;
@@ -10,28 +22,26 @@ use ioa_paper::{Paper, put_separator};
 use ioa_source::Variable;
 use ioa_streams::Out;
 use ioa_terms::{Callee, Shape};
-use ioa_transitions::NodeConf;
 use ioa_values::{Names, Value};
 
-/// Writes the arguments of an action, between square brackets.
+/// Writes the arguments of an action.
 pub fn put_arguments<O: Out>(paper: &mut Paper<'_, O>, names: &Names, action: &Action)
-    ensures { Continues paper.old paper.new }
+    ensures { paper.new ≡ and_text paper.old (values_told names.now (action_arguments action.now)) }
 {
-    paper.put("[");
     match action {
         Action::Send { message, from, to } => put_message(paper, names, message, *from, *to),
         Action::Receive { message, from, to } => put_message(paper, names, message, *from, *to),
         Action::Local(action) => put_values(paper, names, action.arguments.as_slice()),
         Action::Stimulus(action) => put_values(paper, names, action.arguments.as_slice()),
     }
-    paper.put("]");
 }
 
 /// Writes a message and the two nodes.
 fn put_message<O: Out>(paper: &mut Paper<'_, O>, names: &Names, message: &Value, from: i64, to: i64)
-    ensures { Continues paper.old paper.new }
+    ensures { paper.new ≡ and_text paper.old
+        (values_told names.now (message.now ∷ (number from ∷ (number to ∷ [])))) }
 {
-    put_plain(paper, names, message);
+    put_tagged(paper, names, message);
     paper.put(", ");
     paper.put_number(from);
     paper.put(", ");
@@ -40,107 +50,183 @@ fn put_message<O: Out>(paper: &mut Paper<'_, O>, names: &Names, message: &Value,
 
 /// Writes values with commas between them.
 fn put_values<O: Out>(paper: &mut Paper<'_, O>, names: &Names, values: &[Value])
-    ensures { Continues paper.old paper.new }
+    ensures { paper.new ≡ and_text paper.old (values_told names.now values.now) }
 {
     for (position, value) in values.iter().enumerate() {
         put_separator(paper, position);
-        put_plain(paper, names, value);
+        put_tagged(paper, names, value);
     }
 }
 
-/// Writes which variables of the node in a slot have other values than before, between square brackets.
+/// Writes which variables of a component have other values than before; nothing if it is no node.
 pub fn put_changes<O: Out>(
     paper: &mut Paper<'_, O>,
     names: &Names,
     before: &[Value],
     conf: Option<&Conf>,
 )
-    ensures { Continues paper.old paper.new }
+    ensures { paper.new ≡ and_text paper.old (changes_of names.now before.now (option_copied conf.entry)) }
 {
-    paper.put("[");
     match conf {
-        Some(Conf::Node(node)) => put_changed(paper, names, before, node),
-        Some(Conf::Queue(_)) | None => {}
+        Some(conf) => put_conf_changes(paper, names, before, conf),
+        None => {}
     }
-    paper.put("]");
 }
 
-/// Writes which variables of a node have other values than before.
-fn put_changed<O: Out>(paper: &mut Paper<'_, O>, names: &Names, before: &[Value], node: &NodeConf)
-    ensures { Continues paper.old paper.new }
+/// Writes which variables of a component have other values than before.
+fn put_conf_changes<O: Out>(paper: &mut Paper<'_, O>, names: &Names, before: &[Value], conf: &Conf)
+    ensures { paper.new ≡ and_text paper.old (conf_changes names.now before.now conf.now) }
 {
-    let variables = node.program().automaton().variables();
-    let mut count = 0_usize;
-    for (position, value) in node.variables().as_slice().iter().enumerate() {
-        if let (Some(old), Some(variable)) = (before.get(position), variables.get(position)) {
-            if !value.equals(old) {
-                put_separator(paper, count);
-                put_change(paper, names, variable, old, value);
-                count = count.saturating_add(1);
-            }
+    match conf {
+        Conf::Node(node) => {
+            let after = node.variables().as_slice();
+            let variables = node.program().automaton().variables();
+            put_all(paper, names, before, after, variables)
         }
+        Conf::Queue(_) => {}
+    }
+}
+
+/// Writes each variable that has another value.
+fn put_all<O: Out>(
+    paper: &mut Paper<'_, O>,
+    names: &Names,
+    before: &[Value],
+    after: &[Value],
+    variables: &[Variable<usize, Callee, Shape>],
+)
+    ensures { paper.new ≡ and_text paper.old
+        (changes_behind names.now false before.now after.now (map variable_of variables.now)) }
+{
+    let mut behind = false;
+    for (position, old) in before.iter().enumerate() {
+        let Some(new) = after.get(position) else {
+            return;
+        };
+        let Some(variable) = variables.get(position) else {
+            return;
+        };
+        let name = variable.declared.name.as_str();
+        behind = put_changed(paper, names, behind, name, old, new);
+    }
+}
+
+/// Writes a variable unless it has the same value. Answers whether there are changes now, if there were some or not.
+fn put_changed<O: Out>(
+    paper: &mut Paper<'_, O>,
+    names: &Names,
+    behind: bool,
+    name: &str,
+    old: &Value,
+    new: &Value,
+) -> bool
+    ensures text { paper.new ≡ and_text paper.old
+        (change_unless (same old.now new.now) names.now behind name.now old.now new.now) }
+    ensures behind { result ≡ behind_then (same old.now new.now) behind }
+{
+    if old.equals(new) {
+        return behind;
+    }
+    put_between(paper, behind);
+    put_change(paper, names, name, old, new);
+    true
+}
+
+/// Writes what stands in front of a change.
+fn put_between<O: Out>(paper: &mut Paper<'_, O>, behind: bool)
+    ensures { paper.new ≡ and_text paper.old (between behind) }
+{
+    if behind {
+        paper.put(", ");
     }
 }
 
 /// Writes a variable with its new and its old value.
-fn put_change<O: Out>(
-    paper: &mut Paper<'_, O>,
-    names: &Names,
-    variable: &Variable<usize, Callee, Shape>,
-    old: &Value,
-    new: &Value,
-)
-    ensures { Continues paper.old paper.new }
+fn put_change<O: Out>(paper: &mut Paper<'_, O>, names: &Names, name: &str, old: &Value, new: &Value)
+    ensures { paper.new ≡ and_text paper.old (change_told names.now name.now old.now new.now) }
 {
     paper.put("{\"new\":");
-    put_plain(paper, names, new);
+    put_tagged(paper, names, new);
     paper.put(",\"old\":");
-    put_plain(paper, names, old);
+    put_tagged(paper, names, old);
     paper.put(",\"variable\":\"");
-    paper.put(variable.declared.name.as_str());
+    paper.put(name);
     paper.put("\"}");
 }
 
-/// Writes the queue of which an action takes or to which it adds, with its new length, between square brackets.
-pub fn put_queues<O: Out>(paper: &mut Paper<'_, O>, course: &Course, action: &Action)
-    ensures { Continues paper.old paper.new }
+/// Writes the queue of which an action takes or to which it adds, with its length.
+pub fn put_queue<O: Out>(paper: &mut Paper<'_, O>, course: &Course, action: &Action)
+    ensures { paper.new ≡ and_text paper.old (queue_among (participants_of action.now) course.now) }
 {
-    paper.put("[");
     match participants(action) {
         Parties::One(_) => {}
-        Parties::Two(queue, _) => put_queue(paper, queue, length_of(course, queue)),
+        Parties::Two(queue, _) => put_length(paper, queue, length_of(conf_of(course, queue))),
     }
-    paper.put("]");
 }
 
-/// How many items the queue of a component has; none if there is no such queue.
-fn length_of(course: &Course, component: Component) -> usize {
-    let Some(slot) = course.slot_of(component) else {
-        return 0;
-    };
-    match course.confs().get(slot) {
-        Some(Conf::Queue(queue)) => queue.len(),
-        Some(Conf::Node(_)) | None => 0,
+/// The configuration of a component, if there is one.
+#[tactic(auto, using(ioa_verdicts::proofs::Found::found_at, ioa_verdicts::proofs::Found::found_nowhere))]
+pub fn conf_of(course: &Course, component: Component) -> Option<&Conf>
+    ensures { option_copied result ≡ find_conf component course.now }
+{
+    match course.slot_of(component) {
+        Some(slot) => conf_at(course.confs(), slot),
+        None => None,
+    }
+}
+
+/// The configuration in a slot, if there is one.
+fn conf_at(confs: &[Conf], slot: usize) -> Option<&Conf>
+    ensures { option_copied result ≡ slice_get confs.now slot }
+{
+    confs.get(slot)
+}
+
+/// How many items a queue has; none if there is no such queue.
+fn length_of(conf: Option<&Conf>) -> usize
+    ensures { result ≡ spec.length_of (option_copied conf.entry) }
+{
+    match conf {
+        Some(conf) => conf_length(conf),
+        None => 0,
+    }
+}
+
+/// How many items a queue has; none if it is a node.
+fn conf_length(conf: &Conf) -> usize
+    ensures { result ≡ conf_length conf.now }
+{
+    match conf {
+        Conf::Node(_) => 0,
+        Conf::Queue(queue) => queue.len(),
     }
 }
 
 /// Writes a queue with its length.
-fn put_queue<O: Out>(paper: &mut Paper<'_, O>, component: Component, length: usize)
-    ensures { Continues paper.old paper.new }
+fn put_length<O: Out>(paper: &mut Paper<'_, O>, component: Component, length: usize)
+    ensures { paper.new ≡ and_text paper.old (queue_told component length) }
+{
+    put_name(paper, component);
+    paper.put(",\"length\":");
+    paper.put_number(length);
+    paper.put("}");
+}
+
+/// Writes which queue it is.
+fn put_name<O: Out>(paper: &mut Paper<'_, O>, component: Component)
+    ensures { paper.new ≡ and_text paper.old (queue_name component) }
 {
     match component {
         Component::Channel { from, to } => put_channel(paper, from, to),
         Component::Node(node) => put_script(paper, node),
         Component::Script(node) => put_script(paper, node),
     }
-    paper.put(",\"length\":");
-    paper.put_number(length);
-    paper.put("}");
 }
 
 /// Writes a channel.
 fn put_channel<O: Out>(paper: &mut Paper<'_, O>, from: i64, to: i64)
-    ensures { Continues paper.old paper.new }
+    ensures { paper.new ≡ and_text paper.old
+        (codes "{\"channel\":[" ++ (signed_decimal from ++ (codes ", " ++ (signed_decimal to ++ codes "]")))) }
 {
     paper.put("{\"channel\":[");
     paper.put_number(from);
@@ -151,7 +237,7 @@ fn put_channel<O: Out>(paper: &mut Paper<'_, O>, from: i64, to: i64)
 
 /// Writes the script of a node.
 fn put_script<O: Out>(paper: &mut Paper<'_, O>, node: i64)
-    ensures { Continues paper.old paper.new }
+    ensures { paper.new ≡ and_text paper.old (codes "{\"script\":" ++ signed_decimal node) }
 {
     paper.put("{\"script\":");
     paper.put_number(node);

@@ -1,79 +1,125 @@
 //! Values in the lines of steps.
 
-ghost use Rattle.ioa_show.specs.Shown.{Continues};
+ghost use Rattle.std.specs.Prelude.{◌≡◌, ◌++◌, [], codes, get_or};
+ghost use Rattle.ioa_values.specs.Data.{items_of, entries_of};
+ghost use Rattle.ioa_values.specs.Text.{truth_text, with_commas};
+ghost use Rattle.ioa_paper.specs.Papers.{and_text};
+ghost use Rattle.ioa_show.specs.Tagged.{tagged, tagged_entries, tagged_items};
 
 use ioa_paper::{Paper, put_separator};
 use ioa_streams::Out;
 use ioa_values::{Names, Sequence, Value, ValueForm};
 
-/// Writes a value: a number and a truth value as they are, a constant as `const` of its name, and a collection as a
-/// list under `tuple`, `seq`, `set` or `map`, whose entries are lists of a key and its value.
+/// Writes a value.
 #[cycle(telling)]
 #[tactic(auto, using(ioa_values::proofs::Falls::most_items, ioa_values::proofs::Falls::most_entries))]
-pub fn put_plain<O: Out>(paper: &mut Paper<'_, O>, names: &Names, value: &Value)
-    ensures { Continues paper.old paper.new }
+pub fn put_tagged<O: Out>(paper: &mut Paper<'_, O>, names: &Names, value: &Value)
+    ensures { paper.new ≡ and_text paper.old (tagged names.now value.now) }
 {
     match &value.form {
         ValueForm::Number(n) => paper.put_number(*n),
-        ValueForm::Truth(b) => paper.put(if *b { "true" } else { "false" }),
+        ValueForm::Truth(b) => put_truth(paper, *b),
         ValueForm::Constant(index) => put_constant(paper, names, *index),
         ValueForm::Tuple(parts) => put_enclosed(paper, names, "{\"tuple\":[", parts),
-        ValueForm::Sequence(items) => put_items(paper, names, items),
+        ValueForm::Sequence(items) => put_sequence(paper, names, items),
         ValueForm::Set(members) => put_enclosed(paper, names, "{\"set\":[", members),
-        ValueForm::Map(entries) => put_entries(paper, names, entries),
+        ValueForm::Map(entries) => put_map(paper, names, entries),
     }
+}
+
+/// Writes a truth value.
+fn put_truth<O: Out>(paper: &mut Paper<'_, O>, truth: bool)
+    ensures { paper.new ≡ and_text paper.old (truth_text truth) }
+{
+    paper.put(if truth { "true" } else { "false" });
 }
 
 /// Writes the name of the constant of an index, the empty one if it has no name.
 fn put_constant<O: Out>(paper: &mut Paper<'_, O>, names: &Names, index: usize)
-    ensures { Continues paper.old paper.new }
+    ensures { paper.new ≡ and_text paper.old
+        (codes "{\"const\":\"" ++ (get_or names.now index [] ++ codes "\"}")) }
 {
     paper.put("{\"const\":\"");
+    put_name(paper, names, index);
+    paper.put("\"}");
+}
+
+/// Writes the name of the constant of an index, if it has a name.
+fn put_name<O: Out>(paper: &mut Paper<'_, O>, names: &Names, index: usize)
+    ensures { paper.new ≡ and_text paper.old (get_or names.now index []) }
+{
     if let Some(word) = names.as_slice().get(index) {
         paper.put(word.as_str());
     }
-    paper.put("\"}");
 }
 
 /// Writes values as a list in an object that says what it is.
 #[cycle(telling)]
 fn put_enclosed<O: Out>(paper: &mut Paper<'_, O>, names: &Names, start: &str, values: &Vec<Value>)
-    ensures { Continues paper.old paper.new }
+    ensures { paper.new ≡ and_text paper.old
+        (start.now ++ with_commas (tagged_items names.now (items_of values.now.items)) ++ codes "]}") }
 {
     paper.put(start);
+    put_values(paper, names, values);
+    paper.put("]}");
+}
+
+/// Writes values with commas between them.
+#[cycle(telling)]
+fn put_values<O: Out>(paper: &mut Paper<'_, O>, names: &Names, values: &Vec<Value>)
+    ensures { paper.new ≡ and_text paper.old (with_commas (tagged_items names.now (items_of values.now.items))) }
+{
     for (position, value) in values.iter().enumerate() {
         put_separator(paper, position);
-        put_plain(paper, names, value);
+        put_tagged(paper, names, value);
     }
-    paper.put("]}");
 }
 
 /// Writes a sequence.
 #[cycle(telling)]
-fn put_items<O: Out>(paper: &mut Paper<'_, O>, names: &Names, items: &Sequence)
-    ensures { Continues paper.old paper.new }
+fn put_sequence<O: Out>(paper: &mut Paper<'_, O>, names: &Names, items: &Sequence)
+    ensures { paper.new ≡ and_text paper.old
+        (codes "{\"seq\":[" ++ with_commas (tagged_items names.now (items_of items.now)) ++ codes "]}") }
 {
     paper.put("{\"seq\":[");
+    put_items(paper, names, items);
+    paper.put("]}");
+}
+
+/// Writes items with commas between them.
+#[cycle(telling)]
+fn put_items<O: Out>(paper: &mut Paper<'_, O>, names: &Names, items: &Sequence)
+    ensures { paper.new ≡ and_text paper.old (with_commas (tagged_items names.now (items_of items.now))) }
+{
     for position in 0..items.len() {
         put_separator(paper, position);
-        put_plain(paper, names, items.at(position));
+        put_tagged(paper, names, items.at(position));
     }
-    paper.put("]}");
 }
 
 /// Writes a map.
 #[cycle(telling)]
-fn put_entries<O: Out>(paper: &mut Paper<'_, O>, names: &Names, entries: &Vec<(Value, Value)>)
-    ensures { Continues paper.old paper.new }
+fn put_map<O: Out>(paper: &mut Paper<'_, O>, names: &Names, entries: &Vec<(Value, Value)>)
+    ensures { paper.new ≡ and_text paper.old
+        (codes "{\"map\":[" ++ with_commas (tagged_entries names.now (entries_of entries.now.items)) ++ codes "]}") }
 {
     paper.put("{\"map\":[");
+    put_entries(paper, names, entries);
+    paper.put("]}");
+}
+
+/// Writes entries with commas between them.
+#[cycle(telling)]
+fn put_entries<O: Out>(paper: &mut Paper<'_, O>, names: &Names, entries: &Vec<(Value, Value)>)
+    ensures { paper.new ≡ and_text paper.old
+        (with_commas (tagged_entries names.now (entries_of entries.now.items))) }
+{
     for (position, entry) in entries.iter().enumerate() {
         put_separator(paper, position);
         paper.put("[");
-        put_plain(paper, names, &entry.0);
+        put_tagged(paper, names, &entry.0);
         paper.put(", ");
-        put_plain(paper, names, &entry.1);
+        put_tagged(paper, names, &entry.1);
         paper.put("]");
     }
-    paper.put("]}");
 }

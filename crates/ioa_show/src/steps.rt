@@ -1,9 +1,17 @@
 //! The steps of a run as JSON.
 
-ghost use Rattle.std.specs.Prelude.{◌≡◌, false};
-ghost use Rattle.ioa_show.specs.Shown.{Continues, PutsLines};
+ghost use Rattle.std.specs.Prelude.{◌≡◌, false, IfOk, OnOk};
+ghost use Rattle.std.specs.Option.{option_copied};
+ghost use Rattle.ioa_actions.specs.declared.component.Component.TheVariants as component;
+ghost use Rattle.ioa_compose.specs.Composition.{joint_answer};
+ghost use Rattle.ioa_compose.specs.Start.{start};
+ghost use Rattle.ioa_paper.specs.Papers.{and_text};
+ghost use Rattle.ioa_show.specs.Shown.{Continues, PutsText};
+ghost use Rattle.ioa_show.specs.States.{Steps};
+ghost use Rattle.ioa_show.specs.Steps.{end_told, head_told, line_told, place_told, step_line, step_lines};
+ghost use Rattle.ioa_show.specs.Steps.{steps_text, values_of};
 
-use crate::step_parts::{put_arguments, put_changes, put_queues};
+use crate::step_parts::{conf_of, put_arguments, put_changes, put_queue};
 use ioa_actions::{Action, Component, StepFault};
 use ioa_compose::Conf;
 use ioa_course::Course;
@@ -26,18 +34,13 @@ pub fn json<O: Out>(
     out: &mut O,
 ) -> Result<(), ReportFault>
     requires { O.failed out.old ≡ false }
-    ensures { PutsLines (O.bytes out.old) (O.bytes out.new) (O.failed out.new) result }
+    ensures { PutsText (steps_text system.now run_record.now.schedule)
+        (O.bytes out.old) (O.bytes out.new) (O.failed out.new) result }
 {
     let mut course = Course::start(alloc, system)?;
     let room = room(alloc)?;
     let mut paper = Paper::new(out, room);
-    let walked = put_steps(
-        alloc,
-        &mut paper,
-        system.names(),
-        &mut course,
-        &run_record.schedule,
-    );
+    let walked = put_all(alloc, &mut paper, system, &mut course, &run_record.schedule);
     let (out, outcome) = paper.finish();
     // No effect at run time. The proof reads what `out` holds from the reference that comes back.
     let _ = &*out;
@@ -48,6 +51,22 @@ pub fn json<O: Out>(
     }
 }
 
+/// Writes the lines of all steps of a system from its start.
+#[tactic(auto, unfolding(crate::specs::Steps::steps_text))]
+fn put_all<O: Out>(
+    alloc: Global,
+    paper: &mut Paper<'_, O>,
+    system: &System,
+    course: &mut Course,
+    schedule: &RawLog<Entry>,
+) -> Result<(), AllocError>
+    requires { course.old ≡ start system.now }
+    ensures whole { OnOk result (paper.new ≡ and_text paper.old (steps_text system.now schedule.now)) }
+    ensures part { Continues paper.old paper.new }
+{
+    put_steps(alloc, paper, system.names(), course, schedule)
+}
+
 /// Writes the lines of the entries of a schedule, as far as these are steps.
 fn put_steps<O: Out>(
     alloc: Global,
@@ -56,7 +75,8 @@ fn put_steps<O: Out>(
     course: &mut Course,
     schedule: &RawLog<Entry>,
 ) -> Result<(), AllocError>
-    ensures { Continues paper.old paper.new }
+    ensures whole { OnOk result (paper.new ≡ and_text paper.old (step_lines names.now 0 schedule.now course.old)) }
+    ensures part { Continues paper.old paper.new }
 {
     let mut position = 0;
     for entry in schedule.walk() {
@@ -77,15 +97,22 @@ fn put_step<O: Out>(
     entry: &Entry,
     position: usize,
 ) -> Result<bool, AllocError>
-    ensures { Continues paper.old paper.new }
+    ensures step { IfOk result (λ b. Steps b (joint_answer entry.now course.old) course.new paper.old paper.new
+        (step_line names.now position entry.now course.old course.new)) }
+    ensures part { Continues paper.old paper.new }
 {
-    let slot = course.slot_of(Component::Node(entry.action().node()));
-    let before = values_in(alloc, conf_in(course, slot))?;
+    let node = Component::Node(entry.action().node());
+    let before = values_in(alloc, conf_of(course, node))?;
     match course.advance(alloc, entry) {
         Ok(()) => {
-            put_head(paper, names, entry.action());
-            put_changes(paper, names, before.as_slice(), conf_in(course, slot));
-            put_rest(paper, names, course, entry.action(), position);
+            put_line(
+                paper,
+                names,
+                position,
+                entry.action(),
+                before.as_slice(),
+                course,
+            );
             Ok(true)
         }
         Err(StepFault::Memory) => Err(AllocError),
@@ -93,47 +120,66 @@ fn put_step<O: Out>(
     }
 }
 
-/// The configuration in a slot, if there is one.
-fn conf_in(course: &Course, slot: Option<usize>) -> Option<&Conf> {
-    course.confs().get(slot?)
-}
-
 /// Copies of the values of a node's variables; none if it is no node.
-fn values_in(alloc: Global, conf: Option<&Conf>) -> Result<Vec<Value>, AllocError> {
+fn values_in(alloc: Global, conf: Option<&Conf>) -> Result<Vec<Value>, AllocError>
+    ensures { IfOk result (λ v. v.items ≡ values_of (option_copied conf.entry)) }
+{
     match conf {
         Some(Conf::Node(node)) => copies(alloc, node.variables().as_slice()),
         Some(Conf::Queue(_)) | None => Ok(Vec::new(alloc)),
     }
 }
 
+/// Writes the line of an action at a position, whose node had these values before.
+fn put_line<O: Out>(
+    paper: &mut Paper<'_, O>,
+    names: &Names,
+    position: usize,
+    action: &Action,
+    before: &[Value],
+    course: &Course,
+)
+    ensures { paper.new ≡ and_text paper.old (line_told names.now position action.now before.now course.now) }
+{
+    put_head(paper, names, action);
+    put_changes(
+        paper,
+        names,
+        before,
+        conf_of(course, Component::Node(action.node())),
+    );
+    put_place(paper, action, position);
+    put_queue(paper, course, action);
+    put_end(paper, names, action);
+}
+
 /// Writes the beginning of the line of an action, as far as its changes.
 fn put_head<O: Out>(paper: &mut Paper<'_, O>, names: &Names, action: &Action)
-    ensures { Continues paper.old paper.new }
+    ensures { paper.new ≡ and_text paper.old (head_told names.now action.now) }
 {
     paper.put("{\"action\":\"");
     paper.put(action.name());
-    paper.put("\",\"arguments\":");
+    paper.put("\",\"arguments\":[");
     put_arguments(paper, names, action);
-    paper.put(",\"changes\":");
+    paper.put("],\"changes\":[");
 }
 
-/// Writes what stands behind the changes, to the end of the line.
-fn put_rest<O: Out>(
-    paper: &mut Paper<'_, O>,
-    names: &Names,
-    course: &Course,
-    action: &Action,
-    position: usize,
-)
-    ensures { Continues paper.old paper.new }
+/// Writes what stands between the changes and the queue.
+fn put_place<O: Out>(paper: &mut Paper<'_, O>, action: &Action, position: usize)
+    ensures { paper.new ≡ and_text paper.old (place_told action.now position) }
 {
-    paper.put(",\"kind\":\"step\",\"node\":");
+    paper.put("],\"kind\":\"step\",\"node\":");
     paper.put_number(action.node());
     paper.put(",\"number\":");
     paper.put_number(position);
-    paper.put(",\"queues\":");
-    put_queues(paper, course, action);
-    paper.put(",\"text\":\"");
+    paper.put(",\"queues\":[");
+}
+
+/// Writes what stands behind the queue, to the end of the line.
+fn put_end<O: Out>(paper: &mut Paper<'_, O>, names: &Names, action: &Action)
+    ensures { paper.new ≡ and_text paper.old (end_told names.now action.now) }
+{
+    paper.put("],\"text\":\"");
     put_action(paper, names, action);
     paper.put("\"}\n");
 }

@@ -1,14 +1,21 @@
-use Rattle.ioa_show.specs.Shown.{Continues}
+use Rattle.std.proofs.Common.{◌≡◌, take}
+use Rattle.ioa_values.specs.Data.{items_of, entries_of}
+use Rattle.ioa_values.specs.Text.{with_commas}
+use Rattle.ioa_paper.specs.Papers.{and_text}
+use Rattle.ioa_show.specs.Tagged.{tagged_entries, tagged_items}
 use Rattle.ioa_show.proofs.step_values.+telling.Given as goal
 
--- more was written
-abbrev pub invariant-put_enclosed-loop-position : goal.invariant-put_enclosed-loop-position
-invariant-put_enclosed-loop-position g l = Continues l.initial.paper l.paper
+-- what is written so far are the values gone by
+abbrev pub invariant-put_values-loop-position : goal.invariant-put_values-loop-position
+invariant-put_values-loop-position g l =
+    l.paper ≡ and_text l.initial.paper (with_commas (tagged_items l.names (items_of (take l.position l.values.items))))
 
--- more was written
+-- what is written so far are the items gone by
 abbrev pub invariant-put_items-loop-position : goal.invariant-put_items-loop-position
-invariant-put_items-loop-position g l = Continues l.initial.paper l.paper
+invariant-put_items-loop-position g l =
+    l.paper ≡ and_text l.initial.paper (with_commas (tagged_items l.names (items_of (take l.position l.items))))
 
--- more was written
+-- what is written so far are the entries gone by
 abbrev pub invariant-put_entries-loop-position : goal.invariant-put_entries-loop-position
-invariant-put_entries-loop-position g l = Continues l.initial.paper l.paper
+invariant-put_entries-loop-position g l =
+    l.paper ≡ and_text l.initial.paper (with_commas (tagged_entries l.names (entries_of (take l.position l.entries.items))))

@@ -1,0 +1,45 @@
+-- Lines of steps that are put one after another, as long as entries are steps.
+use Rattle.std.proofs.Common.{◌≡◌, ◌∙◌, ℕ, ◌+◌, ◌++◌, Bool, true, false, List, [], ◌∷◌, Result, Ok, Err, sym, ap, append-nil}
+use Rattle.std.specs.Prelude.{IsErr}
+use Rattle.ioa_actions.specs.declared.fault.StepFault.{StepFault}
+use Rattle.ioa_transitions.specs.Entries.{PlainEntry}
+use Rattle.ioa_compose.specs.Composition.{joint_answer}
+use Rattle.ioa_compose.specs.declared.configuration.Conf.{Conf}
+use Rattle.ioa_paper.specs.Papers.{PlainPaper, and_text}
+use Rattle.ioa_paper.proofs.Papers.{joined}
+use Rattle.ioa_show.specs.States.{Steps, if_step}
+use Rattle.ioa_show.specs.Steps.{step_line, step_lines}
+
+-- behind a step the lines that are left are those of the entries behind it
+pub lines_on : (names : List (List ℕ)) (k : ℕ) (e : PlainEntry) (whole rest : List PlainEntry) (cs next : List Conf)
+    (old new whole_paper : PlainPaper) (b : Bool) → and_text old (step_lines names k whole cs) ≡ whole_paper
+    → whole ≡ e ∷ rest → b ≡ true → Steps b (joint_answer e cs) next old new (step_line names k e cs next)
+    → and_text new (step_lines names (k + 1) rest next) ≡ whole_paper
+lines_on names k e whole rest cs next old new p false due is on step = absurd (cc)
+lines_on names k e whole rest cs next old new p true due is on step =
+    let here : and_text old (if_step (λ n. step_line names k e cs n ++ step_lines names (k + 1) rest n) (joint_answer e cs)) ≡ p = rw is at due in
+    let there : and_text old (step_line names k e cs next ++ step_lines names (k + 1) rest next) ≡ p = rw step.0 at here in
+    ap (λ (q : PlainPaper). and_text q (step_lines names (k + 1) rest next)) step.1
+    ∙ joined old (step_line names k e cs next) (step_lines names (k + 1) rest next) ∙ there
+
+-- at the end nothing is left
+pub lines_end : (names : List (List ℕ)) (k : ℕ) (whole : List PlainEntry) (cs : List Conf) (old whole_paper : PlainPaper)
+    → and_text old (step_lines names k whole cs) ≡ whole_paper → whole ≡ [] → old ≡ whole_paper
+lines_end names k whole cs old p due is =
+    let here : and_text old [] ≡ p = rw is at due in
+    ap (λ (t : List ℕ). record old { text = t }) (sym (append-nil old.text)) ∙ here
+
+-- at an entry that is no step nothing is left either
+pub lines_off : (names : List (List ℕ)) (k : ℕ) (e : PlainEntry) (whole rest : List PlainEntry) (cs next : List Conf)
+    (old new whole_paper : PlainPaper) (there : List ℕ) (b : Bool) → and_text old (step_lines names k whole cs) ≡ whole_paper
+    → whole ≡ e ∷ rest → b ≡ false → Steps b (joint_answer e cs) next old new there → new ≡ whole_paper
+lines_off names k e whole rest cs next old new p there true due is off step = absurd (cc)
+lines_off names k e whole rest cs next old new p there false due is off step =
+    let here : and_text old (if_step (λ n. step_line names k e cs n ++ step_lines names (k + 1) rest n) (joint_answer e cs)) ≡ p = rw is at due in
+    step.1 ∙ (ap (λ (t : List ℕ). record old { text = t }) (sym (append-nil old.text)) ∙ by_answer (joint_answer e cs) step.0 here)
+  where
+    by_answer : (r : Result (List Conf) StepFault) → IsErr r
+        → and_text old (if_step (λ n. step_line names k e cs n ++ step_lines names (k + 1) rest n) r) ≡ p
+        → and_text old [] ≡ p
+    by_answer (Ok n) stops due = absurd (cc)
+    by_answer (Err f) stops due = due

@@ -1,0 +1,41 @@
+use Rattle.std.proofs.Common.{◌≡◌, ◌∷◌, ◌+◌, ap, arith, length, refl, ◌∙◌}
+use Rattle.ioa_paper.specs.Papers.{and_text}
+use Rattle.ioa_show.specs.Steps.{step_line, step_lines}
+use Rattle.ioa_show.proofs.Going.{lines_end, lines_off, lines_on}
+use Rattle.ioa_show.proofs.steps.put_steps.Goals as goal
+
+pub loop-entry-init : goal.loop-entry-init
+loop-entry-init g c =
+    let whole : c.into_iter-entry-iterator.result ≡ c.args.schedule.now = c.into_iter-entry-iterator.ensures.into_iter_gives ∙ c.walk-entry-items.ensures.rest in
+    record {
+      counted = rw whole (omega arith);
+      due = rw whole refl;
+      part = (refl, refl);
+    }
+
+pub loop-entry-preserved : goal.loop-entry-preserved
+loop-entry-preserved g c =
+    let split : c.loop-entry.entry-iterator ≡ c.in-Some.entry.now ∷ c.next.new.self = c.in-Some.ensures.steps in
+    record {
+      counted = omega (arith, ap length split, c.loop-entry.invariant.counted);
+      due = lines_on c.args.names.now c.loop-entry.position c.in-Some.entry.now c.loop-entry.entry-iterator c.next.new.self
+          c.loop-entry.course c.put_step.new.course c.loop-entry.paper c.put_step.new.paper
+          (and_text c.args.paper.now (step_lines c.args.names.now 0 c.args.schedule.now c.args.course.now))
+          c.in_ok-put_step.field-0 c.loop-entry.invariant.due split c.if-not-branch.false c.in_ok-put_step.ensures.step;
+      part = (c.put_step.ensures.part.0 ∙ c.loop-entry.invariant.part.0, c.put_step.ensures.part.1 ∙ c.loop-entry.invariant.part.1);
+    }
+
+pub returns-clause-whole : goal.returns-clause-whole
+returns-clause-whole g c =
+    lines_end c.args.names.now c.loop-entry.position c.loop-entry.entry-iterator c.loop-entry.course c.loop-entry.paper
+    (and_text c.args.paper.now (step_lines c.args.names.now 0 c.args.schedule.now c.args.course.now))
+    c.loop-entry.invariant.due c.in-None.ensures.steps.0
+
+pub returns-then-not-branch-clause-whole : goal.returns-then-not-branch-clause-whole
+returns-then-not-branch-clause-whole g c =
+    let split : c.loop-entry.entry-iterator ≡ c.in-Some.entry.now ∷ c.next.new.self = c.in-Some.ensures.steps in
+    lines_off c.args.names.now c.loop-entry.position c.in-Some.entry.now c.loop-entry.entry-iterator c.next.new.self
+    c.loop-entry.course c.put_step.new.course c.loop-entry.paper c.put_step.new.paper
+    (and_text c.args.paper.now (step_lines c.args.names.now 0 c.args.schedule.now c.args.course.now))
+    (step_line c.args.names.now c.loop-entry.position c.in-Some.entry.now c.loop-entry.course c.put_step.new.course)
+    c.in_ok-put_step.field-0 c.loop-entry.invariant.due split c.if-not-branch.true c.in_ok-put_step.ensures.step
