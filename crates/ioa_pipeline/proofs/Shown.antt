@@ -7,8 +7,9 @@ use Rattle.ioa_record.specs.declared.ending.Ending.{Ending}
 use Rattle.ioa_record.specs.declared.record.Record.{Record}
 use Rattle.ioa_paper.specs.declared.fault.ReportFault.{ReportFault}
 use Rattle.ioa_paper.specs.declared.fault.ReportFault.TheVariants as report
-use Rattle.ioa_show.specs.Sequences.{PutsSequence}
-use Rattle.ioa_show.specs.Shown.{PutsSome, PutsText}
+use Rattle.ioa_show.specs.Diagrams.{diagram_of}
+use Rattle.ioa_show.specs.Sequences.{sequence_of}
+use Rattle.ioa_show.specs.Shown.{PutsText, PutsWhole}
 use Rattle.ioa_show.specs.States.{states_text}
 use Rattle.ioa_show.specs.Steps.{steps_text}
 use Rattle.ioa_pipeline.specs.WholeRun.{IsEarly, IsLeftBy}
@@ -36,14 +37,14 @@ states_shown s left endings old new failed (Err report.Memory) h = tt
 states_shown s left endings old new failed (Err report.Write) h = tt
 
 pub diagram_shown : (s : SystemParts) (left : Record) (endings : List Ending) (old new : Option (List ℕ)) (failed : Bool)
-    (r : Result (Unit {0}) ReportFault) → PutsSome old new failed r
+    (r : Result (Unit {0}) ReportFault) → PutsWhole (diagram_of s left.schedule) old new failed r
     → ShowsLeft s left endings format.Diagram old new failed (shown r)
 diagram_shown s left endings old new failed (Ok x) h = h
 diagram_shown s left endings old new failed (Err report.Memory) h = tt
 diagram_shown s left endings old new failed (Err report.Write) h = tt
 
 pub sequence_shown : (s : SystemParts) (left : Record) (endings : List Ending) (old new : Option (List ℕ)) (failed : Bool)
-    (r : Result (Unit {0}) ReportFault) → PutsSequence s left.schedule old new failed r
+    (r : Result (Unit {0}) ReportFault) → PutsWhole (sequence_of s left.schedule) old new failed r
     → ShowsLeft s left endings format.Sequence old new failed (shown r)
 sequence_shown s left endings old new failed (Ok x) h = h
 sequence_shown s left endings old new failed (Err report.Memory) h = tt

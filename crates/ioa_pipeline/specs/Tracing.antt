@@ -13,8 +13,9 @@ use Rattle.ioa_tell.specs.Told.{TellsRun}
 use Rattle.ioa_tell.specs.declared.fault.TellFault.{TellFault}
 use Rattle.ioa_tell.specs.declared.fault.TellFault.TheVariants as tell
 use Rattle.ioa_tell_text.specs.Teller.{PlainTeller, teller_after}
-use Rattle.ioa_show.specs.Sequences.{PutsSequence}
-use Rattle.ioa_show.specs.Shown.{PutsSome, PutsText}
+use Rattle.ioa_show.specs.Diagrams.{diagram_of}
+use Rattle.ioa_show.specs.Sequences.{sequence_of}
+use Rattle.ioa_show.specs.Shown.{PutsText, PutsWhole}
 use Rattle.ioa_show.specs.States.{states_text}
 use Rattle.ioa_show.specs.Steps.{steps_text}
 use Rattle.ioa_pipeline.specs.WholeRun.{IsLeftBy, IsRefusalOf, run_fault_text}
@@ -64,13 +65,13 @@ shown (Ok x) = Ok tt
 shown (Err report.Memory) = Err (Run run.Memory)
 shown (Err report.Write) = Err (Run run.Write)
 
--- what went out whole of a run in a format: of all but a space-time diagram which text it is
+-- what went out whole of a run in a format: a telling of it, or the text that its schedule determines
 abbrev pub IsShown : Format → SystemParts → Record → List Ending → (old new : Option (List ℕ)) → Bool → Type 0
 IsShown format.Text s left endings old new failed = PutsTelling s left endings old new failed
 IsShown format.Json s left endings old new failed = PutsText (steps_text s left.schedule) old new failed (Ok tt)
 IsShown format.States s left endings old new failed = PutsText (states_text s left.schedule) old new failed (Ok tt)
-IsShown format.Diagram s left endings old new failed = PutsSome old new failed (Ok tt)
-IsShown format.Sequence s left endings old new failed = PutsSequence s left.schedule old new failed (Ok tt)
+IsShown format.Diagram s left endings old new failed = PutsWhole (diagram_of s left.schedule) old new failed (Ok tt)
+IsShown format.Sequence s left endings old new failed = PutsWhole (sequence_of s left.schedule) old new failed (Ok tt)
 
 -- how a run that left this is shown: a fault comes late
 abbrev pub ShowsLeft : SystemParts → Record → List Ending → Format → (old new : Option (List ℕ)) → Bool

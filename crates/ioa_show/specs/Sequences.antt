@@ -1,7 +1,6 @@
 -- The sequence diagram of a run for Mermaid (form): its lines in order, each ended by a line feed.
 use Rattle.std.specs.Prelude.{ℕ, ℤ, ◌+◌, nat_lt, if◌then◌else◌, List, [], ◌∷◌, ◌++◌, codes, length}
-use Rattle.std.specs.Prelude.{◌≡◌, Bool, true, false, Option, Some, None, Result, Ok, Err, slice_get}
-use Rattle.std.specs.Io.KnownBytes.{Keeps, Appends}
+use Rattle.std.specs.Prelude.{Option, Some, None}
 use Rattle.std.specs.Fmt.{decimal, signed_decimal}
 use Rattle.ioa_values.specs.Text.{text}
 use Rattle.ioa_actions.specs.ActionText.{arguments_text}
@@ -11,9 +10,7 @@ use Rattle.ioa_actions.specs.declared.action.Action.TheVariants.{Send, Receive, 
 use Rattle.ioa_system.specs.Parts.{Parts}
 use Rattle.ioa_system.specs.Systems.{SystemParts}
 use Rattle.ioa_transitions.specs.Entries.{PlainEntry}
-use Rattle.ioa_streams.specs.Output.{AppendsBeginning}
-use Rattle.ioa_paper.specs.declared.fault.ReportFault.{ReportFault}
-use Rattle.ioa_paper.specs.declared.fault.ReportFault.TheVariants.{Memory, Write}
+use Rattle.ioa_show.specs.Matching.{partner_at, partners_of}
 use Rattle.ioa_show.specs.declared.sequence.TheConstants.{MANY}
 
 -- the first line
@@ -41,14 +38,6 @@ many_note count = codes "    Note over n0: " ++ (decimal count ++ codes " action
 -- that note, if there are many
 abbrev pub warning : ℕ → List ℕ
 warning count = if nat_lt MANY count then many_note count else []
-
--- the partner of the action at a position, if it has one
-abbrev pub partner_in : Option (Option ℕ) → Option ℕ
-partner_in None = None
-partner_in (Some p) = p
-
-abbrev pub partner_at : ℕ → List (Option ℕ) → Option ℕ
-partner_at k ps = partner_in (slice_get ps k)
 
 -- the positions of a send, if it is known, and of its receive
 abbrev pub positions : Option ℕ → ℕ → List ℕ
@@ -89,18 +78,12 @@ abbrev pub entry_lines : List (List ℕ) → List (Option ℕ) → ℕ → List 
 entry_lines names ps k [] = []
 entry_lines names ps k (e ∷ more) = entry_line names k (partner_at k ps) e.action ++ entry_lines names ps (k + 1) more
 
--- the whole diagram
+-- the whole diagram, if these are the partners of the actions
 abbrev pub sequence_text : SystemParts → List (Option ℕ) → List PlainEntry → List ℕ
 sequence_text s ps entries =
     title ++ (participant_lines s.programs
     ++ (warning (length entries) ++ entry_lines s.names ps 0 entries))
 
--- the diagram goes out whole, with some partners of the actions; if writing failed, a beginning of it went out, and the
--- output says that it failed; if memory ran out, nothing was written
-abbrev pub PutsSequence : SystemParts → List PlainEntry → Option (List ℕ) → Option (List ℕ) → Bool
-    → Result (Unit {0}) ReportFault → Type 0
-PutsSequence s entries old new failed (Ok x) =
-    (failed ≡ false) × ((ps : List (Option ℕ)) × Appends old new (sequence_text s ps entries))
-PutsSequence s entries old new failed (Err Write) =
-    (failed ≡ true) × ((ps : List (Option ℕ)) × AppendsBeginning old new (sequence_text s ps entries))
-PutsSequence s entries old new failed (Err Memory) = (failed ≡ false) × Keeps old new
+-- the diagram of a run, with the partners of its actions
+abbrev pub sequence_of : SystemParts → List PlainEntry → List ℕ
+sequence_of s entries = sequence_text s (partners_of entries) entries

@@ -6,15 +6,15 @@ use Rattle.ioa_paper.specs.Papers.{PlainPaper}
 use Rattle.ioa_paper.specs.declared.fault.ReportFault.{ReportFault}
 use Rattle.ioa_paper.specs.declared.fault.ReportFault.TheVariants.{Memory, Write}
 
--- some text goes out whole; if writing failed, a beginning of it went out, and the output says that it failed; if
--- memory ran out, nothing was written
-abbrev pub PutsSome : Option (List ℕ) → Option (List ℕ) → Bool → Result (Unit {0}) ReportFault → Type 0
-PutsSome old new failed (Ok x) = (failed ≡ false) × ((text : List ℕ) × Appends old new text)
-PutsSome old new failed (Err Write) = (failed ≡ true) × ((text : List ℕ) × AppendsBeginning old new text)
-PutsSome old new failed (Err Memory) = (failed ≡ false) × Keeps old new
-
 -- this text goes out whole; if writing failed, a beginning of it went out, and the output says that it failed; if
--- memory ran out, nothing is said of what went out before, since the parts of the text are made one by one
+-- memory ran out, nothing was written
+abbrev pub PutsWhole : List ℕ → Option (List ℕ) → Option (List ℕ) → Bool → Result (Unit {0}) ReportFault
+    → Type 0
+PutsWhole text old new failed (Ok x) = (failed ≡ false) × Appends old new text
+PutsWhole text old new failed (Err Write) = (failed ≡ true) × AppendsBeginning old new text
+PutsWhole text old new failed (Err Memory) = (failed ≡ false) × Keeps old new
+
+-- the same of a text whose parts are made one by one: if memory ran out, nothing is said of what went out before
 abbrev pub PutsText : List ℕ → Option (List ℕ) → Option (List ℕ) → Bool → Result (Unit {0}) ReportFault
     → Type 0
 PutsText text old new failed (Ok x) = (failed ≡ false) × Appends old new text

@@ -1,8 +1,10 @@
 //! The actions, as dots.
 
-ghost use Rattle.ioa_show.specs.Shown.{Continues};
+ghost use Rattle.std.specs.Prelude.{◌≡◌};
+ghost use Rattle.ioa_paper.specs.Papers.{and_text};
+ghost use Rattle.ioa_show.specs.Marks.{action_class, dot, dot_mark, dot_title, dots};
 
-use crate::frame::{Frame, y};
+use crate::frame::Frame;
 use crate::space_time::put_number;
 use ioa_actions::Action;
 use ioa_paper::{Paper, put_action};
@@ -18,30 +20,44 @@ pub fn put_dots<O: Out>(
     names: &Names,
     schedule: &RawLog<Entry>,
 )
-    ensures { Continues paper.old paper.new }
+    ensures { paper.new ≡ and_text paper.old (dots frame names.now 0 schedule.now) }
 {
     let mut position = 0;
     for entry in schedule.walk() {
-        put_dot(paper, frame, position, entry.action());
-        put_line_of(paper, names, position, entry.action());
+        put_dot(paper, frame, names, position, entry.action());
         position += 1;
     }
 }
 
-/// Writes the dot of an action at its node, as far as its title.
-fn put_dot<O: Out>(paper: &mut Paper<'_, O>, frame: Frame, position: usize, action: &Action)
-    ensures { Continues paper.old paper.new }
+/// Writes the dot of an action.
+fn put_dot<O: Out>(
+    paper: &mut Paper<'_, O>,
+    frame: Frame,
+    names: &Names,
+    position: usize,
+    action: &Action,
+)
+    ensures { paper.new ≡ and_text paper.old (dot frame names.now position action.now) }
 {
+    put_mark(paper, frame, position, action);
+    put_title(paper, names, position, action);
+}
+
+/// Writes the dot of an action at its node, as far as its title.
+fn put_mark<O: Out>(paper: &mut Paper<'_, O>, frame: Frame, position: usize, action: &Action)
+    ensures { paper.new ≡ and_text paper.old (dot_mark frame position action.now) }
+{
+    let place = frame.point(position, action.node());
     paper.put("<circle class=\"");
     paper.put(class_of(action));
-    put_number(paper, "\" cx=\"", frame.x(position));
-    put_number(paper, " cy=\"", y(action.node()));
+    put_number(paper, "\" cx=\"", place.x);
+    put_number(paper, " cy=\"", place.y);
     paper.put(" r=\"3\"");
 }
 
 /// Writes an action with its position as the title of its dot, and ends the dot.
-fn put_line_of<O: Out>(paper: &mut Paper<'_, O>, names: &Names, position: usize, action: &Action)
-    ensures { Continues paper.old paper.new }
+fn put_title<O: Out>(paper: &mut Paper<'_, O>, names: &Names, position: usize, action: &Action)
+    ensures { paper.new ≡ and_text paper.old (dot_title names.now position action.now) }
 {
     paper.put("><title>");
     paper.put_number(position);
@@ -51,7 +67,9 @@ fn put_line_of<O: Out>(paper: &mut Paper<'_, O>, names: &Names, position: usize,
 }
 
 /// The class of the dot of an action: of messages, of a node alone, or of an input that a script puts in.
-fn class_of(action: &Action) -> &'static str {
+fn class_of(action: &Action) -> &'static str
+    ensures { result.now ≡ action_class action.now }
+{
     match action {
         Action::Send { .. } | Action::Receive { .. } => "d",
         Action::Local(_) => "l",

@@ -1,7 +1,11 @@
 //! Where things stand in a diagram.
 
+ghost use Rattle.std.specs.Prelude.{◌≡◌, map};
+ghost use Rattle.std.specs.Arc.{arc_value};
+ghost use Rattle.ioa_show.specs.Frames as spec;
+ghost use Rattle.ioa_show.specs.Frames.{frame_of, margin_of, point_of, right_of, x_of, y_of};
+
 use ioa_system::{CompiledInvariant, Program, System};
-use ioa_verdicts::Verdict;
 use std::sync::Arc;
 
 /// From which number of actions on these stand closer together.
@@ -40,6 +44,15 @@ pub const LABEL_END: usize = 60;
 /// How many pixels a line of text has.
 pub const LINE: usize = 16;
 
+/// A place in a diagram, in pixels from its left and its upper end.
+#[derive(Clone, Copy, Debug)]
+pub struct Point {
+    /// How far it is to the right.
+    pub x: usize,
+    /// How far it is down.
+    pub y: usize,
+}
+
 /// The measures of a diagram, in pixels. What stands left of 0 is for the labels of the nodes.
 #[derive(Clone, Copy, Debug)]
 pub struct Frame {
@@ -59,52 +72,82 @@ pub struct Frame {
 
 impl Frame {
     /// The measures for the runs of a system with so many actions, and verdicts on so many invariants.
-    pub fn of(system: &System, count: usize, verdicts: &[Verdict]) -> Frame {
-        let step = if count > WIDE_LIMIT {
-            CLOSE_STEP
-        } else {
-            WIDE_STEP
-        };
+    pub fn of(system: &System, count: usize, verdicts: usize) -> Frame
+        ensures { result ≡ frame_of system.now count verdicts }
+    {
+        let step = step_for(count);
         let base = row(system.programs().len());
-        let lines = verdicts.len().saturating_mul(LINE);
         Frame {
             count,
             step,
             margin: margin(system.programs()),
             right: right(system.invariants(), count.saturating_mul(step)),
             base,
-            bottom: base.saturating_add(lines),
+            bottom: base.saturating_add(verdicts.saturating_mul(LINE)),
+        }
+    }
+
+    /// Where an action stands at a node.
+    pub fn point(self, position: usize, node: i64) -> Point
+        ensures { result ≡ point_of self position node }
+    {
+        Point {
+            x: self.x(position),
+            y: y(node),
         }
     }
 
     /// Where an action stands.
-    pub fn x(self, position: usize) -> usize {
+    pub fn x(self, position: usize) -> usize
+        ensures { result ≡ x_of self position }
+    {
         self.between(position).saturating_add(self.step / 2)
     }
 
     /// Where the state behind so many actions stands: between the actions before it and those after it.
-    pub fn between(self, passed: usize) -> usize {
+    pub fn between(self, passed: usize) -> usize
+        ensures { result ≡ spec.between self passed }
+    {
         START.saturating_add(passed.saturating_mul(self.step))
     }
 
     /// How wide the diagram is.
-    pub fn width(self) -> usize {
+    pub fn width(self) -> usize
+        ensures { result ≡ spec.width self }
+    {
         self.margin.saturating_add(self.right)
     }
 }
 
+/// How far two of so many actions stand apart.
+fn step_for(count: usize) -> usize
+    ensures { result ≡ spec.step_for count }
+{
+    if count > WIDE_LIMIT {
+        CLOSE_STEP
+    } else {
+        WIDE_STEP
+    }
+}
+
 /// Where the line of a node is.
-pub fn y(node: i64) -> usize {
+pub fn y(node: i64) -> usize
+    ensures { result ≡ y_of node }
+{
     row(usize::try_from(node).unwrap_or(0))
 }
 
 /// Where the line of a number is, the first at the top.
-pub fn row(number: usize) -> usize {
+fn row(number: usize) -> usize
+    ensures { result ≡ spec.row number }
+{
     number.saturating_mul(ROW).saturating_add(TOP)
 }
 
 /// How far the labels of nodes reach to the left of 0.
-fn margin(programs: &[Arc<Program>]) -> usize {
+fn margin(programs: &[Arc<Program>]) -> usize
+    ensures { result ≡ margin_of (map arc_value programs.now) }
+{
     let mut longest = 0;
     for program in programs {
         longest = program.automaton().name().as_str().len().max(longest);
@@ -113,7 +156,9 @@ fn margin(programs: &[Arc<Program>]) -> usize {
 }
 
 /// Where the diagram ends on the right, if its actions take so many pixels.
-fn right(invariants: &[CompiledInvariant], length: usize) -> usize {
+fn right(invariants: &[CompiledInvariant], length: usize) -> usize
+    ensures { result ≡ right_of invariants.now length }
+{
     let mut longest = 0;
     for invariant in invariants {
         let text = letters(invariant.name().as_str().len(), AROUND_INVARIANT);
@@ -123,6 +168,8 @@ fn right(invariants: &[CompiledInvariant], length: usize) -> usize {
 }
 
 /// How many pixels a name has with so many letters around it.
-fn letters(name: usize, around: usize) -> usize {
+fn letters(name: usize, around: usize) -> usize
+    ensures { result ≡ spec.letters name around }
+{
     name.saturating_add(around).saturating_mul(LETTER)
 }

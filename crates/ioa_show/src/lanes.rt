@@ -1,8 +1,12 @@
 //! The lines of the nodes, and the numbers of the actions above them.
 
-ghost use Rattle.ioa_show.specs.Shown.{Continues};
+ghost use Rattle.std.specs.Prelude.{◌≡◌, ◌++◌, map};
+ghost use Rattle.std.specs.Arc.{arc_value};
+ghost use Rattle.ioa_paper.specs.Papers.{and_text};
+ghost use Rattle.ioa_show.specs.Frames.{y_of};
+ghost use Rattle.ioa_show.specs.Marks.{label, lane, lane_line, lanes, tick, tick_at, ticks};
 
-use crate::frame::{Frame, LABEL_END, y};
+use crate::frame::{Frame, LABEL_END, Point, y};
 use crate::space_time::{put_line, put_number};
 use ioa_paper::Paper;
 use ioa_streams::Out;
@@ -17,7 +21,7 @@ const APART: usize = 120;
 
 /// Writes a line with its label for each node.
 pub fn put_lanes<O: Out>(paper: &mut Paper<'_, O>, frame: Frame, programs: &[Arc<Program>])
-    ensures { Continues paper.old paper.new }
+    ensures { paper.new ≡ and_text paper.old (lanes frame (map arc_value programs.now)) }
 {
     for program in programs {
         put_lane(paper, frame, program);
@@ -26,35 +30,66 @@ pub fn put_lanes<O: Out>(paper: &mut Paper<'_, O>, frame: Frame, programs: &[Arc
 
 /// Writes the line of a node, and left of it the node and its automaton.
 fn put_lane<O: Out>(paper: &mut Paper<'_, O>, frame: Frame, program: &Program)
-    ensures { Continues paper.old paper.new }
+    ensures { paper.new ≡ and_text paper.old (lane frame program.now) }
 {
     let y = y(program.node());
-    put_line(paper, "n", (LEFT, y), (frame.between(frame.count), y));
+    put_lane_line(paper, frame, y);
+    put_label(
+        paper,
+        y,
+        program.node(),
+        program.automaton().name().as_str(),
+    );
+}
+
+/// Writes a line of a node.
+fn put_lane_line<O: Out>(paper: &mut Paper<'_, O>, frame: Frame, y: usize)
+    ensures { paper.new ≡ and_text paper.old (lane_line frame y) }
+{
+    let start = Point { x: LEFT, y };
+    let end = Point {
+        x: frame.between(frame.count),
+        y,
+    };
+    put_line(paper, "n", start, end);
     paper.put("/>\n");
+}
+
+/// Writes a node and its automaton.
+fn put_label<O: Out>(paper: &mut Paper<'_, O>, y: usize, node: i64, name: &str)
+    ensures { paper.new ≡ and_text paper.old (label y node name.now) }
+{
     put_number(paper, "<text text-anchor=\"end\" x=\"", LABEL_END);
     put_number(paper, " y=\"", y.saturating_add(4));
     paper.put(">node ");
-    paper.put_number(program.node());
+    paper.put_number(node);
     paper.put(": ");
-    paper.put(program.automaton().name().as_str());
+    paper.put(name);
     paper.put("</text>\n");
 }
 
 /// Writes the numbers of some actions above the lines.
 pub fn put_ticks<O: Out>(paper: &mut Paper<'_, O>, frame: Frame)
-    ensures { Continues paper.old paper.new }
+    ensures { paper.new ≡ and_text paper.old (ticks frame frame.count) }
+{
+    for position in 0..frame.count {
+        put_tick_at(paper, frame, position);
+    }
+}
+
+/// Writes the number of an action above the lines if it is one of those.
+fn put_tick_at<O: Out>(paper: &mut Paper<'_, O>, frame: Frame, position: usize)
+    ensures { paper.new ≡ and_text paper.old (tick_at frame position) }
 {
     let every = APART / frame.step.max(1);
-    for position in 0..frame.count {
-        if every > 0 && position % every == 0 {
-            put_tick(paper, frame, position);
-        }
+    if every > 0 && position % every == 0 {
+        put_tick(paper, frame, position);
     }
 }
 
 /// Writes the number of an action above the lines.
 fn put_tick<O: Out>(paper: &mut Paper<'_, O>, frame: Frame, position: usize)
-    ensures { Continues paper.old paper.new }
+    ensures { paper.new ≡ and_text paper.old (tick frame position) }
 {
     put_number(paper, "<text class=\"k\" y=\"12\" x=\"", frame.x(position));
     paper.put(">");

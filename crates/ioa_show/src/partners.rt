@@ -1,31 +1,33 @@
 //! Which receive takes which send.
 
-ghost use Rattle.std.specs.Prelude.{◌≡◌, ◌+◌, ◌<◌, IfOk, IfSome, OnOk, length};
-ghost use Rattle.ioa_show.specs.Sequences.{partner_at};
+ghost use Rattle.std.specs.Prelude.{◌≡◌, ◌++◌, ◌∷◌, ◌<◌, [], IfOk, OnOk, length, slice_set};
+ghost use Rattle.std.specs.List.{position_from};
+ghost use Rattle.ioa_show.specs.Matching.{and_receive, first_of, matched_with, partner_at, partners_of, rest_of};
+ghost use Rattle.ioa_show.specs.Matching.{with_queue};
+ghost use Rattle.ioa_show.specs.Traffics.{is_on, matching, waiting_on};
 
 use ioa_actions::Action;
 use ioa_rawlog::RawLog;
 use ioa_transitions::Entry;
 use std::alloc::{AllocError, Global};
+use std::collections::VecDeque;
 
-/// What went over a channel so far.
+/// What is under way on a channel.
 #[derive(Drop)]
-struct Traffic {
+pub struct Traffic {
     /// The node that sends.
-    from: i64,
+    pub from: i64,
     /// The node that receives.
-    to: i64,
-    /// The positions of the sends, in order.
-    sent: Vec<usize>,
-    /// How many of the messages were received.
-    received: usize,
+    pub to: i64,
+    /// The positions of the sends whose messages were not received, in order.
+    pub waiting: VecDeque<usize>,
 }
 
 /// For each action of a schedule the position of its partner: of the k-th send on a channel that of the k-th receive
 /// from it, and of the receive that of the send. A send whose message was not received has none, and neither has an
 /// action that is neither a send nor a receive. Takes memory for a few numbers an action.
 pub fn partners(alloc: Global, schedule: &RawLog<Entry>) -> Result<Vec<Option<usize>>, AllocError>
-    ensures { IfOk result (λ v. length v.items ≡ length schedule.now) }
+    ensures { IfOk result (λ v. v.items ≡ partners_of schedule.now) }
 {
     let mut found = Vec::new(alloc);
     let mut channels = Vec::new(alloc);
@@ -42,96 +44,148 @@ fn note(
     found: &mut Vec<Option<usize>>,
     action: &Action,
 ) -> Result<(), AllocError>
-    ensures { OnOk result (length found.new.items ≡ length found.old.items + 1) }
+    ensures { OnOk result (matching channels.new.items found.new.items
+        ≡ matched_with action.now (matching channels.old.items found.old.items)) }
 {
-    let partner = partner_of(alloc, channels, action, found.len())?;
-    mark(found, partner);
-    found.push(partner)?;
-    Ok(())
-}
-
-/// The partner of an action at a position, if it stands before it.
-fn partner_of(
-    alloc: Global,
-    channels: &mut Vec<Traffic>,
-    action: &Action,
-    position: usize,
-) -> Result<Option<usize>, AllocError> {
     match action {
-        Action::Send { from, to, .. } => {
-            note_send(alloc, channels, *from, *to, position)?;
-            Ok(None)
-        }
-        Action::Receive { from, to, .. } => Ok(note_receive(channels, *from, *to)),
-        Action::Local(_) | Action::Stimulus(_) => Ok(None),
+        Action::Send { from, to, .. } => note_send(alloc, channels, found, *from, *to),
+        Action::Receive { from, to, .. } => note_receive(channels, found, *from, *to),
+        Action::Local(_) => note_other(found),
+        Action::Stimulus(_) => note_other(found),
     }
 }
 
-/// Notes at a send that its message was received by what comes next.
-fn mark(found: &mut Vec<Option<usize>>, sent: Option<usize>)
-    ensures { length found.new.items ≡ length found.old.items }
+/// Notes an action that is neither a send nor a receive.
+fn note_other(found: &mut Vec<Option<usize>>) -> Result<(), AllocError>
+    ensures { OnOk result (found.new.items ≡ found.old.items ++ (None ∷ [])) }
+{
+    found.push(None)?;
+    Ok(())
+}
+
+/// Notes a send on a channel.
+fn note_send(
+    alloc: Global,
+    channels: &mut Vec<Traffic>,
+    found: &mut Vec<Option<usize>>,
+    from: i64,
+    to: i64,
+) -> Result<(), AllocError>
+    ensures way { OnOk result (waiting_on channels.new.items ≡ with_queue from to
+        (waiting_on channels.old.items from to ++ (length found.old.items ∷ [])) (waiting_on channels.old.items)) }
+    ensures found { OnOk result (found.new.items ≡ found.old.items ++ (None ∷ [])) }
+{
+    put_under_way(alloc, channels, from, to, found.len())?;
+    note_other(found)
+}
+
+/// Notes a receive from a channel, and at the send that it takes, if there is one, that its message was received.
+fn note_receive(
+    channels: &mut Vec<Traffic>,
+    found: &mut Vec<Option<usize>>,
+    from: i64,
+    to: i64,
+) -> Result<(), AllocError>
+    ensures way { OnOk result (waiting_on channels.new.items ≡ with_queue from to
+        (rest_of (waiting_on channels.old.items from to)) (waiting_on channels.old.items)) }
+    ensures found { OnOk result (found.new.items
+        ≡ and_receive (first_of (waiting_on channels.old.items from to)) found.old.items) }
+{
+    let sent = take_first(channels, from, to);
+    note_partners(found, sent)
+}
+
+/// Notes an action with its partner, which stands before it, and at that the action.
+fn note_partners(found: &mut Vec<Option<usize>>, sent: Option<usize>) -> Result<(), AllocError>
+    ensures { OnOk result (found.new.items ≡ and_receive sent found.old.items) }
 {
     let position = found.len();
     match sent {
         None => {}
-        Some(sent) => {
-            if sent < found.len() {
-                found[sent] = Some(position);
-            }
-        }
+        Some(sent) => mark(found, sent, position),
+    }
+    found.push(sent)?;
+    Ok(())
+}
+
+/// Notes a partner at a position.
+fn mark(found: &mut Vec<Option<usize>>, position: usize, partner: usize)
+    ensures { found.new.items ≡ slice_set found.old.items position (Some partner) }
+{
+    if position < found.len() {
+        found[position] = Some(partner);
     }
 }
 
-/// Notes the position of a send on a channel.
-fn note_send(
+/// Puts the position of a send behind what is under way on its channel.
+fn put_under_way(
     alloc: Global,
     channels: &mut Vec<Traffic>,
     from: i64,
     to: i64,
     position: usize,
-) -> Result<(), AllocError> {
+) -> Result<(), AllocError>
+    ensures { OnOk result (waiting_on channels.new.items ≡ with_queue from to
+        (waiting_on channels.old.items from to ++ (position ∷ [])) (waiting_on channels.old.items)) }
+{
     match place_of(channels, from, to) {
-        Some(place) => channels[place].sent.push(position)?,
-        None => channels.push(first_send(alloc, from, to, position)?)?,
+        Some(place) => put_last(&mut channels[place], position),
+        None => {
+            let channel = first_send(alloc, from, to, position)?;
+            channels.push(channel)?;
+            Ok(())
+        }
     }
+}
+
+/// Puts a position behind those that wait.
+fn put_last(channel: &mut Traffic, position: usize) -> Result<(), AllocError>
+    ensures from { channel.new.from ≡ channel.old.from }
+    ensures to { channel.new.to ≡ channel.old.to }
+    ensures waiting { OnOk result (channel.new.waiting.items ≡ channel.old.waiting.items ++ (position ∷ [])) }
+{
+    channel.waiting.push_back(position)?;
     Ok(())
 }
 
 /// A channel with one send.
-fn first_send(alloc: Global, from: i64, to: i64, position: usize) -> Result<Traffic, AllocError> {
-    let mut sent = Vec::new(alloc);
-    sent.push(position)?;
-    Ok(Traffic {
-        from,
-        to,
-        sent,
-        received: 0,
-    })
+fn first_send(alloc: Global, from: i64, to: i64, position: usize) -> Result<Traffic, AllocError>
+    ensures { IfOk result (λ t. (t.from ≡ from) × (t.to ≡ to) × (t.waiting.items ≡ position ∷ [])) }
+{
+    let mut waiting = VecDeque::new(alloc);
+    waiting.push_back(position)?;
+    Ok(Traffic { from, to, waiting })
 }
 
-/// Notes a receive from a channel, and says at which position its message was sent.
-fn note_receive(channels: &mut Vec<Traffic>, from: i64, to: i64) -> Option<usize> {
-    let place = place_of(channels, from, to)?;
-    take_next(&mut channels[place])
+/// Takes the first position of what is under way on a channel, if there is one.
+fn take_first(channels: &mut Vec<Traffic>, from: i64, to: i64) -> Option<usize>
+    ensures way { waiting_on channels.new.items ≡ with_queue from to
+        (rest_of (waiting_on channels.old.items from to)) (waiting_on channels.old.items) }
+    ensures first { result ≡ first_of (waiting_on channels.old.items from to) }
+{
+    match place_of(channels, from, to) {
+        Some(place) => pop_first(&mut channels[place]),
+        None => None,
+    }
 }
 
-/// The position of the first send whose message was not received before.
-fn take_next(channel: &mut Traffic) -> Option<usize> {
-    let sent = channel.sent.get(channel.received).copied()?;
-    channel.received += 1;
-    Some(sent)
+/// Takes the first position that waits.
+fn pop_first(channel: &mut Traffic) -> Option<usize>
+    ensures from { channel.new.from ≡ channel.old.from }
+    ensures to { channel.new.to ≡ channel.old.to }
+    ensures first { result ≡ first_of channel.old.waiting.items }
+    ensures rest { channel.new.waiting.items ≡ rest_of channel.old.waiting.items }
+{
+    channel.waiting.pop_front()
 }
 
 /// Where the traffic of a channel is noted, if it is.
 fn place_of(channels: &[Traffic], from: i64, to: i64) -> Option<usize>
-    ensures { IfSome result (λ place. place < length channels.now) }
+    ensures { result ≡ position_from (λ t. is_on from to t) 0 channels.now }
 {
-    for (place, channel) in channels.iter().enumerate() {
-        if channel.from == from && channel.to == to {
-            return Some(place);
-        }
-    }
-    None
+    channels
+        .iter()
+        .position(|channel| channel.from == from && channel.to == to)
 }
 
 /// The partner of the action at a position, if it has one.

@@ -5,9 +5,10 @@ ghost use Rattle.std.specs.Arc.{arc_value};
 ghost use Rattle.std.specs.Fmt.{decimal};
 ghost use Rattle.ioa_values.specs.Text.{text};
 ghost use Rattle.ioa_paper.specs.Papers.{and_text};
+ghost use Rattle.ioa_show.specs.Shown.{PutsWhole};
 ghost use Rattle.ioa_show.specs.Sequences.{action_note, arrow, ends, entry_line, entry_lines, many_note};
 ghost use Rattle.ioa_show.specs.Sequences.{note, participant_line, participant_lines, participant_text};
-ghost use Rattle.ioa_show.specs.Sequences.{PutsSequence, positions, send_note, sequence_text, title, warning};
+ghost use Rattle.ioa_show.specs.Sequences.{positions, send_note, sequence_of, sequence_text, title, warning};
 
 use crate::partners::{partner_at, partners};
 use ioa_actions::{Action, NodeAction};
@@ -34,7 +35,7 @@ pub fn mermaid<O: Out>(
     out: &mut O,
 ) -> Result<(), ReportFault>
     requires { O.failed out.old ≡ false }
-    ensures { PutsSequence system.now run_record.now.schedule
+    ensures { PutsWhole (sequence_of system.now run_record.now.schedule)
         (O.bytes out.old) (O.bytes out.new) (O.failed out.new) result }
 {
     let partners = partners(alloc, &run_record.schedule)?;

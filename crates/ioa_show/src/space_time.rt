@@ -1,18 +1,23 @@
 //! Space-time diagrams.
 
 ghost use Rattle.std.specs.Prelude.{◌≡◌, false};
-ghost use Rattle.ioa_show.specs.Shown.{Continues, PutsSome};
+ghost use Rattle.ioa_paper.specs.Papers.{and_text};
+ghost use Rattle.ioa_show.specs.Marks.{attribute, backing, box_words, line};
+ghost use Rattle.ioa_show.specs.Diagrams.{diagram_of, diagram_text, drawing, head_words};
+ghost use Rattle.ioa_show.specs.Shown.{PutsWhole};
 
 use crate::arrows::put_messages;
 use crate::breaks::put_breaks;
 use crate::dots::put_dots;
-use crate::frame::Frame;
+use crate::frame::{Frame, Point};
 use crate::lanes::{put_lanes, put_ticks};
 use crate::partners::partners;
 use ioa_paper::{Paper, ReportFault, room};
+use ioa_rawlog::RawLog;
 use ioa_record::Record;
 use ioa_streams::{Out, OutFailed};
 use ioa_system::System;
+use ioa_transitions::Entry;
 use ioa_verdicts::{Verdict, verdicts};
 use std::alloc::Global;
 
@@ -51,13 +56,20 @@ pub fn svg<O: Out>(
     out: &mut O,
 ) -> Result<(), ReportFault>
     requires { O.failed out.old ≡ false }
-    ensures { PutsSome (O.bytes out.old) (O.bytes out.new) (O.failed out.new) result }
+    ensures { PutsWhole (diagram_of system.now run_record.now.schedule)
+        (O.bytes out.old) (O.bytes out.new) (O.failed out.new) result }
 {
     let verdicts = verdicts(alloc, system, run_record)?;
     let partners = partners(alloc, &run_record.schedule)?;
     let room = room(alloc)?;
     let mut paper = Paper::new(out, room);
-    put_diagram(&mut paper, system, run_record, &partners, &verdicts);
+    put_diagram(
+        &mut paper,
+        system,
+        &run_record.schedule,
+        &partners,
+        &verdicts,
+    );
     let (out, outcome) = paper.finish();
     // No effect at run time. The proof reads what `out` holds from the reference that comes back.
     let _ = &*out;
@@ -68,17 +80,31 @@ pub fn svg<O: Out>(
 }
 
 /// Writes the diagram, if these are the partners of the schedule and these the verdicts on it.
+#[tactic(auto, unfolding(crate::specs::Diagrams::diagram_text))]
 fn put_diagram<O: Out>(
     paper: &mut Paper<'_, O>,
     system: &System,
-    run_record: &Record,
+    schedule: &RawLog<Entry>,
     partners: &[Option<usize>],
     verdicts: &[Verdict],
 )
-    ensures { Continues paper.old paper.new }
+    ensures { paper.new ≡ and_text paper.old (diagram_text system.now partners.now verdicts.now schedule.now) }
 {
-    let schedule = &run_record.schedule;
-    let frame = Frame::of(system, schedule.len(), verdicts);
+    let frame = Frame::of(system, schedule.len(), verdicts.len());
+    put_drawing(paper, frame, system, schedule, partners, verdicts);
+}
+
+/// Writes the diagram by its measures.
+fn put_drawing<O: Out>(
+    paper: &mut Paper<'_, O>,
+    frame: Frame,
+    system: &System,
+    schedule: &RawLog<Entry>,
+    partners: &[Option<usize>],
+    verdicts: &[Verdict],
+)
+    ensures { paper.new ≡ and_text paper.old (drawing frame system.now partners.now verdicts.now schedule.now) }
+{
     put_head(paper, frame);
     put_lanes(paper, frame, system.programs());
     put_ticks(paper, frame);
@@ -90,7 +116,7 @@ fn put_diagram<O: Out>(
 
 /// Writes what stands in front of the first line: the measures, the looks, and the ground.
 fn put_head<O: Out>(paper: &mut Paper<'_, O>, frame: Frame)
-    ensures { Continues paper.old paper.new }
+    ensures { paper.new ≡ and_text paper.old (head_words frame) }
 {
     paper.put(OPENING);
     put_box(paper, frame);
@@ -101,7 +127,7 @@ fn put_head<O: Out>(paper: &mut Paper<'_, O>, frame: Frame)
 
 /// Writes the measures of the whole.
 fn put_box<O: Out>(paper: &mut Paper<'_, O>, frame: Frame)
-    ensures { Continues paper.old paper.new }
+    ensures { paper.new ≡ and_text paper.old (box_words frame) }
 {
     put_number(paper, " width=\"", frame.width());
     put_number(paper, " height=\"", frame.bottom);
@@ -114,7 +140,7 @@ fn put_box<O: Out>(paper: &mut Paper<'_, O>, frame: Frame)
 
 /// Writes the white ground.
 fn put_ground<O: Out>(paper: &mut Paper<'_, O>, frame: Frame)
-    ensures { Continues paper.old paper.new }
+    ensures { paper.new ≡ and_text paper.old (backing frame) }
 {
     put_number(paper, "<rect x=\"-", frame.margin);
     put_number(paper, " width=\"", frame.width());
@@ -124,7 +150,7 @@ fn put_ground<O: Out>(paper: &mut Paper<'_, O>, frame: Frame)
 
 /// Writes the beginning of an attribute with a number, and the quote behind it.
 pub fn put_number<O: Out>(paper: &mut Paper<'_, O>, start: &str, n: usize)
-    ensures { Continues paper.old paper.new }
+    ensures { paper.new ≡ and_text paper.old (attribute start.now n) }
 {
     paper.put(start);
     paper.put_number(n);
@@ -132,18 +158,13 @@ pub fn put_number<O: Out>(paper: &mut Paper<'_, O>, start: &str, n: usize)
 }
 
 /// Writes a line from one point to another, as far as its last number.
-pub fn put_line<O: Out>(
-    paper: &mut Paper<'_, O>,
-    class: &str,
-    start: (usize, usize),
-    end: (usize, usize),
-)
-    ensures { Continues paper.old paper.new }
+pub fn put_line<O: Out>(paper: &mut Paper<'_, O>, class: &str, start: Point, end: Point)
+    ensures { paper.new ≡ and_text paper.old (line class.now start end) }
 {
     paper.put("<line class=\"");
     paper.put(class);
-    put_number(paper, "\" x1=\"", start.0);
-    put_number(paper, " y1=\"", start.1);
-    put_number(paper, " x2=\"", end.0);
-    put_number(paper, " y2=\"", end.1);
+    put_number(paper, "\" x1=\"", start.x);
+    put_number(paper, " y1=\"", start.y);
+    put_number(paper, " x2=\"", end.x);
+    put_number(paper, " y2=\"", end.y);
 }

@@ -1,6 +1,8 @@
-use Rattle.ioa_show.specs.Shown.{Continues}
+use Rattle.std.proofs.Common.{◌≡◌}
+use Rattle.ioa_paper.specs.Papers.{and_text}
+use Rattle.ioa_show.specs.Marks.{ticks}
 use Rattle.ioa_show.proofs.lanes.put_ticks.Given as goal
 
--- more was written
+-- what is written so far are the numbers above the actions gone by
 abbrev pub invariant-loop-position : goal.invariant-loop-position
-invariant-loop-position g l = Continues l.initial.paper l.paper
+invariant-loop-position g l = l.paper ≡ and_text l.initial.paper (ticks l.frame l.position)
