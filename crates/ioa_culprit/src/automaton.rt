@@ -4,6 +4,7 @@ use crate::asking::Ask;
 use crate::block::seek_schedule;
 use crate::halt::Halt;
 use crate::heading::{Heading, seek_parameters, seek_states};
+use crate::index::{index_of_entries, index_of_transitions};
 use crate::rules::{seek_signature, seek_transitions};
 use ioa_sort_rules::Refusal;
 use ioa_source::{Automaton, Declaration};
@@ -39,11 +40,15 @@ pub(crate) fn seek_automaton(
     let given = seek_parameters(walk, ask, &automaton.parameters)?;
     let mut states = *walk;
     let outer = seek_states(&mut states, ask, &given, automaton)?;
+    let entries = index_of_entries(ask.alloc, &automaton.signature)?;
+    let transitions = index_of_transitions(ask.alloc, &automaton.transitions)?;
     let heading = Heading {
         ask,
         automaton,
         given: &given,
         outer: &outer,
+        entries: &entries,
+        transitions: &transitions,
     };
     seek_parts(walk, &heading)
 }

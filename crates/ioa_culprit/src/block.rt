@@ -3,7 +3,7 @@
 use crate::asking::Ask;
 use crate::halt::Halt;
 use crate::heading::{Heading, seek_variables};
-use crate::rules::{entry_named, shapes_taken};
+use crate::rules::shapes_taken;
 use crate::statements::{Site, pass_statements};
 use ioa_actions::RECEIVE;
 use ioa_names::{NameTable, View};

@@ -3,11 +3,12 @@
 use crate::asking::Ask;
 use crate::declared::{pass_declared, with_declared};
 use crate::halt::Halt;
+use crate::index::NameIndex;
 use crate::terms::pass_declared_fit;
 use ioa_names::{NameTable, View};
 use ioa_sort_rules::Refusal;
-use ioa_source::{Automaton, Declared, Variable};
-use ioa_terms::Term;
+use ioa_source::{Automaton, Declared, Entry, Transition, Variable};
+use ioa_terms::{Term, Word};
 use ioa_tokens::Mark;
 use ioa_walk::{Part, Walk};
 
@@ -22,6 +23,24 @@ pub(crate) struct Heading<'a> {
     pub given: &'a NameTable,
     /// The names of its state variables and of its parameters.
     pub outer: &'a NameTable,
+    /// The names of its entries.
+    pub entries: &'a NameIndex,
+    /// The names of its transitions.
+    pub transitions: &'a NameIndex,
+}
+
+impl<'a> Heading<'a> {
+    /// The first entry that has the name of an action.
+    pub(crate) fn entry_named(&self, name: &Word) -> Option<&'a Entry<(), (), ()>> {
+        let position = self.entries.position_of(name)?;
+        self.automaton.signature.get(position)
+    }
+
+    /// The first transition that has the name of an action.
+    pub(crate) fn transition_named(&self, name: &Word) -> Option<&'a Transition<(), (), ()>> {
+        let position = self.transitions.position_of(name)?;
+        self.automaton.transitions.get(position)
+    }
 }
 
 /// The walk over parameters. Returns the table of their names.

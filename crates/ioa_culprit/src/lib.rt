@@ -13,6 +13,7 @@ mod declared;
 mod finding;
 mod halt;
 mod heading;
+mod index;
 mod invariant;
 mod rules;
 mod section;

@@ -10,44 +10,26 @@ use ioa_actions::{RECEIVE, SEND};
 use ioa_names::{NameTable, View};
 use ioa_sort_rules::Refusal;
 use ioa_sorts::infer;
-use ioa_source::{Automaton, Entry, Parameter, Transition};
+use ioa_source::{Entry, Parameter, Transition};
 use ioa_terms::{Kind, Name, Shape, ShapeForm, Term, Tree, Word, is_same_term};
 use ioa_tokens::Mark;
 use ioa_walk::{Part, Walk, one_token};
 use std::alloc::Global;
 
-/// The entry that has the name of an action.
-pub(crate) fn entry_named<'a>(
-    entries: &'a [Entry<(), (), ()>],
-    name: &Word,
-) -> Option<&'a Entry<(), (), ()>> {
-    for entry in entries {
-        if entry.name == *name {
-            return Some(entry);
-        }
-    }
-    None
-}
-
-/// Whether one of these transitions has the name of an action.
-fn has_transition_named(transitions: &[Transition<(), (), ()>], name: &Word) -> bool {
-    transitions
-        .iter()
-        .any(|transition| transition.name == *name)
-}
-
 /// Whether an entry has a transition of its name and kind.
-fn has_transition(transitions: &[Transition<(), (), ()>], entry: &Entry<(), (), ()>) -> bool {
-    transitions.iter().any(|transition| transition.name == entry.name
-        && transition.kind == entry.kind)
+fn has_transition(heading: &Heading<'_>, entry: &Entry<(), (), ()>) -> bool {
+    match heading.transition_named(&entry.name) {
+        None => false,
+        Some(transition) => transition.kind == entry.kind,
+    }
 }
 
 /// The entry that has the name and the kind of a transition.
 fn entry_for<'a>(
-    automaton: &'a Automaton<(), (), ()>,
+    heading: &Heading<'a>,
     transition: &Transition<(), (), ()>,
 ) -> Option<&'a Entry<(), (), ()>> {
-    let entry = entry_named(&automaton.signature, &transition.name)?;
+    let entry = heading.entry_named(&transition.name)?;
     if entry.kind == transition.kind {
         Some(entry)
     } else {
@@ -72,25 +54,25 @@ pub(crate) fn seek_signature(walk: &mut Walk<'_>, heading: &Heading<'_>) -> Resu
     }
     let _signature = walk.mark(Mark::Signature)?;
     for (position, entry) in entries.iter().enumerate() {
-        seek_entry(walk, heading, &entries[..position], entry)?;
+        seek_entry(walk, heading, position, entry)?;
     }
     Ok(())
 }
 
-/// The walk over an entry behind others.
+/// The walk over the entry at a position.
 fn seek_entry(
     walk: &mut Walk<'_>,
     heading: &Heading<'_>,
-    before: &[Entry<(), (), ()>],
+    position: usize,
     entry: &Entry<(), (), ()>,
 ) -> Result<(), Halt> {
     let first = walk.word(&entry.name)?;
     let last = walk.called(first)?;
     let part = Part { first, last };
-    if entry_named(before, &entry.name).is_some() {
+    if heading.entries.stands_before(&entry.name, position) {
         heading.ask.told_at(Refusal::Twice, one_token(first))?;
     }
-    if !has_transition(&heading.automaton.transitions, entry) {
+    if !has_transition(heading, entry) {
         heading.ask.told_at(Refusal::NoTransition, part)?;
     }
     let own = seek_own(walk, heading, &entry.parameters)?;
@@ -329,26 +311,26 @@ pub(crate) fn seek_transitions(walk: &mut Walk<'_>, heading: &Heading<'_>) -> Re
     }
     let _transitions = walk.mark(Mark::Transitions)?;
     for (position, transition) in transitions.iter().enumerate() {
-        seek_transition(walk, heading, &transitions[..position], transition)?;
+        seek_transition(walk, heading, position, transition)?;
     }
     Ok(())
 }
 
-/// The walk over a transition behind others. One that has no entry is passed, but for its head, and not asked.
+/// The walk over the transition at a position. One that has no entry is passed, but for its head, and not asked.
 fn seek_transition(
     walk: &mut Walk<'_>,
     heading: &Heading<'_>,
-    before: &[Transition<(), (), ()>],
+    position: usize,
     transition: &Transition<(), (), ()>,
 ) -> Result<(), Halt> {
     let first = walk.mark(kind_mark(transition.kind))?;
     let name = walk.word(&transition.name)?;
     let last = walk.called(name)?;
     let head = Part { first, last };
-    if has_transition_named(before, &transition.name) {
+    if heading.transitions.stands_before(&transition.name, position) {
         heading.ask.told_at(Refusal::Twice, head)?;
     }
-    match entry_for(heading.automaton, transition) {
+    match entry_for(heading, transition) {
         None => heading.ask.told_at(Refusal::Unknown, head),
         Some(entry) => seek_rule(walk, heading, entry, head, transition),
     }

@@ -4,7 +4,8 @@ use crate::asking::Ask;
 use crate::automaton::has_automaton;
 use crate::halt::Halt;
 use crate::heading::{Heading, given_of};
-use crate::rules::{entry_named, shapes_taken};
+use crate::index::{NameIndex, index_of_entries};
+use crate::rules::shapes_taken;
 use crate::shortened::{Cut, blank, is_refused_so};
 use crate::terms::pass_each;
 use ioa_actions::{RECEIVE, SEND};
@@ -455,11 +456,15 @@ fn seek_script(
         None => section.ask.told_at(Refusal::Unknown, one_token(number)),
         Some(automaton) => {
             let given = given_of(section.ask, automaton)?;
+            let entries = index_of_entries(section.ask.alloc, &automaton.signature)?;
+            let transitions = NameIndex::new(section.ask.alloc);
             let heading = Heading {
                 ask: section.ask,
                 automaton,
                 given: &given,
                 outer: &given,
+                entries: &entries,
+                transitions: &transitions,
             };
             seek_calls(walk, &heading, &script.calls)
         }
@@ -490,7 +495,7 @@ fn seek_call(
     if call.name.as_str() == SEND || call.name.as_str() == RECEIVE {
         heading.ask.told_at(Refusal::BadArgument, part)?;
     }
-    match entry_named(&heading.automaton.signature, &call.name) {
+    match heading.entry_named(&call.name) {
         None => heading.ask.told_at(Refusal::Unknown, one_token(first)),
         Some(entry) => {
             if entry.kind != Kind::Input {

@@ -3,7 +3,7 @@
 use crate::asking::Ask;
 use crate::halt::{Halt, halt_of};
 use crate::heading::Heading;
-use crate::rules::{entry_named, shapes_taken};
+use crate::rules::shapes_taken;
 use crate::terms::{pass_each, pass_fit};
 use ioa_names::View;
 use ioa_sort_rules::{Refusal, Sides, entry_of, value_of_field};
@@ -216,7 +216,7 @@ fn pass_firing(
         first: fire.saturating_add(1),
         last,
     };
-    match entry_named(&site.heading.automaton.signature, &firing.action) {
+    match site.heading.entry_named(&firing.action) {
         None => {
             site.heading.ask.told_at(Refusal::Unknown, one_token(name))?;
             Err(Halt::Lost)

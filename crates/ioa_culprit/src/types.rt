@@ -3,6 +3,7 @@
 use crate::asking::Ask;
 use crate::declared::pass_declared;
 use crate::halt::{Halt, halt_of};
+use crate::index::NameIndex;
 use ioa_names::NameTable;
 use ioa_sort_rules::Refusal;
 use ioa_source::{Declared, Sort, TypeDeclaration, TypeForm};
@@ -43,9 +44,11 @@ fn seek_constants(
     constants: &Vec<Word>,
 ) -> Result<usize, Halt> {
     let mut last = walk.next();
+    let mut before = NameIndex::new(ask.alloc);
     for (position, constant) in constants.iter().enumerate() {
         last = walk.word(constant)?;
-        if ask.constants.declares(constant) || constants[..position].contains(constant) {
+        let fresh = before.add(ask.alloc, constant, position)?;
+        if ask.constants.declares(constant) || !fresh {
             ask.told_at(Refusal::Twice, one_token(last))?;
         }
     }

@@ -1,0 +1,78 @@
+//! Where names stand first.
+
+use ioa_source::{Entry, Transition};
+use ioa_system::Scope;
+use ioa_terms::Word;
+use std::alloc::{AllocError, Global};
+
+/// Names, each with the position at which it stands first.
+#[derive(Drop)]
+pub(crate) struct NameIndex {
+    /// The names, once each.
+    names: Scope,
+    /// The position of each of them.
+    positions: Vec<usize>,
+}
+
+impl NameIndex {
+    /// No names.
+    pub(crate) fn new(alloc: Global) -> Self {
+        NameIndex {
+            names: Scope::new(alloc),
+            positions: Vec::new(alloc),
+        }
+    }
+
+    /// Adds a name at a position, unless it is one of the names. Returns whether it was new.
+    pub(crate) fn add(
+        &mut self,
+        alloc: Global,
+        name: &Word,
+        position: usize,
+    ) -> Result<bool, AllocError> {
+        let fresh = self.names.declare(name.try_copy(alloc)?)?;
+        if fresh {
+            self.positions.push(position)?;
+        }
+        Ok(fresh)
+    }
+
+    /// The position at which a name stands first.
+    pub(crate) fn position_of(&self, name: &Word) -> Option<usize> {
+        let slot = self.names.slot_of_word(name)?;
+        let position = self.positions.get(slot)?;
+        Some(*position)
+    }
+
+    /// Whether a name stands before a position.
+    pub(crate) fn stands_before(&self, name: &Word, position: usize) -> bool {
+        match self.position_of(name) {
+            None => false,
+            Some(first) => first < position,
+        }
+    }
+}
+
+/// The names of entries.
+pub(crate) fn index_of_entries(
+    alloc: Global,
+    entries: &[Entry<(), (), ()>],
+) -> Result<NameIndex, AllocError> {
+    let mut index = NameIndex::new(alloc);
+    for (position, entry) in entries.iter().enumerate() {
+        let _fresh = index.add(alloc, &entry.name, position)?;
+    }
+    Ok(index)
+}
+
+/// The names of transitions.
+pub(crate) fn index_of_transitions(
+    alloc: Global,
+    transitions: &[Transition<(), (), ()>],
+) -> Result<NameIndex, AllocError> {
+    let mut index = NameIndex::new(alloc);
+    for (position, transition) in transitions.iter().enumerate() {
+        let _fresh = index.add(alloc, &transition.name, position)?;
+    }
+    Ok(index)
+}
