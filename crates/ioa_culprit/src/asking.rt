@@ -5,16 +5,28 @@ ghost use Rattle.ioa_terms.specs.View.{term_of};
 ghost use Rattle.ioa_sorts.specs.Sorting.{fit, infer, sorting};
 ghost use Rattle.ioa_sort_rules.specs.declared.refusal.Refusal.TheVariants.{Memory};
 
-use crate::halt::{Halt, halt_of};
-use crate::shortened::InvariantText;
+use crate::halt::{Halt, bare, found, halt_of};
+use crate::section::automaton_of;
+use crate::shortened::{Cut, InvariantText};
+use crate::unknown::{Sought, unknown_words};
+use crate::words::{count_words, misfit_words, sorts_words};
 use ioa_names::{NameTable, View};
 use ioa_sort_rules::{Refusal, shape_in_terms};
 use ioa_sorts::{fit, infer};
-use ioa_source::Sort;
-use ioa_terms::{Shape, Term, Word};
+use ioa_source::{Sort, Text};
+use ioa_terms::{Name, Shape, Term, Word};
 use ioa_types::Types;
 use ioa_walk::Part;
 use std::alloc::{AllocError, Global};
+
+/// A refused text: its tokens and its tree.
+#[derive(Clone, Copy)]
+pub(crate) struct Whole<'a> {
+    /// The text with its tokens.
+    pub cut: Cut<'a>,
+    /// Its tree.
+    pub source: &'a Text<(), (), ()>,
+}
 
 /// What is looked for, in a text of these types and constants.
 #[derive(Clone, Copy)]
@@ -26,6 +38,8 @@ pub(crate) struct Ask<'a> {
     pub types: &'a Types,
     /// The constants of its enumerations.
     pub constants: &'a NameTable,
+    /// The text.
+    pub whole: &'a Whole<'a>,
 }
 
 /// How terms are asked.
@@ -41,37 +55,70 @@ pub(crate) enum Way<'a> {
 
 /// What is looked for in terms.
 #[derive(Clone, Copy)]
-pub(crate) struct TermAsk<'a> {
+pub(crate) struct TermAsk<'a, 'w> {
     pub alloc: Global,
     /// The refusal that was told.
     pub told: Refusal,
     /// How they are asked.
     pub way: Way<'a>,
-}
-
-/// Terms that are passed and not asked.
-pub(crate) fn no_ask<'a>(alloc: Global, told: Refusal) -> TermAsk<'a> {
-    TermAsk {
-        alloc,
-        told,
-        way: Way::Passed,
-    }
+    /// The text.
+    pub whole: &'w Whole<'w>,
 }
 
 impl<'a> Ask<'a> {
     /// What is looked for in terms that read these names.
-    pub(crate) fn in_view<'b>(&self, view: &'b View<'b>) -> TermAsk<'b> {
+    pub(crate) fn in_view<'b>(&self, view: &'b View<'b>) -> TermAsk<'b, 'a> {
         TermAsk {
             alloc: self.alloc,
             told: self.told,
             way: Way::Names(view),
+            whole: self.whole,
+        }
+    }
+
+    /// Terms that are passed and not asked.
+    pub(crate) fn in_passing(&self) -> TermAsk<'a, 'a> {
+        TermAsk {
+            alloc: self.alloc,
+            told: self.told,
+            way: Way::Passed,
+            whole: self.whole,
         }
     }
 
     /// Ends the walk at a part, if the refusal that was told is this one.
     pub(crate) fn told_at(&self, refusal: Refusal, part: Part) -> Result<(), Halt> {
         if self.told == refusal {
-            Err(Halt::Found(part))
+            Err(bare(self.alloc, part))
+        } else {
+            Ok(())
+        }
+    }
+
+    /// Ends the walk at a part with a name that was sought and not found, if that was told.
+    pub(crate) fn unknown_at(
+        &self,
+        part: Part,
+        sought: Sought<'_>,
+        name: &Word,
+    ) -> Result<(), Halt> {
+        if self.told == Refusal::Unknown {
+            Err(found(part, unknown_words(self.alloc, self.whole, sought, name)))
+        } else {
+            Ok(())
+        }
+    }
+
+    /// Ends the walk at a part with a name that has another number of arguments than it takes, if that was told.
+    pub(crate) fn count_at(
+        &self,
+        part: Part,
+        name: &Word,
+        asked: usize,
+        there: usize,
+    ) -> Result<(), Halt> {
+        if self.told == Refusal::Sorts && asked != there {
+            Err(found(part, count_words(self.alloc, name.as_str(), asked, there)))
         } else {
             Ok(())
         }
@@ -90,7 +137,16 @@ impl<'a> Ask<'a> {
         match self.types.shape_of(self.alloc, sort) {
             Ok(_) => Ok(()),
             Err(Refusal::Memory) => Err(Halt::Memory),
+            Err(Refusal::Unknown) => self.unknown_sort_at(sort, part),
             Err(refusal) => self.told_at(refusal, part),
+        }
+    }
+
+    /// Ends the walk at the part of a sort that is not declared, if that was told.
+    fn unknown_sort_at(&self, sort: &Sort, part: Part) -> Result<(), Halt> {
+        match sort {
+            Sort::Named(name) => self.unknown_at(part, Sought::Types(self.types), name),
+            _ => self.told_at(Refusal::Unknown, part),
         }
     }
 
@@ -160,7 +216,7 @@ fn refuses_invariant(
     }
 }
 
-impl<'a> TermAsk<'a> {
+impl<'a, 'w> TermAsk<'a, 'w> {
     /// Whether a term that stands for itself is refused as was told. It has this part.
     pub(crate) fn refuses(&self, term: &Term, part: Part) -> Result<bool, AllocError> {
         match self.way {
@@ -176,6 +232,64 @@ impl<'a> TermAsk<'a> {
             Way::Passed => Ok(false),
             Way::Names(view) => is_refused_at(self.alloc, view, term, want, self.told),
             Way::Invariant(_) => Ok(false),
+        }
+    }
+
+    /// What is asked of terms that are no culprit and have none in them.
+    pub(crate) fn in_passing(&self) -> Self {
+        TermAsk {
+            alloc: self.alloc,
+            told: self.told,
+            way: Way::Passed,
+            whole: self.whole,
+        }
+    }
+
+    /// What is said of a term that is refused as was told.
+    pub(crate) fn words_of(&self, term: &Term) -> Result<Vec<u8>, AllocError> {
+        match self.way {
+            Way::Names(view) => match self.told {
+                Refusal::Unknown => self.unknown_in(term, Sought::View(view)),
+                Refusal::Sorts => sorts_words(self.alloc, view, term),
+                _ => Ok(Vec::new(self.alloc)),
+            },
+            Way::Invariant(_) => match self.told {
+                Refusal::Unknown => self.unknown_in(term, Sought::Nothing),
+                _ => Ok(Vec::new(self.alloc)),
+            },
+            Way::Passed => Ok(Vec::new(self.alloc)),
+        }
+    }
+
+    /// What is said of a term that is a name, or a call, and is not known.
+    fn unknown_in(&self, term: &Term, sought: Sought<'_>) -> Result<Vec<u8>, AllocError> {
+        match term {
+            Term::Name(Name::Word(name), _) => {
+                unknown_words(self.alloc, self.whole, sought, name)
+            }
+            Term::Name(Name::Variable { name, node }, _) => {
+                match automaton_of(self.whole.source, *node) {
+                    None => Ok(Vec::new(self.alloc)),
+                    Some(automaton) => {
+                        let sought = Sought::States(&automaton.states);
+                        unknown_words(self.alloc, self.whole, sought, name)
+                    }
+                }
+            }
+            Term::Call(name, _, _) => {
+                unknown_words(self.alloc, self.whole, Sought::Functions, name)
+            }
+            _ => Ok(Vec::new(self.alloc)),
+        }
+    }
+
+    /// What is said of a term that is refused as was told at the place of a shape.
+    pub(crate) fn words_at(&self, term: &Term, want: &Shape) -> Result<Vec<u8>, AllocError> {
+        match self.way {
+            Way::Names(view) if self.told == Refusal::Sorts => {
+                misfit_words(self.alloc, view, term, want)
+            }
+            _ => Ok(Vec::new(self.alloc)),
         }
     }
 

@@ -4,7 +4,7 @@ ghost use Rattle.std.specs.Prelude.{◌≡◌, IfOk, IfSome, Ok};
 ghost use Rattle.ioa_tokens.specs.Tokens as cutting;
 ghost use Rattle.ioa_walk.specs.Places.{IsSpanIn};
 
-use crate::asking::Ask;
+use crate::asking::{Ask, Whole};
 use crate::automaton::seek_automaton;
 use crate::halt::{Halt, halt_of};
 use crate::invariant::seek_invariant;
@@ -18,6 +18,15 @@ use ioa_types::TextTypes;
 use ioa_walk::{Part, Span, Walk, is_mark};
 use std::alloc::{AllocError, Global};
 
+/// The part of a text that is refused, and what is said of it.
+#[derive(Debug, Drop)]
+pub struct Spot {
+    /// Its place.
+    pub span: Span,
+    /// What is found there, in words: which name is not known, or which sorts are there; nothing if that is not known.
+    pub words: Vec<u8>,
+}
+
 /// Finds the smallest part of a refused declaration that is refused with the same number when it is asked alone, in the
 /// names that are in view there. `source` is the tree of the text, and the check refused it so, in the top declaration
 /// of this index. If no part is found with that number, there is none. Memory if none is left. Costs a few times what
@@ -28,8 +37,8 @@ pub fn culprit(
     source: &Text<(), (), ()>,
     index: usize,
     refusal: Refusal,
-) -> Result<Option<Span>, AllocError>
-    ensures { IfOk result (λ found. IfSome found (IsSpanIn text.now)) }
+) -> Result<Option<Spot>, AllocError>
+    ensures { IfOk result (λ found. IfSome found (λ c. IsSpanIn text.now c.span)) }
 {
     let located = match tokens(alloc, text) {
         Ok(located) => located,
@@ -42,7 +51,7 @@ pub fn culprit(
     };
     match seek(alloc, cut, source, index, refusal) {
         Ok(()) => Ok(None),
-        Err(Halt::Found(part)) => Ok(place_of(&cut, part)),
+        Err(Halt::Found(part, words)) => Ok(culprit_at(&cut, part, words)),
         Err(Halt::Lost) => Ok(None),
         Err(Halt::Memory) => Err(AllocError),
     }
@@ -54,6 +63,17 @@ fn place_of(cut: &Cut<'_>, part: Part) -> Option<Span>
     ensures { IfSome result (IsSpanIn cut.now.text.now) }
 {
     cut.span(cut.walk_from(0).balanced(part))
+}
+
+/// The culprit that a part is, of which this is said.
+fn culprit_at(cut: &Cut<'_>, part: Part, words: Vec<u8>) -> Option<Spot>
+    requires { cutting.tokens cut.now.text.now ≡ Ok cut.now.tokens.now }
+    ensures { IfSome result (λ c. IsSpanIn cut.now.text.now c.span) }
+{
+    match place_of(cut, part) {
+        None => None,
+        Some(span) => Some(Spot { span, words }),
+    }
 }
 
 /// Whether a token begins a top declaration.
@@ -125,47 +145,52 @@ fn seek(
     index: usize,
     told: Refusal,
 ) -> Result<(), Halt> {
-    let Some(start) = start_of(cut.tokens, index) else {
+    let whole = Whole { cut, source };
+    seek_in(alloc, &whole, index, told)
+}
+
+/// The walk to the culprit of a text.
+fn seek_in(alloc: Global, whole: &Whole<'_>, index: usize, told: Refusal) -> Result<(), Halt> {
+    let Some(start) = start_of(whole.cut.tokens, index) else {
         return Err(Halt::Lost);
     };
-    let mut walk = cut.walk_from(start);
-    match source.declarations.get(index) {
-        Some(declaration) => {
-            let before = declarations_before(&source.declarations, index);
-            seek_declaration(&mut walk, alloc, source, before, declaration, told)
-        }
-        None => seek_behind(&mut walk, alloc, cut, source, index, told),
+    let mut walk = whole.cut.walk_from(start);
+    match whole.source.declarations.get(index) {
+        Some(declaration) => seek_declaration(&mut walk, alloc, whole, index, declaration, told),
+        None => seek_behind(&mut walk, alloc, whole, index, told),
     }
 }
 
-/// The walk over a type or an automaton behind other declarations.
+/// The walk over a type or an automaton that has this index.
 fn seek_declaration(
     walk: &mut Walk<'_>,
     alloc: Global,
-    source: &Text<(), (), ()>,
-    before: &[Declaration<(), (), ()>],
+    whole: &Whole<'_>,
+    index: usize,
     declaration: &Declaration<(), (), ()>,
     told: Refusal,
 ) -> Result<(), Halt> {
+    let before = declarations_before(&whole.source.declarations, index);
     match declaration {
         Declaration::Type(declared) => {
             let types = types_of(alloc, before)?;
-            seek_type(walk, &ask_of(alloc, &types, told), declared)
+            seek_type(walk, &ask_of(alloc, whole, &types, told), declared)
         }
         Declaration::Automaton(automaton) => {
-            let types = types_of(alloc, &source.declarations)?;
-            seek_automaton(walk, &ask_of(alloc, &types, told), before, automaton)
+            let types = types_of(alloc, &whole.source.declarations)?;
+            seek_automaton(walk, &ask_of(alloc, whole, &types, told), before, automaton)
         }
     }
 }
 
 /// What is looked for in a text of these types.
-fn ask_of<'a>(alloc: Global, types: &'a TextTypes, told: Refusal) -> Ask<'a> {
+fn ask_of<'a>(alloc: Global, whole: &'a Whole<'a>, types: &'a TextTypes, told: Refusal) -> Ask<'a> {
     Ask {
         alloc,
         told,
         types: types.types(),
         constants: types.constants(),
+        whole,
     }
 }
 
@@ -173,17 +198,16 @@ fn ask_of<'a>(alloc: Global, types: &'a TextTypes, told: Refusal) -> Ask<'a> {
 fn seek_behind(
     walk: &mut Walk<'_>,
     alloc: Global,
-    cut: Cut<'_>,
-    source: &Text<(), (), ()>,
+    whole: &Whole<'_>,
     index: usize,
     told: Refusal,
 ) -> Result<(), Halt> {
-    let types = types_of(alloc, &source.declarations)?;
-    let ask = ask_of(alloc, &types, told);
+    let types = types_of(alloc, &whole.source.declarations)?;
+    let ask = ask_of(alloc, whole, &types, told);
     let section = Section {
         ask: &ask,
-        cut,
-        source,
+        cut: whole.cut,
+        source: whole.source,
         index,
     };
     seek_behind_declarations(walk, &section)

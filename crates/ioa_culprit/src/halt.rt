@@ -2,13 +2,13 @@
 
 use ioa_sort_rules::Refusal;
 use ioa_walk::{Lost, Part};
-use std::alloc::{AllocError, AllocFailed};
+use std::alloc::{AllocError, AllocFailed, Global};
 
 /// Why a walk over a declaration ends before its end.
 #[derive(Debug, Drop)]
 pub(crate) enum Halt {
-    /// The culprit is found.
-    Found(Part),
+    /// The culprit is found, and this is said of it; nothing if there is no more to say.
+    Found(Part, Vec<u8>),
     /// The tokens are not those of the tree, or a part is refused with another number than was told.
     Lost,
     /// 3: no memory was left.
@@ -31,6 +31,19 @@ impl<T: Drop> From<AllocFailed<T>> for Halt {
     fn from(_error: AllocFailed<T>) -> Self {
         Halt::Memory
     }
+}
+
+/// How a walk ends at the culprit, of which this is said.
+pub(crate) fn found(part: Part, words: Result<Vec<u8>, AllocError>) -> Halt {
+    match words {
+        Ok(words) => Halt::Found(part, words),
+        Err(AllocError) => Halt::Memory,
+    }
+}
+
+/// How a walk ends at the culprit, of which there is no more to say.
+pub(crate) fn bare(alloc: Global, part: Part) -> Halt {
+    Halt::Found(part, Vec::new(alloc))
 }
 
 /// How a walk ends at a part that has to pass, and does not.

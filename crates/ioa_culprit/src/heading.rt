@@ -4,7 +4,7 @@ use crate::asking::Ask;
 use crate::declared::{pass_declared, with_declared};
 use crate::halt::Halt;
 use crate::index::NameIndex;
-use crate::terms::pass_declared_fit;
+use crate::terms::pass_fit;
 use ioa_names::{NameTable, View};
 use ioa_sort_rules::Refusal;
 use ioa_source::{Automaton, Declared, Entry, Transition, Variable};
@@ -160,6 +160,6 @@ fn seek_initial_term(
     term: &Term,
 ) -> Result<(), Halt> {
     let shape = ask.shape_of(&variable.declared.sort)?;
-    let _part = pass_declared_fit(walk, &ask.in_view(view), term, &shape)?;
+    let _part = pass_fit(walk, &ask.in_view(view), term, &shape)?;
     Ok(())
 }

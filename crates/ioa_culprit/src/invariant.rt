@@ -1,7 +1,7 @@
 //! The walk over an invariant.
 
-use crate::asking::{TermAsk, Way, no_ask};
-use crate::halt::Halt;
+use crate::asking::{TermAsk, Way};
+use crate::halt::{Halt, bare};
 use crate::section::Section;
 use crate::shortened::InvariantText;
 use crate::terms::pass_term;
@@ -32,11 +32,11 @@ pub(crate) fn seek_invariant(
         ask.told_at(Refusal::Twice, one_token(name))?;
     }
     let mut term = *walk;
-    let part = pass_term(&mut term, &no_ask(ask.alloc, ask.told), &invariant.term)?;
+    let part = pass_term(&mut term, &ask.in_passing(), &invariant.term)?;
     if part.last.saturating_sub(part.first) < MOST_TOKENS {
         seek_term(walk, section, invariant, part)?;
     }
-    Err(Halt::Found(part))
+    Err(bare(ask.alloc, part))
 }
 
 /// The walk over the term of an invariant, which has this part.
@@ -59,6 +59,7 @@ fn seek_term(
                 alloc: section.ask.alloc,
                 told: section.ask.told,
                 way: Way::Invariant(&text),
+                whole: section.ask.whole,
             };
             let _term = pass_term(walk, &asked, &invariant.term)?;
             Ok(())

@@ -1,9 +1,10 @@
 //! Which part of a refused text is the culprit: from a text that was read and what the check refused, the smallest part
-//! of the refused declaration that is refused with the same number when it is asked alone, and its place in the text.
+//! of the refused declaration that is refused with the same number when it is asked alone, its place in the text, and
+//! what is found there.
 //!
 //! **A crate of its own**, since the check knows no places, and nothing that runs needs them.
 //!
-//! **Must not know**: the words in which a refusal is told, and runs.
+//! **Must not know**: the sentences in which a refusal is told, and runs.
 #![tactic(auto)]
 
 mod asking;
@@ -15,12 +16,16 @@ mod halt;
 mod heading;
 mod index;
 mod invariant;
+mod near;
+mod roles;
 mod rules;
 mod section;
 mod shortened;
 mod statements;
 mod terms;
 mod types;
+mod unknown;
+mod words;
 
-pub use finding::culprit;
+pub use finding::{Spot, culprit};
 pub use ioa_walk::Span;

@@ -1,11 +1,12 @@
 //! Walks over the entries and the transitions of an automaton.
 
-use crate::asking::{Ask, no_ask};
+use crate::asking::Ask;
 use crate::declared::{pass_declared, with_declared};
-use crate::halt::Halt;
+use crate::halt::{Halt, bare};
 use crate::heading::Heading;
 use crate::statements::{Site, pass_statements};
 use crate::terms::{pass_fit, pass_own, pass_term};
+use crate::unknown::Sought;
 use ioa_actions::{RECEIVE, SEND};
 use ioa_names::{NameTable, View};
 use ioa_sort_rules::Refusal;
@@ -173,7 +174,7 @@ fn seek_condition(
     term: &Term,
 ) -> Result<(), Halt> {
     if kind == Kind::Input {
-        let part = pass_term(walk, &no_ask(ask.alloc, ask.told), term)?;
+        let part = pass_term(walk, &ask.in_passing(), term)?;
         return ask.told_at(refusal, part);
     }
     let truths = Shape::of(ShapeForm::Truths);
@@ -269,7 +270,7 @@ fn seek_message(heading: &Heading<'_>, entry: &Entry<(), (), ()>, part: Part) ->
     if may_have_name(entry, &shapes) {
         Ok(())
     } else {
-        Err(Halt::Found(part))
+        Err(bare(heading.ask.alloc, part))
     }
 }
 
@@ -327,11 +328,16 @@ fn seek_transition(
     let name = walk.word(&transition.name)?;
     let last = walk.called(name)?;
     let head = Part { first, last };
-    if heading.transitions.stands_before(&transition.name, position) {
+    if heading
+        .transitions
+        .stands_before(&transition.name, position)
+    {
         heading.ask.told_at(Refusal::Twice, head)?;
     }
     match entry_for(heading, transition) {
-        None => heading.ask.told_at(Refusal::Unknown, head),
+        None => heading
+            .ask
+            .unknown_at(head, Sought::Entries(heading.entries), &transition.name),
         Some(entry) => seek_rule(walk, heading, entry, head, transition),
     }
 }

@@ -2,12 +2,13 @@
 
 use crate::asking::Ask;
 use crate::automaton::has_automaton;
-use crate::halt::Halt;
+use crate::halt::{Halt, bare};
 use crate::heading::{Heading, given_of};
 use crate::index::{NameIndex, index_of_entries};
 use crate::rules::shapes_taken;
 use crate::shortened::{Cut, blank, is_refused_so};
 use crate::terms::pass_each;
+use crate::unknown::Sought;
 use ioa_actions::{RECEIVE, SEND};
 use ioa_check::{MOST_CHANNELS, MOST_NODES};
 use ioa_names::{NameTable, View};
@@ -41,7 +42,7 @@ pub(crate) fn seek_section(walk: &mut Walk<'_>, section: &Section<'_>) -> Result
             &placements[position],
         ) || is_gap(section.ask.told, placements, &placements[position])
         {
-            return Err(Halt::Found(parts[position]));
+            return Err(bare(section.ask.alloc, parts[position]));
         }
     }
     seek_refused(section, &parts)
@@ -248,7 +249,7 @@ fn seek_at(section: &Section<'_>, parts: &Vec<Part>, position: usize) -> Result<
     };
     let mut walk = section.cut.walk_from(part.first);
     seek_placement(&mut walk, section, placement)?;
-    Err(Halt::Found(*part))
+    Err(bare(section.ask.alloc, *part))
 }
 
 /// The positions of nodes, channels and scripts in the order in which the check goes: the nodes by their numbers, then
@@ -377,15 +378,14 @@ fn seek_given(
     walk: &mut Walk<'_>,
     ask: &Ask<'_>,
     shapes: &Vec<Shape>,
+    name: &Word,
     arguments: &Vec<Term>,
     part: Part,
 ) -> Result<(), Halt> {
     let none = NameTable::new(ask.alloc);
     let view = View::new(&none, &none, ask.constants)?;
     pass_each(walk, &ask.in_view(&view), arguments, shapes)?;
-    if arguments.len() != shapes.len() {
-        ask.told_at(Refusal::Sorts, part)?;
-    }
+    ask.count_at(part, name, shapes.len(), arguments.len())?;
     walk.go_behind(part.last);
     Ok(())
 }
@@ -400,13 +400,18 @@ fn seek_node(
     let first = walk.word(&node.automaton)?;
     let last = walk.called(first)?;
     match automaton_named(&section.source.declarations, &node.automaton) {
-        None => section.ask.told_at(Refusal::Unknown, one_token(first)),
+        None => section.ask.unknown_at(
+            one_token(first),
+            Sought::Automata(&section.source.declarations),
+            &node.automaton,
+        ),
         Some(automaton) => {
             let shapes = parameter_shapes(section.ask, automaton)?;
             seek_given(
                 walk,
                 section.ask,
                 &shapes,
+                &node.automaton,
                 &node.arguments,
                 Part { first, last },
             )
@@ -428,7 +433,7 @@ fn seek_channel(walk: &mut Walk<'_>, section: &Section<'_>, channel: &Channel) -
 }
 
 /// The automaton that is placed on the node of a number.
-fn automaton_of<'a>(
+pub(crate) fn automaton_of<'a>(
     source: &'a Text<(), (), ()>,
     number: i64,
 ) -> Option<&'a Automaton<(), (), ()>> {
@@ -496,13 +501,24 @@ fn seek_call(
         heading.ask.told_at(Refusal::BadArgument, part)?;
     }
     match heading.entry_named(&call.name) {
-        None => heading.ask.told_at(Refusal::Unknown, one_token(first)),
+        None => heading.ask.unknown_at(
+            one_token(first),
+            Sought::Entries(heading.entries),
+            &call.name,
+        ),
         Some(entry) => {
             if entry.kind != Kind::Input {
                 heading.ask.told_at(Refusal::Unknown, one_token(first))?;
             }
             let shapes = shapes_taken(heading, entry)?;
-            seek_given(walk, heading.ask, &shapes, &call.arguments, part)
+            seek_given(
+                walk,
+                heading.ask,
+                &shapes,
+                &call.name,
+                &call.arguments,
+                part,
+            )
         }
     }
 }

@@ -5,6 +5,7 @@ use crate::halt::{Halt, halt_of};
 use crate::heading::Heading;
 use crate::rules::shapes_taken;
 use crate::terms::{pass_each, pass_fit};
+use crate::unknown::Sought;
 use ioa_names::View;
 use ioa_sort_rules::{Refusal, Sides, entry_of, value_of_field};
 use ioa_source::Entry;
@@ -97,7 +98,7 @@ fn pass_assignment(
     pass_assigned(walk, site, term, &want)
 }
 
-/// Passes the target of an assignment. Returns the shape in terms of what is assigned to it.
+/// Passes the target of an assignment. Returns the shape of what is assigned to it.
 fn pass_target(
     walk: &mut Walk<'_>,
     site: &Site<'_>,
@@ -132,16 +133,17 @@ fn assigned<'a>(site: &'a Site<'a>, name: &Word, part: Part) -> Result<&'a Shape
             .ask
             .told_at(Refusal::ScheduleAssignsState, part)?;
     } else {
-        site.heading.ask.told_at(Refusal::Unknown, part)?;
+        let sought = Sought::Variables(site.view, site.variables);
+        site.heading.ask.unknown_at(part, sought, name)?;
     }
     Err(Halt::Lost)
 }
 
-/// Passes a variable that is assigned. Returns the shape in terms of what is assigned to it.
+/// Passes a variable that is assigned. Returns its declared shape.
 fn pass_variable(walk: &mut Walk<'_>, site: &Site<'_>, name: &Word) -> Result<Shape, Halt> {
     let part = one_token(walk.word(name)?);
     let declared = assigned(site, name, part)?;
-    Ok(site.heading.ask.in_view(site.view).in_terms(declared)?)
+    Ok(declared.try_copy(site.heading.ask.alloc)?)
 }
 
 /// Passes `x[t]`, which is assigned. Returns the shape of the values of the map.
@@ -218,7 +220,10 @@ fn pass_firing(
     };
     match site.heading.entry_named(&firing.action) {
         None => {
-            site.heading.ask.told_at(Refusal::Unknown, one_token(name))?;
+            let sought = Sought::Entries(site.heading.entries);
+            site.heading
+                .ask
+                .unknown_at(one_token(name), sought, &firing.action)?;
             Err(Halt::Lost)
         }
         Some(entry) => {
@@ -243,8 +248,5 @@ fn pass_fired(
     }
     let shapes = shapes_taken(site.heading, entry)?;
     pass_each(walk, &ask.in_view(site.view), &firing.arguments, &shapes)?;
-    if firing.arguments.len() != shapes.len() {
-        ask.told_at(Refusal::Sorts, part)?;
-    }
-    Ok(())
+    ask.count_at(part, &firing.action, shapes.len(), firing.arguments.len())
 }

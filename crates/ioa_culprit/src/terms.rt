@@ -1,7 +1,7 @@
 //! Walks over terms.
 
 use crate::asking::TermAsk;
-use crate::halt::Halt;
+use crate::halt::{Halt, bare, found};
 use ioa_sort_rules::Refusal;
 use ioa_term_reader::{infix_mark, prefix_mark};
 use ioa_terms::{BinaryOperator, DisplayForm, Name, Shape, ShapeForm, Term};
@@ -66,7 +66,7 @@ fn pass_end(
 #[cycle(walking)]
 pub(crate) fn pass_term(
     walk: &mut Walk<'_>,
-    asked: &TermAsk<'_>,
+    asked: &TermAsk<'_, '_>,
     term: &Term,
 ) -> Result<Part, Halt> {
     let part = match term {
@@ -105,7 +105,7 @@ pub(crate) fn pass_term(
         }
     };
     if asked.refuses(term, part)? {
-        return Err(Halt::Found(part));
+        return Err(found(part, asked.words_of(term)));
     }
     Ok(part)
 }
@@ -114,7 +114,7 @@ pub(crate) fn pass_term(
 #[cycle(walking)]
 pub(crate) fn pass_terms(
     walk: &mut Walk<'_>,
-    asked: &TermAsk<'_>,
+    asked: &TermAsk<'_, '_>,
     terms: &Vec<Term>,
 ) -> Result<(), Halt> {
     for term in terms {
@@ -123,17 +123,22 @@ pub(crate) fn pass_terms(
     Ok(())
 }
 
-/// Passes a term that has to have a sort of its own. The walk ends at it if it is a display, and that was told.
+/// Passes a term that has to have a sort of its own. The walk ends at it if it is a display, and that was told. The
+/// parts of a term that is not refused are not asked.
 pub(crate) fn pass_own(
     walk: &mut Walk<'_>,
-    asked: &TermAsk<'_>,
+    asked: &TermAsk<'_, '_>,
     term: &Term,
 ) -> Result<Part, Halt> {
-    let part = pass_term(walk, asked, term)?;
+    let mut inner = *walk;
+    let part = pass_term(walk, &asked.in_passing(), term)?;
+    if asked.refuses(term, part)? {
+        let _part = pass_term(&mut inner, asked, term)?;
+    }
     match term {
         Term::Display(_, _, _) => {
             if asked.told == Refusal::EmptyOfWhat {
-                return Err(Halt::Found(part));
+                return Err(bare(asked.alloc, part));
             }
         }
         _ => {}
@@ -141,34 +146,37 @@ pub(crate) fn pass_own(
     Ok(part)
 }
 
-/// Passes a term at the place of a shape, as it is in terms.
+/// Passes a term at the place of a declared shape. The parts of a term that is not refused there are not asked.
 #[cycle(fitting)]
 pub(crate) fn pass_fit(
     walk: &mut Walk<'_>,
-    asked: &TermAsk<'_>,
+    asked: &TermAsk<'_, '_>,
     term: &Term,
-    want: &Shape,
+    declared: &Shape,
 ) -> Result<Part, Halt> {
     let mut inner = *walk;
-    let part = pass_term(walk, asked, term)?;
-    if !asked.refuses_at(term, want)? {
+    let part = pass_term(walk, &asked.in_passing(), term)?;
+    let want = asked.in_terms(declared)?;
+    if !asked.refuses_at(term, &want)? {
         return Ok(part);
     }
+    let mut items = inner;
+    let _part = pass_term(&mut inner, asked, term)?;
     match term {
         Term::Display(form, _, parts) => {
-            let _brackets = inner.opened(display_mark(*form))?;
-            pass_items(&mut inner, asked, parts, want)?;
+            let _brackets = items.opened(display_mark(*form))?;
+            pass_items(&mut items, asked, parts, declared)?;
         }
         _ => {}
     }
-    Err(Halt::Found(part))
+    Err(found(part, asked.words_at(term, declared)))
 }
 
 /// Passes the items of a display at the place of a shape.
 #[cycle(fitting)]
 fn pass_items(
     walk: &mut Walk<'_>,
-    asked: &TermAsk<'_>,
+    asked: &TermAsk<'_, '_>,
     items: &Vec<Term>,
     want: &Shape,
 ) -> Result<(), Halt> {
@@ -184,7 +192,7 @@ fn pass_items(
 #[cycle(fitting)]
 fn pass_all(
     walk: &mut Walk<'_>,
-    asked: &TermAsk<'_>,
+    asked: &TermAsk<'_, '_>,
     terms: &Vec<Term>,
     want: &Shape,
 ) -> Result<(), Halt> {
@@ -198,24 +206,12 @@ fn pass_all(
 #[cycle(fitting)]
 pub(crate) fn pass_each(
     walk: &mut Walk<'_>,
-    asked: &TermAsk<'_>,
+    asked: &TermAsk<'_, '_>,
     terms: &Vec<Term>,
     shapes: &Vec<Shape>,
 ) -> Result<(), Halt> {
     for position in 0..terms.len().min(shapes.len()) {
-        pass_declared_fit(walk, asked, &terms[position], &shapes[position])?;
+        let _part = pass_fit(walk, asked, &terms[position], &shapes[position])?;
     }
     Ok(())
-}
-
-/// Passes a term at the place of a declared shape.
-#[cycle(fitting)]
-pub(crate) fn pass_declared_fit(
-    walk: &mut Walk<'_>,
-    asked: &TermAsk<'_>,
-    term: &Term,
-    declared: &Shape,
-) -> Result<Part, Halt> {
-    let want = asked.in_terms(declared)?;
-    pass_fit(walk, asked, term, &want)
 }

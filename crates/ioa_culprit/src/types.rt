@@ -2,23 +2,14 @@
 
 use crate::asking::Ask;
 use crate::declared::pass_declared;
-use crate::halt::{Halt, halt_of};
+use crate::halt::{Halt, bare};
 use crate::index::NameIndex;
+use crate::unknown::is_type;
 use ioa_names::NameTable;
 use ioa_sort_rules::Refusal;
-use ioa_source::{Declared, Sort, TypeDeclaration, TypeForm};
+use ioa_source::{Declared, TypeDeclaration, TypeForm};
 use ioa_terms::{Shape, ShapeForm, Word};
 use ioa_walk::{Part, Walk, one_token};
-
-/// Whether a type of a name was declared before.
-fn is_type(ask: &Ask<'_>, name: &Word) -> Result<bool, Halt> {
-    let sort = Sort::Named(name.try_copy(ask.alloc)?);
-    match ask.types.shape_of(ask.alloc, &sort) {
-        Ok(_) => Ok(true),
-        Err(Refusal::Memory) => Err(Halt::Memory),
-        Err(_) => Ok(false),
-    }
-}
 
 /// The walk over a type, in a text of the types before it. It ends at the whole type if no smaller part is the culprit.
 pub(crate) fn seek_type(
@@ -27,14 +18,14 @@ pub(crate) fn seek_type(
     declaration: &TypeDeclaration<()>,
 ) -> Result<(), Halt> {
     let name = walk.word(&declaration.name)?;
-    if is_type(ask, &declaration.name)? {
+    if is_type(ask.alloc, ask.types, &declaration.name)? {
         ask.told_at(Refusal::Twice, one_token(name))?;
     }
     let last = match &declaration.form {
         TypeForm::Enumeration(constants) => seek_constants(walk, ask, constants)?,
         TypeForm::Tuple(fields) => seek_fields(walk, ask, fields)?,
     };
-    Err(Halt::Found(Part { first: name, last }))
+    Err(bare(ask.alloc, Part { first: name, last }))
 }
 
 /// Passes the constants of an enumeration. Returns the position of the last one.
@@ -85,6 +76,7 @@ fn seek_field(
         told: ask.told,
         types: ask.types,
         constants: &none,
+        whole: ask.whole,
     };
     pass_declared(walk, &ask, &none, before, field)
 }

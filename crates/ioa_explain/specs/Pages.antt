@@ -81,11 +81,11 @@ pub record TellsUnread (name text : List ℕ) (e : FrontFault) (page : List ℕ)
 abbrev pub refusal_in : Refusal → List ℕ → List ℕ
 refusal_in r whereabouts = refusal_text r ++ (codes ", in " ++ whereabouts)
 
--- what is told of a text that the check refuses, in a part of a declaration
-abbrev pub refused_text : List ℕ → List ℕ → Refusal → (offset end : ℕ) → List ℕ → List ℕ
-refused_text name text r offset end whereabouts =
+-- what is told of a text that the check refuses, in a part of a declaration, with words that say what is found there
+abbrev pub refused_text : List ℕ → List ℕ → Refusal → (offset end : ℕ) → List ℕ → List ℕ → List ℕ
+refused_text name text r offset end whereabouts words =
     title name (place_at text offset) (refusal_in r whereabouts)
-    ++ (picture text offset end ++ detail (rule_text r))
+    ++ (picture text offset end ++ (detail (rule_text r) ++ detail_if_any words))
 
 -- the tokens of a text, if it can be cut
 abbrev pub AreTokensOf : List ℕ → List LocatedToken → Type 0
@@ -93,13 +93,14 @@ AreTokensOf text ts = (located : List LocatedToken) → tokens text ≡ Ok locat
 
 -- what is told of a text that the check refuses: the number and the name of the refusal, the declaration of an index, a
 -- part of the text, and what is asked for. The part begins with the one that was found, or else with the name of the
--- declaration.
+-- declaration. Words may say what is found there.
 pub record TellsRefused (name text : List ℕ) (r : Refusal) (index : ℕ) (part : Option Span) (page : List ℕ)
     : Type 0 where
   pub offset : ℕ
   pub end : ℕ
   pub where_it_is : List ℕ
-  pub told : page ≡ refused_text name text r offset end where_it_is
+  pub words : List ℕ
+  pub told : page ≡ refused_text name text r offset end where_it_is words
   pub named : (located : List LocatedToken) (position : ℕ) → tokens text ≡ Ok located →
       IsDeclarationAt located index position → where_it_is ≡ whereabouts text located position
   pub placed : (located : List LocatedToken) (position : ℕ) → tokens text ≡ Ok located →

@@ -6,7 +6,7 @@ ghost use Rattle.ioa_explain.specs.Explanations as spec;
 use crate::fault::ExplainFault;
 use crate::reading::unread_page;
 use crate::refused::refused_page;
-use crate::verdict::{Verdict, judge};
+use crate::verdict::{Judged, Verdict, judge};
 use ioa_streams::{Out, OutFailed, put_all};
 use std::alloc::{AllocError, Global};
 
@@ -70,9 +70,9 @@ fn explanation_of(alloc: Global, name: &str, text: &str) -> Result<Explanation, 
     ensures found { IfOk result (λ e. spec.IsFindingOn e.finding text.now) }
     ensures told { IfOk result (λ e. spec.IsExplanationOf name.now text.now e.page.items) }
 {
-    let verdict = judge(alloc, text)?;
-    let page = page_of(alloc, name, text, &verdict)?;
-    let finding = finding_of(&verdict);
+    let judged = judge(alloc, text)?;
+    let page = page_of(alloc, name, text, &judged)?;
+    let finding = finding_of(&judged.verdict);
     Ok(Explanation { finding, page })
 }
 
@@ -87,17 +87,17 @@ fn finding_of(verdict: &Verdict) -> Finding
 }
 
 /// What is told of a verdict on a text.
-fn page_of(alloc: Global, name: &str, text: &str, verdict: &Verdict) -> Result<Vec<u8>, AllocError>
-    ensures { IfOk result (λ page. spec.Tells name.now text.now verdict.now page.items) }
+fn page_of(alloc: Global, name: &str, text: &str, judged: &Judged) -> Result<Vec<u8>, AllocError>
+    ensures { IfOk result (λ page. spec.Tells name.now text.now judged.now.verdict page.items) }
 {
-    match verdict {
+    match &judged.verdict {
         Verdict::Accepted => good_page(alloc),
         Verdict::Unread(fault) => unread_page(alloc, name, text, fault),
         Verdict::Refused {
             refusal,
             index,
             part,
-        } => refused_page(alloc, name, text, *refusal, *index, *part),
+        } => refused_page(alloc, name, text, *refusal, *index, *part, &judged.words),
     }
 }
 

@@ -34,6 +34,16 @@ pub(crate) fn push_detail(page: &mut Vec<u8>, detail: &[u8]) -> Result<(), Alloc
     page.extend_from_slice(b"\n")
 }
 
+/// Adds a line of details, if there are any.
+pub(crate) fn push_if_any(page: &mut Vec<u8>, detail: &[u8]) -> Result<(), AllocError>
+    ensures { OnOk result (page.new.items ≡ page.old.items ++ spec.detail_if_any detail.now) }
+{
+    if detail.is_empty() {
+        return Ok(());
+    }
+    push_detail(page, detail)
+}
+
 /// The tokens of a text; none if it can't be cut.
 pub(crate) fn tokens_of<'a>(
     alloc: Global,

@@ -4,7 +4,7 @@ ghost use Rattle.std.specs.Prelude.{◌≡◌, ◌++◌, IfOk, OnOk};
 ghost use Rattle.ioa_explain.specs.Pages as spec;
 
 use crate::candidates::candidates;
-use crate::page::{push_detail, push_title, tokens_of};
+use crate::page::{push_detail, push_if_any, push_title, tokens_of};
 use crate::sentences::{reading_rule, title_of};
 use ioa_place::{digits_at, place_at, show_part, token_at, token_length};
 use ioa_text_reader::FrontFault;
@@ -118,16 +118,6 @@ fn part_of(text: &[u8], offset: usize, end: usize) -> &[u8]
 {
     let front = &text[..end.min(text.len())];
     &front[offset.min(front.len())..]
-}
-
-/// Adds a line of details, if there are any.
-fn push_if_any(page: &mut Vec<u8>, detail: &[u8]) -> Result<(), AllocError>
-    ensures { OnOk result (page.new.items ≡ page.old.items ++ spec.detail_if_any detail.now) }
-{
-    if detail.is_empty() {
-        return Ok(());
-    }
-    push_detail(page, detail)
 }
 
 /// Adds a line that tells what is found, or that the text ends.

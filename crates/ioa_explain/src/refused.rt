@@ -5,7 +5,7 @@ ghost use Rattle.ioa_place.specs.Found.{IsDeclarationAt};
 ghost use Rattle.ioa_explain.specs.Whereabouts as place;
 ghost use Rattle.ioa_explain.specs.Pages as spec;
 
-use crate::page::{push_detail, push_title, tokens_of};
+use crate::page::{push_detail, push_if_any, push_title, tokens_of};
 use crate::sentences::rule_of;
 use ioa_culprit::Span;
 use ioa_place::{declaration_at, place_at, show_part, token_length};
@@ -14,7 +14,7 @@ use ioa_tokens::{LocatedToken, Mark, Token};
 use std::alloc::{AllocError, Global};
 
 /// What is told of a text that the check refuses in the top declaration of an index, for the part of it that is
-/// refused, or else for its name.
+/// refused, or else for its name. `words` say what is found there, if they say anything.
 pub(crate) fn refused_page(
     alloc: Global,
     name: &str,
@@ -22,6 +22,7 @@ pub(crate) fn refused_page(
     refusal: Refusal,
     index: usize,
     part: Option<Span>,
+    words: &[u8],
 ) -> Result<Vec<u8>, AllocError>
     ensures { IfOk result (λ page. spec.TellsRefused name.now text.now refusal index part page.items) }
 {
@@ -29,7 +30,7 @@ pub(crate) fn refused_page(
     let position = position_of(&tokens, index);
     let part = part_or_name(alloc, text, rest_of(&tokens, position), part)?;
     let whereabouts = whereabouts(alloc, text, &tokens, position)?;
-    let page = page_of(alloc, name, text, refusal, part, &whereabouts)?;
+    let page = page_of(alloc, name, text, refusal, part, &whereabouts, words)?;
     Ok(page)
 }
 
@@ -41,15 +42,17 @@ fn page_of(
     refusal: Refusal,
     part: Span,
     whereabouts: &[u8],
+    words: &[u8],
 ) -> Result<Vec<u8>, AllocError>
     ensures { IfOk result (λ page. page.items ≡ spec.refused_text name.now text.now
-        refusal part.offset part.end whereabouts.now) }
+        refusal part.offset part.end whereabouts.now words.now) }
 {
     let mut page = Vec::new(alloc);
     let what = what_of(alloc, refusal, whereabouts)?;
     push_title(alloc, &mut page, name, place_at(text, part.offset), &what)?;
     show_part(alloc, &mut page, text, part.offset, part.end)?;
     push_detail(&mut page, rule_of(refusal).as_bytes())?;
+    push_if_any(&mut page, words)?;
     Ok(page)
 }
 

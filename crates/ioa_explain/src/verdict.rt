@@ -29,18 +29,30 @@ pub(crate) enum Verdict {
     },
 }
 
+/// A verdict, and what is found at the part of a text that is refused.
+#[derive(Debug, Drop)]
+pub(crate) struct Judged {
+    /// The verdict.
+    pub verdict: Verdict,
+    /// What is found there, in words: which name is not known, or which sorts are there; nothing if that is not known.
+    pub words: Vec<u8>,
+}
+
 /// What the reader and the check say of a text.
-pub(crate) fn judge(alloc: Global, text: &str) -> Result<Verdict, AllocError>
-    ensures said { IfOk result (λ v. IsVerdictOn v text.now) }
-    ensures whether { IfOk result (λ v. SaysWhether v text.now) }
+pub(crate) fn judge(alloc: Global, text: &str) -> Result<Judged, AllocError>
+    ensures said { IfOk result (λ j. IsVerdictOn j.verdict text.now) }
+    ensures whether { IfOk result (λ j. SaysWhether j.verdict text.now) }
 {
     match parse(alloc, text) {
         Ok(source) => {
-            let verdict = of_source(alloc, text, &source)?;
-            Ok(verdict)
+            let judged = of_source(alloc, text, &source)?;
+            Ok(judged)
         }
         Err(fault) => match unread(fault) {
-            Some(verdict) => Ok(verdict),
+            Some(verdict) => Ok(Judged {
+                verdict,
+                words: Vec::new(alloc),
+            }),
             None => Err(AllocError),
         },
     }
@@ -57,21 +69,24 @@ fn unread(fault: FrontFault) -> Option<Verdict>
 }
 
 /// What the check says of the source that a text spells.
-fn of_source(alloc: Global, text: &str, source: &Source) -> Result<Verdict, AllocError>
-    ensures { IfOk result (λ v. IsVerdictOf v (text_of source.now.text) text.now) }
+fn of_source(alloc: Global, text: &str, source: &Source) -> Result<Judged, AllocError>
+    ensures { IfOk result (λ j. IsVerdictOf j.verdict (text_of source.now.text) text.now) }
 {
     match check(alloc, source.text()) {
-        Ok(system) => Ok(accepted(system)),
+        Ok(system) => Ok(accepted(alloc, system)),
         Err(fault) => refused(alloc, text, source, fault),
     }
 }
 
 /// The verdict on a source of which this system was made.
-fn accepted(system: System) -> Verdict
-    ensures { result ≡ Verdict.Accepted }
+fn accepted(alloc: Global, system: System) -> Judged
+    ensures { result.verdict ≡ Verdict.Accepted }
 {
     drop(system);
-    Verdict::Accepted
+    Judged {
+        verdict: Verdict::Accepted,
+        words: Vec::new(alloc),
+    }
 }
 
 /// The verdict on a source that has this fault; want of memory says nothing.
@@ -81,19 +96,32 @@ fn refused(
     text: &str,
     source: &Source,
     fault: CheckFault,
-) -> Result<Verdict, AllocError>
+) -> Result<Judged, AllocError>
     requires { IsFaultOf fault (text_of source.now.text) }
-    ensures { IfOk result (λ v. IsVerdictOf v (text_of source.now.text) text.now) }
+    ensures { IfOk result (λ j. IsVerdictOf j.verdict (text_of source.now.text) text.now) }
 {
     match fault {
         CheckFault::Memory => Err(AllocError),
         CheckFault::Refused { refusal, index } => {
-            let part = culprit(alloc, text, source.text(), index, refusal)?;
-            Ok(Verdict::Refused {
-                refusal,
-                index,
-                part,
-            })
+            let found = culprit(alloc, text, source.text(), index, refusal)?;
+            match found {
+                None => Ok(Judged {
+                    verdict: Verdict::Refused {
+                        refusal,
+                        index,
+                        part: None,
+                    },
+                    words: Vec::new(alloc),
+                }),
+                Some(spot) => Ok(Judged {
+                    verdict: Verdict::Refused {
+                        refusal,
+                        index,
+                        part: Some(spot.span),
+                    },
+                    words: spot.words,
+                }),
+            }
         }
     }
 }

@@ -5,9 +5,6 @@ use Rattle.ioa_culprit.proofs.terms.+fitting.Given as goal
 abbrev pub decreases-pass_fit : goal.decreases-pass_fit
 decreases-pass_fit l = 4 * goal.size-pass_fit l
 
-abbrev pub decreases-pass_declared_fit : goal.decreases-pass_declared_fit
-decreases-pass_declared_fit l = 4 * goal.size-pass_declared_fit l + 1
-
 abbrev pub decreases-pass_all : goal.decreases-pass_all
 decreases-pass_all l = 4 * goal.size-pass_all l + 1
 

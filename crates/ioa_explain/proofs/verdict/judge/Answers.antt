@@ -4,10 +4,10 @@ use Rattle.ioa_explain.proofs.Verdicts.{unread_on, unread_whether, verdict_on, w
 use Rattle.ioa_explain.proofs.verdict.judge.Goals as goal
 
 -- the source that the text spells is its only one
-pub returns-in_ok-verdict-in-Ok : goal.returns-in_ok-verdict-in-Ok
-returns-in_ok-verdict-in-Ok c = record {
-  said = verdict_on _ _ _ c.in_ok-verdict-in-Ok.ensures c.in-Ok.ensures.found c.in-Ok.ensures.long;
-  whether = whether_by _ _ _ c.in_ok-verdict-in-Ok.ensures c.in-Ok.ensures.only;
+pub returns-in_ok-judged-in-Ok : goal.returns-in_ok-judged-in-Ok
+returns-in_ok-judged-in-Ok c = record {
+  said = verdict_on _ _ _ c.in_ok-judged-in-Ok.ensures c.in-Ok.ensures.found c.in-Ok.ensures.long;
+  whether = whether_by _ _ _ c.in_ok-judged-in-Ok.ensures c.in-Ok.ensures.only;
 }
 
 -- the text is refused as the reader refuses it

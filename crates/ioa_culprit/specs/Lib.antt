@@ -1,0 +1,2 @@
+-- what the contracts of this crate and of the crates above it cite
+pub mod SortTexts
