@@ -2,3 +2,4 @@
 mod Positions
 mod Verdicts
 mod Explained
+mod Grown

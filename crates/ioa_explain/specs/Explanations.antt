@@ -1,5 +1,5 @@
 -- What is told of a text (profile).
-use Rattle.std.specs.Prelude.{◌≡◌, ℕ, Bool, true, false, List, codes, Option, Result, Ok, Err}
+use Rattle.std.specs.Prelude.{◌≡◌, ◌++◌, ℕ, Bool, true, false, List, codes, Option, Result, Ok, Err}
 use Rattle.std.specs.Io.KnownBytes.{Keeps, Appends}
 use Rattle.ioa_streams.specs.Output.{AppendsBeginning}
 use Rattle.ioa_explain.specs.declared.fault.ExplainFault.{ExplainFault}
@@ -8,14 +8,26 @@ use Rattle.ioa_explain.specs.declared.explaining.Finding.{Finding}
 use Rattle.ioa_explain.specs.declared.explaining.Finding.TheVariants.{NothingWrong, Refused}
 use Rattle.ioa_explain.specs.declared.verdict.Verdict.{Verdict}
 use Rattle.ioa_explain.specs.declared.verdict.Verdict.TheVariants as verdict
+use Rattle.ioa_sort_rules.specs.declared.refusal.Refusal.{Refusal}
+use Rattle.ioa_walk.specs.declared.span.Span.{Span}
 use Rattle.ioa_explain.specs.Pages.{TellsRefused, TellsUnread}
+use Rattle.ioa_explain.specs.FurtherFaults.{TellsFurther}
 use Rattle.ioa_explain.specs.Verdicts.{DescribesSystem, IsVerdictOn, SaysWhether}
+
+-- what is told of the refusal of the check, and then of further faults
+pub record TellsFaults (name text : List ℕ) (r : Refusal) (index : ℕ) (part : Option Span) (page : List ℕ)
+    : Type 0 where
+  pub first : List ℕ
+  pub told_first : TellsRefused name text r index part first
+  pub more : List ℕ
+  pub told_more : TellsFurther name text more
+  pub told : page ≡ first ++ more
 
 -- what is told of a verdict
 abbrev pub Tells : List ℕ → List ℕ → Verdict → List ℕ → Type 0
 Tells name text verdict.Accepted page = page ≡ codes "nothing wrong\n"
 Tells name text (verdict.Unread e) page = TellsUnread name text e page
-Tells name text (verdict.Refused r index part) page = TellsRefused name text r index part page
+Tells name text (verdict.Refused r index part) page = TellsFaults name text r index part page
 
 -- an explanation of a text: what is told of a verdict on it, which is a refusal only if the text describes no system
 pub record IsExplanationOf (name text page : List ℕ) : Type 0 where

@@ -3,5 +3,6 @@ pub mod Faults
 pub mod Sentences
 pub mod Whereabouts
 pub mod Pages
+pub mod FurtherFaults
 pub mod Verdicts
 pub mod Explanations

@@ -4,9 +4,12 @@ ghost use Rattle.std.specs.Prelude.{◌≡◌, false, IfOk, codes};
 ghost use Rattle.ioa_explain.specs.Explanations as spec;
 
 use crate::fault::ExplainFault;
+use crate::further::further_page;
 use crate::reading::unread_page;
 use crate::refused::refused_page;
 use crate::verdict::{Judged, Verdict, judge};
+use ioa_culprit::Span;
+use ioa_sort_rules::Refusal;
 use ioa_streams::{Out, OutFailed, put_all};
 use std::alloc::{AllocError, Global};
 
@@ -97,8 +100,28 @@ fn page_of(alloc: Global, name: &str, text: &str, judged: &Judged) -> Result<Vec
             refusal,
             index,
             part,
-        } => refused_page(alloc, name, text, *refusal, *index, *part, &judged.words),
+        } => faults_page(alloc, name, text, *refusal, *index, *part, &judged.words),
     }
+}
+
+/// What is told of a refusal of the check, and then of further faults.
+fn faults_page(
+    alloc: Global,
+    name: &str,
+    text: &str,
+    refusal: Refusal,
+    index: usize,
+    part: Option<Span>,
+    words: &[u8],
+) -> Result<Vec<u8>, AllocError>
+    ensures { IfOk result (λ page. spec.TellsFaults name.now text.now refusal index part page.items) }
+{
+    let first = refused_page(alloc, name, text, refusal, index, part, words)?;
+    let more = further_page(alloc, name, text, part)?;
+    let mut page = Vec::new(alloc);
+    page.extend_from_slice(&first)?;
+    page.extend_from_slice(&more)?;
+    Ok(page)
 }
 
 /// What is told of a text that describes a system.

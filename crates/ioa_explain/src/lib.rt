@@ -11,11 +11,13 @@ mod asking;
 mod candidates;
 mod explaining;
 mod fault;
+mod further;
 mod kinds;
 mod page;
 mod reading;
 mod refused;
 mod sentences;
+mod units;
 mod verdict;
 
 pub use explaining::{Finding, explain};
