@@ -8,3 +8,4 @@ pub mod Controls
 pub mod Rounds
 pub mod StatementSets
 pub mod StateSets
+pub mod Steppings

@@ -15,11 +15,13 @@ mod position;
 mod rounds;
 mod state;
 mod step;
+mod stepping;
 mod turn;
 mod turning;
 
 pub use control::Control;
 pub use ioa_terms::View;
 pub use laws::turn_law;
+pub use stepping::Stepping;
 pub use turn::{TURN_LIMIT, Turn};
 pub use turning::{next, passed};

@@ -7,3 +7,4 @@ pub mod NodeTurns
 pub mod NumberedProps
 pub mod Ready
 pub mod ResolvedProps
+pub mod Sights

@@ -17,3 +17,9 @@ pub record IsReady (p : Parts) (todo : PlainStatements ℕ Callee Shape) (own : 
   pub resolved : AreAllResolved todo (map Word (variable_names p.automaton.schedule.variables))
       (names_at block_statement (declared_names p.automaton) (block_own_names p.automaton))
   pub numbered : AreNumbered p.automaton.rules todo
+
+-- the same of a block that is gone through
+pub record IsSteppable (p : Parts) (todo : PlainStatements ℕ Callee Shape) (own : List Data) : Type 0 where
+  pub valued : length own ≡ length p.automaton.schedule.variables
+  pub resolved : AreAllResolved todo (map Word (variable_names p.automaton.schedule.variables))
+      (names_at block_statement (declared_names p.automaton) (block_own_names p.automaton))

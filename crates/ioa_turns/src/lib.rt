@@ -8,13 +8,16 @@
 //! **Laws**: `fired_law`, `inboxes_law`.
 #![tactic(auto)]
 
+mod block;
 mod faults;
 mod firing;
+mod going;
 mod laws;
 mod node;
 mod progress;
 mod turn;
 
+pub use block::BlockSteps;
 pub use faults::{fault_of_refusal, fault_of_step};
 pub use laws::{fired_law, inboxes_law};
 pub use progress::Progress;

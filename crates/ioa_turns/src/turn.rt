@@ -28,7 +28,7 @@ use ioa_values::Sequence;
 use std::alloc::{AllocError, Global};
 
 /// What the block of a node sees on a configuration of the node, if it sees these inboxes.
-fn view_of<'a>(
+pub(crate) fn view_of<'a>(
     program: &'a Program,
     inboxes: Option<&'a [Inbox<'a>]>,
     conf: &'a NodeConf,
@@ -86,7 +86,7 @@ fn inbox_of(node: i64, messages: &Sequence, component: Component) -> Option<Inbo
 }
 
 /// The inboxes of a node, in the order of what was read. No message is copied.
-fn inboxes_to<O: Origin>(
+pub(crate) fn inboxes_to<O: Origin>(
     alloc: Global,
     snapshot: &Snapshot<O>,
     node: i64,
@@ -120,7 +120,7 @@ fn only_inbox<O: Origin>(snapshot: &Snapshot<O>, node: i64) -> Option<Option<Inb
 }
 
 /// The configuration of a component, if it was read.
-fn find_conf<O: Origin>(snapshot: &Snapshot<O>, component: Component) -> Option<&Conf>
+pub(crate) fn find_conf<O: Origin>(snapshot: &Snapshot<O>, component: Component) -> Option<&Conf>
     ensures { option_copied result ≡ conf.find_conf component (read_confs snapshot.now.reads) }
 {
     for read in snapshot.reads() {
@@ -178,7 +178,7 @@ fn turn_on<'a, O: Origin>(
 }
 
 /// Whether a configuration may be one of a node with this program: it has a value for each state variable.
-fn shows_program(program: &Program, conf: &NodeConf) -> bool
+pub(crate) fn shows_program(program: &Program, conf: &NodeConf) -> bool
     ensures { result ≡ spec.shows_program program.now conf.now }
 {
     conf.variables().as_slice().len() == program.automaton().variables().len()
