@@ -3,6 +3,7 @@
 ghost use Rattle.std.specs.Prelude.{◌≡◌, IfOk, IfSome, Ok};
 ghost use Rattle.ioa_tokens.specs.Tokens as cutting;
 ghost use Rattle.ioa_walk.specs.Places.{IsSpanIn};
+ghost use Rattle.ioa_culprit.specs.Cuts.{AreTokensOf};
 
 use crate::asking::{Ask, Whole};
 use crate::automaton::seek_automaton;
@@ -27,28 +28,59 @@ pub struct Spot {
     pub words: Vec<u8>,
 }
 
+/// What a search for the culprit of a text comes to.
+#[derive(Debug, Drop)]
+pub struct Search<'a> {
+    /// The part that is refused, if one is found.
+    pub spot: Option<Spot>,
+    /// The tokens of the text, so that nobody has to cut it again.
+    pub tokens: Vec<LocatedToken<'a>>,
+}
+
 /// Finds the smallest part of a refused declaration that is refused with the same number when it is asked alone, in the
 /// names that are in view there. `source` is the tree of the text, and the check refused it so, in the top declaration
 /// of this index. If no part is found with that number, there is none. Memory if none is left. Costs a few times what
 /// the check costs, and for a fault of the system section or of an invariant some more checks of the text.
-pub fn culprit(
+pub fn culprit<'a>(
     alloc: Global,
-    text: &str,
+    text: &'a str,
     source: &Text<(), (), ()>,
     index: usize,
     refusal: Refusal,
-) -> Result<Option<Spot>, AllocError>
-    ensures { IfOk result (λ found. IfSome found (λ c. IsSpanIn text.now c.span)) }
+) -> Result<Search<'a>, AllocError>
+    ensures found { IfOk result (λ s. IfSome s.spot (λ c. IsSpanIn text.now c.span)) }
+    ensures cut { IfOk result (λ s. AreTokensOf text.now s.tokens.items) }
 {
     let located = match tokens(alloc, text) {
         Ok(located) => located,
         Err(CutFault::Memory) => return Err(AllocError),
-        Err(_) => return Ok(None),
+        Err(_) => {
+            return Ok(Search {
+                spot: None,
+                tokens: Vec::new(alloc),
+            });
+        }
     };
-    let cut = Cut {
-        text,
-        tokens: located.as_slice(),
-    };
+    let spot = spot_among(alloc, text, &located, source, index, refusal)?;
+    Ok(Search {
+        spot,
+        tokens: located,
+    })
+}
+
+/// The culprit of a text of these tokens.
+fn spot_among(
+    alloc: Global,
+    text: &str,
+    tokens: &[LocatedToken<'_>],
+    source: &Text<(), (), ()>,
+    index: usize,
+    refusal: Refusal,
+) -> Result<Option<Spot>, AllocError>
+    requires { cutting.tokens text.now ≡ Ok tokens.now }
+    ensures { IfOk result (λ found. IfSome found (λ c. IsSpanIn text.now c.span)) }
+{
+    let cut = Cut { text, tokens };
     match seek(alloc, cut, source, index, refusal) {
         Ok(()) => Ok(None),
         Err(Halt::Found(part, words)) => Ok(culprit_at(&cut, part, words)),

@@ -27,5 +27,5 @@ mod types;
 mod unknown;
 mod words;
 
-pub use finding::{Spot, culprit};
+pub use finding::{Search, Spot, culprit};
 pub use ioa_walk::Span;

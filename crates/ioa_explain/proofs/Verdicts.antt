@@ -1,6 +1,8 @@
 -- What the reader and the check say of a text.
-use Rattle.std.proofs.Common.{◌≡◌, ◌<◌, ◌≤◌, ◌⊎◌, inl, inr, ℕ, List, length, Some, Err, true, subst, sym, arith}
-use Rattle.std.specs.Prelude.{◌≢◌}
+use Rattle.std.proofs.Common.{◌≡◌, ◌<◌, ◌≤◌, ◌⊎◌, inl, inr, ℕ, List, length, Option, Some, None, Ok, Err, true}
+use Rattle.std.proofs.Common.{subst, sym, arith}
+use Rattle.std.specs.Prelude.{◌≢◌, IfSome}
+use Rattle.std.specs.Option.{option_map}
 use Rattle.ioa_text_reader.specs.declared.fault.FrontFault.{FrontFault}
 use Rattle.ioa_text_reader.specs.declared.fault.FrontFault.TheVariants as front
 use Rattle.ioa_text_reader.specs.Texts.{TextSpells, StandsInText, is_exact, length_limit}
@@ -12,7 +14,13 @@ use Rattle.ioa_source.specs.Sides.{SourceText}
 use Rattle.ioa_explain.specs.declared.verdict.Verdict.{Verdict}
 use Rattle.ioa_explain.specs.declared.verdict.Verdict.TheVariants.{Accepted, Unread, Refused}
 use Rattle.ioa_explain.specs.Verdicts.{DescribesSystem, IsFaultOf, IsReadersRefusal, IsRefusalOf, IsVerdictOf}
-use Rattle.ioa_explain.specs.Verdicts.{IsVerdictOn, SaysWhether, unread_verdict}
+use Rattle.ioa_explain.specs.Verdicts.{HasTokens, IsVerdictOn, SaysWhether, unread_verdict}
+use Rattle.ioa_tokens.specs.declared.token.LocatedToken.{LocatedToken}
+use Rattle.ioa_tokens.specs.Tokens.{tokens}
+use Rattle.ioa_walk.specs.declared.span.Span.{Span}
+use Rattle.ioa_walk.specs.Places.{IsSpanIn}
+use Rattle.ioa_culprit.specs.Cuts.{AreTokensOf}
+use Rattle.ioa_culprit.specs.declared.finding.Spot.{Spot}
 
 -- a refusal is no want of memory
 never_memory : (r : Refusal) (index : ℕ) → fault.Refused r index ≡ fault.Memory → ⊥
@@ -88,3 +96,38 @@ unread_whether e v text h only =
     let u : IsUnread e v = unread_is e v h in
     let none : DescribesSystem text → ⊥ = λ d. u.refused (only d.source d.short d.spelled) in
     subst (λ w. SaysWhether w text) (sym u.same) none
+
+-- with a refusal of the reader come no tokens
+pub unread_tokens : (e : FrontFault) (v : Verdict) (text : List ℕ) (ts : List LocatedToken)
+    → unread_verdict e ≡ Some v → HasTokens v text ts
+unread_tokens e v text ts h =
+    let u : IsUnread e v = unread_is e v h in
+    let none : HasTokens (Unread e) text ts = tt in
+    subst (λ w. HasTokens w text ts) (sym u.same) none
+
+-- a text with a part has been cut
+pub cut_by : (text : List ℕ) (ts : List LocatedToken) (s : Span) → AreTokensOf text ts → IsSpanIn text s
+    → tokens text ≡ Ok ts
+cut_by text ts s are within = subst (λ l. tokens text ≡ Ok l) (sym (are within.ts within.cut)) within.cut
+
+-- a place that was found is a part of the text
+spot_within : (spot : Option Spot) (text : List ℕ) → IfSome spot (λ c. IsSpanIn text c.span)
+    → IfSome (option_map (λ c. c.span) spot) (IsSpanIn text)
+spot_within None text h = tt
+spot_within (Some c) text h = h
+
+-- the verdict of a refusal of the check, with what the search for the part comes to
+pub said_by : (v : Verdict) (r : Refusal) (index : ℕ) (spot : Option Spot) (p : SourceText) (text : List ℕ)
+    → v ≡ Refused r index (option_map (λ c. c.span) spot) → IsRefusalOf r index p
+    → IfSome spot (λ c. IsSpanIn text c.span) → IsVerdictOf v p text
+said_by v r index spot p text same refused found =
+    let said : IsVerdictOf (Refused r index (option_map (λ c. c.span) spot)) p text =
+    (refused, spot_within spot text found) in
+    subst (λ w. IsVerdictOf w p text) (sym same) said
+
+-- with it come the tokens of the text
+pub tokens_by : (v : Verdict) (r : Refusal) (index : ℕ) (part : Option Span) (text : List ℕ) (ts : List LocatedToken)
+    → v ≡ Refused r index part → AreTokensOf text ts → HasTokens v text ts
+tokens_by v r index part text ts same are =
+    let with_them : HasTokens (Refused r index part) text ts = are in
+    subst (λ w. HasTokens w text ts) (sym same) with_them

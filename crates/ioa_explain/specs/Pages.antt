@@ -87,10 +87,6 @@ refused_text name text r offset end whereabouts words =
     title name (place_at text offset) (refusal_in r whereabouts)
     ++ (picture text offset end ++ (detail (rule_text r) ++ detail_if_any words))
 
--- the tokens of a text, if it can be cut
-abbrev pub AreTokensOf : List ℕ → List LocatedToken → Type 0
-AreTokensOf text ts = (located : List LocatedToken) → tokens text ≡ Ok located → ts ≡ located
-
 -- what is told of a text that the check refuses: the number and the name of the refusal, the declaration of an index, a
 -- part of the text, and what is asked for. The part begins with the one that was found, or else with the name of the
 -- declaration. Words may say what is found there.

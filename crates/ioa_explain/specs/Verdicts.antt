@@ -12,6 +12,8 @@ use Rattle.ioa_system.specs.Systems.{SystemParts}
 use Rattle.ioa_source.specs.Sides.{SourceText}
 use Rattle.ioa_walk.specs.declared.span.Span.{Span}
 use Rattle.ioa_walk.specs.Places.{IsSpanIn}
+use Rattle.ioa_tokens.specs.declared.token.LocatedToken.{LocatedToken}
+use Rattle.ioa_culprit.specs.Cuts.{AreTokensOf}
 use Rattle.ioa_explain.specs.declared.verdict.Verdict.{Verdict}
 use Rattle.ioa_explain.specs.declared.verdict.Verdict.TheVariants.{Accepted, Unread, Refused}
 
@@ -77,3 +79,9 @@ abbrev pub SaysWhether : Verdict → List ℕ → Type 0
 SaysWhether Accepted text = ⊤
 SaysWhether (Unread e) text = DescribesSystem text → ⊥
 SaysWhether (Refused r index part) text = DescribesSystem text → ⊥
+
+-- the tokens that come with a verdict, if it is a refusal of the check
+abbrev pub HasTokens : Verdict → List ℕ → List LocatedToken → Type 0
+HasTokens Accepted text ts = ⊤
+HasTokens (Unread e) text ts = ⊤
+HasTokens (Refused r index part) text ts = AreTokensOf text ts

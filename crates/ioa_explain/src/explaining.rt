@@ -1,7 +1,10 @@
 //! Explanations: from a text to what is wrong with it.
 
-ghost use Rattle.std.specs.Prelude.{◌≡◌, false, IfOk, codes};
+ghost use Rattle.std.specs.Prelude.{◌≡◌, false, IfOk, IfSome, codes};
+ghost use Rattle.ioa_walk.specs.Places.{IsSpanIn};
+ghost use Rattle.ioa_culprit.specs.Cuts.{AreTokensOf};
 ghost use Rattle.ioa_explain.specs.Explanations as spec;
+ghost use Rattle.ioa_explain.specs.Verdicts.{HasTokens, IsVerdictOn};
 
 use crate::fault::ExplainFault;
 use crate::further::further_page;
@@ -90,7 +93,14 @@ fn finding_of(verdict: &Verdict) -> Finding
 }
 
 /// What is told of a verdict on a text.
-fn page_of(alloc: Global, name: &str, text: &str, judged: &Judged) -> Result<Vec<u8>, AllocError>
+fn page_of(
+    alloc: Global,
+    name: &str,
+    text: &str,
+    judged: &Judged<'_>,
+) -> Result<Vec<u8>, AllocError>
+    requires said { IsVerdictOn judged.now.verdict text.now }
+    requires cut { HasTokens judged.now.verdict text.now judged.now.tokens.items }
     ensures { IfOk result (λ page. spec.Tells name.now text.now judged.now.verdict page.items) }
 {
     match &judged.verdict {
@@ -100,7 +110,7 @@ fn page_of(alloc: Global, name: &str, text: &str, judged: &Judged) -> Result<Vec
             refusal,
             index,
             part,
-        } => faults_page(alloc, name, text, *refusal, *index, *part, &judged.words),
+        } => faults_page(alloc, name, text, *refusal, *index, *part, judged),
     }
 }
 
@@ -112,12 +122,24 @@ fn faults_page(
     refusal: Refusal,
     index: usize,
     part: Option<Span>,
-    words: &[u8],
+    judged: &Judged<'_>,
 ) -> Result<Vec<u8>, AllocError>
+    requires cut { AreTokensOf text.now judged.now.tokens.items }
+    requires within { IfSome part (IsSpanIn text.now) }
     ensures { IfOk result (λ page. spec.TellsFaults name.now text.now refusal index part page.items) }
 {
-    let first = refused_page(alloc, name, text, refusal, index, part, words)?;
-    let more = further_page(alloc, name, text, part)?;
+    let tokens = judged.tokens.as_slice();
+    let first = refused_page(
+        alloc,
+        name,
+        text,
+        tokens,
+        refusal,
+        index,
+        part,
+        &judged.words,
+    )?;
+    let more = further_page(alloc, name, text, tokens, part)?;
     let mut page = Vec::new(alloc);
     page.extend_from_slice(&first)?;
     page.extend_from_slice(&more)?;

@@ -4,10 +4,10 @@ ghost use Rattle.std.specs.Prelude.{◌≡◌, ◌++◌, IfOk, IfSome, Ok, OnOk,
 ghost use Rattle.std.specs.List.{AllByRecursion};
 ghost use Rattle.ioa_tokens.specs.Tokens as cutting;
 ghost use Rattle.ioa_walk.specs.Places.{IsSpanIn};
+ghost use Rattle.ioa_culprit.specs.Cuts.{AreTokensOf};
 ghost use Rattle.ioa_explain.specs.FurtherFaults as spec;
 ghost use Rattle.ioa_explain.specs.Verdicts.{IsVerdictOn};
 
-use crate::page::tokens_of;
 use crate::refused::refused_page;
 use crate::units::{Extent, Unit, starts_declaration, unit_at};
 use crate::verdict::{Judged, Verdict, judge};
@@ -16,7 +16,7 @@ use ioa_culprit::Span;
 use ioa_place::token_at;
 use ioa_sort_rules::Refusal;
 use ioa_terms::Word;
-use ioa_tokens::{CutFault, LocatedToken, Mark, Token, tokens};
+use ioa_tokens::{LocatedToken, Mark, Token};
 use ioa_walk::{Part, is_mark, one_token, span_of};
 use std::alloc::{AllocError, Global};
 
@@ -25,6 +25,9 @@ const MOST_ASKS: usize = 64;
 
 /// And so many bytes of it, all in all.
 const MOST_BYTES: usize = 4_194_304;
+
+/// A text of more bytes is not asked again: a megabyte is explained in about three times what its refusal takes.
+const MOST_LENGTH: usize = 524_288;
 
 /// So many further faults are told at most.
 const MOST_TOLD: usize = 19;
@@ -94,35 +97,49 @@ fn is_span_of(text: &str, tokens: &[LocatedToken<'_>], part: Part, span: Span) -
     }
 }
 
-/// The fault of what is left of a text, if the check refuses that in a part that is found.
-fn fault_of(
-    alloc: Global,
-    text: &str,
-    tokens: &[LocatedToken<'_>],
-    left: &str,
-) -> Result<Option<Fault>, AllocError>
-    requires { cutting.tokens text.now ≡ Ok tokens.now }
-    ensures { IfOk result (λ f. IfSome f (λ f. spec.IsFault text.now f.refusal f.span)) }
-{
-    if !is_without(left.as_bytes(), text.as_bytes()) {
-        return Ok(None);
-    }
-    let judged = judge(alloc, left)?;
-    fault_by(alloc, text, tokens, left, &judged)
+/// A fault of what is left of a text.
+#[derive(Drop)]
+struct Step {
+    /// The fault.
+    fault: Fault,
+    /// Whether it may follow from what was left out.
+    follows: bool,
+    /// What is left without it; nothing if the rest can't be asked.
+    left: Option<Left>,
 }
 
-/// The fault that a verdict on what is left of a text says, if it is a refusal in a part that is found.
-fn fault_by(
+/// The fault of what is left of a text, if the check refuses that in a part that is found.
+fn step_of(
+    alloc: Global,
+    text: &str,
+    tokens: &[LocatedToken<'_>],
+    left: &Left,
+) -> Result<Option<Step>, AllocError>
+    requires { cutting.tokens text.now ≡ Ok tokens.now }
+    ensures { IfOk result (λ found. IfSome found (λ s. spec.IsFault text.now s.fault.refusal s.fault.span)) }
+{
+    let asked = left.text.as_str();
+    if !is_without(asked.as_bytes(), text.as_bytes()) {
+        return Ok(None);
+    }
+    let judged = judge(alloc, asked)?;
+    step_by(alloc, text, tokens, asked, &left.names, &judged)
+}
+
+/// The fault that a verdict on what is left of a text says, if it is a refusal in a part that is found. `names` were
+/// declared in what was left out.
+fn step_by(
     alloc: Global,
     text: &str,
     tokens: &[LocatedToken<'_>],
     left: &str,
-    judged: &Judged,
-) -> Result<Option<Fault>, AllocError>
+    names: &[Word],
+    judged: &Judged<'_>,
+) -> Result<Option<Step>, AllocError>
     requires cut { cutting.tokens text.now ≡ Ok tokens.now }
     requires without { spec.is_without left.now text.now ≡ true }
     requires said { IsVerdictOn judged.now.verdict left.now }
-    ensures { IfOk result (λ f. IfSome f (λ f. spec.IsFault text.now f.refusal f.span)) }
+    ensures { IfOk result (λ found. IfSome found (λ s. spec.IsFault text.now s.fault.refusal s.fault.span)) }
 {
     match &judged.verdict {
         Verdict::Accepted => Ok(None),
@@ -139,10 +156,16 @@ fn fault_by(
                 }
                 let mut words = Vec::new(alloc);
                 words.extend_from_slice(&judged.words)?;
-                Ok(Some(Fault {
-                    refusal: *refusal,
-                    span: *span,
-                    words,
+                let follows = may_follow(names, &judged.tokens, *refusal, *span);
+                let less = left_without(alloc, left, names, &judged.tokens, *span)?;
+                Ok(Some(Step {
+                    fault: Fault {
+                        refusal: *refusal,
+                        span: *span,
+                        words,
+                    },
+                    follows,
+                    left: less,
                 }))
             }
         },
@@ -158,14 +181,20 @@ struct Left {
     names: Vec<Word>,
 }
 
-/// What is left of a text without the unit about a part that is refused; nothing if the rest can't be asked.
-fn left_without(alloc: Global, left: &Left, span: Span) -> Result<Option<Left>, AllocError> {
-    let tokens = tokens_of(alloc, left.text.as_str())?;
-    match token_at(&tokens, span.offset) {
+/// What is left of a text of these tokens without the unit about a part that is refused; nothing if the rest can't be
+/// asked. `names` were declared in what was left out before.
+fn left_without(
+    alloc: Global,
+    text: &str,
+    names: &[Word],
+    tokens: &[LocatedToken<'_>],
+    span: Span,
+) -> Result<Option<Left>, AllocError> {
+    match token_at(tokens, span.offset) {
         None => Ok(None),
-        Some(position) => match unit_about(&tokens, position) {
+        Some(position) => match unit_about(tokens, position) {
             None => Ok(None),
-            Some(unit) => left_of(alloc, left, &tokens, unit),
+            Some(unit) => left_of(alloc, text, names, tokens, unit),
         },
     }
 }
@@ -183,16 +212,16 @@ fn unit_about(tokens: &[LocatedToken<'_>], position: usize) -> Option<Unit> {
 /// What is left of a text of these tokens without a unit, and without what is asked only if the unit is good.
 fn left_of(
     alloc: Global,
-    left: &Left,
+    text: &str,
+    before: &[Word],
     tokens: &[LocatedToken<'_>],
     unit: Unit,
 ) -> Result<Option<Left>, AllocError> {
     let mut names = Vec::new(alloc);
-    for name in &left.names {
+    for name in before {
         names.push(name.try_copy(alloc)?)?;
     }
     push_names(alloc, &mut names, tokens, unit.names)?;
-    let text = left.text.as_str();
     let mut bytes = Vec::new(alloc);
     bytes.extend_from_slice(text.as_bytes())?;
     leave_out(&mut bytes, text, tokens, unit.extent);
@@ -287,22 +316,21 @@ fn push_name(alloc: Global, names: &mut Vec<Word>, token: &Token<'_>) -> Result<
     }
 }
 
-/// Whether a fault of what is left of a text may follow from what was left out: a name, or a transition, is missing
-/// that was declared there.
-fn may_follow(alloc: Global, left: &Left, fault: &Fault) -> Result<bool, AllocError> {
-    if fault.refusal != Refusal::Unknown && fault.refusal != Refusal::NoTransition {
-        return Ok(false);
+/// Whether a refusal of a part of what is left of a text, which has these tokens, may follow from what was left out: a
+/// name, or a transition, is missing that was declared there.
+fn may_follow(names: &[Word], tokens: &[LocatedToken<'_>], refusal: Refusal, span: Span) -> bool {
+    if refusal != Refusal::Unknown && refusal != Refusal::NoTransition {
+        return false;
     }
-    let tokens = tokens_of(alloc, left.text.as_str())?;
-    for located in &tokens {
-        if fault.span.offset <= located.offset
-            && located.offset < fault.span.end
-            && is_one_of(&left.names, &located.token)
+    for located in tokens {
+        if span.offset <= located.offset
+            && located.offset < span.end
+            && is_one_of(names, &located.token)
         {
-            return Ok(true);
+            return true;
         }
     }
-    Ok(false)
+    false
 }
 
 /// Whether a token is one of these names.
@@ -318,26 +346,28 @@ fn is_one_of(names: &[Word], token: &Token<'_>) -> bool {
 
 /// How often a text of a length is asked at most.
 fn most_asks(length: usize) -> usize {
+    if length > MOST_LENGTH {
+        return 0;
+    }
     (MOST_BYTES / length.max(1)).min(MOST_ASKS)
 }
 
-/// Adds a fault of what is left of a text to others, unless it may follow from what was left out.
-fn push_fault(
-    alloc: Global,
-    text: &str,
-    faults: &mut Vec<Fault>,
-    left: &Left,
-    fault: Fault,
-) -> Result<(), AllocError>
+/// Adds a fault of what is left of a text to others, unless it may follow from what was left out. Returns what is left
+/// without it.
+fn take_step(text: &str, faults: &mut Vec<Fault>, step: Step) -> Result<Option<Left>, AllocError>
     requires others { AllByRecursion (λ f. spec.IsFault text.now f.refusal f.span) faults.old.items }
-    requires fault { spec.IsFault text.now fault.refusal fault.span }
+    requires fault { spec.IsFault text.now step.fault.refusal step.fault.span }
     ensures { OnOk result (AllByRecursion (λ f. spec.IsFault text.now f.refusal f.span) faults.new.items) }
 {
-    if may_follow(alloc, left, &fault)? {
-        return Ok(());
+    let Step {
+        fault,
+        follows,
+        left,
+    } = step;
+    if !follows {
+        faults.push(fault)?;
     }
-    faults.push(fault)?;
-    Ok(())
+    Ok(left)
 }
 
 /// The faults of a text of these tokens behind the first one, which it has in this part, in the order in which they are
@@ -352,22 +382,17 @@ fn faults_of(
     ensures { IfOk result (λ fs. AllByRecursion (λ f. spec.IsFault text.now f.refusal f.span) fs.items) }
 {
     let mut faults = Vec::new(alloc);
-    let mut left = Left {
-        text: String::from_str(alloc, text)?,
-        names: Vec::new(alloc),
+    let mut left = match left_without(alloc, text, &[], tokens, span)? {
+        None => return Ok(faults),
+        Some(left) => left,
     };
-    let mut span = span;
     for _turn in 0..most_asks(text.len()) {
-        match left_without(alloc, &left, span)? {
+        match step_of(alloc, text, tokens, &left)? {
             None => return Ok(faults),
-            Some(less) => left = less,
-        }
-        match fault_of(alloc, text, tokens, left.text.as_str())? {
-            None => return Ok(faults),
-            Some(fault) => {
-                span = fault.span;
-                push_fault(alloc, text, &mut faults, &left, fault)?;
-            }
+            Some(step) => match take_step(text, &mut faults, step)? {
+                None => return Ok(faults),
+                Some(less) => left = less,
+            },
         }
     }
     Ok(faults)
@@ -416,7 +441,8 @@ fn page_of(
     tokens: &[LocatedToken<'_>],
     fault: &Fault,
 ) -> Result<Vec<u8>, AllocError>
-    requires { spec.IsFault text.now fault.now.refusal fault.now.span }
+    requires cut { AreTokensOf text.now tokens.now }
+    requires fault { spec.IsFault text.now fault.now.refusal fault.now.span }
     ensures { IfOk result (λ page. spec.TellsFault name.now text.now page.items) }
 {
     let index = index_at(tokens, fault.span.offset);
@@ -424,6 +450,7 @@ fn page_of(
         alloc,
         name,
         text,
+        tokens,
         fault.refusal,
         index,
         Some(fault.span),
@@ -452,7 +479,8 @@ fn pages_of(
     tokens: &[LocatedToken<'_>],
     faults: &[Fault],
 ) -> Result<Vec<u8>, AllocError>
-    requires { AllByRecursion (λ f. spec.IsFault text.now f.refusal f.span) faults.now }
+    requires cut { AreTokensOf text.now tokens.now }
+    requires faults { AllByRecursion (λ f. spec.IsFault text.now f.refusal f.span) faults.now }
     ensures { IfOk result (λ pages. spec.AreFaults name.now text.now pages.items) }
 {
     let mut pages = Vec::new(alloc);
@@ -465,34 +493,40 @@ fn pages_of(
     Ok(pages)
 }
 
-/// What is told of the faults of a text behind the first one, which it has in this part if one was found.
-#[tactic(auto, using(crate::proofs::Grown::nothing_further))]
+/// What is told of the faults of a text of these tokens behind the first one, which it has in this part if one was
+/// found.
+#[tactic(auto, using(crate::proofs::Grown::nothing_further, crate::proofs::Verdicts::cut_by))]
 pub(crate) fn further_page(
     alloc: Global,
     name: &str,
     text: &str,
+    tokens: &[LocatedToken<'_>],
     part: Option<Span>,
 ) -> Result<Vec<u8>, AllocError>
+    requires cut { AreTokensOf text.now tokens.now }
+    requires within { IfSome part (IsSpanIn text.now) }
     ensures { IfOk result (λ page. spec.TellsFurther name.now text.now page.items) }
 {
     match part {
         None => Ok(Vec::new(alloc)),
-        Some(span) => behind_first(alloc, name, text, span),
+        Some(span) => behind_first(alloc, name, text, tokens, span),
     }
 }
 
-/// What is told of the faults of a text behind the first one, which it has in this part.
-#[tactic(auto, using(crate::proofs::Grown::nothing_further))]
-fn behind_first(alloc: Global, name: &str, text: &str, span: Span) -> Result<Vec<u8>, AllocError>
+/// What is told of the faults of a text of these tokens behind the first one, which it has in this part.
+fn behind_first(
+    alloc: Global,
+    name: &str,
+    text: &str,
+    tokens: &[LocatedToken<'_>],
+    span: Span,
+) -> Result<Vec<u8>, AllocError>
+    requires cut { cutting.tokens text.now ≡ Ok tokens.now }
+    requires are { AreTokensOf text.now tokens.now }
     ensures { IfOk result (λ page. spec.TellsFurther name.now text.now page.items) }
 {
-    let located = match tokens(alloc, text) {
-        Ok(located) => located,
-        Err(CutFault::Memory) => return Err(AllocError),
-        Err(_) => return Ok(Vec::new(alloc)),
-    };
-    let faults = faults_of(alloc, text, &located, span)?;
-    let pages = pages_of(alloc, name, text, &located, &faults)?;
+    let faults = faults_of(alloc, text, tokens, span)?;
+    let pages = pages_of(alloc, name, text, tokens, &faults)?;
     with_hidden(
         alloc,
         name,

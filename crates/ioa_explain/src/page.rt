@@ -1,6 +1,7 @@
 //! What all explanations have: a title, a part of the text, and details below it.
 
 ghost use Rattle.std.specs.Prelude.{◌≡◌, ◌++◌, IfOk, OnOk, codes};
+ghost use Rattle.ioa_culprit.specs.Cuts.{AreTokensOf};
 ghost use Rattle.ioa_explain.specs.Pages as spec;
 
 use ioa_place::Place;
@@ -49,7 +50,7 @@ pub(crate) fn tokens_of<'a>(
     alloc: Global,
     text: &'a str,
 ) -> Result<Vec<LocatedToken<'a>>, AllocError>
-    ensures { IfOk result (λ v. spec.AreTokensOf text.now v.items) }
+    ensures { IfOk result (λ v. AreTokensOf text.now v.items) }
 {
     match tokens(alloc, text) {
         Ok(found) => Ok(found),

@@ -2,10 +2,11 @@
 
 ghost use Rattle.std.specs.Prelude.{◌≡◌, ◌++◌, ℕ, IfOk, OnOk, drop};
 ghost use Rattle.ioa_place.specs.Found.{IsDeclarationAt};
+ghost use Rattle.ioa_culprit.specs.Cuts.{AreTokensOf};
 ghost use Rattle.ioa_explain.specs.Whereabouts as place;
 ghost use Rattle.ioa_explain.specs.Pages as spec;
 
-use crate::page::{push_detail, push_if_any, push_title, tokens_of};
+use crate::page::{push_detail, push_if_any, push_title};
 use crate::sentences::rule_of;
 use ioa_culprit::Span;
 use ioa_place::{declaration_at, place_at, show_part, token_length};
@@ -13,23 +14,24 @@ use ioa_sort_rules::Refusal;
 use ioa_tokens::{LocatedToken, Mark, Token};
 use std::alloc::{AllocError, Global};
 
-/// What is told of a text that the check refuses in the top declaration of an index, for the part of it that is
-/// refused, or else for its name. `words` say what is found there, if they say anything.
+/// What is told of a text of these tokens that the check refuses in the top declaration of an index, for the part of it
+/// that is refused, or else for its name. `words` say what is found there, if they say anything.
 pub(crate) fn refused_page(
     alloc: Global,
     name: &str,
     text: &str,
+    tokens: &[LocatedToken<'_>],
     refusal: Refusal,
     index: usize,
     part: Option<Span>,
     words: &[u8],
 ) -> Result<Vec<u8>, AllocError>
+    requires { AreTokensOf text.now tokens.now }
     ensures { IfOk result (λ page. spec.TellsRefused name.now text.now refusal index part page.items) }
 {
-    let tokens = tokens_of(alloc, text)?;
-    let position = position_of(&tokens, index);
-    let part = part_or_name(alloc, text, rest_of(&tokens, position), part)?;
-    let whereabouts = whereabouts(alloc, text, &tokens, position)?;
+    let position = position_of(tokens, index);
+    let part = part_or_name(alloc, text, rest_of(tokens, position), part)?;
+    let whereabouts = whereabouts(alloc, text, tokens, position)?;
     let page = page_of(alloc, name, text, refusal, part, &whereabouts, words)?;
     Ok(page)
 }

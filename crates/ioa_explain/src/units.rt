@@ -128,13 +128,13 @@ impl Stop {
 
     /// The last position up to one, and not before another, of what is in the set.
     fn last(self, tokens: &[LocatedToken<'_>], from: usize, position: usize) -> Option<usize> {
-        let mut found = None;
-        for at in from..position.saturating_add(1) {
+        for back in 0..position.saturating_add(1).saturating_sub(from) {
+            let at = position.saturating_sub(back);
             if self.is_at(tokens, at) {
-                found = Some(at);
+                return Some(at);
             }
         }
-        found
+        None
     }
 }
 
