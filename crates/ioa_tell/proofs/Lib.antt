@@ -1,4 +1,8 @@
 -- the lemmas of this crate
+pub mod FalseParts
+pub mod FaultParts
+pub mod FaultyTerms
 pub mod Firsts
 pub mod Taking
 pub mod Tellings
+pub mod Viewed

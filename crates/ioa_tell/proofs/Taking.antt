@@ -4,7 +4,10 @@ use Rattle.std.specs.Prelude.{◌||◌}
 use Rattle.std.proofs.lemmas.List.{append-nil}
 use Rattle.std.specs.Option.{option_map}
 use Rattle.std.specs.Ordering.{int_eq}
+use Rattle.ioa_values.specs.Data.{Data}
 use Rattle.ioa_values.specs.Outcome.{and_then}
+use Rattle.ioa_terms.specs.declared.name.Name.{Name}
+use Rattle.ioa_source.specs.Sides.{CheckedTerm}
 use Rattle.ioa_actions.specs.ActionParts.{node_of}
 use Rattle.ioa_actions.specs.declared.action.Action.{Action}
 use Rattle.ioa_actions.specs.declared.action.Action.TheVariants.{Send, Receive, Local, Stimulus}
@@ -26,8 +29,11 @@ use Rattle.ioa_compose.proofs.Picks.{picks_of-entry}
 use Rattle.ioa_book.proofs.FoundReads.{found_conf}
 use Rattle.ioa_book.proofs.FreshLooks.{conf_seen, fresh_proposal}
 use Rattle.ioa_tell.specs.Events.{PlainEvent, PlainReason, taken}
+use Rattle.ioa_tell.specs.Faulted.{IsFaultTold}
 use Rattle.ioa_tell.specs.Reasons.{IsReason}
 use Rattle.ioa_tell.specs.Steps.{HearsTaken, IsNext}
+use Rattle.ioa_tell.specs.Tests.{IsNodeReason}
+use Rattle.ioa_tell.specs.declared.event.Place.{Place}
 use Rattle.ioa_tell.specs.Told.{IsMissedIn, IsTakenFrom, TellsOn, queue_among}
 
 -- the configuration of what was read is the one that is found
@@ -94,10 +100,11 @@ pub proposed_own : (a : Action) (s : PlainSnapshot) (x : PlainProposal) → prop
 proposed_own a s x h = subst (λ (b : Action). proposal_answer b s ≡ Ok x) (sym (proposed_same a s x h)) h
 
 -- an action that is missed on a look at the book as it is, is not enabled in the configurations held
-pub missed_in : (b : PlainBook) (a : Action) (s : PlainSnapshot) (r : PlainReason) → IsLookAt b s.node s → proposal_answer a s ≡ Err NotEnabled → IsReason (queue_among (participants_of a) (read_confs s.reads)) a r → IsMissedIn (states_held b) a r
-missed_in b a s r fresh h true_of = record {
+pub missed_in : (b : PlainBook) (a : Action) (s : PlainSnapshot) (r : PlainReason) → IsLookAt b s.node s → proposal_answer a s ≡ Err NotEnabled → IsReason (queue_among (participants_of a) (read_confs s.reads)) a r → IsNodeReason (find_conf (component.Node (node_of a)) (read_confs s.reads)) a r → IsMissedIn (states_held b) a r
+missed_in b a s r fresh h of_queue of_node = record {
   not_enabled = by_changes (changes_of (entry_of a) (find_confs (participants_of a) (states_held b))) picked;
-  reason = subst (λ (o : Option Conf). IsReason o a r) seen_queue true_of;
+  reason = subst (λ (o : Option Conf). IsReason o a r) seen_queue of_queue;
+  test = subst (λ (o : Option Conf). IsNodeReason o a r) seen_node of_node;
 }
   where
     own : int_eq (node_of a) s.node ≡ true
@@ -109,6 +116,9 @@ missed_in b a s r fresh h true_of = record {
     seen_queue : queue_among (participants_of a) (read_confs s.reads) ≡ queue_among (participants_of a) (states_held b)
     seen_queue = ap (λ (t : PlainSnapshot). queue_among (participants_of a) (read_confs t.reads)) now ∙ queue_seen b a
 
+    seen_node : find_conf (component.Node (node_of a)) (read_confs s.reads) ≡ find_conf (component.Node (node_of a)) (states_held b)
+    seen_node = ap (λ (t : PlainSnapshot). find_conf (component.Node (node_of a)) (read_confs t.reads)) now ∙ node_seen b (node_of a)
+
     seen : proposal_answer a (snapshot_after s.node b.start b.log) ≡ Err NotEnabled
     seen = subst (λ (t : PlainSnapshot). proposal_answer a t ≡ Err NotEnabled) fresh h
 
@@ -119,6 +129,15 @@ missed_in b a s r fresh h true_of = record {
         and_then r (λ ds. Ok (put_confs ds (states_held b))) ≡ Err NotEnabled
     by_changes (Ok ds) e = absurd (cc)
     by_changes (Err f) e = let same : f ≡ NotEnabled = cc in ap (λ (g : StepFault). Err g) same
+
+-- a step that met a fault on a look at the book as it is, met it in the configurations held
+pub faulted_in : (b : PlainBook) (a : Action) (s : PlainSnapshot) (place : Place) (t : CheckedTerm) (vs : List (Name × Data)) → IsLookAt b s.node s → node_of a ≡ s.node →
+    IsFaultTold (find_conf (component.Node (node_of a)) (read_confs s.reads)) a place t vs → IsFaultTold (find_conf (component.Node (node_of a)) (states_held b)) a place t vs
+faulted_in b a s place t vs fresh own h =
+    let now : s ≡ snapshot_after (node_of a) b.start b.log = fresh ∙ ap (λ (n : ℤ). snapshot_after n b.start b.log) (sym own) in
+    let seen : find_conf (component.Node (node_of a)) (read_confs s.reads) ≡ find_conf (component.Node (node_of a)) (states_held b) =
+    ap (λ (r : PlainSnapshot). find_conf (component.Node (node_of a)) (read_confs r.reads)) now ∙ node_seen b (node_of a) in
+    subst (λ (o : Option Conf). IsFaultTold o a place t vs) seen h
 
 -- an entry that is taken and told
 pub tells_taken : {S : Type 0} (hears : PlainEvent → S → S → Type 0) (old new : PlainBook) (look after : PlainSnapshot) (e : PlainEntry) (x : PlainProposal) (was : Conf) (k : ℕ) (y z : S) →

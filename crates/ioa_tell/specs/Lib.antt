@@ -1,6 +1,14 @@
 -- what the contracts of this crate and of those above it cite
 pub mod Events
+pub mod Faulted
 pub mod Faults
+pub mod Faulty
+pub mod Found
+pub mod FoundFaults
+pub mod FoundStops
 pub mod Reasons
 pub mod Steps
+pub mod Stops
+pub mod Stuck
+pub mod Tests
 pub mod Told

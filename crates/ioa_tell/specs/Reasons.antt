@@ -39,3 +39,4 @@ abbrev pub IsReason : Option Conf → Action → PlainReason → Type 0
 IsReason there a (told.empty k) = IsEmptyQueue there k
 IsReason there a (told.first k x) = IsOtherFirst there a k x
 IsReason there a told.node = Unit {0}
+IsReason there a (told.falsified test t vs) = Unit {0}

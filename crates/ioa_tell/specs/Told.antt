@@ -11,8 +11,11 @@ use Rattle.ioa_compose.specs.Participants.{participants_of}
 use Rattle.ioa_compose.specs.declared.configuration.Conf.{Conf}
 use Rattle.ioa_record.specs.declared.ending.Ending.{Ending}
 use Rattle.ioa_transitions.specs.Entries.{PlainEntry, entry_of}
-use Rattle.ioa_tell.specs.Events.{PlainEvent, PlainReason, taken, missed, idle, stopped, ended}
+use Rattle.ioa_tell.specs.Events.{PlainEvent, PlainReason, taken, missed, faulted, stuck, idle, stopped, ended}
+use Rattle.ioa_tell.specs.Faulted.{IsFaultTold}
 use Rattle.ioa_tell.specs.Reasons.{IsReason}
+use Rattle.ioa_tell.specs.Stuck.{IsStuckTold}
+use Rattle.ioa_tell.specs.Tests.{IsNodeReason}
 
 -- the configuration of the queue among participants, which comes first of two
 abbrev pub queue_among : List Component → List Conf → Option Conf
@@ -29,10 +32,11 @@ pub record IsTakenFrom (cs next : List Conf) (e : PlainEntry) (was is : Conf) (b
     pub after : find_conf (Node (node_of e.action)) next ≡ Some is
     pub queue : queue_among (participants_of e.action) next ≡ beside
 
--- an action that is not enabled in these configurations, for a reason that is true of its queue there
+-- an action that is not enabled in these configurations, for a reason that is true of its queue and of its node there
 pub record IsMissedIn (cs : List Conf) (a : Action) (r : PlainReason) : Type 0 where
   pub not_enabled : joint_answer (entry_of a) cs ≡ Err NotEnabled
   pub reason : IsReason (queue_among (participants_of a) cs) a r
+  pub test : IsNodeReason (find_conf (Node (node_of a)) cs) a r
 
 -- events that go along a schedule, from its entries so far to those at last, and are true of it: each bears the number
 -- of the entries so far, an action that is taken is the next entry, and no other event takes one
@@ -44,6 +48,11 @@ AreTold start log (taken k e before after queue ∷ more) last =
     × AreTold start (log ++ e ∷ []) more last
 AreTold start log (missed k a r ∷ more) last =
     (k ≡ length log) × IsMissedIn (states_after start log) a r × AreTold start log more last
+AreTold start log (faulted k a place t vs ∷ more) last =
+    (k ≡ length log) × IsFaultTold (find_conf (Node (node_of a)) (states_after start log)) a place t vs
+    × AreTold start log more last
+AreTold start log (stuck k n place t vs ∷ more) last =
+    (k ≡ length log) × IsStuckTold n start log t vs × AreTold start log more last
 AreTold start log (idle k n ∷ more) last = (k ≡ length log) × AreTold start log more last
 AreTold start log (stopped k n ∷ more) last = (k ≡ length log) × AreTold start log more last
 AreTold start log (ended n e ∷ more) last = ⊥

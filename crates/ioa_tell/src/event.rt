@@ -4,8 +4,51 @@ use ioa_actions::{Action, Component};
 use ioa_channels::Front;
 use ioa_compose::Conf;
 use ioa_record::Ending;
+use ioa_terms::{Callee, Checked, Firing, Name, Shape, Target, Value};
 use ioa_transitions::Entry;
 use std::sync::Arc;
+
+/// A test that an action has to pass at its node.
+#[derive(Clone, Copy, Debug, PartialEq, Eq)]
+pub enum Test {
+    /// The condition of its entry.
+    Where,
+    /// The guard of its transition.
+    Guard,
+}
+
+/// Where a term of a step is written.
+#[derive(Clone, Copy, Debug, PartialEq, Eq)]
+pub enum Place {
+    /// In the condition of an entry.
+    Condition,
+    /// In the guard of a transition.
+    Guard,
+    /// In its effect.
+    Effect,
+}
+
+/// A statement of a block in which a term is written.
+#[derive(Clone, Copy)]
+pub enum BlockPlace<'a> {
+    /// An assignment of this value.
+    Assigned(&'a Target<usize, Callee, Shape>, &'a Checked),
+    /// An `if` with this test.
+    Tested(&'a Checked),
+    /// A `while` with this test.
+    Repeated(&'a Checked),
+    /// A `fire`.
+    Fired(&'a Firing<usize, Callee, Shape>),
+}
+
+/// A name that a term reads, and its value.
+#[derive(Drop)]
+pub struct NamedValue<'a> {
+    /// The name.
+    pub name: &'a Name,
+    /// Its value.
+    pub value: Value,
+}
 
 /// Why an action was not enabled, in the order of its step: the queue comes before the node.
 #[derive(Clone, Copy)]
@@ -16,6 +59,8 @@ pub enum Reason<'a> {
     First(Component, Front<'a>),
     /// The node's own step is not enabled: the condition of the entry or the guard is false.
     Node,
+    /// This part of the test is false, and it is the first one. Its names have these values.
+    False(Test, &'a Checked, &'a [NamedValue<'a>]),
 }
 
 /// What is told of a run. Each event but the last ones bears the number of the actions that were taken before it.
@@ -42,6 +87,32 @@ pub enum Event<'a> {
         action: &'a Arc<Action>,
         /// Why it was not enabled.
         reason: Reason<'a>,
+    },
+    /// A node fired an action whose step met a fault at a part that has no value. The node stops.
+    Faulted {
+        /// How many actions were taken before.
+        number: usize,
+        /// The action.
+        action: &'a Arc<Action>,
+        /// Where the part is written.
+        place: Place,
+        /// The part.
+        part: &'a Checked,
+        /// The values of its names then.
+        values: &'a [NamedValue<'a>],
+    },
+    /// A turn of a node's block met a fault at a part that has no value. The node stops.
+    Stuck {
+        /// How many actions were taken before.
+        number: usize,
+        /// The node.
+        node: i64,
+        /// The statement in which the part is written.
+        place: BlockPlace<'a>,
+        /// The part.
+        part: &'a Checked,
+        /// The values of its names then.
+        values: &'a [NamedValue<'a>],
     },
     /// A turn of a node ended with nothing fired, after as many statements as a turn has at most.
     Idle {

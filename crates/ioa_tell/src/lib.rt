@@ -7,16 +7,21 @@
 #![tactic(auto)]
 
 mod event;
+mod falsified;
 mod fault;
+mod faulted;
+mod faulty;
 mod misses;
 mod rounds;
 mod steps;
+mod stops;
+mod stuck;
 mod telling;
 mod tells;
 mod visited;
 mod visits;
 
-pub use event::{Event, Reason};
+pub use event::{BlockPlace, Event, NamedValue, Place, Reason, Test};
 pub use fault::TellFault;
 pub use telling::tell;
 pub use tells::Tells;

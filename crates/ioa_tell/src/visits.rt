@@ -3,20 +3,35 @@
 ghost use Rattle.std.specs.Prelude.{◌≡◌, ◌⊎◌, [], OnOk, Ok, Err};
 ghost use Rattle.std.specs.Arc.{arc_value};
 ghost use Rattle.ioa_actions.specs.declared.fault.StepFault.{StepFault};
+ghost use Rattle.ioa_actions.specs.ActionParts.{node_of};
 ghost use Rattle.ioa_book.specs.Looks.{IsLookAt};
 ghost use Rattle.ioa_book.specs.Proposals.{proposal_answer};
+ghost use Rattle.ioa_commits.specs.Versions.{read_confs};
+ghost use Rattle.ioa_compose.specs.Composition.{find_conf};
+ghost use Rattle.ioa_compose.specs.Participants.{participants_of};
 ghost use Rattle.ioa_schedules.specs.Turns.{IsAtFire, IsAtFiring};
 ghost use Rattle.ioa_terms.specs.View.{firing_of};
 ghost use Rattle.ioa_turns.specs.NodeTurns.{progress_of};
-ghost use Rattle.ioa_tell.specs.Told.{TellsOn};
+ghost use Rattle.ioa_tell.specs.Events as told;
+ghost use Rattle.ioa_tell.specs.Faulted.{IsFaulted};
+ghost use Rattle.ioa_tell.specs.FoundStops.{stuck_part_found};
+ghost use Rattle.ioa_tell.specs.Stuck.{IsStuckOn};
+ghost use Rattle.ioa_tell.specs.Found.{false_part_found};
+ghost use Rattle.ioa_tell.specs.FoundFaults.{faulty_part_found};
+ghost use Rattle.ioa_tell.specs.Reasons.{IsReason};
+ghost use Rattle.ioa_tell.specs.Tests.{IsFalsified, IsNodeReason};
+ghost use Rattle.ioa_tell.specs.Told.{TellsOn, queue_among};
 
-use crate::event::Event;
+use crate::event::{Event, Reason};
+use crate::falsified::{Falsified, find_falsified};
 use crate::fault::TellFault;
+use crate::faulted::{Faulted, find_faulted};
 use crate::misses::reason_of;
 use crate::steps::{refresh, take};
+use crate::stuck::{Stuck, find_stuck};
 use crate::tells::Tells;
 use crate::visited::Visited;
-use ioa_actions::{Action, StepFault};
+use ioa_actions::{Action, Component, StepFault};
 use ioa_book::{Book, Proposal, Snapshot};
 use ioa_rawlog::{Spare, Walk};
 use ioa_record::{Ending, NodeFault};
@@ -117,8 +132,74 @@ fn attempt<O: Origin, T: Tells>(
         }
         Ok(Turn::Idle) => tell_idle(alloc, book, look, out),
         Ok(Turn::Fire(firing)) => go_past(alloc, book, node, look, firing, left, spare, out),
-        Err(fault) => end_by_fault(node, fault),
+        Err(fault) => {
+            tell_stuck(alloc, book, node, look, fault, out)?;
+            end_by_fault(node, fault)
+        }
     }
+}
+
+/// Tells at which part of its block the turn of a node met a fault, if one has no value.
+fn tell_stuck<O: Origin, T: Tells>(
+    alloc: Global,
+    book: &Book<O>,
+    node: &Progress,
+    look: &Snapshot<O>,
+    fault: NodeFault,
+    out: &mut T,
+) -> Result<(), TellFault>
+    requires { IsLookAt book.now look.now.node look.now }
+    ensures { OnOk result (TellsOn T.hears book.now book.now [] [] out.old out.new) }
+{
+    match fault {
+        NodeFault::Undefined | NodeFault::Range => tell_own_stuck(alloc, book, node, look, out),
+        _ => Ok(()),
+    }
+}
+
+/// The same of the node that was looked at.
+fn tell_own_stuck<O: Origin, T: Tells>(
+    alloc: Global,
+    book: &Book<O>,
+    node: &Progress,
+    look: &Snapshot<O>,
+    out: &mut T,
+) -> Result<(), TellFault>
+    requires { IsLookAt book.now look.now.node look.now }
+    ensures { OnOk result (TellsOn T.hears book.now book.now [] [] out.old out.new) }
+{
+    if node.program().node() != look.node() {
+        return Ok(());
+    }
+    match find_stuck(alloc, look, node)? {
+        None => Ok(()),
+        Some(found) => tell_stuck_at(alloc, book, node, look, &found, out),
+    }
+}
+
+/// Tells that the turn of a node's block met a fault at this part.
+fn tell_stuck_at<O: Origin, T: Tells>(
+    alloc: Global,
+    book: &Book<O>,
+    node: &Progress,
+    look: &Snapshot<O>,
+    found: &Stuck<'_>,
+    out: &mut T,
+) -> Result<(), TellFault>
+    requires fresh { IsLookAt book.now look.now.node look.now }
+    requires own { (progress_of node.now).program.node ≡ look.now.node }
+    requires found { IsStuckOn (progress_of node.now).program (read_confs look.now.reads)
+        (stuck_part_found found.now) }
+    ensures { OnOk result (TellsOn T.hears book.now book.now [] [] out.old out.new) }
+{
+    let event = Event::Stuck {
+        number: look.length(),
+        node: look.node(),
+        place: found.place,
+        part: found.part,
+        values: found.values.as_slice(),
+    };
+    out.event(alloc, event)
 }
 
 /// Tells that a turn of the node that was looked at was idle.
@@ -233,8 +314,74 @@ fn after_fault<O: Origin, T: Tells>(
             node.pass();
             Ok(())
         }
-        Some(fault) => end_by_fault(node, fault),
+        Some(fault) => {
+            tell_fault(alloc, book, look, action, fault, out)?;
+            end_by_fault(node, fault)
+        }
     }
+}
+
+/// Tells at which part the step of an action met a fault, if one has no value.
+fn tell_fault<O: Origin, T: Tells>(
+    alloc: Global,
+    book: &Book<O>,
+    look: &Snapshot<O>,
+    action: &Arc<Action>,
+    fault: NodeFault,
+    out: &mut T,
+) -> Result<(), TellFault>
+    requires fresh { IsLookAt book.now look.now.node look.now }
+    ensures { OnOk result (TellsOn T.hears book.now book.now [] [] out.old out.new) }
+{
+    match fault {
+        NodeFault::Undefined | NodeFault::Range => tell_own_fault(alloc, book, look, action, out),
+        _ => Ok(()),
+    }
+}
+
+/// The same of an action of the node that was looked at.
+fn tell_own_fault<O: Origin, T: Tells>(
+    alloc: Global,
+    book: &Book<O>,
+    look: &Snapshot<O>,
+    action: &Arc<Action>,
+    out: &mut T,
+) -> Result<(), TellFault>
+    requires fresh { IsLookAt book.now look.now.node look.now }
+    ensures { OnOk result (TellsOn T.hears book.now book.now [] [] out.old out.new) }
+{
+    if action.node() != look.node() {
+        return Ok(());
+    }
+    match find_faulted(alloc, look, action)? {
+        None => Ok(()),
+        Some(found) => tell_faulted(alloc, book, look, action, &found, out),
+    }
+}
+
+/// Tells that the step of an action met a fault at this part.
+fn tell_faulted<O: Origin, T: Tells>(
+    alloc: Global,
+    book: &Book<O>,
+    look: &Snapshot<O>,
+    action: &Arc<Action>,
+    found: &Faulted<'_>,
+    out: &mut T,
+) -> Result<(), TellFault>
+    requires fresh { IsLookAt book.now look.now.node look.now }
+    requires own { node_of (arc_value action.now) ≡ look.now.node }
+    requires found { IsFaulted (find_conf (Component.Node (node_of (arc_value action.now)))
+        (read_confs look.now.reads)) (arc_value action.now) (faulty_part_found found.now) }
+    ensures { OnOk result (TellsOn T.hears book.now book.now [] [] out.old out.new) }
+{
+    let event = Event::Faulted {
+        number: look.length(),
+        action,
+        place: found.place,
+        part: found.part,
+        values: found.values.as_slice(),
+    };
+    out.event(alloc, event)
 }
 
 /// Tells that an action was not enabled.
@@ -249,10 +396,78 @@ fn tell_missed<O: Origin, T: Tells>(
     requires missed { proposal_answer (arc_value action.now) look.now ≡ Err StepFault.NotEnabled }
     ensures { OnOk result (TellsOn T.hears book.now book.now [] [] out.old out.new) }
 {
-    let event = Event::Missed {
-        number: look.length(),
-        action,
-        reason: reason_of(look, action),
-    };
-    out.event(alloc, event)
+    match reason_of(look, action) {
+        Reason::Empty(queue) => {
+            tell_reason(alloc, book, look, action, Reason::Empty(queue), out)
+        }
+        Reason::First(queue, front) => {
+            tell_reason(alloc, book, look, action, Reason::First(queue, front), out)
+        }
+        Reason::Node | Reason::False(_, _, _) => { tell_refused(alloc, book, look, action, out) }
+    }
+}
+
+/// Tells that a node did not let an action pass.
+fn tell_refused<O: Origin, T: Tells>(
+    alloc: Global,
+    book: &Book<O>,
+    look: &Snapshot<O>,
+    action: &Arc<Action>,
+    out: &mut T,
+) -> Result<(), TellFault>
+    requires fresh { IsLookAt book.now look.now.node look.now }
+    requires missed { proposal_answer (arc_value action.now) look.now ≡ Err StepFault.NotEnabled }
+    ensures { OnOk result (TellsOn T.hears book.now book.now [] [] out.old out.new) }
+{
+    match find_falsified(alloc, look, action)? {
+        None => tell_reason(alloc, book, look, action, Reason::Node, out),
+        Some(found) => tell_false(alloc, book, look, action, &found, out),
+    }
+}
+
+/// Tells that this part of a test was false.
+fn tell_false<O: Origin, T: Tells>(
+    alloc: Global,
+    book: &Book<O>,
+    look: &Snapshot<O>,
+    action: &Arc<Action>,
+    found: &Falsified<'_>,
+    out: &mut T,
+) -> Result<(), TellFault>
+    requires fresh { IsLookAt book.now look.now.node look.now }
+    requires missed { proposal_answer (arc_value action.now) look.now ≡ Err StepFault.NotEnabled }
+    requires found { IsFalsified (find_conf (Component.Node (node_of (arc_value action.now)))
+        (read_confs look.now.reads)) (arc_value action.now) (false_part_found found.now) }
+    ensures { OnOk result (TellsOn T.hears book.now book.now [] [] out.old out.new) }
+{
+    let reason = Reason::False(found.test, found.part, found.values.as_slice());
+    tell_reason(alloc, book, look, action, reason, out)
+}
+
+/// Tells that an action was not enabled, for this reason.
+fn tell_reason<O: Origin, T: Tells>(
+    alloc: Global,
+    book: &Book<O>,
+    look: &Snapshot<O>,
+    action: &Arc<Action>,
+    reason: Reason<'_>,
+    out: &mut T,
+) -> Result<(), TellFault>
+    requires fresh { IsLookAt book.now look.now.node look.now }
+    requires missed { proposal_answer (arc_value action.now) look.now ≡ Err StepFault.NotEnabled }
+    requires queue { IsReason (queue_among (participants_of (arc_value action.now)) (read_confs look.now.reads))
+        (arc_value action.now) (told.reason_of reason) }
+    requires node { IsNodeReason (find_conf (Component.Node (node_of (arc_value action.now)))
+        (read_confs look.now.reads)) (arc_value action.now) (told.reason_of reason) }
+    ensures { OnOk result (TellsOn T.hears book.now book.now [] [] out.old out.new) }
+{
+    let number = look.length();
+    out.event(
+        alloc,
+        Event::Missed {
+            number,
+            action,
+            reason,
+        },
+    )
 }

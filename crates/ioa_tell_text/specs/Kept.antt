@@ -1,30 +1,34 @@
 -- What waits to be written of a node (form).
-use Rattle.std.specs.Prelude.{ℤ, ◌+◌, ◌-◌, ◌^◌, ◌&&◌, min, Bool, true, false, if◌then◌else◌, List, ◌++◌}
+use Rattle.std.specs.Prelude.{ℕ, ℤ, ◌+◌, ◌-◌, ◌^◌, ◌&&◌, min, Bool, true, false, if◌then◌else◌, List, ◌++◌}
 use Rattle.std.specs.Prelude.{Option, Some, None}
 use Rattle.std.specs.List.{before_first, after_first}
 use Rattle.std.specs.Ordering.{int_eq}
 use Rattle.ioa_actions.specs.Actions.{same_action}
 use Rattle.ioa_actions.specs.ComponentOrder.{same_component}
 use Rattle.ioa_channels.specs.Queues.{same_item}
+use Rattle.ioa_terms.specs.Bindings.{same_word}
 use Rattle.ioa_tell.specs.Events as told
 use Rattle.ioa_tell.specs.Events.{PlainReason}
+use Rattle.ioa_tell_text.specs.Tests.{false_text}
 use Rattle.ioa_tell_text.specs.declared.waiting.Passing.{Passing}
 use Rattle.ioa_tell_text.specs.declared.waiting.Passing.TheVariants.{Idle, Missed}
 use Rattle.ioa_tell_text.specs.declared.waiting.Waiting.{Waiting}
 use Rattle.ioa_tell_text.specs.declared.waiting.Why.{Why}
 use Rattle.ioa_tell_text.specs.declared.waiting.Why.TheVariants as why
 
--- why an action was not enabled, as it is kept
-abbrev pub why_of : PlainReason → Why
-why_of (told.empty k) = why.Empty k
-why_of (told.first k x) = why.First k x
-why_of told.node = why.Node
+-- why an action was not enabled, as it is kept; a part of a test as text, by these names of constants
+abbrev pub why_of : List (List ℕ) → PlainReason → Why
+why_of names (told.empty k) = why.Empty k
+why_of names (told.first k x) = why.First k x
+why_of names told.node = why.Node
+why_of names (told.falsified test t vs) = why.False (false_text names test t vs)
 
 -- whether two reasons are the same
 abbrev pub same_why : Why → Why → Bool
 same_why (why.Empty k) (why.Empty l) = same_component k l
 same_why (why.First k x) (why.First l y) = same_component k l && same_item x y
 same_why why.Node why.Node = true
+same_why (why.False s) (why.False t) = same_word s t
 same_why v w = false
 
 -- whether a node did the same twice: it was idle, or fired an action that was not enabled for the same reason

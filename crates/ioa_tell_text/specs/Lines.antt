@@ -24,6 +24,7 @@ abbrev pub why_text : List (List ℕ) → Why → List ℕ
 why_text names (why.Empty k) = component_text k ++ codes " is empty"
 why_text names (why.First k x) = codes "first in " ++ (component_text k ++ (codes " is " ++ item_text names x))
 why_text names why.Node = codes "not enabled: its where or its guard is false"
+why_text names (why.False text) = text
 
 -- the node of an action whose own text does not end with it
 abbrev pub at_text : Action → List ℕ
@@ -31,6 +32,11 @@ at_text (Send m i j) = codes "@" ++ signed_decimal i
 at_text (Receive m i j) = codes "@" ++ signed_decimal j
 at_text (Local a) = []
 at_text (Stimulus a) = []
+
+-- `  fault action@i: why`, the line of an action whose step met a fault
+abbrev pub fault_line : List (List ℕ) → Action → List ℕ → List ℕ
+fault_line names a why =
+    codes "  fault " ++ (action_text names a ++ (at_text a ++ (codes ": " ++ (why ++ codes "\n"))))
 
 -- `  idle @i`, or `  missed action@i: why`
 abbrev pub passing_text : List (List ℕ) → ℤ → Passing → List ℕ

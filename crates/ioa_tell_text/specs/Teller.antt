@@ -5,9 +5,11 @@ use Rattle.ioa_actions.specs.ActionParts.{node_of}
 use Rattle.ioa_paper.specs.Papers.{PlainPaper, and_text}
 use Rattle.ioa_record.specs.Endings.{ending_text}
 use Rattle.ioa_transitions.specs.Entries.{entry_of}
-use Rattle.ioa_tell.specs.Events.{PlainEvent, taken, missed, idle, stopped, ended}
+use Rattle.ioa_tell.specs.Events.{PlainEvent, taken, missed, faulted, stuck, idle, stopped, ended}
+use Rattle.ioa_tell_text.specs.Blocks.{stuck_line, stuck_text}
 use Rattle.ioa_tell_text.specs.Kept.{is_of, next_waiting, same_passing, why_of, without}
-use Rattle.ioa_tell_text.specs.Lines.{taken_line, waiting_text}
+use Rattle.ioa_tell_text.specs.Lines.{fault_line, taken_line, waiting_text}
+use Rattle.ioa_tell_text.specs.Tests.{stop_text}
 use Rattle.ioa_tell_text.specs.declared.waiting.Passing.{Passing}
 use Rattle.ioa_tell_text.specs.declared.waiting.Passing.TheVariants.{Idle, Missed}
 use Rattle.ioa_tell_text.specs.declared.waiting.Waiting.{Waiting}
@@ -59,12 +61,17 @@ waits n p t =
     waits_behind n p (find (is_of n) t.waiting)
     (record { paper = t.paper; names = t.names; waiting = without (is_of n) t.waiting })
 
--- after an event: the line of an action that was taken and the line of an ending are written at once, each action behind
--- what waits of its node; what a node does that takes no action waits; and of a node that stopped nothing waits
+-- after an event: the line of an action that was taken and the line of an ending are written at once, each action
+-- behind what waits of its node, and so are those of faults; what a node does that takes no action waits; and of a node
+-- that stopped nothing waits
 abbrev pub teller_after : PlainEvent → PlainTeller → PlainTeller
 teller_after (taken k e before after queue) t =
     and_written (flushed (node_of e.action) t) (taken_line t.names k e before after queue)
-teller_after (missed k a r) t = waits (node_of a) (Missed (entry_of a) (why_of r)) t
+teller_after (missed k a r) t = waits (node_of a) (Missed (entry_of a) (why_of t.names r)) t
+teller_after (faulted k a place u vs) t =
+    and_written (flushed (node_of a) t) (fault_line t.names a (stop_text t.names place u vs))
+teller_after (stuck k n place u vs) t =
+    and_written (flushed n t) (stuck_line n (stuck_text t.names place u vs))
 teller_after (idle k n) t = waits n Idle t
 teller_after (stopped k n) t = flushed n t
 teller_after (ended n e) t =

@@ -6,9 +6,13 @@
 //! **Must not know**: how a run is told again.
 #![tactic(auto)]
 
+mod blocks;
 mod changes;
 mod keeping;
+mod kept;
 mod lines;
+mod terms;
+mod tests;
 mod text;
 mod waiting;
 

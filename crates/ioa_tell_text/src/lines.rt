@@ -7,9 +7,11 @@ ghost use Rattle.ioa_actions.specs.ActionText.{action_text};
 ghost use Rattle.ioa_monitor.specs.Reports.{item_text};
 ghost use Rattle.ioa_paper.specs.Papers.{and_text};
 ghost use Rattle.ioa_tell_text.specs.Changes.{component_text};
-ghost use Rattle.ioa_tell_text.specs.Lines.{at_text, passing_text, taken_line, times_text, waiting_text, why_text};
+ghost use Rattle.ioa_tell_text.specs.Lines.{at_text, fault_line, passing_text, taken_line};
+ghost use Rattle.ioa_tell_text.specs.Lines.{times_text, waiting_text, why_text};
 
 use crate::changes::{put_changes, put_component, put_word};
+use crate::kept::KeptText;
 use crate::waiting::{Passing, Waiting, Why};
 use ioa_actions::{Action, Component};
 use ioa_channels::Item;
@@ -36,6 +38,23 @@ pub(crate) fn put_taken<O: Out>(
     paper.put(" ");
     put_action(paper, names, entry.action());
     put_changes(paper, names, before, after, queue);
+    paper.put("\n");
+}
+
+/// Writes the line of an action whose step met a fault.
+pub(crate) fn put_fault<O: Out>(
+    paper: &mut Paper<'_, O>,
+    names: &Names,
+    action: &Action,
+    why: &KeptText,
+)
+    ensures { paper.new ≡ and_text paper.old (fault_line names.now action.now why.now) }
+{
+    paper.put("  fault ");
+    put_action(paper, names, action);
+    put_at(paper, action);
+    paper.put(": ");
+    paper.put(why.as_str());
     paper.put("\n");
 }
 
@@ -108,6 +127,7 @@ fn put_why<O: Out>(paper: &mut Paper<'_, O>, names: &Names, why: &Why)
         Why::Empty(queue) => put_empty(paper, *queue),
         Why::First(queue, item) => put_first(paper, names, *queue, item),
         Why::Node => paper.put("not enabled: its where or its guard is false"),
+        Why::False(text) => paper.put(text.as_str()),
     }
 }
 

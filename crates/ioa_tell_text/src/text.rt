@@ -1,26 +1,32 @@
 //! A run as a text.
 
-ghost use Rattle.std.specs.Prelude.{◌≡◌, ◌++◌, ◌∷◌, ◌<◌, [], OnOk, Some, None, false};
+ghost use Rattle.std.specs.Prelude.{◌≡◌, ◌++◌, ◌∷◌, ◌<◌, [], OnOk, Some, None, false, map};
 ghost use Rattle.std.specs.Arc.{arc_value};
 ghost use Rattle.std.specs.Option.{option_copied};
 ghost use Rattle.std.specs.Vec.{vec_capacity};
 ghost use Rattle.ioa_actions.specs.ActionParts.{node_of};
 ghost use Rattle.ioa_paper.specs.Papers.{Ended};
-ghost use Rattle.ioa_tell.specs.Events.{reason_of};
+ghost use Rattle.ioa_terms.specs.View.{term_of};
+ghost use Rattle.ioa_tell.specs.Events.{block_place_of, named_value, reason_of};
+ghost use Rattle.ioa_tell_text.specs.Blocks.{stuck_line, stuck_text};
 ghost use Rattle.ioa_transitions.specs.Entries.{entry_of};
 ghost use Rattle.ioa_tell_text.specs.Kept.{once, why_of};
-ghost use Rattle.ioa_tell_text.specs.Lines.{taken_line, waiting_text};
+ghost use Rattle.ioa_tell_text.specs.Lines.{fault_line, taken_line, waiting_text};
+ghost use Rattle.ioa_tell_text.specs.Tests.{stop_text};
 ghost use Rattle.ioa_tell_text.specs.Teller.{and_written, flushed, waits, waits_behind, with_waiting};
 
+use crate::blocks::{put_stuck, stuck_text};
 use crate::keeping::taken_out;
-use crate::lines::{put_taken, put_waiting};
-use crate::waiting::{Passing, Waiting, kept};
+use crate::lines::{put_fault, put_taken, put_waiting};
+use crate::tests::stop_text;
+use crate::waiting::{Passing, Waiting, Why, kept};
 use ioa_actions::Action;
 use ioa_compose::Conf;
 use ioa_monitor::put_ending;
 use ioa_paper::Paper;
 use ioa_streams::{Out, OutFailed};
-use ioa_tell::{Event, Reason, TellFault, Tells};
+use ioa_tell::{BlockPlace, Event, NamedValue, Place, Reason, TellFault, Tells};
+use ioa_terms::Checked;
 use ioa_transitions::Entry;
 use ioa_values::Names;
 use std::alloc::{AllocError, Global};
@@ -28,8 +34,9 @@ use std::marker::Model;
 use std::sync::Arc;
 
 /// Writes what is told as a text: `k action   node i: x = v -> w; channel i -> j holds n` for an action that was taken,
-/// `  missed action@i: why   (n times)` for n misses one after another, `  idle @i   (n times)` for idle turns, and
-/// `ending i e` for the endings. A miss or an idle turn is written once its node does something else, just before that.
+/// `  missed action@i: why   (n times)` for n misses one after another, `  fault action@i: why` for a fault of a step,
+/// `  fault @i: why` for one of a block, `  idle @i   (n times)` for idle turns, and `ending i e` for the endings. A miss
+/// or an idle turn is written once its node does something else, just before that.
 pub struct TextTeller<'a, O: Out> {
     paper: Paper<'a, O>,
     names: &'a Names,
@@ -132,47 +139,79 @@ impl<'a, O: Out> TextTeller<'a, O> {
         reason: Reason<'_>,
     ) -> Result<(), AllocError>
         ensures { OnOk result (self.new ≡ waits (node_of (arc_value action.now))
-            (Passing.Missed (entry_of (arc_value action.now)) (why_of (reason_of reason.entry))) self.old) }
+            (Passing.Missed (entry_of (arc_value action.now)) (why_of self.old.names (reason_of reason.entry)))
+            self.old) }
     {
+        let why = kept(alloc, self.names, reason)?;
         match taken_out(&mut self.waiting, action.node()) {
-            None => self.miss_first(alloc, action, reason),
-            Some(last) => self.miss_behind(alloc, action, reason, last),
+            None => self.miss_first(action, why),
+            Some(last) => self.miss_behind(action, why, last),
         }
     }
 
     /// The same, if this waited of the node.
     fn miss_behind(
         &mut self,
-        alloc: Global,
         action: &Arc<Action>,
-        reason: Reason<'_>,
+        why: Why,
         last: Waiting,
     ) -> Result<(), AllocError>
         ensures { OnOk result (self.new ≡ waits_behind (node_of (arc_value action.now))
-            (Passing.Missed (entry_of (arc_value action.now)) (why_of (reason_of reason.entry)))
-            (Some last) self.old) }
+            (Passing.Missed (entry_of (arc_value action.now)) why) (Some last) self.old) }
     {
-        if last.passing.is_miss(action, reason) {
+        if last.passing.is_miss(action, &why) {
             self.wait(last.once_more())
         } else {
             self.write(last);
-            self.miss_first(alloc, action, reason)
+            self.miss_first(action, why)
         }
     }
 
     /// The same, if nothing waits of the node.
-    fn miss_first(
+    fn miss_first(&mut self, action: &Arc<Action>, why: Why) -> Result<(), AllocError>
+        ensures { OnOk result (self.new ≡ with_waiting (once (node_of (arc_value action.now))
+            (Passing.Missed (entry_of (arc_value action.now)) why)) self.old) }
+    {
+        let entry = Entry::of(Arc::try_clone(action)?);
+        self.wait(Waiting::once(action.node(), Passing::Missed(entry, why)))
+    }
+
+    /// Writes an action whose step met a fault.
+    fn faulted(
         &mut self,
         alloc: Global,
         action: &Arc<Action>,
-        reason: Reason<'_>,
+        place: Place,
+        part: &Checked,
+        values: &[NamedValue<'_>],
     ) -> Result<(), AllocError>
-        ensures { OnOk result (self.new ≡ with_waiting (once (node_of (arc_value action.now))
-            (Passing.Missed (entry_of (arc_value action.now)) (why_of (reason_of reason.entry)))) self.old) }
+        ensures { OnOk result (self.new ≡ and_written (flushed (node_of (arc_value action.now)) self.old)
+            (fault_line self.old.names (arc_value action.now) (stop_text self.old.names place
+            (term_of part.now) (map named_value values.now)))) }
     {
-        let why = kept(alloc, reason)?;
-        let entry = Entry::of(Arc::try_clone(action)?);
-        self.wait(Waiting::once(action.node(), Passing::Missed(entry, why)))
+        let why = stop_text(alloc, self.names, place, part, values)?;
+        self.flush(action.node());
+        put_fault(&mut self.paper, self.names, action, &why);
+        Ok(())
+    }
+
+    /// Writes that a turn of a node's block met a fault.
+    fn stuck(
+        &mut self,
+        alloc: Global,
+        node: i64,
+        place: BlockPlace<'_>,
+        part: &Checked,
+        values: &[NamedValue<'_>],
+    ) -> Result<(), AllocError>
+        ensures { OnOk result (self.new ≡ and_written (flushed node self.old)
+            (stuck_line node (stuck_text self.old.names (block_place_of place.entry)
+            (term_of part.now) (map named_value values.now)))) }
+    {
+        let why = stuck_text(alloc, self.names, place, part, values)?;
+        self.flush(node);
+        put_stuck(&mut self.paper, node, &why);
+        Ok(())
     }
 
     /// Counts an idle turn.
@@ -226,6 +265,26 @@ impl<'a, O: Out> Tells for TextTeller<'a, O> {
             }
             Event::Missed { action, reason, .. } => {
                 self.missed(alloc, action, reason)?;
+                Ok(())
+            }
+            Event::Faulted {
+                action,
+                place,
+                part,
+                values,
+                ..
+            } => {
+                self.faulted(alloc, action, place, part, values)?;
+                Ok(())
+            }
+            Event::Stuck {
+                node,
+                place,
+                part,
+                values,
+                ..
+            } => {
+                self.stuck(alloc, node, place, part, values)?;
                 Ok(())
             }
             Event::Idle { node, .. } => {

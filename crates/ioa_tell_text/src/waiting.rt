@@ -8,10 +8,13 @@ ghost use Rattle.ioa_transitions.specs.Entries.{entry_of};
 ghost use Rattle.ioa_tell_text.specs.Kept as spec;
 ghost use Rattle.ioa_tell_text.specs.Kept.{same_passing, same_why, why_of};
 
+use crate::kept::KeptText;
+use crate::tests::false_text;
 use ioa_actions::{Action, Component};
 use ioa_channels::{Front, Item};
 use ioa_tell::Reason;
 use ioa_transitions::Entry;
+use ioa_values::Names;
 use std::alloc::{AllocError, Global};
 
 /// Why an action was not enabled, kept.
@@ -23,6 +26,8 @@ pub(crate) enum Why {
     First(Component, Item),
     /// The node's own step is not enabled.
     Node,
+    /// A test of the node is false, as this text tells.
+    False(KeptText),
 }
 
 /// What a node did that took no action.
@@ -42,14 +47,17 @@ pub(crate) struct Waiting {
     pub(crate) times: usize,
 }
 
-/// What is told, kept.
-pub(crate) fn kept(alloc: Global, reason: Reason<'_>) -> Result<Why, AllocError>
-    ensures { IfOk result (λ w. w ≡ why_of (reason_of reason.entry)) }
+/// What is told, kept; a part of a test as text, by these names of constants.
+pub(crate) fn kept(alloc: Global, names: &Names, reason: Reason<'_>) -> Result<Why, AllocError>
+    ensures { IfOk result (λ w. w ≡ why_of names.now (reason_of reason.entry)) }
 {
     match reason {
         Reason::Empty(queue) => Ok(Why::Empty(queue)),
         Reason::First(queue, front) => Ok(Why::First(queue, item_of(alloc, front)?)),
         Reason::Node => Ok(Why::Node),
+        Reason::False(test, part, values) => {
+            Ok(Why::False(false_text(alloc, names, test, part, values)?))
+        }
     }
 }
 
@@ -86,13 +94,12 @@ impl Waiting {
 
 impl Passing {
     /// Whether it is the miss of this action for this reason.
-    pub(crate) fn is_miss(&self, action: &Action, reason: Reason<'_>) -> bool
-        ensures { result ≡ same_passing self.now
-            (Passing.Missed (entry_of action.now) (why_of (reason_of reason.entry))) }
+    pub(crate) fn is_miss(&self, action: &Action, why: &Why) -> bool
+        ensures { result ≡ same_passing self.now (Passing.Missed (entry_of action.now) why.now) }
     {
         match self {
             Passing::Idle => false,
-            Passing::Missed(kept, why) => kept.action().equals(action) && is_why(why, reason),
+            Passing::Missed(kept, last) => kept.action().equals(action) && is_why(last, why),
         }
     }
 
@@ -107,27 +114,28 @@ impl Passing {
     }
 }
 
-/// Whether a reason that is kept is this one.
-fn is_why(why: &Why, reason: Reason<'_>) -> bool
-    ensures { result ≡ same_why why.now (why_of (reason_of reason.entry)) }
+/// Whether two reasons are the same.
+fn is_why(kept: &Why, why: &Why) -> bool
+    ensures { result ≡ same_why kept.now why.now }
 {
-    match (why, reason) {
-        (Why::Empty(kept), Reason::Empty(queue)) => *kept == queue,
-        (Why::First(kept, item), Reason::First(queue, front)) => {
-            *kept == queue && is_item(item, front)
+    match (kept, why) {
+        (Why::Empty(kept), Why::Empty(queue)) => *kept == *queue,
+        (Why::First(kept, item), Why::First(queue, front)) => {
+            *kept == *queue && is_item(item, front)
         }
-        (Why::Node, Reason::Node) => true,
+        (Why::Node, Why::Node) => true,
+        (Why::False(kept), Why::False(text)) => kept.is_same(text),
         _ => false,
     }
 }
 
-/// Whether an item that is kept is this one.
-fn is_item(item: &Item, front: Front<'_>) -> bool
-    ensures { result ≡ same_item item.now (front_item front.entry) }
+/// Whether two items are the same.
+fn is_item(item: &Item, front: &Item) -> bool
+    ensures { result ≡ same_item item.now front.now }
 {
     match (item, front) {
-        (Item::Message(kept), Front::Message(message)) => kept.equals(message),
-        (Item::Stimulus(kept), Front::Stimulus(stimulus)) => kept.equals(stimulus),
+        (Item::Message(kept), Item::Message(message)) => kept.equals(message),
+        (Item::Stimulus(kept), Item::Stimulus(stimulus)) => kept.equals(stimulus),
         _ => false,
     }
 }

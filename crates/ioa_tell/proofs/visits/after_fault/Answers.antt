@@ -1,5 +1,5 @@
-use Rattle.ioa_tell.proofs.Tellings.{on_any, tells_nothing}
+use Rattle.ioa_tell.proofs.Tellings.{on_any}
 use Rattle.ioa_tell.proofs.visits.after_fault.Goals as goal
 
-pub returns-in-Some : goal.returns-in-Some
-returns-in-Some g c = on_any c.end_by_fault.result (tells_nothing g.T.Tells.hears _ _ _)
+pub returns-in_ok-tell_fault-in-Some : goal.returns-in_ok-tell_fault-in-Some
+returns-in_ok-tell_fault-in-Some g c = on_any c.end_by_fault.result c.in_ok-tell_fault-in-Some.ensures

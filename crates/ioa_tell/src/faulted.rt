@@ -1,0 +1,259 @@
+//! The part of a step of a node that has no value.
+
+ghost use Rattle.std.specs.Prelude.{◌≡◌, [], IfOk, IfSome, Some, length};
+ghost use Rattle.ioa_actions.specs.ActionParts.{node_of};
+ghost use Rattle.ioa_commits.specs.Versions.{read_confs};
+ghost use Rattle.ioa_compose.specs.Composition.{find_conf};
+ghost use Rattle.ioa_system.specs.InView.{declared_names, entry_condition, environment_at, guard_or_effect};
+ghost use Rattle.ioa_system.specs.ResolvedPrograms.{IsResolvedGuard, IsResolvedRule};
+ghost use Rattle.ioa_terms.specs.Resolved.{AreResolved};
+ghost use Rattle.ioa_terms.specs.View.{term_of};
+ghost use Rattle.ioa_terms.specs.Views.{IsNamed, environment_of, names_in_view, own_names};
+ghost use Rattle.ioa_transitions.specs.NodeStep.{rule_bindings};
+ghost use Rattle.ioa_tell.specs.Faulted.{HasNoValue, IsFaultAt, IsFaultThen, IsFaulted};
+ghost use Rattle.ioa_tell.specs.FoundFaults.{faulty_part_found};
+ghost use Rattle.ioa_tell.specs.Stops.{IsFaultyIn, IsStopIn};
+
+use crate::event::{NamedValue, Place};
+use crate::falsified::{condition_view, own_values, read_values, step_view};
+use crate::steps::conf_of;
+use crate::stops::{Stop, stop_at, stop_of_all};
+use ioa_actions::{Action, Component};
+use ioa_book::Snapshot;
+use ioa_compose::Conf;
+use ioa_sharing::Origin;
+use ioa_system::{Program, Rule};
+use ioa_terms::{Checked, View};
+use ioa_transitions::NodeConf;
+use ioa_values::{Value, copies};
+use std::alloc::{AllocError, Global};
+
+/// A part of a step that has no value, where it is written, and the values of the names that it reads.
+#[derive(Drop)]
+pub(crate) struct Faulted<'a> {
+    pub(crate) place: Place,
+    pub(crate) part: &'a Checked,
+    pub(crate) values: Vec<NamedValue<'a>>,
+}
+
+/// The part that has no value, if the step of this action meets one at the node that a look shows.
+pub(crate) fn find_faulted<'a, O: Origin>(
+    alloc: Global,
+    look: &'a Snapshot<O>,
+    action: &Action,
+) -> Result<Option<Faulted<'a>>, AllocError>
+    ensures { IfOk result (λ o. IfSome o (λ f. IsFaulted (find_conf (Component.Node (node_of action.now))
+        (read_confs look.now.reads)) action.now (faulty_part_found f))) }
+{
+    match conf_of(look, Component::Node(action.node())) {
+        Some(Conf::Node(conf)) => faulted_at(alloc, conf, action),
+        _ => Ok(None),
+    }
+}
+
+/// The same at a node with this configuration.
+fn faulted_at<'a>(
+    alloc: Global,
+    conf: &'a NodeConf,
+    action: &Action,
+) -> Result<Option<Faulted<'a>>, AllocError>
+    ensures { IfOk result (λ o. IfSome o
+        (λ f. IsFaulted (Some (Conf.Node conf.now)) action.now (faulty_part_found f))) }
+{
+    match conf.program().automaton().rule_named(action.name()) {
+        None => Ok(None),
+        Some(rule) => faulted_by(alloc, conf, rule, action),
+    }
+}
+
+/// The same by a rule of the action's name. An action whose arguments are not those of the rule is none of its own.
+fn faulted_by<'a>(
+    alloc: Global,
+    conf: &'a NodeConf,
+    rule: &'a Rule,
+    action: &Action,
+) -> Result<Option<Faulted<'a>>, AllocError>
+    requires { IsResolvedRule (declared_names conf.now.program.automaton) rule.now }
+    ensures { IfOk result (λ o. IfSome o (λ f. IsFaultAt f.place (rule_bindings entry_condition rule.now action.now
+        conf.now) (rule_bindings guard_or_effect rule.now action.now conf.now) (faulty_part_found f))) }
+{
+    let arguments = action.arguments(alloc)?;
+    let own = own_values(alloc, &rule.entry, arguments.as_slice())?;
+    if own.len() != rule.own.len() {
+        return Ok(None);
+    }
+    let variables = conf.variables().as_slice();
+    first_fault(alloc, conf.program(), rule, own.as_slice(), variables)
+}
+
+/// The part that has no value, of the condition of a rule's entry, or else of its guard, or else of its effect, if the
+/// entry's own parameters have these values.
+fn first_fault<'a>(
+    alloc: Global,
+    program: &'a Program,
+    rule: &'a Rule,
+    own: &[Value],
+    variables: &[Value],
+) -> Result<Option<Faulted<'a>>, AllocError>
+    requires resolved { IsResolvedRule (declared_names program.now.automaton) rule.now }
+    requires valued { length variables.now ≡ length program.now.automaton.variables }
+    requires own { length rule.now.own ≡ length own.now }
+    ensures { IfOk result (λ o. IfSome o (λ f. IsFaultAt f.place
+        (environment_at entry_condition (declared_names program.now.automaton) rule.now.own
+        program.now.arguments [] own.now)
+        (environment_at guard_or_effect (declared_names program.now.automaton) rule.now.own
+        program.now.arguments variables.now own.now) (faulty_part_found f))) }
+{
+    match fault_of_condition(alloc, program, rule, own)? {
+        Some(found) => Ok(Some(found)),
+        None => fault_of_transition(alloc, program, rule, own, variables),
+    }
+}
+
+/// The part of the condition of a rule's entry that has no value.
+fn fault_of_condition<'a>(
+    alloc: Global,
+    program: &'a Program,
+    rule: &'a Rule,
+    own: &[Value],
+) -> Result<Option<Faulted<'a>>, AllocError>
+    requires resolved { IsResolvedRule (declared_names program.now.automaton) rule.now }
+    requires own { length rule.now.own ≡ length own.now }
+    ensures place { IfOk result (λ o. IfSome o (λ f. f.place ≡ Place.Condition)) }
+    ensures fault { IfOk result (λ o. IfSome o (λ f. HasNoValue
+        (environment_at entry_condition (declared_names program.now.automaton) rule.now.own
+        program.now.arguments [] own.now) (faulty_part_found f))) }
+{
+    match &rule.entry.condition {
+        None => Ok(None),
+        Some(condition) => {
+            let given = program.arguments();
+            let view = condition_view(program, rule, own);
+            let stop = stop_at(alloc, condition, &view, given)?;
+            with_values(alloc, Place::Condition, stop, &view, given)
+        }
+    }
+}
+
+/// The part of a guard or else of an effect that has no value.
+fn fault_of_transition<'a>(
+    alloc: Global,
+    program: &'a Program,
+    rule: &'a Rule,
+    own: &[Value],
+    variables: &[Value],
+) -> Result<Option<Faulted<'a>>, AllocError>
+    requires resolved { IsResolvedRule (declared_names program.now.automaton) rule.now }
+    requires valued { length variables.now ≡ length program.now.automaton.variables }
+    requires own { length rule.now.own ≡ length own.now }
+    ensures { IfOk result (λ o. IfSome o (λ f. IsFaultAt f.place
+        (environment_at entry_condition (declared_names program.now.automaton) rule.now.own
+        program.now.arguments [] own.now)
+        (environment_at guard_or_effect (declared_names program.now.automaton) rule.now.own
+        program.now.arguments variables.now own.now) (faulty_part_found f))) }
+{
+    let view = step_view(program, rule, own, variables);
+    match fault_of_guard(alloc, rule, &view, variables)? {
+        Some(found) => Ok(Some(found)),
+        None => fault_of_effect(alloc, rule, &view, variables),
+    }
+}
+
+/// The part of a guard that has no value.
+fn fault_of_guard<'a>(
+    alloc: Global,
+    rule: &'a Rule,
+    view: &View,
+    variables: &[Value],
+) -> Result<Option<Faulted<'a>>, AllocError>
+    requires resolved { IsResolvedGuard rule.now.transition.pre (names_in_view view.now) }
+    requires named { IsNamed view.now variables.now }
+    ensures place { IfOk result (λ o. IfSome o (λ f. f.place ≡ Place.Guard)) }
+    ensures fault { IfOk result (λ o. IfSome o
+        (λ f. HasNoValue (environment_of view.now variables.now) (faulty_part_found f))) }
+{
+    match &rule.transition.pre {
+        None => Ok(None),
+        Some(guard) => {
+            let stop = stop_at(alloc, guard, view, variables)?;
+            with_values(alloc, Place::Guard, stop, view, variables)
+        }
+    }
+}
+
+/// The part of an effect that has no value when it is asked. The effect is performed on a copy of the variables.
+fn fault_of_effect<'a>(
+    alloc: Global,
+    rule: &'a Rule,
+    view: &View,
+    variables: &[Value],
+) -> Result<Option<Faulted<'a>>, AllocError>
+    requires resolved { AreResolved rule.now.transition.effect (own_names view.now (length variables.now))
+        (names_in_view view.now) }
+    requires named { IsNamed view.now variables.now }
+    ensures place { IfOk result (λ o. IfSome o (λ f. f.place ≡ Place.Effect)) }
+    ensures fault { IfOk result (λ o. IfSome o
+        (λ f. IsFaultThen (names_in_view view.now) (faulty_part_found f))) }
+{
+    let mut values = copies(alloc, variables)?;
+    let stop = stop_of_all(alloc, &rule.transition.effect, view, &mut values)?;
+    fault_then(alloc, stop, view, values.as_slice())
+}
+
+/// The part at which an effect stops, with the values of its names, if the variables have these values then.
+fn fault_then<'a>(
+    alloc: Global,
+    stop: Stop<'a>,
+    view: &View,
+    values: &[Value],
+) -> Result<Option<Faulted<'a>>, AllocError>
+    requires named { IsNamed view.now values.now }
+    requires stop { IsStopIn view.now values.now stop }
+    ensures place { IfOk result (λ o. IfSome o (λ f. f.place ≡ Place.Effect)) }
+    ensures fault { IfOk result (λ o. IfSome o
+        (λ f. IsFaultThen (names_in_view view.now) (faulty_part_found f))) }
+{
+    with_values(alloc, Place::Effect, stop, view, values)
+}
+
+/// The part at which terms stop, with the values of its names.
+fn with_values<'a>(
+    alloc: Global,
+    place: Place,
+    stop: Stop<'a>,
+    view: &View,
+    values: &[Value],
+) -> Result<Option<Faulted<'a>>, AllocError>
+    requires named { IsNamed view.now values.now }
+    requires stop { IsStopIn view.now values.now stop }
+    ensures place { IfOk result (λ o. IfSome o (λ f. f.place ≡ place)) }
+    ensures fault { IfOk result (λ o. IfSome o
+        (λ f. HasNoValue (environment_of view.now values.now) (faulty_part_found f))) }
+{
+    match stop {
+        Stop::Passed | Stop::Unknown => Ok(None),
+        Stop::At(part) => Ok(Some(faulted_part(alloc, place, part, view, values)?)),
+    }
+}
+
+/// A part that has no value, with the values of its names.
+fn faulted_part<'a>(
+    alloc: Global,
+    place: Place,
+    part: &'a Checked,
+    view: &View,
+    values: &[Value],
+) -> Result<Faulted<'a>, AllocError>
+    requires named { IsNamed view.now values.now }
+    requires faulty { IsFaultyIn view.now values.now (term_of part.now) }
+    ensures place { IfOk result (λ f. f.place ≡ place) }
+    ensures fault { IfOk result (λ f. HasNoValue (environment_of view.now values.now) (faulty_part_found f)) }
+{
+    let mut read = Vec::new(alloc);
+    read_values(alloc, part, &view.env(values), &mut read)?;
+    Ok(Faulted {
+        place,
+        part,
+        values: read,
+    })
+}
