@@ -13,6 +13,7 @@ pub mod SoundScripts
 pub mod SoundInvariants
 pub mod DeclaredInvariants
 pub mod SoundSystems
+pub mod FromDeclarations
 pub mod CompleteTypes
 pub mod CompleteNodes
 pub mod CompleteChannels

@@ -9,4 +9,5 @@ pub mod Channels
 pub mod Scripts
 pub mod Checking
 pub mod PlacedView
+pub mod DeclaredParts
 pub mod Systems

@@ -14,7 +14,7 @@ ghost use Rattle.ioa_check.specs.PlacedView.{placed_of};
 ghost use Rattle.ioa_check.specs.Systems.{IsSystemOf, SaysNoSystem};
 
 use crate::channels::{channels_of, check_channels};
-use crate::declarations::{automata_of, names_of, types_of};
+use crate::checked::CheckedDeclarations;
 use crate::fault::{CheckFault, fault_at};
 use crate::invariants::invariants_of;
 use crate::nodes::{Ground, nodes_of, programs_of};
@@ -24,9 +24,8 @@ use ioa_invariants::Section;
 use ioa_names::{NameTable, View};
 use ioa_sort_rules::Refusal;
 use ioa_source::{Invariant, Placement, Text};
-use ioa_system::{CompiledAutomaton, System};
+use ioa_system::System;
 use ioa_terms::Names;
-use ioa_types::TextTypes;
 use std::alloc::{AllocError, Global};
 use std::sync::Arc;
 
@@ -44,59 +43,51 @@ pub fn check(alloc: Global, text: &Text<(), (), ()>) -> Result<System, CheckFaul
 }
 
 /// The system that the tree of a source describes.
-#[tactic(auto, unfolding(crate::specs::Checking::system_of))]
 fn find_system(alloc: Global, text: &Text<(), (), ()>) -> Result<System, CheckFault>
     ensures { Answers CheckFault.Memory (λ s. s) result (spec.system_of (text_of text.now)) }
 {
-    let types = types_of(alloc, &text.declarations)?;
-    let constants = Arc::new(alloc, names_of(alloc, types.constants().words())?)?;
-    let automata = automata_of(alloc, &types, &constants, &text.declarations)?;
-    let section = text.declarations.len();
-    check_parts(alloc, &types, &constants, &automata, section, text)
+    match CheckedDeclarations::of(alloc, &text.declarations) {
+        Ok(declared) => check_parts(alloc, &declared, text.declarations.len(), text),
+        Err(fault) => Err(fault),
+    }
 }
 
-/// The system of a text of these types and automata, whose system section has this index.
+/// The system of a text of these declarations, whose system section has this index.
 #[tactic(auto, unfolding(crate::specs::Checking::parts_at))]
 fn check_parts(
     alloc: Global,
-    types: &TextTypes,
-    constants: &Arc<Names>,
-    automata: &Vec<Arc<CompiledAutomaton>>,
+    declared: &CheckedDeclarations,
     index: usize,
     text: &Text<(), (), ()>,
 ) -> Result<System, CheckFault>
-    requires named { arc_value constants.now ≡ words types.now.constants }
-    requires grounded { AreGrounded types.now.constants (map arc_value automata.now.items) }
-    ensures { Answers CheckFault.Memory (λ s. s) result (spec.parts_at types.now.constants
-        (map arc_value automata.now.items) index (text_of text.now)) }
+    ensures { Answers CheckFault.Memory (λ s. s) result (spec.parts_at declared.now.types.constants
+        declared.now.automata index (text_of text.now)) }
 {
-    let placed = section_in_declaration(alloc, types, constants, automata, index, &text.system)?;
+    let placed = section_in_declaration(alloc, declared, index, &text.system)?;
     let first = index.checked_add(1).ok_or(AllocError)?;
     with_invariants(
         alloc,
-        types.constants(),
-        constants,
+        declared.types().constants(),
+        declared.constants(),
         placed,
         first,
         &text.invariants,
     )
 }
 
-/// What the system section of an index places, in a text of these types and automata. A fault tells the index.
+/// What the system section of an index places, in a text of these declarations. A fault tells the index.
 fn section_in_declaration(
     alloc: Global,
-    types: &TextTypes,
-    constants: &Arc<Names>,
-    automata: &Vec<Arc<CompiledAutomaton>>,
+    declared: &CheckedDeclarations,
     index: usize,
     placements: &Vec<Placement<(), (), ()>>,
 ) -> Result<Placed, CheckFault>
-    requires named { arc_value constants.now ≡ words types.now.constants }
-    requires grounded { AreGrounded types.now.constants (map arc_value automata.now.items) }
-    ensures { Answers CheckFault.Memory placed_of result (in_declaration index (spec.placed_at types.now.constants
-        (map arc_value automata.now.items) (map placement_of placements.now.items))) }
+    ensures placed { Answers CheckFault.Memory placed_of result (in_declaration index (spec.placed_at
+        declared.now.types.constants declared.now.automata (map placement_of placements.now.items))) }
+    ensures declared { IfOk result
+        (λ s. AreDeclaredParts declared.now.types.constants (map arc_value s.programs.items)) }
 {
-    match check_section(alloc, types, constants, automata, placements) {
+    match check_section(alloc, declared, placements) {
         Ok(placed) => Ok(placed),
         Err(refusal) => Err(fault_at(index, refusal)),
     }
@@ -133,26 +124,25 @@ fn with_invariants(
     Ok(System::new(constants, programs, channels, scripts, found))
 }
 
-/// What a system section places, in a text of these types and automata.
-fn check_section(
+/// What a system section places, in a text of these declarations.
+pub(crate) fn check_section(
     alloc: Global,
-    types: &TextTypes,
-    constants: &Arc<Names>,
-    automata: &Vec<Arc<CompiledAutomaton>>,
+    declared: &CheckedDeclarations,
     placements: &Vec<Placement<(), (), ()>>,
 ) -> Result<Placed, Refusal>
-    requires named { arc_value constants.now ≡ words types.now.constants }
-    requires grounded { AreGrounded types.now.constants (map arc_value automata.now.items) }
-    ensures { Answers Refusal.Memory placed_of result (spec.placed_at types.now.constants
-        (map arc_value automata.now.items) (map placement_of placements.now.items)) }
+    ensures placed { Answers Refusal.Memory placed_of result (spec.placed_at declared.now.types.constants
+        declared.now.automata (map placement_of placements.now.items)) }
+    ensures declared { IfOk result
+        (λ s. AreDeclaredParts declared.now.types.constants (map arc_value s.programs.items)) }
 {
     let none = NameTable::new(alloc);
-    types.constants().words_law();
-    let view = View::new(&none, &none, types.constants())?;
+    let constants = declared.types().constants();
+    constants.words_law();
+    let view = View::new(&none, &none, constants)?;
     let ground = Ground {
         view: &view,
-        constants,
-        automata,
+        constants: declared.constants(),
+        automata: declared.automata(),
     };
     check_placements(alloc, &ground, placements)
 }
@@ -166,8 +156,9 @@ fn check_placements(
 ) -> Result<Placed, Refusal>
     requires named { AreConstantsOf ground.now.view.now (arc_value ground.now.constants.now) }
     requires grounded { AreGrounded ground.now.view.now (map arc_value ground.now.automata.now.items) }
-    ensures { Answers Refusal.Memory placed_of result (spec.placed_at ground.now.view.now
+    ensures placed { Answers Refusal.Memory placed_of result (spec.placed_at ground.now.view.now
         (map arc_value ground.now.automata.now.items) (map placement_of placements.now.items)) }
+    ensures declared { IfOk result (λ s. AreDeclaredParts ground.now.view.now (map arc_value s.programs.items)) }
 {
     let nodes = nodes_of(alloc, placements)?;
     let channels = channels_of(alloc, placements)?;

@@ -9,6 +9,7 @@
 #![tactic(auto)]
 
 mod channels;
+mod checked;
 mod checking;
 mod declarations;
 mod fault;
@@ -20,6 +21,7 @@ mod scripts;
 mod values;
 
 pub use channels::MOST_CHANNELS;
+pub use checked::CheckedDeclarations;
 pub use checking::check;
 pub use fault::CheckFault;
 pub use laws::check_law;

@@ -1,0 +1,107 @@
+//! What the declarations of a text describe.
+
+ghost use Rattle.std.specs.Prelude.{◌≡◌, map};
+ghost use Rattle.std.specs.Arc.{arc_value};
+ghost use Rattle.ioa_values.specs.Outcome.{Answers};
+ghost use Rattle.ioa_source.specs.TextView.{declaration_of, placement_of};
+ghost use Rattle.ioa_names.specs.NameTables.{words};
+ghost use Rattle.ioa_check.specs.DeclaredParts as spec;
+ghost use Rattle.ioa_check.specs.Grounds.{AreGrounded};
+
+use crate::checking::check_section;
+use crate::declarations::{automata_of, names_of, types_of};
+use crate::fault::CheckFault;
+use ioa_sort_rules::Refusal;
+use ioa_source::{Declaration, Placement};
+use ioa_system::CompiledAutomaton;
+use ioa_terms::Names;
+use ioa_types::TextTypes;
+use std::alloc::Global;
+use std::marker::Model;
+use std::sync::Arc;
+
+/// What the declarations of a text describe: its types, its constants and its automata, checked. It is made once, and
+/// any number of system sections can be asked over it.
+#[derive(Drop)]
+pub struct CheckedDeclarations {
+    types: TextTypes,
+    constants: Arc<Names>,
+    automata: Vec<Arc<CompiledAutomaton>>,
+}
+
+impl Model for CheckedDeclarations {
+    ghost use Rattle.std.specs.Prelude.{◌≡◌, map};
+    ghost use Rattle.std.specs.Arc.{arc_value};
+    ghost use Rattle.ioa_names.specs.NameTables.{words};
+    ghost use Rattle.ioa_check.specs.DeclaredParts.{DeclaredParts, declared_code, declared_parts};
+    ghost use Rattle.ioa_check.specs.Grounds.{AreGrounded};
+
+    ghost Value = { DeclaredParts };
+
+    ghost coded = { declared_code };
+
+    ghost view = { λ d. declared_parts d.types (map arc_value d.automata.items) };
+
+    ghost invariant = { λ d. (arc_value d.constants ≡ words d.types.constants)
+        × AreGrounded d.types.constants (map arc_value d.automata.items) };
+}
+
+impl CheckedDeclarations {
+    /// Checks the declarations of a text, as `check` does. A refusal is the first that `check` finds in them, with the
+    /// index of its declaration.
+    #[tactic(auto, unfolding(crate::specs::DeclaredParts::declared_at))]
+    pub fn of(
+        alloc: Global,
+        declarations: &Vec<Declaration<(), (), ()>>,
+    ) -> Result<Self, CheckFault>
+        ensures { Answers CheckFault.Memory (λ d. d) result
+            (spec.declared_at (map declaration_of declarations.now.items)) }
+    {
+        let types = types_of(alloc, declarations)?;
+        let constants = Arc::new(alloc, names_of(alloc, types.constants().words())?)?;
+        let automata = automata_of(alloc, &types, &constants, declarations)?;
+        Ok(CheckedDeclarations {
+            types,
+            constants,
+            automata,
+        })
+    }
+
+    /// The types, with the constants of their enumerations.
+    pub(crate) fn types(&self) -> &TextTypes
+        ensures { result.now ≡ self.now.types }
+    {
+        &self.types
+    }
+
+    /// The names of the constants.
+    pub(crate) fn constants(&self) -> &Arc<Names>
+        ensures { arc_value result.now ≡ words self.now.types.constants }
+    {
+        &self.constants
+    }
+
+    /// The automata, in the order of their declaration.
+    pub(crate) fn automata(&self) -> &Vec<Arc<CompiledAutomaton>>
+        ensures automata { map arc_value result.now.items ≡ self.now.automata }
+        ensures grounded { AreGrounded self.now.types.constants self.now.automata }
+    {
+        &self.automata
+    }
+
+    /// Passes if a system section places something over these declarations, as `check` asks for. Else the refusal that
+    /// `check` gives for it. Costs time in proportion to the section and to the values that it gives.
+    #[tactic(auto, unfolding(crate::specs::DeclaredParts::section_at))]
+    pub fn check_section(
+        &self,
+        alloc: Global,
+        placements: &Vec<Placement<(), (), ()>>,
+    ) -> Result<(), Refusal>
+        ensures { Answers Refusal.Memory (λ x. x) result
+            (spec.section_at self.now (map placement_of placements.now.items)) }
+    {
+        let placed = check_section(alloc, self, placements)?;
+        drop(placed);
+        Ok(())
+    }
+}
