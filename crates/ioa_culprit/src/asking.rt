@@ -5,11 +5,11 @@ ghost use Rattle.ioa_terms.specs.View.{term_of};
 ghost use Rattle.ioa_sorts.specs.Sorting.{fit, infer, sorting};
 ghost use Rattle.ioa_sort_rules.specs.declared.refusal.Refusal.TheVariants.{Memory};
 
+use crate::cut::Cut;
 use crate::halt::{Halt, bare, found, halt_of};
 use crate::section::automaton_of;
-use crate::shortened::{Cut, InvariantText};
 use crate::unknown::{Sought, unknown_words};
-use crate::words::{count_words, misfit_words, sorts_words};
+use crate::words::{count_words, misfit_words, queue_words, sorts_words};
 use ioa_names::{NameTable, View};
 use ioa_sort_rules::{Refusal, shape_in_terms};
 use ioa_sorts::{fit, infer};
@@ -18,6 +18,9 @@ use ioa_terms::{Name, Shape, Term, Word};
 use ioa_types::Types;
 use ioa_walk::Part;
 use std::alloc::{AllocError, Global};
+
+/// What stands before the numbers of two nodes where an invariant reads a queue.
+const QUEUE: &str = "queue";
 
 /// A refused text: its tokens and its tree.
 #[derive(Clone, Copy)]
@@ -49,8 +52,8 @@ pub(crate) enum Way<'a> {
     Passed,
     /// By the sorts of terms that read these names.
     Names(&'a View<'a>),
-    /// By the check of the text in which an invariant says that a term equals itself.
-    Invariant(&'a InvariantText<'a>),
+    /// The same in an invariant, where `queue` stands before the numbers of two nodes.
+    Readings(&'a View<'a>),
 }
 
 /// What is looked for in terms.
@@ -72,6 +75,16 @@ impl<'a> Ask<'a> {
             alloc: self.alloc,
             told: self.told,
             way: Way::Names(view),
+            whole: self.whole,
+        }
+    }
+
+    /// What is looked for in an invariant that reads these names.
+    pub(crate) fn in_readings<'b>(&self, view: &'b View<'b>) -> TermAsk<'b, 'a> {
+        TermAsk {
+            alloc: self.alloc,
+            told: self.told,
+            way: Way::Readings(view),
             whole: self.whole,
         }
     }
@@ -201,28 +214,26 @@ fn is_refused_at(
     }
 }
 
-/// Whether an invariant is refused as was told that says that the term of a part equals itself. A display has no sort
-/// of its own, and is not asked.
-fn refuses_invariant(
-    alloc: Global,
-    text: &InvariantText<'_>,
-    term: &Term,
-    part: Part,
-    told: Refusal,
-) -> Result<bool, AllocError> {
+/// Whether a term calls `queue`: with two numbers it is a name, and no call.
+fn is_call_of_queue(term: &Term) -> bool {
     match term {
-        Term::Display(_, _, _) => Ok(false),
-        _ => text.refuses(alloc, part, told),
+        Term::Call(function, _, _) => function.as_str() == QUEUE,
+        _ => false,
     }
 }
 
 impl<'a, 'w> TermAsk<'a, 'w> {
-    /// Whether a term that stands for itself is refused as was told. It has this part.
-    pub(crate) fn refuses(&self, term: &Term, part: Part) -> Result<bool, AllocError> {
+    /// Whether a term that stands for itself is refused as was told.
+    pub(crate) fn refuses(&self, term: &Term) -> Result<bool, AllocError> {
         match self.way {
             Way::Passed => Ok(false),
             Way::Names(view) => is_refused(self.alloc, view, term, self.told),
-            Way::Invariant(text) => refuses_invariant(self.alloc, text, term, part, self.told),
+            Way::Readings(view) => {
+                if self.told == Refusal::Sorts && is_call_of_queue(term) {
+                    return Ok(true);
+                }
+                is_refused(self.alloc, view, term, self.told)
+            }
         }
     }
 
@@ -230,8 +241,9 @@ impl<'a, 'w> TermAsk<'a, 'w> {
     pub(crate) fn refuses_at(&self, term: &Term, want: &Shape) -> Result<bool, AllocError> {
         match self.way {
             Way::Passed => Ok(false),
-            Way::Names(view) => is_refused_at(self.alloc, view, term, want, self.told),
-            Way::Invariant(_) => Ok(false),
+            Way::Names(view) | Way::Readings(view) => {
+                is_refused_at(self.alloc, view, term, want, self.told)
+            }
         }
     }
 
@@ -248,16 +260,23 @@ impl<'a, 'w> TermAsk<'a, 'w> {
     /// What is said of a term that is refused as was told.
     pub(crate) fn words_of(&self, term: &Term) -> Result<Vec<u8>, AllocError> {
         match self.way {
-            Way::Names(view) => match self.told {
-                Refusal::Unknown => self.unknown_in(term, Sought::View(view)),
-                Refusal::Sorts => sorts_words(self.alloc, view, term),
-                _ => Ok(Vec::new(self.alloc)),
-            },
-            Way::Invariant(_) => match self.told {
-                Refusal::Unknown => self.unknown_in(term, Sought::Nothing),
-                _ => Ok(Vec::new(self.alloc)),
-            },
+            Way::Names(view) => self.words_in(view, term),
+            Way::Readings(view) => {
+                if is_call_of_queue(term) {
+                    return queue_words(self.alloc);
+                }
+                self.words_in(view, term)
+            }
             Way::Passed => Ok(Vec::new(self.alloc)),
+        }
+    }
+
+    /// What is said of a term that is refused as was told where these names are read.
+    fn words_in(&self, view: &View, term: &Term) -> Result<Vec<u8>, AllocError> {
+        match self.told {
+            Refusal::Unknown => self.unknown_in(term, Sought::View(view)),
+            Refusal::Sorts => sorts_words(self.alloc, view, term),
+            _ => Ok(Vec::new(self.alloc)),
         }
     }
 
@@ -286,7 +305,7 @@ impl<'a, 'w> TermAsk<'a, 'w> {
     /// What is said of a term that is refused as was told at the place of a shape.
     pub(crate) fn words_at(&self, term: &Term, want: &Shape) -> Result<Vec<u8>, AllocError> {
         match self.way {
-            Way::Names(view) if self.told == Refusal::Sorts => {
+            Way::Names(view) | Way::Readings(view) if self.told == Refusal::Sorts => {
                 misfit_words(self.alloc, view, term, want)
             }
             _ => Ok(Vec::new(self.alloc)),

@@ -62,7 +62,7 @@ fn with_inboxes(heading: &Heading<'_>, table: NameTable) -> Result<NameTable, Ha
 }
 
 /// The entry whose actions take messages.
-fn receive_of(entries: &[Entry<(), (), ()>]) -> Option<&Entry<(), (), ()>> {
+pub(crate) fn receive_of(entries: &[Entry<(), (), ()>]) -> Option<&Entry<(), (), ()>> {
     for entry in entries {
         if entry.name.as_str() == RECEIVE {
             return Some(entry);

@@ -7,10 +7,11 @@ ghost use Rattle.ioa_culprit.specs.Cuts.{AreTokensOf};
 
 use crate::asking::{Ask, Whole};
 use crate::automaton::seek_automaton;
+use crate::cut::Cut;
 use crate::halt::{Halt, halt_of};
 use crate::invariant::seek_invariant;
 use crate::section::{Section, seek_section};
-use crate::shortened::Cut;
+use crate::sections::ChecksSections;
 use crate::types::seek_type;
 use ioa_sort_rules::Refusal;
 use ioa_source::{Declaration, Invariant, Text};
@@ -39,14 +40,16 @@ pub struct Search<'a> {
 
 /// Finds the smallest part of a refused declaration that is refused with the same number when it is asked alone, in the
 /// names that are in view there. `source` is the tree of the text, and the check refused it so, in the top declaration
-/// of this index. If no part is found with that number, there is none. Memory if none is left. Costs a few times what
-/// the check costs, and for a fault of the system section or of an invariant some more checks of the text.
-pub fn culprit<'a>(
+/// of this index. If no part is found with that number, there is none. `sections` is asked about parts of the system
+/// section. Memory if none is left. Costs about what the check of the declaration costs, and for a fault of the section
+/// some checks of it.
+pub fn culprit<'a, S: ChecksSections>(
     alloc: Global,
     text: &'a str,
     source: &Text<(), (), ()>,
     index: usize,
     refusal: Refusal,
+    sections: &S,
 ) -> Result<Search<'a>, AllocError>
     ensures found { IfOk result (λ s. IfSome s.spot (λ c. IsSpanIn text.now c.span)) }
     ensures cut { IfOk result (λ s. AreTokensOf text.now s.tokens.items) }
@@ -61,7 +64,7 @@ pub fn culprit<'a>(
             });
         }
     };
-    let spot = spot_among(alloc, text, &located, source, index, refusal)?;
+    let spot = spot_among(alloc, text, &located, source, index, refusal, sections)?;
     Ok(Search {
         spot,
         tokens: located,
@@ -69,19 +72,20 @@ pub fn culprit<'a>(
 }
 
 /// The culprit of a text of these tokens.
-fn spot_among(
+fn spot_among<S: ChecksSections>(
     alloc: Global,
     text: &str,
     tokens: &[LocatedToken<'_>],
     source: &Text<(), (), ()>,
     index: usize,
     refusal: Refusal,
+    sections: &S,
 ) -> Result<Option<Spot>, AllocError>
     requires { cutting.tokens text.now ≡ Ok tokens.now }
     ensures { IfOk result (λ found. IfSome found (λ c. IsSpanIn text.now c.span)) }
 {
     let cut = Cut { text, tokens };
-    match seek(alloc, cut, source, index, refusal) {
+    match seek(alloc, cut, source, index, refusal, sections) {
         Ok(()) => Ok(None),
         Err(Halt::Found(part, words)) => Ok(culprit_at(&cut, part, words)),
         Err(Halt::Lost) => Ok(None),
@@ -170,26 +174,33 @@ fn invariants_before(
 }
 
 /// The walk to the culprit.
-fn seek(
+fn seek<S: ChecksSections>(
     alloc: Global,
     cut: Cut<'_>,
     source: &Text<(), (), ()>,
     index: usize,
     told: Refusal,
+    sections: &S,
 ) -> Result<(), Halt> {
     let whole = Whole { cut, source };
-    seek_in(alloc, &whole, index, told)
+    seek_in(alloc, &whole, index, told, sections)
 }
 
 /// The walk to the culprit of a text.
-fn seek_in(alloc: Global, whole: &Whole<'_>, index: usize, told: Refusal) -> Result<(), Halt> {
+fn seek_in<S: ChecksSections>(
+    alloc: Global,
+    whole: &Whole<'_>,
+    index: usize,
+    told: Refusal,
+    sections: &S,
+) -> Result<(), Halt> {
     let Some(start) = start_of(whole.cut.tokens, index) else {
         return Err(Halt::Lost);
     };
     let mut walk = whole.cut.walk_from(start);
     match whole.source.declarations.get(index) {
         Some(declaration) => seek_declaration(&mut walk, alloc, whole, index, declaration, told),
-        None => seek_behind(&mut walk, alloc, whole, index, told),
+        None => seek_behind(&mut walk, alloc, whole, index, told, sections),
     }
 }
 
@@ -227,38 +238,56 @@ fn ask_of<'a>(alloc: Global, whole: &'a Whole<'a>, types: &'a TextTypes, told: R
 }
 
 /// The walk over the system section or an invariant behind it.
-fn seek_behind(
+fn seek_behind<S: ChecksSections>(
     walk: &mut Walk<'_>,
     alloc: Global,
     whole: &Whole<'_>,
     index: usize,
     told: Refusal,
+    sections: &S,
 ) -> Result<(), Halt> {
     let types = types_of(alloc, &whole.source.declarations)?;
     let ask = ask_of(alloc, whole, &types, told);
-    let section = Section {
-        ask: &ask,
-        cut: whole.cut,
-        source: whole.source,
-        index,
-    };
-    seek_behind_declarations(walk, &section)
+    let behind = index.saturating_sub(whole.source.declarations.len());
+    match behind.checked_sub(1) {
+        None => seek_section_of(walk, &ask, whole, sections),
+        Some(position) => seek_invariant_at(walk, &ask, whole, position),
+    }
 }
 
-/// The walk over the system section, or an invariant behind it, of which all declarations are known.
-fn seek_behind_declarations(walk: &mut Walk<'_>, section: &Section<'_>) -> Result<(), Halt> {
-    let source = section.source;
-    if section.index == source.declarations.len() {
-        return seek_section(walk, section);
-    }
-    let position = section
-        .index
-        .saturating_sub(source.declarations.len().saturating_add(1));
-    match source.invariants.get(position) {
+/// The walk over the system section of a text whose declarations are good.
+fn seek_section_of<S: ChecksSections>(
+    walk: &mut Walk<'_>,
+    ask: &Ask<'_>,
+    whole: &Whole<'_>,
+    sections: &S,
+) -> Result<(), Halt> {
+    let section = Section {
+        ask,
+        cut: whole.cut,
+        source: whole.source,
+        sections,
+    };
+    seek_section(walk, &section)
+}
+
+/// The walk over the invariant at a position, of a text whose system section is good.
+fn seek_invariant_at(
+    walk: &mut Walk<'_>,
+    ask: &Ask<'_>,
+    whole: &Whole<'_>,
+    position: usize,
+) -> Result<(), Halt> {
+    let invariants = &whole.source.invariants;
+    match invariants.get(position) {
         None => Err(Halt::Lost),
         Some(invariant) => {
-            let before = invariants_before(&source.invariants, position);
-            seek_invariant(walk, section, before, invariant)
+            seek_invariant(
+                walk,
+                ask,
+                invariants_before(invariants, position),
+                invariant,
+            )
         }
     }
 }

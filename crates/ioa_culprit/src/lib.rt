@@ -4,12 +4,13 @@
 //!
 //! **A crate of its own**, since the check knows no places, and nothing that runs needs them.
 //!
-//! **Must not know**: the sentences in which a refusal is told, and runs.
+//! **Must not know**: the sentences in which a refusal is told, the check of whole texts, and runs.
 #![tactic(auto)]
 
 mod asking;
 mod automaton;
 mod block;
+mod cut;
 mod declared;
 mod finding;
 mod halt;
@@ -17,10 +18,11 @@ mod heading;
 mod index;
 mod invariant;
 mod near;
+mod readings;
 mod roles;
 mod rules;
 mod section;
-mod shortened;
+mod sections;
 mod statements;
 mod terms;
 mod types;
@@ -29,3 +31,4 @@ mod words;
 
 pub use finding::{Search, Spot, culprit};
 pub use ioa_walk::Span;
+pub use sections::ChecksSections;

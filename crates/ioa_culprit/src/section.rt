@@ -1,20 +1,20 @@
 //! The walk over the system section.
 
 use crate::asking::Ask;
-use crate::automaton::has_automaton;
+use crate::cut::{Cut, blank};
 use crate::halt::{Halt, bare};
 use crate::heading::{Heading, given_of};
 use crate::index::{NameIndex, index_of_entries};
 use crate::rules::shapes_taken;
-use crate::shortened::{Cut, blank, is_refused_so};
+use crate::sections::ChecksSections;
 use crate::terms::pass_each;
 use crate::unknown::Sought;
 use ioa_actions::{RECEIVE, SEND};
-use ioa_check::{MOST_CHANNELS, MOST_NODES};
 use ioa_names::{NameTable, View};
 use ioa_sort_rules::Refusal;
 use ioa_source::{Automaton, Call, Channel, Declaration, Node, Placement, ScriptDeclaration, Text};
 use ioa_terms::{Kind, Shape, Term, Word};
+use ioa_text_reader::{FrontFault, parse};
 use ioa_tokens::Mark;
 use ioa_walk::{Part, Span, Walk, one_token};
 use std::alloc::{AllocError, Global};
@@ -22,25 +22,32 @@ use std::alloc::{AllocError, Global};
 /// The powers of two up to the number of nodes, channels and scripts that a section may have.
 const POWERS: [usize; 9] = [256, 128, 64, 32, 16, 8, 4, 2, 1];
 
-/// A refused system section: the text, its tree, and its index among the top declarations.
-#[derive(Clone, Copy)]
-pub(crate) struct Section<'a> {
+/// A refused system section.
+#[derive(Drop)]
+pub(crate) struct Section<'a, S> {
+    /// What is looked for.
     pub ask: &'a Ask<'a>,
+    /// The text.
     pub cut: Cut<'a>,
+    /// Its tree.
     pub source: &'a Text<(), (), ()>,
-    pub index: usize,
+    /// Who is asked about it.
+    pub sections: &'a S,
 }
 
 /// The walk over a system section.
-pub(crate) fn seek_section(walk: &mut Walk<'_>, section: &Section<'_>) -> Result<(), Halt> {
+pub(crate) fn seek_section<S: ChecksSections>(
+    walk: &mut Walk<'_>,
+    section: &Section<'_, S>,
+) -> Result<(), Halt> {
     let placements = &section.source.system;
     let parts = parts_of(walk, section.ask.alloc, placements)?;
     for position in 0..placements.len().min(parts.len()) {
-        if is_misplaced(
-            section.ask.told,
-            &placements[..position],
-            &placements[position],
-        ) || is_gap(section.ask.told, placements, &placements[position])
+        let (before, placement) = (&placements[..position], &placements[position]);
+        let told = section.ask.told;
+        if is_misplaced(told, before, placement)
+            || is_gap(told, placements, placement)
+            || is_one_too_many(section, before, placement)
         {
             return Err(bare(section.ask.alloc, parts[position]));
         }
@@ -150,7 +157,7 @@ fn is_node_of(placement: &Placement<(), (), ()>, number: i64) -> bool {
 }
 
 /// Whether a channel is one of these.
-fn has_channel(placements: &[Placement<(), (), ()>], channel: &Channel) -> bool {
+pub(crate) fn has_channel(placements: &[Placement<(), (), ()>], channel: &Channel) -> bool {
     for placement in placements {
         match placement {
             Placement::Channel(other) => {
@@ -179,24 +186,36 @@ fn has_script(placements: &[Placement<(), (), ()>], number: i64) -> bool {
     false
 }
 
-/// Whether a placement behind others is refused as was told whatever it places: it is there twice, one too many, or a
-/// channel from a node to itself.
+/// Whether a placement behind others is refused as was told whatever it places: it is there twice, or a channel from a
+/// node to itself.
 fn is_misplaced(
     told: Refusal,
     before: &[Placement<(), (), ()>],
     placement: &Placement<(), (), ()>,
 ) -> bool {
     match placement {
-        Placement::Node(node) => {
-            (told == Refusal::Twice && has_node(before, node.number))
-                || (told == Refusal::Limit && count_of_nodes(before) >= MOST_NODES)
-        }
+        Placement::Node(node) => told == Refusal::Twice && has_node(before, node.number),
         Placement::Channel(channel) => {
             (told == Refusal::Twice && has_channel(before, channel))
                 || (told == Refusal::SelfChannel && channel.from == channel.to)
-                || (told == Refusal::Limit && count_of_channels(before) >= MOST_CHANNELS)
         }
         Placement::Script(script) => told == Refusal::Twice && has_script(before, script.node),
+    }
+}
+
+/// Whether a placement behind others is one too many, and that was told.
+fn is_one_too_many<S: ChecksSections>(
+    section: &Section<'_, S>,
+    before: &[Placement<(), (), ()>],
+    placement: &Placement<(), (), ()>,
+) -> bool {
+    if section.ask.told != Refusal::Limit {
+        return false;
+    }
+    match placement {
+        Placement::Node(_) => count_of_nodes(before) >= section.sections.most_nodes(),
+        Placement::Channel(_) => count_of_channels(before) >= section.sections.most_channels(),
+        Placement::Script(_) => false,
     }
 }
 
@@ -224,12 +243,29 @@ fn is_below(number: i64, count: usize) -> bool {
 
 /// The walk to the first node, channel or script, in the order of the check, that is refused as was told together with
 /// those before it.
-fn seek_refused(section: &Section<'_>, parts: &Vec<Part>) -> Result<(), Halt> {
+fn seek_refused<S: ChecksSections>(
+    section: &Section<'_, S>,
+    parts: &Vec<Part>,
+) -> Result<(), Halt> {
     let order = order_of(section.ask.alloc, &section.source.system)?;
+    match span_of_section(section) {
+        None => Err(Halt::Lost),
+        Some(span) => seek_first(section, parts, &order, span),
+    }
+}
+
+/// The walk to the first placement of this order that is refused as was told together with those before it, in a
+/// section that has this place.
+fn seek_first<S: ChecksSections>(
+    section: &Section<'_, S>,
+    parts: &Vec<Part>,
+    order: &Vec<usize>,
+    span: Span,
+) -> Result<(), Halt> {
     let mut good: usize = 0;
     for power in POWERS {
         let more = good.saturating_add(power);
-        if more <= order.len() && !is_refused_with(section, parts, &order, more)? {
+        if more <= order.len() && !is_refused_with(section, parts, order, span, more)? {
             good = more;
         }
     }
@@ -240,7 +276,11 @@ fn seek_refused(section: &Section<'_>, parts: &Vec<Part>) -> Result<(), Halt> {
 }
 
 /// The walk over the placement at a position, which is refused.
-fn seek_at(section: &Section<'_>, parts: &Vec<Part>, position: usize) -> Result<(), Halt> {
+fn seek_at<S: ChecksSections>(
+    section: &Section<'_, S>,
+    parts: &Vec<Part>,
+    position: usize,
+) -> Result<(), Halt> {
     let Some(part) = parts.get(position) else {
         return Err(Halt::Lost);
     };
@@ -288,53 +328,87 @@ fn position_of_node(placements: &[Placement<(), (), ()>], number: usize) -> Opti
     None
 }
 
-/// Whether the text is refused as was told with the first nodes, channels and scripts alone, so many of this order, and
-/// with no invariants.
-fn is_refused_with(
-    section: &Section<'_>,
+/// Whether the section that has this place is refused as was told with the first nodes, channels and scripts alone, so
+/// many of this order.
+fn is_refused_with<S: ChecksSections>(
+    section: &Section<'_, S>,
     parts: &Vec<Part>,
     order: &Vec<usize>,
+    span: Span,
     count: usize,
 ) -> Result<bool, AllocError> {
-    let alloc = section.ask.alloc;
-    let mut bytes = Vec::new(alloc);
-    bytes.extend_from_slice(section.cut.text.as_bytes())?;
+    let mut bytes = Vec::new(section.ask.alloc);
+    let text = section.cut.text.as_bytes();
+    bytes.extend_from_slice(text.get(span.offset..span.end).unwrap_or(&[]))?;
     for position in order.iter().skip(count) {
-        leave_out(&mut bytes, section, parts, *position);
+        leave_out(&mut bytes, section, parts, *position, span.offset);
     }
-    leave_out_invariants(&mut bytes, section);
-    is_refused_so(alloc, bytes, section.index, section.ask.told)
+    match String::from_utf8(bytes) {
+        Ok(text) => is_refused_so(section, text.as_str()),
+        Err(_) => Ok(false),
+    }
 }
 
-/// Puts spaces in the place of a part.
-fn leave_out(bytes: &mut Vec<u8>, section: &Section<'_>, parts: &Vec<Part>, position: usize) {
+/// The place of the section, from its first word to the first invariant, or to the end of the text.
+fn span_of_section<S: ChecksSections>(section: &Section<'_, S>) -> Option<Span> {
+    let mut walk = section.cut.walk_from(0);
+    let first = walk.mark(Mark::System).ok()?;
+    let offset = section.cut.span(one_token(first))?.offset;
+    let end = match walk.mark(Mark::Invariant) {
+        Ok(behind) => section.cut.span(one_token(behind))?.offset,
+        Err(_) => section.cut.text.len(),
+    };
+    Some(Span { offset, end })
+}
+
+/// Puts spaces in the place of a part of a section that begins at an offset.
+fn leave_out<S: ChecksSections>(
+    bytes: &mut Vec<u8>,
+    section: &Section<'_, S>,
+    parts: &Vec<Part>,
+    position: usize,
+    start: usize,
+) {
     if let Some(part) = parts.get(position) {
         if let Some(span) = section.cut.span(*part) {
-            blank(bytes, span);
+            let offset = span.offset.saturating_sub(start);
+            let end = span.end.saturating_sub(start);
+            blank(bytes, Span { offset, end });
         }
     }
 }
 
-/// Puts spaces in the place of the invariants.
-fn leave_out_invariants(bytes: &mut Vec<u8>, section: &Section<'_>) {
-    let end = bytes.len();
-    if let Ok(first) = section.cut.walk_from(0).mark(Mark::Invariant) {
-        if let Some(span) = section.cut.span(one_token(first)) {
-            blank(
-                bytes,
-                Span {
-                    offset: span.offset,
-                    end,
-                },
-            );
-        }
+/// Whether the system section that a text spells is refused as was told.
+fn is_refused_so<S: ChecksSections>(
+    section: &Section<'_, S>,
+    text: &str,
+) -> Result<bool, AllocError> {
+    match parse(section.ask.alloc, text) {
+        Err(FrontFault::Memory) => Err(AllocError),
+        Err(_) => Ok(false),
+        Ok(source) => refuses(section, &source.text().system),
+    }
+}
+
+/// Whether a section of these nodes, channels and scripts is refused as was told.
+fn refuses<S: ChecksSections>(
+    section: &Section<'_, S>,
+    placements: &Vec<Placement<(), (), ()>>,
+) -> Result<bool, AllocError> {
+    match section
+        .sections
+        .check_section(section.ask.alloc, placements)
+    {
+        Ok(()) => Ok(false),
+        Err(Refusal::Memory) => Err(AllocError),
+        Err(refusal) => Ok(refusal == section.ask.told),
     }
 }
 
 /// The walk over a node, a channel or a script that is refused.
-fn seek_placement(
+fn seek_placement<S: ChecksSections>(
     walk: &mut Walk<'_>,
-    section: &Section<'_>,
+    section: &Section<'_, S>,
     placement: &Placement<(), (), ()>,
 ) -> Result<(), Halt> {
     match placement {
@@ -391,9 +465,9 @@ fn seek_given(
 }
 
 /// The walk over a node.
-fn seek_node(
+fn seek_node<S: ChecksSections>(
     walk: &mut Walk<'_>,
-    section: &Section<'_>,
+    section: &Section<'_, S>,
     node: &Node<(), (), ()>,
 ) -> Result<(), Halt> {
     let _number = walk.number(node.number)?;
@@ -420,7 +494,11 @@ fn seek_node(
 }
 
 /// The walk over a channel.
-fn seek_channel(walk: &mut Walk<'_>, section: &Section<'_>, channel: &Channel) -> Result<(), Halt> {
+fn seek_channel<S: ChecksSections>(
+    walk: &mut Walk<'_>,
+    section: &Section<'_, S>,
+    channel: &Channel,
+) -> Result<(), Halt> {
     let from = walk.number(channel.from)?;
     let to = walk.number(channel.to)?;
     if !has_node(&section.source.system, channel.from) {
@@ -451,9 +529,9 @@ pub(crate) fn automaton_of<'a>(
 }
 
 /// The walk over a script.
-fn seek_script(
+fn seek_script<S: ChecksSections>(
     walk: &mut Walk<'_>,
-    section: &Section<'_>,
+    section: &Section<'_, S>,
     script: &ScriptDeclaration<(), (), ()>,
 ) -> Result<(), Halt> {
     let number = walk.number(script.node)?;

@@ -104,7 +104,7 @@ pub(crate) fn pass_term(
             joined(a, one_token(name))
         }
     };
-    if asked.refuses(term, part)? {
+    if asked.refuses(term)? {
         return Err(found(part, asked.words_of(term)));
     }
     Ok(part)
@@ -132,7 +132,7 @@ pub(crate) fn pass_own(
 ) -> Result<Part, Halt> {
     let mut inner = *walk;
     let part = pass_term(walk, &asked.in_passing(), term)?;
-    if asked.refuses(term, part)? {
+    if asked.refuses(term)? {
         let _part = pass_term(&mut inner, asked, term)?;
     }
     match term {

@@ -39,15 +39,13 @@ pub(crate) enum Sought<'a> {
     States(&'a [Variable<(), (), ()>]),
     /// The functions that terms call.
     Functions,
-    /// None that could be told.
-    Nothing,
 }
 
 impl<'a> Sought<'a> {
     /// What a name would be that is found.
     fn what(self) -> &'static str {
         match self {
-            Sought::View(_) | Sought::Nothing => "in view here",
+            Sought::View(_) => "in view here",
             Sought::Variables(_, _) => "a variable that is assigned here",
             Sought::Entries(_) => "an action of this automaton",
             Sought::Types(_) => "a type that is declared before",
@@ -66,7 +64,7 @@ impl<'a> Sought<'a> {
             Sought::Types(types) => is_type(alloc, types, name),
             Sought::Automata(declarations) => Ok(has_automaton(declarations, name)),
             Sought::States(variables) => Ok(is_variable(variables, name)),
-            Sought::Functions | Sought::Nothing => Ok(false),
+            Sought::Functions => Ok(false),
         }
     }
 }
@@ -117,7 +115,6 @@ fn push_near(
 ) -> Result<(), AllocError> {
     match sought {
         Sought::Functions => push_functions(words, name),
-        Sought::Nothing => Ok(()),
         _ => {
             let near = near_names(alloc, tokens, sought, name)?;
             push_names(words, &near)

@@ -134,6 +134,13 @@ pub(crate) fn misfit_words(
     asked_words(alloc, &asked, &found)
 }
 
+/// What is said of a call of `queue`.
+pub(crate) fn queue_words(alloc: Global) -> Result<Vec<u8>, AllocError> {
+    let mut words = Vec::new(alloc);
+    words.extend_from_slice(b"`queue` takes the numbers of two nodes")?;
+    Ok(words)
+}
+
 /// What is said of a term whose parts have other sorts than it takes.
 pub(crate) fn sorts_words(alloc: Global, view: &View, term: &Term) -> Result<Vec<u8>, AllocError> {
     match term {

@@ -16,6 +16,7 @@ mod kinds;
 mod page;
 mod reading;
 mod refused;
+mod sections;
 mod sentences;
 mod units;
 mod verdict;

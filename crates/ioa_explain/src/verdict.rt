@@ -6,6 +6,7 @@ ghost use Rattle.ioa_source.specs.TextView.{text_of};
 ghost use Rattle.ioa_explain.specs.Verdicts.{IsFaultOf, IsVerdictOf, IsVerdictOn, SaysWhether, unread_verdict};
 ghost use Rattle.ioa_explain.specs.Verdicts.{HasTokens};
 
+use crate::sections::Sections;
 use ioa_check::{CheckFault, check};
 use ioa_culprit::{Search, Span, Spot, culprit};
 use ioa_sort_rules::Refusal;
@@ -113,7 +114,8 @@ fn refused<'a>(
     match fault {
         CheckFault::Memory => Err(AllocError),
         CheckFault::Refused { refusal, index } => {
-            let found = culprit(alloc, text, source.text(), index, refusal)?;
+            let sections = Sections::of(alloc, source.text(), index)?;
+            let found = culprit(alloc, text, source.text(), index, refusal, &sections)?;
             Ok(refused_in(alloc, refusal, index, found))
         }
     }
