@@ -12,7 +12,7 @@ use Rattle.ioa_compose.specs.declared.configuration.Conf.{Conf}
 use Rattle.ioa_transitions.specs.Entries.{PlainEntry, entry_of}
 use Rattle.ioa_paper.specs.Papers.{Ended, PlainPaper, and_text}
 use Rattle.ioa_show.specs.Shown.{Continues}
-use Rattle.ioa_tell.specs.Events.{PlainEvent, taken, missed, faulted, stuck, idle, stopped, ended}
+use Rattle.ioa_tell.specs.Events.{PlainEvent, taken, missed, faulted, unfit, stuck, idle, stopped, ended}
 use Rattle.ioa_tell.specs.Told.{AreHeard, TellsRun, endings_told}
 use Rattle.ioa_tell.specs.declared.fault.TellFault.{TellFault}
 use Rattle.ioa_tell.specs.declared.fault.TellFault.TheVariants as tell
@@ -44,8 +44,9 @@ event_kept : (e : PlainEvent) (t : PlainTeller) → Continues t.paper (teller_af
 event_kept (taken k e before after queue) t = waiting_kept t.names (find (is_of (node_of e.action)) t.waiting) t.paper
 event_kept (missed k a r) t =
     other_kept t.names (Missed (entry_of a) (why_of t.names r)) (find (is_of (node_of a)) t.waiting) t.paper
-event_kept (faulted k a place u vs) t = waiting_kept t.names (find (is_of (node_of a)) t.waiting) t.paper
-event_kept (stuck k n place u vs) t = waiting_kept t.names (find (is_of n) t.waiting) t.paper
+event_kept (faulted k a place f) t = waiting_kept t.names (find (is_of (node_of a)) t.waiting) t.paper
+event_kept (unfit k a w v) t = waiting_kept t.names (find (is_of (node_of a)) t.waiting) t.paper
+event_kept (stuck k n place f) t = waiting_kept t.names (find (is_of n) t.waiting) t.paper
 event_kept (idle k n) t = other_kept t.names Idle (find (is_of n) t.waiting) t.paper
 event_kept (stopped k n) t = waiting_kept t.names (find (is_of n) t.waiting) t.paper
 event_kept (ended n e) t = (refl, refl)

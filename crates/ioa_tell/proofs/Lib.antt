@@ -2,7 +2,9 @@
 pub mod FalseParts
 pub mod FaultParts
 pub mod FaultyTerms
+pub mod FieldShapes
 pub mod Firsts
 pub mod Taking
 pub mod Tellings
+pub mod UnfitFound
 pub mod Viewed

@@ -6,8 +6,6 @@ use Rattle.std.specs.Option.{option_map}
 use Rattle.std.specs.Ordering.{int_eq}
 use Rattle.ioa_values.specs.Data.{Data}
 use Rattle.ioa_values.specs.Outcome.{and_then}
-use Rattle.ioa_terms.specs.declared.name.Name.{Name}
-use Rattle.ioa_source.specs.Sides.{CheckedTerm}
 use Rattle.ioa_actions.specs.ActionParts.{node_of}
 use Rattle.ioa_actions.specs.declared.action.Action.{Action}
 use Rattle.ioa_actions.specs.declared.action.Action.TheVariants.{Send, Receive, Local, Stimulus}
@@ -28,12 +26,12 @@ use Rattle.ioa_book.specs.Proposals.{find_read, proposal_answer, reads_at, reads
 use Rattle.ioa_compose.proofs.Picks.{picks_of-entry}
 use Rattle.ioa_book.proofs.FoundReads.{found_conf}
 use Rattle.ioa_book.proofs.FreshLooks.{conf_seen, fresh_proposal}
-use Rattle.ioa_tell.specs.Events.{PlainEvent, PlainReason, taken}
-use Rattle.ioa_tell.specs.Faulted.{IsFaultTold}
+use Rattle.ioa_tell.specs.Events.{PlainEvent, PlainFault, PlainPlace, PlainReason, taken}
+use Rattle.ioa_tell.specs.Faulted.{IsFaulted}
 use Rattle.ioa_tell.specs.Reasons.{IsReason}
 use Rattle.ioa_tell.specs.Steps.{HearsTaken, IsNext}
 use Rattle.ioa_tell.specs.Tests.{IsNodeReason}
-use Rattle.ioa_tell.specs.declared.event.Place.{Place}
+use Rattle.ioa_tell.specs.Unfit.{IsUnfit}
 use Rattle.ioa_tell.specs.Told.{IsMissedIn, IsTakenFrom, TellsOn, queue_among}
 
 -- the configuration of what was read is the one that is found
@@ -130,14 +128,21 @@ missed_in b a s r fresh h of_queue of_node = record {
     by_changes (Ok ds) e = absurd (cc)
     by_changes (Err f) e = let same : f ≡ NotEnabled = cc in ap (λ (g : StepFault). Err g) same
 
--- a step that met a fault on a look at the book as it is, met it in the configurations held
-pub faulted_in : (b : PlainBook) (a : Action) (s : PlainSnapshot) (place : Place) (t : CheckedTerm) (vs : List (Name × Data)) → IsLookAt b s.node s → node_of a ≡ s.node →
-    IsFaultTold (find_conf (component.Node (node_of a)) (read_confs s.reads)) a place t vs → IsFaultTold (find_conf (component.Node (node_of a)) (states_held b)) a place t vs
-faulted_in b a s place t vs fresh own h =
+-- the node of an action is on a look at the book as it is what it is in the configurations held
+own_seen : (b : PlainBook) (a : Action) (s : PlainSnapshot) → IsLookAt b s.node s → node_of a ≡ s.node → find_conf (component.Node (node_of a)) (read_confs s.reads) ≡ find_conf (component.Node (node_of a)) (states_held b)
+own_seen b a s fresh own =
     let now : s ≡ snapshot_after (node_of a) b.start b.log = fresh ∙ ap (λ (n : ℤ). snapshot_after n b.start b.log) (sym own) in
-    let seen : find_conf (component.Node (node_of a)) (read_confs s.reads) ≡ find_conf (component.Node (node_of a)) (states_held b) =
-    ap (λ (r : PlainSnapshot). find_conf (component.Node (node_of a)) (read_confs r.reads)) now ∙ node_seen b (node_of a) in
-    subst (λ (o : Option Conf). IsFaultTold o a place t vs) seen h
+    ap (λ (r : PlainSnapshot). find_conf (component.Node (node_of a)) (read_confs r.reads)) now ∙ node_seen b (node_of a)
+
+-- a step that met a fault on a look at the book as it is, met it in the configurations held
+pub faulted_in : (b : PlainBook) (a : Action) (s : PlainSnapshot) (place : PlainPlace) (f : PlainFault) → IsLookAt b s.node s → node_of a ≡ s.node →
+    IsFaulted (find_conf (component.Node (node_of a)) (read_confs s.reads)) a place f → IsFaulted (find_conf (component.Node (node_of a)) (states_held b)) a place f
+faulted_in b a s place f fresh own h = subst (λ (o : Option Conf). IsFaulted o a place f) (own_seen b a s fresh own) h
+
+-- and so does an argument that is not of its sort
+pub unfit_in : (b : PlainBook) (a : Action) (s : PlainSnapshot) (w : List ℕ) (v : Data) → IsLookAt b s.node s → node_of a ≡ s.node →
+    IsUnfit (find_conf (component.Node (node_of a)) (read_confs s.reads)) a w v → IsUnfit (find_conf (component.Node (node_of a)) (states_held b)) a w v
+unfit_in b a s w v fresh own h = subst (λ (o : Option Conf). IsUnfit o a w v) (own_seen b a s fresh own) h
 
 -- an entry that is taken and told
 pub tells_taken : {S : Type 0} (hears : PlainEvent → S → S → Type 0) (old new : PlainBook) (look after : PlainSnapshot) (e : PlainEntry) (x : PlainProposal) (was : Conf) (k : ℕ) (y z : S) →

@@ -3,20 +3,18 @@ use Rattle.std.proofs.Common.{◌≡◌, List, [], ◌∷◌, ◌++◌, ℕ, ℤ
 use Rattle.std.proofs.lemmas.List.{append-nil}
 use Rattle.std.specs.Prelude.{OnOk}
 use Rattle.ioa_values.specs.Data.{Data}
-use Rattle.ioa_terms.specs.declared.name.Name.{Name}
 use Rattle.ioa_actions.specs.ActionParts.{node_of}
 use Rattle.ioa_actions.specs.declared.action.Action.{Action}
 use Rattle.ioa_actions.specs.declared.component.Component.TheVariants.{Node}
-use Rattle.ioa_source.specs.Sides.{CheckedTerm}
 use Rattle.ioa_compose.specs.Composition.{find_conf}
 use Rattle.ioa_commits.specs.Books.{PlainBook, states_after}
 use Rattle.ioa_compose.specs.declared.configuration.Conf.{Conf}
 use Rattle.ioa_record.specs.declared.ending.Ending.{Ending}
 use Rattle.ioa_transitions.specs.Entries.{PlainEntry}
-use Rattle.ioa_tell.specs.Events.{PlainBlockPlace, PlainEvent, PlainReason, taken, missed, faulted, stuck, idle, stopped, ended}
-use Rattle.ioa_tell.specs.Faulted.{IsFaultTold}
+use Rattle.ioa_tell.specs.Events.{PlainEvent, PlainFault, PlainPlace, PlainReason, PlainStatementPlace, taken, missed, faulted, unfit, stuck, idle, stopped, ended}
+use Rattle.ioa_tell.specs.Faulted.{IsFaulted}
 use Rattle.ioa_tell.specs.Stuck.{IsStuckTold}
-use Rattle.ioa_tell.specs.declared.event.Place.{Place}
+use Rattle.ioa_tell.specs.Unfit.{IsUnfit}
 use Rattle.ioa_tell.specs.Told.{AreHeard, AreTold, IsMissedIn, TellsOn, TellsRun, endings_told}
 
 -- what follows from what a call has done, where it has
@@ -37,8 +35,9 @@ pub told_then : (start : List Conf) (log : List PlainEntry) (xs ys : List PlainE
 told_then start log [] ys mid last h g = subst (λ (l : List PlainEntry). AreTold start l ys last) (sym h) g
 told_then start log (taken k e before after queue ∷ xs) ys mid last h g = (h.0, h.1, told_then start (log ++ e ∷ []) xs ys mid last h.2 g)
 told_then start log (missed k a r ∷ xs) ys mid last h g = (h.0, h.1, told_then start log xs ys mid last h.2 g)
-told_then start log (faulted k a place t vs ∷ xs) ys mid last h g = (h.0, h.1, told_then start log xs ys mid last h.2 g)
-told_then start log (stuck k n place t vs ∷ xs) ys mid last h g = (h.0, h.1, told_then start log xs ys mid last h.2 g)
+told_then start log (faulted k a place f ∷ xs) ys mid last h g = (h.0, h.1, told_then start log xs ys mid last h.2 g)
+told_then start log (unfit k a w v ∷ xs) ys mid last h g = (h.0, h.1, told_then start log xs ys mid last h.2 g)
+told_then start log (stuck k n place f ∷ xs) ys mid last h g = (h.0, h.1, told_then start log xs ys mid last h.2 g)
 told_then start log (idle k n ∷ xs) ys mid last h g = (h.0, told_then start log xs ys mid last h.1 g)
 told_then start log (stopped k n ∷ xs) ys mid last h g = (h.0, told_then start log xs ys mid last h.1 g)
 told_then start log (ended n e ∷ xs) ys mid last h g = absurd h
@@ -95,13 +94,16 @@ module _ {S : Type 0} (hears : PlainEvent → S → S → Type 0) where
   pub tells_missed : (b : PlainBook) (k : ℕ) (a : Action) (r : PlainReason) (x y : S) → k ≡ length b.log → IsMissedIn (states_after b.start b.log) a r → hears (missed k a r) x y → TellsOn hears b b [] [] x y
   tells_missed b k a r x y e m h = record { start = refl; schedule = refl; events = missed k a r ∷ []; heard = (y, h, refl); told = (e, m, refl) }
 
-  pub tells_faulted : (b : PlainBook) (k : ℕ) (a : Action) (place : Place) (t : CheckedTerm) (vs : List (Name × Data)) (x y : S) → k ≡ length b.log → IsFaultTold (find_conf (Node (node_of a)) (states_after b.start b.log)) a place t vs → hears (faulted k a place t vs) x y → TellsOn hears b b [] [] x y
-  tells_faulted b k a place t vs x y e m h = record { start = refl; schedule = refl; events = faulted k a place t vs ∷ []; heard = (y, h, refl); told = (e, m, refl) }
+  pub tells_faulted : (b : PlainBook) (k : ℕ) (a : Action) (place : PlainPlace) (f : PlainFault) (x y : S) → k ≡ length b.log → IsFaulted (find_conf (Node (node_of a)) (states_after b.start b.log)) a place f → hears (faulted k a place f) x y → TellsOn hears b b [] [] x y
+  tells_faulted b k a place f x y e m h = record { start = refl; schedule = refl; events = faulted k a place f ∷ []; heard = (y, h, refl); told = (e, m, refl) }
 
-  pub tells_stuck : (b : PlainBook) (k : ℕ) (n : ℤ) (place : PlainBlockPlace) (t : CheckedTerm) (vs : List (Name × Data)) (x y : S) → k ≡ length b.log → hears (stuck k n place t vs) x y → (m : ℤ) → IsStuckTold m b.start b.log t vs → m ≡ n → TellsOn hears b b [] [] x y
-  tells_stuck b k n place t vs x y e h m s same =
-      let there = subst (λ (i : ℤ). IsStuckTold i b.start b.log t vs) same s in
-      record { start = refl; schedule = refl; events = stuck k n place t vs ∷ []; heard = (y, h, refl); told = (e, there, refl) }
+  pub tells_unfit : (b : PlainBook) (k : ℕ) (a : Action) (w : List ℕ) (v : Data) (x y : S) → k ≡ length b.log → IsUnfit (find_conf (Node (node_of a)) (states_after b.start b.log)) a w v → hears (unfit k a w v) x y → TellsOn hears b b [] [] x y
+  tells_unfit b k a w v x y e m h = record { start = refl; schedule = refl; events = unfit k a w v ∷ []; heard = (y, h, refl); told = (e, m, refl) }
+
+  pub tells_stuck : (b : PlainBook) (k : ℕ) (n : ℤ) (place : PlainStatementPlace) (f : PlainFault) (x y : S) → k ≡ length b.log → hears (stuck k n place f) x y → (m : ℤ) → IsStuckTold m b.start b.log place f → m ≡ n → TellsOn hears b b [] [] x y
+  tells_stuck b k n place f x y e h m s same =
+      let there = subst (λ (i : ℤ). IsStuckTold i b.start b.log place f) same s in
+      record { start = refl; schedule = refl; events = stuck k n place f ∷ []; heard = (y, h, refl); told = (e, there, refl) }
 
   -- the whole run is told, and then the endings
   pub run_told : (a b : PlainBook) (start : List Conf) (schedule rest : List PlainEntry) (endings : List Ending) (x y z : S) → a.start ≡ start → a.log ≡ [] → rest ≡ [] → TellsOn hears a b schedule rest x y →

@@ -16,14 +16,16 @@ use Rattle.ioa_terms.specs.declared.callee.Callee.{Callee}
 use Rattle.ioa_terms.specs.declared.name.Name.{Name}
 use Rattle.ioa_transitions.specs.Entries.{PlainEntry}
 use Rattle.ioa_values.specs.Data.{Data}
-use Rattle.ioa_tell.specs.declared.event.BlockPlace.{BlockPlace}
-use Rattle.ioa_tell.specs.declared.event.BlockPlace.TheVariants as block
 use Rattle.ioa_tell.specs.declared.event.Event.{Event}
 use Rattle.ioa_tell.specs.declared.event.Event.TheVariants as event
+use Rattle.ioa_tell.specs.declared.event.Fault.{Fault}
 use Rattle.ioa_tell.specs.declared.event.NamedValue.{NamedValue}
 use Rattle.ioa_tell.specs.declared.event.Place.{Place}
+use Rattle.ioa_tell.specs.declared.event.Place.TheVariants as place
 use Rattle.ioa_tell.specs.declared.event.Reason.{Reason}
 use Rattle.ioa_tell.specs.declared.event.Reason.TheVariants as reason
+use Rattle.ioa_tell.specs.declared.event.StatementPlace.{StatementPlace}
+use Rattle.ioa_tell.specs.declared.event.StatementPlace.TheVariants as statement
 use Rattle.ioa_tell.specs.declared.event.Test.{Test}
 
 -- why an action was not enabled: there is nothing in the queue, another item is its first, the node's step is not
@@ -44,27 +46,49 @@ reason_of (reason.First k f) = first k (front_item f)
 reason_of reason.Node = node
 reason_of (reason.False test part values) = falsified test (term_of part.now) (map named_value values.now)
 
--- a statement of a block in which a term is written: an assignment, an `if` and a `while` with this test, and a `fire`
-pub data PlainBlockPlace : Type 0 where
-  assigned : PlainTarget ℕ Callee Shape → CheckedTerm → PlainBlockPlace
-  tested : CheckedTerm → PlainBlockPlace
-  repeated : CheckedTerm → PlainBlockPlace
-  fired : PlainFiring ℕ Callee Shape → PlainBlockPlace
+-- a statement in which a term is written: an assignment, an `if` and a `while` with this test, and a `fire`
+pub data PlainStatementPlace : Type 0 where
+  assigned : PlainTarget ℕ Callee Shape → CheckedTerm → PlainStatementPlace
+  tested : CheckedTerm → PlainStatementPlace
+  repeated : CheckedTerm → PlainStatementPlace
+  fired : PlainFiring ℕ Callee Shape → PlainStatementPlace
 
-abbrev pub block_place_of : BlockPlace → PlainBlockPlace
-block_place_of (block.Assigned target term) = assigned (target_of target.now) (term_of term.now)
-block_place_of (block.Tested test) = tested (term_of test.now)
-block_place_of (block.Repeated test) = repeated (term_of test.now)
-block_place_of (block.Fired firing) = fired (firing_of firing.now)
+abbrev pub statement_place_of : StatementPlace → PlainStatementPlace
+statement_place_of (statement.Assigned target term) = assigned (target_of target.now) (term_of term.now)
+statement_place_of (statement.Tested test) = tested (term_of test.now)
+statement_place_of (statement.Repeated test) = repeated (term_of test.now)
+statement_place_of (statement.Fired firing) = fired (firing_of firing.now)
+
+-- where a term of a step is written: in the condition of its entry, in its guard, or in a statement of its effect
+pub data PlainPlace : Type 0 where
+  condition : PlainPlace
+  guard : PlainPlace
+  effect : PlainStatementPlace → PlainPlace
+
+abbrev pub place_of : Place → PlainPlace
+place_of place.Condition = condition
+place_of place.Guard = guard
+place_of (place.Effect s) = effect (statement_place_of s)
+
+-- a part of a term at which a step or a turn stops, the values of the names that it reads, and its own value, if it has
+-- one: that is not of the sort of its place
+pub record PlainFault : Type 0 where
+  pub part : CheckedTerm
+  pub values : List (Name × Data)
+  pub value : Option Data
+
+abbrev pub fault_of : Fault → PlainFault
+fault_of f = record { part = term_of f.part.now; values = map named_value f.values.now; value = option_copied f.value }
 
 -- an event: an action was taken, after so many, which found its node so, left it so, and left its queue so; an action
--- was missed; the step of one met a fault there; a turn of a block met one; a turn of a node was idle; a node stopped;
--- and an ending
+-- was missed; the step of one met a fault there; an argument of one is not of the sort of its parameter; a turn of a
+-- block met a fault; a turn of a node was idle; a node stopped; and an ending
 pub data PlainEvent : Type 0 where
   taken : ℕ → PlainEntry → Conf → Conf → Option Conf → PlainEvent
   missed : ℕ → Action → PlainReason → PlainEvent
-  faulted : ℕ → Action → Place → CheckedTerm → List (Name × Data) → PlainEvent
-  stuck : ℕ → ℤ → PlainBlockPlace → CheckedTerm → List (Name × Data) → PlainEvent
+  faulted : ℕ → Action → PlainPlace → PlainFault → PlainEvent
+  unfit : ℕ → Action → List ℕ → Data → PlainEvent
+  stuck : ℕ → ℤ → PlainStatementPlace → PlainFault → PlainEvent
   idle : ℕ → ℤ → PlainEvent
   stopped : ℕ → ℤ → PlainEvent
   ended : ℕ → Ending → PlainEvent
@@ -73,10 +97,9 @@ pub data PlainEvent : Type 0 where
 abbrev pub event_of : Event → PlainEvent
 event_of (event.Taken k e before after queue) = taken k e.now before.now after.now (option_copied queue)
 event_of (event.Missed k a r) = missed k (arc_value a.now) (reason_of r)
-event_of (event.Faulted k a place part values) =
-    faulted k (arc_value a.now) place (term_of part.now) (map named_value values.now)
-event_of (event.Stuck k n place part values) =
-    stuck k n (block_place_of place) (term_of part.now) (map named_value values.now)
+event_of (event.Faulted k a p f) = faulted k (arc_value a.now) (place_of p) (fault_of f)
+event_of (event.Unfit k a w v) = unfit k (arc_value a.now) w.now v.now
+event_of (event.Stuck k n p f) = stuck k n (statement_place_of p) (fault_of f)
 event_of (event.Idle k n) = idle k n
 event_of (event.Stopped k n) = stopped k n
 event_of (event.Ended n e) = ended n e

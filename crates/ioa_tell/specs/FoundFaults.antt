@@ -1,9 +1,8 @@
--- A part of a step that has no value, as the code finds it (view).
+-- A part at which a step or a turn stops, as the code finds it (view).
 use Rattle.std.specs.Prelude.{map}
 use Rattle.ioa_terms.specs.View.{term_of}
-use Rattle.ioa_tell.specs.Events.{named_value}
-use Rattle.ioa_tell.specs.Faulted.{FaultyPart}
-use Rattle.ioa_tell.specs.declared.faulted.Faulted.{Faulted}
+use Rattle.ioa_tell.specs.Events.{PlainFault, named_value}
+use Rattle.ioa_tell.specs.declared.found.FoundFault.{FoundFault}
 
-abbrev pub faulty_part_found : Faulted → FaultyPart
-faulty_part_found f = record { place = f.place; part = term_of f.part.now; values = map named_value f.values.items }
+abbrev pub fault_found : FoundFault → PlainFault
+fault_found f = record { part = term_of f.part.now; values = map named_value f.values.items; value = f.value }

@@ -5,10 +5,13 @@ pub mod Faults
 pub mod Faulty
 pub mod Found
 pub mod FoundFaults
-pub mod FoundStops
+pub mod FoundUnfit
+pub mod Misfits
 pub mod Reasons
 pub mod Steps
+pub mod Stopping
 pub mod Stops
 pub mod Stuck
 pub mod Tests
 pub mod Told
+pub mod Unfit

@@ -11,11 +11,12 @@ use Rattle.ioa_compose.specs.Participants.{participants_of}
 use Rattle.ioa_compose.specs.declared.configuration.Conf.{Conf}
 use Rattle.ioa_record.specs.declared.ending.Ending.{Ending}
 use Rattle.ioa_transitions.specs.Entries.{PlainEntry, entry_of}
-use Rattle.ioa_tell.specs.Events.{PlainEvent, PlainReason, taken, missed, faulted, stuck, idle, stopped, ended}
-use Rattle.ioa_tell.specs.Faulted.{IsFaultTold}
+use Rattle.ioa_tell.specs.Events.{PlainEvent, PlainReason, taken, missed, faulted, unfit, stuck, idle, stopped, ended}
+use Rattle.ioa_tell.specs.Faulted.{IsFaulted}
 use Rattle.ioa_tell.specs.Reasons.{IsReason}
 use Rattle.ioa_tell.specs.Stuck.{IsStuckTold}
 use Rattle.ioa_tell.specs.Tests.{IsNodeReason}
+use Rattle.ioa_tell.specs.Unfit.{IsUnfit}
 
 -- the configuration of the queue among participants, which comes first of two
 abbrev pub queue_among : List Component → List Conf → Option Conf
@@ -48,11 +49,14 @@ AreTold start log (taken k e before after queue ∷ more) last =
     × AreTold start (log ++ e ∷ []) more last
 AreTold start log (missed k a r ∷ more) last =
     (k ≡ length log) × IsMissedIn (states_after start log) a r × AreTold start log more last
-AreTold start log (faulted k a place t vs ∷ more) last =
-    (k ≡ length log) × IsFaultTold (find_conf (Node (node_of a)) (states_after start log)) a place t vs
+AreTold start log (faulted k a place f ∷ more) last =
+    (k ≡ length log) × IsFaulted (find_conf (Node (node_of a)) (states_after start log)) a place f
     × AreTold start log more last
-AreTold start log (stuck k n place t vs ∷ more) last =
-    (k ≡ length log) × IsStuckTold n start log t vs × AreTold start log more last
+AreTold start log (unfit k a w v ∷ more) last =
+    (k ≡ length log) × IsUnfit (find_conf (Node (node_of a)) (states_after start log)) a w v
+    × AreTold start log more last
+AreTold start log (stuck k n place f ∷ more) last =
+    (k ≡ length log) × IsStuckTold n start log place f × AreTold start log more last
 AreTold start log (idle k n ∷ more) last = (k ≡ length log) × AreTold start log more last
 AreTold start log (stopped k n ∷ more) last = (k ≡ length log) × AreTold start log more last
 AreTold start log (ended n e ∷ more) last = ⊥

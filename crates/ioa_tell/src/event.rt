@@ -4,7 +4,7 @@ use ioa_actions::{Action, Component};
 use ioa_channels::Front;
 use ioa_compose::Conf;
 use ioa_record::Ending;
-use ioa_terms::{Callee, Checked, Firing, Name, Shape, Target, Value};
+use ioa_terms::{Callee, Checked, Firing, Name, Shape, Target, Value, Word};
 use ioa_transitions::Entry;
 use std::sync::Arc;
 
@@ -17,20 +17,9 @@ pub enum Test {
     Guard,
 }
 
-/// Where a term of a step is written.
-#[derive(Clone, Copy, Debug, PartialEq, Eq)]
-pub enum Place {
-    /// In the condition of an entry.
-    Condition,
-    /// In the guard of a transition.
-    Guard,
-    /// In its effect.
-    Effect,
-}
-
-/// A statement of a block in which a term is written.
+/// A statement of an effect or of a block in which a term is written.
 #[derive(Clone, Copy)]
-pub enum BlockPlace<'a> {
+pub enum StatementPlace<'a> {
     /// An assignment of this value.
     Assigned(&'a Target<usize, Callee, Shape>, &'a Checked),
     /// An `if` with this test.
@@ -41,6 +30,17 @@ pub enum BlockPlace<'a> {
     Fired(&'a Firing<usize, Callee, Shape>),
 }
 
+/// Where a term of a step is written.
+#[derive(Clone, Copy)]
+pub enum Place<'a> {
+    /// In the condition of an entry.
+    Condition,
+    /// In the guard of a transition.
+    Guard,
+    /// In this statement of its effect.
+    Effect(StatementPlace<'a>),
+}
+
 /// A name that a term reads, and its value.
 #[derive(Drop)]
 pub struct NamedValue<'a> {
@@ -48,6 +48,17 @@ pub struct NamedValue<'a> {
     pub name: &'a Name,
     /// Its value.
     pub value: Value,
+}
+
+/// A part of a term at which a step or a turn stops.
+#[derive(Clone, Copy)]
+pub struct Fault<'a> {
+    /// The part.
+    pub part: &'a Checked,
+    /// The values of its names then.
+    pub values: &'a [NamedValue<'a>],
+    /// Its value, which is not of the sort of its place. None if the part has no value.
+    pub value: Option<&'a Value>,
 }
 
 /// Why an action was not enabled, in the order of its step: the queue comes before the node.
@@ -88,31 +99,38 @@ pub enum Event<'a> {
         /// Why it was not enabled.
         reason: Reason<'a>,
     },
-    /// A node fired an action whose step met a fault at a part that has no value. The node stops.
+    /// A node fired an action whose step met a fault at a part of a term. The node stops.
     Faulted {
         /// How many actions were taken before.
         number: usize,
         /// The action.
         action: &'a Arc<Action>,
         /// Where the part is written.
-        place: Place,
-        /// The part.
-        part: &'a Checked,
-        /// The values of its names then.
-        values: &'a [NamedValue<'a>],
+        place: Place<'a>,
+        /// The part, and why the step stops there.
+        fault: Fault<'a>,
     },
-    /// A turn of a node's block met a fault at a part that has no value. The node stops.
+    /// A node fired an action of which an argument is not of the sort of its parameter. The node stops.
+    Unfit {
+        /// How many actions were taken before.
+        number: usize,
+        /// The action.
+        action: &'a Arc<Action>,
+        /// The name of the parameter.
+        name: &'a Word,
+        /// The argument.
+        value: &'a Value,
+    },
+    /// A turn of a node's block met a fault at a part of a term. The node stops.
     Stuck {
         /// How many actions were taken before.
         number: usize,
         /// The node.
         node: i64,
         /// The statement in which the part is written.
-        place: BlockPlace<'a>,
-        /// The part.
-        part: &'a Checked,
-        /// The values of its names then.
-        values: &'a [NamedValue<'a>],
+        place: StatementPlace<'a>,
+        /// The part, and why the turn stops there.
+        fault: Fault<'a>,
     },
     /// A turn of a node ended with nothing fired, after as many statements as a turn has at most.
     Idle {

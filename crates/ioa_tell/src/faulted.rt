@@ -1,4 +1,4 @@
-//! The part of a step of a node that has no value.
+//! The part at which a step of a node stops.
 
 ghost use Rattle.std.specs.Prelude.{◌≡◌, [], IfOk, IfSome, Some, length};
 ghost use Rattle.ioa_actions.specs.ActionParts.{node_of};
@@ -7,43 +7,44 @@ ghost use Rattle.ioa_compose.specs.Composition.{find_conf};
 ghost use Rattle.ioa_system.specs.InView.{declared_names, entry_condition, environment_at, guard_or_effect};
 ghost use Rattle.ioa_system.specs.ResolvedPrograms.{IsResolvedGuard, IsResolvedRule};
 ghost use Rattle.ioa_terms.specs.Resolved.{AreResolved};
-ghost use Rattle.ioa_terms.specs.View.{term_of};
 ghost use Rattle.ioa_terms.specs.Views.{IsNamed, environment_of, names_in_view, own_names};
 ghost use Rattle.ioa_transitions.specs.NodeStep.{rule_bindings};
-ghost use Rattle.ioa_tell.specs.Faulted.{HasNoValue, IsFaultAt, IsFaultThen, IsFaulted};
-ghost use Rattle.ioa_tell.specs.FoundFaults.{faulty_part_found};
-ghost use Rattle.ioa_tell.specs.Stops.{IsFaultyIn, IsStopIn};
+ghost use Rattle.ioa_tell.specs.Events.{place_of, statement_place_of};
+ghost use Rattle.ioa_tell.specs.Faulted.{IsFaultAt, IsFaulted, StopsThen};
+ghost use Rattle.ioa_tell.specs.FoundFaults.{fault_found};
+ghost use Rattle.ioa_tell.specs.Stopping.{HasNoValue};
+ghost use Rattle.ioa_tell.specs.Stops.{IsStopIn};
 
-use crate::event::{NamedValue, Place};
-use crate::falsified::{condition_view, own_values, read_values, step_view};
+use crate::event::Place;
+use crate::falsified::{condition_view, own_values, step_view};
+use crate::found::{FoundFault, StatementFault, fault_by, without_value};
 use crate::steps::conf_of;
-use crate::stops::{Stop, stop_at, stop_of_all};
+use crate::stops::{Stop, faulty_in, stop_of_all};
 use ioa_actions::{Action, Component};
 use ioa_book::Snapshot;
 use ioa_compose::Conf;
 use ioa_sharing::Origin;
 use ioa_system::{Program, Rule};
-use ioa_terms::{Checked, View};
+use ioa_terms::View;
 use ioa_transitions::NodeConf;
 use ioa_values::{Value, copies};
 use std::alloc::{AllocError, Global};
 
-/// A part of a step that has no value, where it is written, and the values of the names that it reads.
+/// A part at which a step stops, and where it is written.
 #[derive(Drop)]
 pub(crate) struct Faulted<'a> {
-    pub(crate) place: Place,
-    pub(crate) part: &'a Checked,
-    pub(crate) values: Vec<NamedValue<'a>>,
+    pub(crate) place: Place<'a>,
+    pub(crate) fault: FoundFault<'a>,
 }
 
-/// The part that has no value, if the step of this action meets one at the node that a look shows.
+/// The part at which the step of this action stops at the node that a look shows.
 pub(crate) fn find_faulted<'a, O: Origin>(
     alloc: Global,
     look: &'a Snapshot<O>,
     action: &Action,
 ) -> Result<Option<Faulted<'a>>, AllocError>
     ensures { IfOk result (λ o. IfSome o (λ f. IsFaulted (find_conf (Component.Node (node_of action.now))
-        (read_confs look.now.reads)) action.now (faulty_part_found f))) }
+        (read_confs look.now.reads)) action.now (place_of f.place) (fault_found f.fault))) }
 {
     match conf_of(look, Component::Node(action.node())) {
         Some(Conf::Node(conf)) => faulted_at(alloc, conf, action),
@@ -58,7 +59,7 @@ fn faulted_at<'a>(
     action: &Action,
 ) -> Result<Option<Faulted<'a>>, AllocError>
     ensures { IfOk result (λ o. IfSome o
-        (λ f. IsFaulted (Some (Conf.Node conf.now)) action.now (faulty_part_found f))) }
+        (λ f. IsFaulted (Some (Conf.Node conf.now)) action.now (place_of f.place) (fault_found f.fault))) }
 {
     match conf.program().automaton().rule_named(action.name()) {
         None => Ok(None),
@@ -74,8 +75,9 @@ fn faulted_by<'a>(
     action: &Action,
 ) -> Result<Option<Faulted<'a>>, AllocError>
     requires { IsResolvedRule (declared_names conf.now.program.automaton) rule.now }
-    ensures { IfOk result (λ o. IfSome o (λ f. IsFaultAt f.place (rule_bindings entry_condition rule.now action.now
-        conf.now) (rule_bindings guard_or_effect rule.now action.now conf.now) (faulty_part_found f))) }
+    ensures { IfOk result (λ o. IfSome o (λ f. IsFaultAt (place_of f.place)
+        (rule_bindings entry_condition rule.now action.now conf.now)
+        (rule_bindings guard_or_effect rule.now action.now conf.now) (fault_found f.fault))) }
 {
     let arguments = action.arguments(alloc)?;
     let own = own_values(alloc, &rule.entry, arguments.as_slice())?;
@@ -86,8 +88,8 @@ fn faulted_by<'a>(
     first_fault(alloc, conf.program(), rule, own.as_slice(), variables)
 }
 
-/// The part that has no value, of the condition of a rule's entry, or else of its guard, or else of its effect, if the
-/// entry's own parameters have these values.
+/// The part at which a step stops: of the condition of a rule's entry, or else of its guard, or else of its effect, if
+/// the entry's own parameters have these values.
 fn first_fault<'a>(
     alloc: Global,
     program: &'a Program,
@@ -98,14 +100,17 @@ fn first_fault<'a>(
     requires resolved { IsResolvedRule (declared_names program.now.automaton) rule.now }
     requires valued { length variables.now ≡ length program.now.automaton.variables }
     requires own { length rule.now.own ≡ length own.now }
-    ensures { IfOk result (λ o. IfSome o (λ f. IsFaultAt f.place
+    ensures { IfOk result (λ o. IfSome o (λ f. IsFaultAt (place_of f.place)
         (environment_at entry_condition (declared_names program.now.automaton) rule.now.own
         program.now.arguments [] own.now)
         (environment_at guard_or_effect (declared_names program.now.automaton) rule.now.own
-        program.now.arguments variables.now own.now) (faulty_part_found f))) }
+        program.now.arguments variables.now own.now) (fault_found f.fault))) }
 {
     match fault_of_condition(alloc, program, rule, own)? {
-        Some(found) => Ok(Some(found)),
+        Some(fault) => Ok(Some(Faulted {
+            place: Place::Condition,
+            fault,
+        })),
         None => fault_of_transition(alloc, program, rule, own, variables),
     }
 }
@@ -116,26 +121,27 @@ fn fault_of_condition<'a>(
     program: &'a Program,
     rule: &'a Rule,
     own: &[Value],
-) -> Result<Option<Faulted<'a>>, AllocError>
+) -> Result<Option<FoundFault<'a>>, AllocError>
     requires resolved { IsResolvedRule (declared_names program.now.automaton) rule.now }
     requires own { length rule.now.own ≡ length own.now }
-    ensures place { IfOk result (λ o. IfSome o (λ f. f.place ≡ Place.Condition)) }
-    ensures fault { IfOk result (λ o. IfSome o (λ f. HasNoValue
+    ensures { IfOk result (λ o. IfSome o (λ f. HasNoValue
         (environment_at entry_condition (declared_names program.now.automaton) rule.now.own
-        program.now.arguments [] own.now) (faulty_part_found f))) }
+        program.now.arguments [] own.now) (fault_found f))) }
 {
     match &rule.entry.condition {
         None => Ok(None),
         Some(condition) => {
             let given = program.arguments();
             let view = condition_view(program, rule, own);
-            let stop = stop_at(alloc, condition, &view, given)?;
-            with_values(alloc, Place::Condition, stop, &view, given)
+            match faulty_in(alloc, condition, &view, given)? {
+                None => Ok(None),
+                Some(part) => Ok(Some(without_value(alloc, part, &view, given)?)),
+            }
         }
     }
 }
 
-/// The part of a guard or else of an effect that has no value.
+/// The part at which a guard stops, or else an effect.
 fn fault_of_transition<'a>(
     alloc: Global,
     program: &'a Program,
@@ -146,16 +152,25 @@ fn fault_of_transition<'a>(
     requires resolved { IsResolvedRule (declared_names program.now.automaton) rule.now }
     requires valued { length variables.now ≡ length program.now.automaton.variables }
     requires own { length rule.now.own ≡ length own.now }
-    ensures { IfOk result (λ o. IfSome o (λ f. IsFaultAt f.place
+    ensures { IfOk result (λ o. IfSome o (λ f. IsFaultAt (place_of f.place)
         (environment_at entry_condition (declared_names program.now.automaton) rule.now.own
         program.now.arguments [] own.now)
         (environment_at guard_or_effect (declared_names program.now.automaton) rule.now.own
-        program.now.arguments variables.now own.now) (faulty_part_found f))) }
+        program.now.arguments variables.now own.now) (fault_found f.fault))) }
 {
     let view = step_view(program, rule, own, variables);
     match fault_of_guard(alloc, rule, &view, variables)? {
-        Some(found) => Ok(Some(found)),
-        None => fault_of_effect(alloc, rule, &view, variables),
+        Some(fault) => Ok(Some(Faulted {
+            place: Place::Guard,
+            fault,
+        })),
+        None => match fault_of_effect(alloc, rule, &view, variables)? {
+            None => Ok(None),
+            Some(StatementFault { place, fault }) => Ok(Some(Faulted {
+                place: Place::Effect(place),
+                fault,
+            })),
+        },
     }
 }
 
@@ -165,95 +180,50 @@ fn fault_of_guard<'a>(
     rule: &'a Rule,
     view: &View,
     variables: &[Value],
-) -> Result<Option<Faulted<'a>>, AllocError>
+) -> Result<Option<FoundFault<'a>>, AllocError>
     requires resolved { IsResolvedGuard rule.now.transition.pre (names_in_view view.now) }
     requires named { IsNamed view.now variables.now }
-    ensures place { IfOk result (λ o. IfSome o (λ f. f.place ≡ Place.Guard)) }
-    ensures fault { IfOk result (λ o. IfSome o
-        (λ f. HasNoValue (environment_of view.now variables.now) (faulty_part_found f))) }
+    ensures { IfOk result (λ o. IfSome o
+        (λ f. HasNoValue (environment_of view.now variables.now) (fault_found f))) }
 {
     match &rule.transition.pre {
         None => Ok(None),
-        Some(guard) => {
-            let stop = stop_at(alloc, guard, view, variables)?;
-            with_values(alloc, Place::Guard, stop, view, variables)
-        }
+        Some(guard) => match faulty_in(alloc, guard, view, variables)? {
+            None => Ok(None),
+            Some(part) => Ok(Some(without_value(alloc, part, view, variables)?)),
+        },
     }
 }
 
-/// The part of an effect that has no value when it is asked. The effect is performed on a copy of the variables.
+/// The part at which an effect stops. It is performed on a copy of the variables.
 fn fault_of_effect<'a>(
     alloc: Global,
     rule: &'a Rule,
     view: &View,
     variables: &[Value],
-) -> Result<Option<Faulted<'a>>, AllocError>
+) -> Result<Option<StatementFault<'a>>, AllocError>
     requires resolved { AreResolved rule.now.transition.effect (own_names view.now (length variables.now))
         (names_in_view view.now) }
     requires named { IsNamed view.now variables.now }
-    ensures place { IfOk result (λ o. IfSome o (λ f. f.place ≡ Place.Effect)) }
-    ensures fault { IfOk result (λ o. IfSome o
-        (λ f. IsFaultThen (names_in_view view.now) (faulty_part_found f))) }
+    ensures { IfOk result (λ o. IfSome o
+        (λ f. StopsThen (names_in_view view.now) (statement_place_of f.place) (fault_found f.fault))) }
 {
     let mut values = copies(alloc, variables)?;
     let stop = stop_of_all(alloc, &rule.transition.effect, view, &mut values)?;
     fault_then(alloc, stop, view, values.as_slice())
 }
 
-/// The part at which an effect stops, with the values of its names, if the variables have these values then.
+/// The part at which an effect stops, if the variables have these values then.
 fn fault_then<'a>(
     alloc: Global,
     stop: Stop<'a>,
     view: &View,
     values: &[Value],
-) -> Result<Option<Faulted<'a>>, AllocError>
+) -> Result<Option<StatementFault<'a>>, AllocError>
     requires named { IsNamed view.now values.now }
     requires stop { IsStopIn view.now values.now stop }
-    ensures place { IfOk result (λ o. IfSome o (λ f. f.place ≡ Place.Effect)) }
-    ensures fault { IfOk result (λ o. IfSome o
-        (λ f. IsFaultThen (names_in_view view.now) (faulty_part_found f))) }
+    ensures { IfOk result (λ o. IfSome o
+        (λ f. StopsThen (names_in_view view.now) (statement_place_of f.place) (fault_found f.fault))) }
 {
-    with_values(alloc, Place::Effect, stop, view, values)
-}
-
-/// The part at which terms stop, with the values of its names.
-fn with_values<'a>(
-    alloc: Global,
-    place: Place,
-    stop: Stop<'a>,
-    view: &View,
-    values: &[Value],
-) -> Result<Option<Faulted<'a>>, AllocError>
-    requires named { IsNamed view.now values.now }
-    requires stop { IsStopIn view.now values.now stop }
-    ensures place { IfOk result (λ o. IfSome o (λ f. f.place ≡ place)) }
-    ensures fault { IfOk result (λ o. IfSome o
-        (λ f. HasNoValue (environment_of view.now values.now) (faulty_part_found f))) }
-{
-    match stop {
-        Stop::Passed | Stop::Unknown => Ok(None),
-        Stop::At(part) => Ok(Some(faulted_part(alloc, place, part, view, values)?)),
-    }
-}
-
-/// A part that has no value, with the values of its names.
-fn faulted_part<'a>(
-    alloc: Global,
-    place: Place,
-    part: &'a Checked,
-    view: &View,
-    values: &[Value],
-) -> Result<Faulted<'a>, AllocError>
-    requires named { IsNamed view.now values.now }
-    requires faulty { IsFaultyIn view.now values.now (term_of part.now) }
-    ensures place { IfOk result (λ f. f.place ≡ place) }
-    ensures fault { IfOk result (λ f. HasNoValue (environment_of view.now values.now) (faulty_part_found f)) }
-{
-    let mut read = Vec::new(alloc);
-    read_values(alloc, part, &view.env(values), &mut read)?;
-    Ok(Faulted {
-        place,
-        part,
-        values: read,
-    })
+    fault_by(alloc, stop, view, values)
 }

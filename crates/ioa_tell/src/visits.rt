@@ -14,22 +14,24 @@ ghost use Rattle.ioa_terms.specs.View.{firing_of};
 ghost use Rattle.ioa_turns.specs.NodeTurns.{progress_of};
 ghost use Rattle.ioa_tell.specs.Events as told;
 ghost use Rattle.ioa_tell.specs.Faulted.{IsFaulted};
-ghost use Rattle.ioa_tell.specs.FoundStops.{stuck_part_found};
 ghost use Rattle.ioa_tell.specs.Stuck.{IsStuckOn};
 ghost use Rattle.ioa_tell.specs.Found.{false_part_found};
-ghost use Rattle.ioa_tell.specs.FoundFaults.{faulty_part_found};
+ghost use Rattle.ioa_tell.specs.FoundFaults.{fault_found};
 ghost use Rattle.ioa_tell.specs.Reasons.{IsReason};
 ghost use Rattle.ioa_tell.specs.Tests.{IsFalsified, IsNodeReason};
 ghost use Rattle.ioa_tell.specs.Told.{TellsOn, queue_among};
+ghost use Rattle.ioa_tell.specs.Unfit.{IsUnfit};
 
 use crate::event::{Event, Reason};
 use crate::falsified::{Falsified, find_falsified};
 use crate::fault::TellFault;
 use crate::faulted::{Faulted, find_faulted};
+use crate::found::StatementFault;
 use crate::misses::reason_of;
 use crate::steps::{refresh, take};
-use crate::stuck::{Stuck, find_stuck};
+use crate::stuck::find_stuck;
 use crate::tells::Tells;
+use crate::unfit::{Unfit, find_unfit};
 use crate::visited::Visited;
 use ioa_actions::{Action, Component, StepFault};
 use ioa_book::{Book, Proposal, Snapshot};
@@ -139,7 +141,7 @@ fn attempt<O: Origin, T: Tells>(
     }
 }
 
-/// Tells at which part of its block the turn of a node met a fault, if one has no value.
+/// Tells at which part of its block the turn of a node stopped, if one is found.
 fn tell_stuck<O: Origin, T: Tells>(
     alloc: Global,
     book: &Book<O>,
@@ -183,21 +185,20 @@ fn tell_stuck_at<O: Origin, T: Tells>(
     book: &Book<O>,
     node: &Progress,
     look: &Snapshot<O>,
-    found: &Stuck<'_>,
+    found: &StatementFault<'_>,
     out: &mut T,
 ) -> Result<(), TellFault>
     requires fresh { IsLookAt book.now look.now.node look.now }
     requires own { (progress_of node.now).program.node ≡ look.now.node }
     requires found { IsStuckOn (progress_of node.now).program (read_confs look.now.reads)
-        (stuck_part_found found.now) }
+        (told.statement_place_of found.now.place) (fault_found found.now.fault) }
     ensures { OnOk result (TellsOn T.hears book.now book.now [] [] out.old out.new) }
 {
     let event = Event::Stuck {
         number: look.length(),
         node: look.node(),
         place: found.place,
-        part: found.part,
-        values: found.values.as_slice(),
+        fault: found.fault.told(),
     };
     out.event(alloc, event)
 }
@@ -321,7 +322,7 @@ fn after_fault<O: Origin, T: Tells>(
     }
 }
 
-/// Tells at which part the step of an action met a fault, if one has no value.
+/// Tells which argument of an action does not fit, or at which part its step stopped, if one is found.
 fn tell_fault<O: Origin, T: Tells>(
     alloc: Global,
     book: &Book<O>,
@@ -353,6 +354,48 @@ fn tell_own_fault<O: Origin, T: Tells>(
     if action.node() != look.node() {
         return Ok(());
     }
+    match find_unfit(alloc, look, action)? {
+        None => tell_step_fault(alloc, book, look, action, out),
+        Some(found) => tell_unfit(alloc, book, look, action, &found, out),
+    }
+}
+
+/// Tells that an argument of an action is not of the sort of its parameter.
+fn tell_unfit<O: Origin, T: Tells>(
+    alloc: Global,
+    book: &Book<O>,
+    look: &Snapshot<O>,
+    action: &Arc<Action>,
+    found: &Unfit<'_>,
+    out: &mut T,
+) -> Result<(), TellFault>
+    requires fresh { IsLookAt book.now look.now.node look.now }
+    requires own { node_of (arc_value action.now) ≡ look.now.node }
+    requires found { IsUnfit (find_conf (Component.Node (node_of (arc_value action.now)))
+        (read_confs look.now.reads)) (arc_value action.now) found.now.name.now found.now.value }
+    ensures { OnOk result (TellsOn T.hears book.now book.now [] [] out.old out.new) }
+{
+    let event = Event::Unfit {
+        number: look.length(),
+        action,
+        name: found.name,
+        value: &found.value,
+    };
+    out.event(alloc, event)
+}
+
+/// Tells at which part the step of an action whose arguments fit stopped, if one is found.
+fn tell_step_fault<O: Origin, T: Tells>(
+    alloc: Global,
+    book: &Book<O>,
+    look: &Snapshot<O>,
+    action: &Arc<Action>,
+    out: &mut T,
+) -> Result<(), TellFault>
+    requires fresh { IsLookAt book.now look.now.node look.now }
+    requires own { node_of (arc_value action.now) ≡ look.now.node }
+    ensures { OnOk result (TellsOn T.hears book.now book.now [] [] out.old out.new) }
+{
     match find_faulted(alloc, look, action)? {
         None => Ok(()),
         Some(found) => tell_faulted(alloc, book, look, action, &found, out),
@@ -371,15 +414,15 @@ fn tell_faulted<O: Origin, T: Tells>(
     requires fresh { IsLookAt book.now look.now.node look.now }
     requires own { node_of (arc_value action.now) ≡ look.now.node }
     requires found { IsFaulted (find_conf (Component.Node (node_of (arc_value action.now)))
-        (read_confs look.now.reads)) (arc_value action.now) (faulty_part_found found.now) }
+        (read_confs look.now.reads)) (arc_value action.now) (told.place_of found.now.place)
+        (fault_found found.now.fault) }
     ensures { OnOk result (TellsOn T.hears book.now book.now [] [] out.old out.new) }
 {
     let event = Event::Faulted {
         number: look.length(),
         action,
         place: found.place,
-        part: found.part,
-        values: found.values.as_slice(),
+        fault: found.fault.told(),
     };
     out.event(alloc, event)
 }

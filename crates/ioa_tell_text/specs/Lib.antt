@@ -1,8 +1,8 @@
 -- what the contracts of this crate and of those above it cite
-pub mod Blocks
 pub mod Changes
 pub mod Kept
 pub mod Lines
+pub mod Stops
 pub mod Teller
 pub mod Terms
 pub mod Tests

@@ -5,11 +5,10 @@ use Rattle.ioa_actions.specs.ActionParts.{node_of}
 use Rattle.ioa_paper.specs.Papers.{PlainPaper, and_text}
 use Rattle.ioa_record.specs.Endings.{ending_text}
 use Rattle.ioa_transitions.specs.Entries.{entry_of}
-use Rattle.ioa_tell.specs.Events.{PlainEvent, taken, missed, faulted, stuck, idle, stopped, ended}
-use Rattle.ioa_tell_text.specs.Blocks.{stuck_line, stuck_text}
+use Rattle.ioa_tell.specs.Events.{PlainEvent, taken, missed, faulted, unfit, stuck, idle, stopped, ended}
 use Rattle.ioa_tell_text.specs.Kept.{is_of, next_waiting, same_passing, why_of, without}
 use Rattle.ioa_tell_text.specs.Lines.{fault_line, taken_line, waiting_text}
-use Rattle.ioa_tell_text.specs.Tests.{stop_text}
+use Rattle.ioa_tell_text.specs.Stops.{stop_text, stuck_line, stuck_text, unfit_text}
 use Rattle.ioa_tell_text.specs.declared.waiting.Passing.{Passing}
 use Rattle.ioa_tell_text.specs.declared.waiting.Passing.TheVariants.{Idle, Missed}
 use Rattle.ioa_tell_text.specs.declared.waiting.Waiting.{Waiting}
@@ -68,10 +67,11 @@ abbrev pub teller_after : PlainEvent → PlainTeller → PlainTeller
 teller_after (taken k e before after queue) t =
     and_written (flushed (node_of e.action) t) (taken_line t.names k e before after queue)
 teller_after (missed k a r) t = waits (node_of a) (Missed (entry_of a) (why_of t.names r)) t
-teller_after (faulted k a place u vs) t =
-    and_written (flushed (node_of a) t) (fault_line t.names a (stop_text t.names place u vs))
-teller_after (stuck k n place u vs) t =
-    and_written (flushed n t) (stuck_line n (stuck_text t.names place u vs))
+teller_after (faulted k a place f) t =
+    and_written (flushed (node_of a) t) (fault_line t.names a (stop_text t.names place f))
+teller_after (unfit k a w v) t =
+    and_written (flushed (node_of a) t) (fault_line t.names a (unfit_text t.names w v))
+teller_after (stuck k n place f) t = and_written (flushed n t) (stuck_line n (stuck_text t.names place f))
 teller_after (idle k n) t = waits n Idle t
 teller_after (stopped k n) t = flushed n t
 teller_after (ended n e) t =

@@ -1,4 +1,4 @@
--- A part of a test that is false, and a part of a step that has no value, as text, with the values of its names (form).
+-- A part of a test that is false, as text, with the values of its names (form).
 use Rattle.std.specs.Prelude.{ℕ, Bool, true, false, List, [], ◌∷◌, ◌++◌, codes}
 use Rattle.ioa_values.specs.Data.{Data}
 use Rattle.ioa_values.specs.Text.{text}
@@ -6,8 +6,6 @@ use Rattle.ioa_source.specs.Sides.{CheckedTerm}
 use Rattle.ioa_terms.specs.Bindings.{same_word}
 use Rattle.ioa_terms.specs.declared.name.Name.{Name}
 use Rattle.ioa_terms.specs.declared.name.Name.TheVariants.{Word, Variable, Queue}
-use Rattle.ioa_tell.specs.declared.event.Place.{Place}
-use Rattle.ioa_tell.specs.declared.event.Place.TheVariants as place
 use Rattle.ioa_tell.specs.declared.event.Test.{Test}
 use Rattle.ioa_tell.specs.declared.event.Test.TheVariants.{Where, Guard}
 use Rattle.ioa_tell_text.specs.Terms.{name_text, term_text}
@@ -53,13 +51,3 @@ values_text names written (n ∷ more) =
 -- `guard t is false (x = v)`
 abbrev pub false_text : List (List ℕ) → Test → CheckedTerm → List (Name × Data) → List ℕ
 false_text names test t vs = test_word test ++ (term_text t ++ (codes " is false" ++ values_text names false vs))
-
--- which term of a step stops
-abbrev pub place_text : Place → List ℕ
-place_text place.Condition = codes "its where stops at "
-place_text place.Guard = codes "its guard stops at "
-place_text place.Effect = codes "its effect stops at "
-
--- `its effect stops at t (x = v)`
-abbrev pub stop_text : List (List ℕ) → Place → CheckedTerm → List (Name × Data) → List ℕ
-stop_text names p t vs = place_text p ++ (term_text t ++ values_text names false vs)

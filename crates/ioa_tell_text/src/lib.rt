@@ -6,11 +6,11 @@
 //! **Must not know**: how a run is told again.
 #![tactic(auto)]
 
-mod blocks;
 mod changes;
 mod keeping;
 mod kept;
 mod lines;
+mod stops;
 mod terms;
 mod tests;
 mod text;

@@ -1,4 +1,4 @@
-//! Tests that are false and steps that met a fault, as text.
+//! Tests that are false, as text.
 
 ghost use Rattle.std.specs.Prelude.{◌≡◌, ◌++◌, false, IfOk, OnOk, codes, map};
 ghost use Rattle.ioa_terms.specs.View.{term_of};
@@ -10,7 +10,7 @@ ghost use Rattle.ioa_tell_text.specs.Tests as spec;
 
 use crate::kept::KeptText;
 use crate::terms::{push_name, push_term};
-use ioa_tell::{NamedValue, Place, Test};
+use ioa_tell::{NamedValue, Test};
 use ioa_terms::{Checked, Name};
 use ioa_values::{Names, Value, push_shown, show};
 use std::alloc::{AllocError, Global};
@@ -32,35 +32,6 @@ pub(crate) fn false_text(
     out.push_str(" is false")?;
     push_values(alloc, &mut out, names, values)?;
     Ok(KeptText::new(out))
-}
-
-/// The part of a step that has no value, and the values of its names, as text.
-pub(crate) fn stop_text(
-    alloc: Global,
-    names: &Names,
-    place: Place,
-    part: &Checked,
-    values: &[NamedValue<'_>],
-) -> Result<KeptText, AllocError>
-    ensures { IfOk result
-        (λ t. t ≡ spec.stop_text names.now place (term_of part.now) (map named_value values.now)) }
-{
-    let mut out = String::new(alloc);
-    out.push_str(place_text(place))?;
-    push_term(&mut out, part)?;
-    push_values(alloc, &mut out, names, values)?;
-    Ok(KeptText::new(out))
-}
-
-/// Which term of a step stops.
-fn place_text(place: Place) -> &'static str
-    ensures { result.now ≡ spec.place_text place }
-{
-    match place {
-        Place::Condition => "its where stops at ",
-        Place::Guard => "its guard stops at ",
-        Place::Effect => "its effect stops at ",
-    }
 }
 
 /// The word of a test, and a space.

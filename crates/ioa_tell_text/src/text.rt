@@ -1,34 +1,31 @@
 //! A run as a text.
 
-ghost use Rattle.std.specs.Prelude.{◌≡◌, ◌++◌, ◌∷◌, ◌<◌, [], OnOk, Some, None, false, map};
+ghost use Rattle.std.specs.Prelude.{◌≡◌, ◌++◌, ◌∷◌, ◌<◌, [], OnOk, Some, None, false};
 ghost use Rattle.std.specs.Arc.{arc_value};
 ghost use Rattle.std.specs.Option.{option_copied};
 ghost use Rattle.std.specs.Vec.{vec_capacity};
 ghost use Rattle.ioa_actions.specs.ActionParts.{node_of};
 ghost use Rattle.ioa_paper.specs.Papers.{Ended};
-ghost use Rattle.ioa_terms.specs.View.{term_of};
-ghost use Rattle.ioa_tell.specs.Events.{block_place_of, named_value, reason_of};
-ghost use Rattle.ioa_tell_text.specs.Blocks.{stuck_line, stuck_text};
+ghost use Rattle.ioa_tell.specs.Events.{fault_of, place_of, reason_of, statement_place_of};
 ghost use Rattle.ioa_transitions.specs.Entries.{entry_of};
 ghost use Rattle.ioa_tell_text.specs.Kept.{once, why_of};
 ghost use Rattle.ioa_tell_text.specs.Lines.{fault_line, taken_line, waiting_text};
-ghost use Rattle.ioa_tell_text.specs.Tests.{stop_text};
+ghost use Rattle.ioa_tell_text.specs.Stops.{stop_text, stuck_line, stuck_text, unfit_text};
 ghost use Rattle.ioa_tell_text.specs.Teller.{and_written, flushed, waits, waits_behind, with_waiting};
 
-use crate::blocks::{put_stuck, stuck_text};
 use crate::keeping::taken_out;
+use crate::kept::KeptText;
 use crate::lines::{put_fault, put_taken, put_waiting};
-use crate::tests::stop_text;
+use crate::stops::{put_stuck, stop_text, stuck_text, unfit_text};
 use crate::waiting::{Passing, Waiting, Why, kept};
 use ioa_actions::Action;
 use ioa_compose::Conf;
 use ioa_monitor::put_ending;
 use ioa_paper::Paper;
 use ioa_streams::{Out, OutFailed};
-use ioa_tell::{BlockPlace, Event, NamedValue, Place, Reason, TellFault, Tells};
-use ioa_terms::Checked;
+use ioa_tell::{Event, Fault, Place, Reason, StatementPlace, TellFault, Tells};
 use ioa_transitions::Entry;
-use ioa_values::Names;
+use ioa_values::{Names, Value, Word};
 use std::alloc::{AllocError, Global};
 use std::marker::Model;
 use std::sync::Arc;
@@ -181,18 +178,41 @@ impl<'a, O: Out> TextTeller<'a, O> {
         &mut self,
         alloc: Global,
         action: &Arc<Action>,
-        place: Place,
-        part: &Checked,
-        values: &[NamedValue<'_>],
+        place: Place<'_>,
+        fault: Fault<'_>,
     ) -> Result<(), AllocError>
         ensures { OnOk result (self.new ≡ and_written (flushed (node_of (arc_value action.now)) self.old)
-            (fault_line self.old.names (arc_value action.now) (stop_text self.old.names place
-            (term_of part.now) (map named_value values.now)))) }
+            (fault_line self.old.names (arc_value action.now)
+            (stop_text self.old.names (place_of place.entry) (fault_of fault.entry)))) }
     {
-        let why = stop_text(alloc, self.names, place, part, values)?;
-        self.flush(action.node());
-        put_fault(&mut self.paper, self.names, action, &why);
+        let why = stop_text(alloc, self.names, place, fault)?;
+        self.write_fault(action, &why);
         Ok(())
+    }
+
+    /// Writes an action of which an argument is not of the sort of its parameter.
+    fn unfit(
+        &mut self,
+        alloc: Global,
+        action: &Arc<Action>,
+        name: &Word,
+        value: &Value,
+    ) -> Result<(), AllocError>
+        ensures { OnOk result (self.new ≡ and_written (flushed (node_of (arc_value action.now)) self.old)
+            (fault_line self.old.names (arc_value action.now) (unfit_text self.old.names name.now value.now))) }
+    {
+        let why = unfit_text(alloc, self.names, name, value)?;
+        self.write_fault(action, &why);
+        Ok(())
+    }
+
+    /// Writes the line of an action that met a fault, behind what waits of its node.
+    fn write_fault(&mut self, action: &Arc<Action>, why: &KeptText)
+        ensures { self.new ≡ and_written (flushed (node_of (arc_value action.now)) self.old)
+            (fault_line self.old.names (arc_value action.now) why.now) }
+    {
+        self.flush(action.node());
+        put_fault(&mut self.paper, self.names, action, why);
     }
 
     /// Writes that a turn of a node's block met a fault.
@@ -200,15 +220,14 @@ impl<'a, O: Out> TextTeller<'a, O> {
         &mut self,
         alloc: Global,
         node: i64,
-        place: BlockPlace<'_>,
-        part: &Checked,
-        values: &[NamedValue<'_>],
+        place: StatementPlace<'_>,
+        fault: Fault<'_>,
     ) -> Result<(), AllocError>
         ensures { OnOk result (self.new ≡ and_written (flushed node self.old)
-            (stuck_line node (stuck_text self.old.names (block_place_of place.entry)
-            (term_of part.now) (map named_value values.now)))) }
+            (stuck_line node (stuck_text self.old.names (statement_place_of place.entry)
+            (fault_of fault.entry)))) }
     {
-        let why = stuck_text(alloc, self.names, place, part, values)?;
+        let why = stuck_text(alloc, self.names, place, fault)?;
         self.flush(node);
         put_stuck(&mut self.paper, node, &why);
         Ok(())
@@ -270,21 +289,28 @@ impl<'a, O: Out> Tells for TextTeller<'a, O> {
             Event::Faulted {
                 action,
                 place,
-                part,
-                values,
+                fault,
                 ..
             } => {
-                self.faulted(alloc, action, place, part, values)?;
+                self.faulted(alloc, action, place, fault)?;
+                Ok(())
+            }
+            Event::Unfit {
+                action,
+                name,
+                value,
+                ..
+            } => {
+                self.unfit(alloc, action, name, value)?;
                 Ok(())
             }
             Event::Stuck {
                 node,
                 place,
-                part,
-                values,
+                fault,
                 ..
             } => {
-                self.stuck(alloc, node, place, part, values)?;
+                self.stuck(alloc, node, place, fault)?;
                 Ok(())
             }
             Event::Idle { node, .. } => {

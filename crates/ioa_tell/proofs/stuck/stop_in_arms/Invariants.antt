@@ -3,7 +3,7 @@ use Rattle.ioa_terms.specs.PlainTerm.{arms_of}
 use Rattle.ioa_terms.specs.Resolved.{AreArmsResolved}
 use Rattle.ioa_terms.specs.View.{arm_of}
 use Rattle.ioa_terms.specs.Views.{names_in_view, own_names}
-use Rattle.ioa_tell.proofs.stuck.stuck_at_arms.Given as goal
+use Rattle.ioa_tell.proofs.stuck.stop_in_arms.Given as goal
 
 -- the arms that are left are resolved
 abbrev pub invariant-loop-arm : goal.invariant-loop-arm
