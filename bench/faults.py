@@ -53,13 +53,15 @@ def texts():
     good = declarations()
     invariants = INVARIANTS.format(name="n@2")
     cut = good.rindex("states n: Int")
+    bent = good[:cut] + good[cut:].replace(": Int", " Int", 1)
+    outside = "9223372036854775807 + 1"
     return [
         ("an unknown name in the last declaration", declarations(last="y") + section(8)),
-        ("an unexpected token in the last declaration", good[:cut] + good[cut:].replace(": Int", " Int", 1) + section(8)),
+        ("an unexpected token in the last declaration", bent + section(8)),
         ("an unknown name in an invariant", good + section(8) + INVARIANTS.format(name="m@2")),
         ("sorts that differ in an invariant", good + section(8) + INVARIANTS.format(name="b@2")),
         ("an argument of a wrong sort of one of 60 nodes", good + section(60, 47, "true") + invariants),
-        ("an argument without a value of one of 60 nodes", good + section(60, 33, "9223372036854775807 + 1") + invariants),
+        ("an argument without a value of one of 60 nodes", good + section(60, 33, outside) + invariants),
         ("an automaton with 4,950 rules", rules(4_950)),
         ("an automaton with 9,900 rules", rules(9_900)),
     ]

@@ -23,7 +23,7 @@ first_unfit [] vs = None
 first_unfit (p ∷ ps) [] = None
 first_unfit (p ∷ ps) (v ∷ vs) = option_or (unfit p v) (first_unfit ps vs)
 
--- a node takes an action by a rule whose parameter of this name has this argument, the first one that is not of its sort
+-- a node takes an action by a rule whose parameter of this name has this argument, the first one not of its sort
 pub record IsUnfit (there : Option Conf) (a : Action) (w : List ℕ) (v : Data) : Type 0 where
   pub state : NodeState
   pub is : there ≡ Some (conf.Node state)

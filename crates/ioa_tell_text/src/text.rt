@@ -32,8 +32,8 @@ use std::sync::Arc;
 
 /// Writes what is told as a text: `k action   node i: x = v -> w; channel i -> j holds n` for an action that was taken,
 /// `  missed action@i: why   (n times)` for n misses one after another, `  fault action@i: why` for a fault of a step,
-/// `  fault @i: why` for one of a block, `  idle @i   (n times)` for idle turns, and `ending i e` for the endings. A miss
-/// or an idle turn is written once its node does something else, just before that.
+/// `  fault @i: why` for one of a block, `  idle @i   (n times)` for idle turns, and `ending i e` for the endings. A
+/// miss or an idle turn is written once its node does something else, just before that.
 pub struct TextTeller<'a, O: Out> {
     paper: Paper<'a, O>,
     names: &'a Names,
