@@ -9,7 +9,7 @@ use Rattle.ioa_terms.specs.SameNames.{same_name_is}
 use Rattle.ioa_terms.specs.Sorted.{NameShapes}
 use Rattle.ioa_source.specs.Sides.{CheckedDeclared, CheckedVariable}
 use Rattle.ioa_system.specs.Parts.{PlainRule}
-use Rattle.ioa_sort_rules.specs.declared.refusal.Refusal.{Refusal}
+use Rattle.ioa_refusals.specs.declared.refusal.Refusal.{Refusal}
 use Rattle.ioa_sorts.specs.StatementSites.{block_site}
 use Rattle.ioa_names.specs.NameTables.{AreDistinct, declared_names}
 use Rattle.ioa_names.proofs.Names.{all_found, first_differ, new_found}

@@ -15,7 +15,7 @@ use Rattle.ioa_source.specs.PlainText.{const, named}
 use Rattle.ioa_source.specs.Sides.{SourceTerm, SourceDeclared, SourceParameter, SourceEntry, SourceVariable, SourceTransition, SourceStatement, SourceAutomaton, CheckedTerm, CheckedDeclared, CheckedParameter, CheckedVariable, CheckedTransition, CheckedStatement}
 use Rattle.ioa_system.specs.InView.{entry_condition, guard_or_effect, own_names}
 use Rattle.ioa_system.specs.Parts.{AutomatonParts, PlainRule}
-use Rattle.ioa_sort_rules.specs.declared.refusal.Refusal.{Refusal}
+use Rattle.ioa_refusals.specs.declared.refusal.Refusal.{Refusal}
 use Rattle.ioa_typed.specs.Parts.{PlainTyped, typed}
 use Rattle.ioa_sorts.specs.Statements.{all_ok, statement_sorting, statement_sortings}
 use Rattle.ioa_sorts.specs.SortedStatements.{IsStatementOf}

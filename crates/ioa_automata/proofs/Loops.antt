@@ -2,7 +2,7 @@
 use Rattle.std.proofs.Common.{◌≡◌, ◌<◌, ◌+◌, ℕ, List, [], ◌∷◌, ◌++◌, Result, Ok, Err, refl, ap, map, drop, length, get_or}
 use Rattle.std.proofs.lemmas.List.{drop_more}
 use Rattle.ioa_values.specs.Outcome.{and_then}
-use Rattle.ioa_sort_rules.specs.declared.refusal.Refusal.{Refusal}
+use Rattle.ioa_refusals.specs.declared.refusal.Refusal.{Refusal}
 use Rattle.ioa_sorts.specs.Statements.{all_ok}
 
 abbrev pub results_are : {A : Type 0} → List A → Result (List A) Refusal

@@ -2,7 +2,7 @@
 use Rattle.std.proofs.Common.{◌≡◌, List, [], ◌∷◌, Result, Ok, Err, refl, subst, map}
 use Rattle.std.specs.List.{AllZip}
 use Rattle.ioa_values.specs.Outcome.{and_then}
-use Rattle.ioa_sort_rules.specs.declared.refusal.Refusal.{Refusal}
+use Rattle.ioa_refusals.specs.declared.refusal.Refusal.{Refusal}
 use Rattle.ioa_sorts.specs.Statements.{all_ok}
 use Rattle.ioa_automata.proofs.Loops.{results_are}
 

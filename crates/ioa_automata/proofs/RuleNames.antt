@@ -5,7 +5,7 @@ use Rattle.ioa_values.specs.Outcome.{and_then}
 use Rattle.ioa_terms.specs.Bindings.{same_word}
 use Rattle.ioa_source.specs.Sides.{SourceEntry, SourceTransition}
 use Rattle.ioa_system.specs.Parts.{PlainRule}
-use Rattle.ioa_sort_rules.specs.declared.refusal.Refusal.TheVariants.{Twice, BadArgument}
+use Rattle.ioa_refusals.specs.declared.refusal.Refusal.TheVariants.{Twice, BadArgument}
 use Rattle.ioa_types.specs.TypeTables.{are_new}
 use Rattle.ioa_types.proofs.TypeDeclarations.{new_differ}
 use Rattle.ioa_system.specs.Indexes.{AreIndexed}

@@ -18,7 +18,7 @@ use Rattle.ioa_source.specs.Sides.{SourceDeclared, SourceParameter, SourceEntry,
 use Rattle.ioa_system.specs.InView.{entry_condition, guard_or_effect}
 use Rattle.ioa_system.specs.Parts.{AutomatonParts, PlainRule, rule_named, message_shape}
 use Rattle.ioa_sort_rules.specs.DeclaredTypes.{IsDeclared, AreAllDeclared}
-use Rattle.ioa_sort_rules.specs.declared.refusal.Refusal.TheVariants.{Unknown, InputPre, BadArgument}
+use Rattle.ioa_refusals.specs.declared.refusal.Refusal.TheVariants.{Unknown, InputPre, BadArgument}
 use Rattle.ioa_types.specs.Meanings.{tuple_types, AreTextTypes}
 use Rattle.ioa_names.specs.NameTables.{AreDistinct, new_or, with_names}
 use Rattle.ioa_types.specs.TextTypes.{PlainTextTypes}

@@ -4,7 +4,7 @@ use Rattle.ioa_values.specs.Outcome.{and_then}
 use Rattle.ioa_terms.specs.Sorted.{NameShapes}
 use Rattle.ioa_source.specs.Sides.{SourceAutomaton, CheckedDeclared, CheckedSchedule, CheckedVariable}
 use Rattle.ioa_system.specs.Parts.{AutomatonParts, PlainRule, automaton_parts}
-use Rattle.ioa_sort_rules.specs.declared.refusal.Refusal.{Refusal}
+use Rattle.ioa_refusals.specs.declared.refusal.Refusal.{Refusal}
 use Rattle.ioa_names.specs.NameTables.{words}
 use Rattle.ioa_types.specs.TextTypes.{PlainTextTypes}
 use Rattle.ioa_automata.specs.NamesInView.{given_names_or, outer_names_or}

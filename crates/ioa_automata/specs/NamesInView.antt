@@ -10,7 +10,7 @@ use Rattle.ioa_terms.specs.Sorted.{NameShapes}
 use Rattle.ioa_source.specs.PlainText.{const, named}
 use Rattle.ioa_source.specs.Sides.{CheckedDeclared, CheckedParameter, CheckedVariable}
 use Rattle.ioa_system.specs.Parts.{PlainRule, message_shape}
-use Rattle.ioa_sort_rules.specs.declared.refusal.Refusal.{Refusal}
+use Rattle.ioa_refusals.specs.declared.refusal.Refusal.{Refusal}
 use Rattle.ioa_names.specs.NameTables.{new_or, with_name, with_names}
 
 -- a declared name with its shape

@@ -13,8 +13,8 @@ use Rattle.ioa_source.specs.Sides.{SourceTerm, SourceDeclared, SourceParameter, 
 use Rattle.ioa_source.specs.Sides.{SourceTransition}
 use Rattle.ioa_source.specs.Sides.{CheckedTerm, CheckedDeclared, CheckedParameter, CheckedEntry, CheckedVariable}
 use Rattle.ioa_source.specs.Sides.{CheckedTransition}
-use Rattle.ioa_sort_rules.specs.declared.refusal.Refusal.{Refusal}
-use Rattle.ioa_sort_rules.specs.declared.refusal.Refusal.TheVariants.{NoInitial, EmptyOfWhat, InputWhere}
+use Rattle.ioa_refusals.specs.declared.refusal.Refusal.{Refusal}
+use Rattle.ioa_refusals.specs.declared.refusal.Refusal.TheVariants.{NoInitial, EmptyOfWhat, InputWhere}
 use Rattle.ioa_typed.specs.Parts.{PlainTyped}
 use Rattle.ioa_sorts.specs.Sorting.{infer, fit, sorting}
 use Rattle.ioa_sorts.specs.Statements.{all_ok, statement_sortings}

@@ -18,9 +18,9 @@ use Rattle.ioa_source.specs.Sides.{SourceTerm, SourceParameter, SourceEntry, Sou
 use Rattle.ioa_source.specs.Sides.{CheckedParameter, CheckedTransition}
 use Rattle.ioa_system.specs.InView.{own_names}
 use Rattle.ioa_system.specs.Parts.{PlainRule}
-use Rattle.ioa_sort_rules.specs.declared.refusal.Refusal.{Refusal}
-use Rattle.ioa_sort_rules.specs.declared.refusal.Refusal.TheVariants.{Unknown, Twice, NoTransition, InputPre}
-use Rattle.ioa_sort_rules.specs.declared.refusal.Refusal.TheVariants.{BadArgument}
+use Rattle.ioa_refusals.specs.declared.refusal.Refusal.{Refusal}
+use Rattle.ioa_refusals.specs.declared.refusal.Refusal.TheVariants.{Unknown, Twice, NoTransition, InputPre}
+use Rattle.ioa_refusals.specs.declared.refusal.Refusal.TheVariants.{BadArgument}
 use Rattle.ioa_sorts.specs.Statements.{all_ok}
 use Rattle.ioa_types.specs.TypeTables.{TypeTable, are_new}
 use Rattle.ioa_automata.specs.NamesInView.{own_names_or}

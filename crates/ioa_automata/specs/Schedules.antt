@@ -5,7 +5,7 @@ use Rattle.ioa_terms.specs.PlainTerm.{statements_of}
 use Rattle.ioa_terms.specs.Sorted.{NameShapes}
 use Rattle.ioa_source.specs.Sides.{SourceSchedule, CheckedSchedule, CheckedStatement, CheckedVariable}
 use Rattle.ioa_system.specs.Parts.{PlainRule}
-use Rattle.ioa_sort_rules.specs.declared.refusal.Refusal.{Refusal}
+use Rattle.ioa_refusals.specs.declared.refusal.Refusal.{Refusal}
 use Rattle.ioa_sorts.specs.StatementSites.{PlainStatementSite, block_site}
 use Rattle.ioa_sorts.specs.Statements.{all_ok, statement_sortings}
 use Rattle.ioa_automata.specs.NamesInView.{block_names_or}

@@ -21,7 +21,7 @@ use crate::parts::{sort_all_declared, sort_variables};
 use crate::rules::{Surroundings, Transitions, sort_rules};
 use crate::schedules::{block_own_words, sort_schedule};
 use ioa_names::{NameTable, View};
-use ioa_sort_rules::Refusal;
+use ioa_refusals::Refusal;
 use ioa_source::{Automaton, Declared, Entry, Schedule, Transition, Variable};
 use ioa_system::{CompiledAutomaton, Rule, Rules, Scope};
 use ioa_terms::{Callee, Names, Shape, Word};

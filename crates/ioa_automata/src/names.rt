@@ -10,7 +10,8 @@ ghost use Rattle.ioa_names.specs.NameTables.{with_names};
 ghost use Rattle.ioa_automata.specs.NamesInView as spec;
 
 use ioa_names::NameTable;
-use ioa_sort_rules::{Refusal, map_of};
+use ioa_refusals::Refusal;
+use ioa_sort_rules::map_of;
 use ioa_source::{Declared, Parameter, Variable};
 use ioa_system::{Rule, message_shape};
 use ioa_terms::{Callee, Shape, ShapeForm, Word, inboxes_word};

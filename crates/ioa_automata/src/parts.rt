@@ -17,7 +17,8 @@ ghost use Rattle.ioa_automata.specs.Parts as spec;
 ghost use Rattle.ioa_automata.specs.SortedView.{sorted_parameter_of, sorted_parameters_of, sorted_entry_of};
 
 use ioa_names::View;
-use ioa_sort_rules::{Refusal, shape_in_terms};
+use ioa_refusals::Refusal;
+use ioa_sort_rules::shape_in_terms;
 use ioa_sorts::{StatementSite, fit, infer, sort_statements};
 use ioa_source::{Declared, Entry, Parameter, Transition, Variable};
 use ioa_system::Rules;

@@ -18,7 +18,7 @@ use crate::names::own_names;
 use crate::parts::{SortedEntry, SortedParameters, sort_entry, sort_parameters, sort_transition};
 use ioa_actions::{RECEIVE, SEND};
 use ioa_names::{NameTable, View};
-use ioa_sort_rules::Refusal;
+use ioa_refusals::Refusal;
 use ioa_source::{Entry, Parameter, Transition};
 use ioa_system::{Rule, Scope};
 use ioa_terms::{Callee, Kind, Name, Shape, ShapeForm, Term, Tree, Word, is_same_term};

@@ -16,7 +16,7 @@ use crate::names::block_names;
 use crate::parts::sort_variables;
 use crate::rules::Surroundings;
 use ioa_names::{NameTable, View};
-use ioa_sort_rules::Refusal;
+use ioa_refusals::Refusal;
 use ioa_sorts::{StatementSite, sort_statements};
 use ioa_source::{Schedule, Variable};
 use ioa_system::{Rule, Rules, message_shape};

@@ -10,7 +10,7 @@ use Rattle.ioa_source.specs.PlainText.{const, named}
 use Rattle.ioa_source.specs.Sides.{SourceNode, SourceTerm, CheckedParameter, CheckedTerm, CheckedVariable}
 use Rattle.ioa_system.specs.InView.{given_bindings}
 use Rattle.ioa_system.specs.Parts.{AutomatonParts, Parts, PlainRule}
-use Rattle.ioa_sort_rules.specs.declared.refusal.Refusal.{Refusal}
+use Rattle.ioa_refusals.specs.declared.refusal.Refusal.{Refusal}
 use Rattle.ioa_sorts.specs.Statements.{all_ok}
 use Rattle.ioa_sorts.proofs.Complete.{fit_complete}
 use Rattle.ioa_sorts.specs.Firings.{arguments_at}

@@ -14,7 +14,7 @@ use Rattle.ioa_source.specs.Sides.{SourceTerm, SourceAutomaton, SourceDeclaratio
 use Rattle.ioa_system.specs.Parts.{AutomatonParts, Parts, PlainRule, rule_named}
 use Rattle.ioa_system.specs.ResolvedPrograms.{AreResolvedTerms}
 use Rattle.ioa_sort_rules.specs.DeclaredTypes.{TupleTypes, IsDeclared, AreAllDeclared}
-use Rattle.ioa_sort_rules.specs.declared.refusal.Refusal.TheVariants.{Twice}
+use Rattle.ioa_refusals.specs.declared.refusal.Refusal.TheVariants.{Twice}
 use Rattle.ioa_sorts.specs.Sorting.{fit, sorting}
 use Rattle.ioa_sorts.specs.Statements.{all_ok}
 use Rattle.ioa_sorts.proofs.Types.{in_terms}

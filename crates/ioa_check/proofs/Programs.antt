@@ -9,8 +9,8 @@ use Rattle.ioa_terms.specs.Bindings.{Bindings}
 use Rattle.ioa_terms.specs.Sorted.{NameShapes}
 use Rattle.ioa_source.specs.Sides.{CheckedTerm, SourceNode}
 use Rattle.ioa_system.specs.Parts.{AutomatonParts, Parts}
-use Rattle.ioa_sort_rules.specs.declared.refusal.Refusal.{Refusal}
-use Rattle.ioa_sort_rules.specs.declared.refusal.Refusal.TheVariants.{Memory}
+use Rattle.ioa_refusals.specs.declared.refusal.Refusal.{Refusal}
+use Rattle.ioa_refusals.specs.declared.refusal.Refusal.TheVariants.{Memory}
 use Rattle.ioa_automata.proofs.Loops.{results_are}
 use Rattle.ioa_check.specs.Nodes.{argument_values, has_number, program_at, programs_from}
 use Rattle.ioa_check.proofs.Loops.{one_fewer}

@@ -1,7 +1,7 @@
 -- Results that are there, of a declaration or of a whole text.
 use Rattle.std.proofs.Common.{◌≡◌, ℕ, Bool, true, false, Result, Ok, Err, refl, ap, if◌then◌else◌}
 use Rattle.ioa_values.specs.Outcome.{and_then}
-use Rattle.ioa_sort_rules.specs.declared.refusal.Refusal.{Refusal}
+use Rattle.ioa_refusals.specs.declared.refusal.Refusal.{Refusal}
 use Rattle.ioa_automata.proofs.Results.{result_is}
 use Rattle.ioa_check.specs.declared.fault.CheckFault.{CheckFault}
 use Rattle.ioa_check.specs.Faults.{in_declaration}

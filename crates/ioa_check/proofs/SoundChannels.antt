@@ -13,7 +13,7 @@ use Rattle.ioa_source.specs.declared.declaration.Channel.{Channel}
 use Rattle.ioa_system.specs.Declarations.{same_channel}
 use Rattle.ioa_system.specs.InView.{given_bindings}
 use Rattle.ioa_system.specs.Parts.{Parts, PlainRule, rule_named}
-use Rattle.ioa_sort_rules.specs.declared.refusal.Refusal.TheVariants.{Twice, ChannelSorts, InputMissing, SelfChannel}
+use Rattle.ioa_refusals.specs.declared.refusal.Refusal.TheVariants.{Twice, ChannelSorts, InputMissing, SelfChannel}
 use Rattle.ioa_automata.proofs.Results.{result_is}
 use Rattle.ioa_check.specs.declared.channels.TheConstants.{MOST_CHANNELS}
 use Rattle.ioa_check.specs.Distinct.{differ_from}

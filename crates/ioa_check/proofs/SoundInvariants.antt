@@ -8,7 +8,7 @@ use Rattle.ioa_source.specs.Sides.{SourceInvariant}
 use Rattle.ioa_source.specs.declared.declaration.Channel.{Channel}
 use Rattle.ioa_system.specs.Invariants.{InvariantParts}
 use Rattle.ioa_system.specs.Parts.{Parts}
-use Rattle.ioa_sort_rules.specs.declared.refusal.Refusal.TheVariants.{Twice}
+use Rattle.ioa_refusals.specs.declared.refusal.Refusal.TheVariants.{Twice}
 use Rattle.ioa_automata.proofs.Results.{result_is}
 use Rattle.ioa_invariants.specs.Checked.{AreDeclaredParts, invariant_at}
 use Rattle.ioa_invariants.specs.Meant.{IsInvariantOf}

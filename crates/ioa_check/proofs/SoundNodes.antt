@@ -16,7 +16,7 @@ use Rattle.ioa_source.specs.PlainText.{const, named}
 use Rattle.ioa_source.specs.Sides.{SourceNode, SourcePlacement, SourceTerm, CheckedParameter, CheckedTerm, CheckedVariable}
 use Rattle.ioa_system.specs.InView.{given_bindings}
 use Rattle.ioa_system.specs.Parts.{AutomatonParts, Parts, PlainRule, parts}
-use Rattle.ioa_sort_rules.specs.declared.refusal.Refusal.TheVariants.{Twice, Limit, BadArgument}
+use Rattle.ioa_refusals.specs.declared.refusal.Refusal.TheVariants.{Twice, Limit, BadArgument}
 use Rattle.ioa_sorts.specs.Firings.{arguments_at}
 use Rattle.ioa_automata.proofs.Loops.{results_are}
 use Rattle.ioa_automata.proofs.Results.{result_is, all_ok_each, zip_weaker}

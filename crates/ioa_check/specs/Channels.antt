@@ -15,9 +15,9 @@ use Rattle.ioa_system.specs.InView.{given_bindings}
 use Rattle.ioa_system.specs.Parts.{Parts, PlainRule, rule_named}
 use Rattle.ioa_system.specs.Systems.{program_numbered}
 use Rattle.ioa_sort_rules.specs.SameSorts.{same_sort}
-use Rattle.ioa_sort_rules.specs.declared.refusal.Refusal.{Refusal}
-use Rattle.ioa_sort_rules.specs.declared.refusal.Refusal.TheVariants.{Unknown, Twice, ChannelSorts, InputMissing}
-use Rattle.ioa_sort_rules.specs.declared.refusal.Refusal.TheVariants.{SelfChannel}
+use Rattle.ioa_refusals.specs.declared.refusal.Refusal.{Refusal}
+use Rattle.ioa_refusals.specs.declared.refusal.Refusal.TheVariants.{Unknown, Twice, ChannelSorts, InputMissing}
+use Rattle.ioa_refusals.specs.declared.refusal.Refusal.TheVariants.{SelfChannel}
 use Rattle.ioa_check.specs.declared.channels.TheConstants.{MOST_CHANNELS}
 use Rattle.ioa_check.specs.Distinct.{differ_from}
 use Rattle.ioa_check.specs.Sections.{channels_in}

@@ -9,8 +9,8 @@ use Rattle.ioa_source.specs.declared.declaration.Channel.{Channel}
 use Rattle.ioa_system.specs.Invariants.{InvariantParts}
 use Rattle.ioa_system.specs.Parts.{AutomatonParts, Parts}
 use Rattle.ioa_system.specs.Systems.{ScriptParts, SystemParts, system}
-use Rattle.ioa_sort_rules.specs.declared.refusal.Refusal.{Refusal}
-use Rattle.ioa_sort_rules.specs.declared.refusal.Refusal.TheVariants.{Twice}
+use Rattle.ioa_refusals.specs.declared.refusal.Refusal.{Refusal}
+use Rattle.ioa_refusals.specs.declared.refusal.Refusal.TheVariants.{Twice}
 use Rattle.ioa_names.specs.NameTables.{words}
 use Rattle.ioa_types.specs.TextTypes.{no_types}
 use Rattle.ioa_invariants.specs.Checked.{invariant_at}

@@ -7,8 +7,8 @@ use Rattle.ioa_terms.specs.Bindings.{same_word}
 use Rattle.ioa_source.specs.PlainText.{type_named, automaton}
 use Rattle.ioa_source.specs.Sides.{SourceAutomaton, SourceDeclaration}
 use Rattle.ioa_system.specs.Parts.{AutomatonParts}
-use Rattle.ioa_sort_rules.specs.declared.refusal.Refusal.{Refusal}
-use Rattle.ioa_sort_rules.specs.declared.refusal.Refusal.TheVariants.{Twice}
+use Rattle.ioa_refusals.specs.declared.refusal.Refusal.{Refusal}
+use Rattle.ioa_refusals.specs.declared.refusal.Refusal.TheVariants.{Twice}
 use Rattle.ioa_types.specs.TextTypes.{PlainTextTypes, with_type}
 use Rattle.ioa_automata.specs.Automata.{automaton_at}
 use Rattle.ioa_check.specs.declared.fault.CheckFault.{CheckFault}

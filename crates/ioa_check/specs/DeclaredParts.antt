@@ -4,7 +4,7 @@ use Rattle.std.specs.Coded.{Coded, code_by, coded×, coded_list}
 use Rattle.ioa_values.specs.Outcome.{and_then}
 use Rattle.ioa_source.specs.Sides.{SourceDeclaration, SourcePlacement}
 use Rattle.ioa_system.specs.Parts.{AutomatonParts, automaton_code}
-use Rattle.ioa_sort_rules.specs.declared.refusal.Refusal.{Refusal}
+use Rattle.ioa_refusals.specs.declared.refusal.Refusal.{Refusal}
 use Rattle.ioa_types.specs.TextTypes.{PlainTextTypes, no_types, text_types_code}
 use Rattle.ioa_check.specs.declared.fault.CheckFault.{CheckFault}
 use Rattle.ioa_check.specs.Declarations.{types_at, automata_at}

@@ -1,9 +1,9 @@
 -- The faults of the check, and their text (profile).
 use Rattle.std.specs.Prelude.{ℕ, List, ◌++◌, Result, Ok, Err, codes}
 use Rattle.std.specs.Fmt.{decimal}
-use Rattle.ioa_sort_rules.specs.declared.refusal.Refusal.{Refusal}
-use Rattle.ioa_sort_rules.specs.declared.refusal.Refusal.TheVariants as refusal
-use Rattle.ioa_sort_rules.specs.Refusals.{refusal_text}
+use Rattle.ioa_refusals.specs.declared.refusal.Refusal.{Refusal}
+use Rattle.ioa_refusals.specs.declared.refusal.Refusal.TheVariants as refusal
+use Rattle.ioa_refusals.specs.Refusals.{refusal_text}
 use Rattle.ioa_check.specs.declared.fault.CheckFault.{CheckFault}
 use Rattle.ioa_check.specs.declared.fault.CheckFault.TheVariants as fault
 

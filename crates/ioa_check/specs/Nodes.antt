@@ -16,9 +16,9 @@ use Rattle.ioa_source.specs.Sides.{SourceNode, SourcePlacement, SourceTerm}
 use Rattle.ioa_source.specs.Sides.{CheckedParameter, CheckedTerm, CheckedVariable}
 use Rattle.ioa_system.specs.InView.{given_bindings}
 use Rattle.ioa_system.specs.Parts.{AutomatonParts, Parts, PlainRule, parts}
-use Rattle.ioa_sort_rules.specs.declared.refusal.Refusal.{Refusal}
-use Rattle.ioa_sort_rules.specs.declared.refusal.Refusal.TheVariants.{Unknown, Twice, NoInitial, NodeGap, Limit}
-use Rattle.ioa_sort_rules.specs.declared.refusal.Refusal.TheVariants.{BadArgument}
+use Rattle.ioa_refusals.specs.declared.refusal.Refusal.{Refusal}
+use Rattle.ioa_refusals.specs.declared.refusal.Refusal.TheVariants.{Unknown, Twice, NoInitial, NodeGap, Limit}
+use Rattle.ioa_refusals.specs.declared.refusal.Refusal.TheVariants.{BadArgument}
 use Rattle.ioa_sorts.specs.Statements.{all_ok}
 use Rattle.ioa_names.specs.NameTables.{words}
 use Rattle.ioa_sorts.specs.Firings.{arguments_at}

@@ -18,7 +18,8 @@ ghost use Rattle.ioa_check.specs.Sections.{channels_in};
 
 use crate::values::gives_number;
 use ioa_actions::{RECEIVE, SEND};
-use ioa_sort_rules::{Refusal, is_same_sort};
+use ioa_refusals::Refusal;
+use ioa_sort_rules::is_same_sort;
 use ioa_source::{Channel, Parameter, Placement};
 use ioa_system::{Program, Rule, program_numbered};
 use ioa_terms::{Callee, Env, Shape};

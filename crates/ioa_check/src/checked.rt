@@ -11,7 +11,7 @@ ghost use Rattle.ioa_check.specs.Grounds.{AreGrounded};
 use crate::checking::check_section;
 use crate::declarations::{automata_of, names_of, types_of};
 use crate::fault::CheckFault;
-use ioa_sort_rules::Refusal;
+use ioa_refusals::Refusal;
 use ioa_source::{Declaration, Placement};
 use ioa_system::CompiledAutomaton;
 use ioa_terms::Names;

@@ -22,7 +22,7 @@ use crate::placed::Placed;
 use crate::scripts::scripts_of;
 use ioa_invariants::Section;
 use ioa_names::{NameTable, View};
-use ioa_sort_rules::Refusal;
+use ioa_refusals::Refusal;
 use ioa_source::{Invariant, Placement, Text};
 use ioa_system::System;
 use ioa_terms::Names;

@@ -11,7 +11,7 @@ ghost use Rattle.ioa_check.specs.Faults.{in_declaration};
 
 use crate::fault::{CheckFault, fault_at};
 use ioa_automata::sort_automaton;
-use ioa_sort_rules::Refusal;
+use ioa_refusals::Refusal;
 use ioa_source::{Automaton, Declaration};
 use ioa_system::{CompiledAutomaton, Scope};
 use ioa_terms::{Names, Word};

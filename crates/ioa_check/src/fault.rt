@@ -3,7 +3,7 @@
 ghost use Rattle.std.specs.Prelude.{◌≡◌};
 ghost use Rattle.ioa_check.specs.Faults.{fault_at};
 
-use ioa_sort_rules::Refusal;
+use ioa_refusals::Refusal;
 use std::alloc::{AllocError, AllocFailed};
 use std::fmt;
 use thiserror::Error;

@@ -11,7 +11,7 @@ ghost use Rattle.ioa_check.specs.Faults.{in_declaration};
 
 use crate::fault::{CheckFault, fault_at};
 use ioa_invariants::{Section, check_invariant};
-use ioa_sort_rules::Refusal;
+use ioa_refusals::Refusal;
 use ioa_source::Invariant;
 use ioa_system::{CompiledInvariant, Scope};
 use std::alloc::{AllocError, Global};

@@ -18,7 +18,7 @@ ghost use Rattle.ioa_check.specs.Sections.{node_at, nodes_in};
 use crate::values::{argument_values, check_constants, gives_number, variable_values};
 use ioa_actions::{RECEIVE, SEND};
 use ioa_names::View;
-use ioa_sort_rules::Refusal;
+use ioa_refusals::Refusal;
 use ioa_sorts::sort_arguments;
 use ioa_source::{Declared, Node, Parameter, Placement};
 use ioa_system::{CompiledAutomaton, Program, Rule};

@@ -17,7 +17,7 @@ ghost use Rattle.ioa_check.specs.Sections.{script_behind, scripts_in};
 use crate::channels::program_or;
 use crate::nodes::{Ground, given_values};
 use ioa_actions::{NodeAction, RECEIVE, SEND};
-use ioa_sort_rules::Refusal;
+use ioa_refusals::Refusal;
 use ioa_source::{Call, Placement, ScriptDeclaration};
 use ioa_system::{CompiledAutomaton, Program, Rule, Script};
 use ioa_terms::{Kind, Word};

@@ -12,7 +12,7 @@ ghost use Rattle.ioa_system.specs.ResolvedPrograms.{IsResolvedGuard, IsResolvedP
 ghost use Rattle.ioa_system.specs.ResolvedPrograms.{AreResolvedTerms, AreResolvedVariables};
 ghost use Rattle.ioa_check.specs.Nodes as spec;
 
-use ioa_sort_rules::Refusal;
+use ioa_refusals::Refusal;
 use ioa_source::{Parameter, Variable};
 use ioa_terms::{Callee, Checked, Env, Shape, TermFault, Value, eval};
 use std::alloc::{AllocError, Global};

@@ -3,7 +3,7 @@
 ghost use Rattle.std.specs.Prelude.{◌≡◌, true, Err, IfOk};
 ghost use Rattle.ioa_terms.specs.View.{term_of};
 ghost use Rattle.ioa_sorts.specs.Sorting.{fit, infer, sorting};
-ghost use Rattle.ioa_sort_rules.specs.declared.refusal.Refusal.TheVariants.{Memory};
+ghost use Rattle.ioa_refusals.specs.declared.refusal.Refusal.TheVariants.{Memory};
 
 use crate::cut::Cut;
 use crate::halt::{Halt, bare, found, halt_of};
@@ -11,7 +11,8 @@ use crate::section::automaton_of;
 use crate::unknown::{Sought, unknown_words};
 use crate::words::{count_words, misfit_words, queue_words, sorts_words};
 use ioa_names::{NameTable, View};
-use ioa_sort_rules::{Refusal, shape_in_terms};
+use ioa_refusals::Refusal;
+use ioa_sort_rules::shape_in_terms;
 use ioa_sorts::{fit, infer};
 use ioa_source::{Sort, Text};
 use ioa_terms::{Name, Shape, Term, Word};

@@ -6,7 +6,7 @@ use crate::halt::Halt;
 use crate::heading::{Heading, seek_parameters, seek_states};
 use crate::index::{index_of_entries, index_of_transitions};
 use crate::rules::{seek_signature, seek_transitions};
-use ioa_sort_rules::Refusal;
+use ioa_refusals::Refusal;
 use ioa_source::{Automaton, Declaration};
 use ioa_terms::Word;
 use ioa_walk::{Walk, one_token};

@@ -3,7 +3,7 @@
 use crate::asking::Ask;
 use crate::halt::Halt;
 use ioa_names::NameTable;
-use ioa_sort_rules::Refusal;
+use ioa_refusals::Refusal;
 use ioa_source::{Declared, Sort};
 use ioa_terms::Word;
 use ioa_tokens::Mark;

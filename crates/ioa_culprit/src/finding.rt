@@ -13,7 +13,7 @@ use crate::invariant::seek_invariant;
 use crate::section::{Section, seek_section};
 use crate::sections::ChecksSections;
 use crate::types::seek_type;
-use ioa_sort_rules::Refusal;
+use ioa_refusals::Refusal;
 use ioa_source::{Declaration, Invariant, Text};
 use ioa_tokens::{CutFault, LocatedToken, Mark, tokens};
 use ioa_types::TextTypes;

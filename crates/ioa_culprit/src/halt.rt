@@ -1,6 +1,6 @@
 //! Why a walk over a declaration ends before its end.
 
-use ioa_sort_rules::Refusal;
+use ioa_refusals::Refusal;
 use ioa_walk::{Lost, Part};
 use std::alloc::{AllocError, AllocFailed, Global};
 

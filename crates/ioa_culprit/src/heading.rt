@@ -6,7 +6,7 @@ use crate::halt::Halt;
 use crate::index::NameIndex;
 use crate::terms::pass_fit;
 use ioa_names::{NameTable, View};
-use ioa_sort_rules::Refusal;
+use ioa_refusals::Refusal;
 use ioa_source::{Automaton, Declared, Entry, Transition, Variable};
 use ioa_terms::{Term, Word};
 use ioa_tokens::Mark;

@@ -5,7 +5,7 @@ use crate::halt::{Halt, bare};
 use crate::readings::readings_of;
 use crate::terms::{pass_fit, pass_term};
 use ioa_names::{NameTable, View};
-use ioa_sort_rules::Refusal;
+use ioa_refusals::Refusal;
 use ioa_source::Invariant;
 use ioa_terms::{Shape, ShapeForm, Word};
 use ioa_walk::{Walk, one_token};

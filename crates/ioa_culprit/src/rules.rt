@@ -9,7 +9,7 @@ use crate::terms::{pass_fit, pass_own, pass_term};
 use crate::unknown::Sought;
 use ioa_actions::{RECEIVE, SEND};
 use ioa_names::{NameTable, View};
-use ioa_sort_rules::Refusal;
+use ioa_refusals::Refusal;
 use ioa_sorts::infer;
 use ioa_source::{Entry, Parameter, Transition};
 use ioa_terms::{Kind, Name, Shape, ShapeForm, Term, Tree, Word, is_same_term};

@@ -11,7 +11,7 @@ use crate::terms::pass_each;
 use crate::unknown::Sought;
 use ioa_actions::{RECEIVE, SEND};
 use ioa_names::{NameTable, View};
-use ioa_sort_rules::Refusal;
+use ioa_refusals::Refusal;
 use ioa_source::{Automaton, Call, Channel, Declaration, Node, Placement, ScriptDeclaration, Text};
 use ioa_terms::{Kind, Shape, Term, Word};
 use ioa_text_reader::{FrontFault, parse};

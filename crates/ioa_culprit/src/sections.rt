@@ -1,6 +1,6 @@
 //! Who is asked about system sections.
 
-use ioa_sort_rules::Refusal;
+use ioa_refusals::Refusal;
 use ioa_source::Placement;
 use std::alloc::Global;
 

@@ -2,7 +2,7 @@
 
 use crate::asking::TermAsk;
 use crate::halt::{Halt, bare, found};
-use ioa_sort_rules::Refusal;
+use ioa_refusals::Refusal;
 use ioa_term_reader::{infix_mark, prefix_mark};
 use ioa_terms::{BinaryOperator, DisplayForm, Name, Shape, ShapeForm, Term};
 use ioa_tokens::Mark;

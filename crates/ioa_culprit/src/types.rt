@@ -6,7 +6,7 @@ use crate::halt::{Halt, bare};
 use crate::index::NameIndex;
 use crate::unknown::is_type;
 use ioa_names::NameTable;
-use ioa_sort_rules::Refusal;
+use ioa_refusals::Refusal;
 use ioa_source::{Declared, TypeDeclaration, TypeForm};
 use ioa_terms::{Shape, ShapeForm, Word};
 use ioa_walk::{Part, Walk, one_token};

@@ -6,7 +6,7 @@ use crate::index::NameIndex;
 use crate::near::is_near;
 use crate::roles::{is_variable, role_of};
 use ioa_names::View;
-use ioa_sort_rules::Refusal;
+use ioa_refusals::Refusal;
 use ioa_source::{Declaration, Sort, Variable};
 use ioa_terms::Word;
 use ioa_tokens::{LocatedToken, Token};

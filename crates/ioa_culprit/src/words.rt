@@ -5,7 +5,8 @@ ghost use Rattle.std.specs.Option.{option_map};
 ghost use Rattle.ioa_culprit.specs.SortTexts as spec;
 
 use ioa_names::View;
-use ioa_sort_rules::{Arity, Refusal, Single, arity_of, single_of};
+use ioa_refusals::Refusal;
+use ioa_sort_rules::{Arity, Single, arity_of, single_of};
 use ioa_sorts::infer;
 use ioa_terms::{
     BinaryOperator, Function, Name, Shape, ShapeForm, Term, UnaryOperator, Word, is_inbox,

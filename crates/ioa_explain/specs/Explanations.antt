@@ -8,7 +8,7 @@ use Rattle.ioa_explain.specs.declared.explaining.Finding.{Finding}
 use Rattle.ioa_explain.specs.declared.explaining.Finding.TheVariants.{NothingWrong, Refused}
 use Rattle.ioa_explain.specs.declared.verdict.Verdict.{Verdict}
 use Rattle.ioa_explain.specs.declared.verdict.Verdict.TheVariants as verdict
-use Rattle.ioa_sort_rules.specs.declared.refusal.Refusal.{Refusal}
+use Rattle.ioa_refusals.specs.declared.refusal.Refusal.{Refusal}
 use Rattle.ioa_walk.specs.declared.span.Span.{Span}
 use Rattle.ioa_explain.specs.Pages.{TellsRefused, TellsUnread}
 use Rattle.ioa_explain.specs.FurtherFaults.{TellsFurther}

@@ -2,7 +2,7 @@
 use Rattle.std.specs.Prelude.{◌≡◌, ◌++◌, ◌==◌, ◌||◌, ℕ, Bool, true, if◌then◌else◌, List, [], Some, codes}
 use Rattle.std.specs.Fmt.{decimal}
 use lib.Pointwise.{pointwise}
-use Rattle.ioa_sort_rules.specs.declared.refusal.Refusal.{Refusal}
+use Rattle.ioa_refusals.specs.declared.refusal.Refusal.{Refusal}
 use Rattle.ioa_walk.specs.declared.span.Span.{Span}
 use Rattle.ioa_walk.specs.Places.{IsSpanIn}
 use Rattle.ioa_explain.specs.Pages.{TellsRefused}

@@ -1,8 +1,8 @@
 -- What is told of a refused text (profile).
 use Rattle.std.specs.Prelude.{◌≡◌, ◌++◌, ◌==◌, ℕ, if◌then◌else◌, List, [], length, Option, Ok, codes, drop, take}
 use Rattle.std.specs.Fmt.{decimal}
-use Rattle.ioa_sort_rules.specs.declared.refusal.Refusal.{Refusal}
-use Rattle.ioa_sort_rules.specs.Refusals.{refusal_text}
+use Rattle.ioa_refusals.specs.declared.refusal.Refusal.{Refusal}
+use Rattle.ioa_refusals.specs.Refusals.{refusal_text}
 use Rattle.ioa_text_reader.specs.declared.fault.FrontFault.{FrontFault}
 use Rattle.ioa_text_reader.specs.declared.fault.FrontFault.TheVariants as front
 use Rattle.ioa_text_reader.specs.Texts.{length_limit}

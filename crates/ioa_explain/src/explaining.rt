@@ -12,7 +12,7 @@ use crate::reading::unread_page;
 use crate::refused::refused_page;
 use crate::verdict::{Judged, Verdict, judge};
 use ioa_culprit::Span;
-use ioa_sort_rules::Refusal;
+use ioa_refusals::Refusal;
 use ioa_streams::{Out, OutFailed, put_all};
 use std::alloc::{AllocError, Global};
 

@@ -14,7 +14,7 @@ use crate::verdict::{Judged, Verdict, judge};
 use ioa_actions::RECEIVE;
 use ioa_culprit::Span;
 use ioa_place::token_at;
-use ioa_sort_rules::Refusal;
+use ioa_refusals::Refusal;
 use ioa_terms::Word;
 use ioa_tokens::{LocatedToken, Mark, Token};
 use ioa_walk::{Part, is_mark, one_token, span_of};

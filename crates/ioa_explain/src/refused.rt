@@ -10,7 +10,7 @@ use crate::page::{push_detail, push_if_any, push_title};
 use crate::sentences::rule_of;
 use ioa_culprit::Span;
 use ioa_place::{declaration_at, place_at, show_part, token_length};
-use ioa_sort_rules::Refusal;
+use ioa_refusals::Refusal;
 use ioa_tokens::{LocatedToken, Mark, Token};
 use std::alloc::{AllocError, Global};
 

@@ -2,7 +2,7 @@
 
 use ioa_check::{CheckFault, CheckedDeclarations, MOST_CHANNELS, MOST_NODES};
 use ioa_culprit::ChecksSections;
-use ioa_sort_rules::Refusal;
+use ioa_refusals::Refusal;
 use ioa_source::{Placement, Text};
 use std::alloc::{AllocError, Global};
 

@@ -3,7 +3,7 @@
 ghost use Rattle.std.specs.Prelude.{◌≡◌};
 ghost use Rattle.ioa_explain.specs.Sentences as spec;
 
-use ioa_sort_rules::Refusal;
+use ioa_refusals::Refusal;
 use ioa_text_reader::FrontFault;
 
 /// The number and the name of a refusal of the reader.

@@ -9,7 +9,7 @@ ghost use Rattle.ioa_explain.specs.Verdicts.{HasTokens};
 use crate::sections::Sections;
 use ioa_check::{CheckFault, check};
 use ioa_culprit::{Search, Span, Spot, culprit};
-use ioa_sort_rules::Refusal;
+use ioa_refusals::Refusal;
 use ioa_system::System;
 use ioa_text_reader::{FrontFault, Source, parse};
 use ioa_tokens::LocatedToken;

@@ -8,7 +8,7 @@ use Rattle.ioa_source.specs.Sides.{SourceInvariant}
 use Rattle.ioa_source.specs.declared.declaration.Channel.{Channel}
 use Rattle.ioa_system.specs.Invariants.{InvariantParts, invariant_parts}
 use Rattle.ioa_system.specs.Parts.{Parts}
-use Rattle.ioa_sort_rules.specs.declared.refusal.Refusal.{Refusal}
+use Rattle.ioa_refusals.specs.declared.refusal.Refusal.{Refusal}
 use Rattle.ioa_names.specs.NameTables.{words}
 use Rattle.ioa_sorts.proofs.Complete.{fit_complete}
 use Rattle.ioa_invariants.specs.Checked.{invariant_at}

@@ -12,7 +12,7 @@ use Rattle.ioa_source.specs.Sides.{SourceInvariant, SourceTerm, CheckedTerm}
 use Rattle.ioa_source.specs.declared.declaration.Channel.{Channel}
 use Rattle.ioa_system.specs.Invariants.{InvariantParts, invariant_parts}
 use Rattle.ioa_system.specs.Parts.{Parts}
-use Rattle.ioa_sort_rules.specs.declared.refusal.Refusal.{Refusal}
+use Rattle.ioa_refusals.specs.declared.refusal.Refusal.{Refusal}
 use Rattle.ioa_names.specs.NameTables.{declared_names, words}
 use Rattle.ioa_names.specs.Views.{AreWords}
 use Rattle.ioa_sorts.specs.Sorting.{fit, sorting}

@@ -9,7 +9,7 @@ use Rattle.ioa_source.specs.declared.declaration.Channel.{Channel}
 use Rattle.ioa_system.specs.Invariants.{InvariantParts, invariant_parts}
 use Rattle.ioa_system.specs.Parts.{Parts}
 use Rattle.ioa_sort_rules.specs.DeclaredTypes.{TupleTypes, IsDeclared, AreAllDeclared}
-use Rattle.ioa_sort_rules.specs.declared.refusal.Refusal.{Refusal}
+use Rattle.ioa_refusals.specs.declared.refusal.Refusal.{Refusal}
 use Rattle.ioa_names.specs.NameTables.{words}
 use Rattle.ioa_sorts.specs.Sorting.{fit, sorting}
 use Rattle.ioa_invariants.specs.ReadNames.{read_in}

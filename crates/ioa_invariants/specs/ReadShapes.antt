@@ -9,8 +9,8 @@ use Rattle.ioa_terms.specs.declared.name.Name.TheVariants.{Word, Variable, Queue
 use Rattle.ioa_source.specs.declared.declaration.Channel.{Channel}
 use Rattle.ioa_system.specs.Parts.{Parts, message_shape, variable_named}
 use Rattle.ioa_system.specs.Systems.{program_numbered}
-use Rattle.ioa_sort_rules.specs.declared.refusal.Refusal.{Refusal}
-use Rattle.ioa_sort_rules.specs.declared.refusal.Refusal.TheVariants.{Unknown}
+use Rattle.ioa_refusals.specs.declared.refusal.Refusal.{Refusal}
+use Rattle.ioa_refusals.specs.declared.refusal.Refusal.TheVariants.{Unknown}
 use Rattle.ioa_sorts.specs.Statements.{all_ok}
 
 -- whether a channel is the one from node i to node j

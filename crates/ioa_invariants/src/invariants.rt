@@ -15,7 +15,7 @@ ghost use Rattle.ioa_invariants.specs.Checked.{AreDeclaredParts};
 use crate::names::names_read;
 use crate::shapes::reading_shapes;
 use ioa_names::{NameTable, Readings, View};
-use ioa_sort_rules::Refusal;
+use ioa_refusals::Refusal;
 use ioa_sorts::fit;
 use ioa_source::{Channel, Invariant};
 use ioa_system::{CompiledInvariant, Program};

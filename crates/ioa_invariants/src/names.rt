@@ -7,7 +7,7 @@ ghost use Rattle.ioa_terms.specs.View.{term_of};
 ghost use Rattle.ioa_invariants.specs.ReadNames as spec;
 
 use ioa_names::ReadNames;
-use ioa_sort_rules::Refusal;
+use ioa_refusals::Refusal;
 use ioa_terms::{Name, Term, Word};
 use std::alloc::{AllocError, Global};
 

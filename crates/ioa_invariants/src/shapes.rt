@@ -8,7 +8,7 @@ ghost use Rattle.std.specs.Option.{option_copied, option_map};
 ghost use Rattle.ioa_operators.specs.Shapes.{sequences};
 ghost use Rattle.ioa_invariants.specs.ReadShapes as spec;
 
-use ioa_sort_rules::Refusal;
+use ioa_refusals::Refusal;
 use ioa_source::Channel;
 use ioa_system::{Program, message_shape, program_numbered};
 use ioa_terms::{Name, Shape, ShapeForm, Word};

@@ -7,8 +7,8 @@ use Rattle.ioa_terms.specs.declared.name.Name.{Name}
 use Rattle.ioa_terms.specs.declared.name.Name.TheVariants.{Word}
 use Rattle.ioa_terms.specs.Bindings.{same_name, same_word, slot_in}
 use Rattle.ioa_terms.specs.Sorted.{NameShapes, shape_named}
-use Rattle.ioa_sort_rules.specs.declared.refusal.Refusal.{Refusal}
-use Rattle.ioa_sort_rules.specs.declared.refusal.Refusal.TheVariants.{Twice}
+use Rattle.ioa_refusals.specs.declared.refusal.Refusal.{Refusal}
+use Rattle.ioa_refusals.specs.declared.refusal.Refusal.TheVariants.{Twice}
 use Rattle.ioa_names.specs.NameTables.{declared_names, named_newly, with_name, words}
 
 -- no shapes

@@ -9,7 +9,8 @@ ghost use Rattle.ioa_terms.specs.Sorted as sorted;
 ghost use Rattle.ioa_names.specs.NameTables as spec;
 ghost use Rattle.ioa_names.specs.Views as views;
 
-use ioa_sort_rules::{Refusal, shape_in_terms};
+use ioa_refusals::Refusal;
+use ioa_sort_rules::shape_in_terms;
 use ioa_system::Scope;
 use ioa_terms::{Name, Shape, Word};
 use std::alloc::{AllocError, Global};

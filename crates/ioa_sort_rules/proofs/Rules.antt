@@ -9,8 +9,8 @@ use Rattle.ioa_operators.specs.declared.operator.BinaryOperator.TheVariants as b
 use Rattle.ioa_operators.specs.declared.operator.Function.{Function}
 use Rattle.ioa_operators.specs.declared.operator.Function.TheVariants as function
 use Rattle.ioa_terms.specs.Sorted.{UnaryIs, negation, negative, BinaryIs, equivalent, implies, either, both, equal, differ, below, at_most, above, at_least, item_of, member_of, prepended, appended, joined, sum, difference, product, at_key, FunctionIs, head, tail, items, members, keys, quotient, remainder, inserted, deleted, united, updated, removed, defined}
-use Rattle.ioa_sort_rules.specs.declared.refusal.Refusal.{Refusal}
-use Rattle.ioa_sort_rules.specs.declared.refusal.Refusal.TheVariants.{EmptyOfWhat}
+use Rattle.ioa_refusals.specs.declared.refusal.Refusal.{Refusal}
+use Rattle.ioa_refusals.specs.declared.refusal.Refusal.TheVariants.{EmptyOfWhat}
 use Rattle.ioa_sort_rules.specs.declared.kinds.Single.{Single}
 use Rattle.ioa_sort_rules.specs.declared.kinds.Single.TheVariants as single
 use Rattle.ioa_sort_rules.specs.declared.kinds.Alike.{Alike}

@@ -3,4 +3,3 @@ pub mod Kinds
 pub mod Rows
 pub mod SameSorts
 pub mod DeclaredTypes
-pub mod Refusals

@@ -3,8 +3,8 @@ use Rattle.std.specs.Prelude.{ℕ, List, Option, Some, None, Result, Ok, Err}
 use Rattle.ioa_values.specs.Outcome.{and_then}
 use Rattle.ioa_operators.specs.Shapes.{PlainShape, truths, integers, tuples, sequences, sets, maps}
 use Rattle.ioa_terms.specs.Sorted.{shape_in_terms, field_shape}
-use Rattle.ioa_sort_rules.specs.declared.refusal.Refusal.{Refusal}
-use Rattle.ioa_sort_rules.specs.declared.refusal.Refusal.TheVariants.{Unknown, Sorts, EmptyOfWhat}
+use Rattle.ioa_refusals.specs.declared.refusal.Refusal.{Refusal}
+use Rattle.ioa_refusals.specs.declared.refusal.Refusal.TheVariants.{Unknown, Sorts, EmptyOfWhat}
 use Rattle.ioa_sort_rules.specs.declared.kinds.Single.{Single}
 use Rattle.ioa_sort_rules.specs.declared.kinds.Single.TheVariants as single
 use Rattle.ioa_sort_rules.specs.declared.kinds.Alike.{Alike}

@@ -6,7 +6,7 @@ ghost use Rattle.ioa_operators.specs.declared.operator.BinaryOperator.{BinaryOpe
 ghost use Rattle.ioa_operators.specs.declared.operator.Function.{Function};
 ghost use Rattle.ioa_operators.specs.declared.operator.UnaryOperator.{UnaryOperator};
 ghost use Rattle.ioa_terms.specs.Sorted.{UnaryIs, BinaryIs, FunctionIs};
-ghost use Rattle.ioa_sort_rules.specs.declared.refusal.Refusal.{Refusal};
+ghost use Rattle.ioa_refusals.specs.declared.refusal.Refusal.{Refusal};
 ghost use Rattle.ioa_sort_rules.specs.declared.kinds.Arity.{Arity};
 ghost use Rattle.ioa_sort_rules.specs.declared.kinds.Single.{Single};
 ghost use Rattle.ioa_sort_rules.specs.declared.kinds.Pairing.{Pairing};

@@ -1,5 +1,4 @@
-//! Which sorts operators and functions take and give, a row a kind, why two displays have no sort, and the refusals
-//! of the check with their numbers and names.
+//! Which sorts operators and functions take and give, a row a kind, and why two displays have no sort.
 //!
 //! **A crate of its own**, since the rows are proved to be the shapes of the language without a tree in sight.
 //!
@@ -10,13 +9,11 @@
 
 mod kinds;
 mod laws;
-mod refusal;
 mod rows;
 mod shapes;
 
 pub use kinds::{Alike, Arity, Pairing, Single, arity_of, pairing_of, single_of};
 pub use laws::sort_rules_law;
-pub use refusal::Refusal;
 pub use rows::{
     Sides, entry_of, other_of_left, other_of_right, undetermined, undetermined_alone,
     value_of_alike, value_of_field, value_of_one,

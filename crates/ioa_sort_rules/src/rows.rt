@@ -7,9 +7,9 @@ ghost use Rattle.ioa_operators.specs.Shapes.{field_position, shapes_of, tuples};
 ghost use Rattle.ioa_sort_rules.specs.Rows as spec;
 
 use crate::kinds::{Alike, Pairing, Single};
-use crate::refusal::Refusal;
 use crate::shapes::{sequence_of, set_of, shape_in_terms};
 use ioa_operators::{Shape, ShapeForm};
+use ioa_refusals::Refusal;
 use ioa_values::Word;
 use std::alloc::{AllocError, Global};
 

@@ -5,7 +5,7 @@ use Rattle.ioa_operators.specs.Shapes.{PlainShape}
 use Rattle.ioa_terms.specs.PlainTerm.{terms_of}
 use Rattle.ioa_terms.specs.Sorted.{NameShapes, shape_in_terms}
 use Rattle.ioa_source.specs.Sides.{SourceTerm, CheckedTerm}
-use Rattle.ioa_sort_rules.specs.declared.refusal.Refusal.{Refusal}
+use Rattle.ioa_refusals.specs.declared.refusal.Refusal.{Refusal}
 use Rattle.ioa_sorts.specs.Sorting.{fit, each_fit, sorting, sortings}
 use Rattle.ioa_sorts.specs.Firings.{arguments_at}
 

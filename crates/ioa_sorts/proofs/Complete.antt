@@ -22,7 +22,7 @@ use Rattle.ioa_terms.specs.Resolved.{IsResolved, AreTermsResolved}
 use Rattle.ioa_terms.specs.Sorted.{NameShapes, CallBy, HasShape, HaveShapes, DisplayIs, FunctionIs, head, tail, items, members, keys, quotient, remainder, inserted, deleted, united, updated, removed, defined, BinaryIs, equivalent, implies, either, both, equal, differ, below, at_most, above, at_least, item_of, member_of, prepended, appended, joined, sum, difference, product, at_key, shape_named, shape_in_terms, field_shape, listed_shapes}
 use Rattle.ioa_source.specs.Erasure.{erase_term, erase_terms}
 use Rattle.ioa_source.specs.Sides.{SourceTerm}
-use Rattle.ioa_sort_rules.specs.declared.refusal.Refusal.{Refusal}
+use Rattle.ioa_refusals.specs.declared.refusal.Refusal.{Refusal}
 use Rattle.ioa_sort_rules.specs.declared.kinds.Single.{Single}
 use Rattle.ioa_sort_rules.specs.declared.kinds.Pairing.{Pairing}
 use Rattle.ioa_sort_rules.specs.declared.kinds.Pairing.TheVariants.{Both, Membership, Prepend, Append, Members, At, Removal, Definition}

@@ -15,7 +15,7 @@ use Rattle.ioa_system.specs.Parts.{PlainRule, rule_names}
 use Rattle.ioa_terms.specs.Sorted.{NameShapes, HasShape, shape_in_terms}
 use Rattle.ioa_source.specs.Erasure.{erase_term, erase_firing, erase_target, erase_statement, erase_statements, erase_arms}
 use Rattle.ioa_source.specs.Sides.{SourceFiring, SourceStatement, CheckedTerm, CheckedFiring}
-use Rattle.ioa_sort_rules.specs.declared.refusal.Refusal.{Refusal}
+use Rattle.ioa_refusals.specs.declared.refusal.Refusal.{Refusal}
 use Rattle.ioa_sort_rules.specs.Rows.{value_of_field}
 use Rattle.ioa_typed.specs.Parts.{SortedTerm}
 use Rattle.ioa_sorts.specs.Sorting.{fit, sorting}

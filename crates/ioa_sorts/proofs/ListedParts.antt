@@ -6,7 +6,7 @@ use Rattle.ioa_terms.specs.declared.callee.Callee.{Callee}
 use Rattle.ioa_terms.specs.PlainTerm.{call, no_terms, term, terms_of}
 use Rattle.ioa_terms.specs.Sorted.{NameShapes, shape_in_terms}
 use Rattle.ioa_source.specs.Sides.{SourceTerm}
-use Rattle.ioa_sort_rules.specs.declared.refusal.Refusal.TheVariants.{Sorts}
+use Rattle.ioa_refusals.specs.declared.refusal.Refusal.TheVariants.{Sorts}
 use Rattle.ioa_sort_rules.specs.declared.kinds.Single.{Single}
 use Rattle.ioa_sort_rules.specs.declared.kinds.Pairing.{Pairing}
 use Rattle.ioa_sort_rules.specs.Rows.{PlainSides}

@@ -12,8 +12,8 @@ use Rattle.ioa_system.specs.Parts.{PlainRule}
 use Rattle.ioa_terms.specs.Sorted.{NameShapes, HasShape, shape_in_terms}
 use Rattle.ioa_source.specs.Erasure.{erase_term, erase_firing, erase_target, erase_statements, erase_arms}
 use Rattle.ioa_source.specs.Sides.{SourceTarget, SourceTerm, SourceStatement, SourceStatements, SourceArms, SourceFiring, CheckedTerm, CheckedFiring}
-use Rattle.ioa_sort_rules.specs.declared.refusal.Refusal.{Refusal}
-use Rattle.ioa_sort_rules.specs.declared.refusal.Refusal.TheVariants.{Unknown}
+use Rattle.ioa_refusals.specs.declared.refusal.Refusal.{Refusal}
+use Rattle.ioa_refusals.specs.declared.refusal.Refusal.TheVariants.{Unknown}
 use Rattle.ioa_sort_rules.specs.Rows.{entry_of, value_of_field}
 use Rattle.ioa_typed.specs.Parts.{SortedTerm}
 use Rattle.ioa_sorts.specs.Sorting.{fit, sorting}

@@ -10,8 +10,8 @@ use Rattle.ioa_terms.specs.SameTerms.{same_kind}
 use Rattle.ioa_terms.specs.Sorted.{NameShapes, shape_in_terms}
 use Rattle.ioa_source.specs.Sides.{SourceTerm, SourceFiring, CheckedTerm, CheckedFiring}
 use Rattle.ioa_system.specs.Parts.{PlainRule}
-use Rattle.ioa_sort_rules.specs.declared.refusal.Refusal.{Refusal}
-use Rattle.ioa_sort_rules.specs.declared.refusal.Refusal.TheVariants.{Unknown, Sorts}
+use Rattle.ioa_refusals.specs.declared.refusal.Refusal.{Refusal}
+use Rattle.ioa_refusals.specs.declared.refusal.Refusal.TheVariants.{Unknown, Sorts}
 use Rattle.ioa_sorts.specs.Sorting.{fit, sorting}
 
 -- whether a firing is of an entry: it names the entry's actions, and its kind if it has one

@@ -11,8 +11,8 @@ use Rattle.ioa_terms.specs.PlainTerm.{PlainStatements, no_statements, statement,
 use Rattle.ioa_terms.specs.PlainTerm.{arms_of}
 use Rattle.ioa_terms.specs.Sorted.{NameShapes, shape_in_terms}
 use Rattle.ioa_source.specs.Sides.{SourceTarget, SourceTerm, SourceStatement, SourceStatements, SourceArms}
-use Rattle.ioa_sort_rules.specs.declared.refusal.Refusal.{Refusal}
-use Rattle.ioa_sort_rules.specs.declared.refusal.Refusal.TheVariants.{Unknown, ScheduleAssignsState}
+use Rattle.ioa_refusals.specs.declared.refusal.Refusal.{Refusal}
+use Rattle.ioa_refusals.specs.declared.refusal.Refusal.TheVariants.{Unknown, ScheduleAssignsState}
 use Rattle.ioa_sort_rules.specs.Rows.{entry_of, value_of_field}
 use Rattle.ioa_typed.specs.Parts.{SortedTerm}
 use Rattle.ioa_sorts.specs.Sorting.{fit, sorting}

@@ -10,7 +10,7 @@ ghost use Rattle.ioa_sorts.specs.Sorting as spec;
 
 use crate::sorting::{fit, fit_declared};
 use ioa_names::View;
-use ioa_sort_rules::Refusal;
+use ioa_refusals::Refusal;
 use ioa_terms::{Checked, DisplayForm, Shape, ShapeForm, Term};
 use ioa_typed::display_term;
 use std::alloc::Global;

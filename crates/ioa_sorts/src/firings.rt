@@ -8,7 +8,7 @@ ghost use Rattle.ioa_sorts.specs.Firings as spec;
 
 use crate::displays::fit_each;
 use ioa_names::View;
-use ioa_sort_rules::Refusal;
+use ioa_refusals::Refusal;
 use ioa_system::{Rule, Rules};
 use ioa_terms::{Callee, Checked, Firing, Kind, Shape, Term};
 use std::alloc::Global;

@@ -5,7 +5,7 @@ ghost use Rattle.std.specs.List.{IsDistinct};
 ghost use Rattle.ioa_operators.specs.Shapes.{PlainShape};
 ghost use Rattle.ioa_terms.specs.Sorted.{NameShapes};
 ghost use Rattle.ioa_source.specs.Sides.{SourceTerm, SourceStatement};
-ghost use Rattle.ioa_sort_rules.specs.declared.refusal.Refusal.{Refusal};
+ghost use Rattle.ioa_refusals.specs.declared.refusal.Refusal.{Refusal};
 ghost use Rattle.ioa_typed.specs.Parts.{SortedTerm, typed};
 ghost use Rattle.ioa_sorts.specs.Sorting.{infer, fit, sorting};
 ghost use Rattle.ioa_sorts.specs.Determined.{is_display, IsDetermined};

@@ -9,9 +9,8 @@ ghost use Rattle.ioa_sorts.specs.Sorting as spec;
 
 use crate::sorting::{fit, infer_part};
 use ioa_names::View;
-use ioa_sort_rules::{
-    Pairing, Refusal, Sides, entry_of, other_of_left, other_of_right, undetermined,
-};
+use ioa_refusals::Refusal;
+use ioa_sort_rules::{Pairing, Sides, entry_of, other_of_left, other_of_right, undetermined};
 use ioa_terms::Term;
 use ioa_typed::{
     Pair, Typed, Update, entry_known, pair_by_left, pair_by_right, right_tells, update_by_entry,

@@ -12,7 +12,8 @@ use crate::calls::call;
 use crate::displays::display;
 use crate::parts::two_parts;
 use ioa_names::View;
-use ioa_sort_rules::{Refusal, pairing_of, shape_in_terms, single_of};
+use ioa_refusals::Refusal;
+use ioa_sort_rules::{pairing_of, shape_in_terms, single_of};
 use ioa_terms::{Checked, Name, Shape, Term};
 use ioa_typed::{
     Typed, field_known, fit_typed, name_term, number_term, one_term, part_known, truth_term,

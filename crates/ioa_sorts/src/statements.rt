@@ -17,7 +17,8 @@ use crate::firings::sort_firing;
 use crate::site::StatementSite;
 use crate::sorting::fit;
 use ioa_names::View;
-use ioa_sort_rules::{Refusal, Sides, entry_of, shape_in_terms, value_of_field};
+use ioa_refusals::Refusal;
+use ioa_sort_rules::{Sides, entry_of, shape_in_terms, value_of_field};
 use ioa_terms::{Arm, Callee, Checked, Firing, Shape, ShapeForm, Statement, Target, Term, Word};
 use std::alloc::{AllocError, Global};
 

@@ -6,8 +6,8 @@ use Rattle.ioa_operators.specs.Shapes.{PlainShape}
 use Rattle.ioa_operators.specs.declared.shape.Shape.{Shape}
 use Rattle.ioa_terms.specs.declared.callee.Callee.{Callee}
 use Rattle.ioa_terms.specs.PlainTerm.{PlainTerm, field}
-use Rattle.ioa_sort_rules.specs.declared.refusal.Refusal.{Refusal}
-use Rattle.ioa_sort_rules.specs.declared.refusal.Refusal.TheVariants.{Sorts, EmptyOfWhat}
+use Rattle.ioa_refusals.specs.declared.refusal.Refusal.{Refusal}
+use Rattle.ioa_refusals.specs.declared.refusal.Refusal.TheVariants.{Sorts, EmptyOfWhat}
 use Rattle.ioa_sort_rules.specs.declared.kinds.Single.{Single}
 use Rattle.ioa_sort_rules.specs.declared.kinds.Pairing.{Pairing}
 use Rattle.ioa_sort_rules.specs.Rows.{value_of_one, other_of_right, value_of_field, undetermined, undetermined_alone}

@@ -9,7 +9,8 @@ ghost use Rattle.ioa_typed.specs.Parts as spec;
 ghost use Rattle.ioa_typed.specs.PartsView.{typed_of, pair_of};
 
 use crate::terms::{Typed, fit_typed};
-use ioa_sort_rules::{Pairing, Refusal, Sides, other_of_right, undetermined};
+use ioa_refusals::Refusal;
+use ioa_sort_rules::{Pairing, Sides, other_of_right, undetermined};
 use ioa_terms::{BinaryOperator, Checked, Shape};
 use std::alloc::{AllocError, Global};
 

@@ -10,9 +10,8 @@ ghost use Rattle.ioa_terms.specs.View.{term_of};
 ghost use Rattle.ioa_typed.specs.Parts as spec;
 ghost use Rattle.ioa_typed.specs.PartsView.{typed_of};
 
-use ioa_sort_rules::{
-    Refusal, Single, is_same_sort, undetermined_alone, value_of_field, value_of_one,
-};
+use ioa_refusals::Refusal;
+use ioa_sort_rules::{Single, is_same_sort, undetermined_alone, value_of_field, value_of_one};
 use ioa_terms::{Checked, DisplayForm, Name, Shape, ShapeForm, UnaryOperator, Word};
 use std::alloc::{AllocError, Global};
 

@@ -13,8 +13,8 @@ use Rattle.ioa_terms.specs.Bindings.{same_word}
 use Rattle.ioa_terms.specs.Sorted.{NameShapes}
 use Rattle.ioa_source.specs.PlainText.{enumeration, tuple_of}
 use Rattle.ioa_source.specs.Sides.{SourceDeclared, SourceForm, SourceType}
-use Rattle.ioa_sort_rules.specs.declared.refusal.Refusal.{Refusal}
-use Rattle.ioa_sort_rules.specs.declared.refusal.Refusal.TheVariants.{Limit, Twice}
+use Rattle.ioa_refusals.specs.declared.refusal.Refusal.{Refusal}
+use Rattle.ioa_refusals.specs.declared.refusal.Refusal.TheVariants.{Limit, Twice}
 use Rattle.ioa_types.specs.declared.height.TheConstants.{SHAPE_LIMIT}
 use Rattle.ioa_names.specs.NameTables.{AreDistinct, with_name, with_names}
 use Rattle.ioa_types.specs.TypeTables.{TypeTable, limited, shape_of_sort, field_shapes, are_new, field_names, tuple_shape}

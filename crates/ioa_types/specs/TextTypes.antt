@@ -8,7 +8,7 @@ use Rattle.ioa_terms.specs.contracts.name.Name as called
 use Rattle.ioa_terms.specs.Sorted.{NameShapes}
 use Rattle.ioa_source.specs.PlainText.{enumeration, tuple_of}
 use Rattle.ioa_source.specs.Sides.{SourceDeclared, SourceForm, SourceType}
-use Rattle.ioa_sort_rules.specs.declared.refusal.Refusal.{Refusal}
+use Rattle.ioa_refusals.specs.declared.refusal.Refusal.{Refusal}
 use Rattle.ioa_names.specs.NameTables.{with_name}
 use Rattle.ioa_types.specs.TypeTables.{TypeTable, tuple_shape}
 

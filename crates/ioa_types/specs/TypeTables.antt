@@ -13,8 +13,8 @@ use Rattle.ioa_terms.specs.Sorted.{NameShapes, shape_named}
 use Rattle.ioa_terms.specs.PlainSort as sort
 use Rattle.ioa_terms.specs.PlainSort.{PlainSort}
 use Rattle.ioa_source.specs.Sides.{SourceDeclared}
-use Rattle.ioa_sort_rules.specs.declared.refusal.Refusal.{Refusal}
-use Rattle.ioa_sort_rules.specs.declared.refusal.Refusal.TheVariants.{Unknown, Twice, Limit}
+use Rattle.ioa_refusals.specs.declared.refusal.Refusal.{Refusal}
+use Rattle.ioa_refusals.specs.declared.refusal.Refusal.TheVariants.{Unknown, Twice, Limit}
 use Rattle.ioa_types.specs.declared.height.TheConstants.{SHAPE_LIMIT}
 
 -- the types in the order of their declarations

@@ -7,7 +7,7 @@ ghost use Rattle.ioa_operators.specs.Shapes.{sequences, sets, maps};
 ghost use Rattle.ioa_types.specs.TypeTables as spec;
 
 use ioa_operators::{Shape, ShapeForm};
-use ioa_sort_rules::Refusal;
+use ioa_refusals::Refusal;
 use ioa_values::Word;
 use std::alloc::{AllocError, Global};
 use std::marker::Model;

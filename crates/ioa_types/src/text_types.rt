@@ -9,7 +9,7 @@ ghost use Rattle.ioa_types.specs.TextTypes as spec;
 use crate::height::ShapeWithHeight;
 use crate::types::Types;
 use ioa_names::NameTable;
-use ioa_sort_rules::Refusal;
+use ioa_refusals::Refusal;
 use ioa_source::{Declared, TypeDeclaration, TypeForm};
 use ioa_terms::{Shape, Word};
 use std::alloc::Global;

@@ -9,7 +9,7 @@ ghost use Rattle.ioa_names.specs.NameTables.{with_name};
 ghost use Rattle.ioa_types.specs.TypeTables as spec;
 
 use crate::height::{FieldShapes, ShapeWithHeight};
-use ioa_sort_rules::Refusal;
+use ioa_refusals::Refusal;
 use ioa_source::{Declared, Sort};
 use ioa_system::Scope;
 use ioa_terms::{Name, Word};

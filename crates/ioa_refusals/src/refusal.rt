@@ -1,7 +1,7 @@
 //! Why a text is refused.
 
 ghost use Rattle.std.specs.Prelude.{◌≡◌};
-ghost use Rattle.ioa_sort_rules.specs.Refusals.{refusal_name, refusal_number};
+ghost use Rattle.ioa_refusals.specs.Refusals.{refusal_name, refusal_number};
 
 use std::alloc::{AllocError, AllocFailed};
 use std::fmt;
@@ -98,7 +98,7 @@ impl Refusal {
 
 impl fmt::Display for Refusal {
     ghost use Rattle.std.specs.Prelude.{Some};
-    ghost use Rattle.ioa_sort_rules.specs.Refusals.{refusal_text};
+    ghost use Rattle.ioa_refusals.specs.Refusals.{refusal_text};
 
     ghost output = { λ r. Some (refusal_text r) };
 
@@ -111,7 +111,7 @@ impl fmt::Display for Refusal {
 
 impl From<AllocError> for Refusal {
     ghost use Rattle.std.specs.Prelude.{◌≡◌};
-    ghost use Rattle.ioa_sort_rules.specs.declared.refusal.Refusal.TheVariants.{Memory};
+    ghost use Rattle.ioa_refusals.specs.declared.refusal.Refusal.TheVariants.{Memory};
 
     ghost from_gives = { λ _ e. e ≡ Memory };
 
@@ -122,7 +122,7 @@ impl From<AllocError> for Refusal {
 
 impl<T: Drop> From<AllocFailed<T>> for Refusal {
     ghost use Rattle.std.specs.Prelude.{◌≡◌};
-    ghost use Rattle.ioa_sort_rules.specs.declared.refusal.Refusal.TheVariants.{Memory};
+    ghost use Rattle.ioa_refusals.specs.declared.refusal.Refusal.TheVariants.{Memory};
 
     ghost from_gives = { λ _ e. e ≡ Memory };
 

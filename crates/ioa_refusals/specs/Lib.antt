@@ -1,0 +1,2 @@
+-- what the contracts of this crate and of those above it cite
+pub mod Refusals
