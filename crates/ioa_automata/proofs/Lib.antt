@@ -7,6 +7,6 @@ pub mod Sound
 pub mod BlockNames
 pub mod SoundRules
 pub mod Complete
-pub mod Compiled
+pub mod CheckedAutomata
 pub mod DeclaredShapes
 pub mod Ready

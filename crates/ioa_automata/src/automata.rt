@@ -23,7 +23,7 @@ use crate::schedules::{block_own_words, sort_schedule};
 use ioa_names::{NameTable, View};
 use ioa_refusals::Refusal;
 use ioa_source::{Automaton, Declared, Entry, Schedule, Transition, Variable};
-use ioa_system::{CompiledAutomaton, Rule, Rules, Scope};
+use ioa_system::{CheckedAutomaton, Rule, Rules, Scope};
 use ioa_terms::{Callee, Names, Shape, Word};
 use ioa_types::TextTypes;
 use std::alloc::Global;
@@ -257,7 +257,7 @@ pub fn sort_automaton(
     types: &TextTypes,
     constants: &Arc<Names>,
     automaton: &Automaton<(), (), ()>,
-) -> Result<CompiledAutomaton, Refusal>
+) -> Result<CheckedAutomaton, Refusal>
     requires { arc_value constants.now ≡ words types.now.constants }
     ensures { Answers Refusal.Memory (λ a. a) result
         (spec.automaton_at types.now (automaton_of automaton.now)) }
@@ -269,7 +269,7 @@ pub fn sort_automaton(
     let constants = Arc::try_clone(constants)?;
     let heading = Box::into_inner(heading);
     let body = Box::into_inner(body);
-    Ok(CompiledAutomaton::new(
+    Ok(CheckedAutomaton::new(
         name,
         constants,
         heading.parameters,

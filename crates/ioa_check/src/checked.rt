@@ -13,7 +13,7 @@ use crate::declarations::{automata_of, names_of, types_of};
 use crate::fault::CheckFault;
 use ioa_refusals::Refusal;
 use ioa_source::{Declaration, Placement};
-use ioa_system::CompiledAutomaton;
+use ioa_system::CheckedAutomaton;
 use ioa_terms::Names;
 use ioa_types::TextTypes;
 use std::alloc::Global;
@@ -26,7 +26,7 @@ use std::sync::Arc;
 pub struct CheckedDeclarations {
     types: TextTypes,
     constants: Arc<Names>,
-    automata: Vec<Arc<CompiledAutomaton>>,
+    automata: Vec<Arc<CheckedAutomaton>>,
 }
 
 impl Model for CheckedDeclarations {
@@ -82,7 +82,7 @@ impl CheckedDeclarations {
     }
 
     /// The automata, in the order of their declaration.
-    pub(crate) fn automata(&self) -> &Vec<Arc<CompiledAutomaton>>
+    pub(crate) fn automata(&self) -> &Vec<Arc<CheckedAutomaton>>
         ensures automata { map arc_value result.now.items ≡ self.now.automata }
         ensures grounded { AreGrounded self.now.types.constants self.now.automata }
     {

@@ -13,7 +13,7 @@ use crate::fault::{CheckFault, fault_at};
 use ioa_automata::sort_automaton;
 use ioa_refusals::Refusal;
 use ioa_source::{Automaton, Declaration};
-use ioa_system::{CompiledAutomaton, Scope};
+use ioa_system::{CheckedAutomaton, Scope};
 use ioa_terms::{Names, Word};
 use ioa_types::TextTypes;
 use std::alloc::{AllocError, Global};
@@ -69,7 +69,7 @@ pub(crate) fn automata_of(
     types: &TextTypes,
     constants: &Arc<Names>,
     declarations: &Vec<Declaration<(), (), ()>>,
-) -> Result<Vec<Arc<CompiledAutomaton>>, CheckFault>
+) -> Result<Vec<Arc<CheckedAutomaton>>, CheckFault>
     requires { arc_value constants.now ≡ words types.now.constants }
     ensures { Answers CheckFault.Memory (λ cs. map arc_value cs.items) result
         (spec.automata_at types.now 0 [] (map declaration_of declarations.now.items)) }
@@ -98,7 +98,7 @@ fn automaton_in_declaration(
     names: &mut Scope,
     index: usize,
     automaton: &Automaton<(), (), ()>,
-) -> Result<Arc<CompiledAutomaton>, CheckFault>
+) -> Result<Arc<CheckedAutomaton>, CheckFault>
     requires { arc_value constants.now ≡ words types.now.constants }
     ensures found { Answers CheckFault.Memory arc_value result
         (in_declaration index (spec.new_automaton_at types.now names.old (automaton_of automaton.now))) }
@@ -118,7 +118,7 @@ fn new_automaton(
     constants: &Arc<Names>,
     names: &mut Scope,
     automaton: &Automaton<(), (), ()>,
-) -> Result<Arc<CompiledAutomaton>, Refusal>
+) -> Result<Arc<CheckedAutomaton>, Refusal>
     requires { arc_value constants.now ≡ words types.now.constants }
     ensures found { Answers Refusal.Memory arc_value result
         (spec.new_automaton_at types.now names.old (automaton_of automaton.now)) }

@@ -13,7 +13,7 @@ use crate::fault::{CheckFault, fault_at};
 use ioa_invariants::{Section, check_invariant};
 use ioa_refusals::Refusal;
 use ioa_source::Invariant;
-use ioa_system::{CompiledInvariant, Scope};
+use ioa_system::{CheckedInvariant, Scope};
 use std::alloc::{AllocError, Global};
 
 /// The invariants of a text, in the order of their declaration. The first of them stands in the top declaration of this
@@ -23,7 +23,7 @@ pub(crate) fn invariants_of(
     section: &Section,
     first: usize,
     invariants: &Vec<Invariant<(), (), ()>>,
-) -> Result<Vec<CompiledInvariant>, CheckFault>
+) -> Result<Vec<CheckedInvariant>, CheckFault>
     requires named { arc_value section.now.names.now ≡ words section.now.constants.now }
     requires declared { AreDeclaredParts section.now.constants.now (map arc_value section.now.programs.now) }
     ensures { Answers CheckFault.Memory (λ vs. vs.items) result (spec.invariants_at section.now.constants.now
@@ -47,7 +47,7 @@ fn invariant_in_declaration(
     names: &mut Scope,
     index: usize,
     invariant: &Invariant<(), (), ()>,
-) -> Result<CompiledInvariant, CheckFault>
+) -> Result<CheckedInvariant, CheckFault>
     requires named { arc_value section.now.names.now ≡ words section.now.constants.now }
     requires declared { AreDeclaredParts section.now.constants.now (map arc_value section.now.programs.now) }
     ensures found { Answers CheckFault.Memory (λ v. v) result
@@ -68,7 +68,7 @@ fn new_invariant(
     section: &Section,
     names: &mut Scope,
     invariant: &Invariant<(), (), ()>,
-) -> Result<CompiledInvariant, Refusal>
+) -> Result<CheckedInvariant, Refusal>
     requires named { arc_value section.now.names.now ≡ words section.now.constants.now }
     requires declared { AreDeclaredParts section.now.constants.now (map arc_value section.now.programs.now) }
     ensures found { Answers Refusal.Memory (λ v. v) result (spec.new_invariant_at section.now.constants.now

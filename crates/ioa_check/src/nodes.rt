@@ -21,7 +21,7 @@ use ioa_names::View;
 use ioa_refusals::Refusal;
 use ioa_sorts::sort_arguments;
 use ioa_source::{Declared, Node, Parameter, Placement};
-use ioa_system::{CompiledAutomaton, Program, Rule};
+use ioa_system::{CheckedAutomaton, Program, Rule};
 use ioa_terms::{Callee, Env, NameLists, Names, Shape, Term, Value, Word};
 use std::alloc::{AllocError, Global};
 use std::sync::Arc;
@@ -37,7 +37,7 @@ pub(crate) struct Ground<'a> {
     /// Their names.
     pub constants: &'a Arc<Names>,
     /// The text's automata.
-    pub automata: &'a Vec<Arc<CompiledAutomaton>>,
+    pub automata: &'a Vec<Arc<CheckedAutomaton>>,
 }
 
 /// The nodes of a system section, in the order of their declaration. `Limit` (31) if there are more than `MOST_NODES`,
@@ -110,9 +110,9 @@ fn node_of_number<'a>(nodes: &[&'a Node<(), (), ()>], number: i64) -> Option<&'a
 
 /// The automaton that has a name.
 fn automaton_of_name<'a>(
-    automata: &'a Vec<Arc<CompiledAutomaton>>,
+    automata: &'a Vec<Arc<CheckedAutomaton>>,
     name: &Word,
-) -> Option<&'a Arc<CompiledAutomaton>>
+) -> Option<&'a Arc<CheckedAutomaton>>
     ensures { option_map arc_value (option_copied result)
         ≡ spec.automaton_named name.now (map arc_value automata.now.items) }
 {
@@ -243,7 +243,7 @@ fn check_entry(alloc: Global, env: &Env, rule: &Rule, number: i64) -> Result<(),
 /// Passes if each entry of an automaton may be on the node of a number, whose parameters have these values.
 fn check_entries(
     alloc: Global,
-    automaton: &CompiledAutomaton,
+    automaton: &CheckedAutomaton,
     arguments: &Vec<Value>,
     number: i64,
 ) -> Result<(), Refusal>
@@ -263,7 +263,7 @@ fn check_entries(
 #[tactic(auto, unfolding(crate::specs::Nodes::start_values))]
 fn start_values(
     alloc: Global,
-    automaton: &CompiledAutomaton,
+    automaton: &CheckedAutomaton,
     arguments: &Vec<Value>,
     number: i64,
 ) -> Result<Vec<Value>, Refusal>
@@ -280,7 +280,7 @@ fn start_values(
 /// The first values of the variables of an automaton's schedule block, if its parameters have these values.
 fn block_values(
     alloc: Global,
-    automaton: &CompiledAutomaton,
+    automaton: &CheckedAutomaton,
     arguments: &Vec<Value>,
 ) -> Result<Vec<Value>, Refusal>
     requires { length arguments.now.items ≡ length automaton.now.parameters }
@@ -297,7 +297,7 @@ fn block_values(
 fn program_of(
     alloc: Global,
     number: i64,
-    automaton: &Arc<CompiledAutomaton>,
+    automaton: &Arc<CheckedAutomaton>,
     arguments: Vec<Value>,
 ) -> Result<Program, Refusal>
     requires { length arguments.items ≡ length (arc_value automaton.now).parameters }
@@ -317,7 +317,7 @@ fn program_with(
     ground: &Ground,
     number: i64,
     arguments: &Vec<Term>,
-    automaton: &Arc<CompiledAutomaton>,
+    automaton: &Arc<CheckedAutomaton>,
 ) -> Result<Program, Refusal>
     requires named { AreConstantsOf ground.now.view.now (arc_value ground.now.constants.now) }
     requires declared { HaveDeclaredShapes ground.now.view.now (spec.parameter_shapes (arc_value automaton.now)) }

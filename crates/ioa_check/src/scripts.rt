@@ -19,7 +19,7 @@ use crate::nodes::{Ground, given_values};
 use ioa_actions::{NodeAction, RECEIVE, SEND};
 use ioa_refusals::Refusal;
 use ioa_source::{Call, Placement, ScriptDeclaration};
-use ioa_system::{CompiledAutomaton, Program, Rule, Script};
+use ioa_system::{CheckedAutomaton, Program, Rule, Script};
 use ioa_terms::{Kind, Word};
 use std::alloc::{AllocError, Global};
 use std::sync::Arc;
@@ -96,7 +96,7 @@ fn input_of(rule: Option<&Rule>) -> Result<&Rule, Refusal>
 /// The rule of the input that has a name. `BadArgument` (34) for `send` and `receive`, which no script has; `Unknown`
 /// (20) if the automaton has no such input.
 #[tactic(auto, unfolding(crate::specs::Scripts::input_called))]
-fn input_called<'a>(automaton: &'a CompiledAutomaton, name: &Word) -> Result<&'a Rule, Refusal>
+fn input_called<'a>(automaton: &'a CheckedAutomaton, name: &Word) -> Result<&'a Rule, Refusal>
     ensures { Answers Refusal.Memory (λ r. r.now) result (spec.input_called name.now automaton.now.rules) }
 {
     if name.as_str() == SEND || name.as_str() == RECEIVE {
@@ -111,7 +111,7 @@ fn stimulus_of(
     alloc: Global,
     ground: &Ground,
     number: i64,
-    automaton: &CompiledAutomaton,
+    automaton: &CheckedAutomaton,
     call: &Call<(), (), ()>,
 ) -> Result<NodeAction, Refusal>
     requires named { AreConstantsOf ground.now.view.now (arc_value ground.now.constants.now) }
@@ -136,7 +136,7 @@ fn stimuli_of(
     alloc: Global,
     ground: &Ground,
     number: i64,
-    automaton: &CompiledAutomaton,
+    automaton: &CheckedAutomaton,
     calls: &Vec<Call<(), (), ()>>,
 ) -> Result<Vec<NodeAction>, Refusal>
     requires named { AreConstantsOf ground.now.view.now (arc_value ground.now.constants.now) }

@@ -21,10 +21,10 @@ use Rattle.ioa_values.specs.contracts.names.Names as Names
 use Rattle.ioa_system.specs.contracts.scope.Scope as Scope
 use Rattle.ioa_system.specs.contracts.automaton.Rule as Rule
 use Rattle.ioa_system.specs.contracts.rules.Rules as Rules
-use Rattle.ioa_system.specs.contracts.automaton.CompiledAutomaton as CompiledAutomaton
+use Rattle.ioa_system.specs.contracts.automaton.CheckedAutomaton as CheckedAutomaton
 use Rattle.ioa_system.specs.contracts.program.Program as Program
 use Rattle.ioa_system.specs.contracts.script.Script as Script
-use Rattle.ioa_system.specs.contracts.invariant.CompiledInvariant as CompiledInvariant
+use Rattle.ioa_system.specs.contracts.invariant.CheckedInvariant as CheckedInvariant
 use Rattle.ioa_system.specs.contracts.system.System as System
 use Rattle.ioa_crossing.proofs.Actions.{node_action_send, node_action_sync, owners, value_send, value_sync, word_send, word_sync}
 
@@ -118,10 +118,10 @@ rules_send = search (rule_send, scope_send, crosses, sendable) depth 60 fits 200
 pub rules_sync : IsSync (Rules.the_field).row
 rules_sync = search (rule_sync, scope_sync, crosses, sendable) depth 60 fits 20000
 
-pub automaton_send : IsSend (CompiledAutomaton.the_field).row
+pub automaton_send : IsSend (CheckedAutomaton.the_field).row
 automaton_send = search (word_send, names_send, names_sync, declared_send, variable_send, scope_send, rules_send, schedule_send, crosses, sendable) depth 60 fits 20000
 
-pub automaton_sync : IsSync (CompiledAutomaton.the_field).row
+pub automaton_sync : IsSync (CheckedAutomaton.the_field).row
 automaton_sync = search (word_sync, names_send, names_sync, declared_sync, variable_sync, scope_sync, rules_sync, schedule_sync, crosses, sendable) depth 60 fits 20000
 
 pub program_send : IsSend (Program.the_field).row
@@ -136,10 +136,10 @@ script_send = search (owners, node_action_send, crosses, sendable) depth 60 fits
 pub script_sync : IsSync (Script.the_field).row
 script_sync = search (owners, node_action_sync, crosses, sendable) depth 60 fits 20000
 
-pub invariant_send : IsSend (CompiledInvariant.the_field).row
+pub invariant_send : IsSend (CheckedInvariant.the_field).row
 invariant_send = search (word_send, names_send, names_sync, name_send, tree_send, crosses, sendable) depth 60 fits 20000
 
-pub invariant_sync : IsSync (CompiledInvariant.the_field).row
+pub invariant_sync : IsSync (CheckedInvariant.the_field).row
 invariant_sync = search (word_sync, names_send, names_sync, name_sync, tree_sync, crosses, sendable) depth 60 fits 20000
 
 pub system_send : IsSend (System.the_field).row

@@ -18,7 +18,7 @@ use ioa_names::{NameTable, Readings, View};
 use ioa_refusals::Refusal;
 use ioa_sorts::fit;
 use ioa_source::{Channel, Invariant};
-use ioa_system::{CompiledInvariant, Program};
+use ioa_system::{CheckedInvariant, Program};
 use ioa_terms::{Checked, Names, Shape, ShapeForm, Term};
 use std::alloc::Global;
 use std::sync::Arc;
@@ -46,7 +46,7 @@ pub fn check_invariant(
     alloc: Global,
     section: &Section,
     invariant: &Invariant<(), (), ()>,
-) -> Result<CompiledInvariant, Refusal>
+) -> Result<CheckedInvariant, Refusal>
     requires named { arc_value section.now.names.now ≡ words section.now.constants.now }
     requires declared { AreDeclaredParts section.now.constants.now (map arc_value section.now.programs.now) }
     ensures { Answers Refusal.Memory (λ v. v) result (spec.invariant_at section.now.constants.now
@@ -60,7 +60,7 @@ pub fn check_invariant(
     let name = invariant.name.try_copy(alloc)?;
     let constants = Arc::try_clone(section.names)?;
     let readings = readings.into_names(alloc)?;
-    Ok(CompiledInvariant::new(name, constants, readings, term))
+    Ok(CheckedInvariant::new(name, constants, readings, term))
 }
 
 /// The term of an invariant, which is a truth value, if these are the names that it reads.

@@ -8,13 +8,13 @@ ghost use Rattle.ioa_verdicts.specs.Verdicts.{verdict_text};
 
 use ioa_paper::Paper;
 use ioa_streams::Out;
-use ioa_system::CompiledInvariant;
+use ioa_system::CheckedInvariant;
 use ioa_verdicts::Verdict;
 
 /// Writes the invariants with their verdicts, in the order of their declaration.
 pub fn put_verdicts<O: Out>(
     paper: &mut Paper<'_, O>,
-    invariants: &[CompiledInvariant],
+    invariants: &[CheckedInvariant],
     verdicts: &[Verdict],
 )
     ensures { paper.new ≡ and_text paper.old (invariant_lines invariants.now verdicts.now) }

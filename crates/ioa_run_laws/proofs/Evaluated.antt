@@ -25,7 +25,7 @@ use Rattle.ioa_automata.specs.NamesInView.{parameter_shapes, shape_declared, var
 use Rattle.ioa_automata.specs.SortedAutomata.{block_names, block_of, AreParametersOf, IsConditionOf, IsParameterOf, IsRuleOf, names_at}
 use Rattle.ioa_types.specs.TextTypes.{PlainTextTypes}
 use Rattle.ioa_types.specs.TypeTables.{TypeTable}
-use Rattle.ioa_automata.proofs.Compiled.{automaton_compiled}
+use Rattle.ioa_automata.proofs.CheckedAutomata.{automaton_checked}
 use Rattle.ioa_check.specs.Systems.{IsEntryOn, IsSystemOf}
 use Rattle.ioa_transitions.specs.NodeState.{NodeState}
 use Rattle.ioa_transitions.specs.NodeStep.{IsOfSort, rule_bindings}
@@ -180,7 +180,7 @@ module _ (x : SourceText) (s : SystemParts) (h : IsSystemOf x s) (c : NodeState)
       let count = length b.schedule.variables in
       let site = block_of names b.variables b.schedule.variables b.rules in
       record {
-        slots = automaton_compiled h.types (system_constants x s h).named accepted.source b accepted.automaton;
+        slots = automaton_checked h.types (system_constants x s h).named accepted.source b accepted.automaton;
         given_names = given_names h.types b accepted.automaton.constants (system_constants x s h) c.program.arguments shaped.arguments;
         constants = constants_valued h.types b.parameters b.variables accepted.source.transitions c.program.node (given_bindings b c.program.arguments)
             (given_valued h.types b accepted.automaton.constants (system_constants x s h) c.program.arguments shaped.arguments)

@@ -11,7 +11,7 @@ use crate::frame::{Frame, LINE, Point};
 use crate::space_time::{put_line, put_number};
 use ioa_paper::Paper;
 use ioa_streams::Out;
-use ioa_system::CompiledInvariant;
+use ioa_system::CheckedInvariant;
 use ioa_verdicts::Verdict;
 
 /// Where an upright begins.
@@ -21,7 +21,7 @@ const HIGH: usize = 18;
 pub fn put_breaks<O: Out>(
     paper: &mut Paper<'_, O>,
     frame: Frame,
-    invariants: &[CompiledInvariant],
+    invariants: &[CheckedInvariant],
     verdicts: &[Verdict],
 )
     ensures { paper.new ≡ and_text paper.old (breaks frame 0 invariants.now verdicts.now) }

@@ -5,7 +5,7 @@ ghost use Rattle.std.specs.Arc.{arc_value};
 ghost use Rattle.ioa_show.specs.Frames as spec;
 ghost use Rattle.ioa_show.specs.Frames.{frame_of, margin_of, point_of, right_of, x_of, y_of};
 
-use ioa_system::{CompiledInvariant, Program, System};
+use ioa_system::{CheckedInvariant, Program, System};
 use std::sync::Arc;
 
 /// From which number of actions on these stand closer together.
@@ -156,7 +156,7 @@ fn margin(programs: &[Arc<Program>]) -> usize
 }
 
 /// Where the diagram ends on the right, if its actions take so many pixels.
-fn right(invariants: &[CompiledInvariant], length: usize) -> usize
+fn right(invariants: &[CheckedInvariant], length: usize) -> usize
     ensures { result ≡ right_of invariants.now length }
 {
     let mut longest = 0;

@@ -13,7 +13,7 @@ ghost use Rattle.ioa_system.specs.InView.{block_own_names, parameter_names, vari
 ghost use Rattle.ioa_system.specs.Numbered.{AreNumbered, IsNumberOf};
 ghost use Rattle.ioa_system.specs.Parts.{automaton_parts, message_shape, rule_named, rule_names};
 ghost use Rattle.ioa_system.specs.Parts.{variable_named};
-ghost use Rattle.ioa_system.specs.ResolvedPrograms.{IsCompiled, IsResolvedRule};
+ghost use Rattle.ioa_system.specs.ResolvedPrograms.{IsCheckedAutomaton, IsResolvedRule};
 ghost use Rattle.ioa_system.specs.ResolvedPrograms.{AreResolvedVariables, IsResolvedSchedule};
 ghost use Rattle.ioa_system.specs.SameParts.{same_rule, same_parameters, same_automaton};
 
@@ -96,7 +96,7 @@ impl PartialEq for Rule {
 /// guarantees that each name which a step, an initial value or the schedule block reads is resolved to the
 /// slot of its value.
 #[derive(Drop)]
-pub struct CompiledAutomaton {
+pub struct CheckedAutomaton {
     name: Word,
     constants: Arc<Names>,
     parameters: Vec<Declared<Shape>>,
@@ -109,7 +109,7 @@ pub struct CompiledAutomaton {
     own: Vec<Word>,
 }
 
-impl Model for CompiledAutomaton {
+impl Model for CheckedAutomaton {
     ghost use Rattle.ioa_system.specs.Parts.{AutomatonParts, automaton_code};
 
     ghost Value = { AutomatonParts };
@@ -124,14 +124,14 @@ impl Model for CompiledAutomaton {
     ghost view = { λ a. automaton_parts a.name (arc_value a.constants) (map declared_of a.parameters.items)
         (map variable_of a.variables.items) a.rules (schedule_of a.schedule) };
 
-    ghost use Rattle.ioa_system.specs.ResolvedPrograms.{IsCompiled};
+    ghost use Rattle.ioa_system.specs.ResolvedPrograms.{IsCheckedAutomaton};
 
-    ghost invariant = { λ a. IsCompiled a.scope a.own.items (automaton_parts a.name (arc_value a.constants)
+    ghost invariant = { λ a. IsCheckedAutomaton a.scope a.own.items (automaton_parts a.name (arc_value a.constants)
         (map declared_of a.parameters.items) (map variable_of a.variables.items) a.rules
         (schedule_of a.schedule)) };
 }
 
-impl CompiledAutomaton {
+impl CheckedAutomaton {
     /// The automaton of these parts. `constants` are the names of the text's constants, `scope` has those of
     /// the state variables and behind them those of the parameters, and `own` those of the block's variables and
     /// behind them that of the inboxes, if the automaton takes messages.
@@ -145,12 +145,12 @@ impl CompiledAutomaton {
         schedule: Schedule<usize, Callee, Shape>,
         own: Vec<Word>,
     ) -> Self
-        requires { IsCompiled scope own.items (automaton_parts name (arc_value constants)
+        requires { IsCheckedAutomaton scope own.items (automaton_parts name (arc_value constants)
             (map declared_of parameters.items) (map variable_of variables.items) rules (schedule_of schedule)) }
         ensures { result ≡ automaton_parts name (arc_value constants) (map declared_of parameters.items)
             (map variable_of variables.items) rules (schedule_of schedule) }
     {
-        CompiledAutomaton {
+        CheckedAutomaton {
             name,
             constants,
             parameters,

@@ -16,14 +16,14 @@ use std::sync::Arc;
 /// its term reads, each once, in the order of their first places; behind them it reads the text's constants. Its type
 /// guarantees that each name is resolved to the slot of its value.
 #[derive(Drop)]
-pub struct CompiledInvariant {
+pub struct CheckedInvariant {
     name: Word,
     constants: Arc<Names>,
     readings: Vec<Name>,
     term: Checked,
 }
 
-impl Model for CompiledInvariant {
+impl Model for CheckedInvariant {
     ghost use Rattle.std.specs.Arc.{arc_value};
     ghost use Rattle.ioa_terms.specs.View.{term_of};
     ghost use Rattle.ioa_system.specs.Invariants.{InvariantParts, IsResolvedInvariant, invariant_code};
@@ -39,13 +39,13 @@ impl Model for CompiledInvariant {
         (invariant_parts v.name (arc_value v.constants) v.readings.items (term_of v.term)) };
 }
 
-impl CompiledInvariant {
+impl CheckedInvariant {
     /// The invariant of these parts.
     pub fn new(name: Word, constants: Arc<Names>, readings: Vec<Name>, term: Checked) -> Self
         requires { IsResolvedInvariant (invariant_parts name (arc_value constants) readings.items (term_of term)) }
         ensures { result ≡ invariant_parts name (arc_value constants) readings.items (term_of term) }
     {
-        CompiledInvariant {
+        CheckedInvariant {
             name,
             constants,
             readings,

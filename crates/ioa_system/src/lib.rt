@@ -15,8 +15,8 @@ mod scope;
 mod script;
 mod system;
 
-pub use automaton::{CompiledAutomaton, Rule, message_shape};
-pub use invariant::CompiledInvariant;
+pub use automaton::{CheckedAutomaton, Rule, message_shape};
+pub use invariant::CheckedInvariant;
 pub use program::{Program, program_numbered};
 pub use rules::Rules;
 pub use scope::Scope;

@@ -7,7 +7,7 @@ ghost use Rattle.ioa_system.specs.Parts.{parts};
 ghost use Rattle.ioa_system.specs.SameParts.{same_program};
 ghost use Rattle.ioa_system.specs.Systems.{program_numbered};
 
-use crate::automaton::CompiledAutomaton;
+use crate::automaton::CheckedAutomaton;
 use ioa_terms::Value;
 use std::marker::Model;
 use std::sync::Arc;
@@ -17,7 +17,7 @@ use std::sync::Arc;
 #[derive(Drop)]
 pub struct Program {
     node: i64,
-    automaton: Arc<CompiledAutomaton>,
+    automaton: Arc<CheckedAutomaton>,
     arguments: Vec<Value>,
     initial: Vec<Value>,
     block: Vec<Value>,
@@ -59,7 +59,7 @@ impl Program {
     /// first ones of its schedule block's variables.
     pub fn new(
         node: i64,
-        automaton: Arc<CompiledAutomaton>,
+        automaton: Arc<CheckedAutomaton>,
         arguments: Vec<Value>,
         initial: Vec<Value>,
         block: Vec<Value>,
@@ -86,7 +86,7 @@ impl Program {
     }
 
     /// The automaton that is placed on the node.
-    pub fn automaton(&self) -> &CompiledAutomaton
+    pub fn automaton(&self) -> &CheckedAutomaton
         ensures { result.now ≡ self.now.automaton }
     {
         &self.automaton

@@ -5,7 +5,7 @@ ghost use Rattle.std.specs.Arc.{arc_value};
 ghost use Rattle.std.specs.Option.{option_copied};
 ghost use Rattle.ioa_system.specs.Systems.{script_of, system};
 
-use crate::invariant::CompiledInvariant;
+use crate::invariant::CheckedInvariant;
 use crate::program::Program;
 use crate::script::Script;
 use ioa_source::Channel;
@@ -20,7 +20,7 @@ pub struct System {
     programs: Vec<Arc<Program>>,
     channels: Vec<Channel>,
     scripts: Vec<Script>,
-    invariants: Vec<CompiledInvariant>,
+    invariants: Vec<CheckedInvariant>,
 }
 
 impl Model for System {
@@ -45,7 +45,7 @@ impl System {
         programs: Vec<Arc<Program>>,
         channels: Vec<Channel>,
         scripts: Vec<Script>,
-        invariants: Vec<CompiledInvariant>,
+        invariants: Vec<CheckedInvariant>,
     ) -> Self
         ensures { result ≡ system (arc_value names) (map arc_value programs.items) channels.items scripts.items
             invariants.items }
@@ -88,7 +88,7 @@ impl System {
     }
 
     /// The invariants, as declared.
-    pub fn invariants(&self) -> &[CompiledInvariant]
+    pub fn invariants(&self) -> &[CheckedInvariant]
         ensures { result.now ≡ self.now.invariants }
     {
         self.invariants.as_slice()

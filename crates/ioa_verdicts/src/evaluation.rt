@@ -11,7 +11,7 @@ use crate::places::Place;
 use crate::readings::read_all;
 use crate::verdict::Verdict;
 use ioa_compose::Conf;
-use ioa_system::CompiledInvariant;
+use ioa_system::CheckedInvariant;
 use ioa_terms::{TermFault, Value, eval};
 use std::alloc::{AllocError, Global};
 
@@ -20,7 +20,7 @@ use std::alloc::{AllocError, Global};
 pub fn verdict_after(
     alloc: Global,
     confs: &[Conf],
-    invariant: &CompiledInvariant,
+    invariant: &CheckedInvariant,
     places: &[Place],
     passed: usize,
     values: &mut Vec<Value>,
@@ -38,7 +38,7 @@ pub fn verdict_after(
 /// The verdict on an invariant whose readings have these values.
 fn evaluated(
     alloc: Global,
-    invariant: &CompiledInvariant,
+    invariant: &CheckedInvariant,
     passed: usize,
     values: &[Value],
 ) -> Result<Verdict, AllocError>

@@ -11,7 +11,7 @@ use crate::evaluation::verdict_after;
 use crate::places::{Place, Placed};
 use crate::verdict::Verdict;
 use ioa_compose::Conf;
-use ioa_system::CompiledInvariant;
+use ioa_system::CheckedInvariant;
 use ioa_terms::Value;
 use std::alloc::{AllocError, Global};
 use std::marker::Model;
@@ -67,7 +67,7 @@ impl Findings {
         &mut self,
         alloc: Global,
         confs: &[Conf],
-        invariant: &CompiledInvariant,
+        invariant: &CheckedInvariant,
         places: &[Place],
     ) -> Result<(), AllocError>
         requires { places.now ≡ places_of invariant.now confs.now }

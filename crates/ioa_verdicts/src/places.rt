@@ -16,7 +16,7 @@ use ioa_actions::Component;
 use ioa_compose::Conf;
 use ioa_course::Course;
 use ioa_source::Variable;
-use ioa_system::CompiledInvariant;
+use ioa_system::CheckedInvariant;
 use ioa_terms::{Callee, Name, Shape, Word};
 use std::alloc::{AllocError, Global};
 
@@ -40,7 +40,7 @@ pub enum Place {
 #[derive(Clone, Copy)]
 pub struct Placed<'a> {
     /// The invariants.
-    pub invariants: &'a [CompiledInvariant],
+    pub invariants: &'a [CheckedInvariant],
     /// For each of them the places of its readings.
     pub places: &'a [Vec<Place>],
 }
@@ -68,7 +68,7 @@ fn places_in(places: Option<&Vec<Place>>) -> &[Place]
 pub fn all_places(
     alloc: Global,
     course: &Course,
-    invariants: &[CompiledInvariant],
+    invariants: &[CheckedInvariant],
 ) -> Result<Vec<Vec<Place>>, AllocError>
     ensures { IfOk result (λ p. map (λ ps. ps.items) p.items ≡ map (λ v. places_of v course.now) invariants.now) }
 {
@@ -83,7 +83,7 @@ pub fn all_places(
 fn places_of(
     alloc: Global,
     course: &Course,
-    invariant: &CompiledInvariant,
+    invariant: &CheckedInvariant,
 ) -> Result<Vec<Place>, AllocError>
     ensures { IfOk result (λ p. p.items ≡ places_of invariant.now course.now) }
 {

@@ -8,14 +8,14 @@ ghost use Rattle.ioa_verdicts.specs.Readers.{is_reader, listed, noted_of, reads_
 use ioa_actions::Component;
 use ioa_compose::Conf;
 use ioa_course::Course;
-use ioa_system::CompiledInvariant;
+use ioa_system::CheckedInvariant;
 use ioa_terms::Name;
 use std::alloc::{AllocError, Global};
 
 /// For each component the numbers of the invariants that read of it.
 pub fn readers(
     alloc: Global,
-    invariants: &[CompiledInvariant],
+    invariants: &[CheckedInvariant],
     confs: &[Conf],
 ) -> Result<Vec<Vec<usize>>, AllocError>
     ensures { IfOk result (λ r. map (λ is. is.items) r.items
@@ -31,7 +31,7 @@ pub fn readers(
 /// The numbers of the invariants that read of a component.
 fn readers_of(
     alloc: Global,
-    invariants: &[CompiledInvariant],
+    invariants: &[CheckedInvariant],
     component: Component,
 ) -> Result<Vec<usize>, AllocError>
     ensures { IfOk result (λ r. r.items ≡ readers_from component 0 invariants.now) }
@@ -46,7 +46,7 @@ fn readers_of(
 }
 
 /// Whether an invariant reads of a component.
-fn is_reader(invariant: &CompiledInvariant, component: Component) -> bool
+fn is_reader(invariant: &CheckedInvariant, component: Component) -> bool
     ensures { result ≡ is_reader component invariant.now }
 {
     for name in invariant.readings() {

@@ -16,7 +16,7 @@ use ioa_compose::{Conf, Parties, participants};
 use ioa_course::Course;
 use ioa_rawlog::RawLog;
 use ioa_record::Record;
-use ioa_system::{CompiledInvariant, System};
+use ioa_system::{CheckedInvariant, System};
 use ioa_transitions::Entry;
 use std::alloc::{AllocError, Global};
 
@@ -43,7 +43,7 @@ pub fn verdicts(
 /// The verdicts on invariants along a schedule, from where a course stands.
 fn findings_along(
     alloc: Global,
-    invariants: &[CompiledInvariant],
+    invariants: &[CheckedInvariant],
     course: &mut Course,
     schedule: &RawLog<Entry>,
 ) -> Result<Findings, AllocError>

@@ -3,7 +3,7 @@ use Rattle.std.specs.Option.{option_copied}
 use Rattle.ioa_system.specs.Numbered.{IsNumberOf}
 use Rattle.ioa_system.specs.Parts.{AutomatonParts, rule_named}
 use Rattle.ioa_system.proofs.Numbers.{number_named}
-use Rattle.ioa_system.proofs.automaton.CompiledAutomaton.rule_numbered.Goals as goal
+use Rattle.ioa_system.proofs.automaton.CheckedAutomaton.rule_numbered.Goals as goal
 
 pub returns-clause-named : goal.returns-clause-named
 returns-clause-named c =

@@ -2,7 +2,7 @@ use Rattle.std.proofs.Common.{◌≡◌, All, drop}
 use Rattle.ioa_system.specs.InView.{declared_names}
 use Rattle.ioa_system.specs.Parts.{rule_named}
 use Rattle.ioa_system.specs.ResolvedPrograms.{IsResolvedRule}
-use Rattle.ioa_system.proofs.automaton.CompiledAutomaton.rule_named.Given as goal
+use Rattle.ioa_system.proofs.automaton.CheckedAutomaton.rule_named.Given as goal
 
 -- no rule so far has the name
 abbrev pub invariant-loop-rule : goal.invariant-loop-rule

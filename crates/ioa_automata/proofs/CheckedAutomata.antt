@@ -212,8 +212,8 @@ each_numbered site [] (c ∷ cs) h = absurd h
 each_numbered site (u ∷ us) [] h = absurd h
 each_numbered site (u ∷ us) (c ∷ cs) h = (statement_numbered site c h.0.sorted, each_numbered site us cs h.1)
 
-pub automaton_compiled : (t : PlainTextTypes) → AreWords t.constants → (a : SourceAutomaton) (c : AutomatonParts) → IsAutomatonOf t a c → IsResolvedAutomaton c
-automaton_compiled t alone a c h = subst IsResolvedAutomaton rebuilt (record {
+pub automaton_checked : (t : PlainTextTypes) → AreWords t.constants → (a : SourceAutomaton) (c : AutomatonParts) → IsAutomatonOf t a c → IsResolvedAutomaton c
+automaton_checked t alone a c h = subst IsResolvedAutomaton rebuilt (record {
   rules = all_each (IsResolvedRule (declared t c.parameters c.variables)) c.rules (rules_resolved t alone c.parameters c.variables a.transitions a.signature c.rules h.rules);
   initials = variables_resolved t alone c.parameters c.variables a.states c.variables h.variables;
   schedule = schedule_resolved t alone c.parameters c.variables c.rules a.schedule c.schedule h.schedule;

@@ -9,7 +9,7 @@ use Rattle.ioa_source.specs.TextView.{declared_of, variable_of}
 use Rattle.ioa_system.specs.InView.{parameter_names}
 use Rattle.ioa_system.specs.Parts.{AutomatonParts, variable_named}
 use Rattle.ioa_system.proofs.Scopes.{named_variable}
-use Rattle.ioa_system.proofs.automaton.CompiledAutomaton.variable_named.Goals as goal
+use Rattle.ioa_system.proofs.automaton.CheckedAutomaton.variable_named.Goals as goal
 
 pub returns : goal.returns
 returns c =

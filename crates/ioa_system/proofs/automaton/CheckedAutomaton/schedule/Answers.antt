@@ -5,7 +5,7 @@ use Rattle.ioa_terms.specs.PlainTerm.{statements_of}
 use Rattle.ioa_system.specs.Numbered.{AreNumbered}
 use Rattle.ioa_system.specs.Parts.{AutomatonParts}
 use Rattle.ioa_system.specs.ResolvedPrograms.{IsResolvedSchedule}
-use Rattle.ioa_system.proofs.automaton.CompiledAutomaton.schedule.Goals as goal
+use Rattle.ioa_system.proofs.automaton.CheckedAutomaton.schedule.Goals as goal
 
 pub returns-clause-resolved : goal.returns-clause-resolved
 returns-clause-resolved c =
