@@ -2,3 +2,4 @@
 pub mod Heights
 pub mod Meant
 pub mod TypeDeclarations
+pub mod NamedShapes

@@ -21,6 +21,10 @@ use Rattle.ioa_types.specs.declared.height.TheConstants.{SHAPE_LIMIT}
 abbrev pub TypeTable : Type 0
 TypeTable = NameShapes
 
+-- words with their shapes as names with their shapes (view)
+abbrev pub named_shapes : List (List ℕ × PlainShape) → TypeTable
+named_shapes ts = map (λ t. (Word t.0, t.1)) ts
+
 -- a shape, if it is not too high
 unfoldable pub limited : PlainShape → Result PlainShape Refusal
 limited s = if nat_lt (height s) SHAPE_LIMIT then Ok s else Err Limit

@@ -1,6 +1,6 @@
 //! The types that a text declares.
 
-ghost use Rattle.std.specs.Prelude.{◌≡◌, [], IfOk, map, slice_get};
+ghost use Rattle.std.specs.Prelude.{◌≡◌, [], IfOk, map};
 ghost use Rattle.ioa_values.specs.Outcome.{Answers};
 ghost use Rattle.ioa_terms.specs.Sorted.{shape_named};
 ghost use Rattle.ioa_terms.specs.SortView.{sort_of};
@@ -9,6 +9,7 @@ ghost use Rattle.ioa_names.specs.NameTables.{with_name};
 ghost use Rattle.ioa_types.specs.TypeTables as spec;
 
 use crate::height::{FieldShapes, ShapeWithHeight};
+use indexmap::IndexMap;
 use ioa_refusals::Refusal;
 use ioa_source::{Declared, Sort};
 use ioa_system::Scope;
@@ -19,26 +20,21 @@ use std::marker::Model;
 /// The types that are declared so far, each with its shape. A contract sees the pairs of names and shapes.
 #[derive(Drop)]
 pub struct Types {
-    names: Scope,
-    shapes: Vec<ShapeWithHeight>,
+    shapes: IndexMap<Word, ShapeWithHeight>,
 }
 
 impl Model for Types {
-    ghost use Rattle.std.specs.Prelude.{map, ◌≡◌, length};
-    ghost use Rattle.std.specs.List.{zip};
     ghost use Rattle.std.specs.Coded.{coded×, coded_list};
     ghost use Rattle.ioa_operators.specs.ShapeCode.{shape_code};
-    ghost use Rattle.ioa_terms.specs.declared.name.Name.TheVariants.{Word};
     ghost use Rattle.ioa_terms.specs.contracts.name.Name as called;
     ghost use Rattle.ioa_terms.specs.Sorted.{NameShapes};
+    ghost use Rattle.ioa_types.specs.TypeTables.{named_shapes};
 
     ghost Value = { NameShapes };
 
     ghost coded = { coded_list (coded× called.the_row.coded shape_code) };
 
-    ghost view = { λ t. zip (map Word t.names) t.shapes.items };
-
-    ghost invariant = { λ t. length t.names ≡ length t.shapes.items };
+    ghost view = { λ t. named_shapes t.shapes.entries };
 }
 
 impl Types {
@@ -47,8 +43,7 @@ impl Types {
         ensures { result ≡ [] }
     {
         Types {
-            names: Scope::new(alloc),
-            shapes: Vec::new(alloc),
+            shapes: IndexMap::new(alloc),
         }
     }
 
@@ -78,12 +73,13 @@ impl Types {
     }
 
     /// The shape of a type, by its name.
+    #[tactic(auto, using(crate::proofs::NamedShapes::found_by_word))]
     fn shape_named(&self, alloc: Global, name: &Word) -> Result<ShapeWithHeight, Refusal>
         ensures { Answers Refusal.Memory (λ s. s) result
             (spec.known_type (shape_named (Name.Word name.now) self.now)) }
     {
-        match self.names.slot_of_word(name) {
-            Some(slot) => at_slot(alloc, &self.shapes, slot),
+        match self.shapes.get(name) {
+            Some(shape) => Ok(shape.try_copy(alloc)?),
             None => Err(Refusal::Unknown),
         }
     }
@@ -126,30 +122,11 @@ impl Types {
     pub fn with(self, name: Word, shape: ShapeWithHeight) -> Result<Self, Refusal>
         ensures { Answers Refusal.Memory (λ t. t) result (with_name self name shape) }
     {
-        let Types {
-            mut names,
-            mut shapes,
-        } = self;
-        if names.declare(name)? {
-            shapes.push(shape)?;
-            Ok(Types { names, shapes })
-        } else {
-            Err(Refusal::Twice)
+        let Types { mut shapes } = self;
+        match shapes.insert(name, shape)? {
+            None => Ok(Types { shapes }),
+            Some(_) => Err(Refusal::Twice),
         }
-    }
-}
-
-/// The shape at a slot.
-fn at_slot(
-    alloc: Global,
-    shapes: &Vec<ShapeWithHeight>,
-    slot: usize,
-) -> Result<ShapeWithHeight, Refusal>
-    ensures { Answers Refusal.Memory (λ s. s) result (spec.known_type (slice_get shapes.now.items slot)) }
-{
-    match shapes.get(slot) {
-        Some(shape) => Ok(shape.try_copy(alloc)?),
-        None => Err(Refusal::Unknown),
     }
 }
 

@@ -1,11 +1,11 @@
-use Rattle.std.proofs.Common.{inr}
-use Rattle.ioa_names.proofs.Tables.{with_new, with_old}
+use Rattle.std.proofs.Common.{inr, sym, ◌∙◌}
+use Rattle.ioa_types.proofs.NamedShapes.{with_new, with_old}
 use Rattle.ioa_types.proofs.types.Types.with.Goals as goal
 
-pub returns-in_ok-push : goal.returns-in_ok-push
-returns-in_ok-push c =
-    rw (← c.self.view_is) (with_new c.args.name c.args.shape c.self.inside.names c.declare.new.self c.self.inside.shapes.items c.push.new.self.items c.in_ok-declare.field-0 c.self.invariant c.if-branch.true c.in_ok-declare.ensures.fresh c.in_ok-declare.ensures.ok c.in_ok-push.ensures.items)
+pub returns-in-None : goal.returns-in-None
+returns-in-None c =
+    rw (← c.self.view_is) (with_new c.args.name c.args.shape c.self.inside.shapes.entries c.insert.new.self.entries (sym c.in_ok-insert.ensures.old ∙ c.in-None.is) c.in_ok-insert.ensures.entries)
 
-pub returns-else-branch : goal.returns-else-branch
-returns-else-branch c =
-    inr (rw (← c.self.view_is) (with_old c.args.name c.args.shape c.self.inside.names c.self.inside.shapes.items c.in_ok-declare.field-0 c.self.invariant c.if-branch.false c.in_ok-declare.ensures.fresh))
+pub returns-in-Some : goal.returns-in-Some
+returns-in-Some c =
+    inr (rw (← c.self.view_is) (with_old c.args.name c.args.shape c.in-Some.field-0 c.self.inside.shapes.entries (sym c.in_ok-insert.ensures.old ∙ c.in-Some.is)))
