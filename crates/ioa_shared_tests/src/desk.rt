@@ -7,7 +7,7 @@ use ioa_actions::Action;
 use ioa_book::{Proposal, Snapshot};
 use ioa_rawlog::Spare;
 use ioa_shared::{Miss, Pass, Receipts, Share, Shared, ViewFault, open};
-use ioa_sharing::{MakerOf, Origin, SharedOf};
+use ioa_sharing::{Maker, MakerOf, Origin, SharedOf};
 use ioa_system::System;
 use std::alloc::Global;
 use std::sync::ledger::{Blank, Ledger};
@@ -38,18 +38,54 @@ pub(crate) fn desk_of<O: Origin, L: Ledger>(
     blank: Blank,
     system: &SharedOf<O, System, Global>,
     limit: usize,
-) -> Result<Desk<O, L>, Fail>
+) -> Result<Box<Desk<O, L>>, Fail>
     requires limit { limit ≤ 1000000 }
     requires name { blank.name ≡ L.name }
     requires parts { (blank.parts ≡ L.parts) × (L.parts ≡ 1) }
 {
     let (shared, mut shares) = open::<O, L>(alloc, maker, blank, system, limit, 1)?;
     let share = shares.pop().ok_or("no share")?;
-    Ok(Desk {
-        shared,
-        share,
-        receipts: Receipts::new(alloc),
-    })
+    let receipts = Receipts::new(alloc);
+    Ok(Box::new(
+        alloc,
+        Desk {
+            shared,
+            share,
+            receipts,
+        },
+    )?)
+}
+
+/// The desk of a new book of a system, which the maker numbers.
+pub(crate) fn desk_by<O: Origin, L: Ledger>(
+    alloc: Global,
+    mut maker: MakerOf<O>,
+    blank: Blank,
+    system: &Arc<System>,
+    limit: usize,
+) -> Result<Box<Desk<O, L>>, Fail>
+    requires limit { limit ≤ 1000000 }
+    requires name { blank.name ≡ L.name }
+    requires parts { (blank.parts ≡ L.parts) × (L.parts ≡ 1) }
+{
+    let system = maker.share(Arc::try_clone(system)?);
+    desk_of(alloc, maker, blank, &system, limit)
+}
+
+/// The same by a new maker.
+pub(crate) fn desk_for<O: Origin, L: Ledger>(
+    alloc: Global,
+    maker: Maker,
+    blank: Blank,
+    system: &Arc<System>,
+    limit: usize,
+) -> Result<Box<Desk<O, L>>, Fail>
+    requires limit { limit ≤ 1000000 }
+    requires maker { maker_name maker ≡ O.name }
+    requires name { blank.name ≡ L.name }
+    requires parts { (blank.parts ≡ L.parts) × (L.parts ≡ 1) }
+{
+    desk_by(alloc, MakerOf::of(maker), blank, system, limit)
 }
 
 impl<O: Origin, L: Ledger> Desk<O, L> {
@@ -80,6 +116,18 @@ impl<O: Origin, L: Ledger> Desk<O, L> {
             .ok_or("no look")?;
         let proposal = look.propose(alloc, action).ok().ok_or("no proposal")?;
         Ok(Box::new(alloc, proposal)?)
+    }
+
+    /// An attempt under a pass that has seen nothing.
+    pub(crate) fn attempt_fresh<R: Wait>(
+        &mut self,
+        rt: &R,
+        alloc: Global,
+        system: &System,
+        proposal: Box<Proposal<O>>,
+    ) -> Result<Tried, Fail> {
+        let mut pass = Pass::new(alloc, system)?;
+        self.attempt(rt, alloc, &mut pass, proposal)
     }
 
     /// An attempt under a pass.

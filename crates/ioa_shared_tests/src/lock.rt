@@ -74,25 +74,28 @@ fn gathered<O: Origin, L: Ledger>(
     alloc: Global,
     shared: Shared<O, L>,
     slots: Vec<Slot<L>>,
-) -> Result<Whole<O, L>, Fail> {
+) -> Result<Box<Whole<O, L>>, Fail> {
     let mut shares = Vec::new(alloc);
     let mut receipts = Vec::new(alloc);
     for slot in slots {
         shares.push(slot.share)?;
         receipts.push(slot.receipts)?;
     }
-    Ok(Whole {
-        shared,
-        shares,
-        receipts,
-    })
+    Ok(Box::new(
+        alloc,
+        Whole {
+            shared,
+            shares,
+            receipts,
+        },
+    )?)
 }
 
 /// Whether the book is finished with both shares, and not with the first alone.
 fn is_finished<O: Origin, L: Ledger>(
     alloc: Global,
     system: &SharedOf<O, System, Global>,
-    mut whole: Whole<O, L>,
+    mut whole: Box<Whole<O, L>>,
 ) -> Result<bool, Fail> {
     let second = whole.shares.pop().ok_or("no share")?;
     let mut whole = whole.refused(alloc, system, 10, FinishFault::SharesMissing)?;

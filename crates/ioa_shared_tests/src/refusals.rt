@@ -3,7 +3,7 @@
 ghost use Rattle.std.specs.Prelude.{◌≡◌};
 ghost use Rattle.ioa_sharing.specs.Shared.{maker_name};
 
-use crate::desk::{Desk, Tried, desk_of};
+use crate::desk::{Desk, Tried, desk_by, desk_for};
 use crate::texts::{LIST, ONE, PING, TICK, send, system, tick};
 use ioa_actions::{Action, Component};
 use ioa_book::{Book, CommitRefusal, Proposal};
@@ -99,25 +99,43 @@ fn is_stale<O: Origin, L: Ledger, R: Wait>(
     requires name { blank.name ≡ L.name }
     requires parts { (blank.parts ≡ L.parts) × (L.parts ≡ 1) }
 {
-    let mut maker: MakerOf<O> = MakerOf::of(maker);
-    let system = maker.share(Arc::try_clone(system)?);
-    let mut desk: Desk<O, L> = desk_of(alloc, maker, blank, &system, 10)?;
+    let mut desk: Box<Desk<O, L>> = desk_for(alloc, maker, blank, system, 10)?;
+    is_stale_at(rt, alloc, system, &mut desk)
+}
+
+/// The same at a desk.
+fn is_stale_at<O: Origin, L: Ledger, R: Wait>(
+    rt: &R,
+    alloc: Global,
+    system: &System,
+    desk: &mut Desk<O, L>,
+) -> Result<bool, Fail> {
     let action = send(alloc, 7)?;
-    let first = desk.proposal(rt, alloc, system.get(), &action)?;
-    let second = desk.proposal(rt, alloc, system.get(), &action)?;
-    let committed = desk.attempt(rt, alloc, &mut Pass::new(alloc, system.get())?, first)?;
-    let mut pass = Pass::new(alloc, system.get())?;
-    let missed = desk.attempt(rt, alloc, &mut pass, second)?;
+    let first = desk.proposal(rt, alloc, system, &action)?;
+    let second = desk.proposal(rt, alloc, system, &action)?;
+    let committed = desk.attempt_fresh(rt, alloc, system, first)?;
+    Ok(committed == Tried::Committed(0) && is_missed_as_stale(rt, alloc, system, desk, second)?)
+}
+
+/// Whether this proposal is stale, since the channel has moved from version 0 to 1, and leaves its share.
+fn is_missed_as_stale<O: Origin, L: Ledger, R: Wait>(
+    rt: &R,
+    alloc: Global,
+    system: &System,
+    desk: &mut Desk<O, L>,
+    proposal: Box<Proposal<O>>,
+) -> Result<bool, Fail> {
+    let mut pass = Box::new(alloc, Pass::new(alloc, system)?)?;
+    let missed = desk.attempt(rt, alloc, &mut pass, proposal)?;
     let stale = CommitRefusal::Stale {
         component: CHANNEL,
         read: 0,
         held: 1,
     };
     Ok(
-        committed == Tried::Committed(0)
-            && missed == Tried::Missed(Miss::Refused(stale))
+        missed == Tried::Missed(Miss::Refused(stale))
             && desk.share.count() == 1
-            && sees_channel(rt, alloc, &desk, &mut pass),
+            && sees_channel(rt, alloc, desk, &mut pass),
     )
 }
 
@@ -150,11 +168,9 @@ fn is_full<O: Origin, L: Ledger, R: Wait>(
     requires name { blank.name ≡ L.name }
     requires parts { (blank.parts ≡ L.parts) × (L.parts ≡ 1) }
 {
-    let mut maker: MakerOf<O> = MakerOf::of(maker);
-    let system = maker.share(Arc::try_clone(system)?);
-    let mut desk: Desk<O, L> = desk_of(alloc, maker, blank, &system, 0)?;
-    let proposal = desk.proposal(rt, alloc, system.get(), &send(alloc, 7)?)?;
-    let missed = desk.attempt(rt, alloc, &mut Pass::new(alloc, system.get())?, proposal)?;
+    let mut desk: Box<Desk<O, L>> = desk_for(alloc, maker, blank, system, 0)?;
+    let proposal = desk.proposal(rt, alloc, system, &send(alloc, 7)?)?;
+    let missed = desk.attempt_fresh(rt, alloc, system, proposal)?;
     Ok(missed == Tried::Missed(Miss::Refused(CommitRefusal::Full)) && desk.share.count() == 0)
 }
 
@@ -173,10 +189,9 @@ fn comes_to<O: Origin, L: Ledger, R: Wait>(
     requires name { blank.name ≡ L.name }
     requires parts { (blank.parts ≡ L.parts) × (L.parts ≡ 1) }
 {
-    let (proposal, mut maker) = proposal_of::<O>(alloc, MakerOf::of(maker), of, action)?;
-    let other = maker.share(Arc::try_clone(other)?);
-    let mut desk: Desk<O, L> = desk_of(alloc, maker, blank, &other, 10)?;
-    let missed = desk.attempt(rt, alloc, &mut Pass::new(alloc, other.get())?, proposal)?;
+    let (proposal, maker) = proposal_of::<O>(alloc, MakerOf::of(maker), of, action)?;
+    let mut desk: Box<Desk<O, L>> = desk_by(alloc, maker, blank, other, 10)?;
+    let missed = desk.attempt_fresh(rt, alloc, other, proposal)?;
     Ok(missed == Tried::Missed(Miss::Refused(wanted)) && desk.share.count() == 0)
 }
 
@@ -205,16 +220,14 @@ fn risen<O: Origin, L: Ledger, R: Wait>(
     maker: Maker,
     blank: Blank,
     system: &Arc<System>,
-) -> Result<Pass, Fail>
+) -> Result<Box<Pass>, Fail>
     requires maker { maker_name maker ≡ O.name }
     requires name { blank.name ≡ L.name }
     requires parts { (blank.parts ≡ L.parts) × (L.parts ≡ 1) }
 {
-    let mut maker: MakerOf<O> = MakerOf::of(maker);
-    let system = maker.share(Arc::try_clone(system)?);
-    let mut desk: Desk<O, L> = desk_of(alloc, maker, blank, &system, 10)?;
-    let proposal = desk.proposal(rt, alloc, system.get(), &tick(alloc, 0)?)?;
-    let mut pass = Pass::new(alloc, system.get())?;
+    let mut desk: Box<Desk<O, L>> = desk_for(alloc, maker, blank, system, 10)?;
+    let proposal = desk.proposal(rt, alloc, system, &tick(alloc, 0)?)?;
+    let mut pass = Box::new(alloc, Pass::new(alloc, system)?)?;
     let _committed = desk.attempt(rt, alloc, &mut pass, proposal)?;
     Ok(pass)
 }
@@ -226,23 +239,32 @@ fn is_older<O: Origin, L: Ledger, R: Wait>(
     maker: Maker,
     blank: Blank,
     system: &Arc<System>,
-    mut pass: Pass,
+    mut pass: Box<Pass>,
 ) -> Result<bool, Fail>
     requires maker { maker_name maker ≡ O.name }
     requires name { blank.name ≡ L.name }
     requires parts { (blank.parts ≡ L.parts) × (L.parts ≡ 1) }
 {
-    let mut maker: MakerOf<O> = MakerOf::of(maker);
-    let system = maker.share(Arc::try_clone(system)?);
-    let mut desk: Desk<O, L> = desk_of(alloc, maker, blank, &system, 10)?;
+    let mut desk: Box<Desk<O, L>> = desk_for(alloc, maker, blank, system, 10)?;
+    is_older_at(rt, alloc, system, &mut desk, &mut pass)
+}
+
+/// The same at a desk.
+fn is_older_at<O: Origin, L: Ledger, R: Wait>(
+    rt: &R,
+    alloc: Global,
+    system: &System,
+    desk: &mut Desk<O, L>,
+    pass: &mut Pass,
+) -> Result<bool, Fail> {
     let node = older(Aged::Component(Component::Node(0)));
     let log = older(Aged::Length);
-    let proposal = desk.proposal(rt, alloc, system.get(), &tick(alloc, 0)?)?;
-    let missed = desk.attempt(rt, alloc, &mut pass, proposal)?;
+    let proposal = desk.proposal(rt, alloc, system, &tick(alloc, 0)?)?;
+    let missed = desk.attempt(rt, alloc, pass, proposal)?;
     Ok(
         missed == Tried::Missed(Miss::Older(log))
-            && is_refused(rt, alloc, &desk, &mut pass, 0, node)
-            && is_refused(rt, alloc, &desk, &mut pass, 1, log),
+            && is_refused(rt, alloc, desk, pass, 0, node)
+            && is_refused(rt, alloc, desk, pass, 1, log),
     )
 }
 
