@@ -2,7 +2,7 @@
 """Writes a script for the program of ioa_core_rows: bench/events.py EVENTS HANDS
 
 A node ticks, and the hands take turns: each looks at it, proposes its tick and commits that. EVENTS is how many events
-there are, HANDS how many hands.
+there are, HANDS how many hands. Run that program on scripts of two lengths under callgrind, and take the difference.
 """
 
 import sys

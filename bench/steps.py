@@ -4,7 +4,8 @@
     bench/steps.py NODES CHANNELS FIRES
 
 The nodes stand in a ring, of which the first CHANNELS channels are declared. All nodes but the first two do nothing,
-so that texts of several sizes have the same steps: twice as many as FIRES.
+so that texts of several sizes have the same steps: twice as many as FIRES. A step costs the difference of two runs of one
+text, with `--attempts 11` and `--attempts 61` under callgrind, divided by the steps that one has more.
 """
 import sys
 
