@@ -48,6 +48,15 @@ def rules(count):
     return head + "  schedule do fire p0(1) od\nsystem node 0: A\n"
 
 
+def readings(last):
+    """An invariant that reads 937 state variables of each of 64 nodes, and then one more."""
+    variables = "".join(f"    x{number}: Int := {number},\n" for number in range(937))
+    nodes = "".join(f"  node {node}: A\n" for node in range(64))
+    read = ", ".join(f"x{number}@{node}" for node in range(64) for number in range(937))
+    head = f"automaton A\n  states\n    all: Set[Int] := {{}},\n{variables}    b: Bool := false\n"
+    return head + f"system\n{nodes}invariant Whole: all@0 ~= {{{read}, {last}}}\n"
+
+
 def texts():
     """Each text with what is wrong in it."""
     good = declarations()
@@ -64,6 +73,8 @@ def texts():
         ("an argument without a value of one of 60 nodes", good + section(60, 33, outside) + invariants),
         ("an automaton with 4,950 rules", rules(4_950)),
         ("an automaton with 9,900 rules", rules(9_900)),
+        ("an unknown name behind 59,968 readings", readings("y@63")),
+        ("a reading of another sort behind 59,968", readings("b@63")),
     ]
 
 
