@@ -7,6 +7,7 @@ ghost use Rattle.ioa_refusals.specs.declared.refusal.Refusal.TheVariants.{Memory
 
 use crate::cut::Cut;
 use crate::halt::{Halt, bare, found, halt_of};
+use crate::index::index_of_variables;
 use crate::section::automaton_of;
 use crate::unknown::{Sought, unknown_words};
 use crate::words::{count_words, misfit_words, queue_words, sorts_words};
@@ -19,17 +20,20 @@ use ioa_terms::{Name, Shape, Term, Word};
 use ioa_types::Types;
 use ioa_walk::Part;
 use std::alloc::{AllocError, Global};
+use std::mem;
 
 /// What stands before the numbers of two nodes where an invariant reads a queue.
 const QUEUE: &str = "queue";
 
 /// A refused text: its tokens and its tree.
-#[derive(Clone, Copy)]
+#[derive(Drop)]
 pub(crate) struct Whole<'a> {
     /// The text with its tokens.
     pub cut: Cut<'a>,
     /// Its tree.
     pub source: &'a Text<(), (), ()>,
+    /// No names, for what reads none.
+    pub none: NameTable,
 }
 
 /// What is looked for, in a text of these types and constants.
@@ -164,15 +168,19 @@ impl<'a> Ask<'a> {
         }
     }
 
-    /// A table with one more name, which was asked before.
-    pub(crate) fn with_name(
+    /// Puts a name, which was asked before, behind those of a table.
+    pub(crate) fn declare(
         &self,
-        table: NameTable,
-        name: &Word,
+        table: &mut NameTable,
+        name: Word,
         shape: Shape,
-    ) -> Result<NameTable, Halt> {
-        match table.with(self.alloc, name.try_copy(self.alloc)?, shape) {
-            Ok(more) => Ok(more),
+    ) -> Result<(), Halt> {
+        let before = mem::replace(table, NameTable::new(self.alloc));
+        match before.with(self.alloc, name, shape) {
+            Ok(after) => {
+                *table = after;
+                Ok(())
+            }
             Err(refusal) => Err(halt_of(refusal)),
         }
     }
@@ -238,12 +246,13 @@ impl<'a, 'w> TermAsk<'a, 'w> {
         }
     }
 
-    /// Whether a term at the place of a shape is refused as was told.
-    pub(crate) fn refuses_at(&self, term: &Term, want: &Shape) -> Result<bool, AllocError> {
+    /// Whether a term at the place of a declared shape is refused as was told.
+    pub(crate) fn refuses_at(&self, term: &Term, declared: &Shape) -> Result<bool, AllocError> {
         match self.way {
             Way::Passed => Ok(false),
             Way::Names(view) | Way::Readings(view) => {
-                is_refused_at(self.alloc, view, term, want, self.told)
+                let want = shape_in_terms(self.alloc, declared)?;
+                is_refused_at(self.alloc, view, term, &want, self.told)
             }
         }
     }
@@ -287,19 +296,22 @@ impl<'a, 'w> TermAsk<'a, 'w> {
             Term::Name(Name::Word(name), _) => {
                 unknown_words(self.alloc, self.whole, sought, name)
             }
-            Term::Name(Name::Variable { name, node }, _) => {
-                match automaton_of(self.whole.source, *node) {
-                    None => Ok(Vec::new(self.alloc)),
-                    Some(automaton) => {
-                        let sought = Sought::States(&automaton.states);
-                        unknown_words(self.alloc, self.whole, sought, name)
-                    }
-                }
-            }
+            Term::Name(Name::Variable { name, node }, _) => self.unknown_state(name, *node),
             Term::Call(name, _, _) => {
                 unknown_words(self.alloc, self.whole, Sought::Functions, name)
             }
             _ => Ok(Vec::new(self.alloc)),
+        }
+    }
+
+    /// What is said of a name that is no state variable of a node.
+    fn unknown_state(&self, name: &Word, node: i64) -> Result<Vec<u8>, AllocError> {
+        match automaton_of(self.whole.source, node) {
+            None => Ok(Vec::new(self.alloc)),
+            Some(automaton) => {
+                let states = index_of_variables(self.alloc, &automaton.states)?;
+                unknown_words(self.alloc, self.whole, Sought::States(&states), name)
+            }
         }
     }
 
@@ -311,10 +323,5 @@ impl<'a, 'w> TermAsk<'a, 'w> {
             }
             _ => Ok(Vec::new(self.alloc)),
         }
-    }
-
-    /// The shape in terms of a declared one.
-    pub(crate) fn in_terms(&self, shape: &Shape) -> Result<Shape, AllocError> {
-        shape_in_terms(self.alloc, shape)
     }
 }

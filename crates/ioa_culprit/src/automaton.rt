@@ -4,15 +4,16 @@ use crate::asking::Ask;
 use crate::block::seek_schedule;
 use crate::halt::Halt;
 use crate::heading::{Heading, seek_parameters, seek_states};
-use crate::index::{index_of_entries, index_of_transitions};
+use crate::index::{NameIndex, index_of_entries, index_of_transitions};
 use crate::rules::{seek_signature, seek_transitions};
+use ioa_names::NameTable;
 use ioa_refusals::Refusal;
 use ioa_source::{Automaton, Declaration};
 use ioa_terms::Word;
 use ioa_walk::{Walk, one_token};
 
 /// Whether one of these declarations is an automaton of a name.
-pub(crate) fn has_automaton(declarations: &[Declaration<(), (), ()>], name: &Word) -> bool {
+fn has_automaton(declarations: &[Declaration<(), (), ()>], name: &Word) -> bool {
     for declaration in declarations {
         match declaration {
             Declaration::Type(_) => {}
@@ -38,16 +39,49 @@ pub(crate) fn seek_automaton(
         ask.told_at(Refusal::Twice, one_token(name))?;
     }
     let given = seek_parameters(walk, ask, &automaton.parameters)?;
+    seek_behind_parameters(walk, ask, automaton, &given)
+}
+
+/// The walk over what an automaton has behind its parameters, which have these names.
+fn seek_behind_parameters(
+    walk: &mut Walk<'_>,
+    ask: &Ask<'_>,
+    automaton: &Automaton<(), (), ()>,
+    given: &NameTable,
+) -> Result<(), Halt> {
     let mut states = *walk;
-    let outer = seek_states(&mut states, ask, &given, automaton)?;
+    let outer = seek_states(&mut states, ask, given, automaton)?;
+    seek_behind_states(walk, ask, automaton, given, &outer)
+}
+
+/// The same behind its state variables, which have these names.
+fn seek_behind_states(
+    walk: &mut Walk<'_>,
+    ask: &Ask<'_>,
+    automaton: &Automaton<(), (), ()>,
+    given: &NameTable,
+    outer: &NameTable,
+) -> Result<(), Halt> {
     let entries = index_of_entries(ask.alloc, &automaton.signature)?;
+    seek_among(walk, ask, automaton, given, outer, &entries)
+}
+
+/// The same among entries of these names.
+fn seek_among(
+    walk: &mut Walk<'_>,
+    ask: &Ask<'_>,
+    automaton: &Automaton<(), (), ()>,
+    given: &NameTable,
+    outer: &NameTable,
+    entries: &NameIndex,
+) -> Result<(), Halt> {
     let transitions = index_of_transitions(ask.alloc, &automaton.transitions)?;
     let heading = Heading {
         ask,
         automaton,
-        given: &given,
-        outer: &outer,
-        entries: &entries,
+        given,
+        outer,
+        entries,
         transitions: &transitions,
     };
     seek_parts(walk, &heading)

@@ -21,12 +21,25 @@ pub(crate) fn seek_schedule(walk: &mut Walk<'_>, heading: &Heading<'_>) -> Resul
     if schedule.variables.is_empty() && schedule.statements.is_empty() {
         return Ok(());
     }
+    let mut own = NameTable::new(heading.ask.alloc);
+    seek_block(walk, heading, &mut own)
+}
+
+/// The walk over a schedule block that has something in it. Puts the names that it alone reads behind those of a table.
+fn seek_block(walk: &mut Walk<'_>, heading: &Heading<'_>, own: &mut NameTable) -> Result<(), Halt> {
     let _schedule = walk.mark(Mark::Schedule)?;
-    let given = heading.given;
-    let variables = seek_variables(walk, heading.ask, given, heading.outer, &schedule.variables)?;
-    let own = with_inboxes(heading, variables)?;
+    let variables = &heading.automaton.schedule.variables;
+    seek_variables(
+        walk,
+        heading.ask,
+        heading.given,
+        heading.outer,
+        own,
+        variables,
+    )?;
+    declare_inboxes(heading, own)?;
     let _do = walk.mark(Mark::Do)?;
-    seek_statements(walk, heading, &own)
+    seek_statements(walk, heading, &*own)
 }
 
 /// The walk over the statements of a block that alone reads these names.
@@ -47,22 +60,27 @@ fn seek_statements(
     pass_statements(walk, &site, &schedule.statements)
 }
 
-/// A table with the inboxes behind it, if an entry takes messages.
-fn with_inboxes(heading: &Heading<'_>, table: NameTable) -> Result<NameTable, Halt> {
-    match receive_of(&heading.automaton.signature) {
-        None => Ok(table),
-        Some(entry) => {
-            let shapes = shapes_taken(heading, entry)?;
-            match shapes.first() {
-                None => Ok(table),
-                Some(message) => with_inboxes_of(heading.ask, table, message),
-            }
-        }
+/// Puts the inboxes behind the names of a table, if an entry takes messages.
+fn declare_inboxes(heading: &Heading<'_>, table: &mut NameTable) -> Result<(), Halt> {
+    let shapes = shapes_received(heading.ask, heading.given, &heading.automaton.signature)?;
+    declare_inboxes_of(heading.ask, table, &shapes)
+}
+
+/// The shapes of the arguments of the entry whose actions take messages; none if there is no such entry. The message is
+/// the first one. The parameters of the automaton have these names.
+pub(crate) fn shapes_received(
+    ask: &Ask<'_>,
+    given: &NameTable,
+    entries: &[Entry<(), (), ()>],
+) -> Result<Vec<Shape>, Halt> {
+    match receive_of(entries) {
+        None => Ok(Vec::new(ask.alloc)),
+        Some(entry) => shapes_taken(ask, given, entry),
     }
 }
 
 /// The entry whose actions take messages.
-pub(crate) fn receive_of(entries: &[Entry<(), (), ()>]) -> Option<&Entry<(), (), ()>> {
+fn receive_of(entries: &[Entry<(), (), ()>]) -> Option<&Entry<(), (), ()>> {
     for entry in entries {
         if entry.name.as_str() == RECEIVE {
             return Some(entry);
@@ -71,11 +89,16 @@ pub(crate) fn receive_of(entries: &[Entry<(), (), ()>]) -> Option<&Entry<(), (),
     None
 }
 
-/// A table with the inboxes behind it, for messages of this shape.
-fn with_inboxes_of(ask: &Ask<'_>, table: NameTable, message: &Shape) -> Result<NameTable, Halt> {
-    let shape = inboxes_shape(ask.alloc, message)?;
-    let word = inboxes_word(ask.alloc)?;
-    ask.with_name(table, &word, shape)
+/// Puts the inboxes behind the names of a table, for messages of the first of these shapes, if there is one.
+fn declare_inboxes_of(ask: &Ask<'_>, table: &mut NameTable, shapes: &[Shape]) -> Result<(), Halt> {
+    match shapes.first() {
+        None => Ok(()),
+        Some(message) => {
+            let word = inboxes_word(ask.alloc)?;
+            let shape = inboxes_shape(ask.alloc, message)?;
+            ask.declare(table, word, shape)
+        }
+    }
 }
 
 /// The shape of the inboxes, if messages have this shape: a map from the numbers of nodes to sequences.

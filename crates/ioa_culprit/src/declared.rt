@@ -49,19 +49,55 @@ fn behind(walk: &mut Walk<'_>, first: usize, brackets: Part) -> Part {
     }
 }
 
-/// Passes a declared name. Its sort may stand behind other names.
-fn pass_named(walk: &mut Walk<'_>, ask: &Ask<'_>, declared: &Declared<()>) -> Result<Part, Halt> {
-    let first = walk.word(&declared.name)?;
+/// Names of one sort, one behind the other: where their sort stands.
+#[derive(Clone, Copy)]
+pub(crate) struct Group {
+    /// The position of the colon behind the names.
+    colon: usize,
+    /// The position of the last token of the sort.
+    last: usize,
+}
+
+impl Group {
+    /// Before the first names.
+    pub(crate) fn none() -> Self {
+        Group { colon: 0, last: 0 }
+    }
+}
+
+/// The names of one sort among which the next token stands. The sort is passed if they are others than those before.
+fn group_at(
+    walk: &Walk<'_>,
+    ask: &Ask<'_>,
+    before: Group,
+    declared: &Declared<()>,
+) -> Result<Group, Halt> {
+    if walk.next() <= before.colon {
+        return Ok(before);
+    }
     let colon = walk.colon()?;
     let mut ahead = *walk;
     ahead.go_behind(colon);
-    let sort = pass_sort(&mut ahead, ask, &declared.sort)?;
-    if colon == walk.next() {
-        walk.go_behind(sort.last);
+    let last = pass_sort(&mut ahead, ask, &declared.sort)?.last;
+    Ok(Group { colon, last })
+}
+
+/// Passes a declared name. Its sort may stand behind other names.
+pub(crate) fn pass_named(
+    walk: &mut Walk<'_>,
+    ask: &Ask<'_>,
+    group: &mut Group,
+    declared: &Declared<()>,
+) -> Result<Part, Halt> {
+    let first = walk.word(&declared.name)?;
+    let names = group_at(&*walk, ask, *group, declared)?;
+    *group = names;
+    if names.colon == walk.next() {
+        walk.go_behind(names.last);
     }
     Ok(Part {
         first,
-        last: sort.last,
+        last: names.last,
     })
 }
 
@@ -76,21 +112,35 @@ pub(crate) fn pass_declared(
     ask: &Ask<'_>,
     outer: &NameTable,
     table: &NameTable,
+    group: &mut Group,
     declared: &Declared<()>,
 ) -> Result<Part, Halt> {
-    let part = pass_named(walk, ask, declared)?;
+    let part = pass_named(walk, ask, group, declared)?;
     if is_declared(ask, outer, table, &declared.name) {
         ask.told_at(Refusal::Twice, one_token(part.first))?;
     }
     Ok(part)
 }
 
-/// A table with a declared name, which was passed.
-pub(crate) fn with_declared(
+/// Puts a declared name, which was passed, behind those of a table.
+pub(crate) fn declare(
     ask: &Ask<'_>,
-    table: NameTable,
+    table: &mut NameTable,
     declared: &Declared<()>,
-) -> Result<NameTable, Halt> {
+) -> Result<(), Halt> {
+    let name = declared.name.try_copy(ask.alloc)?;
     let shape = ask.shape_of(&declared.sort)?;
-    ask.with_name(table, &declared.name, shape)
+    ask.declare(table, name, shape)
+}
+
+/// Puts declared names, which were passed, behind those of a table.
+pub(crate) fn declare_all(
+    ask: &Ask<'_>,
+    table: &mut NameTable,
+    all: &[Declared<()>],
+) -> Result<(), Halt> {
+    for declared in all {
+        declare(ask, table, declared)?;
+    }
+    Ok(())
 }

@@ -13,6 +13,7 @@ use crate::invariant::seek_invariant;
 use crate::section::{Section, seek_section};
 use crate::sections::ChecksSections;
 use crate::types::seek_type;
+use ioa_names::NameTable;
 use ioa_refusals::Refusal;
 use ioa_source::{Declaration, Invariant, Text};
 use ioa_tokens::{CutFault, LocatedToken, Mark, tokens};
@@ -182,7 +183,11 @@ fn seek<S: ChecksSections>(
     told: Refusal,
     sections: &S,
 ) -> Result<(), Halt> {
-    let whole = Whole { cut, source };
+    let whole = Whole {
+        cut,
+        source,
+        none: NameTable::new(alloc),
+    };
     seek_in(alloc, &whole, index, told, sections)
 }
 

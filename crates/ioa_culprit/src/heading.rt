@@ -1,10 +1,10 @@
 //! Walks over the parameters and the state variables of an automaton.
 
 use crate::asking::Ask;
-use crate::declared::{pass_declared, with_declared};
+use crate::declared::{Group, declare, declare_all, pass_declared};
 use crate::halt::Halt;
 use crate::index::NameIndex;
-use crate::terms::pass_fit;
+use crate::terms::pass_at;
 use ioa_names::{NameTable, View};
 use ioa_refusals::Refusal;
 use ioa_source::{Automaton, Declared, Entry, Transition, Variable};
@@ -47,15 +47,29 @@ impl<'a> Heading<'a> {
 pub(crate) fn seek_parameters(
     walk: &mut Walk<'_>,
     ask: &Ask<'_>,
-    parameters: &Vec<Declared<()>>,
+    parameters: &[Declared<()>],
 ) -> Result<NameTable, Halt> {
-    let none = NameTable::new(ask.alloc);
     let mut table = NameTable::new(ask.alloc);
-    for parameter in parameters {
-        let _part = pass_declared(walk, ask, &none, &table, parameter)?;
-        table = with_declared(ask, table, parameter)?;
+    match pass_parameters(walk, ask, &mut table, parameters) {
+        Ok(()) => Ok(table),
+        Err(halt) => Err(halt),
     }
-    Ok(table)
+}
+
+/// Passes parameters. Puts their names behind those of a table.
+fn pass_parameters(
+    walk: &mut Walk<'_>,
+    ask: &Ask<'_>,
+    table: &mut NameTable,
+    parameters: &[Declared<()>],
+) -> Result<(), Halt> {
+    let mut group = Group::none();
+    let none = &ask.whole.none;
+    for parameter in parameters {
+        let _part = pass_declared(walk, ask, none, &*table, &mut group, parameter)?;
+        declare(ask, table, parameter)?;
+    }
+    Ok(())
 }
 
 /// The walk over the state variables of an automaton that has parameters of these names. Returns the table of the names
@@ -66,11 +80,26 @@ pub(crate) fn seek_states(
     given: &NameTable,
     automaton: &Automaton<(), (), ()>,
 ) -> Result<NameTable, Halt> {
+    let mut table = NameTable::new(ask.alloc);
+    match pass_states(walk, ask, given, &mut table, automaton) {
+        Ok(()) => Ok(table),
+        Err(halt) => Err(halt),
+    }
+}
+
+/// Passes the state variables of an automaton. Puts their names behind those of a table, and then its parameters'.
+fn pass_states(
+    walk: &mut Walk<'_>,
+    ask: &Ask<'_>,
+    given: &NameTable,
+    table: &mut NameTable,
+    automaton: &Automaton<(), (), ()>,
+) -> Result<(), Halt> {
     if !automaton.states.is_empty() {
         let _states = walk.mark(Mark::States)?;
     }
-    let states = seek_variables(walk, ask, given, given, &automaton.states)?;
-    with_all_declared(ask, states, &automaton.parameters)
+    seek_variables(walk, ask, given, given, table, &automaton.states)?;
+    declare_all(ask, table, &automaton.parameters)
 }
 
 /// The names of the parameters of an automaton that was passed.
@@ -78,63 +107,67 @@ pub(crate) fn given_of(
     ask: &Ask<'_>,
     automaton: &Automaton<(), (), ()>,
 ) -> Result<NameTable, Halt> {
-    with_all_declared(ask, NameTable::new(ask.alloc), &automaton.parameters)
+    let mut table = NameTable::new(ask.alloc);
+    match declare_all(ask, &mut table, &automaton.parameters) {
+        Ok(()) => Ok(table),
+        Err(halt) => Err(halt),
+    }
 }
 
-/// A table with the names of parameters behind it.
-fn with_all_declared(
+/// The names of the state variables of an automaton that was passed.
+pub(crate) fn states_of(
     ask: &Ask<'_>,
-    table: NameTable,
-    parameters: &Vec<Declared<()>>,
+    automaton: &Automaton<(), (), ()>,
 ) -> Result<NameTable, Halt> {
-    let mut table = table;
-    for parameter in parameters {
-        table = with_declared(ask, table, parameter)?;
+    let mut table = NameTable::new(ask.alloc);
+    match declare_variables(ask, &mut table, &automaton.states) {
+        Ok(()) => Ok(table),
+        Err(halt) => Err(halt),
     }
-    Ok(table)
+}
+
+/// Puts the names of variables, which were passed, behind those of a table.
+fn declare_variables(
+    ask: &Ask<'_>,
+    table: &mut NameTable,
+    variables: &[Variable<(), (), ()>],
+) -> Result<(), Halt> {
+    for variable in variables {
+        declare(ask, table, &variable.declared)?;
+    }
+    Ok(())
 }
 
 /// The walk over variables whose initial terms read the names of an automaton's parameters, and which are to differ
-/// from names outside. Returns the table of their names.
+/// from names outside. Puts their names behind those of a table.
 pub(crate) fn seek_variables(
     walk: &mut Walk<'_>,
     ask: &Ask<'_>,
     given: &NameTable,
     outer: &NameTable,
-    variables: &Vec<Variable<(), (), ()>>,
-) -> Result<NameTable, Halt> {
-    let none = NameTable::new(ask.alloc);
-    let view = View::new(given, &none, ask.constants)?;
-    seek_variables_in(walk, ask, &view, outer, variables)
+    table: &mut NameTable,
+    variables: &[Variable<(), (), ()>],
+) -> Result<(), Halt> {
+    let view = View::new(given, &ask.whole.none, ask.constants)?;
+    seek_variables_in(walk, ask, &view, outer, table, variables)
 }
 
-/// The walk over variables whose initial terms read the names of a view. Returns the table of their names.
+/// The walk over variables whose initial terms read the names of a view. Puts their names behind those of a table.
 fn seek_variables_in(
     walk: &mut Walk<'_>,
     ask: &Ask<'_>,
     view: &View<'_>,
     outer: &NameTable,
-    variables: &Vec<Variable<(), (), ()>>,
-) -> Result<NameTable, Halt> {
-    let mut table = NameTable::new(ask.alloc);
-    for variable in variables {
-        seek_variable(walk, ask, view, outer, &table, variable)?;
-        table = with_declared(ask, table, &variable.declared)?;
-    }
-    Ok(table)
-}
-
-/// The walk over a variable, which is to differ from those of a table and from names outside.
-fn seek_variable(
-    walk: &mut Walk<'_>,
-    ask: &Ask<'_>,
-    view: &View<'_>,
-    outer: &NameTable,
-    table: &NameTable,
-    variable: &Variable<(), (), ()>,
+    table: &mut NameTable,
+    variables: &[Variable<(), (), ()>],
 ) -> Result<(), Halt> {
-    let part = pass_declared(walk, ask, outer, table, &variable.declared)?;
-    seek_initial(walk, ask, view, part, variable)
+    let mut group = Group::none();
+    for variable in variables {
+        let part = pass_declared(walk, ask, outer, &*table, &mut group, &variable.declared)?;
+        seek_initial(walk, ask, view, part, variable)?;
+        declare(ask, table, &variable.declared)?;
+    }
+    Ok(())
 }
 
 /// The walk over the initial term of a variable, whose name and sort have this part.
@@ -160,6 +193,5 @@ fn seek_initial_term(
     term: &Term,
 ) -> Result<(), Halt> {
     let shape = ask.shape_of(&variable.declared.sort)?;
-    let _part = pass_fit(walk, &ask.in_view(view), term, &shape)?;
-    Ok(())
+    pass_at(walk, &ask.in_view(view), term, &shape)
 }

@@ -1,6 +1,6 @@
 //! Where names stand first.
 
-use ioa_source::{Entry, Transition};
+use ioa_source::{Declaration, Entry, Transition, Variable};
 use ioa_system::Scope;
 use ioa_terms::Word;
 use std::alloc::{AllocError, Global};
@@ -73,6 +73,35 @@ pub(crate) fn index_of_transitions(
     let mut index = NameIndex::new(alloc);
     for (position, transition) in transitions.iter().enumerate() {
         let _fresh = index.add(alloc, &transition.name, position)?;
+    }
+    Ok(index)
+}
+
+/// The names of variables.
+pub(crate) fn index_of_variables(
+    alloc: Global,
+    variables: &[Variable<(), (), ()>],
+) -> Result<NameIndex, AllocError> {
+    let mut index = NameIndex::new(alloc);
+    for (position, variable) in variables.iter().enumerate() {
+        let _fresh = index.add(alloc, &variable.declared.name, position)?;
+    }
+    Ok(index)
+}
+
+/// The names of the automata among declarations.
+pub(crate) fn index_of_automata(
+    alloc: Global,
+    declarations: &[Declaration<(), (), ()>],
+) -> Result<NameIndex, AllocError> {
+    let mut index = NameIndex::new(alloc);
+    for (position, declaration) in declarations.iter().enumerate() {
+        match declaration {
+            Declaration::Type(_) => {}
+            Declaration::Automaton(automaton) => {
+                let _fresh = index.add(alloc, &automaton.name, position)?;
+            }
+        }
     }
     Ok(index)
 }

@@ -2,12 +2,13 @@
 
 use crate::asking::Ask;
 use crate::halt::{Halt, bare};
+use crate::offers::{Offers, offers_of};
 use crate::readings::readings_of;
-use crate::terms::{pass_fit, pass_term};
-use ioa_names::{NameTable, View};
+use crate::terms::{pass_term, pass_truth};
+use ioa_names::{Readings, View};
 use ioa_refusals::Refusal;
 use ioa_source::Invariant;
-use ioa_terms::{Shape, ShapeForm, Word};
+use ioa_terms::{Term, Word};
 use ioa_walk::{Walk, one_token};
 
 /// Whether one of these invariants has a name.
@@ -35,13 +36,32 @@ fn seek_term(
     ask: &Ask<'_>,
     invariant: &Invariant<(), (), ()>,
 ) -> Result<(), Halt> {
-    let none = NameTable::new(ask.alloc);
-    let readings = readings_of(ask, &invariant.term)?;
-    let view = View::of_readings(&readings, &none, ask.constants)?;
-    let truths = Shape::of(ShapeForm::Truths);
-    let mut inner = *walk;
+    let offers = offers_of(ask)?;
+    seek_offered(walk, ask, &offers, &invariant.term)
+}
+
+/// The walk over the term of an invariant, to which the nodes offer this.
+fn seek_offered(
+    walk: &mut Walk<'_>,
+    ask: &Ask<'_>,
+    offers: &Offers,
+    term: &Term,
+) -> Result<(), Halt> {
+    let readings = readings_of(ask, offers, term)?;
+    seek_reading(walk, ask, &readings, term)
+}
+
+/// The walk over the term of an invariant that reads this.
+fn seek_reading(
+    walk: &mut Walk<'_>,
+    ask: &Ask<'_>,
+    readings: &Readings,
+    term: &Term,
+) -> Result<(), Halt> {
+    let view = View::of_readings(readings, &ask.whole.none, ask.constants)?;
     let asked = ask.in_readings(&view);
-    let part = pass_fit(walk, &asked, &invariant.term, &truths)?;
-    let _term = pass_term(&mut inner, &asked, &invariant.term)?;
+    let mut inner = *walk;
+    let part = pass_truth(walk, &asked, term)?;
+    let _term = pass_term(&mut inner, &asked, term)?;
     Err(bare(ask.alloc, part))
 }

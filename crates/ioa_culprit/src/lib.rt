@@ -18,6 +18,8 @@ mod heading;
 mod index;
 mod invariant;
 mod near;
+mod offers;
+mod passed;
 mod readings;
 mod roles;
 mod rules;

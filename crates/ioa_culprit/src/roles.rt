@@ -97,7 +97,7 @@ fn is_declared(declared: &[Declared<()>], name: &Word) -> bool {
 }
 
 /// Whether one of these is a variable of a name.
-pub(crate) fn is_variable(variables: &[Variable<(), (), ()>], name: &Word) -> bool {
+fn is_variable(variables: &[Variable<(), (), ()>], name: &Word) -> bool {
     variables
         .iter()
         .any(|variable| variable.declared.name == *name)

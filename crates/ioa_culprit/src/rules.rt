@@ -1,11 +1,11 @@
 //! Walks over the entries and the transitions of an automaton.
 
 use crate::asking::Ask;
-use crate::declared::{pass_declared, with_declared};
-use crate::halt::{Halt, bare};
+use crate::declared::{Group, declare, pass_declared};
+use crate::halt::{Halt, bare, halt_of};
 use crate::heading::Heading;
 use crate::statements::{Site, pass_statements};
-use crate::terms::{pass_fit, pass_own, pass_term};
+use crate::terms::{pass_own, pass_term, pass_truth};
 use crate::unknown::Sought;
 use ioa_actions::{RECEIVE, SEND};
 use ioa_names::{NameTable, View};
@@ -76,55 +76,60 @@ fn seek_entry(
     if !has_transition(heading, entry) {
         heading.ask.told_at(Refusal::NoTransition, part)?;
     }
-    let own = seek_own(walk, heading, &entry.parameters)?;
-    walk.go_behind(last);
-    seek_where(walk, heading, &own, entry)?;
+    let mut own = NameTable::new(heading.ask.alloc);
+    seek_behind_name(walk, heading, &mut own, entry, part)
+}
+
+/// The walk over what an entry has behind its name; with the name its head has this part. Puts the names of its
+/// parameters behind those of a table.
+fn seek_behind_name(
+    walk: &mut Walk<'_>,
+    heading: &Heading<'_>,
+    own: &mut NameTable,
+    entry: &Entry<(), (), ()>,
+    part: Part,
+) -> Result<(), Halt> {
+    seek_own(walk, heading, own, &entry.parameters)?;
+    walk.go_behind(part.last);
+    seek_where(walk, heading, &*own, entry)?;
     seek_message(heading, entry, part)
 }
 
-/// The walk over the parameters of an entry. Returns the table of their names.
+/// The walk over the parameters of an entry. Puts their names behind those of a table.
 fn seek_own(
     walk: &mut Walk<'_>,
     heading: &Heading<'_>,
+    own: &mut NameTable,
     parameters: &Vec<Parameter<(), (), ()>>,
-) -> Result<NameTable, Halt> {
+) -> Result<(), Halt> {
     let ask = heading.ask;
-    let none = NameTable::new(ask.alloc);
-    let view = View::new(heading.given, &none, ask.constants)?;
-    seek_own_in(walk, heading, &view, parameters)
-}
-
-/// The walk over the parameters of an entry, whose constants read the names of a view.
-fn seek_own_in(
-    walk: &mut Walk<'_>,
-    heading: &Heading<'_>,
-    view: &View<'_>,
-    parameters: &Vec<Parameter<(), (), ()>>,
-) -> Result<NameTable, Halt> {
-    let mut own = NameTable::new(heading.ask.alloc);
+    let view = View::new(heading.given, &ask.whole.none, ask.constants)?;
+    let mut group = Group::none();
     for parameter in parameters {
-        own = seek_parameter(walk, heading, view, own, parameter)?;
+        seek_parameter(walk, heading, &view, own, &mut group, parameter)?;
     }
-    Ok(own)
+    Ok(())
 }
 
-/// The walk over a parameter of an entry. Returns the table with its name, if it declares one.
+/// The walk over a parameter of an entry, whose constants read the names of a view. Puts its name, if it declares one,
+/// behind those of a table.
 fn seek_parameter(
     walk: &mut Walk<'_>,
     heading: &Heading<'_>,
     view: &View<'_>,
-    own: NameTable,
+    own: &mut NameTable,
+    group: &mut Group,
     parameter: &Parameter<(), (), ()>,
-) -> Result<NameTable, Halt> {
+) -> Result<(), Halt> {
     let ask = heading.ask;
     match parameter {
         Parameter::Const(term) => {
             let _part = pass_own(walk, &ask.in_view(view), term)?;
-            Ok(own)
+            Ok(())
         }
         Parameter::Declared(declared) => {
-            let _part = pass_declared(walk, ask, heading.outer, &own, declared)?;
-            with_declared(ask, own, declared)
+            let _part = pass_declared(walk, ask, heading.outer, &*own, group, declared)?;
+            declare(ask, own, declared)
         }
     }
 }
@@ -132,13 +137,25 @@ fn seek_parameter(
 /// The names of the parameters of an entry that was passed.
 fn own_of(ask: &Ask<'_>, entry: &Entry<(), (), ()>) -> Result<NameTable, Halt> {
     let mut own = NameTable::new(ask.alloc);
-    for parameter in &entry.parameters {
+    match declare_own(ask, &mut own, &entry.parameters) {
+        Ok(()) => Ok(own),
+        Err(halt) => Err(halt),
+    }
+}
+
+/// Puts the names of parameters, which were passed, behind those of a table.
+fn declare_own(
+    ask: &Ask<'_>,
+    own: &mut NameTable,
+    parameters: &Vec<Parameter<(), (), ()>>,
+) -> Result<(), Halt> {
+    for parameter in parameters {
         match parameter {
             Parameter::Const(_) => {}
-            Parameter::Declared(declared) => own = with_declared(ask, own, declared)?,
+            Parameter::Declared(declared) => declare(ask, own, declared)?,
         }
     }
-    Ok(own)
+    Ok(())
 }
 
 /// The walk over the condition of an entry whose parameters have these names.
@@ -177,51 +194,57 @@ fn seek_condition(
         let part = pass_term(walk, &ask.in_passing(), term)?;
         return ask.told_at(refusal, part);
     }
-    let truths = Shape::of(ShapeForm::Truths);
-    let _part = pass_fit(walk, &ask.in_view(view), term, &truths)?;
+    let _part = pass_truth(walk, &ask.in_view(view), term)?;
     Ok(())
 }
 
-/// The shape of a term's value. Nothing for a display.
-fn shape_of_term(alloc: Global, view: &View<'_>, term: &Term) -> Result<Option<Shape>, Refusal> {
-    match infer(alloc, view, term)? {
-        None => Ok(None),
-        Some(typed) => Ok(Some(typed.shape)),
+/// The shape of the value of a term, which was passed. A display has none of its own.
+fn shape_of_term(alloc: Global, view: &View<'_>, term: &Term) -> Result<Shape, Halt> {
+    match infer(alloc, view, term) {
+        Ok(Some(typed)) => Ok(typed.shape),
+        Ok(None) => Err(Halt::Lost),
+        Err(refusal) => Err(halt_of(refusal)),
     }
 }
 
-/// The shape of the arguments that a parameter takes, which was passed. Nothing for a display.
+/// The shape of the arguments that a parameter takes, which was passed.
 fn shape_taken(
     ask: &Ask<'_>,
     view: &View<'_>,
     parameter: &Parameter<(), (), ()>,
-) -> Result<Option<Shape>, Halt> {
+) -> Result<Shape, Halt> {
     match parameter {
-        Parameter::Declared(declared) => Ok(Some(ask.shape_of(&declared.sort)?)),
-        Parameter::Const(term) => match shape_of_term(ask.alloc, view, term) {
-            Ok(shape) => Ok(shape),
-            Err(Refusal::Memory) => Err(Halt::Memory),
-            Err(_) => Ok(None),
-        },
+        Parameter::Declared(declared) => ask.shape_of(&declared.sort),
+        Parameter::Const(term) => shape_of_term(ask.alloc, view, term),
     }
 }
 
-/// The shapes of the arguments that an entry takes, which was passed.
+/// The shapes of the arguments that an entry takes, which was passed. The parameters of its automaton have these names.
 pub(crate) fn shapes_taken(
-    heading: &Heading<'_>,
+    ask: &Ask<'_>,
+    given: &NameTable,
     entry: &Entry<(), (), ()>,
 ) -> Result<Vec<Shape>, Halt> {
-    let ask = heading.ask;
-    let none = NameTable::new(ask.alloc);
-    let view = View::new(heading.given, &none, ask.constants)?;
+    let view = View::new(given, &ask.whole.none, ask.constants)?;
     let mut shapes = Vec::new(ask.alloc);
-    for parameter in &entry.parameters {
-        match shape_taken(ask, &view, parameter)? {
-            None => return Err(Halt::Lost),
-            Some(shape) => shapes.push(shape)?,
-        }
+    match push_taken(ask, &view, &mut shapes, &entry.parameters) {
+        Ok(()) => Ok(shapes),
+        Err(halt) => Err(halt),
     }
-    Ok(shapes)
+}
+
+/// Adds the shapes of the arguments that parameters take, which were passed.
+fn push_taken(
+    ask: &Ask<'_>,
+    view: &View<'_>,
+    shapes: &mut Vec<Shape>,
+    parameters: &Vec<Parameter<(), (), ()>>,
+) -> Result<(), Halt> {
+    for parameter in parameters {
+        let shape = shape_taken(ask, view, parameter)?;
+        shapes.push(shape)?;
+    }
+    Ok(())
 }
 
 /// Whether there is a shape at a position, and it is that of numbers.
@@ -266,7 +289,7 @@ fn seek_message(heading: &Heading<'_>, entry: &Entry<(), (), ()>, part: Part) ->
     if heading.ask.told != Refusal::BadArgument {
         return Ok(());
     }
-    let shapes = shapes_taken(heading, entry)?;
+    let shapes = shapes_taken(heading.ask, heading.given, entry)?;
     if may_have_name(entry, &shapes) {
         Ok(())
     } else {
@@ -355,7 +378,19 @@ fn seek_rule(
         ask.told_at(Refusal::BadArgument, head)?;
     }
     let own = own_of(ask, entry)?;
-    let view = View::new(heading.outer, &own, ask.constants)?;
+    seek_rule_of(walk, heading, &own, head, transition)
+}
+
+/// The walk over a transition, behind its head, of an entry whose parameters have these names.
+fn seek_rule_of(
+    walk: &mut Walk<'_>,
+    heading: &Heading<'_>,
+    own: &NameTable,
+    head: Part,
+    transition: &Transition<(), (), ()>,
+) -> Result<(), Halt> {
+    let ask = heading.ask;
+    let view = View::new(heading.outer, own, ask.constants)?;
     seek_arguments(walk, ask, &view, &transition.arguments)?;
     walk.go_behind(head.last);
     if let Some(term) = &transition.pre {

@@ -4,7 +4,8 @@ use crate::asking::Ask;
 use crate::cut::{Cut, blank};
 use crate::halt::{Halt, bare};
 use crate::heading::{Heading, given_of};
-use crate::index::{NameIndex, index_of_entries};
+use crate::index::{NameIndex, index_of_automata, index_of_entries};
+use crate::passed::Passed;
 use crate::rules::shapes_taken;
 use crate::sections::ChecksSections;
 use crate::terms::pass_each;
@@ -40,19 +41,51 @@ pub(crate) fn seek_section<S: ChecksSections>(
     walk: &mut Walk<'_>,
     section: &Section<'_, S>,
 ) -> Result<(), Halt> {
+    let parts = parts_of(walk, section.ask.alloc, &section.source.system)?;
+    seek_alone(section, &parts)?;
+    seek_refused(section, &parts)
+}
+
+/// The walk to the first node, channel or script that is refused as was told whatever it places. They have these parts.
+fn seek_alone<S: ChecksSections>(section: &Section<'_, S>, parts: &[Part]) -> Result<(), Halt> {
+    let mut passed = Passed::new(section.ask.alloc);
+    seek_each_alone(section, parts, &mut passed)
+}
+
+/// The same behind channels and scripts that were passed.
+fn seek_each_alone<S: ChecksSections>(
+    section: &Section<'_, S>,
+    parts: &[Part],
+    passed: &mut Passed,
+) -> Result<(), Halt> {
     let placements = &section.source.system;
-    let parts = parts_of(walk, section.ask.alloc, placements)?;
     for position in 0..placements.len().min(parts.len()) {
-        let (before, placement) = (&placements[..position], &placements[position]);
-        let told = section.ask.told;
-        if is_misplaced(told, before, placement)
-            || is_gap(told, placements, placement)
-            || is_one_too_many(section, before, placement)
-        {
+        if is_refused_alone(
+            section,
+            passed,
+            &placements[..position],
+            &placements[position],
+        )? {
             return Err(bare(section.ask.alloc, parts[position]));
         }
     }
-    seek_refused(section, &parts)
+    Ok(())
+}
+
+/// Whether a placement behind others is refused as was told whatever it places.
+fn is_refused_alone<S: ChecksSections>(
+    section: &Section<'_, S>,
+    passed: &mut Passed,
+    before: &[Placement<(), (), ()>],
+    placement: &Placement<(), (), ()>,
+) -> Result<bool, AllocError> {
+    match section.ask.told {
+        Refusal::Twice => is_twice(passed, before, placement),
+        Refusal::SelfChannel => Ok(is_to_itself(placement)),
+        Refusal::NodeGap => Ok(is_gap(&section.source.system, placement)),
+        Refusal::Limit => Ok(is_one_too_many(section, before, placement)),
+        _ => Ok(false),
+    }
 }
 
 /// The parts of nodes, channels and scripts.
@@ -171,47 +204,33 @@ pub(crate) fn has_channel(placements: &[Placement<(), (), ()>], channel: &Channe
     false
 }
 
-/// Whether one of these is the script of a node.
-fn has_script(placements: &[Placement<(), (), ()>], number: i64) -> bool {
-    for placement in placements {
-        match placement {
-            Placement::Script(script) => {
-                if script.node == number {
-                    return true;
-                }
-            }
-            Placement::Node(_) | Placement::Channel(_) => {}
-        }
-    }
-    false
-}
-
-/// Whether a placement behind others is refused as was told whatever it places: it is there twice, or a channel from a
-/// node to itself.
-fn is_misplaced(
-    told: Refusal,
+/// Whether a placement behind others is there twice.
+fn is_twice(
+    passed: &mut Passed,
     before: &[Placement<(), (), ()>],
     placement: &Placement<(), (), ()>,
-) -> bool {
+) -> Result<bool, AllocError> {
     match placement {
-        Placement::Node(node) => told == Refusal::Twice && has_node(before, node.number),
-        Placement::Channel(channel) => {
-            (told == Refusal::Twice && has_channel(before, channel))
-                || (told == Refusal::SelfChannel && channel.from == channel.to)
-        }
-        Placement::Script(script) => told == Refusal::Twice && has_script(before, script.node),
+        Placement::Node(node) => Ok(has_node(before, node.number)),
+        Placement::Channel(channel) => Ok(!passed.add_channel(channel)?),
+        Placement::Script(script) => Ok(!passed.add_script(script.node)?),
     }
 }
 
-/// Whether a placement behind others is one too many, and that was told.
+/// Whether a placement is a channel from a node to itself.
+fn is_to_itself(placement: &Placement<(), (), ()>) -> bool {
+    match placement {
+        Placement::Channel(channel) => channel.from == channel.to,
+        Placement::Node(_) | Placement::Script(_) => false,
+    }
+}
+
+/// Whether a placement behind others is one too many.
 fn is_one_too_many<S: ChecksSections>(
     section: &Section<'_, S>,
     before: &[Placement<(), (), ()>],
     placement: &Placement<(), (), ()>,
 ) -> bool {
-    if section.ask.told != Refusal::Limit {
-        return false;
-    }
     match placement {
         Placement::Node(_) => count_of_nodes(before) >= section.sections.most_nodes(),
         Placement::Channel(_) => count_of_channels(before) >= section.sections.most_channels(),
@@ -219,16 +238,10 @@ fn is_one_too_many<S: ChecksSections>(
     }
 }
 
-/// Whether a node's number is none of those that nodes may have, and that was told.
-fn is_gap(
-    told: Refusal,
-    placements: &[Placement<(), (), ()>],
-    placement: &Placement<(), (), ()>,
-) -> bool {
+/// Whether a placement is a node whose number is none of those that the nodes of a section may have.
+fn is_gap(placements: &[Placement<(), (), ()>], placement: &Placement<(), (), ()>) -> bool {
     match placement {
-        Placement::Node(node) => {
-            told == Refusal::NodeGap && !is_below(node.number, count_of_nodes(placements))
-        }
+        Placement::Node(node) => !is_below(node.number, count_of_nodes(placements)),
         Placement::Channel(_) | Placement::Script(_) => false,
     }
 }
@@ -299,7 +312,7 @@ fn order_of(
     placements: &Vec<Placement<(), (), ()>>,
 ) -> Result<Vec<usize>, AllocError> {
     let mut order = Vec::new(alloc);
-    for number in 0..placements.len() {
+    for number in 0..count_of_nodes(placements) {
         if let Some(position) = position_of_node(placements, number) {
             order.push(position)?;
         }
@@ -419,7 +432,7 @@ fn seek_placement<S: ChecksSections>(
 }
 
 /// The automaton of a name.
-fn automaton_named<'a>(
+pub(crate) fn automaton_named<'a>(
     declarations: &'a [Declaration<(), (), ()>],
     name: &Word,
 ) -> Option<&'a Automaton<(), (), ()>> {
@@ -456,8 +469,7 @@ fn seek_given(
     arguments: &Vec<Term>,
     part: Part,
 ) -> Result<(), Halt> {
-    let none = NameTable::new(ask.alloc);
-    let view = View::new(&none, &none, ask.constants)?;
+    let view = View::new(&ask.whole.none, &ask.whole.none, ask.constants)?;
     pass_each(walk, &ask.in_view(&view), arguments, shapes)?;
     ask.count_at(part, name, shapes.len(), arguments.len())?;
     walk.go_behind(part.last);
@@ -474,11 +486,13 @@ fn seek_node<S: ChecksSections>(
     let first = walk.word(&node.automaton)?;
     let last = walk.called(first)?;
     match automaton_named(&section.source.declarations, &node.automaton) {
-        None => section.ask.unknown_at(
-            one_token(first),
-            Sought::Automata(&section.source.declarations),
-            &node.automaton,
-        ),
+        None => {
+            let automata = index_of_automata(section.ask.alloc, &section.source.declarations)?;
+            let sought = Sought::Automata(&automata);
+            section
+                .ask
+                .unknown_at(one_token(first), sought, &node.automaton)
+        }
         Some(automaton) => {
             let shapes = parameter_shapes(section.ask, automaton)?;
             seek_given(
@@ -515,11 +529,17 @@ pub(crate) fn automaton_of<'a>(
     source: &'a Text<(), (), ()>,
     number: i64,
 ) -> Option<&'a Automaton<(), (), ()>> {
-    for placement in &source.system {
+    let name = program_of(&source.system, number)?;
+    automaton_named(&source.declarations, name)
+}
+
+/// The name of the automaton that is placed on the node of a number.
+pub(crate) fn program_of(placements: &[Placement<(), (), ()>], number: i64) -> Option<&Word> {
+    for placement in placements {
         match placement {
             Placement::Node(node) => {
                 if node.number == number {
-                    return automaton_named(&source.declarations, &node.automaton);
+                    return Some(&node.automaton);
                 }
             }
             Placement::Channel(_) | Placement::Script(_) => {}
@@ -539,19 +559,42 @@ fn seek_script<S: ChecksSections>(
         None => section.ask.told_at(Refusal::Unknown, one_token(number)),
         Some(automaton) => {
             let given = given_of(section.ask, automaton)?;
-            let entries = index_of_entries(section.ask.alloc, &automaton.signature)?;
-            let transitions = NameIndex::new(section.ask.alloc);
-            let heading = Heading {
-                ask: section.ask,
-                automaton,
-                given: &given,
-                outer: &given,
-                entries: &entries,
-                transitions: &transitions,
-            };
-            seek_calls(walk, &heading, &script.calls)
+            seek_script_of(walk, section.ask, automaton, &given, &script.calls)
         }
     }
+}
+
+/// The walk over the calls of a script at a node of an automaton whose parameters have these names.
+fn seek_script_of(
+    walk: &mut Walk<'_>,
+    ask: &Ask<'_>,
+    automaton: &Automaton<(), (), ()>,
+    given: &NameTable,
+    calls: &Vec<Call<(), (), ()>>,
+) -> Result<(), Halt> {
+    let entries = index_of_entries(ask.alloc, &automaton.signature)?;
+    seek_calls_among(walk, ask, automaton, given, &entries, calls)
+}
+
+/// The same among entries of these names.
+fn seek_calls_among(
+    walk: &mut Walk<'_>,
+    ask: &Ask<'_>,
+    automaton: &Automaton<(), (), ()>,
+    given: &NameTable,
+    entries: &NameIndex,
+    calls: &Vec<Call<(), (), ()>>,
+) -> Result<(), Halt> {
+    let transitions = NameIndex::new(ask.alloc);
+    let heading = Heading {
+        ask,
+        automaton,
+        given,
+        outer: given,
+        entries,
+        transitions: &transitions,
+    };
+    seek_calls(walk, &heading, calls)
 }
 
 /// The walk over the calls of a script at a node of an automaton.
@@ -588,7 +631,7 @@ fn seek_call(
             if entry.kind != Kind::Input {
                 heading.ask.told_at(Refusal::Unknown, one_token(first))?;
             }
-            let shapes = shapes_taken(heading, entry)?;
+            let shapes = shapes_taken(heading.ask, heading.given, entry)?;
             seek_given(
                 walk,
                 heading.ask,

@@ -4,13 +4,13 @@ use crate::asking::Ask;
 use crate::halt::{Halt, halt_of};
 use crate::heading::Heading;
 use crate::rules::shapes_taken;
-use crate::terms::{pass_each, pass_fit};
+use crate::terms::{pass_at, pass_each, pass_truth};
 use crate::unknown::Sought;
 use ioa_names::View;
 use ioa_refusals::Refusal;
-use ioa_sort_rules::{Sides, entry_of, value_of_field};
+use ioa_sort_rules::{Sides, entry_of, shape_in_terms, value_of_field};
 use ioa_source::Entry;
-use ioa_terms::{Arm, Firing, Kind, Shape, ShapeForm, Statement, Target, Term, Word};
+use ioa_terms::{Arm, Firing, Kind, Shape, Statement, Target, Term, Word};
 use ioa_tokens::Mark;
 use ioa_walk::{Part, Walk, one_token};
 
@@ -83,8 +83,7 @@ fn pass_arm(walk: &mut Walk<'_>, site: &Site<'_>, arm: &Arm<(), (), ()>) -> Resu
 
 /// Passes a test, which is a truth value.
 fn pass_test(walk: &mut Walk<'_>, site: &Site<'_>, test: &Term) -> Result<(), Halt> {
-    let truths = Shape::of(ShapeForm::Truths);
-    let _part = pass_fit(walk, &site.heading.ask.in_view(site.view), test, &truths)?;
+    let _part = pass_truth(walk, &site.heading.ask.in_view(site.view), test)?;
     Ok(())
 }
 
@@ -120,8 +119,7 @@ fn pass_assigned(
     want: &Shape,
 ) -> Result<(), Halt> {
     let _assign = walk.mark(Mark::Assign)?;
-    let _part = pass_fit(walk, &site.heading.ask.in_view(site.view), term, want)?;
-    Ok(())
+    pass_at(walk, &site.heading.ask.in_view(site.view), term, want)
 }
 
 /// The declared shape of a variable that may be assigned. The walk ends at its name if it is none, and that was told.
@@ -150,20 +148,22 @@ fn pass_variable(walk: &mut Walk<'_>, site: &Site<'_>, name: &Word) -> Result<Sh
 /// Passes `x[t]`, which is assigned. Returns the shape of the values of the map.
 fn pass_key(walk: &mut Walk<'_>, site: &Site<'_>, name: &Word, key: &Term) -> Result<Shape, Halt> {
     let sides = pass_map(walk, site, name)?;
-    let _key = pass_fit(
+    match pass_at(
         walk,
         &site.heading.ask.in_view(site.view),
         key,
         &sides.other,
-    )?;
-    Ok(sides.whole)
+    ) {
+        Ok(()) => Ok(sides.whole),
+        Err(halt) => Err(halt),
+    }
 }
 
 /// Passes the name of a map that is assigned at a key. Returns the shapes of its keys and of its values.
 fn pass_map(walk: &mut Walk<'_>, site: &Site<'_>, name: &Word) -> Result<Sides, Halt> {
     let part = one_token(walk.word(name)?);
     let declared = assigned(site, name, part)?;
-    let map = site.heading.ask.in_view(site.view).in_terms(declared)?;
+    let map = shape_in_terms(site.heading.ask.alloc, declared)?;
     sides_of(site.heading.ask, &map, part)
 }
 
@@ -247,7 +247,7 @@ fn pass_fired(
     if !is_of_kind(firing.kind, entry.kind) {
         ask.told_at(Refusal::Unknown, part)?;
     }
-    let shapes = shapes_taken(site.heading, entry)?;
+    let shapes = shapes_taken(ask, site.heading.given, entry)?;
     pass_each(walk, &ask.in_view(site.view), &firing.arguments, &shapes)?;
     ask.count_at(part, &firing.action, shapes.len(), firing.arguments.len())
 }

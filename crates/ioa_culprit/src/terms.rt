@@ -156,8 +156,7 @@ pub(crate) fn pass_fit(
 ) -> Result<Part, Halt> {
     let mut inner = *walk;
     let part = pass_term(walk, &asked.in_passing(), term)?;
-    let want = asked.in_terms(declared)?;
-    if !asked.refuses_at(term, &want)? {
+    if !asked.refuses_at(term, declared)? {
         return Ok(part);
     }
     let mut items = inner;
@@ -214,4 +213,25 @@ pub(crate) fn pass_each(
         let _part = pass_fit(walk, asked, &terms[position], &shapes[position])?;
     }
     Ok(())
+}
+
+/// Passes a term at the place of a declared shape.
+pub(crate) fn pass_at(
+    walk: &mut Walk<'_>,
+    asked: &TermAsk<'_, '_>,
+    term: &Term,
+    declared: &Shape,
+) -> Result<(), Halt> {
+    let _part = pass_fit(walk, asked, term, declared)?;
+    Ok(())
+}
+
+/// Passes a term that is to be a truth value.
+pub(crate) fn pass_truth(
+    walk: &mut Walk<'_>,
+    asked: &TermAsk<'_, '_>,
+    term: &Term,
+) -> Result<Part, Halt> {
+    let truths = Shape::of(ShapeForm::Truths);
+    pass_fit(walk, asked, term, &truths)
 }

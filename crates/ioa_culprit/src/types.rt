@@ -1,14 +1,13 @@
 //! The walk over a type.
 
 use crate::asking::Ask;
-use crate::declared::pass_declared;
+use crate::declared::{Group, pass_named};
 use crate::halt::{Halt, bare};
 use crate::index::NameIndex;
 use crate::unknown::is_type;
-use ioa_names::NameTable;
 use ioa_refusals::Refusal;
 use ioa_source::{Declared, TypeDeclaration, TypeForm};
-use ioa_terms::{Shape, ShapeForm, Word};
+use ioa_terms::Word;
 use ioa_walk::{Part, Walk, one_token};
 
 /// The walk over a type, in a text of the types before it. It ends at the whole type if no smaller part is the culprit.
@@ -29,13 +28,19 @@ pub(crate) fn seek_type(
 }
 
 /// Passes the constants of an enumeration. Returns the position of the last one.
-fn seek_constants(
+fn seek_constants(walk: &mut Walk<'_>, ask: &Ask<'_>, constants: &[Word]) -> Result<usize, Halt> {
+    let mut before = NameIndex::new(ask.alloc);
+    pass_constants(walk, ask, &mut before, constants)
+}
+
+/// Passes constants, and adds them to names. Returns the position of the last one.
+fn pass_constants(
     walk: &mut Walk<'_>,
     ask: &Ask<'_>,
-    constants: &Vec<Word>,
+    before: &mut NameIndex,
+    constants: &[Word],
 ) -> Result<usize, Halt> {
     let mut last = walk.next();
-    let mut before = NameIndex::new(ask.alloc);
     for (position, constant) in constants.iter().enumerate() {
         last = walk.word(constant)?;
         let fresh = before.add(ask.alloc, constant, position)?;
@@ -47,36 +52,26 @@ fn seek_constants(
 }
 
 /// Passes the fields of a tuple type. Returns the position of the last token.
-fn seek_fields(
-    walk: &mut Walk<'_>,
-    ask: &Ask<'_>,
-    fields: &Vec<Declared<()>>,
-) -> Result<usize, Halt> {
-    let mut last = walk.next();
-    let mut table = NameTable::new(ask.alloc);
-    for field in fields {
-        let name = seek_field(walk, ask, &table, field)?;
-        last = name.last;
-        let shape = Shape::of(ShapeForm::Truths);
-        table = ask.with_name(table, &field.name, shape)?;
-    }
-    Ok(last)
+fn seek_fields(walk: &mut Walk<'_>, ask: &Ask<'_>, fields: &[Declared<()>]) -> Result<usize, Halt> {
+    let mut before = NameIndex::new(ask.alloc);
+    pass_fields(walk, ask, &mut before, fields)
 }
 
-/// Passes a field, which is to differ from those before it.
-fn seek_field(
+/// Passes fields, which are to differ, and adds them to names. Returns the position of the last token.
+fn pass_fields(
     walk: &mut Walk<'_>,
     ask: &Ask<'_>,
-    before: &NameTable,
-    field: &Declared<()>,
-) -> Result<Part, Halt> {
-    let none = NameTable::new(ask.alloc);
-    let ask = Ask {
-        alloc: ask.alloc,
-        told: ask.told,
-        types: ask.types,
-        constants: &none,
-        whole: ask.whole,
-    };
-    pass_declared(walk, &ask, &none, before, field)
+    before: &mut NameIndex,
+    fields: &[Declared<()>],
+) -> Result<usize, Halt> {
+    let mut last = walk.next();
+    let mut group = Group::none();
+    for (position, field) in fields.iter().enumerate() {
+        let part = pass_named(walk, ask, &mut group, field)?;
+        last = part.last;
+        if !before.add(ask.alloc, &field.name, position)? {
+            ask.told_at(Refusal::Twice, one_token(part.first))?;
+        }
+    }
+    Ok(last)
 }

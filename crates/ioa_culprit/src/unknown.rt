@@ -1,13 +1,12 @@
 //! What is found in the place of a name that is not in view, in words.
 
 use crate::asking::Whole;
-use crate::automaton::has_automaton;
 use crate::index::NameIndex;
 use crate::near::is_near;
-use crate::roles::{is_variable, role_of};
+use crate::roles::role_of;
 use ioa_names::View;
 use ioa_refusals::Refusal;
-use ioa_source::{Declaration, Sort, Variable};
+use ioa_source::Sort;
 use ioa_terms::Word;
 use ioa_tokens::{LocatedToken, Token};
 use ioa_types::Types;
@@ -33,10 +32,10 @@ pub(crate) enum Sought<'a> {
     Entries(&'a NameIndex),
     /// The types that are declared before.
     Types(&'a Types),
-    /// The automata among these declarations.
-    Automata(&'a [Declaration<(), (), ()>]),
+    /// The automata of the text.
+    Automata(&'a NameIndex),
     /// The state variables of a node.
-    States(&'a [Variable<(), (), ()>]),
+    States(&'a NameIndex),
     /// The functions that terms call.
     Functions,
 }
@@ -60,10 +59,10 @@ impl<'a> Sought<'a> {
         match self {
             Sought::View(view) => Ok(view.find_variable(name, usize::MAX).is_some()),
             Sought::Variables(view, count) => Ok(view.find_variable(name, count).is_some()),
-            Sought::Entries(index) => Ok(index.position_of(name).is_some()),
+            Sought::Entries(index) | Sought::Automata(index) | Sought::States(index) => {
+                Ok(index.position_of(name).is_some())
+            }
             Sought::Types(types) => is_type(alloc, types, name),
-            Sought::Automata(declarations) => Ok(has_automaton(declarations, name)),
-            Sought::States(variables) => Ok(is_variable(variables, name)),
             Sought::Functions => Ok(false),
         }
     }

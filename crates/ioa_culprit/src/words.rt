@@ -192,18 +192,44 @@ fn two_words(
     a: &Term,
     b: &Term,
 ) -> Result<Vec<u8>, AllocError> {
-    let left = sort_found(alloc, view, a)?;
-    let right = sort_found(alloc, view, b)?;
     if operator == BinaryOperator::At {
-        return pair_words(alloc, b"before `[` stands ", &left, b", behind it ", &right);
+        found_pair(alloc, view, b"before `[` stands ", a, b", behind it ", b)
+    } else {
+        found_pair(
+            alloc,
+            view,
+            b"the left side is ",
+            a,
+            b", the right side ",
+            b,
+        )
     }
-    pair_words(
-        alloc,
-        b"the left side is ",
-        &left,
-        b", the right side ",
-        &right,
-    )
+}
+
+/// The sorts of two terms, each behind a word.
+fn found_pair(
+    alloc: Global,
+    view: &View,
+    first: &[u8],
+    a: &Term,
+    second: &[u8],
+    b: &Term,
+) -> Result<Vec<u8>, AllocError> {
+    let left = sort_found(alloc, view, a)?;
+    found_behind(alloc, view, first, &left, second, b)
+}
+
+/// A sort and that of a term, each behind a word.
+fn found_behind(
+    alloc: Global,
+    view: &View,
+    first: &[u8],
+    left: &Option<Shape>,
+    second: &[u8],
+    b: &Term,
+) -> Result<Vec<u8>, AllocError> {
+    let right = sort_found(alloc, view, b)?;
+    pair_words(alloc, first, left, second, &right)
 }
 
 /// How many arguments a function takes; none if it is no function.
@@ -242,30 +268,33 @@ fn call_sorts(
 ) -> Result<Vec<u8>, AllocError> {
     match parts.as_slice() {
         [part] => single_words(alloc, view, taken_by_function(name), part),
-        [a, b] => {
-            let first = sort_found(alloc, view, a)?;
-            let second = sort_found(alloc, view, b)?;
-            pair_words(
-                alloc,
-                b"the first argument is ",
-                &first,
-                b", the second ",
-                &second,
-            )
-        }
+        [a, b] => found_pair(
+            alloc,
+            view,
+            b"the first argument is ",
+            a,
+            b", the second ",
+            b,
+        ),
         [a, b, d] => {
-            let map = sort_found(alloc, view, a)?;
-            let key = sort_found(alloc, view, b)?;
-            let value = sort_found(alloc, view, d)?;
-            let front = pair_words(alloc, b"the map is ", &map, b", the key ", &key)?;
-            let mut words = Vec::new(alloc);
-            words.extend_from_slice(&front)?;
+            let mut words = found_pair(alloc, view, b"the map is ", a, b", the key ", b)?;
             words.extend_from_slice(b", the value ")?;
-            push_found(&mut words, &value)?;
+            push_sort_found(alloc, &mut words, view, d)?;
             Ok(words)
         }
         _ => Ok(Vec::new(alloc)),
     }
+}
+
+/// Adds the sort of a term.
+fn push_sort_found(
+    alloc: Global,
+    words: &mut Vec<u8>,
+    view: &View,
+    term: &Term,
+) -> Result<(), AllocError> {
+    let found = sort_found(alloc, view, term)?;
+    push_found(words, &found)
 }
 
 /// What a function of one part takes.
