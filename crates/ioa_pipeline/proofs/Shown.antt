@@ -22,38 +22,38 @@ use Rattle.ioa_pipeline.specs.declared.tracing.TraceFault.TheVariants.{Run, Diff
 use Rattle.ioa_pipeline.specs.Tracing.{IsRefusalOfTrace, ShowsLeft, ShowsRun, shown}
 
 -- what a picture puts out is how its format is shown
-pub steps_shown : (s : SystemParts) (left : Record) (endings : List Ending) (old new : Option (List ℕ)) (failed : Bool)
-    (r : Result (Unit {0}) ReportFault) → PutsText (steps_text s left.schedule) old new failed r
-    → ShowsLeft s left endings format.Json old new failed (shown r)
-steps_shown s left endings old new failed (Ok x) h = h
-steps_shown s left endings old new failed (Err report.Memory) h = tt
-steps_shown s left endings old new failed (Err report.Write) h = tt
+pub steps_shown : (s : SystemParts) (attempts : ℕ) (left : Record) (endings : List Ending) (old new : Option (List ℕ))
+    (failed : Bool) (r : Result (Unit {0}) ReportFault) → PutsText (steps_text s left.schedule) old new failed r
+    → ShowsLeft s attempts left endings format.Json old new failed (shown r)
+steps_shown s attempts left endings old new failed (Ok x) h = h
+steps_shown s attempts left endings old new failed (Err report.Memory) h = tt
+steps_shown s attempts left endings old new failed (Err report.Write) h = tt
 
-pub states_shown : (s : SystemParts) (left : Record) (endings : List Ending) (old new : Option (List ℕ)) (failed : Bool)
-    (r : Result (Unit {0}) ReportFault) → PutsText (states_text s left.schedule) old new failed r
-    → ShowsLeft s left endings format.States old new failed (shown r)
-states_shown s left endings old new failed (Ok x) h = h
-states_shown s left endings old new failed (Err report.Memory) h = tt
-states_shown s left endings old new failed (Err report.Write) h = tt
+pub states_shown : (s : SystemParts) (attempts : ℕ) (left : Record) (endings : List Ending) (old new : Option (List ℕ))
+    (failed : Bool) (r : Result (Unit {0}) ReportFault) → PutsText (states_text s left.schedule) old new failed r
+    → ShowsLeft s attempts left endings format.States old new failed (shown r)
+states_shown s attempts left endings old new failed (Ok x) h = h
+states_shown s attempts left endings old new failed (Err report.Memory) h = tt
+states_shown s attempts left endings old new failed (Err report.Write) h = tt
 
-pub diagram_shown : (s : SystemParts) (left : Record) (endings : List Ending) (old new : Option (List ℕ)) (failed : Bool)
-    (r : Result (Unit {0}) ReportFault) → PutsWhole (diagram_of s left.schedule) old new failed r
-    → ShowsLeft s left endings format.Diagram old new failed (shown r)
-diagram_shown s left endings old new failed (Ok x) h = h
-diagram_shown s left endings old new failed (Err report.Memory) h = tt
-diagram_shown s left endings old new failed (Err report.Write) h = tt
+pub diagram_shown : (s : SystemParts) (attempts : ℕ) (left : Record) (endings : List Ending) (old new : Option (List ℕ))
+    (failed : Bool) (r : Result (Unit {0}) ReportFault) → PutsWhole (diagram_of s left.schedule) old new failed r
+    → ShowsLeft s attempts left endings format.Diagram old new failed (shown r)
+diagram_shown s attempts left endings old new failed (Ok x) h = h
+diagram_shown s attempts left endings old new failed (Err report.Memory) h = tt
+diagram_shown s attempts left endings old new failed (Err report.Write) h = tt
 
-pub sequence_shown : (s : SystemParts) (left : Record) (endings : List Ending) (old new : Option (List ℕ)) (failed : Bool)
-    (r : Result (Unit {0}) ReportFault) → PutsWhole (sequence_of s left.schedule) old new failed r
-    → ShowsLeft s left endings format.Sequence old new failed (shown r)
-sequence_shown s left endings old new failed (Ok x) h = h
-sequence_shown s left endings old new failed (Err report.Memory) h = tt
-sequence_shown s left endings old new failed (Err report.Write) h = tt
+pub sequence_shown : (s : SystemParts) (attempts : ℕ) (left : Record) (endings : List Ending) (old new : Option (List ℕ))
+    (failed : Bool) (r : Result (Unit {0}) ReportFault) → PutsWhole (sequence_of s left.schedule) old new failed r
+    → ShowsLeft s attempts left endings format.Sequence old new failed (shown r)
+sequence_shown s attempts left endings old new failed (Ok x) h = h
+sequence_shown s attempts left endings old new failed (Err report.Memory) h = tt
+sequence_shown s attempts left endings old new failed (Err report.Write) h = tt
 
 -- a run that is shown is that of the text
 pub run_shown : (text : List ℕ) (options : PlainOptions) (s : SystemParts) (left : Record) (endings : List Ending)
     (f : Format) (old new : Option (List ℕ)) (failed : Bool) (r : Result (Unit {0}) TraceFault)
-    → IsLeftBy text options s left endings → ShowsLeft s left endings f old new failed r
+    → IsLeftBy text options s left endings → ShowsLeft s options.attempts left endings f old new failed r
     → ShowsRun text options f old new failed r
 run_shown text options s left endings f old new failed (Ok x) is h =
     record { parts = s; left = left; endings = endings; run = is; shown = h }
@@ -65,16 +65,17 @@ run_shown text options s left endings f old new failed (Err (Run run.Write)) is 
 run_shown text options s left endings f old new failed (Err Differs) is h = tt
 
 -- and its faults say nothing of the text
-pub late_trace : (text : List ℕ) (s : SystemParts) (left : Record) (endings : List Ending) (f : Format) (old new : Option (List ℕ))
-    (failed : Bool) (r : Result (Unit {0}) TraceFault) → ShowsLeft s left endings f old new failed r
+pub late_trace : (text : List ℕ) (s : SystemParts) (attempts : ℕ) (left : Record) (endings : List Ending) (f : Format)
+    (old new : Option (List ℕ)) (failed : Bool) (r : Result (Unit {0}) TraceFault)
+    → ShowsLeft s attempts left endings f old new failed r
     → IfErr r (λ e. IsRefusalOfTrace e text)
-late_trace text s left endings f old new failed (Ok x) h = tt
-late_trace text s left endings f old new failed (Err (Run (run.Front e))) h = absurd h
-late_trace text s left endings f old new failed (Err (Run (run.Check e))) h = absurd h
-late_trace text s left endings f old new failed (Err (Run (run.Finish e))) h = absurd h
-late_trace text s left endings f old new failed (Err (Run run.Memory)) h = tt
-late_trace text s left endings f old new failed (Err (Run run.Write)) h = tt
-late_trace text s left endings f old new failed (Err Differs) h = tt
+late_trace text s attempts left endings f old new failed (Ok x) h = tt
+late_trace text s attempts left endings f old new failed (Err (Run (run.Front e))) h = absurd h
+late_trace text s attempts left endings f old new failed (Err (Run (run.Check e))) h = absurd h
+late_trace text s attempts left endings f old new failed (Err (Run (run.Finish e))) h = absurd h
+late_trace text s attempts left endings f old new failed (Err (Run run.Memory)) h = tt
+late_trace text s attempts left endings f old new failed (Err (Run run.Write)) h = tt
+late_trace text s attempts left endings f old new failed (Err Differs) h = tt
 
 -- before a fault of the run nothing went out
 pub early_shown : (text : List ℕ) (options : PlainOptions) (f : Format) (old new : Option (List ℕ)) (failed : Bool)

@@ -7,8 +7,6 @@ use Rattle.ioa_system.specs.Systems.{SystemParts}
 use Rattle.ioa_record.specs.declared.ending.Ending.{Ending}
 use Rattle.ioa_record.specs.declared.record.Record.{Record}
 use Rattle.ioa_actions.specs.ActionParts.{node_of}
-use Rattle.ioa_compose.specs.Start.{start}
-use Rattle.ioa_compose.specs.declared.configuration.Conf.{Conf}
 use Rattle.ioa_transitions.specs.Entries.{PlainEntry, entry_of}
 use Rattle.ioa_paper.specs.Papers.{Ended, PlainPaper, and_text}
 use Rattle.ioa_show.specs.Shown.{Continues}
@@ -60,20 +58,23 @@ events_kept (e ∷ es) a b h =
     let rest : Continues h.0.paper b.paper = events_kept es h.0 b h.2 in
     (rest.0 ∙ first.0, rest.1 ∙ first.1)
 
-pub telling_kept : (s : List Conf) (schedule : List PlainEntry) (endings : List Ending) (a b : PlainTeller)
-    (r : Result (Unit {0}) TellFault)
-    → OnOk r (TellsRun (λ e x y. y ≡ teller_after e x) s schedule endings a b) → OnOk r (Continues a.paper b.paper)
-telling_kept s schedule endings a b (Ok x) h = events_kept (h.events ++ endings_told 0 endings) a b h.heard
-telling_kept s schedule endings a b (Err f) h = tt
+pub telling_kept : (s : SystemParts) (attempts : ℕ) (schedule : List PlainEntry) (endings : List Ending)
+    (a b : PlainTeller) (r : Result (Unit {0}) TellFault)
+    → OnOk r (TellsRun (λ e x y. y ≡ teller_after e x) s attempts schedule endings a b)
+    → OnOk r (Continues a.paper b.paper)
+telling_kept s attempts schedule endings a b (Ok x) h = events_kept (h.events ++ endings_told 0 endings) a b h.heard
+telling_kept s attempts schedule endings a b (Err f) h = tt
 
 -- a telling that began on a fresh paper, and whose text went out
-pub telling_shown : (s : SystemParts) (left : Record) (endings : List Ending) (old new : Option (List ℕ)) (failed : Bool)
-    (output : ℕ) (told : PlainTeller) (r : Result (Unit {0}) TellFault) (sent : Result (Unit {0}) OutFailed)
-    → OnOk r (TellsRun (λ e x y. y ≡ teller_after e x) (start s) left.schedule endings (fresh_teller s.names old output) told)
+pub telling_shown : (s : SystemParts) (attempts : ℕ) (left : Record) (endings : List Ending)
+    (old new : Option (List ℕ)) (failed : Bool) (output : ℕ) (told : PlainTeller) (r : Result (Unit {0}) TellFault)
+    (sent : Result (Unit {0}) OutFailed)
+    → OnOk r (TellsRun (λ e x y. y ≡ teller_after e x) s attempts left.schedule endings
+    (fresh_teller s.names old output) told)
     → OnOk r (Ended old new failed told.paper.text sent)
-    → ShowsLeft s left endings format.Text old new failed (told_outcome r sent)
-telling_shown s left endings old new failed output told (Ok x) (Ok y) h g =
+    → ShowsLeft s attempts left endings format.Text old new failed (told_outcome r sent)
+telling_shown s attempts left endings old new failed output told (Ok x) (Ok y) h g =
     record { output = output; told = told; tells = h; well = g.0; whole = g.1 }
-telling_shown s left endings old new failed output told (Ok x) (Err f) h g = tt
-telling_shown s left endings old new failed output told (Err tell.Memory) sent h g = tt
-telling_shown s left endings old new failed output told (Err tell.Differs) sent h g = tt
+telling_shown s attempts left endings old new failed output told (Ok x) (Err f) h g = tt
+telling_shown s attempts left endings old new failed output told (Err tell.Memory) sent h g = tt
+telling_shown s attempts left endings old new failed output told (Err tell.Differs) sent h g = tt

@@ -8,7 +8,6 @@ use Rattle.ioa_record.specs.declared.ending.Ending.{Ending}
 use Rattle.ioa_record.specs.declared.record.Record.{Record}
 use Rattle.ioa_paper.specs.declared.fault.ReportFault.{ReportFault}
 use Rattle.ioa_paper.specs.declared.fault.ReportFault.TheVariants as report
-use Rattle.ioa_compose.specs.Start.{start}
 use Rattle.ioa_tell.specs.Told.{TellsRun}
 use Rattle.ioa_tell.specs.declared.fault.TellFault.{TellFault}
 use Rattle.ioa_tell.specs.declared.fault.TellFault.TheVariants as tell
@@ -43,12 +42,13 @@ fresh_teller names before output = record {
 }
 
 -- the text of a run that is told goes out whole: what is told is true of its schedule, from the start of the system on,
--- has each of its actions in order, and at last the endings
-pub record PutsTelling (s : SystemParts) (left : Record) (endings : List Ending) (old new : Option (List ℕ))
-    (failed : Bool) : Type 0 where
+-- has each of its actions in order, leaves no attempt of a node out, of which each has so many, and ends with the endings
+pub record PutsTelling (s : SystemParts) (attempts : ℕ) (left : Record) (endings : List Ending)
+    (old new : Option (List ℕ)) (failed : Bool) : Type 0 where
   pub output : ℕ
   pub told : PlainTeller
-  pub tells : TellsRun (λ e a b. b ≡ teller_after e a) (start s) left.schedule endings (fresh_teller s.names old output) told
+  pub tells : TellsRun (λ e a b. b ≡ teller_after e a) s attempts left.schedule endings
+      (fresh_teller s.names old output) told
   pub well : failed ≡ false
   pub whole : Appends old new told.paper.text
 
@@ -66,18 +66,22 @@ shown (Err report.Memory) = Err (Run run.Memory)
 shown (Err report.Write) = Err (Run run.Write)
 
 -- what went out whole of a run in a format: a telling of it, or the text that its schedule determines
-abbrev pub IsShown : Format → SystemParts → Record → List Ending → (old new : Option (List ℕ)) → Bool → Type 0
-IsShown format.Text s left endings old new failed = PutsTelling s left endings old new failed
-IsShown format.Json s left endings old new failed = PutsText (steps_text s left.schedule) old new failed (Ok tt)
-IsShown format.States s left endings old new failed = PutsText (states_text s left.schedule) old new failed (Ok tt)
-IsShown format.Diagram s left endings old new failed = PutsWhole (diagram_of s left.schedule) old new failed (Ok tt)
-IsShown format.Sequence s left endings old new failed = PutsWhole (sequence_of s left.schedule) old new failed (Ok tt)
+abbrev pub IsShown : Format → SystemParts → ℕ → Record → List Ending → (old new : Option (List ℕ)) → Bool → Type 0
+IsShown format.Text s attempts left endings old new failed = PutsTelling s attempts left endings old new failed
+IsShown format.Json s attempts left endings old new failed =
+    PutsText (steps_text s left.schedule) old new failed (Ok tt)
+IsShown format.States s attempts left endings old new failed =
+    PutsText (states_text s left.schedule) old new failed (Ok tt)
+IsShown format.Diagram s attempts left endings old new failed =
+    PutsWhole (diagram_of s left.schedule) old new failed (Ok tt)
+IsShown format.Sequence s attempts left endings old new failed =
+    PutsWhole (sequence_of s left.schedule) old new failed (Ok tt)
 
--- how a run that left this is shown: a fault comes late
-abbrev pub ShowsLeft : SystemParts → Record → List Ending → Format → (old new : Option (List ℕ)) → Bool
+-- how a run that left this is shown, in which each node had so many attempts: a fault comes late
+abbrev pub ShowsLeft : SystemParts → ℕ → Record → List Ending → Format → (old new : Option (List ℕ)) → Bool
     → Result (Unit {0}) TraceFault → Type 0
-ShowsLeft s left endings f old new failed (Ok x) = IsShown f s left endings old new failed
-ShowsLeft s left endings f old new failed (Err e) = IsLate e
+ShowsLeft s attempts left endings f old new failed (Ok x) = IsShown f s attempts left endings old new failed
+ShowsLeft s attempts left endings f old new failed (Err e) = IsLate e
 
 -- a run of a system that the text describes, with these options, and how it is shown
 pub record IsRunShown (text : List ℕ) (options : PlainOptions) (f : Format) (old new : Option (List ℕ)) (failed : Bool)
@@ -86,7 +90,7 @@ pub record IsRunShown (text : List ℕ) (options : PlainOptions) (f : Format) (o
   pub left : Record
   pub endings : List Ending
   pub run : IsLeftBy text options parts left endings
-  pub shown : IsShown f parts left endings old new failed
+  pub shown : IsShown f parts options.attempts left endings old new failed
 
 -- the run of a text was shown; before any other fault than a late one nothing was written
 abbrev pub ShowsRun : List ℕ → PlainOptions → Format → (old new : Option (List ℕ)) → Bool

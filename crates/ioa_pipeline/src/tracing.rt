@@ -1,7 +1,6 @@
 //! Runs that are shown step by step, or as pictures.
 
 ghost use Rattle.std.specs.Prelude.{◌≡◌, false, IfErr, OnOk};
-ghost use Rattle.ioa_compose.specs.Start.{start};
 ghost use Rattle.ioa_show.specs.Shown.{Continues};
 ghost use Rattle.ioa_tell.specs.Told.{TellsRun};
 ghost use Rattle.ioa_tell_text.specs.Teller.{teller_after};
@@ -105,7 +104,7 @@ fn show<O: Out>(
     out: &mut O,
 ) -> Result<(), TraceFault>
     requires { O.failed out.old ≡ false }
-    ensures { ShowsLeft system.now run_record.now endings.now format
+    ensures { ShowsLeft system.now options.now.attempts run_record.now endings.now format
         (O.bytes out.old) (O.bytes out.new) (O.failed out.new) result }
 {
     match format {
@@ -139,7 +138,7 @@ fn tell_as_text<O: Out>(
     out: &mut O,
 ) -> Result<(), TraceFault>
     requires { O.failed out.old ≡ false }
-    ensures { ShowsLeft system.now run_record.now endings.now Format.Text
+    ensures { ShowsLeft system.now options.now.attempts run_record.now endings.now Format.Text
         (O.bytes out.old) (O.bytes out.new) (O.failed out.new) result }
 {
     let room = match room(alloc) {
@@ -164,8 +163,8 @@ fn tell_on<O: Out>(
     endings: &[Ending],
     teller: &mut TextTeller<'_, O>,
 ) -> Result<(), TellFault>
-    ensures told { OnOk result (TellsRun (λ e a b. b ≡ teller_after e a) (start system.now) run_record.now.schedule
-        endings.now teller.old teller.new) }
+    ensures told { OnOk result (TellsRun (λ e a b. b ≡ teller_after e a) system.now options.now.attempts
+        run_record.now.schedule endings.now teller.old teller.new) }
     ensures kept { OnOk result (Continues teller.old.paper teller.new.paper) }
 {
     tell(alloc, system, options, run_record, endings, teller)

@@ -1,4 +1,5 @@
 -- the lemmas of this crate
+pub mod Attempted
 pub mod FalseParts
 pub mod FaultParts
 pub mod FaultyTerms
@@ -8,3 +9,4 @@ pub mod Taking
 pub mod Tellings
 pub mod UnfitFound
 pub mod Viewed
+pub mod Visiting

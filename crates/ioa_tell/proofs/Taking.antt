@@ -28,6 +28,7 @@ use Rattle.ioa_book.proofs.FoundReads.{found_conf}
 use Rattle.ioa_book.proofs.FreshLooks.{conf_seen, fresh_proposal}
 use Rattle.ioa_tell.specs.Events.{PlainEvent, PlainFault, PlainPlace, PlainReason, taken}
 use Rattle.ioa_tell.specs.Faulted.{IsFaulted}
+use Rattle.ioa_tell.specs.Marks as mark
 use Rattle.ioa_tell.specs.Reasons.{IsReason}
 use Rattle.ioa_tell.specs.Steps.{HearsTaken, IsNext}
 use Rattle.ioa_tell.specs.Tests.{IsNodeReason}
@@ -80,7 +81,7 @@ node_seen : (b : PlainBook) (n : ℤ) → find_conf (component.Node n) (read_con
 node_seen b n = conf_seen b n (component.Node n) (same_component-itself (component.Node n))
 
 -- a proposal is of the action that was proposed
-proposed_same : (a : Action) (s : PlainSnapshot) (x : PlainProposal) → proposal_answer a s ≡ Ok x → x.entry.action ≡ a
+pub proposed_same : (a : Action) (s : PlainSnapshot) (x : PlainProposal) → proposal_answer a s ≡ Ok x → x.entry.action ≡ a
 proposed_same a s x h = by_own (int_eq (node_of a) s.node) h
   where
     by_picks : (r : Result (PlainEntry × List Conf) StepFault) → picks_of a (find_confs (participants_of a) (read_confs s.reads)) ≡ r →
@@ -147,13 +148,14 @@ unfit_in b a s w v fresh own h = subst (λ (o : Option Conf). IsUnfit o a w v) (
 -- an entry that is taken and told
 pub tells_taken : {S : Type 0} (hears : PlainEvent → S → S → Type 0) (old new : PlainBook) (look after : PlainSnapshot) (e : PlainEntry) (x : PlainProposal) (was : Conf) (k : ℕ) (y z : S) →
     IsLookAt old look.node look → proposal_answer x.entry.action look ≡ Ok x → x.entry.action ≡ e.action → find_conf (component.Node (node_of e.action)) (read_confs look.reads) ≡ Some was →
-    IsNext old x.entry new → IsLookAt new look.node after → k ≡ look.length → HearsTaken hears after k e was y z → TellsOn hears old new (e ∷ []) [] y z
+    IsNext old x.entry new → IsLookAt new look.node after → k ≡ look.length → HearsTaken hears after k e was y z → TellsOn hears old new (e ∷ []) [] y z (mark.took e ∷ [])
 tells_taken {S} hears old new look after e x was k y z fresh proposed same found next again count told = record {
   start = ap (λ (b : PlainBook). b.start) next.recorded;
   schedule = append_same ∙ grown;
   events = taken k e was told.after (queue_among (participants_of e.action) (read_confs after.reads)) ∷ [];
   heard = (z, told.heard, refl);
   told = (count ∙ ap (λ (s : PlainSnapshot). s.length) fresh, step, sym grown);
+  marked = refl;
 }
   where
     entry : x.entry ≡ e

@@ -13,9 +13,11 @@ use Rattle.ioa_record.specs.declared.ending.Ending.{Ending}
 use Rattle.ioa_transitions.specs.Entries.{PlainEntry}
 use Rattle.ioa_tell.specs.Events.{PlainEvent, PlainFault, PlainPlace, PlainReason, PlainStatementPlace, taken, missed, faulted, unfit, stuck, idle, stopped, ended}
 use Rattle.ioa_tell.specs.Faulted.{IsFaulted}
+use Rattle.ioa_tell.specs.Marks as mark
+use Rattle.ioa_tell.specs.Marks.{Mark, entries_in, marks_of}
 use Rattle.ioa_tell.specs.Stuck.{IsStuckTold}
 use Rattle.ioa_tell.specs.Unfit.{IsUnfit}
-use Rattle.ioa_tell.specs.Told.{AreHeard, AreTold, IsMissedIn, TellsOn, TellsRun, endings_told}
+use Rattle.ioa_tell.specs.Told.{AreHeard, AreTold, IsMissedIn, TellsOn, TellsRun, TellsSuch, endings_told}
 
 -- what follows from what a call has done, where it has
 pub on_map : {X E : Type 0} {P Q : Type 0} (r : Result X E) → (P → Q) → OnOk r P → OnOk r Q
@@ -47,80 +49,93 @@ pub heard_then : {S : Type 0} (hears : PlainEvent → S → S → Type 0) (xs ys
 heard_then {S} hears [] ys a b c h g = subst (λ (s : S). AreHeard hears ys s c) (sym h) g
 heard_then hears (e ∷ xs) ys a b c h g = (h.0, h.1, heard_then hears xs ys h.0 b c h.2 g)
 
+-- what is said of attempts
+marks_then : (xs ys : List PlainEvent) → marks_of (xs ++ ys) ≡ marks_of xs ++ marks_of ys
+marks_then [] ys = refl
+marks_then (taken k e before after queue ∷ xs) ys = ap (λ (ms : List Mark). mark.took e ∷ ms) (marks_then xs ys)
+marks_then (missed k a r ∷ xs) ys = ap (λ (ms : List Mark). mark.missed a ∷ ms) (marks_then xs ys)
+marks_then (faulted k a place f ∷ xs) ys = marks_then xs ys
+marks_then (unfit k a w v ∷ xs) ys = marks_then xs ys
+marks_then (stuck k n place f ∷ xs) ys = marks_then xs ys
+marks_then (idle k n ∷ xs) ys = ap (λ (ms : List Mark). mark.waited n ∷ ms) (marks_then xs ys)
+marks_then (stopped k n ∷ xs) ys = ap (λ (ms : List Mark). mark.stopped n ∷ ms) (marks_then xs ys)
+marks_then (ended n e ∷ xs) ys = marks_then xs ys
+
+-- and which entries were taken
+told_log : (start : List Conf) (log : List PlainEntry) (xs : List PlainEvent) (last : List PlainEntry) → AreTold start log xs last → last ≡ log ++ entries_in (marks_of xs)
+told_log start log [] last h = sym h ∙ sym (append-nil log)
+told_log start log (taken k e before after queue ∷ xs) last h = told_log start (log ++ e ∷ []) xs last h.2 ∙ append_assoc log (e ∷ []) (entries_in (marks_of xs))
+told_log start log (missed k a r ∷ xs) last h = told_log start log xs last h.2
+told_log start log (faulted k a place f ∷ xs) last h = told_log start log xs last h.2
+told_log start log (unfit k a w v ∷ xs) last h = told_log start log xs last h.2
+told_log start log (stuck k n place f ∷ xs) last h = told_log start log xs last h.2
+told_log start log (idle k n ∷ xs) last h = told_log start log xs last h.1
+told_log start log (stopped k n ∷ xs) last h = told_log start log xs last h.1
+told_log start log (ended n e ∷ xs) last h = absurd h
+
 module _ {S : Type 0} (hears : PlainEvent → S → S → Type 0) where
+  -- the entries that were taken are behind those before
+  pub log_after : {did : List Mark} (a b : PlainBook) (l m : List PlainEntry) (x y : S) → TellsOn hears a b l m x y did → b.log ≡ a.log ++ entries_in did
+  log_after a b l m x y f = told_log a.start a.log f.events b.log f.told ∙ ap (λ (ms : List Mark). a.log ++ entries_in ms) f.marked
+
   -- nothing is told
-  pub tells_nothing : (b : PlainBook) (left : List PlainEntry) (x : S) → TellsOn hears b b left left x x
-  tells_nothing b left x = record { start = refl; schedule = refl; events = []; heard = refl; told = refl }
+  pub tells_nothing : (b : PlainBook) (left : List PlainEntry) (x : S) → TellsOn hears b b left left x x []
+  tells_nothing b left x = record { start = refl; schedule = refl; events = []; heard = refl; told = refl; marked = refl }
 
   -- something is told, and then more
-  pub tells_further : (a b c : PlainBook) (l m r : List PlainEntry) (x y z : S) → TellsOn hears a b l m x y → TellsOn hears b c m r y z → TellsOn hears a c l r x z
+  pub tells_further : {did does : List Mark} (a b c : PlainBook) (l m r : List PlainEntry) (x y z : S) → TellsOn hears a b l m x y did → TellsOn hears b c m r y z does → TellsOn hears a c l r x z (did ++ does)
   tells_further a b c l m r x y z f g = record {
     start = g.start ∙ f.start;
     schedule = g.schedule ∙ f.schedule;
     events = f.events ++ g.events;
     heard = heard_then hears f.events g.events x y z f.heard g.heard;
     told = told_then a.start a.log f.events g.events b.log c.log f.told (subst (λ (s : List Conf). AreTold s b.log g.events c.log) f.start g.told);
+    marked = marks_then f.events g.events ∙ (λ i. f.marked i ++ g.marked i);
   }
 
   -- what is told stands before what is left
-  pub tells_before : (a b : PlainBook) (l : List PlainEntry) (x y : S) (rest : List PlainEntry) → TellsOn hears a b l [] x y → TellsOn hears a b (l ++ rest) rest x y
+  pub tells_before : {did : List Mark} (a b : PlainBook) (l : List PlainEntry) (x y : S) (rest : List PlainEntry) → TellsOn hears a b l [] x y did → TellsOn hears a b (l ++ rest) rest x y did
   tells_before a b l x y rest f = record {
     start = f.start;
     schedule = ap (λ (s : List PlainEntry). s ++ rest) (sym (append-nil b.log) ∙ f.schedule) ∙ append_assoc a.log l rest;
     events = f.events;
     heard = f.heard;
     told = f.told;
+    marked = f.marked;
   }
 
   -- the same before entries that are left
-  pub tells_beside : (a b : PlainBook) (x y : S) (rest : List PlainEntry) → TellsOn hears a b [] [] x y → TellsOn hears a b rest rest x y
+  pub tells_beside : {did : List Mark} (a b : PlainBook) (x y : S) (rest : List PlainEntry) → TellsOn hears a b [] [] x y did → TellsOn hears a b rest rest x y did
   tells_beside a b x y rest f = tells_before a b [] x y rest f
 
   -- an entry is told that was the next one
-  pub tells_next : (a b : PlainBook) (e : PlainEntry) (l rest : List PlainEntry) (x y : S) → l ≡ e ∷ rest → TellsOn hears a b (e ∷ []) [] x y → TellsOn hears a b l rest x y
-  tells_next a b e l rest x y split f = subst (λ (m : List PlainEntry). TellsOn hears a b m rest x y) (sym split) (tells_before a b (e ∷ []) x y rest f)
+  pub tells_next : (a b : PlainBook) (e : PlainEntry) (l rest : List PlainEntry) (x y : S) (did : List Mark) → l ≡ e ∷ rest → TellsOn hears a b (e ∷ []) [] x y did → TellsOn hears a b l rest x y did
+  tells_next a b e l rest x y did split f = subst (λ (m : List PlainEntry). TellsOn hears a b m rest x y did) (sym split) (tells_before a b (e ∷ []) x y rest f)
 
   -- nothing is told, and what is left stays
-  pub tells_none : (b : PlainBook) (l m : List PlainEntry) (x : S) → m ≡ l → TellsOn hears b b l m x x
-  tells_none b l m x same = subst (λ (r : List PlainEntry). TellsOn hears b b l r x x) (sym same) (tells_nothing b l x)
+  pub tells_none : (b : PlainBook) (l m : List PlainEntry) (x : S) → m ≡ l → TellsOn hears b b l m x x []
+  tells_none b l m x same = subst (λ (r : List PlainEntry). TellsOn hears b b l r x x []) (sym same) (tells_nothing b l x)
 
   -- one thing is told that takes no action
-  pub tells_idle : (b : PlainBook) (k : ℕ) (n : ℤ) (x y : S) → k ≡ length b.log → hears (idle k n) x y → TellsOn hears b b [] [] x y
-  tells_idle b k n x y e h = record { start = refl; schedule = refl; events = idle k n ∷ []; heard = (y, h, refl); told = (e, refl) }
+  pub tells_idle : (b : PlainBook) (k : ℕ) (n : ℤ) (x y : S) → k ≡ length b.log → hears (idle k n) x y → TellsOn hears b b [] [] x y (mark.waited n ∷ [])
+  tells_idle b k n x y e h = record { start = refl; schedule = refl; events = idle k n ∷ []; heard = (y, h, refl); told = (e, refl); marked = refl }
 
-  pub tells_stopped : (b : PlainBook) (k : ℕ) (n : ℤ) (x y : S) → k ≡ length b.log → hears (stopped k n) x y → TellsOn hears b b [] [] x y
-  tells_stopped b k n x y e h = record { start = refl; schedule = refl; events = stopped k n ∷ []; heard = (y, h, refl); told = (e, refl) }
+  pub tells_stopped : (b : PlainBook) (k : ℕ) (n : ℤ) (x y : S) → k ≡ length b.log → hears (stopped k n) x y → TellsOn hears b b [] [] x y (mark.stopped n ∷ [])
+  tells_stopped b k n x y e h = record { start = refl; schedule = refl; events = stopped k n ∷ []; heard = (y, h, refl); told = (e, refl); marked = refl }
 
-  pub tells_missed : (b : PlainBook) (k : ℕ) (a : Action) (r : PlainReason) (x y : S) → k ≡ length b.log → IsMissedIn (states_after b.start b.log) a r → hears (missed k a r) x y → TellsOn hears b b [] [] x y
-  tells_missed b k a r x y e m h = record { start = refl; schedule = refl; events = missed k a r ∷ []; heard = (y, h, refl); told = (e, m, refl) }
+  pub tells_missed : (b : PlainBook) (k : ℕ) (a : Action) (r : PlainReason) (x y : S) → k ≡ length b.log → IsMissedIn (states_after b.start b.log) a r → hears (missed k a r) x y → TellsOn hears b b [] [] x y (mark.missed a ∷ [])
+  tells_missed b k a r x y e m h = record { start = refl; schedule = refl; events = missed k a r ∷ []; heard = (y, h, refl); told = (e, m, refl); marked = refl }
 
-  pub tells_faulted : (b : PlainBook) (k : ℕ) (a : Action) (place : PlainPlace) (f : PlainFault) (x y : S) → k ≡ length b.log → IsFaulted (find_conf (Node (node_of a)) (states_after b.start b.log)) a place f → hears (faulted k a place f) x y → TellsOn hears b b [] [] x y
-  tells_faulted b k a place f x y e m h = record { start = refl; schedule = refl; events = faulted k a place f ∷ []; heard = (y, h, refl); told = (e, m, refl) }
+  pub tells_faulted : (b : PlainBook) (k : ℕ) (a : Action) (place : PlainPlace) (f : PlainFault) (x y : S) → k ≡ length b.log → IsFaulted (find_conf (Node (node_of a)) (states_after b.start b.log)) a place f → hears (faulted k a place f) x y → TellsOn hears b b [] [] x y []
+  tells_faulted b k a place f x y e m h = record { start = refl; schedule = refl; events = faulted k a place f ∷ []; heard = (y, h, refl); told = (e, m, refl); marked = refl }
 
-  pub tells_unfit : (b : PlainBook) (k : ℕ) (a : Action) (w : List ℕ) (v : Data) (x y : S) → k ≡ length b.log → IsUnfit (find_conf (Node (node_of a)) (states_after b.start b.log)) a w v → hears (unfit k a w v) x y → TellsOn hears b b [] [] x y
-  tells_unfit b k a w v x y e m h = record { start = refl; schedule = refl; events = unfit k a w v ∷ []; heard = (y, h, refl); told = (e, m, refl) }
+  pub tells_unfit : (b : PlainBook) (k : ℕ) (a : Action) (w : List ℕ) (v : Data) (x y : S) → k ≡ length b.log → IsUnfit (find_conf (Node (node_of a)) (states_after b.start b.log)) a w v → hears (unfit k a w v) x y → TellsOn hears b b [] [] x y []
+  tells_unfit b k a w v x y e m h = record { start = refl; schedule = refl; events = unfit k a w v ∷ []; heard = (y, h, refl); told = (e, m, refl); marked = refl }
 
-  pub tells_stuck : (b : PlainBook) (k : ℕ) (n : ℤ) (place : PlainStatementPlace) (f : PlainFault) (x y : S) → k ≡ length b.log → hears (stuck k n place f) x y → (m : ℤ) → IsStuckTold m b.start b.log place f → m ≡ n → TellsOn hears b b [] [] x y
+  pub tells_stuck : (b : PlainBook) (k : ℕ) (n : ℤ) (place : PlainStatementPlace) (f : PlainFault) (x y : S) → k ≡ length b.log → hears (stuck k n place f) x y → (m : ℤ) → IsStuckTold m b.start b.log place f → m ≡ n → TellsOn hears b b [] [] x y []
   tells_stuck b k n place f x y e h m s same =
       let there = subst (λ (i : ℤ). IsStuckTold i b.start b.log place f) same s in
-      record { start = refl; schedule = refl; events = stuck k n place f ∷ []; heard = (y, h, refl); told = (e, there, refl) }
-
-  -- the whole run is told, and then the endings
-  pub run_told : (a b : PlainBook) (start : List Conf) (schedule rest : List PlainEntry) (endings : List Ending) (x y z : S) → a.start ≡ start → a.log ≡ [] → rest ≡ [] → TellsOn hears a b schedule rest x y →
-      AreHeard hears (endings_told 0 endings) y z → TellsRun hears start schedule endings x z
-  run_told a b start schedule rest endings x y z begins fresh over f g =
-      let whole : b.log ≡ schedule =
-      sym (append-nil b.log)
-      ∙ ap (λ (l : List PlainEntry). b.log ++ l) (sym over)
-      ∙ f.schedule
-      ∙ ap (λ (l : List PlainEntry). l ++ schedule) fresh in
-      let from : AreTold a.start [] f.events b.log = subst (λ (l : List PlainEntry). AreTold a.start l f.events b.log) fresh f.told in
-      let to : AreTold a.start [] f.events schedule = subst (λ (l : List PlainEntry). AreTold a.start [] f.events l) whole from in
-      record {
-        events = f.events;
-        told = subst (λ (s : List Conf). AreTold s [] f.events schedule) begins to;
-        heard = heard_then hears f.events (endings_told 0 endings) x y z f.heard g;
-      }
+      record { start = refl; schedule = refl; events = stuck k n place f ∷ []; heard = (y, h, refl); told = (e, there, refl); marked = refl }
 
 -- what is told of the endings that are left goes on from what was told of the first ones
 abbrev pub LeadsOn : {S : Type 0} → (PlainEvent → S → S → Type 0) → ℕ → List Ending → List Ending → S → S → Type 0

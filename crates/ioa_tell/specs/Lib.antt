@@ -1,4 +1,5 @@
 -- what the contracts of this crate and of those above it cite
+pub mod Attempts
 pub mod Events
 pub mod Faulted
 pub mod Faults
@@ -6,7 +7,9 @@ pub mod Faulty
 pub mod Found
 pub mod FoundFaults
 pub mod FoundUnfit
+pub mod Marks
 pub mod Misfits
+pub mod Nodes
 pub mod Reasons
 pub mod Steps
 pub mod Stopping
@@ -15,3 +18,4 @@ pub mod Stuck
 pub mod Tests
 pub mod Told
 pub mod Unfit
+pub mod Visits

@@ -1,5 +1,5 @@
 -- What is told is true of a schedule (Lynch 8.1 and 8.2).
-use Rattle.std.specs.Prelude.{◌≡◌, ℕ, ◌+◌, List, [], ◌∷◌, ◌++◌, length, Option, Some, None, Ok, Err}
+use Rattle.std.specs.Prelude.{◌≡◌, ℕ, ◌+◌, List, [], ◌∷◌, ◌++◌, length, map, Option, Some, None, Ok, Err}
 use Rattle.ioa_actions.specs.ActionParts.{node_of}
 use Rattle.ioa_actions.specs.declared.action.Action.{Action}
 use Rattle.ioa_actions.specs.declared.component.Component.{Component}
@@ -8,15 +8,20 @@ use Rattle.ioa_actions.specs.declared.fault.StepFault.TheVariants.{NotEnabled}
 use Rattle.ioa_commits.specs.Books.{PlainBook, states_after}
 use Rattle.ioa_compose.specs.Composition.{find_conf, joint_answer}
 use Rattle.ioa_compose.specs.Participants.{participants_of}
+use Rattle.ioa_compose.specs.Start.{start}
 use Rattle.ioa_compose.specs.declared.configuration.Conf.{Conf}
 use Rattle.ioa_record.specs.declared.ending.Ending.{Ending}
+use Rattle.ioa_system.specs.Systems.{SystemParts}
 use Rattle.ioa_transitions.specs.Entries.{PlainEntry, entry_of}
+use Rattle.ioa_turns.specs.NodeTurns.{PlainProgress, progress_at}
 use Rattle.ioa_tell.specs.Events.{PlainEvent, PlainReason, taken, missed, faulted, unfit, stuck, idle, stopped, ended}
 use Rattle.ioa_tell.specs.Faulted.{IsFaulted}
+use Rattle.ioa_tell.specs.Marks.{Mark, marks_of}
 use Rattle.ioa_tell.specs.Reasons.{IsReason}
 use Rattle.ioa_tell.specs.Stuck.{IsStuckTold}
 use Rattle.ioa_tell.specs.Tests.{IsNodeReason}
 use Rattle.ioa_tell.specs.Unfit.{IsUnfit}
+use Rattle.ioa_tell.specs.Visits.{AreEndedAs, AreVisited}
 
 -- the configuration of the queue among participants, which comes first of two
 abbrev pub queue_among : List Component → List Conf → Option Conf
@@ -67,23 +72,36 @@ AreHeard hears [] old new = old ≡ new
 AreHeard {S} hears (e ∷ more) old new = (s : S) × hears e old s × AreHeard hears more s new
 
 -- a book on which some entries of a schedule were taken once more, of which these were left before and those are left
--- now; what was told meanwhile is true
+-- now; what was told meanwhile is true, and says this of attempts
 pub record TellsOn {S : Type 0} (hears : PlainEvent → S → S → Type 0) (old new : PlainBook)
-    (left rest : List PlainEntry) (had has : S) : Type 0 where
+    (left rest : List PlainEntry) (had has : S) (did : List Mark) : Type 0 where
   pub start : new.start ≡ old.start
   pub schedule : new.log ++ rest ≡ old.log ++ left
   pub events : List PlainEvent
   pub heard : AreHeard hears events had has
   pub told : AreTold old.start old.log events new.log
+  pub marked : marks_of events ≡ did
+
+-- the same, where what is said of attempts is so
+pub record TellsSuch {S : Type 0} (hears : PlainEvent → S → S → Type 0) (old new : PlainBook)
+    (left rest : List PlainEntry) (had has : S) (such : List Mark → Type 0) : Type 0 where
+  pub did : List Mark
+  pub tells : TellsOn hears old new left rest had has did
+  pub is : such did
 
 -- the endings, counted from i
 abbrev pub endings_told : ℕ → List Ending → List PlainEvent
 endings_told i [] = []
 endings_told i (e ∷ more) = ended i e ∷ endings_told (i + 1) more
 
--- a run that is told: what goes along its schedule from the start, and then the endings
-pub record TellsRun {S : Type 0} (hears : PlainEvent → S → S → Type 0) (start : List Conf) (schedule : List PlainEntry)
-    (endings : List Ending) (had has : S) : Type 0 where
+-- a run of a system that is told, with so many attempts for each node: what goes along its schedule from the start, and
+-- then the endings; of the visits of the nodes, which go on until each node has ended as is recorded, all is told, so
+-- that no attempt is left out
+pub record TellsRun {S : Type 0} (hears : PlainEvent → S → S → Type 0) (s : SystemParts) (attempts : ℕ)
+    (schedule : List PlainEntry) (endings : List Ending) (had has : S) : Type 0 where
   pub events : List PlainEvent
-  pub told : AreTold start [] events schedule
+  pub told : AreTold (start s) [] events schedule
   pub heard : AreHeard hears (events ++ endings_told 0 endings) had has
+  pub last : List PlainProgress
+  pub visited : AreVisited (start s) schedule [] (map (progress_at attempts) s.programs) last (marks_of events)
+  pub ended : AreEndedAs last endings

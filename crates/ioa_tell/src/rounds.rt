@@ -1,7 +1,9 @@
 //! Rounds of the nodes, once more.
 
-ghost use Rattle.std.specs.Prelude.{OnOk};
-ghost use Rattle.ioa_tell.specs.Told.{TellsOn};
+ghost use Rattle.std.specs.Prelude.{◌++◌, map, OnOk};
+ghost use Rattle.ioa_tell.specs.Nodes.{progress_in};
+ghost use Rattle.ioa_tell.specs.Told.{TellsSuch};
+ghost use Rattle.ioa_tell.specs.Visits.{AreVisited};
 
 use crate::fault::TellFault;
 use crate::tells::Tells;
@@ -22,7 +24,9 @@ pub(crate) fn go_rounds<O: Origin, T: Tells>(
     left: &mut Walk<'_, Entry>,
     out: &mut T,
 ) -> Result<(), TellFault>
-    ensures { OnOk result (TellsOn T.hears book.old book.new left.old left.new out.old out.new) }
+    ensures { OnOk result (TellsSuch T.hears book.old book.new left.old left.new out.old out.new
+        (AreVisited book.old.start (book.old.log ++ left.old) book.old.log
+        (map progress_in nodes.old) (map progress_in nodes.new))) }
 {
     let mut spare = None;
     for _round in 0..attempts {
@@ -43,7 +47,9 @@ fn go_round<O: Origin, T: Tells>(
     spare: &mut Option<Spare<Entry>>,
     out: &mut T,
 ) -> Result<(), TellFault>
-    ensures { OnOk result (TellsOn T.hears book.old book.new left.old left.new out.old out.new) }
+    ensures { OnOk result (TellsSuch T.hears book.old book.new left.old left.new out.old out.new
+        (AreVisited book.old.start (book.old.log ++ left.old) book.old.log
+        (map progress_in nodes.old) (map progress_in nodes.new))) }
 {
     for position in 0..nodes.len() {
         visit_unless_ended(alloc, book, &mut nodes[position], left, spare, out)?;

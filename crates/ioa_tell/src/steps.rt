@@ -9,6 +9,7 @@ ghost use Rattle.ioa_commits.specs.Commits.{IsCommitted};
 ghost use Rattle.ioa_commits.specs.Versions.{read_confs};
 ghost use Rattle.ioa_compose.specs.Composition as conf;
 ghost use Rattle.ioa_compose.specs.Participants.{participants_of};
+ghost use Rattle.ioa_tell.specs.Marks as mark;
 ghost use Rattle.ioa_tell.specs.Steps.{HearsTaken, IsNext};
 ghost use Rattle.ioa_tell.specs.Told.{TellsOn, queue_among};
 
@@ -35,7 +36,9 @@ pub(crate) fn take<O: Origin, T: Tells>(
 ) -> Result<(), TellFault>
     requires fresh { IsLookAt book.old look.old.node look.old }
     requires proposed { proposal_answer proposal.entry.action look.old ≡ Ok proposal }
-    ensures { OnOk result (TellsOn T.hears book.old book.new (entry.now ∷ []) [] out.old out.new) }
+    ensures told { OnOk result (TellsOn T.hears book.old book.new (entry.now ∷ []) [] out.old out.new
+        (mark.took entry.now ∷ [])) }
+    ensures same { OnOk result (proposal.entry.action ≡ entry.now.action) }
 {
     if is_proposed(&proposal, entry) {
         take_proposed(alloc, book, look, entry, proposal, spare, out)
@@ -64,7 +67,8 @@ fn take_proposed<O: Origin, T: Tells>(
     requires fresh { IsLookAt book.old look.old.node look.old }
     requires proposed { proposal_answer proposal.entry.action look.old ≡ Ok proposal }
     requires same { proposal.entry.action ≡ entry.now.action }
-    ensures { OnOk result (TellsOn T.hears book.old book.new (entry.now ∷ []) [] out.old out.new) }
+    ensures { OnOk result (TellsOn T.hears book.old book.new (entry.now ∷ []) [] out.old out.new
+        (mark.took entry.now ∷ [])) }
 {
     let number = look.length();
     let before = node_of(look, entry)?;

@@ -1,10 +1,14 @@
 //! A run, told again.
 
-ghost use Rattle.std.specs.Prelude.{◌≡◌, [], OnOk};
+ghost use Rattle.std.specs.Prelude.{◌≡◌, [], IfOk, IsSomeAnd, OnOk, map, true};
+ghost use Rattle.std.specs.Arc.{arc_value};
 ghost use Rattle.ioa_commits.specs.Books.{plain_book};
 ghost use Rattle.ioa_compose.specs.Start.{start};
 ghost use Rattle.ioa_sharing.specs.Shared.{maker_name};
+ghost use Rattle.ioa_turns.specs.NodeTurns.{progress_at};
+ghost use Rattle.ioa_tell.specs.Nodes.{progress_in};
 ghost use Rattle.ioa_tell.specs.Told.{AreHeard, TellsRun, endings_told};
+ghost use Rattle.ioa_tell.specs.Visits.{AreEndedAs, IsEndedAs};
 
 use crate::event::Event;
 use crate::fault::TellFault;
@@ -12,7 +16,7 @@ use crate::rounds::go_rounds;
 use crate::tells::Tells;
 use crate::visited::Visited;
 use ioa_book::Book;
-use ioa_record::{Ending, Options, Record};
+use ioa_record::{Ending, NodeFault, Options, Record};
 use ioa_sharing::{Maker, MakerOf, Origin};
 use ioa_system::{Program, System};
 use std::alloc::Global;
@@ -22,7 +26,7 @@ use std::sync::Arc;
 /// Tells the run by one worker that left a record and endings, with these options: the run is made once more, in a book
 /// of its own, and each action that is taken is to be the next one of the record. So what is told first is the
 /// schedule, action by action, in between what was missed, which turns were idle, and which nodes stopped; and at last
-/// the endings of the record. Takes about as long as the run.
+/// the endings of the record. No attempt of a node is left out. Takes about as long as the run.
 ///
 /// `Differs` (51) if the record is not one of a run of this system by one worker with these options. `Memory` (3) if
 /// memory runs out. A fault of who is told ends it too. After a fault the contract says nothing of what was told.
@@ -35,7 +39,7 @@ pub fn tell<T: Tells>(
     out: &mut T,
 ) -> Result<(), TellFault>
     ensures told { OnOk result
-        (TellsRun T.hears (start system.now) run_record.now.schedule endings.now out.old out.new) }
+        (TellsRun T.hears system.now options.now.attempts run_record.now.schedule endings.now out.old out.new) }
 {
     tell_by::<Brand, T>(
         alloc,
@@ -60,7 +64,7 @@ fn tell_by<O: Origin, T: Tells>(
 ) -> Result<(), TellFault>
     requires { maker_name maker ≡ O.name }
     ensures told { OnOk result
-        (TellsRun T.hears (start system.now) run_record.now.schedule endings.now out.old out.new) }
+        (TellsRun T.hears system.now options.now.attempts run_record.now.schedule endings.now out.old out.new) }
 {
     let maker: MakerOf<O> = MakerOf::of(maker);
     let mut book = Book::new(alloc, maker, system, options.steps() as usize)?;
@@ -79,34 +83,64 @@ fn tell_in<O: Origin, T: Tells>(
 ) -> Result<(), TellFault>
     requires fresh { book.old ≡ plain_book (start system.now) [] book.old.limit }
     ensures told { OnOk result
-        (TellsRun T.hears (start system.now) run_record.now.schedule endings.now out.old out.new) }
+        (TellsRun T.hears system.now options.now.attempts run_record.now.schedule endings.now out.old out.new) }
 {
     let attempts = options.attempts();
-    let mut nodes = start_nodes(alloc, book, system.programs(), attempts, endings)?;
+    let mut nodes = start_nodes(alloc, book, system.programs(), attempts)?;
     let mut left = run_record.schedule.walk();
     go_rounds(alloc, book, attempts, &mut nodes, &mut left, out)?;
+    let have_ended = have_ended_as(&nodes, endings);
     match left.next() {
         Some(_) => Err(TellFault::Differs),
-        None => tell_endings(alloc, endings, out),
+        None => {
+            if have_ended {
+                tell_endings(alloc, endings, out)
+            } else {
+                Err(TellFault::Differs)
+            }
+        }
     }
 }
 
-/// The nodes before the run, each with its ending in the record.
+/// The nodes before the run.
 fn start_nodes<'a, O: Origin>(
     alloc: Global,
     book: &Book<O>,
     programs: &'a [Arc<Program>],
     attempts: u64,
-    endings: &[Ending],
-) -> Result<Vec<Visited<'a, O>>, TellFault> {
+) -> Result<Vec<Visited<'a, O>>, TellFault>
+    ensures { IfOk result (λ v. map progress_in v.items
+        ≡ map (progress_at attempts) (map arc_value programs.now)) }
+{
     let mut nodes = Vec::new(alloc);
-    for (position, program) in programs.iter().enumerate() {
-        let Some(recorded) = endings.get(position) else {
-            return Err(TellFault::Differs);
-        };
-        nodes.push(Visited::start(alloc, book, program, attempts, *recorded)?)?;
+    for program in programs {
+        nodes.push(Visited::start(alloc, book, program, attempts)?)?;
     }
     Ok(nodes)
+}
+
+/// Whether each node has an ending, and these are the endings of the nodes, but where memory ran out.
+fn have_ended_as<O: Origin>(nodes: &[Visited<O>], endings: &[Ending]) -> bool
+    ensures { result ≡ true → AreEndedAs (map progress_in nodes.now) endings.now }
+{
+    for (position, node) in nodes.iter().enumerate() {
+        if !has_ended_as(node.progress.ending, endings.get(position)) {
+            return false;
+        }
+    }
+    endings.get(nodes.len()).is_none()
+}
+
+/// Whether a node has an ending, and it is this one, or memory ran out.
+fn has_ended_as(ending: Option<Ending>, recorded: Option<&Ending>) -> bool
+    ensures { result ≡ true → IsSomeAnd recorded (λ r. IsEndedAs ending r.now) }
+{
+    match (ending, recorded) {
+        (Some(ending), Some(recorded)) => {
+            ending == *recorded || *recorded == Ending::Fault(NodeFault::Memory)
+        }
+        _ => false,
+    }
 }
 
 /// Tells the endings, that of the first node first.

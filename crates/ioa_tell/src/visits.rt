@@ -1,6 +1,6 @@
 //! Visits of a node, once more.
 
-ghost use Rattle.std.specs.Prelude.{◌≡◌, ◌⊎◌, [], OnOk, Ok, Err};
+ghost use Rattle.std.specs.Prelude.{◌≡◌, ◌⊎◌, [], ◌∷◌, ◌++◌, OnOk, Ok, Err};
 ghost use Rattle.std.specs.Arc.{arc_value};
 ghost use Rattle.ioa_actions.specs.declared.fault.StepFault.{StepFault};
 ghost use Rattle.ioa_actions.specs.ActionParts.{node_of};
@@ -11,15 +11,19 @@ ghost use Rattle.ioa_compose.specs.Composition.{find_conf};
 ghost use Rattle.ioa_compose.specs.Participants.{participants_of};
 ghost use Rattle.ioa_schedules.specs.Turns.{IsAtFire, IsAtFiring};
 ghost use Rattle.ioa_terms.specs.View.{firing_of};
-ghost use Rattle.ioa_turns.specs.NodeTurns.{progress_of};
+ghost use Rattle.ioa_turns.specs.Fired.{action_fired};
+ghost use Rattle.ioa_turns.specs.NodeTurns.{arguments_in, progress_of, with_ending};
+ghost use Rattle.ioa_tell.specs.Attempts.{IsAfterFault, IsAfterFire, IsAttempt, IsTried, IsVisit, stops};
 ghost use Rattle.ioa_tell.specs.Events as told;
 ghost use Rattle.ioa_tell.specs.Faulted.{IsFaulted};
 ghost use Rattle.ioa_tell.specs.Stuck.{IsStuckOn};
 ghost use Rattle.ioa_tell.specs.Found.{false_part_found};
 ghost use Rattle.ioa_tell.specs.FoundFaults.{fault_found};
+ghost use Rattle.ioa_tell.specs.Marks as mark;
+ghost use Rattle.ioa_tell.specs.Nodes.{progress_in};
 ghost use Rattle.ioa_tell.specs.Reasons.{IsReason};
 ghost use Rattle.ioa_tell.specs.Tests.{IsFalsified, IsNodeReason};
-ghost use Rattle.ioa_tell.specs.Told.{TellsOn, queue_among};
+ghost use Rattle.ioa_tell.specs.Told.{TellsOn, TellsSuch, queue_among};
 ghost use Rattle.ioa_tell.specs.Unfit.{IsUnfit};
 
 use crate::event::{Event, Reason};
@@ -54,38 +58,33 @@ pub(crate) fn visit_unless_ended<O: Origin, T: Tells>(
     spare: &mut Option<Spare<Entry>>,
     out: &mut T,
 ) -> Result<(), TellFault>
-    ensures { OnOk result (TellsOn T.hears book.old book.new left.old left.new out.old out.new) }
+    ensures { OnOk result (TellsSuch T.hears book.old book.new left.old left.new out.old out.new
+        (IsVisit book.old.start (book.old.log ++ left.old) book.old.log
+        (progress_in node.old) (progress_in node.new))) }
 {
     match node.progress.ending {
         Some(_) => Ok(()),
         None => {
-            let Visited {
-                progress,
-                look,
-                recorded,
-            } = node;
+            let Visited { progress, look } = node;
             visit(alloc, book, progress, look, left, spare, out)?;
-            tell_stopped(alloc, book, progress, *recorded, out)
+            tell_stopped(alloc, book, progress, out)
         }
     }
 }
 
-/// Tells that a node stopped, if it has an ending. That is to be the one in the record, unless memory ran out there.
+/// Tells that a node stopped, if it has an ending.
 fn tell_stopped<O: Origin, T: Tells>(
     alloc: Global,
     book: &Book<O>,
     node: &Progress,
-    recorded: Ending,
     out: &mut T,
 ) -> Result<(), TellFault>
-    ensures { OnOk result (TellsOn T.hears book.now book.now [] [] out.old out.new) }
+    ensures { OnOk result (TellsOn T.hears book.now book.now [] [] out.old out.new
+        (stops (progress_of node.now))) }
 {
     match node.ending {
         None => Ok(()),
-        Some(ending) => {
-            if ending != recorded && recorded != Ending::Fault(NodeFault::Memory) {
-                return Err(TellFault::Differs);
-            }
+        Some(_) => {
             let number = book.log().len();
             let node = node.program().node();
             out.event(alloc, Event::Stopped { number, node })
@@ -93,7 +92,8 @@ fn tell_stopped<O: Origin, T: Tells>(
     }
 }
 
-/// One visit of a node that has no ending: an attempt, if one is left; else the node is spent.
+/// One visit of a node that has no ending: an attempt, if one is left; else the node is spent. The look is one at the
+/// node.
 fn visit<O: Origin, T: Tells>(
     alloc: Global,
     book: &mut Book<O>,
@@ -103,7 +103,9 @@ fn visit<O: Origin, T: Tells>(
     spare: &mut Option<Spare<Entry>>,
     out: &mut T,
 ) -> Result<(), TellFault>
-    ensures { OnOk result (TellsOn T.hears book.old book.new left.old left.new out.old out.new) }
+    ensures { OnOk result (TellsSuch T.hears book.old book.new left.old left.new out.old out.new
+        (IsTried book.old.start (book.old.log ++ left.old) book.old.log
+        (progress_of node.old) (progress_of node.new))) }
 {
     if node.attempts == 0 {
         node.ending = Some(Ending::Spent);
@@ -111,6 +113,9 @@ fn visit<O: Origin, T: Tells>(
     }
     node.attempts -= 1;
     refresh(book, look)?;
+    if node.program().node() != look.node() {
+        return Err(TellFault::Differs);
+    }
     attempt(alloc, book, node, look, left, spare, out)
 }
 
@@ -124,8 +129,11 @@ fn attempt<O: Origin, T: Tells>(
     spare: &mut Option<Spare<Entry>>,
     out: &mut T,
 ) -> Result<(), TellFault>
-    requires { IsLookAt book.old look.old.node look.old }
-    ensures { OnOk result (TellsOn T.hears book.old book.new left.old left.new out.old out.new) }
+    requires fresh { IsLookAt book.old look.old.node look.old }
+    requires own { (progress_of node.old).program.node ≡ look.old.node }
+    ensures { OnOk result (TellsSuch T.hears book.old book.new left.old left.new out.old out.new
+        (IsAttempt book.old.start (book.old.log ++ left.old) book.old.log
+        (progress_of node.old) (progress_of node.new))) }
 {
     match turn_of(alloc, look, node) {
         Ok(Turn::Done) => {
@@ -151,7 +159,7 @@ fn tell_stuck<O: Origin, T: Tells>(
     out: &mut T,
 ) -> Result<(), TellFault>
     requires { IsLookAt book.now look.now.node look.now }
-    ensures { OnOk result (TellsOn T.hears book.now book.now [] [] out.old out.new) }
+    ensures { OnOk result (TellsOn T.hears book.now book.now [] [] out.old out.new []) }
 {
     match fault {
         NodeFault::Undefined | NodeFault::Range => tell_own_stuck(alloc, book, node, look, out),
@@ -168,7 +176,7 @@ fn tell_own_stuck<O: Origin, T: Tells>(
     out: &mut T,
 ) -> Result<(), TellFault>
     requires { IsLookAt book.now look.now.node look.now }
-    ensures { OnOk result (TellsOn T.hears book.now book.now [] [] out.old out.new) }
+    ensures { OnOk result (TellsOn T.hears book.now book.now [] [] out.old out.new []) }
 {
     if node.program().node() != look.node() {
         return Ok(());
@@ -192,7 +200,7 @@ fn tell_stuck_at<O: Origin, T: Tells>(
     requires own { (progress_of node.now).program.node ≡ look.now.node }
     requires found { IsStuckOn (progress_of node.now).program (read_confs look.now.reads)
         (told.statement_place_of found.now.place) (fault_found found.now.fault) }
-    ensures { OnOk result (TellsOn T.hears book.now book.now [] [] out.old out.new) }
+    ensures { OnOk result (TellsOn T.hears book.now book.now [] [] out.old out.new []) }
 {
     let event = Event::Stuck {
         number: look.length(),
@@ -211,7 +219,8 @@ fn tell_idle<O: Origin, T: Tells>(
     out: &mut T,
 ) -> Result<(), TellFault>
     requires { IsLookAt book.now look.now.node look.now }
-    ensures { OnOk result (TellsOn T.hears book.now book.now [] [] out.old out.new) }
+    ensures { OnOk result (TellsOn T.hears book.now book.now [] [] out.old out.new
+        (mark.waited look.now.node ∷ [])) }
 {
     let event = Event::Idle {
         number: look.length(),
@@ -221,7 +230,10 @@ fn tell_idle<O: Origin, T: Tells>(
 }
 
 /// Ends a node by a fault. `Memory` (3) ends the telling.
-fn end_by_fault(node: &mut Progress, fault: NodeFault) -> Result<(), TellFault> {
+fn end_by_fault(node: &mut Progress, fault: NodeFault) -> Result<(), TellFault>
+    ensures memory { OnOk result (fault ≡ NodeFault.Memory → ⊥) }
+    ensures ended { OnOk result (progress_of node.new ≡ with_ending (Ending.Fault fault) (progress_of node.old)) }
+{
     match fault {
         NodeFault::Memory => Err(TellFault::Memory),
         fault => {
@@ -245,7 +257,10 @@ fn go_past<O: Origin, T: Tells>(
 ) -> Result<(), TellFault>
     requires fresh { IsLookAt book.old look.old.node look.old }
     requires stands { IsAtFiring (firing_of firing.now) (progress_of node.old).todo }
-    ensures { OnOk result (TellsOn T.hears book.old book.new left.old left.new out.old out.new) }
+    ensures { OnOk result (TellsSuch T.hears book.old book.new left.old left.new out.old out.new
+        (IsAfterFire look.old (book.old.log ++ left.old) book.old.log
+        (progress_of node.old) (progress_of node.new)
+        (action_fired (progress_of node.old).program (firing_of firing.now).action (arguments_in node.old)))) }
 {
     let action = node.action_fired(alloc, firing)?;
     match look.propose(alloc, &action) {
@@ -269,7 +284,9 @@ fn fire<O: Origin, T: Tells>(
     requires fresh { IsLookAt book.old look.old.node look.old }
     requires stands { IsAtFire (progress_of node.old).todo }
     requires proposed { proposal_answer proposal.entry.action look.old ≡ Ok proposal }
-    ensures { OnOk result (TellsOn T.hears book.old book.new left.old left.new out.old out.new) }
+    ensures { OnOk result (TellsSuch T.hears book.old book.new left.old left.new out.old out.new
+        (IsAfterFire look.old (book.old.log ++ left.old) book.old.log
+        (progress_of node.old) (progress_of node.new) proposal.entry.action)) }
 {
     match left.next() {
         Some(entry) => {
@@ -285,7 +302,9 @@ fn fire<O: Origin, T: Tells>(
 }
 
 /// The fault with which a node ends that fires an action behind the last entry.
-fn last_fault<O: Origin>(book: &Book<O>) -> NodeFault {
+fn last_fault<O: Origin>(book: &Book<O>) -> NodeFault
+    ensures { (result ≡ NodeFault.Full) ⊎ (result ≡ NodeFault.Memory) }
+{
     if book.log().len() < book.limit() {
         NodeFault::Memory
     } else {
@@ -307,7 +326,8 @@ fn after_fault<O: Origin, T: Tells>(
     requires fresh { IsLookAt book.now look.now.node look.now }
     requires stands { IsAtFire (progress_of node.old).todo }
     requires failed { (fault ≡ StepFault.Memory) ⊎ (proposal_answer (arc_value action.now) look.now ≡ Err fault) }
-    ensures { OnOk result (TellsOn T.hears book.now book.now [] [] out.old out.new) }
+    ensures { OnOk result (TellsSuch T.hears book.now book.now [] [] out.old out.new
+        (IsAfterFault look.now (progress_of node.old) (progress_of node.new) (arc_value action.now))) }
 {
     match fault_of_step(fault) {
         None => {
@@ -332,7 +352,7 @@ fn tell_fault<O: Origin, T: Tells>(
     out: &mut T,
 ) -> Result<(), TellFault>
     requires fresh { IsLookAt book.now look.now.node look.now }
-    ensures { OnOk result (TellsOn T.hears book.now book.now [] [] out.old out.new) }
+    ensures { OnOk result (TellsOn T.hears book.now book.now [] [] out.old out.new []) }
 {
     match fault {
         NodeFault::Undefined | NodeFault::Range => tell_own_fault(alloc, book, look, action, out),
@@ -349,7 +369,7 @@ fn tell_own_fault<O: Origin, T: Tells>(
     out: &mut T,
 ) -> Result<(), TellFault>
     requires fresh { IsLookAt book.now look.now.node look.now }
-    ensures { OnOk result (TellsOn T.hears book.now book.now [] [] out.old out.new) }
+    ensures { OnOk result (TellsOn T.hears book.now book.now [] [] out.old out.new []) }
 {
     if action.node() != look.node() {
         return Ok(());
@@ -373,7 +393,7 @@ fn tell_unfit<O: Origin, T: Tells>(
     requires own { node_of (arc_value action.now) ≡ look.now.node }
     requires found { IsUnfit (find_conf (Component.Node (node_of (arc_value action.now)))
         (read_confs look.now.reads)) (arc_value action.now) found.now.name.now found.now.value }
-    ensures { OnOk result (TellsOn T.hears book.now book.now [] [] out.old out.new) }
+    ensures { OnOk result (TellsOn T.hears book.now book.now [] [] out.old out.new []) }
 {
     let event = Event::Unfit {
         number: look.length(),
@@ -394,7 +414,7 @@ fn tell_step_fault<O: Origin, T: Tells>(
 ) -> Result<(), TellFault>
     requires fresh { IsLookAt book.now look.now.node look.now }
     requires own { node_of (arc_value action.now) ≡ look.now.node }
-    ensures { OnOk result (TellsOn T.hears book.now book.now [] [] out.old out.new) }
+    ensures { OnOk result (TellsOn T.hears book.now book.now [] [] out.old out.new []) }
 {
     match find_faulted(alloc, look, action)? {
         None => Ok(()),
@@ -416,7 +436,7 @@ fn tell_faulted<O: Origin, T: Tells>(
     requires found { IsFaulted (find_conf (Component.Node (node_of (arc_value action.now)))
         (read_confs look.now.reads)) (arc_value action.now) (told.place_of found.now.place)
         (fault_found found.now.fault) }
-    ensures { OnOk result (TellsOn T.hears book.now book.now [] [] out.old out.new) }
+    ensures { OnOk result (TellsOn T.hears book.now book.now [] [] out.old out.new []) }
 {
     let event = Event::Faulted {
         number: look.length(),
@@ -437,7 +457,8 @@ fn tell_missed<O: Origin, T: Tells>(
 ) -> Result<(), TellFault>
     requires fresh { IsLookAt book.now look.now.node look.now }
     requires missed { proposal_answer (arc_value action.now) look.now ≡ Err StepFault.NotEnabled }
-    ensures { OnOk result (TellsOn T.hears book.now book.now [] [] out.old out.new) }
+    ensures { OnOk result (TellsOn T.hears book.now book.now [] [] out.old out.new
+        (mark.missed (arc_value action.now) ∷ [])) }
 {
     match reason_of(look, action) {
         Reason::Empty(queue) => {
@@ -460,7 +481,8 @@ fn tell_refused<O: Origin, T: Tells>(
 ) -> Result<(), TellFault>
     requires fresh { IsLookAt book.now look.now.node look.now }
     requires missed { proposal_answer (arc_value action.now) look.now ≡ Err StepFault.NotEnabled }
-    ensures { OnOk result (TellsOn T.hears book.now book.now [] [] out.old out.new) }
+    ensures { OnOk result (TellsOn T.hears book.now book.now [] [] out.old out.new
+        (mark.missed (arc_value action.now) ∷ [])) }
 {
     match find_falsified(alloc, look, action)? {
         None => tell_reason(alloc, book, look, action, Reason::Node, out),
@@ -481,7 +503,8 @@ fn tell_false<O: Origin, T: Tells>(
     requires missed { proposal_answer (arc_value action.now) look.now ≡ Err StepFault.NotEnabled }
     requires found { IsFalsified (find_conf (Component.Node (node_of (arc_value action.now)))
         (read_confs look.now.reads)) (arc_value action.now) (false_part_found found.now) }
-    ensures { OnOk result (TellsOn T.hears book.now book.now [] [] out.old out.new) }
+    ensures { OnOk result (TellsOn T.hears book.now book.now [] [] out.old out.new
+        (mark.missed (arc_value action.now) ∷ [])) }
 {
     let reason = Reason::False(found.test, found.part, found.values.as_slice());
     tell_reason(alloc, book, look, action, reason, out)
@@ -502,7 +525,8 @@ fn tell_reason<O: Origin, T: Tells>(
         (arc_value action.now) (told.reason_of reason) }
     requires node { IsNodeReason (find_conf (Component.Node (node_of (arc_value action.now)))
         (read_confs look.now.reads)) (arc_value action.now) (told.reason_of reason) }
-    ensures { OnOk result (TellsOn T.hears book.now book.now [] [] out.old out.new) }
+    ensures { OnOk result (TellsOn T.hears book.now book.now [] [] out.old out.new
+        (mark.missed (arc_value action.now) ∷ [])) }
 {
     let number = look.length();
     out.event(

@@ -1,6 +1,11 @@
-use Rattle.ioa_tell.specs.Told.{TellsOn}
+use Rattle.std.proofs.Common.{◌++◌, map}
+use Rattle.ioa_tell.specs.Nodes.{progress_in}
+use Rattle.ioa_tell.specs.Told.{TellsSuch}
+use Rattle.ioa_tell.specs.Visits.{AreVisited}
 use Rattle.ioa_tell.proofs.rounds.go_rounds.Given as goal
 
--- what was told so far goes along the schedule
+-- what was told so far goes along the schedule, and is that of visits
 abbrev pub invariant-loop-round : goal.invariant-loop-round
-invariant-loop-round g l = TellsOn g.T.Tells.hears l.initial.book l.book l.initial.left l.left l.initial.out l.out
+invariant-loop-round g l =
+    TellsSuch g.T.Tells.hears l.initial.book l.book l.initial.left l.left l.initial.out l.out
+    (AreVisited l.initial.book.start (l.initial.book.log ++ l.initial.left) l.initial.book.log (map progress_in l.initial.nodes) (map progress_in l.nodes))

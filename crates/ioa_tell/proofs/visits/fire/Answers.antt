@@ -1,9 +1,14 @@
-use Rattle.std.proofs.Common.{sym, ◌∙◌}
-use Rattle.ioa_tell.proofs.Tellings.{tells_next, tells_none}
+use Rattle.std.proofs.Common.{refl}
+use Rattle.ioa_turns.specs.NodeTurns.{progress_of}
+use Rattle.ioa_tell.proofs.Attempted.{fire_over, fire_taken}
 use Rattle.ioa_tell.proofs.visits.fire.Goals as goal
 
 pub returns-in_ok-take-in-Some : goal.returns-in_ok-take-in-Some
-returns-in_ok-take-in-Some g c = tells_next g.T.Tells.hears _ _ c.in-Some.entry.now _ _ _ _ c.in-Some.ensures.steps c.in_ok-take-in-Some.ensures
+returns-in_ok-take-in-Some g c =
+    fire_taken g.T.Tells.hears c.args.book.now c.take.new.book c.in-Some.entry.now _ _ _ _ c.args.look.now (progress_of c.args.node.now) _ c.args.proposal.entry.action c.in-Some.ensures.steps
+    c.in_ok-take-in-Some.ensures.told c.in_ok-take-in-Some.ensures.same c.pass.ensures.past
 
 pub returns-in-None : goal.returns-in-None
-returns-in-None g c = tells_none g.T.Tells.hears _ _ _ _ (c.in-None.ensures.steps.1 ∙ sym c.in-None.ensures.steps.0)
+returns-in-None g c =
+    fire_over g.T.Tells.hears c.args.book.now _ _ _ c.args.look.now (progress_of c.args.node.now) _ c.args.proposal c.last_fault.result c.requires.proposed
+    c.in-None.ensures.steps.0 c.in-None.ensures.steps.1 c.last_fault.ensures refl

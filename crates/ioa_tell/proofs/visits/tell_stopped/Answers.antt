@@ -5,7 +5,7 @@ use Rattle.ioa_tell.proofs.visits.tell_stopped.Goals as goal
 pub returns-in-None : goal.returns-in-None
 returns-in-None g c = tells_nothing g.T.Tells.hears _ _ _
 
-pub returns-else-ne : goal.returns-else-ne
-returns-else-ne g c =
+pub returns : goal.returns
+returns g c =
     let count = c.len-number.ensures ∙ ap length c.log.ensures.value in
     on_from c.event.result c.event.ensures (λ h. tells_stopped g.T.Tells.hears c.args.book.now c.len-number.result _ _ _ count h)

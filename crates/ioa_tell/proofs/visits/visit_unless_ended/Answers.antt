@@ -1,9 +1,11 @@
-use Rattle.ioa_tell.proofs.Tellings.{on_map, tells_beside, tells_further, tells_nothing}
+use Rattle.std.proofs.Common.{refl}
+use Rattle.ioa_tell.specs.Nodes.{progress_in}
+use Rattle.ioa_tell.proofs.Attempted.{visit_ended, visit_tried}
 use Rattle.ioa_tell.proofs.visits.visit_unless_ended.Goals as goal
 
 pub returns-in-Some : goal.returns-in-Some
-returns-in-Some g c = tells_nothing g.T.Tells.hears _ _ _
+returns-in-Some g c = visit_ended g.T.Tells.hears c.args.book.now _ _ (progress_in c.args.node.now) refl
 
 pub returns-in_ok-visit-in-None : goal.returns-in_ok-visit-in-None
 returns-in_ok-visit-in-None g c =
-    on_map c.tell_stopped.result (λ h. tells_further g.T.Tells.hears _ _ _ _ _ _ _ _ _ c.in_ok-visit-in-None.ensures (tells_beside g.T.Tells.hears _ _ _ _ _ h)) c.tell_stopped.ensures
+    visit_tried g.T.Tells.hears c.tell_stopped.result c.args.book.now c.visit.new.book _ _ _ _ _ (progress_in c.args.node.now) _ refl c.in_ok-visit-in-None.ensures c.tell_stopped.ensures
