@@ -43,8 +43,8 @@ diagram_shown s attempts left endings old new failed (Ok x) h = h
 diagram_shown s attempts left endings old new failed (Err report.Memory) h = tt
 diagram_shown s attempts left endings old new failed (Err report.Write) h = tt
 
-pub sequence_shown : (s : SystemParts) (attempts : ℕ) (left : Record) (endings : List Ending) (old new : Option (List ℕ))
-    (failed : Bool) (r : Result (Unit {0}) ReportFault) → PutsWhole (sequence_of s left.schedule) old new failed r
+pub sequence_shown : (s : SystemParts) (attempts : ℕ) (left : Record) (endings : List Ending)
+    (old new : Option (List ℕ)) (failed : Bool) (r : Result (Unit {0}) ReportFault) → PutsWhole (sequence_of s left.schedule) old new failed r
     → ShowsLeft s attempts left endings format.Sequence old new failed (shown r)
 sequence_shown s attempts left endings old new failed (Ok x) h = h
 sequence_shown s attempts left endings old new failed (Err report.Memory) h = tt

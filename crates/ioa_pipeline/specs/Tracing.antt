@@ -42,7 +42,7 @@ fresh_teller names before output = record {
 }
 
 -- the text of a run that is told goes out whole: what is told is true of its schedule, from the start of the system on,
--- has each of its actions in order, leaves no attempt of a node out, of which each has so many, and ends with the endings
+-- has each of its actions in order, leaves out no attempt of a node, which has so many, and ends with the endings
 pub record PutsTelling (s : SystemParts) (attempts : ℕ) (left : Record) (endings : List Ending)
     (old new : Option (List ℕ)) (failed : Bool) : Type 0 where
   pub output : ℕ

@@ -1,5 +1,6 @@
 -- What an attempt of a node comes to, and what is told of it (profile).
-use Rattle.std.specs.Prelude.{◌≡◌, ◌⊎◌, ℕ, ◌-◌, if◌then◌else◌, List, [], ◌∷◌, ◌++◌, Option, Some, None, Result, Ok, Err, is_some, true}
+use Rattle.std.specs.Prelude.{◌≡◌, ◌⊎◌, ℕ, ◌-◌, true, if◌then◌else◌, List, [], ◌∷◌, ◌++◌}
+use Rattle.std.specs.Prelude.{Option, Some, None, is_some, Result, Ok, Err}
 use Rattle.ioa_values.specs.Data.{Data}
 use Rattle.ioa_actions.specs.declared.action.Action.{Action}
 use Rattle.ioa_actions.specs.declared.fault.StepFault.{StepFault}
@@ -34,8 +35,8 @@ pub data IsAfterFire (look : PlainSnapshot) (schedule log : List PlainEntry) (p 
   takes : (e : PlainEntry) → e.action ≡ a → q ≡ past_fire p → did ≡ mark.took e ∷ [] →
       IsAfterFire look schedule log p q a did
   refused : IsAfterFault look p q a did → IsAfterFire look schedule log p q a did
-  over : (x : PlainProposal) (g : NodeFault) → proposal_answer a look ≡ Ok x → log ≡ schedule → (g ≡ Full) ⊎ (g ≡ Memory) →
-      q ≡ with_ending (Fault g) p → did ≡ [] → IsAfterFire look schedule log p q a did
+  over : (x : PlainProposal) (g : NodeFault) → proposal_answer a look ≡ Ok x → log ≡ schedule →
+      (g ≡ Full) ⊎ (g ≡ Memory) → q ≡ with_ending (Fault g) p → did ≡ [] → IsAfterFire look schedule log p q a did
 
 -- the turn of a node, on what a look at it reads after these entries
 abbrev pub turn_after : List Conf → List PlainEntry → PlainProgress → Result (TurnEnd × PlainProgress) NodeFault

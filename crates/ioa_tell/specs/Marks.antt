@@ -5,8 +5,8 @@ use Rattle.ioa_transitions.specs.Entries.{PlainEntry}
 use Rattle.ioa_tell.specs.Events as told
 use Rattle.ioa_tell.specs.Events.{PlainEvent}
 
--- what an attempt came to: this entry was taken, this action was missed, or the turn of this node was idle; or this node
--- stopped
+-- what an attempt came to: this entry was taken, this action was missed, or the turn of this node was idle; or this
+-- node stopped
 pub data Mark : Type 0 where
   took : PlainEntry → Mark
   missed : Action → Mark

@@ -158,7 +158,8 @@ fn tell_stuck<O: Origin, T: Tells>(
     fault: NodeFault,
     out: &mut T,
 ) -> Result<(), TellFault>
-    requires { IsLookAt book.now look.now.node look.now }
+    requires fresh { IsLookAt book.now look.now.node look.now }
+    requires own { (progress_of node.now).program.node ≡ look.now.node }
     ensures { OnOk result (TellsOn T.hears book.now book.now [] [] out.old out.new []) }
 {
     match fault {
@@ -167,7 +168,7 @@ fn tell_stuck<O: Origin, T: Tells>(
     }
 }
 
-/// The same of the node that was looked at.
+/// The same, where it is sought.
 fn tell_own_stuck<O: Origin, T: Tells>(
     alloc: Global,
     book: &Book<O>,
@@ -175,12 +176,10 @@ fn tell_own_stuck<O: Origin, T: Tells>(
     look: &Snapshot<O>,
     out: &mut T,
 ) -> Result<(), TellFault>
-    requires { IsLookAt book.now look.now.node look.now }
+    requires fresh { IsLookAt book.now look.now.node look.now }
+    requires own { (progress_of node.now).program.node ≡ look.now.node }
     ensures { OnOk result (TellsOn T.hears book.now book.now [] [] out.old out.new []) }
 {
-    if node.program().node() != look.node() {
-        return Ok(());
-    }
     match find_stuck(alloc, look, node)? {
         None => Ok(()),
         Some(found) => tell_stuck_at(alloc, book, node, look, &found, out),
