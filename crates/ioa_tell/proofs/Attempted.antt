@@ -21,7 +21,8 @@ use Rattle.ioa_record.specs.declared.ending.NodeFault.TheVariants as fault
 use Rattle.ioa_schedules.specs.Turns.{TurnEnd, fires, idle, done}
 use Rattle.ioa_turns.specs.Faults.{fault_of_step}
 use Rattle.ioa_turns.specs.Fired.{action_fired}
-use Rattle.ioa_turns.specs.NodeTurns.{PlainProgress, past_fire, turn_at, with_ending}
+use Rattle.ioa_schedules.specs.declared.turn.Turn.{Turn}
+use Rattle.ioa_turns.specs.NodeTurns.{PlainProgress, end_of, past_fire, turn_at, with_ending}
 use Rattle.ioa_tell.specs.Attempts.{IsAfterFault, misses, fails, IsAfterFire, takes, refused, over}
 use Rattle.ioa_tell.specs.Attempts.{IsAttempt, fires_one, waits, comes_to_end, is_stuck, turn_after, with_one_less}
 use Rattle.ioa_tell.specs.Attempts.{IsTried, is_spent, attempts, IsVisit, had_ended, tries, stops}
@@ -39,6 +40,10 @@ turn_seen b s p fresh own = fresh ∙ (λ i. snapshot_after (sym own i) b.start 
 turn_shown : (b : PlainBook) (s : PlainSnapshot) (p : PlainProgress) (r : Result (TurnEnd × PlainProgress) NodeFault) → IsLookAt b s.node s → p.program.node ≡ s.node →
     turn_at (read_confs s.reads) p ≡ r → turn_after b.start b.log p ≡ r
 turn_shown b s p r fresh own h = sym (ap (λ (t : PlainSnapshot). turn_at (read_confs t.reads) p) (turn_seen b s p fresh own)) ∙ h
+
+-- a turn that ends so
+pub turn_ends : (r : Result (TurnEnd × PlainProgress) NodeFault) (vs : List Data) (q : PlainProgress) (t u : Turn) → r ≡ Ok (end_of vs t, q) → t ≡ u → r ≡ Ok (end_of vs u, q)
+turn_ends r vs q t u h is = subst (λ (s : Turn). r ≡ Ok (end_of vs s, q)) is h
 
 module _ {S : Type 0} (hears : PlainEvent → S → S → Type 0) where
   -- an action is missed

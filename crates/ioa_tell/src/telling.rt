@@ -133,7 +133,7 @@ fn have_ended_as<O: Origin>(nodes: &[Visited<O>], endings: &[Ending]) -> bool
 
 /// Whether a node has an ending, and it is this one, or memory ran out.
 fn has_ended_as(ending: Option<Ending>, recorded: Option<&Ending>) -> bool
-    ensures { result ≡ true → IsSomeAnd recorded (λ r. IsEndedAs ending r.now) }
+    ensures { result ≡ true → IsSomeAnd recorded.entry (λ r. IsEndedAs ending r.now) }
 {
     match (ending, recorded) {
         (Some(ending), Some(recorded)) => {
