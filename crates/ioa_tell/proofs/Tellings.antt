@@ -117,11 +117,11 @@ module _ {S : Type 0} (hears : PlainEvent → S → S → Type 0) where
   tells_none b l m x same = subst (λ (r : List PlainEntry). TellsOn hears b b l r x x []) (sym same) (tells_nothing b l x)
 
   -- one thing is told that takes no action
-  pub tells_idle : (b : PlainBook) (k : ℕ) (n : ℤ) (x y : S) → k ≡ length b.log → hears (idle k n) x y → TellsOn hears b b [] [] x y (mark.waited n ∷ [])
-  tells_idle b k n x y e h = record { start = refl; schedule = refl; events = idle k n ∷ []; heard = (y, h, refl); told = (e, refl); marked = refl }
+  pub tells_idle : (b : PlainBook) (k : ℕ) (n : ℤ) (x y : S) → k ≡ length b.log → hears (idle k n) x y → (m : ℤ) → m ≡ n → TellsOn hears b b [] [] x y (mark.waited m ∷ [])
+  tells_idle b k n x y e h m same = record { start = refl; schedule = refl; events = idle k n ∷ []; heard = (y, h, refl); told = (e, refl); marked = λ i. mark.waited (sym same i) ∷ [] }
 
-  pub tells_stopped : (b : PlainBook) (k : ℕ) (n : ℤ) (x y : S) → k ≡ length b.log → hears (stopped k n) x y → TellsOn hears b b [] [] x y (mark.stopped n ∷ [])
-  tells_stopped b k n x y e h = record { start = refl; schedule = refl; events = stopped k n ∷ []; heard = (y, h, refl); told = (e, refl); marked = refl }
+  pub tells_stopped : (b : PlainBook) (k : ℕ) (n : ℤ) (x y : S) → k ≡ length b.log → hears (stopped k n) x y → (m : ℤ) → m ≡ n → TellsOn hears b b [] [] x y (mark.stopped m ∷ [])
+  tells_stopped b k n x y e h m same = record { start = refl; schedule = refl; events = stopped k n ∷ []; heard = (y, h, refl); told = (e, refl); marked = λ i. mark.stopped (sym same i) ∷ [] }
 
   pub tells_missed : (b : PlainBook) (k : ℕ) (a : Action) (r : PlainReason) (x y : S) → k ≡ length b.log → IsMissedIn (states_after b.start b.log) a r → hears (missed k a r) x y → TellsOn hears b b [] [] x y (mark.missed a ∷ [])
   tells_missed b k a r x y e m h = record { start = refl; schedule = refl; events = missed k a r ∷ []; heard = (y, h, refl); told = (e, m, refl); marked = refl }
