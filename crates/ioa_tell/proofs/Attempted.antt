@@ -1,5 +1,5 @@
 -- What is told of an attempt of a node, and of a visit.
-use Rattle.std.proofs.Common.{◌≡◌, ◌⊎◌, inl, inr, ℕ, List, [], ◌∷◌, ◌++◌, Option, Some, None, Result, Ok, Err, refl, sym, ap, subst, ◌∙◌}
+use Rattle.std.proofs.Common.{◌≡◌, ◌⊎◌, inl, inr, ℕ, ℤ, length, if◌then◌else◌, List, [], ◌∷◌, ◌++◌, Option, Some, None, Result, Ok, Err, refl, sym, ap, subst, ◌∙◌}
 use Rattle.std.proofs.lemmas.List.{append-nil}
 use Rattle.std.specs.Prelude.{OnOk, is_some, true}
 use Rattle.ioa_values.specs.Data.{Data}
@@ -15,6 +15,7 @@ use Rattle.ioa_commits.specs.Proposals.{PlainProposal}
 use Rattle.ioa_commits.specs.Versions.{read_confs}
 use Rattle.ioa_book.specs.Looks.{IsLookAt, PlainSnapshot, snapshot_after}
 use Rattle.ioa_book.specs.Proposals.{proposal_answer}
+use Rattle.ioa_record.specs.declared.ending.Ending.{Ending}
 use Rattle.ioa_record.specs.declared.ending.Ending.TheVariants.{Done, Spent, Fault}
 use Rattle.ioa_record.specs.declared.ending.NodeFault.{NodeFault}
 use Rattle.ioa_record.specs.declared.ending.NodeFault.TheVariants as fault
@@ -26,11 +27,11 @@ use Rattle.ioa_turns.specs.NodeTurns.{PlainProgress, end_of, past_fire, turn_at,
 use Rattle.ioa_tell.specs.Attempts.{IsAfterFault, misses, fails, IsAfterFire, takes, refused, over}
 use Rattle.ioa_tell.specs.Attempts.{IsAttempt, fires_one, waits, comes_to_end, is_stuck, turn_after, with_one_less}
 use Rattle.ioa_tell.specs.Attempts.{IsTried, is_spent, attempts, IsVisit, had_ended, tries, stops}
-use Rattle.ioa_tell.specs.Events.{PlainEvent}
+use Rattle.ioa_tell.specs.Events.{PlainEvent, stopped}
 use Rattle.ioa_tell.specs.Marks as mark
 use Rattle.ioa_tell.specs.Marks.{Mark}
 use Rattle.ioa_tell.specs.Told.{TellsOn, TellsSuch}
-use Rattle.ioa_tell.proofs.Tellings.{on_map, tells_beside, tells_further, tells_next, tells_none, tells_nothing}
+use Rattle.ioa_tell.proofs.Tellings.{on_map, tells_beside, tells_further, tells_next, tells_none, tells_nothing, tells_stopped}
 
 -- the turn of a node on a look at the node that shows the book as it is
 turn_seen : (b : PlainBook) (s : PlainSnapshot) (p : PlainProgress) → IsLookAt b s.node s → p.program.node ≡ s.node →
@@ -45,7 +46,20 @@ turn_shown b s p r fresh own h = sym (ap (λ (t : PlainSnapshot). turn_at (read_
 pub turn_ends : (r : Result (TurnEnd × PlainProgress) NodeFault) (vs : List Data) (q : PlainProgress) (t u : Turn) → r ≡ Ok (end_of vs t, q) → t ≡ u → r ≡ Ok (end_of vs u, q)
 turn_ends r vs q t u h is = subst (λ (s : Turn). r ≡ Ok (end_of vs s, q)) is h
 
+-- what is told of a node that has no ending, and of one that has
+no_stop : (p : PlainProgress) → p.ending ≡ None → [] ≡ stops p
+no_stop p e = sym (ap (λ (o : Option Ending). if is_some o then mark.stopped p.program.node ∷ [] else []) e)
+
+one_stop : (p : PlainProgress) (e : Ending) → p.ending ≡ Some e → mark.stopped p.program.node ∷ [] ≡ stops p
+one_stop p e is = sym (ap (λ (o : Option Ending). if is_some o then mark.stopped p.program.node ∷ [] else []) is)
+
 module _ {S : Type 0} (hears : PlainEvent → S → S → Type 0) where
+  pub tells_no_stop : (b : PlainBook) (p : PlainProgress) (x : S) → p.ending ≡ None → TellsOn hears b b [] [] x x (stops p)
+  tells_no_stop b p x is = subst (λ (did : List Mark). TellsOn hears b b [] [] x x did) (no_stop p is) (tells_nothing hears b [] x)
+
+  pub tells_stop : (b : PlainBook) (k : ℕ) (n : ℤ) (p : PlainProgress) (e : Ending) (x y : S) → p.ending ≡ Some e → k ≡ length b.log → hears (stopped k n) x y → p.program.node ≡ n → TellsOn hears b b [] [] x y (stops p)
+  tells_stop b k n p e x y is count h same = subst (λ (did : List Mark). TellsOn hears b b [] [] x y did) (one_stop p e is) (tells_stopped hears b k n x y count h p.program.node same)
+
   -- an action is missed
   pub fault_missed : (b : PlainBook) (x y : S) (look : PlainSnapshot) (p q : PlainProgress) (a : Action) → TellsOn hears b b [] [] x y (mark.missed a ∷ []) → q ≡ past_fire p →
       TellsSuch hears b b [] [] x y (IsAfterFault look p q a)

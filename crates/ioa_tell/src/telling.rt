@@ -87,9 +87,30 @@ fn tell_in<O: Origin, T: Tells>(
 {
     let attempts = options.attempts();
     let mut nodes = start_nodes(alloc, book, system.programs(), attempts)?;
+    tell_nodes(
+        alloc, book, system, attempts, &mut nodes, run_record, endings, out,
+    )
+}
+
+/// The same with the nodes of the system before the run.
+fn tell_nodes<O: Origin, T: Tells>(
+    alloc: Global,
+    book: &mut Book<O>,
+    _system: &System,
+    attempts: u64,
+    nodes: &mut [Visited<O>],
+    run_record: &Record,
+    endings: &[Ending],
+    out: &mut T,
+) -> Result<(), TellFault>
+    requires fresh { book.old ≡ plain_book (start _system.now) [] book.old.limit }
+    requires before { map progress_in nodes.old ≡ map (progress_at attempts) _system.now.programs }
+    ensures told { OnOk result
+        (TellsRun T.hears _system.now attempts run_record.now.schedule endings.now out.old out.new) }
+{
     let mut left = run_record.schedule.walk();
-    go_rounds(alloc, book, attempts, &mut nodes, &mut left, out)?;
-    let have_ended = have_ended_as(&nodes, endings);
+    go_rounds(alloc, book, attempts, nodes, &mut left, out)?;
+    let have_ended = have_ended_as(nodes, endings);
     match left.next() {
         Some(_) => Err(TellFault::Differs),
         None => {

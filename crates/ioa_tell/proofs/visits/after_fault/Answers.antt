@@ -1,3 +1,4 @@
+use Rattle.std.proofs.Common.{sym}
 use Rattle.std.specs.Arc.{arc_value}
 use Rattle.ioa_turns.specs.NodeTurns.{progress_of}
 use Rattle.ioa_tell.proofs.Attempted.{fault_ended, fault_missed}
@@ -10,4 +11,4 @@ returns-in_ok-tell_missed-in-None g c =
 pub returns-in_ok-tell_fault-in-Some : goal.returns-in_ok-tell_fault-in-Some
 returns-in_ok-tell_fault-in-Some g c =
     fault_ended g.T.Tells.hears c.end_by_fault.result c.args.book.now _ _ c.args.look.now (progress_of c.args.node.now) _ (arc_value c.args.action.now) c.args.fault c.in-Some.fault
-    c.in_ok-tell_fault-in-Some.ensures c.requires.failed c.in-Some.ensures c.end_by_fault.ensures.memory c.end_by_fault.ensures.ended
+    c.in_ok-tell_fault-in-Some.ensures c.requires.failed (sym c.in-Some.ensures) c.end_by_fault.ensures.memory c.end_by_fault.ensures.ended
