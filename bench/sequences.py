@@ -5,6 +5,9 @@
 
 Instructions are counted by `valgrind --tool=callgrind`, as the difference of two runs that differ in how often the
 operation is done.
+
+To make the program, copy bench/sequences.rt.txt to a crate of its own (`crates/sequence_bench/src/main.rt`), add the line
+`sequence_bench: ioa_values` to `crates.txt`, and let `rt run -- copy 1 1` build it in that folder.
 """
 import re
 import subprocess
