@@ -2,12 +2,10 @@
 
 ghost use Rattle.std.specs.Prelude.{◌≡◌, ◌⊎◌, true, false, [], ◌∷◌, ◌++◌, Ok, Err, IfErr, IfOk, OnOk, map};
 ghost use Rattle.std.specs.List.{IsDistinct, list_any};
-ghost use Rattle.std.specs.Arc.{arc_value};
 ghost use Rattle.std.specs.Option.{option_copied, option_map};
 ghost use Rattle.ioa_values.specs.Outcome.{Answers, and_then};
 ghost use Rattle.ioa_terms.specs.Bindings.{same_word};
 ghost use Rattle.ioa_source.specs.TextView.{automaton_of, declared_of, entry_of, transition_of, variable_of};
-ghost use Rattle.ioa_names.specs.NameTables.{words};
 ghost use Rattle.ioa_types.specs.Meanings.{AreTextTypes};
 ghost use Rattle.ioa_automata.specs.Automata as spec;
 ghost use Rattle.ioa_system.specs.Indexes.{AreIndexed};
@@ -24,8 +22,8 @@ use ioa_names::{NameTable, View};
 use ioa_refusals::Refusal;
 use ioa_source::{Automaton, Declared, Entry, Schedule, Transition, Variable};
 use ioa_system::{CheckedAutomaton, Rule, Rules, Scope};
-use ioa_terms::{Callee, Names, Shape, Word};
-use ioa_types::TextTypes;
+use ioa_terms::{Callee, Shape, Word};
+use ioa_types::{AllTypes, TextTypes};
 use std::alloc::Global;
 use std::sync::Arc;
 
@@ -247,26 +245,25 @@ fn sort_entries(
     sort_rules(alloc, around, &transitions, &automaton.signature)
 }
 
-/// The automaton with slots and shapes, in a text that declares these types, made ready to step. `constants` are the
-/// names of the text's constants. Returns `Unknown` (20), `Twice` (21), `Sorts` (22), `NoInitial` (23), `InputPre`
-/// (24), `NoTransition` (25), `ScheduleAssignsState` (26), `Limit` (31), `EmptyOfWhat` (32), `InputWhere` (33),
-/// `BadArgument` (34), each if it applies to the automaton, and `Memory` (3) if no memory is left. Costs time in
-/// proportion to the automaton, but for what the look-up of a name and a sort cost.
+/// The automaton with slots and shapes, in a text that declares these types, made ready to step. Returns `Unknown`
+/// (20), `Twice` (21), `Sorts` (22), `NoInitial` (23), `InputPre` (24), `NoTransition` (25), `ScheduleAssignsState`
+/// (26), `Limit` (31), `EmptyOfWhat` (32), `InputWhere` (33), `BadArgument` (34), each if it applies to the automaton,
+/// and `Memory` (3) if no memory is left. Costs time in proportion to the automaton, but for what the look-up of a name
+/// and a sort cost.
 pub fn sort_automaton(
     alloc: Global,
-    types: &TextTypes,
-    constants: &Arc<Names>,
+    types: &AllTypes,
     automaton: &Automaton<(), (), ()>,
 ) -> Result<CheckedAutomaton, Refusal>
-    requires { arc_value constants.now ≡ words types.now.constants }
     ensures { Answers Refusal.Memory (λ a. a) result
         (spec.automaton_at types.now (automaton_of automaton.now)) }
 {
-    let heading = sort_heading(alloc, types, automaton)?;
-    let body = sort_body(alloc, types, &heading, automaton)?;
+    let declared = types.types();
+    let heading = sort_heading(alloc, declared, automaton)?;
+    let body = sort_body(alloc, declared, &heading, automaton)?;
     let own = block_own_words(alloc, &body.schedule.variables, body.rules.as_slice())?;
     let name = automaton.name.try_copy(alloc)?;
-    let constants = Arc::try_clone(constants)?;
+    let constants = Arc::try_clone(types.names())?;
     let heading = Box::into_inner(heading);
     let body = Box::into_inner(body);
     Ok(CheckedAutomaton::new(

@@ -1,18 +1,14 @@
 -- When each tuple type in shapes is the declared one of its name (profile): what makes sorted terms have their shapes.
-use Rattle.std.specs.Prelude.{◌≡◌, ℕ, List}
+use Rattle.std.specs.Prelude.{List, refl}
+use Rattle.std.specs.Coded.{Coded, code_by, coded×, coded_list}
 use Rattle.std.specs.List.{AllByRecursion}
 use Rattle.ioa_operators.specs.Shapes.{PlainShape}
+use Rattle.ioa_operators.specs.ShapeCode.{shape_code}
+use Rattle.ioa_terms.specs.contracts.name.Name as called
 use Rattle.ioa_terms.specs.Sorted.{NameShapes}
-use Rattle.ioa_system.specs.Parts.{AutomatonParts, Parts}
-use Rattle.ioa_names.specs.NameTables.{words}
-use Rattle.ioa_names.specs.Views.{AreWords}
+use Rattle.ioa_system.specs.Parts.{AutomatonParts, Parts, parts_code}
 use Rattle.ioa_sort_rules.specs.DeclaredTypes.{TupleTypes, IsDeclared, AreAllDeclared}
 use Rattle.ioa_automata.specs.DeclaredShapes.{HasDeclaredShapes}
-
--- these are the names of a text's constants, which are words
-pub record AreConstantsOf (constants : NameShapes) (names : List (List ℕ)) : Type 0 where
-  pub named : names ≡ words constants
-  pub all_words : AreWords constants
 
 -- names and shapes of declared types
 pub record HaveDeclaredShapes (names : NameShapes) (ss : List PlainShape) : Type 0 where
@@ -37,3 +33,18 @@ pub record AreGroundedPrograms (names : NameShapes) (ps : List Parts) : Type 0 w
   pub types : TupleTypes
   pub names_declared : AreAllDeclared types names
   pub each_declared : AllByRecursion (λ p. HasDeclaredShapes types p.automaton) ps
+
+-- what scripts are checked on: the constants of a text, and the programs of its nodes
+pub record GroundParts : Type 0 where
+  pub constants : NameShapes
+  pub programs : List Parts
+
+abbrev pub ground_parts : NameShapes → List Parts → GroundParts
+ground_parts names ps = record { constants = names; programs = ps }
+
+-- their code: a pair
+abbrev pub ground_code : Coded GroundParts
+ground_code =
+    code_by (NameShapes × List Parts)
+    (coded× (coded_list (coded× called.the_row.coded shape_code)) (coded_list parts_code))
+    (λ g. (g.constants, g.programs)) (λ p. ground_parts p.0 p.1) (λ _. refl)

@@ -4,18 +4,16 @@ ghost use Rattle.std.specs.Prelude.{◌≡◌, map};
 ghost use Rattle.std.specs.Arc.{arc_value};
 ghost use Rattle.ioa_values.specs.Outcome.{Answers};
 ghost use Rattle.ioa_source.specs.TextView.{declaration_of, placement_of};
-ghost use Rattle.ioa_names.specs.NameTables.{words};
 ghost use Rattle.ioa_check.specs.DeclaredParts as spec;
 ghost use Rattle.ioa_check.specs.Grounds.{AreGrounded};
 
 use crate::checking::check_section;
-use crate::declarations::{automata_of, names_of, types_of};
+use crate::declarations::{automata_of, types_of};
 use crate::fault::CheckFault;
 use ioa_refusals::Refusal;
 use ioa_source::{Declaration, Placement};
 use ioa_system::CheckedAutomaton;
-use ioa_terms::Names;
-use ioa_types::TextTypes;
+use ioa_types::AllTypes;
 use std::alloc::Global;
 use std::marker::Model;
 use std::sync::Arc;
@@ -24,15 +22,13 @@ use std::sync::Arc;
 /// any number of system sections can be asked over it.
 #[derive(Drop)]
 pub struct CheckedDeclarations {
-    types: TextTypes,
-    constants: Arc<Names>,
+    types: AllTypes,
     automata: Vec<Arc<CheckedAutomaton>>,
 }
 
 impl Model for CheckedDeclarations {
-    ghost use Rattle.std.specs.Prelude.{◌≡◌, map};
+    ghost use Rattle.std.specs.Prelude.{map};
     ghost use Rattle.std.specs.Arc.{arc_value};
-    ghost use Rattle.ioa_names.specs.NameTables.{words};
     ghost use Rattle.ioa_check.specs.DeclaredParts.{DeclaredParts, declared_code, declared_parts};
     ghost use Rattle.ioa_check.specs.Grounds.{AreGrounded};
 
@@ -42,8 +38,7 @@ impl Model for CheckedDeclarations {
 
     ghost view = { λ d. declared_parts d.types (map arc_value d.automata.items) };
 
-    ghost invariant = { λ d. (arc_value d.constants ≡ words d.types.constants)
-        × AreGrounded d.types.constants (map arc_value d.automata.items) };
+    ghost invariant = { λ d. AreGrounded d.types.constants (map arc_value d.automata.items) };
 }
 
 impl CheckedDeclarations {
@@ -57,28 +52,17 @@ impl CheckedDeclarations {
         ensures { Answers CheckFault.Memory (λ d. d) result
             (spec.declared_at (map declaration_of declarations.now.items)) }
     {
-        let types = types_of(alloc, declarations)?;
-        let constants = Arc::new(alloc, names_of(alloc, types.constants().words())?)?;
-        let automata = automata_of(alloc, &types, &constants, declarations)?;
-        Ok(CheckedDeclarations {
-            types,
-            constants,
-            automata,
-        })
+        let types = AllTypes::of(alloc, types_of(alloc, declarations)?)?;
+        let automata = automata_of(alloc, &types, declarations)?;
+        let _declared = types.types();
+        Ok(CheckedDeclarations { types, automata })
     }
 
     /// The types, with the constants of their enumerations.
-    pub(crate) fn types(&self) -> &TextTypes
+    pub(crate) fn types(&self) -> &AllTypes
         ensures { result.now ≡ self.now.types }
     {
         &self.types
-    }
-
-    /// The names of the constants.
-    pub(crate) fn constants(&self) -> &Arc<Names>
-        ensures { arc_value result.now ≡ words self.now.types.constants }
-    {
-        &self.constants
     }
 
     /// The automata, in the order of their declaration.
@@ -87,6 +71,13 @@ impl CheckedDeclarations {
         ensures grounded { AreGrounded self.now.types.constants self.now.automata }
     {
         &self.automata
+    }
+
+    /// What all declarations keep: the shapes of their constants and automata are declared ones. Does nothing.
+    pub(crate) fn grounded_law(&self)
+        ensures { AreGrounded self.now.types.constants self.now.automata }
+    {
+        let _automata = &self.automata;
     }
 
     /// Passes if a system section places something over these declarations, as `check` asks for. Else the refusal that

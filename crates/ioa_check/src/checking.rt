@@ -1,31 +1,28 @@
 //! From a text to its system.
 
-ghost use Rattle.std.specs.Prelude.{◌≡◌, IfErr, IfOk, map};
+ghost use Rattle.std.specs.Prelude.{IfErr, IfOk, map};
 ghost use Rattle.std.specs.Arc.{arc_value};
 ghost use Rattle.ioa_values.specs.Outcome.{Answers};
-ghost use Rattle.ioa_source.specs.TextView.{invariant_of, placement_of, text_of};
+ghost use Rattle.ioa_source.specs.TextView.{placement_of, text_of};
 ghost use Rattle.ioa_system.specs.Declarations.{IsWellDeclared};
-ghost use Rattle.ioa_names.specs.NameTables.{words};
 ghost use Rattle.ioa_invariants.specs.Checked.{AreDeclaredParts};
 ghost use Rattle.ioa_check.specs.Checking as spec;
 ghost use Rattle.ioa_check.specs.Faults.{in_declaration};
-ghost use Rattle.ioa_check.specs.Grounds.{AreConstantsOf, AreGrounded};
 ghost use Rattle.ioa_check.specs.PlacedView.{placed_of};
 ghost use Rattle.ioa_check.specs.Systems.{IsSystemOf, SaysNoSystem};
 
 use crate::channels::{channels_of, check_channels};
 use crate::checked::CheckedDeclarations;
 use crate::fault::{CheckFault, fault_at};
+use crate::ground::Ground;
 use crate::invariants::invariants_of;
-use crate::nodes::{Ground, nodes_of, programs_of};
+use crate::nodes::{nodes_of, programs_of};
 use crate::placed::Placed;
 use crate::scripts::scripts_of;
 use ioa_invariants::Section;
-use ioa_names::{NameTable, View};
 use ioa_refusals::Refusal;
-use ioa_source::{Invariant, Placement, Text};
+use ioa_source::{Placement, Text};
 use ioa_system::System;
-use ioa_terms::Names;
 use std::alloc::{AllocError, Global};
 use std::sync::Arc;
 
@@ -53,7 +50,7 @@ fn find_system(alloc: Global, text: &Text<(), (), ()>) -> Result<System, CheckFa
 }
 
 /// The system of a text of these declarations, whose system section has this index.
-#[tactic(auto, unfolding(crate::specs::Checking::parts_at))]
+#[tactic(auto, unfolding(crate::specs::Checking::parts_at, crate::specs::Checking::system_with))]
 fn check_parts(
     alloc: Global,
     declared: &CheckedDeclarations,
@@ -65,14 +62,19 @@ fn check_parts(
 {
     let placed = section_in_declaration(alloc, declared, index, &text.system)?;
     let first = index.checked_add(1).ok_or(AllocError)?;
-    with_invariants(
-        alloc,
-        declared.types().constants(),
-        declared.constants(),
-        placed,
-        first,
-        &text.invariants,
-    )
+    let section = Section {
+        types: declared.types(),
+        programs: placed.programs.as_slice(),
+        channels: placed.channels.as_slice(),
+    };
+    let found = invariants_of(alloc, &section, first, &text.invariants)?;
+    let constants = Arc::try_clone(declared.types().names())?;
+    let Placed {
+        programs,
+        channels,
+        scripts,
+    } = placed;
+    Ok(System::new(constants, programs, channels, scripts, found))
 }
 
 /// What the system section of an index places, in a text of these declarations. A fault tells the index.
@@ -93,38 +95,8 @@ fn section_in_declaration(
     }
 }
 
-/// The system of what was placed and of invariants, the first of which stands in the top declaration of an index.
-#[tactic(auto, unfolding(crate::specs::Checking::system_with))]
-fn with_invariants(
-    alloc: Global,
-    table: &NameTable,
-    constants: &Arc<Names>,
-    placed: Placed,
-    index: usize,
-    invariants: &Vec<Invariant<(), (), ()>>,
-) -> Result<System, CheckFault>
-    requires named { arc_value constants.now ≡ words table.now }
-    requires declared { AreDeclaredParts table.now (map arc_value placed.programs.items) }
-    ensures { Answers CheckFault.Memory (λ s. s) result
-        (spec.system_with table.now (placed_of placed) index (map invariant_of invariants.now.items)) }
-{
-    let section = Section {
-        constants: table,
-        names: constants,
-        programs: placed.programs.as_slice(),
-        channels: placed.channels.as_slice(),
-    };
-    let found = invariants_of(alloc, &section, index, invariants)?;
-    let Placed {
-        programs,
-        channels,
-        scripts,
-    } = placed;
-    let constants = Arc::try_clone(constants)?;
-    Ok(System::new(constants, programs, channels, scripts, found))
-}
-
 /// What a system section places, in a text of these declarations.
+#[tactic(auto, unfolding(crate::specs::Checking::placed_at))]
 pub(crate) fn check_section(
     alloc: Global,
     declared: &CheckedDeclarations,
@@ -135,36 +107,16 @@ pub(crate) fn check_section(
     ensures declared { IfOk result
         (λ s. AreDeclaredParts declared.now.types.constants (map arc_value s.programs.items)) }
 {
-    let none = NameTable::new(alloc);
-    let constants = declared.types().constants();
-    constants.words_law();
-    let view = View::new(&none, &none, constants)?;
-    let ground = Ground {
-        view: &view,
-        constants: declared.constants(),
-        automata: declared.automata(),
-    };
-    check_placements(alloc, &ground, placements)
-}
-
-/// What a system section places, in a text of these constants and automata.
-#[tactic(auto, unfolding(crate::specs::Checking::placed_at))]
-fn check_placements(
-    alloc: Global,
-    ground: &Ground,
-    placements: &Vec<Placement<(), (), ()>>,
-) -> Result<Placed, Refusal>
-    requires named { AreConstantsOf ground.now.view.now (arc_value ground.now.constants.now) }
-    requires grounded { AreGrounded ground.now.view.now (map arc_value ground.now.automata.now.items) }
-    ensures placed { Answers Refusal.Memory placed_of result (spec.placed_at ground.now.view.now
-        (map arc_value ground.now.automata.now.items) (map placement_of placements.now.items)) }
-    ensures declared { IfOk result (λ s. AreDeclaredParts ground.now.view.now (map arc_value s.programs.items)) }
-{
+    declared.grounded_law();
     let nodes = nodes_of(alloc, placements)?;
     let channels = channels_of(alloc, placements)?;
-    let programs = programs_of(alloc, ground, &nodes)?;
+    let programs = programs_of(alloc, declared, &nodes)?;
     check_channels(alloc, &programs, &channels)?;
-    let scripts = scripts_of(alloc, ground, &programs, placements)?;
+    let ground = Ground {
+        types: declared.types(),
+        programs: &programs,
+    };
+    let scripts = scripts_of(alloc, &ground, placements)?;
     Ok(Placed {
         programs,
         channels,

@@ -1,10 +1,9 @@
 //! The types and the automata that a text declares.
 
-ghost use Rattle.std.specs.Prelude.{◌≡◌, ◌++◌, ◌∷◌, [], IfOk, OnOk, map};
+ghost use Rattle.std.specs.Prelude.{◌≡◌, ◌++◌, ◌∷◌, [], OnOk, map};
 ghost use Rattle.std.specs.Arc.{arc_value};
 ghost use Rattle.ioa_values.specs.Outcome.{Answers};
 ghost use Rattle.ioa_source.specs.TextView.{automaton_of, declaration_of};
-ghost use Rattle.ioa_names.specs.NameTables.{words};
 ghost use Rattle.ioa_types.specs.TextTypes.{no_types};
 ghost use Rattle.ioa_check.specs.Declarations as spec;
 ghost use Rattle.ioa_check.specs.Faults.{in_declaration};
@@ -14,9 +13,8 @@ use ioa_automata::sort_automaton;
 use ioa_refusals::Refusal;
 use ioa_source::{Automaton, Declaration};
 use ioa_system::{CheckedAutomaton, Scope};
-use ioa_terms::{Names, Word};
-use ioa_types::TextTypes;
-use std::alloc::{AllocError, Global};
+use ioa_types::{AllTypes, TextTypes};
+use std::alloc::Global;
 use std::sync::Arc;
 
 /// The types and the constants of a text.
@@ -51,26 +49,12 @@ fn with_declaration(
     }
 }
 
-/// Names with their own memory.
-pub(crate) fn names_of(alloc: Global, words: &[Word]) -> Result<Names, AllocError>
-    ensures { IfOk result (λ ns. ns ≡ words.now) }
-{
-    let mut names = Vec::new(alloc);
-    for word in words {
-        let name = word.try_copy(alloc)?;
-        names.push(name)?;
-    }
-    Ok(Names::new(names))
-}
-
-/// The automata of a text, in the order of their declaration. `constants` are the names of its constants.
+/// The automata of a text, in the order of their declaration.
 pub(crate) fn automata_of(
     alloc: Global,
-    types: &TextTypes,
-    constants: &Arc<Names>,
+    types: &AllTypes,
     declarations: &Vec<Declaration<(), (), ()>>,
 ) -> Result<Vec<Arc<CheckedAutomaton>>, CheckFault>
-    requires { arc_value constants.now ≡ words types.now.constants }
     ensures { Answers CheckFault.Memory (λ cs. map arc_value cs.items) result
         (spec.automata_at types.now 0 [] (map declaration_of declarations.now.items)) }
 {
@@ -80,9 +64,7 @@ pub(crate) fn automata_of(
         match declaration {
             Declaration::Type(_) => {}
             Declaration::Automaton(automaton) => {
-                let found = automaton_in_declaration(
-                    alloc, types, constants, &mut names, index, automaton,
-                )?;
+                let found = automaton_in_declaration(alloc, types, &mut names, index, automaton)?;
                 automata.push(found)?;
             }
         }
@@ -93,18 +75,16 @@ pub(crate) fn automata_of(
 /// The automaton of the declaration of an index. A fault tells the index.
 fn automaton_in_declaration(
     alloc: Global,
-    types: &TextTypes,
-    constants: &Arc<Names>,
+    types: &AllTypes,
     names: &mut Scope,
     index: usize,
     automaton: &Automaton<(), (), ()>,
 ) -> Result<Arc<CheckedAutomaton>, CheckFault>
-    requires { arc_value constants.now ≡ words types.now.constants }
     ensures found { Answers CheckFault.Memory arc_value result
         (in_declaration index (spec.new_automaton_at types.now names.old (automaton_of automaton.now))) }
     ensures named { OnOk result (names.new ≡ names.old ++ (automaton_of automaton.now).name ∷ []) }
 {
-    match new_automaton(alloc, types, constants, names, automaton) {
+    match new_automaton(alloc, types, names, automaton) {
         Ok(found) => Ok(found),
         Err(refusal) => Err(fault_at(index, refusal)),
     }
@@ -114,12 +94,10 @@ fn automaton_in_declaration(
 #[tactic(auto, unfolding(crate::specs::Declarations::new_automaton_at))]
 fn new_automaton(
     alloc: Global,
-    types: &TextTypes,
-    constants: &Arc<Names>,
+    types: &AllTypes,
     names: &mut Scope,
     automaton: &Automaton<(), (), ()>,
 ) -> Result<Arc<CheckedAutomaton>, Refusal>
-    requires { arc_value constants.now ≡ words types.now.constants }
     ensures found { Answers Refusal.Memory arc_value result
         (spec.new_automaton_at types.now names.old (automaton_of automaton.now)) }
     ensures named { OnOk result (names.new ≡ names.old ++ (automaton_of automaton.now).name ∷ []) }
@@ -127,6 +105,6 @@ fn new_automaton(
     if !names.declare(automaton.name.try_copy(alloc)?)? {
         return Err(Refusal::Twice);
     }
-    let found = sort_automaton(alloc, types, constants, automaton)?;
+    let found = sort_automaton(alloc, types, automaton)?;
     Ok(Arc::new(alloc, found)?)
 }

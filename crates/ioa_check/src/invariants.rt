@@ -1,11 +1,8 @@
 //! The invariants that a text declares.
 
 ghost use Rattle.std.specs.Prelude.{◌≡◌, ◌++◌, ◌∷◌, [], OnOk, map};
-ghost use Rattle.std.specs.Arc.{arc_value};
 ghost use Rattle.ioa_values.specs.Outcome.{Answers};
 ghost use Rattle.ioa_source.specs.TextView.{invariant_of};
-ghost use Rattle.ioa_names.specs.NameTables.{words};
-ghost use Rattle.ioa_invariants.specs.Checked.{AreDeclaredParts};
 ghost use Rattle.ioa_check.specs.Checking as spec;
 ghost use Rattle.ioa_check.specs.Faults.{in_declaration};
 
@@ -24,11 +21,8 @@ pub(crate) fn invariants_of(
     first: usize,
     invariants: &Vec<Invariant<(), (), ()>>,
 ) -> Result<Vec<CheckedInvariant>, CheckFault>
-    requires named { arc_value section.now.names.now ≡ words section.now.constants.now }
-    requires declared { AreDeclaredParts section.now.constants.now (map arc_value section.now.programs.now) }
-    ensures { Answers CheckFault.Memory (λ vs. vs.items) result (spec.invariants_at section.now.constants.now
-        (map arc_value section.now.programs.now) section.now.channels.now first []
-        (map invariant_of invariants.now.items)) }
+    ensures { Answers CheckFault.Memory (λ vs. vs.items) result (spec.invariants_at section.now.constants
+        section.now.programs section.now.channels first [] (map invariant_of invariants.now.items)) }
 {
     let mut names = Scope::new(alloc);
     let mut found = Vec::new(alloc);
@@ -48,11 +42,9 @@ fn invariant_in_declaration(
     index: usize,
     invariant: &Invariant<(), (), ()>,
 ) -> Result<CheckedInvariant, CheckFault>
-    requires named { arc_value section.now.names.now ≡ words section.now.constants.now }
-    requires declared { AreDeclaredParts section.now.constants.now (map arc_value section.now.programs.now) }
     ensures found { Answers CheckFault.Memory (λ v. v) result
-        (in_declaration index (spec.new_invariant_at section.now.constants.now
-        (map arc_value section.now.programs.now) section.now.channels.now names.old (invariant_of invariant.now))) }
+        (in_declaration index (spec.new_invariant_at section.now.constants section.now.programs section.now.channels
+        names.old (invariant_of invariant.now))) }
     ensures named { OnOk result (names.new ≡ names.old ++ (invariant_of invariant.now).name ∷ []) }
 {
     match new_invariant(alloc, section, names, invariant) {
@@ -69,10 +61,8 @@ fn new_invariant(
     names: &mut Scope,
     invariant: &Invariant<(), (), ()>,
 ) -> Result<CheckedInvariant, Refusal>
-    requires named { arc_value section.now.names.now ≡ words section.now.constants.now }
-    requires declared { AreDeclaredParts section.now.constants.now (map arc_value section.now.programs.now) }
-    ensures found { Answers Refusal.Memory (λ v. v) result (spec.new_invariant_at section.now.constants.now
-        (map arc_value section.now.programs.now) section.now.channels.now names.old (invariant_of invariant.now)) }
+    ensures found { Answers Refusal.Memory (λ v. v) result (spec.new_invariant_at section.now.constants
+        section.now.programs section.now.channels names.old (invariant_of invariant.now)) }
     ensures named { OnOk result (names.new ≡ names.old ++ (invariant_of invariant.now).name ∷ []) }
 {
     if !names.declare(invariant.name.try_copy(alloc)?)? {

@@ -13,6 +13,7 @@ mod checked;
 mod checking;
 mod declarations;
 mod fault;
+mod ground;
 mod invariants;
 mod laws;
 mod nodes;

@@ -10,35 +10,27 @@ ghost use Rattle.ioa_terms.specs.Bindings.{names_of, same_word};
 ghost use Rattle.ioa_source.specs.TextView.{declared_of, node_of, parameter_of, placement_of};
 ghost use Rattle.ioa_system.specs.InView.{given_bindings};
 ghost use Rattle.ioa_system.specs.ResolvedPrograms.{AreResolvedParameters, IsResolvedParameter};
+ghost use Rattle.ioa_sorts.specs.Firings.{arguments_at};
 ghost use Rattle.ioa_check.specs.Distinct.{differ_from};
-ghost use Rattle.ioa_check.specs.Grounds.{AreConstantsOf, AreGrounded, HaveDeclaredShapes};
+ghost use Rattle.ioa_check.specs.Grounds.{HaveDeclaredShapes};
 ghost use Rattle.ioa_check.specs.Nodes as spec;
 ghost use Rattle.ioa_check.specs.Sections.{node_at, nodes_in};
 
+use crate::checked::CheckedDeclarations;
 use crate::values::{argument_values, check_constants, gives_number, variable_values};
 use ioa_actions::{RECEIVE, SEND};
-use ioa_names::View;
+use ioa_names::{NameTable, View};
 use ioa_refusals::Refusal;
 use ioa_sorts::sort_arguments;
 use ioa_source::{Declared, Node, Parameter, Placement};
 use ioa_system::{CheckedAutomaton, Program, Rule};
-use ioa_terms::{Callee, Env, NameLists, Names, Shape, Term, Value, Word};
+use ioa_terms::{Callee, Checked, Env, NameLists, Shape, Term, Value, Word};
+use ioa_types::AllTypes;
 use std::alloc::{AllocError, Global};
 use std::sync::Arc;
 
 /// The greatest number of nodes.
 pub const MOST_NODES: usize = 64;
-
-/// What the nodes and scripts of a system section read.
-#[derive(Drop)]
-pub(crate) struct Ground<'a> {
-    /// The text's constants.
-    pub view: &'a View<'a>,
-    /// Their names.
-    pub constants: &'a Arc<Names>,
-    /// The text's automata.
-    pub automata: &'a Vec<Arc<CheckedAutomaton>>,
-}
 
 /// The nodes of a system section, in the order of their declaration. `Limit` (31) if there are more than `MOST_NODES`,
 /// `Twice` (21) if two have one number.
@@ -141,20 +133,33 @@ fn shapes_of(alloc: Global, parameters: &[Declared<Shape>]) -> Result<Vec<Shape>
 #[tactic(auto, unfolding(crate::specs::Nodes::given_at))]
 pub(crate) fn given_values(
     alloc: Global,
-    view: &View,
-    constants: &Names,
+    types: &AllTypes,
     shapes: &Vec<Shape>,
     arguments: &Vec<Term>,
 ) -> Result<Vec<Value>, Refusal>
-    requires named { AreConstantsOf view.now constants.now }
-    requires declared { HaveDeclaredShapes view.now shapes.now.items }
+    requires { HaveDeclaredShapes types.now.constants shapes.now.items }
     ensures values { Answers Refusal.Memory (λ vs. vs.items) result
-        (spec.given_at view.now shapes.now.items (map term_of arguments.now.items)) }
+        (spec.given_at types.now.constants shapes.now.items (map term_of arguments.now.items)) }
     ensures many { IfOk result (λ vs. length vs.items ≡ length shapes.now.items) }
 {
-    let terms = sort_arguments(alloc, view, shapes, arguments)?;
-    let env = Env::with_constants(NameLists::one(&[]), &[], constants.as_slice());
+    let terms = given_terms(alloc, types.types().constants(), shapes, arguments)?;
+    let env = Env::with_constants(NameLists::one(&[]), &[], types.names().as_slice());
     argument_values(alloc, &env, shapes, &terms)
+}
+
+/// The terms that these values have, with slots and shapes.
+fn given_terms(
+    alloc: Global,
+    constants: &NameTable,
+    shapes: &Vec<Shape>,
+    arguments: &Vec<Term>,
+) -> Result<Vec<Checked>, Refusal>
+    ensures { Answers Refusal.Memory (λ ts. map term_of ts.items) result
+        (arguments_at constants.now shapes.now.items (map term_of arguments.now.items)) }
+{
+    let none = NameTable::new(alloc);
+    let view = View::new(&none, &none, constants)?;
+    sort_arguments(alloc, &view, shapes, arguments)
 }
 
 /// Whether a parameter is there and is the constant of a number.
@@ -314,18 +319,17 @@ fn program_of(
 #[tactic(auto, unfolding(crate::specs::Nodes::program_with))]
 fn program_with(
     alloc: Global,
-    ground: &Ground,
+    types: &AllTypes,
     number: i64,
     arguments: &Vec<Term>,
     automaton: &Arc<CheckedAutomaton>,
 ) -> Result<Program, Refusal>
-    requires named { AreConstantsOf ground.now.view.now (arc_value ground.now.constants.now) }
-    requires declared { HaveDeclaredShapes ground.now.view.now (spec.parameter_shapes (arc_value automaton.now)) }
-    ensures { Answers Refusal.Memory (λ p. p) result (spec.program_with ground.now.view.now number
+    requires { HaveDeclaredShapes types.now.constants (spec.parameter_shapes (arc_value automaton.now)) }
+    ensures { Answers Refusal.Memory (λ p. p) result (spec.program_with types.now.constants number
         (map term_of arguments.now.items) (arc_value automaton.now)) }
 {
     let shapes = shapes_of(alloc, automaton.parameters())?;
-    let given = given_values(alloc, ground.view, ground.constants, &shapes, arguments)?;
+    let given = given_values(alloc, types, &shapes, arguments)?;
     program_of(alloc, number, automaton, given)
 }
 
@@ -333,18 +337,18 @@ fn program_with(
 #[tactic(auto, unfolding(crate::specs::Nodes::automaton_or))]
 fn node_program(
     alloc: Global,
-    ground: &Ground,
+    declared: &CheckedDeclarations,
     number: i64,
     node: &Node<(), (), ()>,
 ) -> Result<Program, Refusal>
-    requires named { AreConstantsOf ground.now.view.now (arc_value ground.now.constants.now) }
-    requires grounded { AreGrounded ground.now.view.now (map arc_value ground.now.automata.now.items) }
-    ensures { Answers Refusal.Memory (λ p. p) result (spec.node_program ground.now.view.now
-        (map arc_value ground.now.automata.now.items) number (node_of node.now)) }
+    ensures { Answers Refusal.Memory (λ p. p) result (spec.node_program declared.now.types.constants
+        declared.now.automata number (node_of node.now)) }
 {
-    match automaton_of_name(ground.automata, &node.automaton) {
+    match automaton_of_name(declared.automata(), &node.automaton) {
         None => Err(Refusal::Unknown),
-        Some(automaton) => program_with(alloc, ground, number, &node.arguments, automaton),
+        Some(automaton) => {
+            program_with(alloc, declared.types(), number, &node.arguments, automaton)
+        }
     }
 }
 
@@ -352,53 +356,46 @@ fn node_program(
 #[tactic(auto, unfolding(crate::specs::Nodes::program_at))]
 fn program_at(
     alloc: Global,
-    ground: &Ground,
+    declared: &CheckedDeclarations,
     nodes: &[&Node<(), (), ()>],
     number: i64,
 ) -> Result<Program, Refusal>
-    requires named { AreConstantsOf ground.now.view.now (arc_value ground.now.constants.now) }
-    requires grounded { AreGrounded ground.now.view.now (map arc_value ground.now.automata.now.items) }
-    ensures { Answers Refusal.Memory (λ p. p) result (spec.program_at ground.now.view.now
-        (map arc_value ground.now.automata.now.items) number (find (spec.has_number number) (map node_at nodes.now))) }
+    ensures { Answers Refusal.Memory (λ p. p) result (spec.program_at declared.now.types.constants
+        declared.now.automata number (find (spec.has_number number) (map node_at nodes.now))) }
 {
     match node_of_number(nodes, number) {
         None => Err(Refusal::NodeGap),
-        Some(node) => node_program(alloc, ground, number, node),
+        Some(node) => node_program(alloc, declared, number, node),
     }
 }
 
 /// The program of the node whose number is a position.
 fn program_at_position(
     alloc: Global,
-    ground: &Ground,
+    declared: &CheckedDeclarations,
     nodes: &[&Node<(), (), ()>],
     position: usize,
 ) -> Result<Arc<Program>, Refusal>
-    requires named { AreConstantsOf ground.now.view.now (arc_value ground.now.constants.now) }
-    requires grounded { AreGrounded ground.now.view.now (map arc_value ground.now.automata.now.items) }
-    requires small { position < 2 ^ 63 }
-    ensures { Answers Refusal.Memory arc_value result (spec.program_at ground.now.view.now
-        (map arc_value ground.now.automata.now.items) (pos position)
-        (find (spec.has_number (pos position)) (map node_at nodes.now))) }
+    requires { position < 2 ^ 63 }
+    ensures { Answers Refusal.Memory arc_value result (spec.program_at declared.now.types.constants
+        declared.now.automata (pos position) (find (spec.has_number (pos position)) (map node_at nodes.now))) }
 {
-    let program = program_at(alloc, ground, nodes, position as i64)?;
+    let program = program_at(alloc, declared, nodes, position as i64)?;
     Ok(Arc::new(alloc, program)?)
 }
 
 /// The programs of nodes, node 0 first.
 pub(crate) fn programs_of(
     alloc: Global,
-    ground: &Ground,
+    declared: &CheckedDeclarations,
     nodes: &[&Node<(), (), ()>],
 ) -> Result<Vec<Arc<Program>>, Refusal>
-    requires named { AreConstantsOf ground.now.view.now (arc_value ground.now.constants.now) }
-    requires grounded { AreGrounded ground.now.view.now (map arc_value ground.now.automata.now.items) }
-    ensures { Answers Refusal.Memory (λ ps. map arc_value ps.items) result (spec.programs_at ground.now.view.now
-        (map arc_value ground.now.automata.now.items) (map node_at nodes.now)) }
+    ensures { Answers Refusal.Memory (λ ps. map arc_value ps.items) result
+        (spec.programs_at declared.now.types.constants declared.now.automata (map node_at nodes.now)) }
 {
     let mut programs = Vec::new(alloc);
     for position in 0..nodes.len() {
-        match program_at_position(alloc, ground, nodes, position) {
+        match program_at_position(alloc, declared, nodes, position) {
             Ok(program) => programs.push(program)?,
             Err(refusal) => return Err(refusal),
         }

@@ -4,25 +4,25 @@ ghost use Rattle.std.specs.Prelude.{◌≡◌, [], IfOk, map};
 ghost use Rattle.std.specs.List.{list_any};
 ghost use Rattle.std.specs.Ordering.{int_eq};
 ghost use Rattle.std.specs.Option.{option_copied};
-ghost use Rattle.std.specs.Arc.{arc_value};
 ghost use Rattle.ioa_values.specs.Outcome.{Answers};
 ghost use Rattle.ioa_source.specs.TextView.{call_of, placement_of, script_of};
 ghost use Rattle.ioa_system.specs.Parts.{rule_named};
 ghost use Rattle.ioa_sorts.specs.Statements.{all_ok};
 ghost use Rattle.ioa_check.specs.Distinct.{differ_from};
-ghost use Rattle.ioa_check.specs.Grounds.{AreConstantsOf, AreGroundedPrograms, IsGrounded};
+ghost use Rattle.ioa_check.specs.Grounds.{IsGrounded};
 ghost use Rattle.ioa_check.specs.Scripts as spec;
 ghost use Rattle.ioa_check.specs.Sections.{script_behind, scripts_in};
 
 use crate::channels::program_or;
-use crate::nodes::{Ground, given_values};
+use crate::ground::Ground;
+use crate::nodes::given_values;
 use ioa_actions::{NodeAction, RECEIVE, SEND};
 use ioa_refusals::Refusal;
 use ioa_source::{Call, Placement, ScriptDeclaration};
-use ioa_system::{CheckedAutomaton, Program, Rule, Script};
+use ioa_system::{CheckedAutomaton, Rule, Script};
 use ioa_terms::{Kind, Word};
+use ioa_types::AllTypes;
 use std::alloc::{AllocError, Global};
-use std::sync::Arc;
 
 /// The scripts of a system section, in the order of their declaration. `Twice` (21) if two are of one node.
 #[tactic(auto, unfolding(crate::specs::Scripts::scripts_or))]
@@ -109,44 +109,36 @@ fn input_called<'a>(automaton: &'a CheckedAutomaton, name: &Word) -> Result<&'a 
 #[tactic(auto, unfolding(crate::specs::Scripts::stimulus_at))]
 fn stimulus_of(
     alloc: Global,
-    ground: &Ground,
+    types: &AllTypes,
     number: i64,
     automaton: &CheckedAutomaton,
     call: &Call<(), (), ()>,
 ) -> Result<NodeAction, Refusal>
-    requires named { AreConstantsOf ground.now.view.now (arc_value ground.now.constants.now) }
-    requires grounded { IsGrounded ground.now.view.now automaton.now }
+    requires { IsGrounded types.now.constants automaton.now }
     ensures { Answers Refusal.Memory (λ a. a) result
-        (spec.stimulus_at ground.now.view.now number automaton.now (call_of call.now)) }
+        (spec.stimulus_at types.now.constants number automaton.now (call_of call.now)) }
 {
     let input = input_called(automaton, &call.name)?;
     let shapes = &input.shapes;
-    let values = given_values(
-        alloc,
-        ground.view,
-        ground.constants,
-        shapes,
-        &call.arguments,
-    )?;
+    let values = given_values(alloc, types, shapes, &call.arguments)?;
     Ok(NodeAction::new(alloc, number, &call.name, values)?)
 }
 
 /// The stimuli of calls, in their order.
 fn stimuli_of(
     alloc: Global,
-    ground: &Ground,
+    types: &AllTypes,
     number: i64,
     automaton: &CheckedAutomaton,
     calls: &Vec<Call<(), (), ()>>,
 ) -> Result<Vec<NodeAction>, Refusal>
-    requires named { AreConstantsOf ground.now.view.now (arc_value ground.now.constants.now) }
-    requires grounded { IsGrounded ground.now.view.now automaton.now }
+    requires { IsGrounded types.now.constants automaton.now }
     ensures { Answers Refusal.Memory (λ xs. xs.items) result
-        (spec.stimuli_at ground.now.view.now number automaton.now (map call_of calls.now.items)) }
+        (spec.stimuli_at types.now.constants number automaton.now (map call_of calls.now.items)) }
 {
     let mut stimuli = Vec::new(alloc);
     for call in calls {
-        let stimulus = stimulus_of(alloc, ground, number, automaton, call)?;
+        let stimulus = stimulus_of(alloc, types, number, automaton, call)?;
         stimuli.push(stimulus)?;
     }
     Ok(stimuli)
@@ -157,18 +149,14 @@ fn stimuli_of(
 fn script_at(
     alloc: Global,
     ground: &Ground,
-    programs: &Vec<Arc<Program>>,
     number: i64,
     calls: &Vec<Call<(), (), ()>>,
 ) -> Result<Script, Refusal>
-    requires named { AreConstantsOf ground.now.view.now (arc_value ground.now.constants.now) }
-    requires grounded { AreGroundedPrograms ground.now.view.now (map arc_value programs.now.items) }
     ensures { Answers Refusal.Memory (λ s. s) result
-        (spec.script_at ground.now.view.now (map arc_value programs.now.items) number
-        (map call_of calls.now.items)) }
+        (spec.script_at ground.now.constants ground.now.programs number (map call_of calls.now.items)) }
 {
-    let program = program_or(programs, number)?;
-    let stimuli = stimuli_of(alloc, ground, number, program.automaton(), calls)?;
+    let program = program_or(ground.programs, number)?;
+    let stimuli = stimuli_of(alloc, ground.types, number, program.automaton(), calls)?;
     Ok(Script::new(number, stimuli))
 }
 
@@ -176,33 +164,26 @@ fn script_at(
 fn script_of(
     alloc: Global,
     ground: &Ground,
-    programs: &Vec<Arc<Program>>,
     script: &ScriptDeclaration<(), (), ()>,
 ) -> Result<Script, Refusal>
-    requires named { AreConstantsOf ground.now.view.now (arc_value ground.now.constants.now) }
-    requires grounded { AreGroundedPrograms ground.now.view.now (map arc_value programs.now.items) }
     ensures { Answers Refusal.Memory (λ s. s) result
-        (spec.script_of ground.now.view.now (map arc_value programs.now.items) (script_of script.now)) }
+        (spec.script_of ground.now.constants ground.now.programs (script_of script.now)) }
 {
-    script_at(alloc, ground, programs, script.node, &script.calls)
+    script_at(alloc, ground, script.node, &script.calls)
 }
 
 /// Scripts of nodes that have these programs.
 fn scripts_at(
     alloc: Global,
     ground: &Ground,
-    programs: &Vec<Arc<Program>>,
     declared: &[&ScriptDeclaration<(), (), ()>],
 ) -> Result<Vec<Script>, Refusal>
-    requires named { AreConstantsOf ground.now.view.now (arc_value ground.now.constants.now) }
-    requires grounded { AreGroundedPrograms ground.now.view.now (map arc_value programs.now.items) }
     ensures { Answers Refusal.Memory (λ ss. ss.items) result
-        (all_ok (map (spec.script_of ground.now.view.now (map arc_value programs.now.items))
-        (map script_behind declared.now))) }
+        (all_ok (map (spec.script_of ground.now.constants ground.now.programs) (map script_behind declared.now))) }
 {
     let mut scripts = Vec::new(alloc);
     for script in declared {
-        let found = script_of(alloc, ground, programs, script)?;
+        let found = script_of(alloc, ground, script)?;
         scripts.push(found)?;
     }
     Ok(scripts)
@@ -213,14 +194,11 @@ fn scripts_at(
 pub(crate) fn scripts_of(
     alloc: Global,
     ground: &Ground,
-    programs: &Vec<Arc<Program>>,
     placements: &Vec<Placement<(), (), ()>>,
 ) -> Result<Vec<Script>, Refusal>
-    requires named { AreConstantsOf ground.now.view.now (arc_value ground.now.constants.now) }
-    requires grounded { AreGroundedPrograms ground.now.view.now (map arc_value programs.now.items) }
-    ensures { Answers Refusal.Memory (λ ss. ss.items) result (spec.scripts_at ground.now.view.now
-        (map arc_value programs.now.items) (map placement_of placements.now.items)) }
+    ensures { Answers Refusal.Memory (λ ss. ss.items) result (spec.scripts_at ground.now.constants
+        ground.now.programs (map placement_of placements.now.items)) }
 {
     let declared = declared_scripts(alloc, placements)?;
-    scripts_at(alloc, ground, programs, &declared)
+    scripts_at(alloc, ground, &declared)
 }

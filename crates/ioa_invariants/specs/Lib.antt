@@ -2,4 +2,5 @@
 pub mod ReadNames
 pub mod ReadShapes
 pub mod Checked
+pub mod Sections
 pub mod Meant

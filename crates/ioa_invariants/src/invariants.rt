@@ -1,16 +1,12 @@
 //! The check of an invariant.
 
-ghost use Rattle.std.specs.Prelude.{◌≡◌, ◌++◌, map};
-ghost use Rattle.std.specs.Arc.{arc_value};
+ghost use Rattle.std.specs.Prelude.{◌++◌};
 ghost use Rattle.ioa_values.specs.Outcome.{Answers};
 ghost use Rattle.ioa_operators.specs.Shapes.{truths};
 ghost use Rattle.ioa_terms.specs.View.{term_of};
 ghost use Rattle.ioa_source.specs.TextView.{invariant_of};
-ghost use Rattle.ioa_names.specs.NameTables.{words};
-ghost use Rattle.ioa_names.specs.Views.{AreWords};
 ghost use Rattle.ioa_sorts.specs.Sorting.{fit, sorting};
 ghost use Rattle.ioa_invariants.specs.Checked as spec;
-ghost use Rattle.ioa_invariants.specs.Checked.{AreDeclaredParts};
 
 use crate::names::names_read;
 use crate::shapes::reading_shapes;
@@ -19,21 +15,37 @@ use ioa_refusals::Refusal;
 use ioa_sorts::fit;
 use ioa_source::{Channel, Invariant};
 use ioa_system::{CheckedInvariant, Program};
-use ioa_terms::{Checked, Names, Shape, ShapeForm, Term};
+use ioa_terms::{Checked, Shape, ShapeForm, Term};
+use ioa_types::AllTypes;
 use std::alloc::Global;
+use std::marker::Model;
 use std::sync::Arc;
 
-/// What an invariant may speak of: the text's constants, and what its system section places.
+/// What an invariant may speak of: the text's constants, and what its system section places. Its type guarantees that
+/// each tuple type in the shapes of these is the declared one of its name.
 #[derive(Drop)]
 pub struct Section<'a> {
-    /// The text's constants with their shapes.
-    pub constants: &'a NameTable,
-    /// Their names.
-    pub names: &'a Arc<Names>,
+    /// The text's types and constants.
+    pub types: &'a AllTypes,
     /// The programs of the nodes, node 0 first.
     pub programs: &'a [Arc<Program>],
     /// The channels.
     pub channels: &'a [Channel],
+}
+
+impl<'a> Model for Section<'a> {
+    ghost use Rattle.std.specs.Prelude.{map};
+    ghost use Rattle.std.specs.Arc.{arc_value};
+    ghost use Rattle.ioa_invariants.specs.Sections.{SectionParts, section_parts, section_code};
+    ghost use Rattle.ioa_invariants.specs.Checked.{AreDeclaredParts};
+
+    ghost Value = { SectionParts };
+
+    ghost coded = { section_code };
+
+    ghost view = { λ s. section_parts s.types.now.constants (map arc_value s.programs.now) s.channels.now };
+
+    ghost invariant = { λ s. AreDeclaredParts s.types.now.constants (map arc_value s.programs.now) };
 }
 
 /// Makes the checked invariant that an invariant of a text is. Returns `Unknown` (20) if it reads a name that is not
@@ -47,18 +59,16 @@ pub fn check_invariant(
     section: &Section,
     invariant: &Invariant<(), (), ()>,
 ) -> Result<CheckedInvariant, Refusal>
-    requires named { arc_value section.now.names.now ≡ words section.now.constants.now }
-    requires declared { AreDeclaredParts section.now.constants.now (map arc_value section.now.programs.now) }
-    ensures { Answers Refusal.Memory (λ v. v) result (spec.invariant_at section.now.constants.now
-        (map arc_value section.now.programs.now) section.now.channels.now (invariant_of invariant.now)) }
+    ensures { Answers Refusal.Memory (λ v. v) result (spec.invariant_at section.now.constants section.now.programs
+        section.now.channels (invariant_of invariant.now)) }
 {
-    section.constants.words_law();
+    let table = section.types.types().constants();
     let names = names_read(alloc, &invariant.term)?;
     let shapes = reading_shapes(alloc, section.programs, section.channels, names.as_slice())?;
     let readings = Readings::new(alloc, names, shapes)?;
-    let term = truth_term(alloc, &readings, section.constants, &invariant.term)?;
+    let term = truth_term(alloc, &readings, table, &invariant.term)?;
     let name = invariant.name.try_copy(alloc)?;
-    let constants = Arc::try_clone(section.names)?;
+    let constants = Arc::try_clone(section.types.names())?;
     let readings = readings.into_names(alloc)?;
     Ok(CheckedInvariant::new(name, constants, readings, term))
 }

@@ -7,11 +7,13 @@
 //! **Laws**: `declarations_law`, `text_types_law`, `types_law`.
 #![tactic(auto)]
 
+mod all_types;
 mod height;
 mod laws;
 mod text_types;
 mod types;
 
+pub use all_types::AllTypes;
 pub use height::{SHAPE_LIMIT, ShapeWithHeight};
 pub use laws::{declarations_law, text_types_law, types_law};
 pub use text_types::TextTypes;

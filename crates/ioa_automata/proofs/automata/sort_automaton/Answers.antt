@@ -8,4 +8,4 @@ use Rattle.ioa_automata.proofs.automata.sort_automaton.Goals as goal
 pub new-requires : goal.new-requires
 new-requires c =
     rw (c.into_names.ensures, c.in_ok-own.ensures, c.as_slice.ensures.value, c.deref-3.ensures, c.deref-2.ensures, c.into_inner-heading.ensures, c.into_inner-body.ensures)
-    (automaton_ready c.args.types.now c.in_ok-heading.ensures.declared (automaton_of c.args.automaton.now) (heading_of c.in_ok-heading.heading.value) c.in_ok-name.name (arc_value c.in_ok-constants.constants) c.in_ok-body.body.value.rules (schedule_of c.in_ok-body.body.value.schedule) (search rules) (search rules))
+    (automaton_ready c.types-declared.result.now c.in_ok-heading.ensures.declared (automaton_of c.args.automaton.now) (heading_of c.in_ok-heading.heading.value) c.in_ok-name.name (arc_value c.in_ok-constants.constants) c.in_ok-body.body.value.rules (schedule_of c.in_ok-body.body.value.schedule) (search rules) (search rules))

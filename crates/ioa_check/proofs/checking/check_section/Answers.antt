@@ -1,12 +1,28 @@
-use Rattle.std.proofs.Common.{◌≡◌, sym, subst, rules}
+use Rattle.std.proofs.Common.{length, map, subst, sym}
 use Rattle.std.specs.Arc.{arc_value}
-use Rattle.ioa_terms.specs.Sorted.{NameShapes}
-use Rattle.ioa_names.specs.Views.{AreWords}
-use Rattle.ioa_check.specs.Grounds.{AreConstantsOf}
+use Rattle.ioa_types.specs.TextTypes.{PlainTextTypes}
+use Rattle.ioa_check.specs.Grounds.{AreGroundedPrograms}
+use Rattle.ioa_check.specs.Sections.{node_at}
+use Rattle.ioa_check.proofs.Grounds.{parts_declared, programs_grounded}
+use Rattle.ioa_check.proofs.SoundNodes.{programs_sound}
 use Rattle.ioa_check.proofs.checking.check_section.Goals as goal
 
-pub check_placements-requires-clause-named : goal.check_placements-requires-clause-named
-check_placements-requires-clause-named c =
-    let seen : c.in_ok-view.view ≡ c.args.declared.now.types.constants = search rules in
-    let words : AreWords c.args.declared.now.types.constants = search rules in
-    subst (λ (ns : NameShapes). AreConstantsOf ns (arc_value c.constants.result.now)) (sym seen) (record { named = c.constants.ensures; all_words = words })
+-- the automata of the programs have declared shapes
+pub invariant_of-ground : goal.invariant_of-ground
+invariant_of-ground c =
+    let names = c.args.declared.now.types.constants in
+    let automata = c.args.declared.now.automata in
+    let nodes = map node_at c.deref.result.now in
+    let programs = map arc_value c.in_ok-programs.programs.items in
+    let sound = programs_sound names automata nodes c.grounded_law.ensures (length nodes) 0 programs c.in_ok-programs.ensures in
+    subst (λ (t : PlainTextTypes). AreGroundedPrograms t.constants programs) (sym c.types.ensures) (programs_grounded names automata nodes c.grounded_law.ensures 0 programs sound.0)
+
+-- and so have the programs
+pub returns-clause-declared : goal.returns-clause-declared
+returns-clause-declared c =
+    let names = c.args.declared.now.types.constants in
+    let automata = c.args.declared.now.automata in
+    let nodes = map node_at c.deref.result.now in
+    let programs = map arc_value c.in_ok-programs.programs.items in
+    let sound = programs_sound names automata nodes c.grounded_law.ensures (length nodes) 0 programs c.in_ok-programs.ensures in
+    parts_declared names programs (programs_grounded names automata nodes c.grounded_law.ensures 0 programs sound.0)

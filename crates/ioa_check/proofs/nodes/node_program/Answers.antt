@@ -1,11 +1,19 @@
-use Rattle.std.proofs.Common.{sym, map}
+use Rattle.std.proofs.Common.{◌≡◌, Some, rules, sym, subst}
 use Rattle.std.specs.Arc.{arc_value}
 use Rattle.ioa_terms.specs.Bindings.{same_word}
 use Rattle.ioa_source.specs.TextView.{node_of}
 use Rattle.ioa_system.specs.Parts.{AutomatonParts}
+use Rattle.ioa_types.specs.TextTypes.{PlainTextTypes}
+use Rattle.ioa_check.specs.Grounds.{HaveDeclaredShapes}
+use Rattle.ioa_check.specs.Nodes.{automaton_named, parameter_shapes}
 use Rattle.ioa_check.proofs.Grounds.{one_grounded, parameters_grounded}
 use Rattle.ioa_check.proofs.nodes.node_program.Goals as goal
 
-pub program_with-requires-clause-declared : goal.program_with-requires-clause-declared
-program_with-requires-clause-declared c =
-    parameters_grounded c.args.ground.now.view.now (arc_value c.in-Some.automaton.now) (one_grounded c.args.ground.now.view.now (map arc_value c.args.ground.now.automata.now.items) c.requires.grounded (λ (a : AutomatonParts). same_word a.name (node_of c.args.node.now).automaton) (arc_value c.in-Some.automaton.now) (sym c.in-Some.ensures))
+pub program_with-requires : goal.program_with-requires
+program_with-requires c =
+    let names = c.args.declared.now.types.constants in
+    let automata = c.args.declared.now.automata in
+    let automaton = arc_value c.in-Some.automaton.now in
+    let found : automaton_named (node_of c.args.node.now).automaton automata ≡ Some automaton = search rules in
+    subst (λ (t : PlainTextTypes). HaveDeclaredShapes t.constants (parameter_shapes automaton)) (sym c.types.ensures)
+    (parameters_grounded names automaton (one_grounded names automata c.automata.ensures.grounded (λ (a : AutomatonParts). same_word a.name (node_of c.args.node.now).automaton) automaton found))

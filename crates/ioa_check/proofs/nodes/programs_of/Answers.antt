@@ -8,14 +8,10 @@ use Rattle.ioa_check.proofs.nodes.programs_of.Goals as goal
 
 pub returns-in-Err : goal.returns-in-Err
 returns-in-Err c =
-    programs_stop c.args.ground.now.view.now (map arc_value c.args.ground.now.automata.now.items) (map node_at c.args.nodes.now) (length c.args.nodes.now) c.loop-position.position (map arc_value c.loop-position.programs.items) c.in-Err.refusal (omega arith) c.loop-position.invariant.all c.in-Err.ensures
+    programs_stop c.args.declared.now.types.constants c.args.declared.now.automata (map node_at c.args.nodes.now) (length c.args.nodes.now) c.loop-position.position (map arc_value c.loop-position.programs.items) c.in-Err.refusal (omega arith) c.loop-position.invariant c.in-Err.ensures
 
 pub loop-position-preserved : goal.loop-position-preserved
 loop-position-preserved c =
     let ps = c.loop-position.programs.items in
-    record {
-      named = c.loop-position.invariant.named;
-      grounded = c.loop-position.invariant.grounded;
-      all = rw (c.in_ok-push-in-Ok.ensures.items, map-append (arc_value {X = Program} {Z = Global}) ps (c.in-Ok.program ∷ []))
-          (c.loop-position.invariant.all ∙ programs_more c.args.ground.now.view.now (map arc_value c.args.ground.now.automata.now.items) (map node_at c.args.nodes.now) (length c.args.nodes.now) c.loop-position.position (map arc_value ps) (arc_value c.in-Ok.program) (omega arith) c.in-Ok.ensures);
-    }
+    rw (c.in_ok-push-in-Ok.ensures.items, map-append (arc_value {X = Program} {Z = Global}) ps (c.in-Ok.program ∷ []))
+    (c.loop-position.invariant ∙ programs_more c.args.declared.now.types.constants c.args.declared.now.automata (map node_at c.args.nodes.now) (length c.args.nodes.now) c.loop-position.position (map arc_value ps) (arc_value c.in-Ok.program) (omega arith) c.in-Ok.ensures)

@@ -11,12 +11,13 @@ use Rattle.ioa_check.proofs.SoundChannels.{program_found}
 use Rattle.ioa_check.proofs.scripts.script_at.Goals as goal
 
 -- the automaton of the program that is found has declared shapes
-pub stimuli_of-requires-clause-grounded : goal.stimuli_of-requires-clause-grounded
-stimuli_of-requires-clause-grounded c =
-    let programs = map arc_value c.args.programs.now.items in
+pub stimuli_of-requires : goal.stimuli_of-requires
+stimuli_of-requires c =
+    let names = c.ground.inside.types.now.constants in
+    let programs = map arc_value c.ground.inside.programs.now.items in
     let program = arc_value c.in_ok-program.program.now in
     let made : program_or (program_numbered c.args.number programs) ≡ result_is program = search rules in
     let found = program_found (program_numbered c.args.number programs) program made in
-    let grounded = program_grounded c.args.ground.now.view.now programs c.requires.grounded (λ (p : Parts). int_eq p.node c.args.number) program found in
+    let grounded = program_grounded names programs c.ground.invariant (λ (p : Parts). int_eq p.node c.args.number) program found in
     let same : c.automaton.result.now ≡ program.automaton = search rules in
-    subst (IsGrounded c.args.ground.now.view.now) (sym same) grounded
+    subst (IsGrounded names) (sym same) grounded

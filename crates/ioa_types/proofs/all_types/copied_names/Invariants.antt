@@ -1,5 +1,5 @@
 use Rattle.std.proofs.Common.{◌≡◌, ◌++◌, drop}
-use Rattle.ioa_check.proofs.declarations.names_of.Given as goal
+use Rattle.ioa_types.proofs.all_types.copied_names.Given as goal
 
 -- the names so far, and then those that are left
 abbrev pub invariant-loop-word : goal.invariant-loop-word
