@@ -89,7 +89,7 @@ fn is_node(nodes: &[&Node<(), (), ()>], number: i64) -> bool
 }
 
 /// The node that has a number.
-fn node_of_number<'a>(nodes: &[&'a Node<(), (), ()>], number: i64) -> Option<&'a Node<(), (), ()>>
+fn node_numbered<'a>(nodes: &[&'a Node<(), (), ()>], number: i64) -> Option<&'a Node<(), (), ()>>
     ensures { option_map node_at result ≡ find (spec.has_number number) (map node_at nodes.now) }
 {
     for node in nodes {
@@ -101,7 +101,7 @@ fn node_of_number<'a>(nodes: &[&'a Node<(), (), ()>], number: i64) -> Option<&'a
 }
 
 /// The automaton that has a name.
-fn automaton_of_name<'a>(
+fn automaton_named<'a>(
     automata: &'a Vec<Arc<CheckedAutomaton>>,
     name: &Word,
 ) -> Option<&'a Arc<CheckedAutomaton>>
@@ -344,7 +344,7 @@ fn node_program(
     ensures { Answers Refusal.Memory (λ p. p) result (spec.node_program declared.now.types.constants
         declared.now.automata number (node_of node.now)) }
 {
-    match automaton_of_name(declared.automata(), &node.automaton) {
+    match automaton_named(declared.automata(), &node.automaton) {
         None => Err(Refusal::Unknown),
         Some(automaton) => {
             program_with(alloc, declared.types(), number, &node.arguments, automaton)
@@ -363,7 +363,7 @@ fn program_at(
     ensures { Answers Refusal.Memory (λ p. p) result (spec.program_at declared.now.types.constants
         declared.now.automata number (find (spec.has_number number) (map node_at nodes.now))) }
 {
-    match node_of_number(nodes, number) {
+    match node_numbered(nodes, number) {
         None => Err(Refusal::NodeGap),
         Some(node) => node_program(alloc, declared, number, node),
     }

@@ -1,7 +1,7 @@
 use Rattle.std.proofs.Common.{◌≡◌, map, drop}
 use Rattle.std.specs.Arc.{arc_value}
 use Rattle.ioa_check.specs.Nodes.{automaton_named}
-use Rattle.ioa_check.proofs.nodes.automaton_of_name.Given as goal
+use Rattle.ioa_check.proofs.nodes.automaton_named.Given as goal
 
 -- no automaton so far has the name
 abbrev pub invariant-loop-automaton : goal.invariant-loop-automaton

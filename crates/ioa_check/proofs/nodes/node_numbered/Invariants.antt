@@ -2,7 +2,7 @@ use Rattle.std.proofs.Common.{◌≡◌, map, drop}
 use Rattle.std.specs.Prelude.{find}
 use Rattle.ioa_check.specs.Sections.{node_at}
 use Rattle.ioa_check.specs.Nodes.{has_number}
-use Rattle.ioa_check.proofs.nodes.node_of_number.Given as goal
+use Rattle.ioa_check.proofs.nodes.node_numbered.Given as goal
 
 -- no node so far has the number
 abbrev pub invariant-loop-node : goal.invariant-loop-node
