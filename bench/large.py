@@ -9,6 +9,7 @@
     bench/large.py many          2,500 entries with their transitions, 5,000 state variables, and 5,000 fires
     bench/large.py readings      an invariant that reads 60,000 state variables, of 64 nodes
     bench/large.py invariants    5,000 invariants, which read variables and a queue
+    bench/large.py scripts       50,000 scripts, of which one is of a node that is there: the text is refused
 
 An argument behind the kind divides the size, so that the growth can be seen: `bench/large.py variables 2`.
 """
@@ -108,9 +109,16 @@ def invariants(part):
     return lines
 
 
+def scripts(part):
+    lines = ["automaton A", "  signature input hit", "  states n: Int := 0", "  transitions input hit eff n := n + 1"]
+    lines += ["system", "  node 0: A"]
+    lines += [f"  script {k}: hit" for k in range(50_000 // part)]
+    return lines
+
+
 def main():
     kind, part = sys.argv[1], int(sys.argv[2]) if len(sys.argv) > 2 else 1
-    kinds = [variables, tuples, display, nodes, entries, many, readings, invariants]
+    kinds = [variables, tuples, display, nodes, entries, many, readings, invariants, scripts]
     print("\n".join({made.__name__: made for made in kinds}[kind](part)))
 
 

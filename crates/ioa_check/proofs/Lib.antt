@@ -5,6 +5,7 @@ pub mod DeclaredAutomata
 pub mod Results
 pub mod Apart
 pub mod Tests
+pub mod SeenScripts
 pub mod Grounds
 pub mod SoundDeclarations
 pub mod SoundNodes

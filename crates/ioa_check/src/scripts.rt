@@ -1,6 +1,6 @@
 //! The scripts of nodes.
 
-ghost use Rattle.std.specs.Prelude.{◌≡◌, [], IfOk, map};
+ghost use Rattle.std.specs.Prelude.{◌≡◌, ◌++◌, ◌∷◌, [], IfOk, map, not, true};
 ghost use Rattle.std.specs.List.{list_any};
 ghost use Rattle.std.specs.Ordering.{int_eq};
 ghost use Rattle.std.specs.Option.{option_copied};
@@ -16,6 +16,7 @@ ghost use Rattle.ioa_check.specs.Sections.{script_behind, scripts_in};
 use crate::channels::program_or;
 use crate::ground::Ground;
 use crate::nodes::given_values;
+use indexmap::IndexSet;
 use ioa_actions::{NodeAction, RECEIVE, SEND};
 use ioa_refusals::Refusal;
 use ioa_source::{Call, Placement, ScriptDeclaration};
@@ -34,7 +35,7 @@ fn declared_scripts<'a>(
         (spec.scripts_or (scripts_in (map placement_of placements.now.items))) }
 {
     let scripts = all_scripts(alloc, placements)?;
-    if !are_of_different_nodes(&scripts) {
+    if !are_of_different_nodes(alloc, &scripts)? {
         return Err(Refusal::Twice);
     }
     Ok(scripts)
@@ -56,24 +57,29 @@ fn all_scripts<'a>(
     Ok(scripts)
 }
 
-/// Whether no two scripts are of one node.
-fn are_of_different_nodes(scripts: &[&ScriptDeclaration<(), (), ()>]) -> bool
-    ensures { result ≡ differ_from spec.same_node [] (map script_behind scripts.now) }
+/// Whether no two scripts are of one node. The numbers of the nodes go into a set, so the time grows as the scripts do.
+fn are_of_different_nodes(
+    alloc: Global,
+    scripts: &[&ScriptDeclaration<(), (), ()>],
+) -> Result<bool, AllocError>
+    ensures { IfOk result (λ b. b ≡ differ_from spec.same_node [] (map script_behind scripts.now)) }
 {
-    for position in 0..scripts.len() {
-        let script = scripts[position];
-        if has_script(&scripts[..position], script.node) {
-            return false;
+    let mut numbers = IndexSet::new(alloc);
+    for script in scripts {
+        if !insert_number(&mut numbers, script.node)? {
+            return Ok(false);
         }
     }
-    true
+    Ok(true)
 }
 
-/// Whether one of these scripts is that of the node of a number.
-fn has_script(scripts: &[&ScriptDeclaration<(), (), ()>], number: i64) -> bool
-    ensures { result ≡ list_any (λ s. int_eq s.node number) (map script_behind scripts.now) }
+/// Puts a number behind others, and returns whether it is new.
+fn insert_number(numbers: &mut IndexSet<i64>, number: i64) -> Result<bool, AllocError>
+    ensures new { IfOk result (λ b. b ≡ not (list_any (int_eq number) numbers.old.keys)) }
+    ensures behind { IfOk result (λ b. b ≡ true → numbers.new.keys ≡ numbers.old.keys ++ number ∷ []) }
 {
-    scripts.iter().any(|script| script.node == number)
+    let (_, is_new) = numbers.insert_full(number)?;
+    Ok(is_new)
 }
 
 /// The rule, if it is there and its actions are inputs. Else `Unknown` (20).
