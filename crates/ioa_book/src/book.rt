@@ -6,7 +6,7 @@ ghost use Rattle.ioa_actions.specs.declared.component.Component.{Component};
 ghost use Rattle.ioa_compose.specs.Start.{start};
 ghost use Rattle.ioa_commits.specs.Books.{held_of, plain_book, states_held};
 ghost use Rattle.ioa_commits.specs.Commits as commits;
-ghost use Rattle.ioa_commits.specs.Proposals.{reads_of};
+ghost use Rattle.ioa_commits.specs.Proposals.{participants_read};
 ghost use Rattle.ioa_commits.specs.Versions.{read_confs};
 ghost use Rattle.ioa_book.specs.BookLaws.{IsLawful};
 ghost use Rattle.ioa_book.specs.Looks as spec;
@@ -164,7 +164,7 @@ impl<O: Origin> Book<O> {
         spare: Spare<Entry>,
     ) -> (Result<Committed<O>, Refused<O>>, Option<Spare<Entry>>)
         ensures committed { IfOk result.0 (λ c. commits.IsCommitted self.old proposal c.index c.entry self.new) }
-        ensures reads { IfOk result.0 (λ c. reads_of c.queue c.node ≡ proposal.reads) }
+        ensures reads { IfOk result.0 (λ c. participants_read c.queue c.node ≡ proposal.reads) }
         ensures refused { IfErr result.0 (λ r. commits.IsRefused self.old proposal r.refusal r.proposal self.new) }
         ensures linked { IfOk result.0 (λ _.
             result.1 ≡ (if nat_eq (length self.old.log % 64) 0 then None else Some spare)) }

@@ -13,11 +13,13 @@ mod outcome;
 mod proposing;
 mod reading;
 mod reads;
+mod rooms;
 mod snapshot;
 
 pub use book::Book;
-pub use ioa_commits::{CommitRefusal, Committed, Proposal, Refused, VersionedConf};
+pub use ioa_commits::{CommitRefusal, Committed, Participant, Proposal, Refused, VersionedConf};
 pub use laws::{fresh_look_law, stands_law};
 pub use outcome::LookFault;
 pub use reads::Reads;
+pub use rooms::Rooms;
 pub use snapshot::Snapshot;

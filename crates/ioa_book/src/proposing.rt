@@ -1,6 +1,6 @@
 //! Proposals of an action on what was read of its participants.
 
-ghost use Rattle.std.specs.Prelude.{◌≡◌, [], ◌∷◌, IfOk, Some, Ok};
+ghost use Rattle.std.specs.Prelude.{◌≡◌, [], ◌∷◌, IfOk, OnOk, Some, Ok};
 ghost use Rattle.std.specs.Arc.{arc_value};
 ghost use Rattle.ioa_values.specs.Outcome.{Answers, and_then};
 ghost use Rattle.ioa_transitions.specs.Entries.{entry_of};
@@ -9,8 +9,9 @@ ghost use Rattle.ioa_compose.specs.Participants.{participants_of};
 ghost use Rattle.ioa_commits.specs.Proposals.{plain_proposal};
 ghost use Rattle.ioa_commits.specs.Versions.{read_component};
 
+use crate::rooms::Rooms;
 use ioa_actions::{Action, StepFault};
-use ioa_commits::{Participant, Proposal, VersionedConf};
+use ioa_commits::{Participant, Parts, Proposal, VersionedConf};
 use ioa_compose::Conf;
 use ioa_sharing::Origin;
 use ioa_transitions::Entry;
@@ -23,13 +24,14 @@ pub(crate) fn proposal_of_one<O: Origin>(
     action: &Arc<Action>,
     length: usize,
     node: &VersionedConf<O>,
+    rooms: &mut Rooms<O>,
 ) -> Result<Proposal<O>, StepFault>
     requires { participants_of (arc_value action.now) ≡ read_component node.now ∷ [] }
     ensures { Answers StepFault.Memory (λ p. p) result
         (and_then (picks_of (arc_value action.now) (Some node.now.conf ∷ []))
         (λ t. Ok (plain_proposal t.0 length (node.now ∷ [])))) }
 {
-    let node = participant(alloc, action, node)?;
+    let node = participant(alloc, action, node, &mut rooms.node)?;
     let entry = shared_entry(action)?;
     let again = entry.try_clone()?;
     Ok(Proposal::new(entry, again, length, None, node))
@@ -43,21 +45,75 @@ pub(crate) fn proposal_of_two<O: Origin>(
     length: usize,
     queue: &VersionedConf<O>,
     node: &VersionedConf<O>,
+    rooms: &mut Rooms<O>,
 ) -> Result<Proposal<O>, StepFault>
     requires { participants_of (arc_value action.now) ≡ read_component queue.now ∷ read_component node.now ∷ [] }
     ensures { Answers StepFault.Memory (λ p. p) result
         (and_then (picks_of (arc_value action.now) (Some queue.now.conf ∷ Some node.now.conf ∷ []))
         (λ t. Ok (plain_proposal t.0 length (queue.now ∷ node.now ∷ [])))) }
 {
-    let queue = participant(alloc, action, queue)?;
-    let node = participant(alloc, action, node)?;
+    let queue = participant(alloc, action, queue, &mut rooms.queue)?;
+    let node = participant(alloc, action, node, &mut rooms.node)?;
     let entry = shared_entry(action)?;
     let again = entry.try_clone()?;
     Ok(Proposal::new(entry, again, length, Some(queue), node))
 }
 
-/// A participant that was read so, with its configuration after its own step by an action, or the step's fault.
+/// A participant that was read so, with its configuration after its own step by an action, or the step's fault. If there
+/// is room, it is made there.
 fn participant<O: Origin>(
+    alloc: Global,
+    action: &Action,
+    read: &VersionedConf<O>,
+    room: &mut Option<Participant<O>>,
+) -> Result<Participant<O>, StepFault>
+    ensures step { Answers StepFault.Memory (λ p. p.next) result (conf_answer (entry_of action.now) read.now.conf) }
+    ensures read { IfOk result (λ p. p.read ≡ read.now) }
+{
+    match room.take() {
+        Some(kept) => participant_in(alloc, action, read, kept, room),
+        None => participant_anew(alloc, action, read),
+    }
+}
+
+/// The same in this room, which comes back after a fault.
+fn participant_in<O: Origin>(
+    alloc: Global,
+    action: &Action,
+    read: &VersionedConf<O>,
+    mut kept: Participant<O>,
+    room: &mut Option<Participant<O>>,
+) -> Result<Participant<O>, StepFault>
+    ensures step { Answers StepFault.Memory (λ p. p.next) result (conf_answer (entry_of action.now) read.now.conf) }
+    ensures read { IfOk result (λ p. p.read ≡ read.now) }
+{
+    match write_over(alloc, action, read, &mut kept.parts) {
+        Ok(()) => Ok(kept),
+        Err(fault) => {
+            *room = Some(kept);
+            Err(fault)
+        }
+    }
+}
+
+/// The same, written over the parts of another participant. What was read comes first: it may be the other owner of the
+/// configuration that is written over then.
+fn write_over<O: Origin>(
+    alloc: Global,
+    action: &Action,
+    read: &VersionedConf<O>,
+    parts: &mut Parts<O>,
+) -> Result<(), StepFault>
+    ensures step { Answers StepFault.Memory (λ _. arc_value parts.new.next) result
+        (conf_answer (entry_of action.now) read.now.conf) }
+    ensures read { OnOk result (parts.new.read ≡ read.now) }
+{
+    parts.read.refresh(read)?;
+    step_over(alloc, action, read.conf(), &mut parts.next)
+}
+
+/// The same, where there is no room.
+fn participant_anew<O: Origin>(
     alloc: Global,
     action: &Action,
     read: &VersionedConf<O>,
@@ -67,7 +123,25 @@ fn participant<O: Origin>(
 {
     let next = step_of(alloc, action, read.conf())?;
     let read = read.try_copy()?;
-    Ok(Participant { read, next })
+    Ok(Participant::new(alloc, read, next)?)
+}
+
+/// The own step of a configuration by an action, or its fault, written over another one if nobody else owns that.
+fn step_over(
+    alloc: Global,
+    action: &Action,
+    conf: &Conf,
+    next: &mut Arc<Conf>,
+) -> Result<(), StepFault>
+    ensures { Answers StepFault.Memory (λ _. arc_value next.new) result (conf_answer (entry_of action.now) conf.now) }
+{
+    match Arc::get_mut(next) {
+        Some(place) => conf.step_over(alloc, action, place),
+        None => {
+            *next = step_of(alloc, action, conf)?;
+            Ok(())
+        }
+    }
 }
 
 /// The own step of a configuration by an action, or its fault.

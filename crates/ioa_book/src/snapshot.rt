@@ -15,6 +15,7 @@ ghost use Rattle.ioa_book.specs.Slots.{items_at};
 use crate::proposing::{proposal_of_one, proposal_of_two};
 use crate::reading::{ROOM, read_again, read_in_place};
 use crate::reads::Reads;
+use crate::rooms::Rooms;
 use ioa_actions::{Action, Component, StepFault};
 use ioa_commits::{Proposal, VersionedConf};
 use ioa_compose::{Parties, participants};
@@ -134,20 +135,39 @@ impl<O: Origin> Snapshot<O> {
     pub fn propose(&self, alloc: Global, action: &Arc<Action>) -> Result<Proposal<O>, StepFault>
         ensures { Answers StepFault.Memory (λ p. p) result (spec.proposal_answer (arc_value action.now) self.now) }
     {
+        let mut rooms = Rooms::none();
+        self.propose_in(alloc, action, &mut rooms)
+    }
+
+    /// The same proposal, with room for it: where nobody else owns what is there, the new configurations are written over
+    /// that.
+    pub fn propose_in(
+        &self,
+        alloc: Global,
+        action: &Arc<Action>,
+        rooms: &mut Rooms<O>,
+    ) -> Result<Proposal<O>, StepFault>
+        ensures { Answers StepFault.Memory (λ p. p) result (spec.proposal_answer (arc_value action.now) self.now) }
+    {
         if is_own(action, self.node) {
-            self.propose_step(alloc, action)
+            self.propose_step(alloc, action, rooms)
         } else {
             Err(StepFault::NotMine)
         }
     }
 
     /// A proposal to take an action of the node that was looked at.
-    fn propose_step(&self, alloc: Global, action: &Arc<Action>) -> Result<Proposal<O>, StepFault>
+    fn propose_step(
+        &self,
+        alloc: Global,
+        action: &Arc<Action>,
+        rooms: &mut Rooms<O>,
+    ) -> Result<Proposal<O>, StepFault>
         ensures { Answers StepFault.Memory (λ p. p) result (spec.step_answer (arc_value action.now) self.now) }
     {
         match participants(action) {
-            Parties::One(node) => self.propose_alone(alloc, action, node),
-            Parties::Two(queue, node) => self.propose_with(alloc, action, queue, node),
+            Parties::One(node) => self.propose_alone(alloc, action, node, rooms),
+            Parties::Two(queue, node) => self.propose_with(alloc, action, queue, node, rooms),
         }
     }
 
@@ -157,12 +177,13 @@ impl<O: Origin> Snapshot<O> {
         alloc: Global,
         action: &Arc<Action>,
         node: Component,
+        rooms: &mut Rooms<O>,
     ) -> Result<Proposal<O>, StepFault>
         requires { participants_of (arc_value action.now) ≡ node ∷ [] }
         ensures { Answers StepFault.Memory (λ p. p) result (spec.step_answer (arc_value action.now) self.now) }
     {
         match self.read_of(node) {
-            Some(node) => proposal_of_one(alloc, action, self.length(), node),
+            Some(node) => proposal_of_one(alloc, action, self.length(), node, rooms),
             None => Err(StepFault::NoChannel),
         }
     }
@@ -174,12 +195,13 @@ impl<O: Origin> Snapshot<O> {
         action: &Arc<Action>,
         queue: Component,
         node: Component,
+        rooms: &mut Rooms<O>,
     ) -> Result<Proposal<O>, StepFault>
         requires { participants_of (arc_value action.now) ≡ queue ∷ node ∷ [] }
         ensures { Answers StepFault.Memory (λ p. p) result (spec.step_answer (arc_value action.now) self.now) }
     {
         match self.read_of(queue) {
-            Some(queue) => self.propose_beside(alloc, action, queue, node),
+            Some(queue) => self.propose_beside(alloc, action, queue, node, rooms),
             None => Err(StepFault::NoChannel),
         }
     }
@@ -191,13 +213,14 @@ impl<O: Origin> Snapshot<O> {
         action: &Arc<Action>,
         queue: &VersionedConf<O>,
         node: Component,
+        rooms: &mut Rooms<O>,
     ) -> Result<Proposal<O>, StepFault>
         requires parts { participants_of (arc_value action.now) ≡ read_component queue.now ∷ node ∷ [] }
         requires found { Some queue.now ≡ spec.find_read (read_component queue.now) self.now.reads }
         ensures { Answers StepFault.Memory (λ p. p) result (spec.step_answer (arc_value action.now) self.now) }
     {
         match self.read_of(node) {
-            Some(node) => proposal_of_two(alloc, action, self.length(), queue, node),
+            Some(node) => proposal_of_two(alloc, action, self.length(), queue, node, rooms),
             None => Err(StepFault::NoChannel),
         }
     }

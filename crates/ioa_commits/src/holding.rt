@@ -7,11 +7,11 @@ ghost use Rattle.std.specs.Option.{option_copied};
 ghost use Rattle.ioa_actions.specs.ComponentOrder.{same_component};
 ghost use Rattle.ioa_compose.specs.Composition.{component_names};
 ghost use Rattle.ioa_compose.specs.Participants.{participant_list, participants_of, takes_part};
-ghost use Rattle.ioa_commits.specs.Proposals.{participants_next, participants_read, reads_of};
+ghost use Rattle.ioa_commits.specs.Proposals.{participants_next, participants_read};
 ghost use Rattle.ioa_commits.specs.Slots as spec;
 ghost use Rattle.ioa_commits.specs.Versions.{read_component, with_version};
 
-use crate::proposal::Participant;
+use crate::proposal::{Participant, Parts};
 use crate::versioned::VersionedConf;
 use ioa_actions::{Action, Component};
 use ioa_compose::{Conf, Parties, participants};
@@ -120,17 +120,17 @@ fn is_party(component: Component, _action: &Action, parties: Parties) -> bool
     is_among(component, parties)
 }
 
-/// Replaces the configurations of the participants. What was read of them comes back.
+/// Replaces the configurations of the participants. They come back with what was read of them, and with what was held.
 pub(crate) fn put_all<O: Origin>(
     held: &mut Vec<VersionedConf<O>>,
     index: &Index,
     maker: &mut MakerOf<O>,
     queue: Option<Participant<O>>,
     node: Participant<O>,
-) -> (Option<VersionedConf<O>>, VersionedConf<O>)
+) -> (Option<Participant<O>>, Participant<O>)
     requires { index.now ≡ map read_component held.old.items }
     ensures put { held.new.items ≡ spec.put_all_held (participants_next queue node) held.old.items }
-    ensures reads { reads_of result.0 result.1 ≡ participants_read queue node }
+    ensures reads { participants_read result.0 result.1 ≡ participants_read queue node }
 {
     match queue {
         None => (None, put(held, index, maker, node)),
@@ -141,36 +141,53 @@ pub(crate) fn put_all<O: Origin>(
     }
 }
 
-/// Replaces the configuration of a participant; its version stays as it is. What was read of it comes back.
+/// Replaces the configuration of a participant; its version stays as it is. The participant comes back with what was
+/// read of it, and with what was held.
 fn put<O: Origin>(
     held: &mut Vec<VersionedConf<O>>,
     index: &Index,
     maker: &mut MakerOf<O>,
-    participant: Participant<O>,
-) -> VersionedConf<O>
+    mut participant: Participant<O>,
+) -> Participant<O>
     requires { index.now ≡ map read_component held.old.items }
     ensures put { held.new.items ≡ spec.put_held participant.next held.old.items }
     ensures components { map read_component held.new.items ≡ map read_component held.old.items }
-    ensures read { result ≡ participant.read }
+    ensures read { result.read ≡ participant.read }
 {
-    let Participant { read, next } = participant;
-    put_conf(held, index, maker, next, read.slot());
-    read
+    put_parts(held, index, maker, &mut participant.parts);
+    participant
 }
 
-/// Replaces the configuration of a component, which is mostly held in the slot `near`; its version stays as it is.
+/// The same with the parts of a participant.
+fn put_parts<O: Origin>(
+    held: &mut Vec<VersionedConf<O>>,
+    index: &Index,
+    maker: &mut MakerOf<O>,
+    parts: &mut Parts<O>,
+)
+    requires { index.now ≡ map read_component held.old.items }
+    ensures put { held.new.items ≡ spec.put_held (arc_value parts.old.next) held.old.items }
+    ensures components { map read_component held.new.items ≡ map read_component held.old.items }
+    ensures read { parts.new.read ≡ parts.old.read }
+{
+    let near = parts.read.slot();
+    put_conf(held, index, maker, &mut parts.next, near);
+}
+
+/// Replaces the configuration of a component, which is mostly held in the slot `near`; its version stays as it is. What
+/// was held comes out.
 fn put_conf<O: Origin>(
     held: &mut Vec<VersionedConf<O>>,
     index: &Index,
     maker: &mut MakerOf<O>,
-    conf: Arc<Conf>,
+    conf: &mut Arc<Conf>,
     near: usize,
 )
     requires { index.now ≡ map read_component held.old.items }
-    ensures put { held.new.items ≡ spec.put_held (arc_value conf) held.old.items }
+    ensures put { held.new.items ≡ spec.put_held (arc_value conf.old) held.old.items }
     ensures components { map read_component held.new.items ≡ map read_component held.old.items }
 {
     if let Some(slot) = index.slot_near(conf.component(), near) {
-        held[slot].put(maker.share(conf));
+        held[slot].exchange(maker, conf);
     }
 }

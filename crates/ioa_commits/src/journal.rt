@@ -7,7 +7,7 @@ ghost use Rattle.ioa_compose.specs.Composition.{component_names};
 ghost use Rattle.ioa_compose.specs.Executions.{replay};
 ghost use Rattle.ioa_commits.specs.Books.{held_of, plain_book, states_held};
 ghost use Rattle.ioa_commits.specs.Commits as commits;
-ghost use Rattle.ioa_commits.specs.Proposals.{reads_of};
+ghost use Rattle.ioa_commits.specs.Proposals.{participants_read, reads_of};
 ghost use Rattle.ioa_commits.specs.Versions.{read_component, with_version};
 
 use crate::holding::{at_slot, components_of, first_versions, put_all, raise_at};
@@ -252,7 +252,7 @@ impl<O: Origin> Journal<O> {
         spare: Spare<Entry>,
     ) -> (Result<Committed<O>, Refused<O>>, Option<Spare<Entry>>)
         ensures committed { IfOk result.0 (λ c. commits.IsCommitted self.old proposal c.index c.entry self.new) }
-        ensures reads { IfOk result.0 (λ c. reads_of c.queue c.node ≡ proposal.reads) }
+        ensures reads { IfOk result.0 (λ c. participants_read c.queue c.node ≡ proposal.reads) }
         ensures refused { IfErr result.0 (λ r. commits.IsRefused self.old proposal r.refusal r.proposal self.new) }
         ensures linked { IfOk result.0 (λ _.
             result.1 ≡ (if nat_eq (length self.old.log % 64) 0 then None else Some spare)) }
@@ -275,7 +275,7 @@ impl<O: Origin> Journal<O> {
     ) -> (Committed<O>, Option<Spare<Entry>>)
         requires { commits.refusal_of self.old proposal.reads ≡ None }
         ensures committed { commits.IsCommitted self.old proposal result.0.index result.0.entry self.new }
-        ensures reads { reads_of result.0.queue result.0.node ≡ proposal.reads }
+        ensures reads { participants_read result.0.queue result.0.node ≡ proposal.reads }
         ensures linked { result.1 ≡ (if nat_eq (length self.old.log % 64) 0 then None else Some spare) }
     {
         let Proposal {

@@ -15,6 +15,6 @@ mod versioned;
 
 pub use journal::Journal;
 pub use outcome::{CommitRefusal, Committed, Refused};
-pub use proposal::{Participant, Proposal};
+pub use proposal::{Participant, Parts, Proposal};
 pub use standing::Test;
 pub use versioned::VersionedConf;

@@ -1,7 +1,6 @@
 //! What comes of commits.
 
-use crate::proposal::Proposal;
-use crate::versioned::VersionedConf;
+use crate::proposal::{Participant, Proposal};
 use ioa_actions::Component;
 use ioa_sharing::Origin;
 use ioa_transitions::Entry;
@@ -49,18 +48,17 @@ impl fmt::Display for CommitRefusal {
     }
 }
 
-/// A commit that was made. What was read goes out with it, so that its last owner lets it go outside of a lock. Only if
-/// what was read was equal to what the book held, and not the same, the book's own is freed in the commit.
+/// A commit that was made. What was read and what was held goes out with it, so that nothing is let go in the commit.
 #[derive(Drop)]
 pub struct Committed<O: Origin> {
     /// The index of the entry in the log.
     pub index: usize,
     /// The entry.
     pub entry: Entry,
-    /// What was read of the queue, if one took part.
-    pub queue: Option<VersionedConf<O>>,
-    /// What was read of the node.
-    pub node: VersionedConf<O>,
+    /// What was read of the queue, if one took part, with what was held of it.
+    pub queue: Option<Participant<O>>,
+    /// What was read of the node, with what was held of it.
+    pub node: Participant<O>,
 }
 
 /// A commit that was refused. Nothing is lost: the proposal is handed back.

@@ -1,20 +1,30 @@
 //! Proposals of entries.
 
-ghost use Rattle.std.specs.Prelude.{◌≡◌, Some};
+ghost use Rattle.std.specs.Prelude.{◌≡◌, IfOk, Some};
+ghost use Rattle.std.specs.Arc.{arc_value};
 ghost use Rattle.std.specs.Option.{option_copied};
 ghost use Rattle.ioa_commits.specs.Proposals.{IsTrueProposal, node_read, participants_next, participants_read};
-ghost use Rattle.ioa_commits.specs.Proposals.{plain_proposal, queue_read, reads_of};
+ghost use Rattle.ioa_commits.specs.Proposals.{plain_participant, plain_proposal, queue_read, reads_of};
 
 use crate::versioned::VersionedConf;
 use ioa_compose::Conf;
 use ioa_sharing::Origin;
 use ioa_transitions::Entry;
+use std::alloc::{AllocError, Global};
 use std::marker::Model;
 use std::sync::Arc;
 
-/// What was read of a participant, and its configuration after its own step.
+/// What was read of a participant, and its configuration after its own step. It is one word, so that it is moved at
+/// little cost. A commit leaves in it the configuration that was held, and then it is room for another one.
 #[derive(Drop)]
 pub struct Participant<O: Origin> {
+    /// The two, each of which can be written over.
+    pub parts: Box<Parts<O>>,
+}
+
+/// The parts of a participant.
+#[derive(Drop)]
+pub struct Parts<O: Origin> {
     /// What was read.
     pub read: VersionedConf<O>,
     /// The configuration after the step.
@@ -29,7 +39,24 @@ impl<O: Origin> Model for Participant<O> {
 
     ghost coded = { plain_participant_code };
 
-    ghost view = { λ p. plain_participant p.read (arc_value p.next) };
+    ghost view = { λ p. plain_participant p.parts.value.read (arc_value p.parts.value.next) };
+}
+
+impl<O: Origin> Participant<O> {
+    /// A participant of which this was read, and whose step leads to this configuration.
+    pub fn new(alloc: Global, read: VersionedConf<O>, next: Arc<Conf>) -> Result<Self, AllocError>
+        ensures { IfOk result (λ p. p ≡ plain_participant read (arc_value next)) }
+    {
+        let parts = Box::new(alloc, Parts { read, next })?;
+        Ok(Participant { parts })
+    }
+
+    /// What was read.
+    pub fn read(&self) -> &VersionedConf<O>
+        ensures { result.now ≡ self.now.read }
+    {
+        &self.parts.read
+    }
 }
 
 /// An entry with what was read of its participants, and their new configurations. The type keeps that these are the
@@ -100,7 +127,7 @@ impl<O: Origin> Proposal<O> {
         ensures { option_copied result ≡ queue_read self.now.reads }
     {
         match &self.queue {
-            Some(queue) => Some(&queue.read),
+            Some(queue) => Some(queue.read()),
             None => None,
         }
     }
@@ -110,6 +137,6 @@ impl<O: Origin> Proposal<O> {
         ensures node { Some result.now ≡ node_read self.now.reads }
         ensures reads { reads_of (queue_read self.now.reads) result.now ≡ self.now.reads }
     {
-        &self.node.read
+        self.node.read()
     }
 }

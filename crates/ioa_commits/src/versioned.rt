@@ -2,7 +2,6 @@
 
 ghost use Rattle.std.specs.Prelude.{◌≡◌, [], IfOk, IsTrue, OnOk};
 ghost use Rattle.std.specs.Arc.{arc_value};
-ghost use Rattle.ioa_sharing.specs.Named.{shared_of_value};
 ghost use Rattle.ioa_commits.specs.Slots.{next_version};
 ghost use Rattle.ioa_commits.specs.Versions.{read_component, versioned_conf, with_version};
 
@@ -120,10 +119,10 @@ impl<O: Origin> VersionedConf<O> {
         self.version = self.version.saturating_add(1);
     }
 
-    /// Puts another configuration in place of this one; the version stays as it is.
-    pub(crate) fn put(&mut self, conf: SharedOf<O, Conf, Global>)
-        ensures { self.new ≡ versioned_conf (shared_of_value conf) self.old.version }
+    /// Puts another configuration in place of this one, which comes out; the version stays as it is.
+    pub(crate) fn exchange(&mut self, maker: &mut MakerOf<O>, conf: &mut Arc<Conf>)
+        ensures { self.new ≡ versioned_conf (arc_value conf.old) self.old.version }
     {
-        self.conf = conf;
+        maker.exchange(&mut self.conf, conf);
     }
 }

@@ -73,11 +73,51 @@ impl Conf {
         }
     }
 
+    /// The same step, written over another configuration, whose room is used again where it serves. After a fault that is
+    /// some configuration.
+    #[tactic(auto, unfolding(crate::specs::Composition::conf_answer))]
+    pub fn step_over(
+        &self,
+        alloc: Global,
+        action: &Action,
+        next: &mut Conf,
+    ) -> Result<(), StepFault>
+        ensures { Answers StepFault.Memory (λ _. next.new) result (conf_answer (entry_of action.now) self.now) }
+    {
+        match self {
+            Conf::Node(node) => step_node_over(alloc, node, action, next),
+            Conf::Queue(queue) => {
+                *next = Conf::Queue(queue.step(alloc, action)?);
+                Ok(())
+            }
+        }
+    }
+
     /// The configuration after the component's own step by an entry, which is taken again, or the component's own
     /// fault. It is meant for an entry in which the component takes part, and does not test that.
     pub fn redo(&self, alloc: Global, entry: &Entry) -> Result<Self, StepFault>
         ensures { Answers StepFault.Memory (λ c. c) result (conf_answer entry.now self.now) }
     {
         self.step(alloc, entry.action())
+    }
+}
+
+/// The step of a node, written over another configuration, whose room is used again if it is a node's.
+#[tactic(auto, unfolding(crate::specs::Composition::conf_answer))]
+fn step_node_over(
+    alloc: Global,
+    node: &NodeConf,
+    action: &Action,
+    next: &mut Conf,
+) -> Result<(), StepFault>
+    ensures { Answers StepFault.Memory (λ _. next.new) result
+        (conf_answer (entry_of action.now) (Conf.Node node.now)) }
+{
+    match next {
+        Conf::Node(place) => node.step_over(alloc, action, place),
+        Conf::Queue(_) => {
+            *next = Conf::Node(node.step(alloc, action)?);
+            Ok(())
+        }
     }
 }

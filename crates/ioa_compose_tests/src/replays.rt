@@ -64,7 +64,7 @@ fn two_sends_and_receive(alloc: Global, message: i64) -> Result<Vec<Entry>, Allo
 /// Whether a configuration is one of a node with these numbers in its two variables.
 fn has_numbers(conf: &Conf, first: i64, second: i64) -> bool {
     match conf {
-        Conf::Node(node) => match node.variables().as_slice() {
+        Conf::Node(node) => match node.variables() {
             [x, y] => x.as_number() == Some(first) && y.as_number() == Some(second),
             _ => false,
         },

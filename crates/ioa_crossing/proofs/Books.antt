@@ -35,7 +35,7 @@ use Rattle.ioa_rawlog.proofs.log.RawLog.TheSendSync as log
 use Rattle.ioa_commits.specs.contracts.versioned.VersionedConf as VersionedConf
 use Rattle.ioa_index.specs.contracts.index.Index as Index
 use Rattle.ioa_commits.specs.contracts.journal.Journal as Journal
-use Rattle.ioa_crossing.proofs.Actions.{owners, values_send, values_sync, node_action_send, node_action_sync, action_send, action_sync}
+use Rattle.ioa_crossing.proofs.Actions.{owners, value_send, value_sync, node_action_send, node_action_sync, action_send, action_sync}
 use Rattle.ioa_crossing.proofs.Programs.{program_send, program_sync, system_send, system_sync}
 
 pub queue_send : IsSend (Queue.the_field).row
@@ -51,10 +51,10 @@ pub entry_sync : IsSync (Entry.the_field).row
 entry_sync = search (action_send, action_sync, crosses, sendable) depth 60 fits 20000
 
 pub node_conf_send : IsSend (NodeConf.the_field).row
-node_conf_send = search (program_send, program_sync, values_send, crosses, sendable) depth 60 fits 20000
+node_conf_send = search (program_send, program_sync, value_send, crosses, sendable) depth 60 fits 20000
 
 pub node_conf_sync : IsSync (NodeConf.the_field).row
-node_conf_sync = search (program_send, program_sync, values_sync, crosses, sendable) depth 60 fits 20000
+node_conf_sync = search (program_send, program_sync, value_sync, crosses, sendable) depth 60 fits 20000
 
 pub conf_send : IsSend (Conf.the_field).row
 conf_send = search (node_conf_send, queue_send, sendable) depth 60 fits 20000

@@ -97,7 +97,7 @@ fn put_component<O: Out>(paper: &mut Paper<'_, O>, system: &System, state: &Conf
     match state {
         Conf::Node(node) => {
             let names = system.names();
-            let values = node.variables().as_slice();
+            let values = node.variables();
             let variables = node.program().automaton().variables();
             put_variables(paper, names, node.node(), values, variables)
         }

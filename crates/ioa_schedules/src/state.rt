@@ -1,15 +1,14 @@
 //! What a block comes to as it runs.
 
 ghost use Rattle.std.specs.Prelude.{◌≡◌, IfOk, IsTrue, OnOk};
-ghost use Rattle.ioa_values.specs.Data.{number, truth};
 ghost use Rattle.ioa_schedules.specs.Positions.{IsEndOf};
 ghost use Rattle.ioa_schedules.specs.States.{bottom_in, plain_state, todo_in, values_in};
 ghost use Rattle.ioa_schedules.specs.Turns as spec;
 
 use crate::position::Position;
 use crate::step::is_fire;
+use ioa_copies::copy_values;
 use ioa_terms::Value;
-use ioa_values::{ValueForm, copies};
 use std::alloc::{AllocError, Global};
 
 /// What a block has still to do, and the values of its own variables.
@@ -58,50 +57,4 @@ fn are_same(values: &[Value], others: &[Value]) -> bool
     ensures { IsTrue result → values.now ≡ others.now }
 {
     values == others
-}
-
-/// Makes values what others are. Takes no memory if there are as many.
-fn copy_values(alloc: Global, from: &[Value], to: &mut Vec<Value>) -> Result<(), AllocError>
-    ensures { OnOk result (to.new.items ≡ from.now) }
-{
-    if to.len() == from.len() {
-        for position in 0..from.len() {
-            copy_value(&from[position], &mut to[position])?;
-        }
-        return Ok(());
-    }
-    *to = copies(alloc, from)?;
-    Ok(())
-}
-
-/// Makes a value what another one is.
-fn copy_value(from: &Value, to: &mut Value) -> Result<(), AllocError>
-    ensures { OnOk result (to.new ≡ from.now) }
-{
-    match &from.form {
-        ValueForm::Number(n) => write_number(*n, to),
-        ValueForm::Truth(b) => write_truth(*b, to),
-        _ => *to = from.try_copy()?,
-    }
-    Ok(())
-}
-
-/// Makes a value this number.
-fn write_number(n: i64, to: &mut Value)
-    ensures { to.new ≡ number n }
-{
-    match &mut to.form {
-        ValueForm::Number(old) => *old = n,
-        _ => *to = Value::number(n),
-    }
-}
-
-/// Makes a value this truth value.
-fn write_truth(b: bool, to: &mut Value)
-    ensures { to.new ≡ truth b }
-{
-    match &mut to.form {
-        ValueForm::Truth(old) => *old = b,
-        _ => *to = Value::truth(b),
-    }
 }

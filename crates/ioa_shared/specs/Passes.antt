@@ -91,10 +91,6 @@ abbrev pub raise_all_next : List PlainVersionedConf → List Seen → List Seen
 raise_all_next [] seen = seen
 raise_all_next (r ∷ more) seen = raise_all_next more (raise_next r seen)
 
--- what was read of the queue, if one takes part, and then of the node
-abbrev pub reads_lent : Option PlainVersionedConf → PlainVersionedConf → List PlainVersionedConf
-reads_lent queue node = both_of queue node
-
 -- a pass after a look
 abbrev pub risen_by_look : PlainSnapshot → PlainPass → PlainPass
 risen_by_look s p = plain_pass (raise_all s.reads p.seen) (max p.length s.length)

@@ -10,7 +10,8 @@ ghost use Rattle.ioa_shared.specs.Openings.{BeginsAt};
 ghost use Rattle.ioa_shared.specs.Attempts.{IsMissed, IsTaken, commits, risen_by_refusal};
 ghost use Rattle.ioa_shared.specs.Looks as spec;
 ghost use Rattle.ioa_shared.specs.Looks.{pass_after, view_answer};
-ghost use Rattle.ioa_shared.specs.Passes.{older, reads_lent, risen_by_commit, risen_by_look};
+ghost use Rattle.ioa_commits.specs.Proposals.{participants_read};
+ghost use Rattle.ioa_shared.specs.Passes.{older, risen_by_commit, risen_by_look};
 ghost use Rattle.ioa_values.specs.Outcome.{Answers};
 
 use crate::outcome::{Miss, Missed, Taken, ViewFault};
@@ -238,7 +239,7 @@ fn admitted_again<O: Origin>(look: &Snapshot<O>, pass: &mut Pass) -> Result<(), 
 /// What comes of a commit that leaves a log of this length. The pass rises to it.
 fn taken<O: Origin>(committed: Committed<O>, length: usize, pass: &mut Pass) -> Taken<O>
     ensures receipt { (result.receipt.index ≡ committed.index) × (result.receipt.entry ≡ committed.entry) }
-    ensures pass { pass.new ≡ risen_by_commit (reads_lent committed.queue committed.node) length pass.old }
+    ensures pass { pass.new ≡ risen_by_commit (participants_read committed.queue committed.node) length pass.old }
 {
     let Committed {
         index,

@@ -1,7 +1,7 @@
 //! What comes of looks and attempts.
 
 use ioa_actions::Component;
-use ioa_book::{CommitRefusal, Proposal, VersionedConf};
+use ioa_book::{CommitRefusal, Participant, Proposal};
 use ioa_receipts::Receipt;
 use ioa_sharing::Origin;
 use std::fmt;
@@ -61,10 +61,10 @@ pub struct Missed<O: Origin> {
 pub struct Taken<O: Origin> {
     /// Where the action stands in the log.
     pub receipt: Receipt,
-    /// What was read of the queue, if one took part.
-    pub queue: Option<VersionedConf<O>>,
-    /// What was read of the node.
-    pub node: VersionedConf<O>,
+    /// What was read of the queue, if one took part, with what was held of it.
+    pub queue: Option<Participant<O>>,
+    /// What was read of the node, with what was held of it.
+    pub node: Participant<O>,
 }
 
 impl fmt::Display for Aged {

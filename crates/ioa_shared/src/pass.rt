@@ -5,12 +5,13 @@ ghost use Rattle.std.specs.Prelude.{get_or, length, map, max, set, slice_get};
 ghost use Rattle.ioa_actions.specs.declared.component.Component.{Component};
 ghost use Rattle.ioa_compose.specs.Composition.{component_names};
 ghost use Rattle.ioa_compose.specs.Start.{start};
+ghost use Rattle.ioa_commits.specs.Proposals.{participants_read};
 ghost use Rattle.ioa_commits.specs.Versions.{read_component};
 ghost use Rattle.ioa_shared.specs.Passes as spec;
 
 use crate::outcome::{Aged, Older};
 use ioa_actions::Component;
-use ioa_book::{Snapshot, VersionedConf};
+use ioa_book::{Participant, Snapshot, VersionedConf};
 use ioa_compose::{Conf, start};
 use ioa_index::Index;
 use ioa_sharing::Origin;
@@ -294,16 +295,16 @@ impl Pass {
     /// Rises to what a commit leaves: a log of this length, and the participants with their next versions.
     pub(crate) fn rise_by_commit<O: Origin>(
         &mut self,
-        queue: &Option<VersionedConf<O>>,
-        node: &VersionedConf<O>,
+        queue: &Option<Participant<O>>,
+        node: &Participant<O>,
         length: usize,
     )
-        ensures { self.new ≡ spec.risen_by_commit (spec.reads_lent queue.now node.now) length self.old }
+        ensures { self.new ≡ spec.risen_by_commit (participants_read queue.now node.now) length self.old }
     {
         if let Some(queue) = queue {
-            self.raise_next(queue);
+            self.raise_next(queue.read());
         }
-        self.raise_next(node);
+        self.raise_next(node.read());
         self.length = self.length.max(length);
     }
 

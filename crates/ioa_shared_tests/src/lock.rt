@@ -250,7 +250,7 @@ fn has_counted<O: Origin>(look: &Snapshot<O>) -> bool {
 /// Whether a node has an 8 in its first variable.
 fn has_eight(conf: &Conf) -> bool {
     match conf {
-        Conf::Node(node) => match node.variables().as_slice() {
+        Conf::Node(node) => match node.variables() {
             [first, ..] => *first == Value::number(8),
             [] => false,
         },

@@ -35,7 +35,7 @@ fn put_conf_keys<O: Out>(paper: &mut Paper<'_, O>, conf: &Conf)
 {
     match conf {
         Conf::Node(node) => {
-            let values = node.variables().as_slice();
+            let values = node.variables();
             let variables = node.program().automaton().variables();
             put_variable_keys(paper, node.node(), values, variables)
         }
@@ -108,7 +108,7 @@ fn put_conf<O: Out>(paper: &mut Paper<'_, O>, names: &Names, conf: &Conf)
 {
     match conf {
         Conf::Node(node) => {
-            let values = node.variables().as_slice();
+            let values = node.variables();
             let variables = node.program().automaton().variables();
             put_variables(paper, names, node.node(), values, variables)
         }

@@ -79,7 +79,7 @@ fn put_conf_changes<O: Out>(paper: &mut Paper<'_, O>, names: &Names, before: &[V
 {
     match conf {
         Conf::Node(node) => {
-            let after = node.variables().as_slice();
+            let after = node.variables();
             let variables = node.program().automaton().variables();
             put_all(paper, names, before, after, variables)
         }

@@ -125,7 +125,7 @@ fn values_in(alloc: Global, conf: Option<&Conf>) -> Result<Vec<Value>, AllocErro
     ensures { IfOk result (λ v. v.items ≡ values_of (option_copied conf.entry)) }
 {
     match conf {
-        Some(Conf::Node(node)) => copies(alloc, node.variables().as_slice()),
+        Some(Conf::Node(node)) => copies(alloc, node.variables()),
         Some(Conf::Queue(_)) | None => Ok(Vec::new(alloc)),
     }
 }

@@ -14,7 +14,7 @@ ghost use Rattle.ioa_solo.specs.Told.{IsToldTo, WorksOn};
 use crate::hand::Hand;
 use ioa_actions::StepFault;
 use ioa_boards::{Board, Gate};
-use ioa_book::{CommitRefusal, Proposal};
+use ioa_book::{CommitRefusal, Proposal, Rooms};
 use ioa_rawlog::Spare;
 use ioa_record::{Ending, NodeFault};
 use ioa_shared::{Miss, Missed, Receipt, Receipts, Taken};
@@ -36,6 +36,7 @@ pub(crate) fn commit<O: Origin, L: Ledger, B: Board<O, L>, G: Gate>(
     node: &mut Progress,
     hand: &mut Hand<L>,
     spare: &mut Option<Spare<Entry>>,
+    rooms: &mut Rooms<O>,
 ) -> Result<bool, AllocError>
     requires stands { IsAtFire (progress_of node.old).todo }
     requires under_way { node.old.ending ≡ None }
@@ -54,7 +55,7 @@ pub(crate) fn commit<O: Origin, L: Ledger, B: Board<O, L>, G: Gate>(
 {
     let block = block_for(alloc, &mut hand.receipts, spare)?;
     gate.before_commit(worker);
-    match attempt(board, proposal, block, hand, spare) {
+    match attempt(board, proposal, block, hand, spare, rooms) {
         Ok(receipt) => {
             hand.receipts.put(receipt);
             gate.after_commit(worker);
@@ -89,13 +90,15 @@ fn spare_of(alloc: Global, spare: &mut Option<Spare<Entry>>) -> Result<Spare<Ent
     }
 }
 
-/// The attempt of a proposal with a block: its receipt, or why it is missed. What was read goes with it.
+/// The attempt of a proposal with a block: its receipt, or why it is missed. What was read and is held no longer is room
+/// for the next proposal.
 fn attempt<O: Origin, L: Ledger, B: Board<O, L>>(
     board: &mut B,
     proposal: Proposal<O>,
     block: Spare<Entry>,
     hand: &mut Hand<L>,
     spare: &mut Option<Spare<Entry>>,
+    rooms: &mut Rooms<O>,
 ) -> Result<Receipt, Miss>
     ensures share { hand.new.share ≡ hand.old.share + commits result }
     ensures receipts { hand.new.receipts ≡ hand.old.receipts }
@@ -105,7 +108,15 @@ fn attempt<O: Origin, L: Ledger, B: Board<O, L>>(
         IsMissed (B.tells board.old) proposal hand.old.pass m proposal (B.tells board.new) hand.new.pass) }
 {
     match attempt_with(board, proposal, block, hand, spare) {
-        Ok(taken) => Ok(taken.receipt),
+        Ok(taken) => {
+            let Taken {
+                receipt,
+                queue,
+                node,
+            } = taken;
+            rooms.keep(queue, node);
+            Ok(receipt)
+        }
         Err(missed) => Err(missed.why),
     }
 }

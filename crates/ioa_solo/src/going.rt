@@ -183,6 +183,7 @@ fn visit_under_way<O: Origin, L: Ledger, B: Board<O, L>, G: Gate>(
     let Visited {
         progress,
         look,
+        rooms,
         is_settled,
         ..
     } = node;
@@ -196,6 +197,7 @@ fn visit_under_way<O: Origin, L: Ledger, B: Board<O, L>, G: Gate>(
         was_settled,
         hand,
         spare,
+        rooms,
     )?;
     Ok(())
 }

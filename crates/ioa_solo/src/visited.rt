@@ -7,18 +7,20 @@ ghost use Rattle.ioa_solo.specs.Settled.{IsSettledIn};
 ghost use Rattle.ioa_solo.specs.SettledProps.{IsSettledIn-prop};
 
 use ioa_boards::Place;
+use ioa_book::Rooms;
 use ioa_sharing::Origin;
 use ioa_system::Program;
 use ioa_turns::Progress;
 use std::alloc::{AllocError, Global};
 
-/// A node of a worker: its number, how far it has come, and the place of the last look at it. If it is settled on that
-/// look, an attempt on another one that shows the same does nothing, and need not be made.
+/// A node of a worker: its number, how far it has come, the place of the last look at it, and room for its next proposal.
+/// If it is settled on that look, an attempt on another one that shows the same does nothing, and need not be made.
 #[derive(Drop)]
 pub(crate) struct Visited<'a, O: Origin> {
     pub(crate) number: i64,
     pub(crate) progress: Progress<'a>,
     pub(crate) look: Place<O>,
+    pub(crate) rooms: Rooms<O>,
     pub(crate) is_settled: bool,
     ghost settled: { is_settled ≡ true → IsSettledIn (progress_of progress) look } by { Prim.hlevel (props, IsSettledIn-prop) },
 }
@@ -41,6 +43,7 @@ impl<'a, O: Origin> Visited<'a, O> {
             number: program.node(),
             progress,
             look,
+            rooms: Rooms::none(),
             is_settled: false,
         })
     }

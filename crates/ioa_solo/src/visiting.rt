@@ -22,7 +22,7 @@ use crate::firing::{after_fault, commit, end_by_fault};
 use crate::hand::Hand;
 use ioa_actions::Component;
 use ioa_boards::{Board, Gate, Place};
-use ioa_book::Snapshot;
+use ioa_book::{Rooms, Snapshot};
 use ioa_rawlog::Spare;
 use ioa_record::{Ending, NodeFault};
 use ioa_schedules::Turn;
@@ -46,6 +46,7 @@ pub(crate) fn visit<O: Origin, L: Ledger, B: Board<O, L>, G: Gate>(
     is_settled: bool,
     hand: &mut Hand<L>,
     spare: &mut Option<Spare<Entry>>,
+    rooms: &mut Rooms<O>,
 ) -> Result<bool, AllocError>
     requires under_way { node.old.ending ≡ None }
     requires settled { is_settled ≡ true → IsSettledIn (progress_of node.old) look.old }
@@ -64,7 +65,7 @@ pub(crate) fn visit<O: Origin, L: Ledger, B: Board<O, L>, G: Gate>(
     }
     node.attempts -= 1;
     attempt(
-        alloc, board, gate, worker, node, look, is_settled, hand, spare,
+        alloc, board, gate, worker, node, look, is_settled, hand, spare, rooms,
     )
 }
 
@@ -80,6 +81,7 @@ fn attempt<O: Origin, L: Ledger, B: Board<O, L>, G: Gate>(
     is_settled: bool,
     hand: &mut Hand<L>,
     spare: &mut Option<Spare<Entry>>,
+    rooms: &mut Rooms<O>,
 ) -> Result<bool, AllocError>
     requires under_way { node.old.ending ≡ None }
     requires settled { is_settled ≡ true → IsSettledIn (progress_of node.old) look.old }
@@ -107,6 +109,7 @@ fn attempt<O: Origin, L: Ledger, B: Board<O, L>, G: Gate>(
                 is_same & is_settled,
                 hand,
                 spare,
+                rooms,
             )
         }
         Err(fault) => end_attempt(node, fault_of_view(fault)),
@@ -135,6 +138,7 @@ fn attempt_unless_settled<O: Origin, L: Ledger, B: Board<O, L>, G: Gate>(
     is_settled: bool,
     hand: &mut Hand<L>,
     spare: &mut Option<Spare<Entry>>,
+    rooms: &mut Rooms<O>,
 ) -> Result<bool, AllocError>
     requires seen { is_some look.now ≡ true }
     requires under_way { node.old.ending ≡ None }
@@ -156,7 +160,7 @@ fn attempt_unless_settled<O: Origin, L: Ledger, B: Board<O, L>, G: Gate>(
     if is_settled {
         Ok(true)
     } else {
-        attempt_seen(alloc, board, gate, worker, node, look, hand, spare)
+        attempt_seen(alloc, board, gate, worker, node, look, hand, spare, rooms)
     }
 }
 
@@ -202,6 +206,7 @@ fn attempt_seen<O: Origin, L: Ledger, B: Board<O, L>, G: Gate>(
     look: &Place<O>,
     hand: &mut Hand<L>,
     spare: &mut Option<Spare<Entry>>,
+    rooms: &mut Rooms<O>,
 ) -> Result<bool, AllocError>
     requires seen { is_some look.now ≡ true }
     requires under_way { node.old.ending ≡ None }
@@ -220,7 +225,9 @@ fn attempt_seen<O: Origin, L: Ledger, B: Board<O, L>, G: Gate>(
     ensures settled { IfOk result (λ b. b ≡ true → IsSettledIn (progress_of node.new) look.now) }
 {
     match look.look() {
-        Some(snapshot) => attempt_on(alloc, board, gate, worker, snapshot, node, hand, spare),
+        Some(snapshot) => attempt_on(
+            alloc, board, gate, worker, snapshot, node, hand, spare, rooms,
+        ),
         None => unreachable!(),
     }
 }
@@ -236,6 +243,7 @@ fn attempt_on<O: Origin, L: Ledger, B: Board<O, L>, G: Gate>(
     node: &mut Progress,
     hand: &mut Hand<L>,
     spare: &mut Option<Spare<Entry>>,
+    rooms: &mut Rooms<O>,
 ) -> Result<bool, AllocError>
     requires under_way { node.old.ending ≡ None }
     ensures gained { Gains 1 0 hand.old hand.new }
@@ -252,7 +260,7 @@ fn attempt_on<O: Origin, L: Ledger, B: Board<O, L>, G: Gate>(
 {
     match turn_on(alloc, snapshot, node) {
         Ok(turn) => after_turn(
-            alloc, board, gate, worker, snapshot, node, turn, hand, spare,
+            alloc, board, gate, worker, snapshot, node, turn, hand, spare, rooms,
         ),
         Err(fault) => end_attempt(node, fault),
     }
@@ -269,6 +277,7 @@ fn after_turn<O: Origin, L: Ledger, B: Board<O, L>, G: Gate>(
     turn: Turn,
     hand: &mut Hand<L>,
     spare: &mut Option<Spare<Entry>>,
+    rooms: &mut Rooms<O>,
 ) -> Result<bool, AllocError>
     requires stands { StandsAt (progress_of node.old).todo turn }
     requires turned { IsTurned (kept_in node.old) snapshot.now (progress_of node.old)
@@ -295,7 +304,7 @@ fn after_turn<O: Origin, L: Ledger, B: Board<O, L>, G: Gate>(
         Turn::Idle => Ok(is_settled_idle(snapshot, node)),
         Turn::Fire(firing) => {
             go_past(
-                alloc, board, gate, worker, snapshot, node, firing, hand, spare,
+                alloc, board, gate, worker, snapshot, node, firing, hand, spare, rooms,
             )
         }
     }
@@ -343,6 +352,7 @@ fn go_past<O: Origin, L: Ledger, B: Board<O, L>, G: Gate>(
     firing: &Firing<usize, Callee, Shape>,
     hand: &mut Hand<L>,
     spare: &mut Option<Spare<Entry>>,
+    rooms: &mut Rooms<O>,
 ) -> Result<bool, AllocError>
     requires stands { IsAtFiring (firing_of firing.now) (progress_of node.old).todo }
     requires turned { IsTurned (kept_in node.old) snapshot.now (progress_of node.old)
@@ -363,8 +373,10 @@ fn go_past<O: Origin, L: Ledger, B: Board<O, L>, G: Gate>(
     ensures settled { IfOk result (λ b. b ≡ true → IsSettled (progress_of node.new) snapshot.now) }
 {
     let action = node.action_fired(alloc, firing)?;
-    match snapshot.propose(alloc, &action) {
-        Ok(proposal) => commit(alloc, board, gate, worker, proposal, node, hand, spare),
+    match snapshot.propose_in(alloc, &action, rooms) {
+        Ok(proposal) => commit(
+            alloc, board, gate, worker, proposal, node, hand, spare, rooms,
+        ),
         Err(fault) => after_fault(node, fault),
     }
 }

@@ -93,7 +93,7 @@ fn is_node_start(conf: &Conf, program: &Program) -> bool
 {
     match conf {
         Conf::Node(node) => {
-            node.variables().as_slice() == program.initial() && node.program().equals(program)
+            node.variables() == program.initial() && node.program().equals(program)
         }
         Conf::Queue(_) => false,
     }

@@ -97,7 +97,7 @@ fn falsified_by<'a>(
         conf.program(),
         rule,
         own.as_slice(),
-        conf.variables().as_slice(),
+        conf.variables(),
     )
 }
 

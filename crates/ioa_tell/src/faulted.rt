@@ -84,7 +84,7 @@ fn faulted_by<'a>(
     if own.len() != rule.own.len() {
         return Ok(None);
     }
-    let variables = conf.variables().as_slice();
+    let variables = conf.variables();
     first_fault(alloc, conf.program(), rule, own.as_slice(), variables)
 }
 

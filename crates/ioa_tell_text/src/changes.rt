@@ -41,8 +41,8 @@ fn put_node<O: Out>(paper: &mut Paper<'_, O>, names: &Names, before: &Conf, afte
 {
     match (before, after) {
         (Conf::Node(before), Conf::Node(after)) => {
-            let first = before.variables().as_slice();
-            let second = after.variables().as_slice();
+            let first = before.variables();
+            let second = after.variables();
             let variables = after.program().automaton().variables();
             put_all(paper, names, after.node(), first, second, variables)
         }

@@ -8,9 +8,9 @@ ghost use Rattle.std.specs.Arc.{arc_value};
 ghost use Rattle.ioa_transitions.specs.NodeState.{node_state};
 
 use crate::rule::values_after;
-use ioa_actions::{Action, StepFault, Values};
+use ioa_actions::{Action, StepFault};
 use ioa_system::Program;
-use ioa_values::copies;
+use ioa_values::{Value, copies};
 use std::alloc::{AllocError, Global};
 use std::marker::Model;
 use std::sync::Arc;
@@ -19,7 +19,7 @@ use std::sync::Arc;
 #[derive(Drop)]
 pub struct NodeConf {
     program: Arc<Program>,
-    variables: Values,
+    variables: Vec<Value>,
 }
 
 impl Model for NodeConf {
@@ -32,9 +32,9 @@ impl Model for NodeConf {
 
     ghost use Rattle.ioa_transitions.specs.NodeState.{node_state, IsValued};
 
-    ghost view = { λ c. node_state (arc_value c.program) c.variables };
+    ghost view = { λ c. node_state (arc_value c.program) c.variables.items };
 
-    ghost invariant = { λ c. IsValued (node_state (arc_value c.program) c.variables) };
+    ghost invariant = { λ c. IsValued (node_state (arc_value c.program) c.variables.items) };
 }
 
 impl NodeConf {
@@ -42,7 +42,7 @@ impl NodeConf {
     pub fn start(alloc: Global, program: &Arc<Program>) -> Result<Self, AllocError>
         ensures { IfOk result (λ c. c ≡ node_state (arc_value program.now) (arc_value program.now).initial) }
     {
-        let variables = Values::from_vec(copies(alloc, program.initial())?);
+        let variables = copies(alloc, program.initial())?;
         let program = Arc::try_clone(program)?;
         Ok(NodeConf { program, variables })
     }
@@ -62,7 +62,7 @@ impl NodeConf {
     }
 
     /// The values of the state variables, in the order of their declaration.
-    pub fn variables(&self) -> &Values
+    pub fn variables(&self) -> &[Value]
         ensures value { result.now ≡ self.now.variables }
         ensures valued { length result.now ≡ length self.now.program.automaton.variables }
     {
@@ -91,7 +91,7 @@ impl NodeConf {
         ensures { IfOk result (λ c. c ≡ self.now) }
     {
         let program = Arc::try_clone(&self.program)?;
-        let variables = self.variables.try_copy(alloc)?;
+        let variables = copies(alloc, &self.variables)?;
         Ok(NodeConf { program, variables })
     }
 
@@ -104,11 +104,56 @@ impl NodeConf {
     pub fn step(&self, alloc: Global, action: &Action) -> Result<Self, StepFault>
         ensures { Answers StepFault.Memory (λ c. c) result (node_answer self.now action.now) }
     {
-        let mut values = Vec::new(alloc);
-        let before = self.variables.as_slice();
-        values_after(alloc, &self.program, before, action, &mut values)?;
+        let mut variables = Vec::new(alloc);
+        values_after(
+            alloc,
+            &self.program,
+            &self.variables,
+            action,
+            &mut variables,
+        )?;
         let program = Arc::try_clone(&self.program)?;
-        let variables = Values::from_vec(values);
         Ok(NodeConf { program, variables })
+    }
+
+    /// The same step, written over another configuration: if that has as many values, their room is used again. After a
+    /// fault it is some configuration.
+    #[tactic(auto, unfolding(crate::specs::NodeAnswers::node_answer))]
+    pub fn step_over(
+        &self,
+        alloc: Global,
+        action: &Action,
+        next: &mut NodeConf,
+    ) -> Result<(), StepFault>
+        ensures { Answers StepFault.Memory (λ _. next.new) result (node_answer self.now action.now) }
+    {
+        if next.variables.len() == self.variables.len() {
+            self.write_step(alloc, action, next)
+        } else {
+            *next = self.step(alloc, action)?;
+            Ok(())
+        }
+    }
+
+    /// The same over a configuration that has as many values.
+    #[tactic(auto, unfolding(crate::specs::NodeAnswers::node_answer))]
+    fn write_step(
+        &self,
+        alloc: Global,
+        action: &Action,
+        next: &mut NodeConf,
+    ) -> Result<(), StepFault>
+        requires { length next.old.variables ≡ length self.now.variables }
+        ensures { Answers StepFault.Memory (λ _. next.new) result (node_answer self.now action.now) }
+    {
+        next.program = Arc::try_clone(&self.program)?;
+        values_after(
+            alloc,
+            &self.program,
+            &self.variables,
+            action,
+            &mut next.variables,
+        )?;
+        Ok(())
     }
 }

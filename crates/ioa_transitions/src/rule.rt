@@ -23,6 +23,7 @@ ghost use Rattle.ioa_operators.specs.RangeCheck.{checked_result};
 ghost use Rattle.ioa_terms.specs.Views.{IsNamed, environment_of, names_in_view, own_names};
 
 use ioa_actions::{Action, RECEIVE, SEND, StepFault};
+use ioa_copies::copy_values;
 use ioa_source::{Entry, Parameter};
 use ioa_system::{Program, Rule};
 use ioa_terms::{
@@ -259,7 +260,7 @@ pub fn rule_for<'a>(
     Ok(None)
 }
 
-/// Puts the values of a node's state variables after an action into a list that is empty.
+/// Puts the values of a node's state variables after an action into a list, in place of what is there.
 pub fn values_after(
     alloc: Global,
     program: &Program,
@@ -268,10 +269,10 @@ pub fn values_after(
     values: &mut Vec<Value>,
 ) -> Result<(), StepFault>
     requires valued { length variables.now ≡ length program.now.automaton.variables }
-    requires empty { values.old.items ≡ [] }
     ensures after { Answers StepFault.Memory (λ _. values.new.items) result
         (spec.values_answer (node_state program.now variables.now) action.now) }
     ensures valued { OnOk result (length values.new.items ≡ length variables.now) }
+    ensures kept { length values.old.items ≡ length variables.now → length values.new.items ≡ length variables.now }
 {
     match action {
         Action::Send { message, from, to } | Action::Receive { message, from, to } => {
@@ -302,11 +303,11 @@ fn values_by_message(
     values: &mut Vec<Value>,
 ) -> Result<(), StepFault>
     requires valued { length variables.now ≡ length program.now.automaton.variables }
-    requires empty { values.old.items ≡ [] }
     requires own { action_arguments action.now ≡ message.now ∷ number from ∷ number to ∷ [] }
     ensures after { Answers StepFault.Memory (λ _. values.new.items) result
         (spec.values_answer (node_state program.now variables.now) action.now) }
     ensures valued { OnOk result (length values.new.items ≡ length variables.now) }
+    ensures kept { length values.old.items ≡ length variables.now → length values.new.items ≡ length variables.now }
 {
     let message = message.try_copy()?;
     let arguments = [message, Value::number(from), Value::number(to)];
@@ -323,11 +324,11 @@ fn values_by(
     values: &mut Vec<Value>,
 ) -> Result<(), StepFault>
     requires valued { length variables.now ≡ length program.now.automaton.variables }
-    requires empty { values.old.items ≡ [] }
     requires own { arguments.now ≡ action_arguments action.now }
     ensures after { Answers StepFault.Memory (λ _. values.new.items) result
         (spec.values_answer (node_state program.now variables.now) action.now) }
     ensures valued { OnOk result (length values.new.items ≡ length variables.now) }
+    ensures kept { length values.old.items ≡ length variables.now → length values.new.items ≡ length variables.now }
 {
     match rule_for(alloc, program, action, arguments)? {
         None => Err(StepFault::NotMine),
@@ -335,9 +336,9 @@ fn values_by(
     }
 }
 
-/// Puts the values of the state variables after a transition into a list that is empty. The arguments are tested first,
-/// then the entry's condition, then the guard, and then the effect is performed. The variables are copied for the
-/// effect alone.
+/// Puts the values of the state variables after a transition into a list, in place of what is there. The arguments are
+/// tested first, then the entry's condition, then the guard, and then the effect is performed. The variables are copied
+/// for the effect alone.
 fn take_transition(
     alloc: Global,
     program: &Program,
@@ -349,7 +350,6 @@ fn take_transition(
     // the names in the rule are resolved, and each has a value
     requires resolved { IsResolvedRule (declared_names program.now.automaton) rule.now }
     requires valued { length variables.now ≡ length program.now.automaton.variables }
-    requires empty { values.old.items ≡ [] }
     requires own { length rule.now.own ≡ length (own_values rule.now.entry.parameters arguments.now) }
     // the new values, one for each variable
     ensures after { Answers StepFault.Memory (λ _. values.new.items) result
@@ -359,6 +359,7 @@ fn take_transition(
         (environment_at guard_or_effect (declared_names program.now.automaton) rule.now.own
         program.now.arguments variables.now (own_values rule.now.entry.parameters arguments.now))) }
     ensures valued { OnOk result (length values.new.items ≡ length variables.now) }
+    ensures kept { length values.old.items ≡ length variables.now → length values.new.items ≡ length variables.now }
 {
     pass_naturals(&rule.entry.parameters, arguments)?;
     match lent_own(&rule.entry.parameters, arguments) {
@@ -379,7 +380,6 @@ fn pass_copies(
 ) -> Result<(), StepFault>
     requires resolved { IsResolvedRule (declared_names program.now.automaton) rule.now }
     requires valued { length variables.now ≡ length program.now.automaton.variables }
-    requires empty { values.old.items ≡ [] }
     requires own { length rule.now.own ≡ length (own_values rule.now.entry.parameters arguments.now) }
     ensures after { Answers StepFault.Memory (λ _. values.new.items) result
         (and_then (spec.guard_answer rule.now.entry.condition
@@ -389,6 +389,7 @@ fn pass_copies(
         (environment_at guard_or_effect (declared_names program.now.automaton) rule.now.own
         program.now.arguments variables.now (own_values rule.now.entry.parameters arguments.now)))) }
     ensures valued { OnOk result (length values.new.items ≡ length variables.now) }
+    ensures kept { length values.old.items ≡ length variables.now → length values.new.items ≡ length variables.now }
 {
     let own = own_values(alloc, &rule.entry, arguments)?;
     pass_own(alloc, program, rule, &own, variables, values)
@@ -406,7 +407,6 @@ fn pass_own(
 ) -> Result<(), StepFault>
     requires resolved { IsResolvedRule (declared_names program.now.automaton) rule.now }
     requires valued { length variables.now ≡ length program.now.automaton.variables }
-    requires empty { values.old.items ≡ [] }
     requires own { length rule.now.own ≡ length own.now }
     ensures after { Answers StepFault.Memory (λ _. values.new.items) result
         (and_then (spec.guard_answer rule.now.entry.condition
@@ -416,6 +416,7 @@ fn pass_own(
         (environment_at guard_or_effect (declared_names program.now.automaton) rule.now.own
         program.now.arguments variables.now own.now))) }
     ensures valued { OnOk result (length values.new.items ≡ length variables.now) }
+    ensures kept { length values.old.items ≡ length variables.now → length values.new.items ≡ length variables.now }
 {
     pass_condition(alloc, program, rule, own)?;
     pass_step(alloc, program, rule, own, variables, values)
@@ -470,8 +471,8 @@ fn condition_view<'a>(program: &'a Program, rule: &'a Rule, own: &'a [Value]) ->
     }
 }
 
-/// Puts the values of the state variables after a rule's transition into a list that is empty, if the entry's own
-/// parameters have these values: the guard is tested, and then the effect is performed.
+/// Puts the values of the state variables after a rule's transition into a list, in place of what is there, if the
+/// entry's own parameters have these values: the guard is tested, and then the effect is performed.
 fn pass_step(
     alloc: Global,
     program: &Program,
@@ -482,13 +483,13 @@ fn pass_step(
 ) -> Result<(), StepFault>
     requires resolved { IsResolvedRule (declared_names program.now.automaton) rule.now }
     requires valued { length variables.now ≡ length program.now.automaton.variables }
-    requires empty { values.old.items ≡ [] }
     requires own { length rule.now.own ≡ length own.now }
     ensures after { Answers StepFault.Memory (λ _. values.new.items) result
         (spec.transition_answer (length variables.now) rule.now.transition
         (environment_at guard_or_effect (declared_names program.now.automaton) rule.now.own
         program.now.arguments variables.now own.now)) }
     ensures valued { OnOk result (length values.new.items ≡ length variables.now) }
+    ensures kept { length values.old.items ≡ length variables.now → length values.new.items ≡ length variables.now }
 {
     let view = step_view(program, rule, own, variables);
     pass_guard(alloc, &rule.transition.pre, &view, variables)?;
@@ -527,8 +528,8 @@ fn step_view<'a>(
     }
 }
 
-/// Puts the values of the state variables after a rule's effect into a list that is empty. It is performed on a copy of
-/// them.
+/// Puts the values of the state variables after a rule's effect into a list, in place of what is there. The effect is
+/// performed on a copy of them.
 #[tactic(auto, using(crate::proofs::Arguments::effect_answer_view))]
 fn take_effect(
     alloc: Global,
@@ -540,23 +541,13 @@ fn take_effect(
     requires resolved { AreResolved rule.now.transition.effect (own_names view.now (length variables.now))
         (names_in_view view.now) }
     requires named { IsNamed view.now variables.now }
-    requires empty { values.old.items ≡ [] }
     ensures after { Answers StepFault.Memory (λ _. values.new.items) result (spec.effect_answer (length variables.now)
         (answer_by rule.now.transition.effect (environment_of view.now variables.now))) }
     ensures valued { OnOk result (length values.new.items ≡ length variables.now) }
+    ensures kept { length values.old.items ≡ length variables.now → length values.new.items ≡ length variables.now }
 {
-    push_copies(values, variables)?;
+    copy_values(alloc, variables, values)?;
     perform(alloc, &rule.transition.effect, view, values)?;
-    Ok(())
-}
-
-/// Adds copies of values at the end.
-fn push_copies(values: &mut Vec<Value>, added: &[Value]) -> Result<(), AllocError>
-    ensures { OnOk result (values.new.items ≡ values.old.items ++ added.now) }
-{
-    for value in added {
-        values.push(value.try_copy()?)?;
-    }
     Ok(())
 }
 

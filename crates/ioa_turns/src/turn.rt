@@ -47,7 +47,7 @@ pub(crate) fn view_of<'a>(
         names: automaton.block_names(),
         lent: LentValues {
             inboxes,
-            first: conf.variables().as_slice(),
+            first: conf.variables(),
             second: program.arguments(),
         },
         constants: automaton.constants(),
@@ -181,7 +181,7 @@ fn turn_on<'a, O: Origin>(
 pub(crate) fn shows_program(program: &Program, conf: &NodeConf) -> bool
     ensures { result ≡ spec.shows_program program.now conf.now }
 {
-    conf.variables().as_slice().len() == program.automaton().variables().len()
+    conf.variables().len() == program.automaton().variables().len()
 }
 
 /// The turn of a node on a configuration that may be its own, among those that were read. Its inboxes are looked up

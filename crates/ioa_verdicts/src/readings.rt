@@ -47,7 +47,7 @@ fn variable_in(conf: Option<&Conf>, position: usize) -> Option<&Value>
     ensures { option_copied result ≡ option_and_then (variable_in position) (option_copied conf.entry) }
 {
     match conf {
-        Some(Conf::Node(node)) => value_at(node.variables().as_slice(), position),
+        Some(Conf::Node(node)) => value_at(node.variables(), position),
         Some(Conf::Queue(_)) | None => None,
     }
 }

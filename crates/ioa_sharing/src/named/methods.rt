@@ -34,6 +34,21 @@ impl<O: Origin> MakerOf<O> {
             origin: PhantomData,
         }
     }
+
+    /// Puts a value in the place of a shared one, with a number as of [`MakerOf::share`]. The one that was there comes
+    /// out.
+    pub fn exchange<T: Drop, A: Allocator>(
+        &mut self,
+        place: &mut SharedOf<O, T, A>,
+        value: &mut Arc<T, A>,
+    )
+        ensures number { shared_of_number place.new ≡ maker_of_count self.old }
+        ensures value { shared_of_value place.new ≡ arc_value value.old }
+        ensures out { arc_value value.new ≡ shared_of_value place.old }
+        ensures count { maker_of_count self.new ≡ min (maker_of_count self.old + 1) (2 ^ 64 - 1) }
+    {
+        self.maker.exchange(&mut place.shared, value);
+    }
 }
 
 impl<O: Origin, T: Drop, A: Allocator> SharedOf<O, T, A> {

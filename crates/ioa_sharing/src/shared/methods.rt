@@ -1,13 +1,14 @@
 //! The methods of shared values and of their makers. Their contracts name both types.
 
-ghost use Rattle.std.specs.Prelude.{◌≡◌, ◌+◌, ◌-◌, ◌^◌, ◌↔◌, IfOk, IsTrue, min};
+ghost use Rattle.std.specs.Prelude.{◌≡◌, ◌<◌, ◌+◌, ◌-◌, ◌^◌, ◌↔◌, IfOk, IsTrue, min};
 ghost use Rattle.std.specs.Arc.{arc_value};
 ghost use Rattle.ioa_sharing.specs.Shared.{IsOneNumber, maker_count, maker_name};
 ghost use Rattle.ioa_sharing.specs.Shared.{shared_maker, shared_number, shared_value};
 
 use super::{Maker, Shared};
-use crate::tokens::Ledger;
+use crate::tokens::{Entry, Ledger};
 use std::alloc::{AllocError, Allocator};
+use std::mem;
 use std::sync::Arc;
 
 impl Maker {
@@ -29,14 +30,46 @@ impl Maker {
         ensures value { shared_value result ≡ arc_value value }
         ensures count { maker_count self.new ≡ min (maker_count self.old + 1) (2 ^ 64 - 1) }
     {
-        let number = self.count;
-        let entry = self.ledger.append(&*value);
-        self.count = number.saturating_add(1);
+        let (number, entry) = self.enter(&*value);
         Shared {
             number,
             entry,
             value,
         }
+    }
+
+    /// Puts a value in the place of a shared one, with a number as of [`Maker::share`]. The one that was there comes out.
+    pub fn exchange<T: Drop, A: Allocator>(
+        &mut self,
+        place: &mut Shared<T, A>,
+        value: &mut Arc<T, A>,
+    )
+        ensures one_maker { maker_name self.new ≡ maker_name self.old }
+        ensures maker { shared_maker place.new ≡ maker_name self.old }
+        ensures number { shared_number place.new ≡ maker_count self.old }
+        ensures value { shared_value place.new ≡ arc_value value.old }
+        ensures out { arc_value value.new ≡ shared_value place.old }
+        ensures count { maker_count self.new ≡ min (maker_count self.old + 1) (2 ^ 64 - 1) }
+    {
+        let (number, entry) = self.enter(&**value);
+        mem::swap(&mut place.value, value);
+        place.number = number;
+        place.entry = entry;
+    }
+
+    /// Enters a value into the ledger: its number, and its entry there.
+    fn enter<T>(&mut self, value: &T) -> (u64, Entry<T>)
+        ensures one_maker { maker_name self.new ≡ maker_name self.old }
+        ensures maker { result.1.name ≡ maker_name self.old }
+        ensures number { result.0 ≡ maker_count self.old }
+        ensures entered { result.0 < 2 ^ 64 - 1 → result.1.number ≡ result.0 }
+        ensures value { result.1.value ≡ value.now }
+        ensures count { maker_count self.new ≡ min (maker_count self.old + 1) (2 ^ 64 - 1) }
+    {
+        let number = self.count;
+        let entry = self.ledger.append(value);
+        self.count = number.saturating_add(1);
+        (number, entry)
     }
 }
 

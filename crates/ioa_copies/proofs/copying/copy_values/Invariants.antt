@@ -1,5 +1,5 @@
 use Rattle.std.proofs.Common.{◌≡◌, length, take}
-use Rattle.ioa_schedules.proofs.state.copy_values.Given as goal
+use Rattle.ioa_copies.proofs.copying.copy_values.Given as goal
 
 -- the values so far are those that are copied
 abbrev pub invariant-loop-position : goal.invariant-loop-position

@@ -1,0 +1,30 @@
+//! Room for proposals.
+
+use ioa_commits::Participant;
+use ioa_sharing::Origin;
+
+/// Participants that are wanted no longer, if there are such. The next proposal is written over them, and asks for no
+/// memory where nobody else owns their configurations. No contract says which they are.
+#[derive(Drop)]
+pub struct Rooms<O: Origin> {
+    pub(crate) queue: Option<Participant<O>>,
+    pub(crate) node: Option<Participant<O>>,
+}
+
+impl<O: Origin> Rooms<O> {
+    /// No room yet.
+    pub fn none() -> Self {
+        Rooms {
+            queue: None,
+            node: None,
+        }
+    }
+
+    /// Keeps what a commit hands out: the queue, if one took part, and the node.
+    pub fn keep(&mut self, queue: Option<Participant<O>>, node: Participant<O>) {
+        if let Some(queue) = queue {
+            self.queue = Some(queue);
+        }
+        self.node = Some(node);
+    }
+}

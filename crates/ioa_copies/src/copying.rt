@@ -1,0 +1,55 @@
+//! Lists of values, copied.
+
+ghost use Rattle.std.specs.Prelude.{◌≡◌, OnOk, length};
+ghost use Rattle.ioa_values.specs.Data.{number, truth};
+
+use ioa_values::{Value, ValueForm, copies};
+use std::alloc::{AllocError, Global};
+
+/// Makes values what others are, with which they share their collections then. Takes no memory if there are as many. If
+/// no memory is left, they are some values, and as many as before if there were as many.
+pub fn copy_values(alloc: Global, from: &[Value], to: &mut Vec<Value>) -> Result<(), AllocError>
+    ensures copied { OnOk result (to.new.items ≡ from.now) }
+    ensures kept { length to.old.items ≡ length from.now → length to.new.items ≡ length from.now }
+{
+    if to.len() == from.len() {
+        for position in 0..from.len() {
+            copy_value(&from[position], &mut to[position])?;
+        }
+        return Ok(());
+    }
+    *to = copies(alloc, from)?;
+    Ok(())
+}
+
+/// Makes a value what another one is.
+fn copy_value(from: &Value, to: &mut Value) -> Result<(), AllocError>
+    ensures { OnOk result (to.new ≡ from.now) }
+{
+    match &from.form {
+        ValueForm::Number(n) => write_number(*n, to),
+        ValueForm::Truth(b) => write_truth(*b, to),
+        _ => *to = from.try_copy()?,
+    }
+    Ok(())
+}
+
+/// Makes a value this number.
+fn write_number(n: i64, to: &mut Value)
+    ensures { to.new ≡ number n }
+{
+    match &mut to.form {
+        ValueForm::Number(old) => *old = n,
+        _ => *to = Value::number(n),
+    }
+}
+
+/// Makes a value this truth value.
+fn write_truth(b: bool, to: &mut Value)
+    ensures { to.new ≡ truth b }
+{
+    match &mut to.form {
+        ValueForm::Truth(old) => *old = b,
+        _ => *to = Value::truth(b),
+    }
+}
