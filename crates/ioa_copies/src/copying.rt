@@ -1,7 +1,6 @@
 //! Lists of values, copied.
 
 ghost use Rattle.std.specs.Prelude.{◌≡◌, OnOk, length};
-ghost use Rattle.ioa_values.specs.Data.{number, truth};
 
 use ioa_values::{Value, ValueForm, copies};
 use std::alloc::{AllocError, Global};
@@ -27,29 +26,9 @@ fn copy_value(from: &Value, to: &mut Value) -> Result<(), AllocError>
     ensures { OnOk result (to.new ≡ from.now) }
 {
     match &from.form {
-        ValueForm::Number(n) => write_number(*n, to),
-        ValueForm::Truth(b) => write_truth(*b, to),
+        ValueForm::Number(n) => to.set_number(*n),
+        ValueForm::Truth(b) => to.set_truth(*b),
         _ => *to = from.try_copy()?,
     }
     Ok(())
-}
-
-/// Makes a value this number.
-fn write_number(n: i64, to: &mut Value)
-    ensures { to.new ≡ number n }
-{
-    match &mut to.form {
-        ValueForm::Number(old) => *old = n,
-        _ => *to = Value::number(n),
-    }
-}
-
-/// Makes a value this truth value.
-fn write_truth(b: bool, to: &mut Value)
-    ensures { to.new ≡ truth b }
-{
-    match &mut to.form {
-        ValueForm::Truth(old) => *old = b,
-        _ => *to = Value::truth(b),
-    }
 }

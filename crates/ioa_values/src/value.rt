@@ -155,6 +155,26 @@ impl Value {
         }
     }
 
+    /// Makes the value a number, in the place of the one that it was, if it was one.
+    pub fn set_number(&mut self, n: i64)
+        ensures { self.new ≡ number n }
+    {
+        match &mut self.form {
+            ValueForm::Number(old) => *old = n,
+            _ => *self = Value::number(n),
+        }
+    }
+
+    /// Makes the value a truth value, in the place of the one that it was, if it was one.
+    pub fn set_truth(&mut self, b: bool)
+        ensures { self.new ≡ truth b }
+    {
+        match &mut self.form {
+            ValueForm::Truth(old) => *old = b,
+            _ => *self = Value::truth(b),
+        }
+    }
+
     /// What every value keeps: its sets and maps ascend, at any depth. Does nothing.
     pub fn canonical_law(&self)
         ensures { IsCanonical self.now }

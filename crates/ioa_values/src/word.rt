@@ -1,6 +1,7 @@
 //! Names as the language writes them.
 
-ghost use Rattle.std.specs.Prelude.{◌≡◌, IfOk, ℕ, ◌<◌, All};
+ghost use lib.Pointwise.{pointwise};
+ghost use Rattle.std.specs.Prelude.{◌≡◌, IfOk, ℕ, ◌<◌, All, nat_eq};
 
 use std::alloc::{AllocError, Global};
 use std::cmp::Ordering;
@@ -42,6 +43,18 @@ impl Word {
         self.text.as_str()
     }
 
+    /// Whether this is the text of the word.
+    pub fn spells(&self, text: &str) -> bool
+        ensures { result ≡ pointwise nat_eq self.now text.now }
+    {
+        let word = self.as_str();
+        if word.len() < 8 {
+            are_same(word.as_bytes(), text.as_bytes())
+        } else {
+            word == text
+        }
+    }
+
     /// An equal word with its own memory.
     pub fn try_copy(&self, alloc: Global) -> Result<Self, AllocError>
         ensures { IfOk result (λ w. w ≡ self.now) }
@@ -49,6 +62,18 @@ impl Word {
         let text = String::from_str(alloc, self.text.as_str())?;
         Ok(Word { text })
     }
+}
+
+/// Whether bytes are the same, one by one. It is quicker than std's comparison of texts if there are only a few.
+fn are_same(bytes: &[u8], others: &[u8]) -> bool
+    ensures { result ≡ pointwise nat_eq bytes.now others.now }
+{
+    for position in 0..bytes.len().min(others.len()) {
+        if bytes[position] != others[position] {
+            return false;
+        }
+    }
+    bytes.len() == others.len()
 }
 
 impl PartialEq for Word {
@@ -62,7 +87,7 @@ impl PartialEq for Word {
     ghost laws = { Prim.search (comparing, rules) };
 
     fn eq(&self, other: &Self) -> bool {
-        self.as_str() == other.as_str()
+        self.spells(other.as_str())
     }
 }
 
