@@ -67,7 +67,7 @@ fn apply_function(alloc: Global, function: Function, parts: Vec<Value>) -> Resul
     ensures { AnswersOrLacks (call_takes_memory function) result (call_value function parts.items) }
 {
     match few(parts) {
-        Some(CallParts::One(value)) => call_of_one(alloc, function, value),
+        Some(CallParts::One(value)) => call_of_one(alloc, function, &value),
         Some(CallParts::Two(left, right)) => call_of_two(alloc, function, left, right),
         Some(CallParts::Three(first, second, third)) => {
             call_of_three(alloc, function, first, second, third)
@@ -95,15 +95,23 @@ fn few(parts: Vec<Value>) -> Option<CallParts>
     }
 }
 
-/// The value of a function of one value.
-fn call_of_one(alloc: Global, function: Function, value: Value) -> Result<Value, TermFault>
-    ensures { AnswersOrLacks (call_takes_memory function) result (call_one function value) }
+/// The value of a function of one value, which is lent, with the faults of [`call`].
+#[tactic(auto, using(crate::proofs::Memory::answers))]
+pub fn call_lent(alloc: Global, function: Function, value: &Value) -> Result<Value, TermFault>
+    ensures { Answers TermFault.Memory (λ v. v) result (checked_result (call_one function value.now)) }
+{
+    call_of_one(alloc, function, value)
+}
+
+/// The same, in one exact clause.
+fn call_of_one(alloc: Global, function: Function, value: &Value) -> Result<Value, TermFault>
+    ensures { AnswersOrLacks (call_takes_memory function) result (call_one function value.now) }
 {
     match function {
         Function::Head => head(value),
         Function::Tail => tail(alloc, value),
         Function::Length => length(value),
-        Function::Size => size(&value),
+        Function::Size => size(value),
         _ => Err(TermFault::Undefined),
     }
 }

@@ -1,13 +1,14 @@
 //! Operators and functions of sequences.
 
-ghost use Rattle.std.specs.Prelude.{true, false};
+ghost use Rattle.std.specs.Prelude.{◌≡◌, true, false};
 ghost use Rattle.ioa_operators.specs.RangeCheck.{AnswersOrLacks};
-ghost use Rattle.ioa_operators.specs.Operators.{binary_value, call_one};
+ghost use Rattle.std.specs.Option.{option_copied};
+ghost use Rattle.ioa_operators.specs.Operators.{binary_value, call_one, rest};
 
 use crate::fault::TermFault;
 use crate::operator::{BinaryOperator, Function};
-use crate::parts::{count_value, sequence_of};
-use ioa_values::{Value, ValueForm, collections};
+use crate::parts::count_value;
+use ioa_values::{Sequence, Value, ValueForm, collections};
 use std::alloc::Global;
 
 /// A value, and then the items of a sequence. Costs the same at any length.
@@ -61,23 +62,43 @@ pub(crate) fn membership(value: &Value, whole: &Value) -> Result<Value, TermFaul
     }
 }
 
-/// The first item of a sequence that is not empty.
-pub(crate) fn head(sequence: Value) -> Result<Value, TermFault>
-    ensures { AnswersOrLacks true result (call_one Function.Head sequence) }
+/// The first item of a sequence that is not empty, lent by it.
+#[tactic(auto, using(ioa_values::proofs::ItemLists::list_of_items))]
+pub fn first_item(sequence: &Value) -> Option<&Value>
+    ensures { option_copied result ≡ call_one Function.Head sequence.now }
 {
-    let items = sequence_of(sequence)?;
-    match items.first() {
+    match &sequence.form {
+        ValueForm::Sequence(items) => items.first(),
+        _ => None,
+    }
+}
+
+/// The first item of a sequence that is not empty.
+pub(crate) fn head(sequence: &Value) -> Result<Value, TermFault>
+    ensures { AnswersOrLacks true result (call_one Function.Head sequence.now) }
+{
+    match first_item(sequence) {
         Some(item) => Ok(item.try_copy()?),
         None => Err(TermFault::Undefined),
     }
 }
 
 /// The items but the first of a sequence that is not empty. Costs the same at any length.
-#[tactic(auto, using(crate::proofs::ItemLists::rest_of_some))]
-pub(crate) fn tail(alloc: Global, sequence: Value) -> Result<Value, TermFault>
-    ensures { AnswersOrLacks true result (call_one Function.Tail sequence) }
+#[tactic(auto, using(ioa_values::proofs::ItemLists::list_of_items))]
+pub(crate) fn tail(alloc: Global, sequence: &Value) -> Result<Value, TermFault>
+    ensures { AnswersOrLacks true result (call_one Function.Tail sequence.now) }
 {
-    let items = sequence_of(sequence)?;
+    match &sequence.form {
+        ValueForm::Sequence(items) => rest_of(alloc, items),
+        _ => Err(TermFault::Undefined),
+    }
+}
+
+/// The same of the sequence's items.
+#[tactic(auto, using(crate::proofs::ItemLists::rest_of_some))]
+fn rest_of(alloc: Global, items: &Sequence) -> Result<Value, TermFault>
+    ensures { AnswersOrLacks true result (rest items.now) }
+{
     if items.is_empty() {
         return Err(TermFault::Undefined);
     }
@@ -85,11 +106,14 @@ pub(crate) fn tail(alloc: Global, sequence: Value) -> Result<Value, TermFault>
 }
 
 /// How many items a sequence has.
-pub(crate) fn length(sequence: Value) -> Result<Value, TermFault>
-    ensures { AnswersOrLacks false result (call_one Function.Length sequence) }
+#[tactic(auto, using(ioa_values::proofs::ItemLists::list_of_items))]
+pub(crate) fn length(sequence: &Value) -> Result<Value, TermFault>
+    ensures { AnswersOrLacks false result (call_one Function.Length sequence.now) }
 {
-    let items = sequence_of(sequence)?;
-    count_value(items.len())
+    match &sequence.form {
+        ValueForm::Sequence(items) => count_value(items.len()),
+        _ => Err(TermFault::Undefined),
+    }
 }
 
 /// How many members a set has, or how many keys a map has.

@@ -3,12 +3,12 @@
 ghost use Rattle.std.specs.Prelude.{IfOk, Some, pos, false};
 ghost use Rattle.ioa_values.specs.Data.{number, as_number, as_truth};
 ghost use Rattle.ioa_values.specs.Collections.{IsAscending, keys_of};
-ghost use Rattle.ioa_operators.specs.Operators.{as_tuple, as_sequence, as_set, as_map};
+ghost use Rattle.ioa_operators.specs.Operators.{as_tuple, as_set, as_map};
 ghost use Rattle.ioa_operators.specs.RangeCheck.{AnswersOrLacks};
 ghost use Rattle.ioa_operators.specs.CallParts.{Takes};
 
 use crate::fault::TermFault;
-use ioa_values::{Sequence, Value, ValueForm};
+use ioa_values::{Value, ValueForm};
 use std::sync::Arc;
 
 /// The number that a part is.
@@ -23,17 +23,6 @@ pub(crate) fn truth_of(value: &Value) -> Result<bool, TermFault>
     ensures { Takes (λ b. b) result (as_truth value.now) }
 {
     value.as_truth().ok_or(TermFault::Undefined)
-}
-
-/// The sequence that a part is.
-#[tactic(auto, using(ioa_values::proofs::ItemLists::list_of_items))]
-pub(crate) fn sequence_of(value: Value) -> Result<Sequence, TermFault>
-    ensures { Takes (λ s. s) result (as_sequence value) }
-{
-    match value.form {
-        ValueForm::Sequence(items) => Ok(items),
-        _ => Err(TermFault::Undefined),
-    }
 }
 
 /// The members of a set, which others may share. They ascend, as every set keeps them.

@@ -1,18 +1,20 @@
 //! The value of a term.
 
-ghost use Rattle.std.specs.Prelude.{◌≡◌, Some, None, [], map, slice_get, true, IfOk};
+ghost use Rattle.std.specs.Prelude.{◌≡◌, Some, None, Ok, [], map, slice_get, true, IfOk, IfSome};
 ghost use Rattle.std.specs.Option.{option_and_then, option_map};
-ghost use Rattle.ioa_values.specs.Outcome.{Answers};
+ghost use Rattle.ioa_values.specs.Outcome.{Answers, and_then};
 ghost use Rattle.ioa_terms.specs.Meaning.{answer, inbox_value};
 ghost use Rattle.ioa_terms.specs.Inboxes.{inbox_entries, inboxes_of, inboxes_value, inboxes_word};
 ghost use Rattle.ioa_values.specs.Collections.{IsAscending, keys_of, value_at};
 ghost use Rattle.ioa_values.specs.Data as datum;
 ghost use Rattle.ioa_values.specs.DataOrder.{same};
-ghost use Rattle.ioa_operators.specs.Operators.{binary_value};
-ghost use Rattle.ioa_terms.specs.Resolved.{IsResolved, AreTermsResolved};
+ghost use Rattle.ioa_operators.specs.Operators as spec;
+ghost use Rattle.ioa_operators.specs.Operators.{binary_value, call_value};
+ghost use Rattle.ioa_terms.specs.Resolved.{AreTermsResolved, IsCallee, IsResolved};
 ghost use Rattle.ioa_terms.specs.Bindings.{names_of, slot_in, lookup};
 ghost use Rattle.ioa_operators.specs.RangeCheck.{range_check, checked_result};
-ghost use Rattle.ioa_terms.specs.Stepwise.{stepwise_answer, stepwise_answers, stepwise_test};
+ghost use Rattle.ioa_terms.specs.Stepwise.{stepwise_answer, stepwise_answers, stepwise_test, with_right};
+ghost use Rattle.ioa_terms.specs.PlainTerm as plain;
 ghost use Rattle.ioa_terms.specs.PlainTerm.{terms_of};
 ghost use Rattle.ioa_values.specs.Data.{is_within};
 ghost use Rattle.ioa_terms.specs.View.{term_of};
@@ -21,10 +23,11 @@ ghost use Rattle.ioa_terms.specs.Views.{IsNamed, environment_of, names_in_view};
 use crate::callee::Callee;
 use crate::environment::{Env, Inbox, Slot, View};
 use crate::name::Name;
-use crate::quick::{quick_truth, quick_value};
+use crate::quick::{lent_value, quick_truth, quick_value};
 use crate::tree::Checked;
 use ioa_operators::{
-    BinaryOperator, TermFault, binary, call, display, field, left_decision, unary,
+    BinaryOperator, Function, TermFault, binary, call, call_lent, display, field, left_decision,
+    unary,
 };
 use ioa_values::collections::update;
 use ioa_values::{Value, Word};
@@ -60,7 +63,116 @@ pub fn evaluate(
 {
     match quick_value(term, view, values) {
         Some(value) => Ok(value),
-        None => evaluate_slowly(alloc, term, view, values),
+        None => evaluate_lent(alloc, term, view, values),
+    }
+}
+
+/// The same of a term that is no number and no truth value found quickly.
+pub(crate) fn evaluate_lent(
+    alloc: Global,
+    term: &Checked,
+    view: &View,
+    values: &[Value],
+) -> Result<Value, TermFault>
+    requires named { IsNamed view.now values.now }
+    requires resolved { IsResolved (term_of term.now) (names_in_view view.now) }
+    ensures { Answers TermFault.Memory (λ v. v) result
+        (stepwise_answer (term_of term.now) (environment_of view.now values.now)) }
+{
+    match lent_value(term, view, values) {
+        Some(value) => Ok(value.try_copy()?),
+        None => match of_lent_parts(alloc, term, view, values) {
+            Some(result) => result,
+            None => evaluate_slowly(alloc, term, view, values),
+        },
+    }
+}
+
+/// What the value of a term comes to, if it is made of one or two values that are lent.
+fn of_lent_parts(
+    alloc: Global,
+    term: &Checked,
+    view: &View,
+    values: &[Value],
+) -> Option<Result<Value, TermFault>>
+    requires named { IsNamed view.now values.now }
+    requires resolved { IsResolved (term_of term.now) (names_in_view view.now) }
+    ensures { IfSome result (λ r. Answers TermFault.Memory (λ v. v) r
+        (stepwise_answer (term_of term.now) (environment_of view.now values.now))) }
+{
+    match term {
+        Checked::Two(operator, a, b) => {
+            let left = lent_value(a, view, values)?;
+            let right = lent_value(b, view, values)?;
+            Some(of_two(alloc, *operator, left, right))
+        }
+        Checked::Call(name, callee, parts) => { of_call(alloc, name, *callee, parts, view, values) }
+        _ => None,
+    }
+}
+
+/// The value of an operator between two values, which are lent.
+fn of_two(
+    alloc: Global,
+    operator: BinaryOperator,
+    left: &Value,
+    right: &Value,
+) -> Result<Value, TermFault>
+    ensures { Answers TermFault.Memory (λ v. v) result
+        (with_right operator left.now (spec.left_decision operator left.now) (Ok right.now)) }
+{
+    match left_decision(operator, left) {
+        Some(decision) => Ok(Value::truth(decision)),
+        None => {
+            let left = left.try_copy()?;
+            let right = right.try_copy()?;
+            binary(alloc, operator, left, right)
+        }
+    }
+}
+
+/// What a call comes to, if it is of a function of one value that is lent.
+fn of_call(
+    alloc: Global,
+    _name: &Word,
+    callee: Callee,
+    parts: &Vec<Checked>,
+    view: &View,
+    values: &[Value],
+) -> Option<Result<Value, TermFault>>
+    requires named { IsNamed view.now values.now }
+    requires callee { IsCallee _name.now callee (names_in_view view.now) }
+    requires parts { AreTermsResolved (terms_of (map term_of parts.now.items)) (names_in_view view.now) }
+    ensures { IfSome result (λ r. Answers TermFault.Memory (λ v. v) r
+        (stepwise_answer (plain.call _name.now callee (terms_of (map term_of parts.now.items)))
+        (environment_of view.now values.now))) }
+{
+    match callee {
+        Callee::Function(function) => of_part(alloc, function, parts, view, values),
+        Callee::Inboxes(_) => None,
+    }
+}
+
+/// The same of a function.
+fn of_part(
+    alloc: Global,
+    function: Function,
+    parts: &Vec<Checked>,
+    view: &View,
+    values: &[Value],
+) -> Option<Result<Value, TermFault>>
+    requires named { IsNamed view.now values.now }
+    requires parts { AreTermsResolved (terms_of (map term_of parts.now.items)) (names_in_view view.now) }
+    ensures { IfSome result (λ r. Answers TermFault.Memory (λ v. v) r
+        (and_then (stepwise_answers (terms_of (map term_of parts.now.items)) (environment_of view.now values.now))
+        (λ vs. checked_result (call_value function vs)))) }
+{
+    match parts.as_slice() {
+        [part] => {
+            let value = lent_value(part, view, values)?;
+            Some(call_lent(alloc, function, value))
+        }
+        _ => None,
     }
 }
 

@@ -2,6 +2,7 @@
 
 ghost use Rattle.std.specs.Prelude.{◌≡◌, ◌<◌, IfOk, OnErr, Some, length, map, slice_set};
 ghost use Rattle.std.specs.Option.{option_and_then};
+ghost use Rattle.ioa_values.specs.Data.{number, truth};
 ghost use Rattle.ioa_values.specs.Outcome.{Answers, and_then};
 ghost use Rattle.ioa_operators.specs.RangeCheck.{checked_result};
 ghost use Rattle.ioa_operators.specs.Shapes.{with_field};
@@ -17,9 +18,9 @@ ghost use Rattle.ioa_terms.specs.Views.{IsNamed, environment_of, names_in_view, 
 
 use crate::callee::Callee;
 use crate::environment::{Env, View};
-use crate::evaluation::{evaluate, evaluate_stepwise, evaluate_test, read};
+use crate::evaluation::{evaluate_lent, evaluate_stepwise, evaluate_test, read};
 use crate::name::Name;
-use crate::quick::quick_number;
+use crate::quick::{quick_number, quick_truth};
 use crate::tree::{Checked, Statement, Target};
 use ioa_operators::{Function, Shape, TermFault, call, replace_field};
 use ioa_values::{Value, Word};
@@ -119,13 +120,16 @@ pub fn perform_assignment(
 {
     if let Target::Variable(name, at, shape) = target {
         if let Some(number) = quick_number(term, view, values) {
-            return put(name, *at, shape, Value::number(number), view, values);
+            return put_number(name, *at, shape, number, view, values);
+        }
+        if let Some(truth) = quick_truth(term, view, values) {
+            return put_truth(name, *at, shape, truth, view, values);
         }
     }
     assign_evaluated(alloc, target, term, view, values)
 }
 
-/// The same where the value is no number that is found quickly.
+/// The same where the value is no number and no truth value that is found quickly.
 fn assign_evaluated(
     alloc: Global,
     target: &Target<usize, Callee, Shape>,
@@ -165,7 +169,7 @@ fn new_value(
         (environment_of view.now values.now)) }
 {
     match target {
-        Target::Variable(_, _, _) => evaluate(alloc, term, view, values),
+        Target::Variable(_, _, _) => evaluate_lent(alloc, term, view, values),
         _ => whole_value(alloc, target, term, view, values),
     }
 }
@@ -295,6 +299,71 @@ fn put(
     } else {
         Err(TermFault::Undefined)
     }
+}
+
+/// The same of a number, which is written over the one that stands there.
+#[tactic(auto, using(crate::proofs::Slots::put_among_first, crate::proofs::Slots::slot_within_first))]
+fn put_number(
+    name: &Word,
+    at: usize,
+    shape: &Shape,
+    n: i64,
+    view: &View,
+    values: &mut Vec<Value>,
+) -> Result<(), TermFault>
+    requires { slot_in (Name.Word name.now) (own_names view.now (length values.old.items)) ≡ Some at }
+    ensures after { Answers TermFault.Memory (λ _. environment_of view.now values.new.items) result
+        (put_fitting_value (Name.Word name.now) shape.now (environment_of view.now values.old.items)
+        (number n)) }
+    ensures kept { length values.new.items ≡ length values.old.items }
+    ensures unchanged { OnErr result (values.new ≡ values.old) }
+{
+    if shape.admits_number(n) {
+        set_number(values, at, n);
+        Ok(())
+    } else {
+        Err(TermFault::Undefined)
+    }
+}
+
+/// The same of a truth value.
+#[tactic(auto, using(crate::proofs::Slots::put_among_first, crate::proofs::Slots::slot_within_first))]
+fn put_truth(
+    name: &Word,
+    at: usize,
+    shape: &Shape,
+    b: bool,
+    view: &View,
+    values: &mut Vec<Value>,
+) -> Result<(), TermFault>
+    requires { slot_in (Name.Word name.now) (own_names view.now (length values.old.items)) ≡ Some at }
+    ensures after { Answers TermFault.Memory (λ _. environment_of view.now values.new.items) result
+        (put_fitting_value (Name.Word name.now) shape.now (environment_of view.now values.old.items) (truth b)) }
+    ensures kept { length values.new.items ≡ length values.old.items }
+    ensures unchanged { OnErr result (values.new ≡ values.old) }
+{
+    if shape.admits(&Value::truth(b)) {
+        set_truth(values, at, b);
+        Ok(())
+    } else {
+        Err(TermFault::Undefined)
+    }
+}
+
+/// Makes the value at a slot a truth value.
+fn set_truth(values: &mut Vec<Value>, slot: usize, b: bool)
+    requires { slot < length values.old.items }
+    ensures { values.new.items ≡ slice_set values.old.items slot (truth b) }
+{
+    values[slot].set_truth(b);
+}
+
+/// Makes the value at a slot a number.
+fn set_number(values: &mut Vec<Value>, slot: usize, n: i64)
+    requires { slot < length values.old.items }
+    ensures { values.new.items ≡ slice_set values.old.items slot (number n) }
+{
+    values[slot].set_number(n);
 }
 
 /// Replaces the value at a slot, and drops the old one.

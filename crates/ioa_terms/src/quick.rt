@@ -1,22 +1,28 @@
 //! Values that are found with no memory and without a fault, by reference to what is in view.
 
-ghost use Rattle.std.specs.Prelude.{◌≡◌, IfSome, Ok, Some, not, true};
+ghost use Rattle.std.specs.Prelude.{◌≡◌, [], IfSome, Ok, Some, map, not, true};
 ghost use Rattle.std.specs.Option.{option_map};
 ghost use Rattle.ioa_values.specs.Data.{is_within, number, truth};
 ghost use Rattle.ioa_operators.specs.RangeCheck.{checked_result};
 ghost use Rattle.ioa_terms.specs.Bindings.{lookup, slot_in};
-ghost use Rattle.ioa_terms.specs.PlainTerm.{two};
-ghost use Rattle.ioa_terms.specs.Resolved.{IsResolved};
+ghost use Rattle.ioa_operators.specs.Operators.{call_value};
+ghost use Rattle.ioa_operators.specs.Shapes.{display_value};
+ghost use Rattle.ioa_values.specs.Outcome.{and_then};
+ghost use Rattle.ioa_terms.specs.PlainTerm.{call, terms_of, two};
+ghost use Rattle.ioa_terms.specs.Resolved.{AreTermsResolved, IsCallee, IsResolved};
 ghost use Rattle.ioa_terms.specs.Slots.{slot_value};
-ghost use Rattle.ioa_terms.specs.Stepwise.{stepwise_answer};
+ghost use Rattle.ioa_terms.specs.Stepwise.{stepwise_answer, stepwise_answers};
 ghost use Rattle.ioa_terms.specs.View.{term_of};
 ghost use Rattle.ioa_terms.specs.Views.{IsNamed, environment_of, names_in_view};
 
+use crate::callee::Callee;
 use crate::environment::{Slot, View};
 use crate::name::Name;
 use crate::tree::Checked;
-use ioa_operators::{BinaryOperator, UnaryOperator};
-use ioa_values::Value;
+use ioa_operators::{
+    BinaryOperator, DisplayForm, Function, Shape, ShapeForm, UnaryOperator, first_item,
+};
+use ioa_values::{Sequence, Value, Word};
 
 /// The value of a term, if it is a number or a truth value that is found quickly.
 pub(crate) fn quick_value(term: &Checked, view: &View, values: &[Value]) -> Option<Value>
@@ -42,24 +48,88 @@ pub(crate) fn quick_number(term: &Checked, view: &View, values: &[Value]) -> Opt
     ensures { IfSome result
         (λ n. stepwise_answer (term_of term.now) (environment_of view.now values.now) ≡ Ok (number n)) }
 {
+    match number_at_hand(term, view, values) {
+        Some(n) => Some(n),
+        None => quick_sum(term, view, values),
+    }
+}
+
+/// The number of a term, if it is a number, or the value of the term is one and lent.
+fn number_at_hand(term: &Checked, view: &View, values: &[Value]) -> Option<i64>
+    requires named { IsNamed view.now values.now }
+    requires resolved { IsResolved (term_of term.now) (names_in_view view.now) }
+    ensures { IfSome result
+        (λ n. stepwise_answer (term_of term.now) (environment_of view.now values.now) ≡ Ok (number n)) }
+{
     match term {
         Checked::Number(n) => Some(*n),
-        Checked::Name(_, _) => number_named(term, view, values),
-        Checked::Two(BinaryOperator::Plus, a, b) => {
-            let left = quick_number(a, view, values)?;
-            let right = quick_number(b, view, values)?;
-            left.checked_add(right)
+        _ => number_lent(term, view, values),
+    }
+}
+
+/// The number that is the value of a term, if it is lent.
+fn number_lent(term: &Checked, view: &View, values: &[Value]) -> Option<i64>
+    requires named { IsNamed view.now values.now }
+    requires resolved { IsResolved (term_of term.now) (names_in_view view.now) }
+    ensures { IfSome result
+        (λ n. stepwise_answer (term_of term.now) (environment_of view.now values.now) ≡ Ok (number n)) }
+{
+    lent_value(term, view, values)?.as_number()
+}
+
+/// The number of a term, if it is a sum, a difference or a product of terms whose numbers are found quickly.
+fn quick_sum(term: &Checked, view: &View, values: &[Value]) -> Option<i64>
+    requires named { IsNamed view.now values.now }
+    requires resolved { IsResolved (term_of term.now) (names_in_view view.now) }
+    ensures { IfSome result
+        (λ n. stepwise_answer (term_of term.now) (environment_of view.now values.now) ≡ Ok (number n)) }
+{
+    match term {
+        Checked::Two(operator, a, b) => {
+            if !is_arithmetic(*operator) {
+                return None;
+            }
+            let left = match number_at_hand(a, view, values) {
+                Some(n) => n,
+                None => quick_sum(a, view, values)?,
+            };
+            let right = match number_at_hand(b, view, values) {
+                Some(n) => n,
+                None => quick_sum(b, view, values)?,
+            };
+            sum_of(*operator, a, left, b, right, view, values)
         }
-        Checked::Two(BinaryOperator::Minus, a, b) => {
-            let left = quick_number(a, view, values)?;
-            let right = quick_number(b, view, values)?;
-            left.checked_sub(right)
-        }
-        Checked::Two(BinaryOperator::Times, a, b) => {
-            let left = quick_number(a, view, values)?;
-            let right = quick_number(b, view, values)?;
-            left.checked_mul(right)
-        }
+        _ => None,
+    }
+}
+
+/// Whether an operator makes a number of two.
+fn is_arithmetic(operator: BinaryOperator) -> bool {
+    match operator {
+        BinaryOperator::Plus | BinaryOperator::Minus | BinaryOperator::Times => true,
+        _ => false,
+    }
+}
+
+/// The sum, the difference or the product of two terms, which have these numbers.
+fn sum_of(
+    operator: BinaryOperator,
+    _a: &Checked,
+    left: i64,
+    _b: &Checked,
+    right: i64,
+    _view: &View,
+    _values: &[Value],
+) -> Option<i64>
+    requires left { stepwise_answer (term_of _a.now) (environment_of _view.now _values.now) ≡ Ok (number left) }
+    requires right { stepwise_answer (term_of _b.now) (environment_of _view.now _values.now) ≡ Ok (number right) }
+    ensures { IfSome result (λ n. stepwise_answer (two operator (term_of _a.now) (term_of _b.now))
+        (environment_of _view.now _values.now) ≡ Ok (number n)) }
+{
+    match operator {
+        BinaryOperator::Plus => left.checked_add(right),
+        BinaryOperator::Minus => left.checked_sub(right),
+        BinaryOperator::Times => left.checked_mul(right),
         _ => None,
     }
 }
@@ -177,12 +247,12 @@ fn quick_same(a: &Checked, b: &Checked, view: &View, values: &[Value]) -> Option
             let right = quick_number(b, view, values)?;
             Some(Value::number(left).equals(&Value::number(right)))
         }
-        None => same_named(a, b, view, values),
+        None => same_lent(a, b, view, values),
     }
 }
 
-/// The same of two names.
-fn same_named(a: &Checked, b: &Checked, view: &View, values: &[Value]) -> Option<bool>
+/// The same, if the first value is lent.
+fn same_lent(a: &Checked, b: &Checked, view: &View, values: &[Value]) -> Option<bool>
     requires named { IsNamed view.now values.now }
     requires left { IsResolved (term_of a.now) (names_in_view view.now) }
     requires right { IsResolved (term_of b.now) (names_in_view view.now) }
@@ -191,29 +261,128 @@ fn same_named(a: &Checked, b: &Checked, view: &View, values: &[Value]) -> Option
     ensures differ { IfSome result (λ t. stepwise_answer (two BinaryOperator.NotEqual (term_of a.now) (term_of b.now))
         (environment_of view.now values.now) ≡ Ok (truth (not t))) }
 {
-    match (slot_named(a, view, values)?, slot_named(b, view, values)?) {
-        (Slot::Variable(left), Slot::Variable(right)) => {
-            within_law(left);
-            within_law(right);
-            Some(left.equals(right))
+    let left = lent_value(a, view, values)?;
+    match lent_value(b, view, values) {
+        Some(right) => Some(left.equals(right)),
+        None => {
+            let right = small_value(b, view, values)?;
+            Some(left.equals(&right))
         }
-        (Slot::Variable(left), Slot::Constant(right)) => {
-            within_law(left);
-            Some(left.equals(&Value::constant(right)))
+    }
+}
+
+/// The value of a term that is made with no memory: a constant of the text, or a sequence of no items.
+fn small_value(term: &Checked, view: &View, values: &[Value]) -> Option<Value>
+    requires named { IsNamed view.now values.now }
+    requires resolved { IsResolved (term_of term.now) (names_in_view view.now) }
+    ensures { IfSome result
+        (λ v. stepwise_answer (term_of term.now) (environment_of view.now values.now) ≡ Ok v) }
+{
+    match term {
+        Checked::Name(_, _) => constant_named(term, view, values),
+        Checked::Display(form, shape, parts) => {
+            if parts.is_empty() {
+                empty_sequence(*form, shape)
+            } else {
+                None
+            }
         }
         _ => None,
     }
 }
 
-/// The number of a name, if its value is one and lent.
-fn number_named(term: &Checked, view: &View, values: &[Value]) -> Option<i64>
+/// The constant of the text that a name is, if it is one.
+fn constant_named(term: &Checked, view: &View, values: &[Value]) -> Option<Value>
     requires named { IsNamed view.now values.now }
     requires resolved { IsResolved (term_of term.now) (names_in_view view.now) }
     ensures { IfSome result
-        (λ n. stepwise_answer (term_of term.now) (environment_of view.now values.now) ≡ Ok (number n)) }
+        (λ v. stepwise_answer (term_of term.now) (environment_of view.now values.now) ≡ Ok v) }
 {
     match slot_named(term, view, values)? {
-        Slot::Variable(value) => value.as_number(),
+        Slot::Constant(constant) => Some(Value::constant(constant)),
+        _ => None,
+    }
+}
+
+/// The value of a display of no parts, if it is a sequence.
+fn empty_sequence(form: DisplayForm, shape: &Shape) -> Option<Value>
+    ensures { IfSome result (λ v. checked_result (display_value form shape.now []) ≡ Ok v) }
+{
+    match (form, &shape.form) {
+        (DisplayForm::Braces, ShapeForm::Sequences(_)) => Some(Value::sequence(Sequence::new())),
+        _ => None,
+    }
+}
+
+/// The value of a term, if it is lent: that of a name, or the first item of a name's sequence.
+pub(crate) fn lent_value<'a>(
+    term: &Checked,
+    view: &'a View,
+    values: &'a [Value],
+) -> Option<&'a Value>
+    requires named { IsNamed view.now values.now }
+    requires resolved { IsResolved (term_of term.now) (names_in_view view.now) }
+    ensures { IfSome result
+        (λ v. stepwise_answer (term_of term.now) (environment_of view.now values.now) ≡ Ok v.now) }
+{
+    match term {
+        Checked::Name(_, _) => named_value(term, view, values),
+        Checked::Call(name, callee, parts) => called_value(name, *callee, parts, view, values),
+        _ => None,
+    }
+}
+
+/// The value of a name, if it is lent.
+fn named_value<'a>(term: &Checked, view: &'a View, values: &'a [Value]) -> Option<&'a Value>
+    requires named { IsNamed view.now values.now }
+    requires resolved { IsResolved (term_of term.now) (names_in_view view.now) }
+    ensures { IfSome result
+        (λ v. stepwise_answer (term_of term.now) (environment_of view.now values.now) ≡ Ok v.now) }
+{
+    match slot_named(term, view, values)? {
+        Slot::Variable(value) => {
+            within_law(value);
+            Some(value)
+        }
+        _ => None,
+    }
+}
+
+/// The value of a call, if it is lent: the first item of a name's sequence.
+fn called_value<'a>(
+    _name: &Word,
+    callee: Callee,
+    parts: &Vec<Checked>,
+    view: &'a View,
+    values: &'a [Value],
+) -> Option<&'a Value>
+    requires named { IsNamed view.now values.now }
+    requires callee { IsCallee _name.now callee (names_in_view view.now) }
+    requires parts { AreTermsResolved (terms_of (map term_of parts.now.items)) (names_in_view view.now) }
+    ensures { IfSome result (λ v. stepwise_answer (call _name.now callee (terms_of (map term_of parts.now.items)))
+        (environment_of view.now values.now) ≡ Ok v.now) }
+{
+    match callee {
+        Callee::Function(Function::Head) => first_value(parts, view, values),
+        _ => None,
+    }
+}
+
+/// The first item of a name's sequence, if these are that name alone.
+fn first_value<'a>(parts: &Vec<Checked>, view: &'a View, values: &'a [Value]) -> Option<&'a Value>
+    requires named { IsNamed view.now values.now }
+    requires parts { AreTermsResolved (terms_of (map term_of parts.now.items)) (names_in_view view.now) }
+    ensures { IfSome result
+        (λ v. and_then (stepwise_answers (terms_of (map term_of parts.now.items)) (environment_of view.now values.now))
+        (λ vs. checked_result (call_value Function.Head vs)) ≡ Ok v.now) }
+{
+    match parts.as_slice() {
+        [part] => {
+            let sequence = named_value(part, view, values)?;
+            let item = first_item(sequence)?;
+            within_law(item);
+            Some(item)
+        }
         _ => None,
     }
 }
