@@ -199,16 +199,17 @@ impl Action {
         alloc: Global,
         node: i64,
         name: &Word,
-        arguments: Vec<Value>,
+        arguments: &[Value],
     ) -> Result<Self, AllocError>
-        ensures { IfOk result (λ a. a ≡ parts.input_at node name.now arguments.items) }
+        ensures { IfOk result (λ a. a ≡ parts.input_at node name.now arguments.now) }
     {
-        if let Some((message, from, to)) = message_and_ends(&arguments) {
-            if name.as_str() == RECEIVE {
+        if let Some((message, from, to)) = message_and_ends(arguments) {
+            if name.spells(RECEIVE) {
                 let message = message.try_copy()?;
                 return Ok(Action::Receive { message, from, to });
             }
         }
+        let arguments = copies(alloc, arguments)?;
         Ok(Action::Stimulus(NodeAction::new(alloc, node, name, arguments)?))
     }
 
@@ -218,16 +219,17 @@ impl Action {
         alloc: Global,
         node: i64,
         name: &Word,
-        arguments: Vec<Value>,
+        arguments: &[Value],
     ) -> Result<Self, AllocError>
-        ensures { IfOk result (λ a. a ≡ parts.locally_controlled_at node name.now arguments.items) }
+        ensures { IfOk result (λ a. a ≡ parts.locally_controlled_at node name.now arguments.now) }
     {
-        if let Some((message, from, to)) = message_and_ends(&arguments) {
-            if name.as_str() == SEND {
+        if let Some((message, from, to)) = message_and_ends(arguments) {
+            if name.spells(SEND) {
                 let message = message.try_copy()?;
                 return Ok(Action::Send { message, from, to });
             }
         }
+        let arguments = copies(alloc, arguments)?;
         Ok(Action::Local(NodeAction::new(alloc, node, name, arguments)?))
     }
 

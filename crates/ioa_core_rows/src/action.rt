@@ -49,9 +49,9 @@ pub(crate) fn number_of(word: &str) -> Result<i64, CommandFault> {
 fn action_at(alloc: Global, system: &System, node: i64, call: Call) -> Result<Action, AllocError> {
     let Call { name, arguments } = call;
     if is_input(system, node, &name) {
-        Action::input_at(alloc, node, &name, arguments)
+        Action::input_at(alloc, node, &name, &arguments)
     } else {
-        Action::locally_controlled_at(alloc, node, &name, arguments)
+        Action::locally_controlled_at(alloc, node, &name, &arguments)
     }
 }
 
@@ -78,8 +78,8 @@ fn has_input(program: &Program, name: &Word) -> bool {
 fn message_of(alloc: Global, call: Call) -> Result<Action, CommandFault> {
     let Call { name, arguments } = call;
     let action = match name.as_str().as_bytes() {
-        b"receive" => Action::input_at(alloc, 0, &name, arguments)?,
-        _ => Action::locally_controlled_at(alloc, 0, &name, arguments)?,
+        b"receive" => Action::input_at(alloc, 0, &name, &arguments)?,
+        _ => Action::locally_controlled_at(alloc, 0, &name, &arguments)?,
     };
     match action {
         Action::Send { .. } | Action::Receive { .. } => Ok(action),

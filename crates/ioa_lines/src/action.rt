@@ -40,9 +40,9 @@ fn action_by(
 {
     let name = &rule.entry.name;
     if rule.entry.kind == Kind::Input {
-        Action::input_at(alloc, node, name, arguments)
+        Action::input_at(alloc, node, name, &arguments)
     } else {
-        Action::locally_controlled_at(alloc, node, name, arguments)
+        Action::locally_controlled_at(alloc, node, name, &arguments)
     }
 }
 

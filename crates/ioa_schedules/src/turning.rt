@@ -60,15 +60,6 @@ impl<'a> Control<'a> {
         &self.arguments
     }
 
-    /// Takes these values out, with their room: the next ones ask for memory.
-    pub fn take_arguments(&mut self, alloc: Global) -> Vec<Value>
-        ensures arguments { result.items ≡ arguments_of self.old }
-        ensures state { state_of self.new ≡ state_of self.old }
-        ensures kept { kept_of self.new ≡ kept_of self.old }
-    {
-        mem::replace(&mut self.arguments, Vec::new(alloc))
-    }
-
     /// Whether the block is again what it was before its last turn, in which it took statements. It is told only of a
     /// block that stands in its own list of statements then, and not in the body of an `if` or a `while`. It costs what
     /// comparing the values of the block's own variables does.

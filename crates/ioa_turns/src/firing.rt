@@ -26,10 +26,10 @@ fn action_of(
     alloc: Global,
     program: &Program,
     firing: &Firing<usize, Callee, Shape>,
-    arguments: Vec<Value>,
+    arguments: &[Value],
 ) -> Result<Action, AllocError>
     requires { IsNumberOf program.now.automaton.rules firing.now.action firing.now.rule }
-    ensures { IfOk result (λ a. a ≡ spec.action_fired program.now firing.now.action arguments.items) }
+    ensures { IfOk result (λ a. a ≡ spec.action_fired program.now firing.now.action arguments.now) }
 {
     let name = &firing.action;
     if is_input(program.automaton().rule_numbered(firing.rule)) {
@@ -51,8 +51,7 @@ fn is_input(rule: Option<&Rule>) -> bool
 
 impl Progress<'_> {
     /// The action of a firing at which the node stands, with the arguments that its turn found. If it is the one that
-    /// the node fired last, that gets one more owner, and nothing is built. Else the arguments become those of the
-    /// action.
+    /// the node fired last, that gets one more owner, and nothing is built.
     pub fn action_fired(
         &mut self,
         alloc: Global,
@@ -66,10 +65,7 @@ impl Progress<'_> {
     {
         match self.last_fired(firing, self.control.arguments()) {
             Some(action) => Arc::try_clone(action),
-            None => {
-                let arguments = self.control.take_arguments(alloc);
-                self.fire_anew(alloc, firing, arguments)
-            }
+            None => self.fire_anew(alloc, firing),
         }
     }
 
@@ -95,20 +91,20 @@ impl Progress<'_> {
         }
     }
 
-    /// The action that a firing with these arguments gives at the node, which keeps it too.
+    /// The same action, which is built, and which the node keeps too.
     fn fire_anew(
         &mut self,
         alloc: Global,
         firing: &Firing<usize, Callee, Shape>,
-        arguments: Vec<Value>,
     ) -> Result<Arc<Action>, AllocError>
         requires { IsNumberOf self.old.program.now.automaton.rules firing.now.action firing.now.rule }
         ensures action { IfOk result
-            (λ a. arc_value a ≡ spec.action_fired self.old.program.now firing.now.action arguments.items) }
+            (λ a. arc_value a ≡ spec.action_fired self.old.program.now firing.now.action (arguments_in self.old)) }
         ensures unchanged { progress_of self.new ≡ progress_of self.old }
         ensures kept { kept_in self.new ≡ kept_in self.old }
     {
-        let action = Arc::new(alloc, action_of(alloc, self.program, firing, arguments)?)?;
+        let built = action_of(alloc, self.program, firing, self.control.arguments())?;
+        let action = Arc::new(alloc, built)?;
         let kept = Arc::try_clone(&action)?;
         self.last = Some(LastFired {
             rule: firing.rule,
@@ -125,9 +121,19 @@ fn has_arguments(action: &Action, arguments: &[Value]) -> bool
     match action {
         Action::Send { message, from, to } => are_message(message, *from, *to, arguments),
         Action::Receive { message, from, to } => are_message(message, *from, *to, arguments),
-        Action::Local(action) => action.arguments.as_slice() == arguments,
-        Action::Stimulus(action) => action.arguments.as_slice() == arguments,
+        Action::Local(action) => are_same(action.arguments.as_slice(), arguments),
+        Action::Stimulus(action) => are_same(action.arguments.as_slice(), arguments),
     }
+}
+
+/// Whether values are the same, in order. Mostly there are none.
+fn are_same(values: &[Value], others: &[Value]) -> bool
+    ensures { result ≡ all_same values.now others.now }
+{
+    if values.is_empty() && others.is_empty() {
+        return true;
+    }
+    values == others
 }
 
 /// Whether arguments are a message and the two ends of its channel.
