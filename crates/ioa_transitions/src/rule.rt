@@ -228,7 +228,7 @@ fn entry_agrees(
     if !kind_may_agree(action, entry.kind) {
         return Ok(false);
     }
-    if entry.name.as_str() != action.name() {
+    if !entry.name.spells(action.name()) {
         return Ok(false);
     }
     if !kind_agrees(action, entry.kind) {
@@ -280,12 +280,8 @@ pub fn values_after(
                 alloc, program, variables, action, message, *from, *to, values,
             )
         }
-        Action::Local(local) => {
-            let arguments = local.arguments.as_slice();
-            values_by(alloc, program, variables, action, arguments, values)
-        }
-        Action::Stimulus(stimulus) => {
-            let arguments = stimulus.arguments.as_slice();
+        Action::Local(own) | Action::Stimulus(own) => {
+            let arguments = own.arguments.as_slice();
             values_by(alloc, program, variables, action, arguments, values)
         }
     }
