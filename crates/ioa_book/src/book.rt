@@ -93,11 +93,11 @@ impl<O: Origin> Book<O> {
         Ok(look)
     }
 
-    /// The same look once more, in its place: it shows the book as it is now. What is held as it was read stays; only of
-    /// what is another one now a new owner is taken. `Unknown` (53) if there is no such node, and then the look is as it
-    /// was. After `Memory` (3) it may be partly of before and partly of now. Returns whether it shows the same as
-    /// before, but for the length of the log. That is found in constant time for each component, and may be missed where
-    /// equal configurations were made apart.
+    /// The same look once more, in its place: it shows the book as it is now. What is held as it was read stays; only
+    /// of what is another one now a new owner is taken. `Unknown` (53) if there is no such node, and then the look is
+    /// as it was. After `Memory` (3) it may be partly of before and partly of now. Returns whether it shows the same as
+    /// before, but for the length of the log. That is found in constant time for each component, and may be missed
+    /// where equal configurations were made apart.
     pub fn look_again(&self, look: &mut Snapshot<O>) -> Result<bool, LookFault>
         ensures again { Answers LookFault.Memory (λ _. look.new) result (spec.look_answer self.now look.old.node) }
         ensures node { look.new.node ≡ look.old.node }

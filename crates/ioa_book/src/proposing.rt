@@ -59,8 +59,8 @@ pub(crate) fn proposal_of_two<O: Origin>(
     Ok(Proposal::new(entry, again, length, Some(queue), node))
 }
 
-/// A participant that was read so, with its configuration after its own step by an action, or the step's fault. If there
-/// is room, it is made there.
+/// A participant that was read so, with its configuration after its own step by an action, or the step's fault. If
+/// there is room, it is made there.
 fn participant<O: Origin>(
     alloc: Global,
     action: &Action,

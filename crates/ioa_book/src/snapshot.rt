@@ -26,9 +26,9 @@ use std::marker::Model;
 use std::sync::Arc;
 
 /// What a look at a node has read: the configurations of the node, of the channels to it and from it, and of its
-/// script, each with its version, and how long the log was. It has room for as many as a node of a system of 64 nodes can
-/// have to do with, so it asks for no memory; more go to the heap. What is read stands in an `Option`, since a place in
-/// which nothing is read yet has a blank.
+/// script, each with its version, and how long the log was. It has room for as many as a node of a system of 64 nodes
+/// can have to do with, so it asks for no memory; more go to the heap. What is read stands in an `Option`, since a
+/// place in which nothing is read yet has a blank.
 #[derive(Drop)]
 pub struct Snapshot<O: Origin> {
     node: i64,
@@ -139,8 +139,8 @@ impl<O: Origin> Snapshot<O> {
         self.propose_in(alloc, action, &mut rooms)
     }
 
-    /// The same proposal, with room for it: where nobody else owns what is there, the new configurations are written over
-    /// that.
+    /// The same proposal, with room for it: where nobody else owns what is there, the new configurations are written
+    /// over that.
     pub fn propose_in(
         &self,
         alloc: Global,

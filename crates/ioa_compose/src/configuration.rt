@@ -73,8 +73,8 @@ impl Conf {
         }
     }
 
-    /// The same step, written over another configuration, whose room is used again where it serves. After a fault that is
-    /// some configuration.
+    /// The same step, written over another configuration, whose room is used again where it serves. After a fault that
+    /// is some configuration.
     #[tactic(auto, unfolding(crate::specs::Composition::conf_answer))]
     pub fn step_over(
         &self,

@@ -90,8 +90,8 @@ fn spare_of(alloc: Global, spare: &mut Option<Spare<Entry>>) -> Result<Spare<Ent
     }
 }
 
-/// The attempt of a proposal with a block: its receipt, or why it is missed. What was read and is held no longer is room
-/// for the next proposal.
+/// The attempt of a proposal with a block: its receipt, or why it is missed. What was read and is held no longer is
+/// room for the next proposal.
 fn attempt<O: Origin, L: Ledger, B: Board<O, L>>(
     board: &mut B,
     proposal: Proposal<O>,

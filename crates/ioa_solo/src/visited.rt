@@ -13,8 +13,9 @@ use ioa_system::Program;
 use ioa_turns::Progress;
 use std::alloc::{AllocError, Global};
 
-/// A node of a worker: its number, how far it has come, the place of the last look at it, and room for its next proposal.
-/// If it is settled on that look, an attempt on another one that shows the same does nothing, and need not be made.
+/// A node of a worker: its number, how far it has come, the place of the last look at it, and room for its next
+/// proposal. If it is settled on that look, an attempt on another one that shows the same does nothing, and need not be
+/// made.
 #[derive(Drop)]
 pub(crate) struct Visited<'a, O: Origin> {
     pub(crate) number: i64,
