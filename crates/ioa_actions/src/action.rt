@@ -234,6 +234,7 @@ impl Action {
     }
 
     /// The node of the action: the sender of a send, and the receiver of a receive.
+    #[inline(always)]
     pub fn node(&self) -> i64
         ensures { result ≡ parts.node_of self.now }
     {

@@ -72,6 +72,7 @@ pub trait Board<O: Origin, L: Ledger> {
 
     /// The commit of a proposal. `Older` (54) if the log is shorter than the pass has seen; else as the book's commit.
     /// If the commit is made, the share counts one more. The spare comes back unless it was linked to the log.
+    #[inline(always)]
     final fn attempt(
         &mut self,
         proposal: Proposal<O>,

@@ -31,6 +31,7 @@ impl<O: Origin, L: Ledger> Board<O, L> for Solo<O, L> {
         Solo::is_opened_with(self, system)
     }
 
+    #[inline(always)]
     fn look(
         &mut self,
         alloc: Global,
@@ -52,6 +53,7 @@ impl<O: Origin, L: Ledger> Board<O, L> for Solo<O, L> {
         Ok(false)
     }
 
+    #[inline(always)]
     fn attempt_offer(
         &mut self,
         offer: &mut Option<Proposal<O>>,
@@ -84,6 +86,7 @@ impl<O: Origin, L: Ledger> Board<O, L> for Solo<O, L> {
 
 /// The first look at a node. It has a function of its own, since a function fills the room of its large locals each
 /// time that it begins.
+#[inline(never)]
 fn look_first<O: Origin, L: Ledger>(
     board: &Solo<O, L>,
     alloc: Global,

@@ -98,6 +98,7 @@ impl<O: Origin> Book<O> {
     /// as it was. After `Memory` (3) it may be partly of before and partly of now. Returns whether it shows the same as
     /// before, but for the length of the log. That is found in constant time for each component, and may be missed
     /// where equal configurations were made apart.
+    #[inline(always)]
     pub fn look_again(&self, look: &mut Snapshot<O>) -> Result<bool, LookFault>
         ensures again { Answers LookFault.Memory (λ _. look.new) result (spec.look_answer self.now look.old.node) }
         ensures node { look.new.node ≡ look.old.node }
@@ -125,6 +126,7 @@ impl<O: Origin> Book<O> {
     }
 
     /// Reads what the node of a look has to do with, into as many places as it takes.
+    #[inline(never)]
     #[tactic(auto, using(crate::proofs::OwnReads::look_made))]
     fn fill(&self, look: &mut Snapshot<O>) -> Result<(), AllocError>
         ensures { OnOk result (spec.IsLookAt self.now look.old.node look.new) }
@@ -136,6 +138,7 @@ impl<O: Origin> Book<O> {
 
     /// Reads what the node of a look has to do with, into the places that there are. Returns whether all was there
     /// already.
+    #[inline(always)]
     #[tactic(auto, using(crate::proofs::OwnReads::look_made))]
     fn refresh(&self, look: &mut Snapshot<O>) -> Result<bool, AllocError>
         ensures again { OnOk result (spec.IsLookAt self.now look.old.node look.new) }
@@ -158,6 +161,7 @@ impl<O: Origin> Book<O> {
     /// action is recorded. The reasons to refuse it are tested in this order: `Unknown` (53), `Stale` (50), `Differs`
     /// (51), each of the first participant that it applies to, and `Full` (52). After a refusal the book is as it was.
     /// A commit takes no memory: the spare is linked to the log if its last block is full, and else comes back.
+    #[inline(always)]
     pub fn commit(
         &mut self,
         proposal: Proposal<O>,

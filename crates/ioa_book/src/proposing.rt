@@ -19,6 +19,7 @@ use std::alloc::{AllocError, Global};
 use std::sync::Arc;
 
 /// The proposal of an action whose one participant was read so. A fault of the participant's own step is returned.
+#[inline(always)]
 pub(crate) fn proposal_of_one<O: Origin>(
     alloc: Global,
     action: &Arc<Action>,
@@ -61,6 +62,7 @@ pub(crate) fn proposal_of_two<O: Origin>(
 
 /// A participant that was read so, with its configuration after its own step by an action, or the step's fault. If
 /// there is room, it is made there.
+#[inline(always)]
 fn participant<O: Origin>(
     alloc: Global,
     action: &Action,
@@ -77,6 +79,7 @@ fn participant<O: Origin>(
 }
 
 /// The same in this room, which comes back after a fault.
+#[inline(always)]
 fn participant_in<O: Origin>(
     alloc: Global,
     action: &Action,
@@ -98,6 +101,7 @@ fn participant_in<O: Origin>(
 
 /// The same, written over the parts of another participant. What was read comes first: it may be the other owner of the
 /// configuration that is written over then.
+#[inline(always)]
 fn write_over<O: Origin>(
     alloc: Global,
     action: &Action,
@@ -113,6 +117,7 @@ fn write_over<O: Origin>(
 }
 
 /// The same, where there is no room.
+#[inline(never)]
 fn participant_anew<O: Origin>(
     alloc: Global,
     action: &Action,
@@ -127,6 +132,7 @@ fn participant_anew<O: Origin>(
 }
 
 /// The own step of a configuration by an action, or its fault, written over another one if nobody else owns that.
+#[inline(always)]
 fn step_over(
     alloc: Global,
     action: &Action,
@@ -145,6 +151,7 @@ fn step_over(
 }
 
 /// The own step of a configuration by an action, or its fault.
+#[inline(never)]
 fn step_of(alloc: Global, action: &Action, conf: &Conf) -> Result<Arc<Conf>, StepFault>
     ensures { Answers StepFault.Memory arc_value result (conf_answer (entry_of action.now) conf.now) }
 {
@@ -160,6 +167,7 @@ fn share(alloc: Global, conf: Conf) -> Result<Arc<Conf>, AllocError>
 }
 
 /// The entry of a step by an action, which owns the action beside whoever lent it.
+#[inline(always)]
 fn shared_entry(action: &Arc<Action>) -> Result<Entry, AllocError>
     ensures { IfOk result (λ e. e ≡ entry_of (arc_value action.now)) }
 {

@@ -31,6 +31,7 @@ pub(crate) fn read_again<O: Origin>(
 
 /// The same if there are as many places as slots. Mostly the same is held as was read, which is told in constant time.
 /// Returns whether all was there already.
+#[inline(always)]
 pub(crate) fn read_in_place<O: Origin>(
     places: &mut [Option<VersionedConf<O>>],
     slots: &[usize],
@@ -49,6 +50,7 @@ pub(crate) fn read_in_place<O: Origin>(
 }
 
 /// Reads what is found into a place, if it is not there. Returns whether it was.
+#[inline(always)]
 fn read_here<O: Origin>(
     places: &mut [Option<VersionedConf<O>>],
     position: usize,
@@ -68,6 +70,7 @@ fn read_here<O: Origin>(
 }
 
 /// Whether what is found is in a place. It takes constant time, and is false of equal configurations made apart.
+#[inline(always)]
 fn is_there<O: Origin>(place: &Option<VersionedConf<O>>, found: Option<&VersionedConf<O>>) -> bool
     ensures { IsTrue result → place.now ≡ option_copied found.entry }
 {
@@ -116,6 +119,7 @@ fn copy_of<O: Origin>(
 }
 
 /// Puts what is found into a place.
+#[inline(always)]
 fn refresh<O: Origin>(
     place: &mut Option<VersionedConf<O>>,
     found: Option<&VersionedConf<O>>,
@@ -132,6 +136,7 @@ fn refresh<O: Origin>(
 }
 
 /// Puts what is held into a place.
+#[inline(always)]
 fn put<O: Origin>(
     place: &mut Option<VersionedConf<O>>,
     held: &VersionedConf<O>,

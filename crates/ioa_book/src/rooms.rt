@@ -21,6 +21,7 @@ impl<O: Origin> Rooms<O> {
     }
 
     /// Keeps what a commit hands out: the queue, if one took part, and the node.
+    #[inline(always)]
     pub fn keep(&mut self, queue: Option<Participant<O>>, node: Participant<O>) {
         if let Some(queue) = queue {
             self.queue = Some(queue);

@@ -60,6 +60,7 @@ impl<O: Origin> Snapshot<O> {
     }
 
     /// Reads what is held in these slots, while the log is so long, into as many places as it takes.
+    #[inline(never)]
     pub(crate) fn fill(
         &mut self,
         length: usize,
@@ -75,6 +76,7 @@ impl<O: Origin> Snapshot<O> {
     }
 
     /// The same, into the places that there are if these are as many. Returns whether all was there already.
+    #[inline(always)]
     pub(crate) fn refresh(
         &mut self,
         length: usize,
@@ -117,6 +119,7 @@ impl<O: Origin> Snapshot<O> {
     }
 
     /// What was read of a component, if it was.
+    #[inline(always)]
     pub fn read_of(&self, component: Component) -> Option<&VersionedConf<O>>
         ensures { option_copied result ≡ spec.find_read component self.now.reads }
     {
@@ -141,6 +144,7 @@ impl<O: Origin> Snapshot<O> {
 
     /// The same proposal, with room for it: where nobody else owns what is there, the new configurations are written
     /// over that.
+    #[inline(always)]
     pub fn propose_in(
         &self,
         alloc: Global,
@@ -157,6 +161,7 @@ impl<O: Origin> Snapshot<O> {
     }
 
     /// A proposal to take an action of the node that was looked at.
+    #[inline(always)]
     fn propose_step(
         &self,
         alloc: Global,
@@ -172,6 +177,7 @@ impl<O: Origin> Snapshot<O> {
     }
 
     /// A proposal to take an action in which a node alone takes part.
+    #[inline(always)]
     fn propose_alone(
         &self,
         alloc: Global,
@@ -189,6 +195,7 @@ impl<O: Origin> Snapshot<O> {
     }
 
     /// A proposal to take an action in which a queue and a node take part.
+    #[inline(never)]
     fn propose_with(
         &self,
         alloc: Global,
@@ -227,6 +234,7 @@ impl<O: Origin> Snapshot<O> {
 }
 
 /// Whether an action is one of this node.
+#[inline(always)]
 fn is_own(action: &Action, node: i64) -> bool
     ensures { result ≡ int_eq (node_of action.now) node }
 {

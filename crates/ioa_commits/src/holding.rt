@@ -58,6 +58,7 @@ pub(crate) fn at_slot<O: Origin>(
 }
 
 /// Whether a component is one of these.
+#[inline(always)]
 fn is_among(component: Component, parties: Parties) -> bool
     ensures { result ≡ list_any (λ k. same_component component k) (participant_list parties) }
 {
@@ -68,6 +69,7 @@ fn is_among(component: Component, parties: Parties) -> bool
 }
 
 /// Raises the version of each component in these slots that takes part in an action.
+#[inline(always)]
 pub(crate) fn raise_at<O: Origin>(
     held: &mut Vec<VersionedConf<O>>,
     slots: &[usize],
@@ -82,6 +84,7 @@ pub(crate) fn raise_at<O: Origin>(
 }
 
 /// The same for the component in one slot, if there is one.
+#[inline(always)]
 fn raise_in<O: Origin>(
     held: &mut Vec<VersionedConf<O>>,
     slot: usize,
@@ -97,6 +100,7 @@ fn raise_in<O: Origin>(
 }
 
 /// The same for the component in a slot that there is. No version is above the length of the log, so the sum is exact.
+#[inline(always)]
 fn raise_within<O: Origin>(
     held: &mut Vec<VersionedConf<O>>,
     slot: usize,
@@ -113,6 +117,7 @@ fn raise_within<O: Origin>(
 }
 
 /// Whether a component takes part in an action, whose participants are these.
+#[inline(always)]
 fn is_party(component: Component, _action: &Action, parties: Parties) -> bool
     requires { participant_list parties ≡ participants_of _action.now }
     ensures { result ≡ takes_part component _action.now }
@@ -121,6 +126,7 @@ fn is_party(component: Component, _action: &Action, parties: Parties) -> bool
 }
 
 /// Replaces the configurations of the participants. They come back with what was read of them, and with what was held.
+#[inline(always)]
 pub(crate) fn put_all<O: Origin>(
     held: &mut Vec<VersionedConf<O>>,
     index: &Index,
@@ -143,6 +149,7 @@ pub(crate) fn put_all<O: Origin>(
 
 /// Replaces the configuration of a participant; its version stays as it is. The participant comes back with what was
 /// read of it, and with what was held.
+#[inline(always)]
 fn put<O: Origin>(
     held: &mut Vec<VersionedConf<O>>,
     index: &Index,
@@ -159,6 +166,7 @@ fn put<O: Origin>(
 }
 
 /// The same with the parts of a participant.
+#[inline(always)]
 fn put_parts<O: Origin>(
     held: &mut Vec<VersionedConf<O>>,
     index: &Index,
@@ -176,6 +184,7 @@ fn put_parts<O: Origin>(
 
 /// Replaces the configuration of a component, which is mostly held in the slot `near`; its version stays as it is. What
 /// was held comes out.
+#[inline(always)]
 fn put_conf<O: Origin>(
     held: &mut Vec<VersionedConf<O>>,
     index: &Index,

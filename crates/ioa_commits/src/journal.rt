@@ -54,6 +54,7 @@ impl<O: Origin> Model for Journal<O> {
 }
 
 /// Puts an entry behind the others of a log. The spare comes back unless it was linked.
+#[inline(always)]
 fn append(log: &mut RawLog<Entry>, entry: Entry, spare: Spare<Entry>) -> Option<Spare<Entry>>
     requires { length log.old + 1 < 2 ^ 64 }
     ensures appended { log.new ≡ log.old ++ entry ∷ [] }
@@ -135,6 +136,7 @@ impl<O: Origin> Journal<O> {
     }
 
     /// The same, in constant time if it is held in the slot `near`.
+    #[inline(always)]
     fn find_near(&self, component: Component, near: usize) -> Option<&VersionedConf<O>>
         ensures { option_copied result ≡ held_of self.now component }
     {
@@ -176,6 +178,7 @@ impl<O: Origin> Journal<O> {
     }
 
     /// Why a proposal is refused, if it is.
+    #[inline(never)]
     fn refusal(&self, proposal: &Proposal<O>) -> Option<CommitRefusal>
         ensures { result ≡ commits.refusal_of self.now proposal.now.reads }
     {
@@ -214,6 +217,7 @@ impl<O: Origin> Journal<O> {
 
     /// Whether a configuration that was read is the very one that is held, with its version. It takes constant time,
     /// and is false of equal configurations made apart.
+    #[inline(always)]
     fn is_held(&self, read: &VersionedConf<O>) -> bool
         ensures { IsTrue result → held_of self.now (read_component read.now) ≡ Some read.now }
     {
@@ -224,6 +228,7 @@ impl<O: Origin> Journal<O> {
     }
 
     /// The same of all that a proposal read.
+    #[inline(always)]
     fn are_held(&self, proposal: &Proposal<O>) -> bool
         ensures { IsTrue result → commits.AllHeld self.now proposal.now.reads }
     {
@@ -236,6 +241,7 @@ impl<O: Origin> Journal<O> {
 
     /// Whether a proposal stands, by a cheap test. Mostly one that can be committed passes it. Of one that does not
     /// pass it nothing is told.
+    #[inline(always)]
     fn stands(&self, proposal: &Proposal<O>) -> bool
         ensures { IsTrue result → commits.refusal_of self.now proposal.now.reads ≡ None }
     {
@@ -246,6 +252,7 @@ impl<O: Origin> Journal<O> {
     /// is recorded. The reasons to refuse it are tested in this order: `Unknown` (53), `Stale` (50), `Differs` (51),
     /// each of the first participant that it applies to, and `Full` (52). After a refusal the book is as it was. It
     /// takes no memory: the spare is room for more entries, and comes back if there is room already.
+    #[inline(always)]
     pub fn commit(
         &mut self,
         proposal: Proposal<O>,
@@ -268,6 +275,7 @@ impl<O: Origin> Journal<O> {
     }
 
     /// Commits a proposal that is not refused.
+    #[inline(always)]
     fn record(
         &mut self,
         proposal: Proposal<O>,

@@ -86,6 +86,7 @@ impl<O: Origin> VersionedConf<O> {
 
     /// Makes it what is held now. Takes no memory, and one owner more only if the two do not share one configuration;
     /// fails if the count of owners is full.
+    #[inline(always)]
     pub fn refresh(&mut self, held: &VersionedConf<O>) -> Result<(), AllocError>
         ensures { OnOk result (self.new ≡ held.now) }
     {
@@ -99,6 +100,7 @@ impl<O: Origin> VersionedConf<O> {
 
     /// Whether this is the very one that is held, with its version: in constant time. It is false of equal ones made
     /// apart.
+    #[inline(always)]
     pub fn is_held(&self, held: &VersionedConf<O>) -> bool
         ensures { IsTrue result → self.now ≡ held.now }
     {
@@ -106,6 +108,7 @@ impl<O: Origin> VersionedConf<O> {
     }
 
     /// Whether both own one configuration, in constant time. It is false of equal configurations made apart.
+    #[inline(always)]
     pub(crate) fn shares_conf(&self, other: &VersionedConf<O>) -> bool
         ensures { IsTrue result → self.now.conf ≡ other.now.conf }
     {
@@ -120,6 +123,7 @@ impl<O: Origin> VersionedConf<O> {
     }
 
     /// Puts another configuration in place of this one, which comes out; the version stays as it is.
+    #[inline(always)]
     pub(crate) fn exchange(&mut self, maker: &mut MakerOf<O>, conf: &mut Arc<Conf>)
         ensures { self.new ≡ versioned_conf (arc_value conf.old) self.old.version }
     {

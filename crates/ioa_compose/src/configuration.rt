@@ -75,6 +75,7 @@ impl Conf {
 
     /// The same step, written over another configuration, whose room is used again where it serves. After a fault that
     /// is some configuration.
+    #[inline(always)]
     #[tactic(auto, unfolding(crate::specs::Composition::conf_answer))]
     pub fn step_over(
         &self,
@@ -103,6 +104,7 @@ impl Conf {
 }
 
 /// The step of a node, written over another configuration, whose room is used again if it is a node's.
+#[inline(always)]
 #[tactic(auto, unfolding(crate::specs::Composition::conf_answer))]
 fn step_node_over(
     alloc: Global,

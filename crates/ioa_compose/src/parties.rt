@@ -15,6 +15,7 @@ pub enum Parties {
 }
 
 /// The components that have an action in their signature, the queue first (Lynch 8.2); takes no memory.
+#[inline(always)]
 pub fn participants(action: &Action) -> Parties
     ensures { participant_list result ≡ participants_of action.now }
 {

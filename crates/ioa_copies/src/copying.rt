@@ -7,6 +7,7 @@ use std::alloc::{AllocError, Global};
 
 /// Makes values what others are, with which they share their collections then. Takes no memory if there are as many. If
 /// no memory is left, they are some values, and as many as before if there were as many.
+#[inline(always)]
 pub fn copy_values(alloc: Global, from: &[Value], to: &mut Vec<Value>) -> Result<(), AllocError>
     ensures copied { OnOk result (to.new.items ≡ from.now) }
     ensures kept { length to.old.items ≡ length from.now → length to.new.items ≡ length from.now }
@@ -22,6 +23,7 @@ pub fn copy_values(alloc: Global, from: &[Value], to: &mut Vec<Value>) -> Result
 }
 
 /// Makes a value what another one is.
+#[inline(always)]
 fn copy_value(from: &Value, to: &mut Value) -> Result<(), AllocError>
     ensures { OnOk result (to.new ≡ from.now) }
 {

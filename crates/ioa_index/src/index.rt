@@ -56,6 +56,7 @@ fn concerns(node: i64, component: Component) -> bool
 }
 
 /// The slots of the components that a node has to do with, in order.
+#[inline(never)]
 fn own_slots(alloc: Global, components: &[Component], node: i64) -> Result<Vec<usize>, AllocError>
     ensures { IfOk result (λ v. v.items ≡ own_slots node 0 components.now) }
 {
@@ -231,6 +232,7 @@ impl Index {
     }
 
     /// The slots of the components that a node has to do with, in order: none, if there is no such node.
+    #[inline(always)]
     pub fn own(&self, node: i64) -> &[usize]
         ensures slots { result.now ≡ own_slots node 0 self.now }
         ensures within { AllByRecursion (λ slot. slot < length self.now) result.now }
@@ -250,6 +252,7 @@ impl Index {
     }
 
     /// The same by a search of all entries.
+    #[inline(never)]
     fn own_anywhere(&self, node: i64) -> &[usize]
         ensures { result.now ≡ own_slots node 0 self.now }
     {
@@ -297,6 +300,7 @@ impl Index {
 
     /// The slot of a component; of the first one if the list has the component more than once. It takes constant time
     /// if the component stands in the slot `near`, and else a search of all.
+    #[inline(always)]
     pub fn slot_of(&self, component: Component, near: usize) -> Option<usize>
         ensures { result ≡ position_from (λ k. same_component component k) 0 self.now }
     {
@@ -307,6 +311,7 @@ impl Index {
     }
 
     /// The same by a quick test: what is small is tried first, and the rest is a call.
+    #[inline(always)]
     pub fn slot_near(&self, component: Component, near: usize) -> Option<usize>
         ensures { result ≡ position_from (λ k. same_component component k) 0 self.now }
     {
@@ -317,6 +322,7 @@ impl Index {
     }
 
     /// Whether a component stands in a slot, and in none before it. It takes constant time.
+    #[inline(always)]
     pub fn stands_first(&self, component: Component, slot: usize) -> bool
         ensures { IsTrue result → position_from (λ k. same_component component k) 0 self.now ≡ Some slot }
     {
@@ -324,6 +330,7 @@ impl Index {
     }
 
     /// Whether the component in a slot stands in none before it. It takes constant time.
+    #[inline(always)]
     pub fn is_first(&self, slot: usize) -> bool
         ensures { IsTrue result → IsFirst self.now slot }
     {
@@ -331,6 +338,7 @@ impl Index {
     }
 
     /// Whether a component stands in a slot.
+    #[inline(always)]
     fn stands_at(&self, component: Component, slot: usize) -> bool
         ensures { IsTrue result → slice_get self.now slot ≡ Some component }
     {

@@ -122,6 +122,7 @@ impl Shape {
     }
 
     /// Whether a number has the shape.
+    #[inline(always)]
     pub fn admits_number(&self, n: i64) -> bool
         ensures { result ≡ has_shape self.now (number n) }
     {

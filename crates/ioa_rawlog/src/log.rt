@@ -43,6 +43,7 @@ impl<T> RawLog<T> {
     }
 
     /// How many items it has, in constant time.
+    #[inline(always)]
     pub fn len(&self) -> usize
         ensures { result ≡ length self.now }
     {
@@ -50,6 +51,7 @@ impl<T> RawLog<T> {
     }
 
     /// Whether the next push needs a spare: the last block is full, or there is none.
+    #[inline(always)]
     pub fn needs_spare(&self) -> bool
         ensures { IsTrue result ↔ (length self.now % 64 ≡ 0) }
     {
@@ -83,6 +85,7 @@ impl<T> RawLog<T> {
 
     /// Appends the item. Where the last block is full, or there is none, it links the spare; without one it is refused,
     /// and the item comes back. A spare that it does not need comes back. It takes no memory.
+    #[inline(always)]
     pub fn push(
         &mut self,
         item: T,
@@ -111,6 +114,7 @@ impl<T> RawLog<T> {
     }
 
     /// Appends to the last block, which has room.
+    #[inline(always)]
     fn fill_last(&mut self, item: T)
         requires room { 0 < length self.old % 64 }
         requires fits { length self.old + 1 < 2 ^ 64 }
@@ -121,6 +125,7 @@ impl<T> RawLog<T> {
     }
 
     /// Appends in a block of its own.
+    #[inline(never)]
     fn link(&mut self, item: T, spare: Spare<T>)
         requires full { length self.old % 64 ≡ 0 }
         requires fits { length self.old + 1 < 2 ^ 64 }

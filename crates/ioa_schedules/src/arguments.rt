@@ -13,6 +13,7 @@ use std::alloc::{AllocError, Global};
 
 /// Evaluates terms, in order, and writes their values in the place of those that are there. The list takes no memory if
 /// it has the room. The first fault is returned, and the values are some values then.
+#[inline(always)]
 pub(crate) fn evaluate_arguments(
     alloc: Global,
     terms: &Vec<Checked>,

@@ -9,6 +9,7 @@ use std::alloc::AllocError;
 
 /// The first list that is not empty: `first`, or else one of those below, which is taken from there with the
 /// empty ones before it. An empty list if there is none.
+#[inline(always)]
 #[tactic(auto, using(crate::proofs::Joins::below_last))]
 pub(crate) fn first_list<'a>(
     first: &'a [Statement<usize, Callee, Shape>],
@@ -32,6 +33,7 @@ pub(crate) fn first_list<'a>(
 
 /// Makes lists what others are. Takes no memory if there is room for them. If no memory is left, the first ones are
 /// there.
+#[inline(always)]
 pub(crate) fn copy_lists<'a>(
     from: &[&'a [Statement<usize, Callee, Shape>]],
     to: &mut Vec<&'a [Statement<usize, Callee, Shape>]>,

@@ -35,6 +35,7 @@ impl<'a> Position<'a> {
     }
 
     /// Moves to the statements of another position. If no memory is left, the position is some position.
+    #[inline(always)]
     pub fn copy_from(&mut self, other: &Position<'a>) -> Result<(), AllocError>
         ensures same { OnOk result (statements_at self.new ≡ statements_at other.now) }
         ensures bottom { OnOk result (bottom_of self.new ≡ bottom_of other.now) }
@@ -44,6 +45,7 @@ impl<'a> Position<'a> {
     }
 
     /// The first statement, if there is one.
+    #[inline(always)]
     pub fn first(&self) -> Option<&'a Statement<usize, Callee, Shape>>
         ensures { MatchOption result (statements_at self.now ≡ no_statements)
             (λ s. IsFirst (statement_of s.now) (statements_at self.now)) }
@@ -55,6 +57,7 @@ impl<'a> Position<'a> {
     }
 
     /// Moves behind the first statement.
+    #[inline(always)]
     #[tactic(auto, using(crate::proofs::Joins::nothing_left, crate::proofs::Ends::behind_first, crate::proofs::Ends::own_end))]
     pub fn advance(&mut self)
         ensures behind { statements_at self.new ≡ following_statements (statements_at self.old) }
@@ -83,6 +86,7 @@ impl<'a> Position<'a> {
     }
 
     /// Puts a list in front of the first statement.
+    #[inline(always)]
     #[tactic(auto, using(crate::proofs::Joins::below_last, crate::proofs::Ends::in_front))]
     pub fn enter_before(
         &mut self,

@@ -18,6 +18,7 @@ use std::alloc::Global;
 
 /// How many of `left` statements of a turn are left at a `while` with this body, whose test is true, once whole rounds
 /// that change nothing are counted. At least one is left.
+#[inline(always)]
 #[tactic(auto, using(crate::proofs::WholeRounds::rounds_left, crate::proofs::WholeRounds::rest_fewer))]
 pub(crate) fn left_over(
     alloc: Global,
@@ -46,6 +47,7 @@ pub(crate) fn left_over(
 
 /// How many statements one round of a `while` with this body takes, if its test is true and the round changes nothing.
 /// It is found only where an assignment or a `fire` may not come first.
+#[inline(always)]
 fn round_length(
     alloc: Global,
     body: &[Statement<usize, Callee, Shape>],
@@ -67,6 +69,7 @@ fn round_length(
 }
 
 /// Whether statements may change nothing, by what comes first on each way.
+#[inline(always)]
 fn may_be_quiet(body: &[Statement<usize, Callee, Shape>]) -> bool
     ensures { result ≡ spec.may_be_quiet (statements_in body.now) }
 {
@@ -123,6 +126,7 @@ fn is_true(alloc: Global, test: &Checked, view: &View, values: &[Value]) -> Opti
 
 /// How many statements are taken up to the end of these, if `taken` are taken before, and these change nothing. None if
 /// a test has no truth value or no memory is left.
+#[inline(never)]
 #[cycle(counting)]
 fn quiet_length(
     alloc: Global,

@@ -21,6 +21,7 @@ pub struct State<'a> {
 impl<'a> State<'a> {
     /// Makes the state what another one is, whose values share their collections with this one's then. Takes no memory
     /// if the state has the room. If no memory is left, the state is some state.
+    #[inline(always)]
     pub(crate) fn copy_from(&mut self, alloc: Global, other: &State<'a>) -> Result<(), AllocError>
         ensures todo { OnOk result (todo_in self.new ≡ todo_in other.now) }
         ensures values { OnOk result (values_in self.new ≡ values_in other.now) }
@@ -41,6 +42,7 @@ impl<'a> State<'a> {
     }
 
     /// Whether a turn that begins here ends here.
+    #[inline(always)]
     pub(crate) fn ends_turn(&self) -> bool
         ensures { result ≡ spec.ends_turn (todo_in self.now) }
     {

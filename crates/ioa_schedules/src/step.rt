@@ -59,6 +59,7 @@ fn choice<'a>(
 /// Takes the first statement of a block, of `left` that may be taken still. Returns of how many it is the first one:
 /// whole rounds that change nothing are counted before it. `Undefined (1)` if there is none, or if it is a `fire`: none
 /// is taken.
+#[inline(always)]
 #[tactic(auto, using(crate::proofs::Firsts::first_rules))]
 pub(crate) fn take_first<'a>(
     alloc: Global,
@@ -87,6 +88,7 @@ pub(crate) fn take_first<'a>(
 }
 
 /// Takes the first statement of a block, which is `first`.
+#[inline(always)]
 fn take_statement<'a>(
     alloc: Global,
     view: &View,
@@ -153,6 +155,7 @@ fn take_branch<'a>(
 
 /// Takes a `while`, which comes first, of `left` statements that may be taken still. Returns of how many it is the
 /// first one.
+#[inline(always)]
 fn take_loop<'a>(
     alloc: Global,
     view: &View,

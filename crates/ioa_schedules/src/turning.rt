@@ -78,6 +78,7 @@ impl<'a> Control<'a> {
 /// turn takes a statement, and its statements never. Whole rounds of a `while` that change nothing are counted
 /// and not taken. The arguments of a `fire` are written over those of the one before, in the room that the control
 /// keeps for them.
+#[inline(always)]
 #[tactic(auto, using(crate::proofs::Firsts::turn_ends, crate::proofs::ByStep::stepwise_turn_is))]
 pub fn next<'a>(
     alloc: Global,
@@ -101,6 +102,7 @@ pub fn next<'a>(
 
 /// Takes the statements that a turn takes. If there are any, the block is copied before. After a fault the block is as
 /// it was.
+#[inline(always)]
 #[tactic(auto, using(crate::proofs::Firsts::turn_ends))]
 fn move_on<'a>(alloc: Global, view: &View, control: &mut Control<'a>) -> Result<(), TermFault>
     requires named { IsNamed view.now (values_of control.old) }
@@ -121,6 +123,7 @@ fn move_on<'a>(alloc: Global, view: &View, control: &mut Control<'a>) -> Result<
 }
 
 /// Copies the block, and takes the statements that a turn takes. After a fault the block is as it was.
+#[inline(always)]
 fn run_copied<'a>(alloc: Global, view: &View, control: &mut Control<'a>) -> Result<(), TermFault>
     requires not_moved { control.old.is_moved ≡ false }
     requires named { IsNamed view.now (values_of control.old) }
@@ -148,6 +151,7 @@ fn run_copied<'a>(alloc: Global, view: &View, control: &mut Control<'a>) -> Resu
 }
 
 /// Puts the block back to its copy.
+#[inline(never)]
 fn put_back(control: &mut Control)
     ensures { control.new.state ≡ control.old.copy }
 {
@@ -157,6 +161,7 @@ fn put_back(control: &mut Control)
 
 /// Moves a block past the `fire` at which it stands (profile), as it does after a turn that ended there. Takes
 /// no memory.
+#[inline(always)]
 #[tactic(auto, using(crate::proofs::Ends::end_of_end))]
 pub fn passed(control: &mut Control)
     requires { IsAtFire (todo_of control.old) }
@@ -168,6 +173,7 @@ pub fn passed(control: &mut Control)
 }
 
 /// Takes the statements that a turn takes.
+#[inline(always)]
 #[tactic(auto, using(crate::proofs::Firsts::turn_ends, crate::proofs::Ends::own_end, crate::proofs::Ends::end_of_end))]
 fn run<'a>(alloc: Global, view: &View, state: &mut State<'a>) -> Result<(), TermFault>
     requires named { IsNamed view.now (values_in state.old) }
@@ -192,6 +198,7 @@ fn run<'a>(alloc: Global, view: &View, state: &mut State<'a>) -> Result<(), Term
 
 /// Takes a statement of a turn, of `left` that may be taken still, behind whole rounds that change nothing. Returns how
 /// many may be taken then.
+#[inline(always)]
 #[tactic(auto, using(crate::proofs::Runs::on_rules))]
 fn take_some<'a>(
     alloc: Global,
@@ -218,6 +225,7 @@ fn take_some<'a>(
 
 /// The turn that takes no statement: what a turn comes to once it has taken all that it may. After a fault the block is
 /// put back to its copy, if it has taken any.
+#[inline(always)]
 #[tactic(auto, using(crate::proofs::Firsts::here_rules))]
 fn turn_here<'a>(
     alloc: Global,
@@ -244,6 +252,7 @@ fn turn_here<'a>(
 }
 
 /// The same of a block that stands at this `fire`.
+#[inline(always)]
 fn fired<'a>(
     alloc: Global,
     view: &View,

@@ -114,6 +114,7 @@ impl<O: Origin, L: Ledger> Held<O, L> {
 
     /// The same look once more, in its place, with the same answer. After a fault nothing is said of it but its node,
     /// and whoever has it lets it go. Returns whether it shows the same as before, as of [`Book::look_again`].
+    #[inline(always)]
     pub fn look_again(&self, look: &mut Snapshot<O>, pass: &mut Pass) -> Result<bool, ViewFault>
         ensures again { Answers ViewFault.Memory (λ _. look.new) result (view_answer self.now pass.old look.old.node) }
         ensures risen { OnOk result (pass.new ≡ risen_by_look look.new pass.old) }
@@ -139,6 +140,7 @@ impl<O: Origin, L: Ledger> Held<O, L> {
     /// Commits a proposal. `Older` (54) if the log is shorter than the pass has seen; else as the book's commit. If the
     /// commit is made, the share counts one more, and the pass rises to what it leaves. If a proposal is stale, the
     /// pass rises to the version that is held. The spare comes back unless it was linked to the log.
+    #[inline(always)]
     pub fn attempt(
         &mut self,
         proposal: Proposal<O>,
@@ -170,6 +172,7 @@ impl<O: Origin, L: Ledger> Held<O, L> {
 
 impl<O: Origin, L: Ledger> Held<O, L> {
     /// The commit of a proposal at a log that is not shorter than the pass has seen.
+    #[inline(always)]
     fn commit(
         &mut self,
         proposal: Proposal<O>,
@@ -221,6 +224,7 @@ fn admitted<O: Origin>(look: Snapshot<O>, pass: &mut Pass) -> Result<Snapshot<O>
 }
 
 /// The same of a look in its place.
+#[inline(never)]
 fn admitted_again<O: Origin>(look: &Snapshot<O>, pass: &mut Pass) -> Result<(), ViewFault>
     ensures again { Answers ViewFault.Memory (λ _. look.now) result
         (spec.unless_older (older pass.old look.now) look.now) }
@@ -237,6 +241,7 @@ fn admitted_again<O: Origin>(look: &Snapshot<O>, pass: &mut Pass) -> Result<(), 
 }
 
 /// What comes of a commit that leaves a log of this length. The pass rises to it.
+#[inline(always)]
 fn taken<O: Origin>(committed: Committed<O>, length: usize, pass: &mut Pass) -> Taken<O>
     ensures receipt { (result.receipt.index ≡ committed.index) × (result.receipt.entry ≡ committed.entry) }
     ensures pass { pass.new ≡ risen_by_commit (participants_read committed.queue committed.node) length pass.old }
@@ -257,6 +262,7 @@ fn taken<O: Origin>(committed: Committed<O>, length: usize, pass: &mut Pass) -> 
 }
 
 /// A pass rises to the version that a stale proposal met.
+#[inline(never)]
 fn rise_by_refusal(refusal: &CommitRefusal, pass: &mut Pass)
     ensures { pass.new ≡ risen_by_refusal refusal.now pass.old }
 {

@@ -88,6 +88,7 @@ fn version_at(seen: &[Seen], at: usize) -> usize
 }
 
 /// Raises the component in a place to a version, if it was not seen at that.
+#[inline(always)]
 fn raise_at(seen: &mut Vec<Seen>, at: usize, version: usize)
     requires { at < length seen.old.items }
     ensures { seen.new.items ≡ spec.raise_place version at seen.old.items }
@@ -100,6 +101,7 @@ fn raise_at(seen: &mut Vec<Seen>, at: usize, version: usize)
 }
 
 /// Whether what was seen in a slot is what was read, at its version.
+#[inline(always)]
 fn stands_at<O: Origin>(seen: &[Seen], slot: usize, read: &VersionedConf<O>) -> bool
     ensures { IsTrue result →
         slice_get seen.now slot ≡ Some (spec.seen_at (read_component read.now) read.now.version) }
@@ -151,6 +153,7 @@ impl Pass {
     }
 
     /// Raises what was seen of a component, in constant time if it stands in the slot `near`.
+    #[inline(always)]
     fn raise(&mut self, component: Component, version: usize, near: usize)
         ensures { self.new ≡ spec.plain_pass (spec.raise_seen component version self.old.seen) self.old.length }
     {
@@ -168,6 +171,7 @@ impl Pass {
     }
 
     /// Raises what was seen of what was read and has taken a step since.
+    #[inline(always)]
     fn raise_next<O: Origin>(&mut self, read: &VersionedConf<O>)
         ensures { self.new ≡ spec.plain_pass (spec.raise_next read.now self.old.seen) self.old.length }
     {
@@ -180,6 +184,7 @@ impl Pass {
 
     /// Rises to a look, if each component that it shows has the very version at which it was seen: then no version
     /// changes. If not, it says so, and the pass is as it was.
+    #[inline(always)]
     pub(crate) fn rise_quickly<O: Origin>(&mut self, look: &Snapshot<O>) -> bool
         ensures risen { IsTrue result → self.new ≡ spec.risen_by_look look.now self.old }
         ensures fresh { IsTrue result → spec.older self.old look.now ≡ None }
@@ -197,6 +202,7 @@ impl Pass {
     }
 
     /// Whether each component that a look shows has the very version at which it was seen.
+    #[inline(always)]
     fn shows_seen<O: Origin>(&self, look: &Snapshot<O>) -> bool
         ensures { IsTrue result → spec.AreSeen self.now.seen look.now.reads }
     {
@@ -209,6 +215,7 @@ impl Pass {
     }
 
     /// Whether what was read of a component has the very version at which it was seen, by what stands in its slot.
+    #[inline(always)]
     fn is_seen<O: Origin>(&self, read: &VersionedConf<O>) -> bool
         ensures { IsTrue result → spec.IsSeen self.now.seen read.now }
     {
@@ -261,6 +268,7 @@ impl Pass {
     }
 
     /// Whether a log of this length is older than it was seen.
+    #[inline(always)]
     pub(crate) fn older_length(&self, held: usize) -> Option<Older>
         ensures { result ≡ spec.older_length self.now.length held }
     {
@@ -293,6 +301,7 @@ impl Pass {
     }
 
     /// Rises to what a commit leaves: a log of this length, and the participants with their next versions.
+    #[inline(always)]
     pub(crate) fn rise_by_commit<O: Origin>(
         &mut self,
         queue: &Option<Participant<O>>,

@@ -86,6 +86,7 @@ impl<O: Origin, L: Ledger> Solo<O, L> {
     }
 
     /// The same look once more, in its place, as of [`Held::look_again`].
+    #[inline(always)]
     pub fn look_again(&self, look: &mut Snapshot<O>, pass: &mut Pass) -> Result<bool, ViewFault>
         ensures again { Answers ViewFault.Memory (λ _. look.new) result (view_answer self.now pass.old look.old.node) }
         ensures risen { OnOk result (pass.new ≡ risen_by_look look.new pass.old) }
@@ -98,6 +99,7 @@ impl<O: Origin, L: Ledger> Solo<O, L> {
     }
 
     /// The commit of a proposal, as of [`Held::attempt`].
+    #[inline(always)]
     pub fn attempt(
         &mut self,
         proposal: Proposal<O>,

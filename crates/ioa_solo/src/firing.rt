@@ -27,6 +27,7 @@ use std::sync::ledger::Ledger;
 /// The commit of a proposal of a node. If it is made, the block moves past the fire. A stale proposal ends the attempt,
 /// and any other fault the node. Memory for the receipt and the log is asked for before, so that only then it can run
 /// out. Returns false: whatever comes of it, the node is not settled.
+#[inline(always)]
 pub(crate) fn commit<O: Origin, L: Ledger, B: Board<O, L>, G: Gate>(
     alloc: Global,
     board: &mut B,
@@ -70,6 +71,7 @@ pub(crate) fn commit<O: Origin, L: Ledger, B: Board<O, L>, G: Gate>(
 }
 
 /// A block for a commit, and room for its receipt.
+#[inline(always)]
 fn block_for(
     alloc: Global,
     receipts: &mut Receipts,
@@ -83,6 +85,7 @@ fn block_for(
 }
 
 /// The spare that is there, or else a new one.
+#[inline(always)]
 fn spare_of(alloc: Global, spare: &mut Option<Spare<Entry>>) -> Result<Spare<Entry>, AllocError> {
     match spare.take() {
         Some(block) => Ok(block),
@@ -92,6 +95,7 @@ fn spare_of(alloc: Global, spare: &mut Option<Spare<Entry>>) -> Result<Spare<Ent
 
 /// The attempt of a proposal with a block: its receipt, or why it is missed. What was read and is held no longer is
 /// room for the next proposal.
+#[inline(always)]
 fn attempt<O: Origin, L: Ledger, B: Board<O, L>>(
     board: &mut B,
     proposal: Proposal<O>,
@@ -122,6 +126,7 @@ fn attempt<O: Origin, L: Ledger, B: Board<O, L>>(
 }
 
 /// The same with all that comes of it. What it leaves of the block is the next one's.
+#[inline(always)]
 fn attempt_with<O: Origin, L: Ledger, B: Board<O, L>>(
     board: &mut B,
     proposal: Proposal<O>,
@@ -142,6 +147,7 @@ fn attempt_with<O: Origin, L: Ledger, B: Board<O, L>>(
 }
 
 /// What follows from a proposal that was missed.
+#[inline(never)]
 fn after_miss(node: &mut Progress, miss: Miss)
     ensures kept { node.new.attempts ≡ node.old.attempts }
     ensures missed { progress_of node.new ≡ missed_by miss (progress_of node.old) }
@@ -187,6 +193,7 @@ pub(crate) fn after_fault(node: &mut Progress, fault: StepFault) -> Result<bool,
 }
 
 /// Ends a node by a fault. `Memory` (3) ends no single node.
+#[inline(never)]
 pub(crate) fn end_by_fault(node: &mut Progress, fault: NodeFault) -> Result<(), AllocError>
     ensures kept { node.new.attempts ≡ node.old.attempts }
     ensures ended { OnOk result (IsEndedBy fault (progress_of node.old) (progress_of node.new)) }

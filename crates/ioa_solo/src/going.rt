@@ -90,6 +90,7 @@ fn go_rounds<O: Origin, L: Ledger, B: Board<O, L>, G: Gate>(
 }
 
 /// Rests, if the worker has made no more commits than these.
+#[inline(always)]
 fn rest_if_idle<O: Origin, L: Ledger, B: Board<O, L>>(board: &B, committed: u64, hand: &Hand<L>) {
     if hand.share.count() == committed {
         board.rest();
@@ -133,6 +134,7 @@ fn go_round<O: Origin, L: Ledger, B: Board<O, L>, G: Gate>(
 }
 
 /// A visit of a node, unless it has an ending.
+#[inline(always)]
 fn visit_unless_ended<O: Origin, L: Ledger, B: Board<O, L>, G: Gate>(
     alloc: Global,
     board: &mut B,
@@ -159,6 +161,7 @@ fn visit_unless_ended<O: Origin, L: Ledger, B: Board<O, L>, G: Gate>(
 }
 
 /// A visit of a node that has no ending.
+#[inline(always)]
 fn visit_under_way<O: Origin, L: Ledger, B: Board<O, L>, G: Gate>(
     alloc: Global,
     board: &mut B,
@@ -203,6 +206,7 @@ fn visit_under_way<O: Origin, L: Ledger, B: Board<O, L>, G: Gate>(
 }
 
 /// Whether each node has an ending.
+#[inline(always)]
 fn have_all_ended<O: Origin>(nodes: &[Visited<O>]) -> bool
     ensures { result ≡ list_all has_ended (map progress_in nodes.now) }
 {

@@ -36,6 +36,7 @@ use std::sync::ledger::Ledger;
 
 /// One visit of a node that has no ending: an attempt, if one is left; else the node is spent. `is_settled` says that
 /// the node is settled on the look in its place; what is returned says whether it is now.
+#[inline(always)]
 pub(crate) fn visit<O: Origin, L: Ledger, B: Board<O, L>, G: Gate>(
     alloc: Global,
     board: &mut B,
@@ -71,6 +72,7 @@ pub(crate) fn visit<O: Origin, L: Ledger, B: Board<O, L>, G: Gate>(
 
 /// One attempt of a node: a look at it, and what follows from that. A node that is not there has no turn. One that is
 /// settled, and of which the look shows the same as before, has no more to do.
+#[inline(always)]
 fn attempt<O: Origin, L: Ledger, B: Board<O, L>, G: Gate>(
     alloc: Global,
     board: &mut B,
@@ -117,6 +119,7 @@ fn attempt<O: Origin, L: Ledger, B: Board<O, L>, G: Gate>(
 }
 
 /// Ends a node by a fault, as of [`end_by_fault`]. It is not settled then.
+#[inline(never)]
 fn end_attempt(node: &mut Progress, fault: NodeFault) -> Result<bool, AllocError>
     ensures kept { node.new.attempts ≡ node.old.attempts }
     ensures ended { OnOk result (IsEndedBy fault (progress_of node.old) (progress_of node.new)) }
@@ -128,6 +131,7 @@ fn end_attempt(node: &mut Progress, fault: NodeFault) -> Result<bool, AllocError
 }
 
 /// The same attempt on a look at the node, unless the node is settled on that.
+#[inline(always)]
 fn attempt_unless_settled<O: Origin, L: Ledger, B: Board<O, L>, G: Gate>(
     alloc: Global,
     board: &mut B,
@@ -176,6 +180,7 @@ pub(crate) fn fault_of_view(fault: ViewFault) -> NodeFault
 }
 
 /// Looks at a node, in the place of the last look at it. Returns whether that showed the same.
+#[inline(always)]
 pub(crate) fn look_at<O: Origin, L: Ledger, B: Board<O, L>>(
     alloc: Global,
     board: &mut B,
@@ -197,6 +202,7 @@ pub(crate) fn look_at<O: Origin, L: Ledger, B: Board<O, L>>(
 }
 
 /// The same attempt on a look at the node.
+#[inline(always)]
 fn attempt_seen<O: Origin, L: Ledger, B: Board<O, L>, G: Gate>(
     alloc: Global,
     board: &mut B,
@@ -233,6 +239,7 @@ fn attempt_seen<O: Origin, L: Ledger, B: Board<O, L>, G: Gate>(
 }
 
 /// An attempt of a node on a look at it: its turn on what the look shows, and the step of the action that it fires.
+#[inline(always)]
 #[tactic(auto, using(crate::proofs::SettledNodes::turned_before))]
 fn attempt_on<O: Origin, L: Ledger, B: Board<O, L>, G: Gate>(
     alloc: Global,
@@ -267,6 +274,7 @@ fn attempt_on<O: Origin, L: Ledger, B: Board<O, L>, G: Gate>(
 }
 
 /// What follows from the turn of a node on a look at it.
+#[inline(always)]
 fn after_turn<O: Origin, L: Ledger, B: Board<O, L>, G: Gate>(
     alloc: Global,
     board: &mut B,
@@ -320,6 +328,7 @@ fn is_settled_idle<O: Origin>(snapshot: &Snapshot<O>, node: &Progress) -> bool
 }
 
 /// The turn of a node on a look at it. It uses no attempt.
+#[inline(always)]
 fn turn_on<'a, O: Origin>(
     alloc: Global,
     snapshot: &Snapshot<O>,
@@ -341,6 +350,7 @@ fn turn_on<'a, O: Origin>(
 }
 
 /// What follows from the fire at which a node stands: the action is proposed and committed.
+#[inline(always)]
 #[tactic(auto, using(ioa_schedules::proofs::Firsts::firing_stands))]
 fn go_past<O: Origin, L: Ledger, B: Board<O, L>, G: Gate>(
     alloc: Global,

@@ -154,6 +154,7 @@ impl<'a> View<'a> {
     }
 
     /// What is at a slot, if there is something.
+    #[inline(always)]
     pub(crate) fn get<'b>(&'b self, values: &'b [Value], slot: usize) -> Option<Slot<'b>>
         requires { IsNamed self.now values.now }
         ensures { option_map slot_value result

@@ -68,6 +68,7 @@ pub fn evaluate(
 }
 
 /// The same of a term that is no number and no truth value found quickly.
+#[inline(never)]
 pub(crate) fn evaluate_lent(
     alloc: Global,
     term: &Checked,
@@ -177,6 +178,7 @@ fn of_part(
 }
 
 /// The same of a term whose value is not found quickly.
+#[inline(never)]
 fn evaluate_slowly(
     alloc: Global,
     term: &Checked,
@@ -214,6 +216,7 @@ pub fn evaluate_each(
 
 /// Whether a test is true, if the values that statements may assign are these (profile); `Undefined (1)` if it has no
 /// truth value.
+#[inline(always)]
 pub fn evaluate_test(
     alloc: Global,
     test: &Checked,
@@ -232,6 +235,7 @@ pub fn evaluate_test(
 }
 
 /// The same of a test whose value is not found quickly.
+#[inline(never)]
 fn evaluate_test_slowly(
     alloc: Global,
     test: &Checked,

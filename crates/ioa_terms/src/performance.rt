@@ -33,6 +33,7 @@ use std::mem;
 /// value, or a new value has not the variable's shape, `Range (2)` if a number lies outside 64 bits, an
 /// intermediate one too, and `Memory (3)` if no memory is left. Costs time in proportion to the statements
 /// performed, and to what their terms and the tests of shapes cost.
+#[inline(always)]
 #[tactic(auto, using(crate::proofs::Performed::stepwise_by_is, crate::proofs::Performed::all_resolved))]
 pub fn perform(
     alloc: Global,
@@ -103,6 +104,7 @@ fn perform_one(
 /// Performs an assignment (profile): `values` are those that statements may assign, and the new value is written where
 /// it stands among them. After a fault, they are what they were. Costs what its terms and the test of the variable's
 /// shape cost.
+#[inline(always)]
 pub fn perform_assignment(
     alloc: Global,
     target: &Target<usize, Callee, Shape>,
@@ -130,6 +132,7 @@ pub fn perform_assignment(
 }
 
 /// The same where the value is no number and no truth value that is found quickly.
+#[inline(never)]
 fn assign_evaluated(
     alloc: Global,
     target: &Target<usize, Callee, Shape>,
@@ -302,6 +305,7 @@ fn put(
 }
 
 /// The same of a number, which is written over the one that stands there.
+#[inline(always)]
 #[tactic(auto, using(crate::proofs::Slots::put_among_first, crate::proofs::Slots::slot_within_first))]
 fn put_number(
     name: &Word,
@@ -327,6 +331,7 @@ fn put_number(
 }
 
 /// The same of a truth value.
+#[inline(always)]
 #[tactic(auto, using(crate::proofs::Slots::put_among_first, crate::proofs::Slots::slot_within_first))]
 fn put_truth(
     name: &Word,
@@ -351,6 +356,7 @@ fn put_truth(
 }
 
 /// Makes the value at a slot a truth value.
+#[inline(always)]
 fn set_truth(values: &mut Vec<Value>, slot: usize, b: bool)
     requires { slot < length values.old.items }
     ensures { values.new.items ≡ slice_set values.old.items slot (truth b) }
@@ -359,6 +365,7 @@ fn set_truth(values: &mut Vec<Value>, slot: usize, b: bool)
 }
 
 /// Makes the value at a slot a number.
+#[inline(always)]
 fn set_number(values: &mut Vec<Value>, slot: usize, n: i64)
     requires { slot < length values.old.items }
     ensures { values.new.items ≡ slice_set values.old.items slot (number n) }

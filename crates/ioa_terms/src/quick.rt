@@ -42,6 +42,7 @@ pub(crate) fn quick_value(term: &Checked, view: &View, values: &[Value]) -> Opti
 
 /// The number that a term has, if it is found quickly: a number, the value of a name, or a sum, a difference or a
 /// product of such.
+#[inline(always)]
 pub(crate) fn quick_number(term: &Checked, view: &View, values: &[Value]) -> Option<i64>
     requires named { IsNamed view.now values.now }
     requires resolved { IsResolved (term_of term.now) (names_in_view view.now) }
@@ -55,6 +56,7 @@ pub(crate) fn quick_number(term: &Checked, view: &View, values: &[Value]) -> Opt
 }
 
 /// The number of a term, if it is a number, or the value of the term is one and lent.
+#[inline(always)]
 fn number_at_hand(term: &Checked, view: &View, values: &[Value]) -> Option<i64>
     requires named { IsNamed view.now values.now }
     requires resolved { IsResolved (term_of term.now) (names_in_view view.now) }
@@ -68,6 +70,7 @@ fn number_at_hand(term: &Checked, view: &View, values: &[Value]) -> Option<i64>
 }
 
 /// The number that is the value of a term, if it is lent.
+#[inline(always)]
 fn number_lent(term: &Checked, view: &View, values: &[Value]) -> Option<i64>
     requires named { IsNamed view.now values.now }
     requires resolved { IsResolved (term_of term.now) (names_in_view view.now) }
@@ -104,6 +107,7 @@ fn quick_sum(term: &Checked, view: &View, values: &[Value]) -> Option<i64>
 }
 
 /// Whether an operator makes a number of two.
+#[inline(always)]
 fn is_arithmetic(operator: BinaryOperator) -> bool {
     match operator {
         BinaryOperator::Plus | BinaryOperator::Minus | BinaryOperator::Times => true,
@@ -112,6 +116,7 @@ fn is_arithmetic(operator: BinaryOperator) -> bool {
 }
 
 /// The sum, the difference or the product of two terms, which have these numbers.
+#[inline(always)]
 fn sum_of(
     operator: BinaryOperator,
     _a: &Checked,
@@ -173,6 +178,7 @@ pub(crate) fn quick_truth(term: &Checked, view: &View, values: &[Value]) -> Opti
 }
 
 /// How two terms' values compare, if the operator asks that and they are found quickly.
+#[inline(always)]
 fn quick_comparison(
     operator: BinaryOperator,
     a: &Checked,
@@ -194,6 +200,7 @@ fn quick_comparison(
 }
 
 /// How two terms' numbers compare, if the operator asks that and they are found quickly.
+#[inline(always)]
 fn quick_order(
     operator: BinaryOperator,
     a: &Checked,
@@ -315,6 +322,7 @@ fn empty_sequence(form: DisplayForm, shape: &Shape) -> Option<Value>
 }
 
 /// The value of a term, if it is lent: that of a name, or the first item of a name's sequence.
+#[inline(always)]
 pub(crate) fn lent_value<'a>(
     term: &Checked,
     view: &'a View,
@@ -333,6 +341,7 @@ pub(crate) fn lent_value<'a>(
 }
 
 /// The value of a name, if it is lent.
+#[inline(always)]
 fn named_value<'a>(term: &Checked, view: &'a View, values: &'a [Value]) -> Option<&'a Value>
     requires named { IsNamed view.now values.now }
     requires resolved { IsResolved (term_of term.now) (names_in_view view.now) }
@@ -349,6 +358,7 @@ fn named_value<'a>(term: &Checked, view: &'a View, values: &'a [Value]) -> Optio
 }
 
 /// The value of a call, if it is lent: the first item of a name's sequence.
+#[inline(never)]
 fn called_value<'a>(
     _name: &Word,
     callee: Callee,
@@ -401,6 +411,7 @@ fn truth_named(term: &Checked, view: &View, values: &[Value]) -> Option<bool>
 }
 
 /// What is at the slot of a term, if it is a name.
+#[inline(always)]
 #[tactic(auto, using(crate::proofs::Slots::found_there))]
 fn slot_named<'a>(term: &Checked, view: &'a View, values: &'a [Value]) -> Option<Slot<'a>>
     requires named { IsNamed view.now values.now }
@@ -415,6 +426,7 @@ fn slot_named<'a>(term: &Checked, view: &'a View, values: &'a [Value]) -> Option
 }
 
 /// What is at the slot of a name.
+#[inline(always)]
 #[tactic(auto, using(crate::proofs::Slots::lookup_view))]
 fn slot_of<'a>(name: &Name, slot: usize, view: &'a View, values: &'a [Value]) -> Option<Slot<'a>>
     requires named { IsNamed view.now values.now }

@@ -100,6 +100,7 @@ impl NodeConf {
     /// number met lies outside 64 bits, `Undefined` (1) if a part has no value or an argument holds a negative number
     /// where its sort says Nat, `NotEnabled` (40) if the condition or the guard is not true. It is meant for an action
     /// in which the node takes part, and does not test that.
+    #[inline(never)]
     #[tactic(auto, unfolding(crate::specs::NodeAnswers::node_answer))]
     pub fn step(&self, alloc: Global, action: &Action) -> Result<Self, StepFault>
         ensures { Answers StepFault.Memory (λ c. c) result (node_answer self.now action.now) }
@@ -118,6 +119,7 @@ impl NodeConf {
 
     /// The same step, written over another configuration: if that has as many values, their room is used again. After a
     /// fault it is some configuration.
+    #[inline(always)]
     #[tactic(auto, unfolding(crate::specs::NodeAnswers::node_answer))]
     pub fn step_over(
         &self,
@@ -136,6 +138,7 @@ impl NodeConf {
     }
 
     /// The same over a configuration that has as many values.
+    #[inline(always)]
     #[tactic(auto, unfolding(crate::specs::NodeAnswers::node_answer))]
     fn write_step(
         &self,

@@ -33,6 +33,7 @@ use ioa_terms::{
 use std::alloc::{AllocError, Global};
 
 /// Whether an action is of an entry's kind.
+#[inline(always)]
 fn kind_agrees(action: &Action, kind: Kind) -> bool
     ensures { result ≡ spec.kind_agrees action.now kind }
 {
@@ -53,6 +54,7 @@ fn kind_agrees(action: &Action, kind: Kind) -> bool
 }
 
 /// Whether an action can be of an entry's kind, whatever its name is.
+#[inline(always)]
 fn kind_may_agree(action: &Action, kind: Kind) -> bool
     ensures { result && spec.kind_agrees action.now kind ≡ spec.kind_agrees action.now kind }
 {
@@ -65,6 +67,7 @@ fn kind_may_agree(action: &Action, kind: Kind) -> bool
 }
 
 /// Whether a value is one that a parameter takes at a node with this program. A negative number passes for a Nat here.
+#[inline(always)]
 fn parameter_agrees(
     alloc: Global,
     program: &Program,
@@ -84,6 +87,7 @@ fn parameter_agrees(
 
 /// Whether a value is that of a term which reads what the node gives the automaton's parameters. Nothing is evaluated
 /// for a number or the name of a parameter.
+#[inline(always)]
 fn constant_agrees(
     alloc: Global,
     program: &Program,
@@ -104,6 +108,7 @@ fn constant_agrees(
 }
 
 /// The value that the node gives, if the term is the name of a parameter of the automaton.
+#[inline(always)]
 fn given_value<'a>(program: &'a Program, term: &Checked) -> Option<&'a Value>
     requires { IsResolved (term_of term.now) (names_at entry_constant (declared_names program.now.automaton) []) }
     ensures { IfSome result (λ v. answer (term_of term.now)
@@ -116,6 +121,7 @@ fn given_value<'a>(program: &'a Program, term: &Checked) -> Option<&'a Value>
 }
 
 /// The value that the node gives a name, if it is that of a parameter of the automaton.
+#[inline(always)]
 #[tactic(auto, using(crate::proofs::Arguments::given_there))]
 fn given_at<'a>(program: &'a Program, name: &Name, slot: usize) -> Option<&'a Value>
     requires { slot_in name.now (names_at entry_constant (declared_names program.now.automaton) []) ≡ Some slot }
@@ -140,6 +146,7 @@ fn within_law(value: &Value)
 }
 
 /// Whether a value is that of a term, which is evaluated.
+#[inline(never)]
 fn evaluated_agrees(
     alloc: Global,
     program: &Program,
@@ -160,6 +167,7 @@ fn evaluated_agrees(
 }
 
 /// Whether arguments fit an entry's parameters at a node with this program.
+#[inline(always)]
 fn arguments_agree(
     alloc: Global,
     program: &Program,
@@ -183,6 +191,7 @@ fn arguments_agree(
 }
 
 /// Passes if no argument holds a negative number where its sort says Nat; else `Undefined` (1).
+#[inline(always)]
 fn pass_naturals(
     parameters: &[Parameter<usize, Callee, Shape>],
     arguments: &[Value],
@@ -198,6 +207,7 @@ fn pass_naturals(
 }
 
 /// Whether an argument holds no negative number where its sort says Nat.
+#[inline(always)]
 fn is_natural(parameter: &Parameter<usize, Callee, Shape>, argument: &Value) -> bool
     ensures { result ≡ spec.is_natural (parameter_of parameter.now) argument.now }
 {
@@ -209,6 +219,7 @@ fn is_natural(parameter: &Parameter<usize, Callee, Shape>, argument: &Value) -> 
 
 /// Whether an action with these arguments is one of an entry's at a node with this program. Kinds and numbers of
 /// arguments are compared before names, and constants come last.
+#[inline(always)]
 fn entry_agrees(
     alloc: Global,
     program: &Program,
@@ -239,6 +250,7 @@ fn entry_agrees(
 
 /// The rule that an action with these arguments takes at a node with this program, if there is one. Constants of
 /// entries read the values that the node gives the automaton's parameters.
+#[inline(always)]
 pub fn rule_for<'a>(
     alloc: Global,
     program: &'a Program,
@@ -261,6 +273,7 @@ pub fn rule_for<'a>(
 }
 
 /// Puts the values of a node's state variables after an action into a list, in place of what is there.
+#[inline(always)]
 pub fn values_after(
     alloc: Global,
     program: &Program,
@@ -288,6 +301,7 @@ pub fn values_after(
 }
 
 /// The same of an action whose arguments are a message and two nodes.
+#[inline(never)]
 fn values_by_message(
     alloc: Global,
     program: &Program,
@@ -311,6 +325,7 @@ fn values_by_message(
 }
 
 /// The same of an action with these arguments.
+#[inline(always)]
 fn values_by(
     alloc: Global,
     program: &Program,
@@ -335,6 +350,7 @@ fn values_by(
 /// Puts the values of the state variables after a transition into a list, in place of what is there. The arguments are
 /// tested first, then the entry's condition, then the guard, and then the effect is performed. The variables are copied
 /// for the effect alone.
+#[inline(always)]
 fn take_transition(
     alloc: Global,
     program: &Program,
@@ -366,6 +382,7 @@ fn take_transition(
 
 /// The same behind the test of the arguments, if the entry's own parameters do not stand side by side: their values are
 /// copied.
+#[inline(never)]
 fn pass_copies(
     alloc: Global,
     program: &Program,
@@ -393,6 +410,7 @@ fn pass_copies(
 
 /// The same, if the entry's own parameters have these values: the entry's condition is tested, then the guard, and then
 /// the effect is performed.
+#[inline(always)]
 fn pass_own(
     alloc: Global,
     program: &Program,
@@ -419,6 +437,7 @@ fn pass_own(
 }
 
 /// Passes if the condition of a rule's entry is true or missing; else `NotEnabled` (40). It reads no state variable.
+#[inline(always)]
 fn pass_condition(
     alloc: Global,
     program: &Program,
@@ -469,6 +488,7 @@ fn condition_view<'a>(program: &'a Program, rule: &'a Rule, own: &'a [Value]) ->
 
 /// Puts the values of the state variables after a rule's transition into a list, in place of what is there, if the
 /// entry's own parameters have these values: the guard is tested, and then the effect is performed.
+#[inline(always)]
 fn pass_step(
     alloc: Global,
     program: &Program,
@@ -526,6 +546,7 @@ fn step_view<'a>(
 
 /// Puts the values of the state variables after a rule's effect into a list, in place of what is there. The effect is
 /// performed on a copy of them.
+#[inline(always)]
 #[tactic(auto, using(crate::proofs::Arguments::effect_answer_view))]
 fn take_effect(
     alloc: Global,
@@ -548,6 +569,7 @@ fn take_effect(
 }
 
 /// The arguments that have names of their own, if they stand side by side.
+#[inline(always)]
 #[tactic(auto, using(crate::proofs::Arguments::own_part))]
 fn lent_own<'a>(
     parameters: &[Parameter<usize, Callee, Shape>],
@@ -566,6 +588,7 @@ fn lent_own<'a>(
 }
 
 /// Where the constants end that begin at a position.
+#[inline(always)]
 fn constants_end(
     parameters: &[Parameter<usize, Callee, Shape>],
     arguments: &[Value],
@@ -588,6 +611,7 @@ fn constants_end(
 }
 
 /// Where the parameters with names of their own end that begin at a position.
+#[inline(always)]
 fn own_end(
     parameters: &[Parameter<usize, Callee, Shape>],
     arguments: &[Value],
@@ -645,6 +669,7 @@ fn push_own(
 }
 
 /// Passes if a guard is true or missing; else `NotEnabled` (40).
+#[inline(always)]
 fn pass_guard(
     alloc: Global,
     pre: &Option<Checked>,
@@ -678,6 +703,7 @@ fn pass_test(alloc: Global, test: &Checked, view: &View, values: &[Value]) -> Re
 }
 
 /// The same, by the value of the test.
+#[inline(never)]
 #[tactic(auto, using(ioa_terms::proofs::Stepwise::stepwise_is))]
 fn pass_value(alloc: Global, test: &Checked, view: &View, values: &[Value]) -> Result<(), StepFault>
     requires named { IsNamed view.now values.now }

@@ -52,6 +52,7 @@ fn is_input(rule: Option<&Rule>) -> bool
 impl Progress<'_> {
     /// The action of a firing at which the node stands, with the arguments that its turn found. If it is the one that
     /// the node fired last, that gets one more owner, and nothing is built.
+    #[inline(always)]
     pub fn action_fired(
         &mut self,
         alloc: Global,
@@ -70,6 +71,7 @@ impl Progress<'_> {
     }
 
     /// The action that the node fired last, if it is of the firing's rule and has these arguments.
+    #[inline(always)]
     fn last_fired(
         &self,
         firing: &Firing<usize, Callee, Shape>,
@@ -92,6 +94,7 @@ impl Progress<'_> {
     }
 
     /// The same action, which is built, and which the node keeps too.
+    #[inline(never)]
     fn fire_anew(
         &mut self,
         alloc: Global,
@@ -115,6 +118,7 @@ impl Progress<'_> {
 }
 
 /// Whether an action has these arguments.
+#[inline(always)]
 fn has_arguments(action: &Action, arguments: &[Value]) -> bool
     ensures { result ≡ all_same (action_arguments action.now) arguments.now }
 {
@@ -127,6 +131,7 @@ fn has_arguments(action: &Action, arguments: &[Value]) -> bool
 }
 
 /// Whether values are the same, in order. Mostly there are none.
+#[inline(always)]
 fn are_same(values: &[Value], others: &[Value]) -> bool
     ensures { result ≡ all_same values.now others.now }
 {

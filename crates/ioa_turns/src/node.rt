@@ -37,6 +37,7 @@ impl<'a> Progress<'a> {
     }
 
     /// Moves the block past the `fire` at which it stands. Takes no memory.
+    #[inline(always)]
     pub fn pass(&mut self)
         requires { IsAtFire (progress_of self.old).todo }
         ensures past { progress_of self.new ≡ past_fire (progress_of self.old) }

@@ -120,6 +120,7 @@ fn only_inbox<O: Origin>(snapshot: &Snapshot<O>, node: i64) -> Option<Option<Inb
 }
 
 /// The configuration of a component, if it was read.
+#[inline(always)]
 pub(crate) fn find_conf<O: Origin>(snapshot: &Snapshot<O>, component: Component) -> Option<&Conf>
     ensures { option_copied result ≡ conf.find_conf component (read_confs snapshot.now.reads) }
 {
@@ -134,6 +135,7 @@ pub(crate) fn find_conf<O: Origin>(snapshot: &Snapshot<O>, component: Component)
 /// The turn of a node on what a look at it has read (profile). `Unknown (53)` if it has read nothing of the node,
 /// `Differs (51)` if what it has read can't be the node's, else the fault of its block, if that meets one. After a
 /// fault the node is as it was.
+#[inline(always)]
 pub fn turn_of<'a, O: Origin>(
     alloc: Global,
     snapshot: &Snapshot<O>,
@@ -155,6 +157,7 @@ pub fn turn_of<'a, O: Origin>(
 }
 
 /// The turn of a node on a configuration, among those that were read.
+#[inline(always)]
 fn turn_on<'a, O: Origin>(
     alloc: Global,
     snapshot: &Snapshot<O>,
@@ -186,6 +189,7 @@ pub(crate) fn shows_program(program: &Program, conf: &NodeConf) -> bool
 
 /// The turn of a node on a configuration that may be its own, among those that were read. Its inboxes are looked up
 /// only if its automaton takes messages.
+#[inline(always)]
 fn turn_among<'a, O: Origin>(
     alloc: Global,
     snapshot: &Snapshot<O>,
@@ -210,6 +214,7 @@ fn turn_among<'a, O: Origin>(
 }
 
 /// The same of a node whose automaton takes messages. One inbox takes no memory.
+#[inline(never)]
 fn turn_by_inboxes<'a, O: Origin>(
     alloc: Global,
     snapshot: &Snapshot<O>,
@@ -235,6 +240,7 @@ fn turn_by_inboxes<'a, O: Origin>(
 }
 
 /// The same of a node that may have more inboxes than one.
+#[inline(never)]
 fn turn_by_all_inboxes<'a, O: Origin>(
     alloc: Global,
     snapshot: &Snapshot<O>,
@@ -259,6 +265,7 @@ fn turn_by_all_inboxes<'a, O: Origin>(
 }
 
 /// The turn of a node on a configuration that may be its own, if its block sees these inboxes.
+#[inline(always)]
 fn block_turn<'a>(
     alloc: Global,
     inboxes: Option<&[Inbox]>,

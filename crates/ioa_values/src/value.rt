@@ -136,6 +136,7 @@ impl Value {
     }
 
     /// The number, if the value is one.
+    #[inline(always)]
     pub fn as_number(&self) -> Option<i64>
         ensures { result ≡ as_number self.now }
     {
@@ -146,6 +147,7 @@ impl Value {
     }
 
     /// The truth value, if the value is one.
+    #[inline(always)]
     pub fn as_truth(&self) -> Option<bool>
         ensures { result ≡ as_truth self.now }
     {
@@ -156,6 +158,7 @@ impl Value {
     }
 
     /// Makes the value a number, in the place of the one that it was, if it was one.
+    #[inline(always)]
     pub fn set_number(&mut self, n: i64)
         ensures { self.new ≡ number n }
     {
@@ -166,6 +169,7 @@ impl Value {
     }
 
     /// Makes the value a truth value, in the place of the one that it was, if it was one.
+    #[inline(always)]
     pub fn set_truth(&mut self, b: bool)
         ensures { self.new ≡ truth b }
     {

@@ -44,6 +44,7 @@ impl Word {
     }
 
     /// Whether this is the text of the word.
+    #[inline(always)]
     pub fn spells(&self, text: &str) -> bool
         ensures { result ≡ pointwise nat_eq self.now text.now }
     {
