@@ -112,13 +112,35 @@ static LEFT_OUT: [(&str, LeftOut); 19] = [
     ("choose", LeftOut::Choose),
 ];
 
+/// Whether a text begins with a spelling. Mostly the first byte tells.
+#[inline(always)]
+fn begins_with(text: &[u8], spelling: &[u8]) -> bool
+    ensures { result ≡ starts_with nat_eq text.now spelling.now }
+{
+    match (text, spelling) {
+        ([first, ..], [wanted, ..]) if first != wanted => false,
+        _ => text.starts_with(spelling),
+    }
+}
+
+/// Whether a word is a spelling. Mostly its length tells.
+#[inline(always)]
+fn is_same(word: &[u8], spelling: &[u8]) -> bool
+    ensures { result ≡ bytes_eq word.now spelling.now }
+{
+    if word.len() != spelling.len() {
+        return false;
+    }
+    word == spelling
+}
+
 /// The first row of a table that a text begins with.
 fn row_at_head<T: Copy>(table: &[(&'static str, T)], text: &[u8]) -> Option<(&'static str, T)>
     ensures { option_map spec.spelled_row result
         ≡ lookup_entry (starts_with nat_eq text.now) (spec.spelled_rows table.now) }
 {
     for (spelling, meaning) in table {
-        if text.starts_with(spelling.as_bytes()) {
+        if begins_with(text, spelling.as_bytes()) {
             return Some((*spelling, *meaning));
         }
     }
@@ -130,7 +152,7 @@ fn meaning<T: Copy>(table: &[(&str, T)], word: &[u8]) -> Option<T>
     ensures { result ≡ lookup (bytes_eq word.now) (spec.spelled_rows table.now) }
 {
     for (spelling, meaning) in table {
-        if word == spelling.as_bytes() {
+        if is_same(word, spelling.as_bytes()) {
             return Some(*meaning);
         }
     }
