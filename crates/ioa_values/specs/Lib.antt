@@ -17,3 +17,4 @@ pub mod ValueForm
 pub mod ValueWeights
 pub mod Weight
 pub mod WeightSums
+pub mod Words

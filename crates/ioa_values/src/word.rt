@@ -1,26 +1,41 @@
 //! Names as the language writes them.
 
 ghost use lib.Pointwise.{pointwise};
-ghost use Rattle.std.specs.Prelude.{◌≡◌, IfOk, ℕ, ◌<◌, All, nat_eq};
+ghost use Rattle.std.specs.Prelude.{◌≡◌, IfOk, ℕ, ◌<◌, ◌≤◌, All, length, nat_eq, string_bytes};
 
+use arrayvec::ArrayString;
 use std::alloc::{AllocError, Global};
 use std::cmp::Ordering;
 use std::fmt;
 use std::hash::{Hash, Hasher};
 use std::marker::Model;
 
-/// A name: of an automaton, an action, a variable or a constant. A contract sees its bytes.
+/// As many bytes as a word can have without memory of its own.
+const SHORT: usize = 16;
+
+/// A name: of an automaton, an action, a variable or a constant. A contract sees its bytes. A short one lies in the word
+/// itself, so that it takes no memory, and neither does its copy.
 #[derive(Debug, Drop)]
 pub struct Word {
-    text: String,
+    text: WordText,
+}
+
+/// The text of a word.
+#[derive(Debug, Drop)]
+enum WordText {
+    /// One that is short.
+    Short(ArrayString<SHORT>),
+    /// Any other.
+    Long(String),
 }
 
 impl Model for Word {
-    ghost use Rattle.std.specs.Prelude.{ℕ, List, string_bytes};
+    ghost use Rattle.std.specs.Prelude.{ℕ, List};
+    ghost use Rattle.ioa_values.specs.Words.{text_bytes};
 
     ghost Value = { List ℕ };
 
-    ghost view = { λ w. string_bytes w.text };
+    ghost view = { λ w. text_bytes w.text };
 }
 
 impl Word {
@@ -29,18 +44,25 @@ impl Word {
         requires { All (λ b. b < 128) bytes.now }
         ensures { IfOk result (λ w. w ≡ bytes.now) }
     {
-        let mut text = String::new(alloc);
-        for byte in bytes {
-            text.push(char::from(*byte))?;
+        if bytes.len() <= SHORT {
+            return Ok(Word {
+                text: WordText::Short(short_text(bytes)),
+            });
         }
-        Ok(Word { text })
+        Ok(Word {
+            text: WordText::Long(long_text(alloc, bytes)?),
+        })
     }
 
     /// The text of the word.
+    #[inline(always)]
     pub fn as_str(&self) -> &str
         ensures { result.now ≡ self.now }
     {
-        self.text.as_str()
+        match &self.text {
+            WordText::Short(text) => text.as_str(),
+            WordText::Long(text) => text.as_str(),
+        }
     }
 
     /// Whether this is the text of the word.
@@ -56,13 +78,41 @@ impl Word {
         }
     }
 
-    /// An equal word with its own memory.
+    /// An equal word. A long one gets memory of its own.
     pub fn try_copy(&self, alloc: Global) -> Result<Self, AllocError>
         ensures { IfOk result (λ w. w ≡ self.now) }
     {
-        let text = String::from_str(alloc, self.text.as_str())?;
+        let text = match &self.text {
+            WordText::Short(text) => WordText::Short(*text),
+            WordText::Long(text) => WordText::Long(String::from_str(alloc, text.as_str())?),
+        };
         Ok(Word { text })
     }
+}
+
+/// The text of a few ASCII bytes.
+fn short_text(bytes: &[u8]) -> ArrayString<SHORT>
+    requires ascii { All (λ b. b < 128) bytes.now }
+    requires few { length bytes.now ≤ 16 }
+    ensures { result.bytes ≡ bytes.now }
+{
+    let mut text = ArrayString::new();
+    for byte in bytes {
+        text.push(char::from(*byte));
+    }
+    text
+}
+
+/// The text of ASCII bytes.
+fn long_text(alloc: Global, bytes: &[u8]) -> Result<String, AllocError>
+    requires { All (λ b. b < 128) bytes.now }
+    ensures { IfOk result (λ t. string_bytes t ≡ bytes.now) }
+{
+    let mut text = String::new(alloc);
+    for byte in bytes {
+        text.push(char::from(*byte))?;
+    }
+    Ok(text)
 }
 
 /// Whether bytes are the same, one by one. It is quicker than std's comparison of texts if there are only a few.

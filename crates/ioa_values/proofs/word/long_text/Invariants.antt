@@ -1,5 +1,5 @@
 use Rattle.std.proofs.Common.{◌≡◌, take, string_bytes}
-use Rattle.ioa_values.proofs.word.Word.from_ascii.Given as goal
+use Rattle.ioa_values.proofs.word.long_text.Given as goal
 
 -- what is written so far are the bytes gone by
 abbrev pub invariant-loop-byte : goal.invariant-loop-byte
