@@ -189,12 +189,25 @@ impl Value {
     /// The same value once more, which shares its collections with this one. Costs the same whatever the
     /// value holds, and takes no memory. A number lies within 64 bits, and every set and every map in the
     /// value, at any depth, ascends, whether the copy succeeds or not.
+    #[inline(always)]
     pub fn try_copy(&self) -> Result<Self, AllocError>
         ensures equal { IfOk result (λ v. v ≡ self.now) }
         ensures within { is_within self.now ≡ true }
         ensures ascending { IsCanonical self.now }
     {
         self.canonical_law();
+        match &self.form {
+            ValueForm::Number(n) => Ok(Value::number(*n)),
+            ValueForm::Truth(b) => Ok(Value::truth(*b)),
+            _ => self.share(),
+        }
+    }
+
+    /// The same of a value that may be a collection.
+    #[inline(never)]
+    fn share(&self) -> Result<Self, AllocError>
+        ensures { IfOk result (λ v. v ≡ self.now) }
+    {
         let form = match &self.form {
             ValueForm::Number(n) => ValueForm::Number(*n),
             ValueForm::Truth(b) => ValueForm::Truth(*b),
@@ -243,9 +256,29 @@ impl Value {
     }
 
     /// Whether two values are the same.
+    #[inline(always)]
     pub fn equals(&self, other: &Self) -> bool
         ensures value { result ≡ same self.now other.now }
         ensures equality { IsTrue result ↔ (self.now ≡ other.now) }
+    {
+        self.is_same(other)
+    }
+
+    /// Whether two values are the same. Numbers are compared here.
+    #[inline(always)]
+    fn is_same(&self, other: &Self) -> bool
+        ensures { result ≡ same self.now other.now }
+    {
+        match (&self.form, &other.form) {
+            (ValueForm::Number(m), ValueForm::Number(n)) => m == n,
+            _ => self.ties(other),
+        }
+    }
+
+    /// Whether the order does not tell two values apart.
+    #[inline(never)]
+    fn ties(&self, other: &Self) -> bool
+        ensures { result ≡ same self.now other.now }
     {
         self.compare(other) == Ordering::Equal
     }
@@ -255,9 +288,9 @@ impl Value {
 pub fn copies(alloc: Global, values: &[Value]) -> Result<Vec<Value>, AllocError>
     ensures { IfOk result (λ v. v.items ≡ values.now) }
 {
-    let mut items = Vec::new(alloc);
+    let mut items = Vec::with_capacity(alloc, values.len())?;
     for value in values {
-        items.push(value.try_copy()?)?;
+        items.push_reserved(value.try_copy()?);
     }
     Ok(items)
 }
