@@ -5,4 +5,5 @@ pub mod ActionText
 pub mod ComponentOrder
 pub mod ComponentText
 pub mod StepFaults
+pub mod ValueLists
 pub mod ValuesOrder

@@ -17,10 +17,19 @@ pub const SEND: &str = "send";
 /// The name of all receives (Lynch 14.1).
 pub const RECEIVE: &str = "receive";
 
-/// The values of an action's arguments, in order. A contract sees them as a list.
+/// The values of an action's arguments, in order. A contract sees them as a list. One value takes no memory of its own.
 #[derive(Debug, Drop)]
 pub struct Values {
-    items: Vec<Value>,
+    items: ValueList,
+}
+
+/// How values are kept.
+#[derive(Debug, Drop)]
+enum ValueList {
+    /// One, in place.
+    One([Value; 1]),
+    /// Any number.
+    Many(Vec<Value>),
 }
 
 impl Model for Values {
@@ -28,12 +37,13 @@ impl Model for Values {
     ghost use Rattle.std.specs.Coded.{coded_list};
     ghost use Rattle.ioa_values.specs.Data.{Data};
     ghost use Rattle.ioa_values.specs.DataCode.{data_code};
+    ghost use Rattle.ioa_actions.specs.ValueLists.{listed};
 
     ghost Value = { List Data };
 
     ghost coded = { coded_list data_code };
 
-    ghost view = { λ v. v.items.items };
+    ghost view = { λ v. listed v.items };
 }
 
 impl Values {
@@ -41,22 +51,37 @@ impl Values {
     pub fn from_vec(items: Vec<Value>) -> Self
         ensures { result ≡ items.items }
     {
-        Values { items }
+        Values {
+            items: ValueList::Many(items),
+        }
+    }
+
+    /// Copies of values, each sharing its collections with the one copied.
+    pub fn copied(alloc: Global, values: &[Value]) -> Result<Self, AllocError>
+        ensures { IfOk result (λ v. v ≡ values.now) }
+    {
+        let items = match values {
+            [value] => ValueList::One([value.try_copy()?]),
+            _ => ValueList::Many(copies(alloc, values)?),
+        };
+        Ok(Values { items })
     }
 
     /// The values in order.
     pub fn as_slice(&self) -> &[Value]
         ensures { result.now ≡ self.now }
     {
-        self.items.as_slice()
+        match &self.items {
+            ValueList::One(value) => value.as_slice(),
+            ValueList::Many(values) => values.as_slice(),
+        }
     }
 
     /// The same values once more, each sharing its collections.
     pub fn try_copy(&self, alloc: Global) -> Result<Self, AllocError>
         ensures { IfOk result (λ v. v ≡ self.now) }
     {
-        let items = copies(alloc, self.items.as_slice())?;
-        Ok(Values { items })
+        Values::copied(alloc, self.as_slice())
     }
 }
 
@@ -67,8 +92,14 @@ impl PartialEq for Values {
 
     ghost laws = { all_same_partial };
 
+    #[inline(always)]
     fn eq(&self, other: &Self) -> bool {
-        self.items == other.items
+        let values = self.as_slice();
+        let others = other.as_slice();
+        if values.is_empty() && others.is_empty() {
+            return true;
+        }
+        values == others
     }
 }
 
@@ -86,7 +117,7 @@ impl PartialOrd for Values {
     ghost laws = { list_cmp_partial };
 
     fn partial_cmp(&self, other: &Self) -> Option<Ordering> {
-        self.items.partial_cmp(&other.items)
+        self.as_slice().partial_cmp(&other.as_slice())
     }
 }
 
@@ -102,7 +133,7 @@ impl Ord for Values {
     ghost matches_eq = { list_cmp_ties };
 
     fn cmp(&self, other: &Self) -> Ordering {
-        self.items.cmp(&other.items)
+        self.as_slice().cmp(&other.as_slice())
     }
 }
 
@@ -162,6 +193,22 @@ impl NodeAction {
         })
     }
 
+    /// The same, with copies of these arguments.
+    fn copied(
+        alloc: Global,
+        node: i64,
+        name: &Word,
+        arguments: &[Value],
+    ) -> Result<Self, AllocError>
+        ensures { IfOk result (λ a. a ≡ parts.node_action node name.now arguments.now) }
+    {
+        Ok(NodeAction {
+            node,
+            name: name.try_copy(alloc)?,
+            arguments: Values::copied(alloc, arguments)?,
+        })
+    }
+
     /// Whether two actions are the same.
     #[tactic(auto, using(crate::proofs::SameActions::same_node_action_is))]
     pub fn equals(&self, other: &Self) -> bool
@@ -209,8 +256,7 @@ impl Action {
                 return Ok(Action::Receive { message, from, to });
             }
         }
-        let arguments = copies(alloc, arguments)?;
-        Ok(Action::Stimulus(NodeAction::new(alloc, node, name, arguments)?))
+        Ok(Action::Stimulus(NodeAction::copied(alloc, node, name, arguments)?))
     }
 
     /// The output or internal action of a node with this name and these arguments, which the node itself controls: a
@@ -229,8 +275,7 @@ impl Action {
                 return Ok(Action::Send { message, from, to });
             }
         }
-        let arguments = copies(alloc, arguments)?;
-        Ok(Action::Local(NodeAction::new(alloc, node, name, arguments)?))
+        Ok(Action::Local(NodeAction::copied(alloc, node, name, arguments)?))
     }
 
     /// The node of the action: the sender of a send, and the receiver of a receive.
