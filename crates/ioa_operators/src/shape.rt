@@ -3,7 +3,7 @@
 ghost use Rattle.std.specs.Prelude.{◌≡◌, ◌↔◌, ◌+◌, [], ◌&&◌, IfOk, IsTrue, nat_eq, nat_le, nat_lt};
 ghost use Rattle.ioa_operators.specs.SameShapes.{same_shape, same_shapes};
 ghost use lib.Pointwise.{pointwise};
-ghost use Rattle.ioa_values.specs.Data.{items_of, number};
+ghost use Rattle.ioa_values.specs.Data.{items_of};
 ghost use Rattle.ioa_operators.specs.Shapes.{naturals, constants, shapes_of, has_shape, have_shapes, all_have};
 ghost use Rattle.ioa_operators.specs.Shapes.{wide_shape, wide_shape_if, wide_shapes_if};
 ghost use Rattle.ioa_operators.specs.ShapeKinds.{AdmitsKind};
@@ -119,18 +119,6 @@ impl Shape {
         ensures { result ≡ has_shape self.now value.now }
     {
         self.fits(value, false)
-    }
-
-    /// Whether a number has the shape.
-    #[inline(always)]
-    pub fn admits_number(&self, n: i64) -> bool
-        ensures { result ≡ has_shape self.now (number n) }
-    {
-        match &self.form {
-            ShapeForm::Integers => true,
-            ShapeForm::Naturals => 0 <= n,
-            _ => self.admits(&Value::number(n)),
-        }
     }
 
     /// Whether a value has the shape if signs do not matter: a negative number passes for a natural too,

@@ -5,7 +5,7 @@ ghost use Rattle.std.specs.Option.{option_and_then};
 ghost use Rattle.ioa_values.specs.Data.{number, truth};
 ghost use Rattle.ioa_values.specs.Outcome.{Answers, and_then};
 ghost use Rattle.ioa_operators.specs.RangeCheck.{checked_result};
-ghost use Rattle.ioa_operators.specs.Shapes.{with_field};
+ghost use Rattle.ioa_operators.specs.Shapes.{has_shape, with_field};
 ghost use Rattle.ioa_terms.specs.Bindings.{slot_in, names_of, lookup};
 ghost use Rattle.ioa_terms.specs.Performance.{answer_by, updated_map};
 ghost use Rattle.ioa_terms.specs.Resolved.{AreResolved, AreAllResolved, IsResolved};
@@ -22,7 +22,7 @@ use crate::evaluation::{evaluate_lent, evaluate_stepwise, evaluate_test, read};
 use crate::name::Name;
 use crate::quick::{quick_number, quick_truth};
 use crate::tree::{Checked, Statement, Target};
-use ioa_operators::{Function, Shape, TermFault, call, replace_field};
+use ioa_operators::{Function, Shape, ShapeForm, TermFault, call, replace_field};
 use ioa_values::{Value, Word};
 use std::alloc::Global;
 use std::mem;
@@ -120,15 +120,24 @@ pub fn perform_assignment(
     ensures kept { length values.new.items ≡ length values.old.items }
     ensures unchanged { OnErr result (values.new ≡ values.old) }
 {
-    if let Target::Variable(name, at, shape) = target {
-        if let Some(number) = quick_number(term, view, values) {
-            return put_number(name, *at, shape, number, view, values);
-        }
-        if let Some(truth) = quick_truth(term, view, values) {
-            return put_truth(name, *at, shape, truth, view, values);
-        }
+    match target {
+        Target::Variable(name, at, shape) => match &shape.form {
+            ShapeForm::Integers => match quick_number(term, view, values) {
+                Some(number) => put_number(name, *at, shape, number, true, view, values),
+                None => assign_evaluated(alloc, target, term, view, values),
+            },
+            ShapeForm::Naturals => match quick_number(term, view, values) {
+                Some(number) => put_number(name, *at, shape, number, 0 <= number, view, values),
+                None => assign_evaluated(alloc, target, term, view, values),
+            },
+            ShapeForm::Truths => match quick_truth(term, view, values) {
+                Some(truth) => put_truth(name, *at, shape, truth, view, values),
+                None => assign_evaluated(alloc, target, term, view, values),
+            },
+            _ => assign_evaluated(alloc, target, term, view, values),
+        },
+        _ => assign_evaluated(alloc, target, term, view, values),
     }
-    assign_evaluated(alloc, target, term, view, values)
 }
 
 /// The same where the value is no number and no truth value that is found quickly.
@@ -304,25 +313,27 @@ fn put(
     }
 }
 
-/// The same of a number, which is written over the one that stands there.
+/// The same of a number that the shape admits or not. It is written over the one that stands there.
 #[inline(always)]
 #[tactic(auto, using(crate::proofs::Slots::put_among_first, crate::proofs::Slots::slot_within_first))]
 fn put_number(
     name: &Word,
     at: usize,
-    shape: &Shape,
+    _shape: &Shape,
     n: i64,
+    is_admitted: bool,
     view: &View,
     values: &mut Vec<Value>,
 ) -> Result<(), TermFault>
-    requires { slot_in (Name.Word name.now) (own_names view.now (length values.old.items)) ≡ Some at }
+    requires slot { slot_in (Name.Word name.now) (own_names view.now (length values.old.items)) ≡ Some at }
+    requires admitted { has_shape _shape.now (number n) ≡ is_admitted }
     ensures after { Answers TermFault.Memory (λ _. environment_of view.now values.new.items) result
-        (put_fitting_value (Name.Word name.now) shape.now (environment_of view.now values.old.items)
+        (put_fitting_value (Name.Word name.now) _shape.now (environment_of view.now values.old.items)
         (number n)) }
     ensures kept { length values.new.items ≡ length values.old.items }
     ensures unchanged { OnErr result (values.new ≡ values.old) }
 {
-    if shape.admits_number(n) {
+    if is_admitted {
         set_number(values, at, n);
         Ok(())
     } else {
