@@ -29,6 +29,7 @@ pub use ioa_values::{Names, Value, Word, show};
 pub use laws::{ascending_law, defined_law, put_law, shapes_law, statements_law};
 pub use name::Name;
 pub use performance::{perform, perform_assignment};
+pub use quick::number_at_hand;
 pub use same::{
     are_same_firings, are_same_statements, are_same_terms, is_same_firing, is_same_statement,
     is_same_term,

@@ -57,7 +57,7 @@ pub(crate) fn quick_number(term: &Checked, view: &View, values: &[Value]) -> Opt
 
 /// The number of a term, if it is a number, or the value of the term is one and lent.
 #[inline(always)]
-fn number_at_hand(term: &Checked, view: &View, values: &[Value]) -> Option<i64>
+pub fn number_at_hand(term: &Checked, view: &View, values: &[Value]) -> Option<i64>
     requires named { IsNamed view.now values.now }
     requires resolved { IsResolved (term_of term.now) (names_in_view view.now) }
     ensures { IfSome result
