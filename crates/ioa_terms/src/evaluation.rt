@@ -23,7 +23,7 @@ ghost use Rattle.ioa_terms.specs.Views.{IsNamed, environment_of, names_in_view};
 use crate::callee::Callee;
 use crate::environment::{Env, Inbox, Slot, View};
 use crate::name::Name;
-use crate::quick::{lent_value, quick_truth, quick_value};
+use crate::quick::{lent_value, quick_test, quick_value};
 use crate::tree::Checked;
 use ioa_operators::{
     BinaryOperator, Function, TermFault, binary, call, call_lent, display, field, left_decision,
@@ -228,7 +228,7 @@ pub fn evaluate_test(
     ensures { Answers TermFault.Memory (λ b. b) result
         (stepwise_test (term_of test.now) (environment_of view.now values.now)) }
 {
-    match quick_truth(test, view, values) {
+    match quick_test(test, view, values) {
         Some(truth) => Ok(truth),
         None => evaluate_test_slowly(alloc, test, view, values),
     }

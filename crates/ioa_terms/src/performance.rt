@@ -1,6 +1,7 @@
 //! What a list of statements leaves of an environment.
 
-ghost use Rattle.std.specs.Prelude.{◌≡◌, ◌<◌, IfOk, OnErr, Some, length, map, slice_set};
+ghost use Rattle.std.specs.Prelude.{◌≡◌, ◌<◌, IfOk, IfSome, OnErr, Some, ℤ, if◌then◌else◌, int_le, length, map, pos};
+ghost use Rattle.std.specs.Prelude.{slice_set, true};
 ghost use Rattle.std.specs.Option.{option_and_then};
 ghost use Rattle.ioa_values.specs.Data.{number, truth};
 ghost use Rattle.ioa_values.specs.Outcome.{Answers, and_then};
@@ -20,7 +21,7 @@ use crate::callee::Callee;
 use crate::environment::{Env, View};
 use crate::evaluation::{evaluate_lent, evaluate_stepwise, evaluate_test, read};
 use crate::name::Name;
-use crate::quick::{quick_number, quick_truth};
+use crate::quick::{quick_result, quick_truth};
 use crate::tree::{Checked, Statement, Target};
 use ioa_operators::{Function, Shape, ShapeForm, TermFault, call, replace_field};
 use ioa_values::{Value, Word};
@@ -121,15 +122,52 @@ pub fn perform_assignment(
     ensures unchanged { OnErr result (values.new ≡ values.old) }
 {
     match target {
+        Target::Variable(name, at, shape) => match asks_natural(shape) {
+            Some(asks) => match quick_result(term, view, values) {
+                Some(n) => {
+                    let is_admitted = !asks || 0 <= n;
+                    put_number(name, *at, shape, n, is_admitted, view, values)
+                }
+                None => assign_evaluated(alloc, target, term, view, values),
+            },
+            None => assign_truth(alloc, target, term, view, values),
+        },
+        _ => assign_evaluated(alloc, target, term, view, values),
+    }
+}
+
+/// Whether a shape is one of naturals alone, if it is one of numbers.
+#[inline(always)]
+fn asks_natural(shape: &Shape) -> Option<bool>
+    ensures { IfSome result
+        (λ b. (n : ℤ) → has_shape shape.now (number n) ≡ (if b then int_le (pos 0) n else true)) }
+{
+    match &shape.form {
+        ShapeForm::Integers => Some(false),
+        ShapeForm::Naturals => Some(true),
+        _ => None,
+    }
+}
+
+/// The same of a variable that has no numbers.
+#[inline(always)]
+fn assign_truth(
+    alloc: Global,
+    target: &Target<usize, Callee, Shape>,
+    term: &Checked,
+    view: &View,
+    values: &mut Vec<Value>,
+) -> Result<(), TermFault>
+    requires resolved { IsResolvedStatement (assign (target_of target.now) (term_of term.now))
+        (own_names view.now (length values.old.items)) (names_in_view view.now) }
+    requires named { IsNamed view.now values.old.items }
+    ensures after { Answers TermFault.Memory (λ _. environment_of view.now values.new.items) result
+        (stepwise_one (assign (target_of target.now) (term_of term.now)) (environment_of view.now values.old.items)) }
+    ensures kept { length values.new.items ≡ length values.old.items }
+    ensures unchanged { OnErr result (values.new ≡ values.old) }
+{
+    match target {
         Target::Variable(name, at, shape) => match &shape.form {
-            ShapeForm::Integers => match quick_number(term, view, values) {
-                Some(number) => put_number(name, *at, shape, number, true, view, values),
-                None => assign_evaluated(alloc, target, term, view, values),
-            },
-            ShapeForm::Naturals => match quick_number(term, view, values) {
-                Some(number) => put_number(name, *at, shape, number, 0 <= number, view, values),
-                None => assign_evaluated(alloc, target, term, view, values),
-            },
             ShapeForm::Truths => match quick_truth(term, view, values) {
                 Some(truth) => put_truth(name, *at, shape, truth, view, values),
                 None => assign_evaluated(alloc, target, term, view, values),

@@ -55,6 +55,44 @@ pub(crate) fn quick_number(term: &Checked, view: &View, values: &[Value]) -> Opt
     }
 }
 
+/// The number that a term has, if it is found quickly, as of [`quick_number`]. A sum of two numbers that are at hand
+/// takes no call.
+#[inline(always)]
+pub(crate) fn quick_result(term: &Checked, view: &View, values: &[Value]) -> Option<i64>
+    requires named { IsNamed view.now values.now }
+    requires resolved { IsResolved (term_of term.now) (names_in_view view.now) }
+    ensures { IfSome result
+        (λ n. stepwise_answer (term_of term.now) (environment_of view.now values.now) ≡ Ok (number n)) }
+{
+    match term {
+        Checked::Two(operator, a, b) => match sum_at_hand(*operator, a, b, view, values) {
+            Some(n) => Some(n),
+            None => quick_sum(term, view, values),
+        },
+        _ => number_at_hand(term, view, values),
+    }
+}
+
+/// The sum, the difference or the product of two terms, if the numbers of both are at hand.
+#[inline(always)]
+fn sum_at_hand(
+    operator: BinaryOperator,
+    a: &Checked,
+    b: &Checked,
+    view: &View,
+    values: &[Value],
+) -> Option<i64>
+    requires named { IsNamed view.now values.now }
+    requires left { IsResolved (term_of a.now) (names_in_view view.now) }
+    requires right { IsResolved (term_of b.now) (names_in_view view.now) }
+    ensures { IfSome result (λ n. stepwise_answer (two operator (term_of a.now) (term_of b.now))
+        (environment_of view.now values.now) ≡ Ok (number n)) }
+{
+    let left = number_at_hand(a, view, values)?;
+    let right = number_at_hand(b, view, values)?;
+    sum_of(operator, a, left, b, right, view, values)
+}
+
 /// The number of a term, if it is a number, or the value of the term is one and lent.
 #[inline(always)]
 pub fn number_at_hand(term: &Checked, view: &View, values: &[Value]) -> Option<i64>
@@ -135,6 +173,52 @@ fn sum_of(
         BinaryOperator::Plus => left.checked_add(right),
         BinaryOperator::Minus => left.checked_sub(right),
         BinaryOperator::Times => left.checked_mul(right),
+        _ => None,
+    }
+}
+
+/// The truth value that a term has, if it is found quickly, as of [`quick_truth`]. That of a name, and the order of two
+/// numbers that are at hand, take no call.
+#[inline(always)]
+pub(crate) fn quick_test(term: &Checked, view: &View, values: &[Value]) -> Option<bool>
+    requires named { IsNamed view.now values.now }
+    requires resolved { IsResolved (term_of term.now) (names_in_view view.now) }
+    ensures { IfSome result
+        (λ b. stepwise_answer (term_of term.now) (environment_of view.now values.now) ≡ Ok (truth b)) }
+{
+    match term {
+        Checked::Truth(b) => Some(*b),
+        Checked::Name(_, _) => truth_named(term, view, values),
+        Checked::Two(operator, a, b) => match order_at_hand(*operator, a, b, view, values) {
+            Some(b) => Some(b),
+            None => quick_truth(term, view, values),
+        },
+        _ => quick_truth(term, view, values),
+    }
+}
+
+/// The order of two terms' numbers, if the operator asks that and both are at hand.
+#[inline(always)]
+fn order_at_hand(
+    operator: BinaryOperator,
+    a: &Checked,
+    b: &Checked,
+    view: &View,
+    values: &[Value],
+) -> Option<bool>
+    requires named { IsNamed view.now values.now }
+    requires left { IsResolved (term_of a.now) (names_in_view view.now) }
+    requires right { IsResolved (term_of b.now) (names_in_view view.now) }
+    ensures { IfSome result (λ t. stepwise_answer (two operator (term_of a.now) (term_of b.now))
+        (environment_of view.now values.now) ≡ Ok (truth t)) }
+{
+    let left = number_at_hand(a, view, values)?;
+    let right = number_at_hand(b, view, values)?;
+    match operator {
+        BinaryOperator::Less => Some(left < right),
+        BinaryOperator::AtMost => Some(left <= right),
+        BinaryOperator::Greater => Some(right < left),
+        BinaryOperator::AtLeast => Some(right <= left),
         _ => None,
     }
 }
