@@ -45,9 +45,6 @@ pub entry_agrees_short : (b : Bindings) (a : Action) (e : CheckedEntry) → leng
 entry_agrees_short b a e h =
     rw (arguments_agree_short b e.parameters (action_arguments a) h, and-false (kind_agrees a e.kind)) (and-false (same_word e.name (action_name a)))
 
-pub entry_agrees_kind : (b : Bindings) (a : Action) (e : CheckedEntry) → kind_agrees a e.kind ≡ false → entry_agrees b a e ≡ false
-entry_agrees_kind b a e h = rw h (and-false (same_word e.name (action_name a)))
-
 -- the name of one of the automaton's parameters has the value that the node gives it
 pub given_there : (p : AutomatonParts) (given : List Data) (x : Name) (slot : ℕ) (d : Data) → length given ≡ length p.parameters → slot_in x (names_at entry_constant (declared_names p) []) ≡ Some slot → slot < length given →
     is_within (get_or given slot d) ≡ true → checked_result (lookup x (given_bindings p given)) ≡ Ok (get_or given slot d)

@@ -7,7 +7,8 @@ ghost use Rattle.ioa_source.specs.TextView.{entry_of, parameter_of};
 ghost use Rattle.ioa_terms.specs.View.{term_of};
 ghost use Rattle.ioa_values.specs.Data.{is_within, number};
 ghost use Rattle.ioa_values.specs.Outcome.{Answers, and_then};
-ghost use Rattle.ioa_actions.specs.ActionParts.{action_arguments};
+ghost use Rattle.ioa_actions.specs.ActionParts.{action_arguments, action_name};
+ghost use Rattle.ioa_actions.specs.declared.action.Action.TheVariants.{Local, Stimulus};
 ghost use Rattle.ioa_system.specs.InView.{declared_names, environment_at, given_bindings, names_at, variable_names};
 ghost use Rattle.ioa_system.specs.InView.{entry_constant, entry_condition, guard_or_effect};
 ghost use Rattle.ioa_system.specs.ResolvedPrograms.{IsResolvedRule, IsResolvedGuard};
@@ -18,51 +19,56 @@ ghost use Rattle.ioa_transitions.specs.NodeStep.{own_value, own_values};
 ghost use Rattle.ioa_terms.specs.Meaning.{answer};
 ghost use Rattle.ioa_terms.specs.Performance.{answer_by};
 ghost use Rattle.ioa_terms.specs.Resolved.{AreResolved, IsResolved};
-ghost use Rattle.ioa_terms.specs.Bindings.{lookup, slot_in};
+ghost use Rattle.ioa_terms.specs.Bindings.{lookup, same_word, slot_in};
 ghost use Rattle.ioa_operators.specs.RangeCheck.{checked_result};
 ghost use Rattle.ioa_terms.specs.Views.{IsNamed, environment_of, names_in_view, own_names};
 
-use ioa_actions::{Action, RECEIVE, SEND, StepFault};
+use ioa_actions::{Action, NodeAction, RECEIVE, SEND, StepFault};
 use ioa_copies::copy_values;
 use ioa_source::{Entry, Parameter};
 use ioa_system::{Program, Rule};
 use ioa_terms::{
-    Callee, Checked, Kind, LentValues, Name, Shape, TermFault, Value, View, eval, evaluate,
+    Callee, Checked, Kind, LentValues, Name, Shape, TermFault, Value, View, Word, eval, evaluate,
     evaluate_test, perform,
 };
 use std::alloc::{AllocError, Global};
 
-/// Whether an action is of an entry's kind.
+/// Whether an action has an entry's name, and is of the entry's kind.
 #[inline(always)]
-fn kind_agrees(action: &Action, kind: Kind) -> bool
-    ensures { result ≡ spec.kind_agrees action.now kind }
+fn is_of(action: &Action, name: &Word, kind: Kind) -> bool
+    ensures { result ≡ (same_word name.now (action_name action.now) && spec.kind_agrees action.now kind) }
 {
     match action {
-        Action::Send { .. } => kind == Kind::Output,
-        Action::Receive { .. } => kind == Kind::Input,
-        Action::Local(local) => match kind {
-            Kind::Input => false,
-            Kind::Output => local.name.as_str() != SEND,
-            Kind::Internal => true,
-        },
-        Action::Stimulus(stimulus) => match kind {
-            Kind::Input => stimulus.name.as_str() != RECEIVE,
-            Kind::Output => false,
-            Kind::Internal => false,
-        },
+        Action::Send { .. } => name.spells(SEND) && kind == Kind::Output,
+        Action::Receive { .. } => name.spells(RECEIVE) && kind == Kind::Input,
+        Action::Local(local) => name.spells(local.name.as_str()) && is_local(local, kind),
+        Action::Stimulus(stimulus) => {
+            name.spells(stimulus.name.as_str()) && is_stimulus(stimulus, kind)
+        }
     }
 }
 
-/// Whether an action can be of an entry's kind, whatever its name is.
+/// Whether an entry of this kind can have an action that its node controls, and that is no send.
 #[inline(always)]
-fn kind_may_agree(action: &Action, kind: Kind) -> bool
-    ensures { result && spec.kind_agrees action.now kind ≡ spec.kind_agrees action.now kind }
+fn is_local(action: &NodeAction, kind: Kind) -> bool
+    ensures { result ≡ spec.kind_agrees (Local action.now) kind }
 {
-    match action {
-        Action::Send { .. } => kind == Kind::Output,
-        Action::Receive { .. } => kind == Kind::Input,
-        Action::Local(_) => kind != Kind::Input,
-        Action::Stimulus(_) => kind == Kind::Input,
+    match kind {
+        Kind::Input => false,
+        Kind::Output => !action.name.spells(SEND),
+        Kind::Internal => true,
+    }
+}
+
+/// Whether an entry of this kind can have an input that is no receive.
+#[inline(always)]
+fn is_stimulus(action: &NodeAction, kind: Kind) -> bool
+    ensures { result ≡ spec.kind_agrees (Stimulus action.now) kind }
+{
+    match kind {
+        Kind::Input => !action.name.spells(RECEIVE),
+        Kind::Output => false,
+        Kind::Internal => false,
     }
 }
 
@@ -236,13 +242,7 @@ fn entry_agrees(
     if entry.parameters.len() != arguments.len() {
         return Ok(false);
     }
-    if !kind_may_agree(action, entry.kind) {
-        return Ok(false);
-    }
-    if !entry.name.spells(action.name()) {
-        return Ok(false);
-    }
-    if !kind_agrees(action, entry.kind) {
+    if !is_of(action, &entry.name, entry.kind) {
         return Ok(false);
     }
     arguments_agree(alloc, program, &entry.parameters, arguments)
