@@ -330,6 +330,7 @@ impl Action {
     }
 
     /// Whether two actions are the same.
+    #[inline(always)]
     #[tactic(auto, using(crate::proofs::SameActions::same_action_is))]
     pub fn equals(&self, other: &Self) -> bool
         ensures value { result ≡ same_action self.now other.now }
@@ -339,6 +340,7 @@ impl Action {
     }
 
     /// Whether two actions have one kind and the same parts.
+    #[inline(always)]
     fn is_same(&self, other: &Self) -> bool
         ensures { result ≡ same_action self.now other.now }
     {
