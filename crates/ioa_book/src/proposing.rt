@@ -22,18 +22,18 @@ use std::sync::Arc;
 #[inline(always)]
 pub(crate) fn proposal_of_one<O: Origin>(
     alloc: Global,
-    action: &Arc<Action>,
+    action: Arc<Action>,
     length: usize,
     node: &VersionedConf<O>,
     rooms: &mut Rooms<O>,
 ) -> Result<Proposal<O>, StepFault>
-    requires { participants_of (arc_value action.now) ≡ read_component node.now ∷ [] }
+    requires { participants_of (arc_value action) ≡ read_component node.now ∷ [] }
     ensures { Answers StepFault.Memory (λ p. p) result
-        (and_then (picks_of (arc_value action.now) (Some node.now.conf ∷ []))
+        (and_then (picks_of (arc_value action) (Some node.now.conf ∷ []))
         (λ t. Ok (plain_proposal t.0 length (node.now ∷ [])))) }
 {
-    let node = participant(alloc, action, node, &mut rooms.node)?;
-    let entry = shared_entry(action)?;
+    let node = participant(alloc, &action, node, &mut rooms.node)?;
+    let entry = Entry::of(action);
     let again = entry.try_clone()?;
     Ok(Proposal::new(entry, again, length, None, node))
 }
@@ -42,20 +42,20 @@ pub(crate) fn proposal_of_one<O: Origin>(
 /// the queue's first.
 pub(crate) fn proposal_of_two<O: Origin>(
     alloc: Global,
-    action: &Arc<Action>,
+    action: Arc<Action>,
     length: usize,
     queue: &VersionedConf<O>,
     node: &VersionedConf<O>,
     rooms: &mut Rooms<O>,
 ) -> Result<Proposal<O>, StepFault>
-    requires { participants_of (arc_value action.now) ≡ read_component queue.now ∷ read_component node.now ∷ [] }
+    requires { participants_of (arc_value action) ≡ read_component queue.now ∷ read_component node.now ∷ [] }
     ensures { Answers StepFault.Memory (λ p. p) result
-        (and_then (picks_of (arc_value action.now) (Some queue.now.conf ∷ Some node.now.conf ∷ []))
+        (and_then (picks_of (arc_value action) (Some queue.now.conf ∷ Some node.now.conf ∷ []))
         (λ t. Ok (plain_proposal t.0 length (queue.now ∷ node.now ∷ [])))) }
 {
-    let queue = participant(alloc, action, queue, &mut rooms.queue)?;
-    let node = participant(alloc, action, node, &mut rooms.node)?;
-    let entry = shared_entry(action)?;
+    let queue = participant(alloc, &action, queue, &mut rooms.queue)?;
+    let node = participant(alloc, &action, node, &mut rooms.node)?;
+    let entry = Entry::of(action);
     let again = entry.try_clone()?;
     Ok(Proposal::new(entry, again, length, Some(queue), node))
 }
@@ -164,12 +164,4 @@ fn share(alloc: Global, conf: Conf) -> Result<Arc<Conf>, AllocError>
     ensures { IfOk result (λ shared. arc_value shared ≡ conf) }
 {
     Ok(Arc::new(alloc, conf)?)
-}
-
-/// The entry of a step by an action, which owns the action beside whoever lent it.
-#[inline(always)]
-fn shared_entry(action: &Arc<Action>) -> Result<Entry, AllocError>
-    ensures { IfOk result (λ e. e ≡ entry_of (arc_value action.now)) }
-{
-    Ok(Entry::of(Arc::try_clone(action)?))
 }

@@ -139,6 +139,7 @@ impl<O: Origin> Snapshot<O> {
         ensures { Answers StepFault.Memory (λ p. p) result (spec.proposal_answer (arc_value action.now) self.now) }
     {
         let mut rooms = Rooms::none();
+        let action = Arc::try_clone(action)?;
         self.propose_in(alloc, action, &mut rooms)
     }
 
@@ -148,12 +149,12 @@ impl<O: Origin> Snapshot<O> {
     pub fn propose_in(
         &self,
         alloc: Global,
-        action: &Arc<Action>,
+        action: Arc<Action>,
         rooms: &mut Rooms<O>,
     ) -> Result<Proposal<O>, StepFault>
-        ensures { Answers StepFault.Memory (λ p. p) result (spec.proposal_answer (arc_value action.now) self.now) }
+        ensures { Answers StepFault.Memory (λ p. p) result (spec.proposal_answer (arc_value action) self.now) }
     {
-        if is_own(action, self.node) {
+        if is_own(&action, self.node) {
             self.propose_step(alloc, action, rooms)
         } else {
             Err(StepFault::NotMine)
@@ -165,12 +166,12 @@ impl<O: Origin> Snapshot<O> {
     fn propose_step(
         &self,
         alloc: Global,
-        action: &Arc<Action>,
+        action: Arc<Action>,
         rooms: &mut Rooms<O>,
     ) -> Result<Proposal<O>, StepFault>
-        ensures { Answers StepFault.Memory (λ p. p) result (spec.step_answer (arc_value action.now) self.now) }
+        ensures { Answers StepFault.Memory (λ p. p) result (spec.step_answer (arc_value action) self.now) }
     {
-        match participants(action) {
+        match participants(&action) {
             Parties::One(node) => self.propose_alone(alloc, action, node, rooms),
             Parties::Two(queue, node) => self.propose_with(alloc, action, queue, node, rooms),
         }
@@ -181,12 +182,12 @@ impl<O: Origin> Snapshot<O> {
     fn propose_alone(
         &self,
         alloc: Global,
-        action: &Arc<Action>,
+        action: Arc<Action>,
         node: Component,
         rooms: &mut Rooms<O>,
     ) -> Result<Proposal<O>, StepFault>
-        requires { participants_of (arc_value action.now) ≡ node ∷ [] }
-        ensures { Answers StepFault.Memory (λ p. p) result (spec.step_answer (arc_value action.now) self.now) }
+        requires { participants_of (arc_value action) ≡ node ∷ [] }
+        ensures { Answers StepFault.Memory (λ p. p) result (spec.step_answer (arc_value action) self.now) }
     {
         match self.read_of(node) {
             Some(node) => proposal_of_one(alloc, action, self.length(), node, rooms),
@@ -199,13 +200,13 @@ impl<O: Origin> Snapshot<O> {
     fn propose_with(
         &self,
         alloc: Global,
-        action: &Arc<Action>,
+        action: Arc<Action>,
         queue: Component,
         node: Component,
         rooms: &mut Rooms<O>,
     ) -> Result<Proposal<O>, StepFault>
-        requires { participants_of (arc_value action.now) ≡ queue ∷ node ∷ [] }
-        ensures { Answers StepFault.Memory (λ p. p) result (spec.step_answer (arc_value action.now) self.now) }
+        requires { participants_of (arc_value action) ≡ queue ∷ node ∷ [] }
+        ensures { Answers StepFault.Memory (λ p. p) result (spec.step_answer (arc_value action) self.now) }
     {
         match self.read_of(queue) {
             Some(queue) => self.propose_beside(alloc, action, queue, node, rooms),
@@ -217,14 +218,14 @@ impl<O: Origin> Snapshot<O> {
     fn propose_beside(
         &self,
         alloc: Global,
-        action: &Arc<Action>,
+        action: Arc<Action>,
         queue: &VersionedConf<O>,
         node: Component,
         rooms: &mut Rooms<O>,
     ) -> Result<Proposal<O>, StepFault>
-        requires parts { participants_of (arc_value action.now) ≡ read_component queue.now ∷ node ∷ [] }
+        requires parts { participants_of (arc_value action) ≡ read_component queue.now ∷ node ∷ [] }
         requires found { Some queue.now ≡ spec.find_read (read_component queue.now) self.now.reads }
-        ensures { Answers StepFault.Memory (λ p. p) result (spec.step_answer (arc_value action.now) self.now) }
+        ensures { Answers StepFault.Memory (λ p. p) result (spec.step_answer (arc_value action) self.now) }
     {
         match self.read_of(node) {
             Some(node) => proposal_of_two(alloc, action, self.length(), queue, node, rooms),

@@ -8,7 +8,6 @@ use Rattle.ioa_solo.proofs.SettledNodes.{fire_settled}
 use Rattle.ioa_solo.specs.Fires.{IsAfterFire, IsProposedIn, failed_by}
 use Rattle.ioa_solo.specs.Solo.{course_of}
 use Rattle.ioa_solo.proofs.GoesOn.{goes_nowhere}
-use Rattle.ioa_solo.proofs.Rounds.{if_failed}
 use Rattle.ioa_solo.proofs.ToldFires.{failed_comes, on_both, proposed_for, proposed_in}
 use Rattle.ioa_solo.proofs.visiting.go_past.Goals as goal
 
@@ -32,8 +31,8 @@ returns-in-Ok-clause-passed g c = λ t fresh.
     subst (λ (a : Action). OnOk c.commit.result (IsAfterFire b (progress_of c.args.node.now) a new q)) (proposed_for b (progress_of c.args.node.now).program.node (arc_value c.in_ok-action.action) c.args.snapshot.now fresh x c.in-Ok.ensures ∙ c.in_ok-action.ensures.action)
     (subst (λ (p : PlainProgress). OnOk c.commit.result (IsAfterFire b p x.entry.action new q)) c.action_fired.ensures.unchanged told)
 
-pub returns-clause-passed : goal.returns-clause-passed
-returns-clause-passed g c = λ t fresh.
+pub returns-in-Err-clause-passed : goal.returns-in-Err-clause-passed
+returns-in-Err-clause-passed g c = λ t fresh.
     let b = g.B.Board.tells c.args.board.now in
     let p = progress_of c.args.node.now in
     let f = c.in-Err.fault in
@@ -44,11 +43,8 @@ returns-clause-passed g c = λ t fresh.
     ∙ ap (λ (r : PlainProgress). (course_of b, r)) (sym (failed ∙ ap (λ (r : PlainProgress). failed_by f r) c.action_fired.ensures.unchanged))))
     c.after_fault.ensures.failed c.after_fault.ensures.real
 
-pub returns-clause-stays : goal.returns-clause-stays
-returns-clause-stays g c = λ told. if_failed c.after_fault.result refl
-
-pub returns-clause-settled : goal.returns-clause-settled
-returns-clause-settled g c =
+pub returns-in-Err-clause-settled : goal.returns-in-Err-clause-settled
+returns-in-Err-clause-settled g c =
     let p = progress_of c.args.node.now in
     let fired = firing_of c.args.firing.now in
     fire_settled c.after_fault.result (kept_in c.args.node.now) (kept_in c.action_fired.new.self) c.args.snapshot.now p (progress_of c.action_fired.new.self) (progress_of c.after_fault.new.node)
