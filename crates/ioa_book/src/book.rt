@@ -1,6 +1,7 @@
 //! The book of commits.
 
-ghost use Rattle.std.specs.Prelude.{◌≡◌, ◌≤◌, ◌%◌, [], IfOk, IfErr, OnOk, Some, None, if◌then◌else◌, is_some, length, nat_eq, true};
+ghost use Rattle.std.specs.Prelude.{◌≡◌, ◌≤◌, ◌%◌, [], IfOk, IfErr, IfSome, IsSome, OnOk, OnSome, Some, None};
+ghost use Rattle.std.specs.Prelude.{if◌then◌else◌, is_some, length, nat_eq, true};
 ghost use Rattle.ioa_values.specs.Outcome.{Answers};
 ghost use Rattle.ioa_actions.specs.declared.component.Component.{Component};
 ghost use Rattle.ioa_compose.specs.Start.{start};
@@ -161,7 +162,6 @@ impl<O: Origin> Book<O> {
     /// action is recorded. The reasons to refuse it are tested in this order: `Unknown` (53), `Stale` (50), `Differs`
     /// (51), each of the first participant that it applies to, and `Full` (52). After a refusal the book is as it was.
     /// A commit takes no memory: the spare is linked to the log if its last block is full, and else comes back.
-    #[inline(always)]
     pub fn commit(
         &mut self,
         proposal: Proposal<O>,
@@ -175,6 +175,21 @@ impl<O: Origin> Book<O> {
         ensures kept { IfErr result.0 (λ _. result.1 ≡ Some spare) }
     {
         self.journal.commit(proposal, spare)
+    }
+
+    /// Commits the proposal that is offered, if a quick test shows that it stands, and if the log needs no spare. If not,
+    /// nothing is told of it, nothing is done, and [`Book::commit`] commits or refuses it. The proposal is taken out of its
+    /// place if it is committed. The test takes constant time for each participant. It asks that no component stands twice
+    /// in the book, which is so in the book of a system, and that what was read is held still, the very configuration.
+    #[inline(always)]
+    pub fn commit_quickly(&mut self, offer: &mut Option<Proposal<O>>) -> Option<Committed<O>>
+        ensures committed { IfSome result (λ c. IfSome offer.old
+            (λ p. commits.IsCommitted self.old p c.index c.entry self.new)) }
+        ensures reads { IfSome result (λ c. IfSome offer.old (λ p. participants_read c.queue c.node ≡ p.reads)) }
+        ensures offered { OnSome result (IsSome offer.old) }
+        ensures kept { result ≡ None → (self.new ≡ self.old) × (offer.new ≡ offer.old) }
+    {
+        self.journal.commit_quickly(offer)
     }
 
     /// Copies of the configurations held.

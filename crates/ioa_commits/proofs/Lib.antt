@@ -4,3 +4,5 @@ pub mod Lookups
 pub mod Raises
 pub mod Puts
 pub mod Commits
+pub mod Advances
+pub mod QuickCommits

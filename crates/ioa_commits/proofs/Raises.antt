@@ -21,7 +21,7 @@ use Rattle.ioa_commits.specs.Versions.{PlainVersionedConf, read_component, versi
 use Rattle.ioa_index.proofs.Slots.{get_behind, one_more}
 
 -- the version after one more entry
-version_push : (k : Component) (log : List PlainEntry) (e : PlainEntry) → version k (log ++ e ∷ []) ≡ (if takes_part k e.action then version k log + 1 else version k log)
+pub version_push : (k : Component) (log : List PlainEntry) (e : PlainEntry) → version k (log ++ e ∷ []) ≡ (if takes_part k e.action then version k log + 1 else version k log)
 version_push k log e =
     ap length (filter-append (λ d. takes_part k d.action) log (e ∷ []))
     ∙ length-append (filter (λ d. takes_part k d.action) log) (filter (λ d. takes_part k d.action) (e ∷ []))
@@ -77,7 +77,7 @@ module _ (entry : PlainEntry) (log : List PlainEntry) (small : length log ≤ 10
   after = log ++ entry ∷ []
 
   -- a component that takes part gets its version, and one that does not keeps it
-  raised_one : (c : Conf) → raise_one entry.action (with_version log c) ≡ with_version after c
+  pub raised_one : (c : Conf) → raise_one entry.action (with_version log c) ≡ with_version after c
   raised_one c = by_test (takes_part (component_of c) entry.action) (version_push (component_of c) log entry)
     where
       by_test : (b : Bool) → version (component_of c) after ≡ (if b then version (component_of c) log + 1 else version (component_of c) log) →

@@ -33,6 +33,10 @@ states_after start log = unwrap_or (replay log start) []
 abbrev pub states_held : PlainBook → List Conf
 states_held b = states_after b.start b.log
 
+-- the same with their versions
+abbrev pub holdings : PlainBook → List PlainVersionedConf
+holdings b = map (with_version b.log) (states_held b)
+
 -- what a book holds of a component: its configuration, with its version
 abbrev pub held_of : PlainBook → Component → Option PlainVersionedConf
 held_of b k = option_map (with_version b.log) (find_conf k (states_held b))

@@ -1,14 +1,15 @@
 -- Commits (profile): whether a proposal still stands, and what is recorded.
-use Rattle.std.specs.Prelude.{◌≡◌, ℕ, nat_eq, nat_lt, if◌then◌else◌, List, [], ◌∷◌, ◌++◌, length}
+use Rattle.std.specs.Prelude.{◌≡◌, ◌<◌, ◌%◌, ℕ, nat_eq, nat_lt, if◌then◌else◌, List, [], ◌∷◌, ◌++◌, length}
 use Rattle.std.specs.Prelude.{Option, Some, None, Ok}
 use Rattle.std.specs.List.{AllByRecursion}
 use Rattle.std.specs.Option.{option_or}
 use Rattle.ioa_transitions.specs.Entries.{PlainEntry}
-use Rattle.ioa_compose.specs.Composition.{find_conf, joint_answer}
+use Rattle.ioa_compose.specs.Composition.{component_names, find_conf, joint_answer}
 use Rattle.ioa_compose.specs.SameConfs.{same_conf}
 use Rattle.ioa_compose.specs.declared.configuration.Conf.{Conf}
-use Rattle.ioa_commits.specs.Books.{PlainBook, held_of, states_held}
-use Rattle.ioa_commits.specs.Proposals.{PlainProposal}
+use Rattle.ioa_commits.specs.Books.{PlainBook, held_of, holdings, states_held}
+use Rattle.ioa_commits.specs.Proposals.{PlainProposal, node_read, queue_read}
+use Rattle.ioa_commits.specs.Slots.{AreDistinct, AreHeldIn}
 use Rattle.ioa_commits.specs.Versions.{PlainVersionedConf, read_component, version}
 use Rattle.ioa_commits.specs.declared.outcome.CommitRefusal.{CommitRefusal}
 use Rattle.ioa_commits.specs.declared.outcome.CommitRefusal.TheVariants.{Unknown, Stale, Differs, Full}
@@ -63,6 +64,14 @@ pub record StandsIn (b : PlainBook) (r : PlainVersionedConf) : Type 0 where
 -- each of what was read is held as it was read
 abbrev pub AllHeld : PlainBook → List PlainVersionedConf → Type 0
 AllHeld b rs = AllByRecursion (λ r. held_of b (read_component r) ≡ Some r) rs
+
+-- a proposal that stands by what can be told quickly: no component has two slots, what was read of the queue, if one takes
+-- part, and of the node is held in these slots, and the log has room for one entry more in its last block, of 64
+pub record StandsQuickly (b : PlainBook) (rs : List PlainVersionedConf) (at slot : ℕ) : Type 0 where
+  pub distinct : AreDistinct (component_names (states_held b))
+  pub held : (r : PlainVersionedConf) → node_read rs ≡ Some r → AreHeldIn (holdings b) at slot (queue_read rs) r
+  pub accepted : refusal_of b rs ≡ None
+  pub room : 0 < length b.log % 64
 
 -- a commit that is made: nothing was against it, its index is the length of the log, the log has the entry more, which
 -- is handed out too, and the configurations held are those after the joint step by it (Lynch 8.2)

@@ -1,11 +1,14 @@
 -- What a commit does by slots (profile).
-use Rattle.std.specs.Prelude.{ℕ, ◌+◌, ◌-◌, ◌^◌, min, if◌then◌else◌, List, [], ◌∷◌, Option, Some, None, set, slice_get}
+use Rattle.std.specs.Prelude.{◌≡◌, ◌<◌, ℕ, ◌+◌, ◌-◌, ◌^◌, min, if◌then◌else◌, List, [], ◌∷◌, Option, Some, None, length}
+use Rattle.std.specs.Prelude.{set, slice_get}
+use Rattle.ioa_actions.specs.declared.component.Component.{Component}
 use Rattle.ioa_actions.specs.ComponentOrder.{same_component}
 use Rattle.ioa_actions.specs.declared.action.Action.{Action}
 use Rattle.ioa_compose.specs.Composition.{component_of}
 use Rattle.ioa_compose.specs.Participants.{takes_part}
 use Rattle.ioa_compose.specs.declared.configuration.Conf.{Conf}
-use Rattle.ioa_commits.specs.Versions.{PlainVersionedConf, read_component}
+use Rattle.ioa_index.specs.Indexes.{IsFirst}
+use Rattle.ioa_commits.specs.Versions.{PlainVersionedConf, read_component, versioned_conf}
 
 -- the version after this one, within the runtime's numbers
 abbrev pub next_version : ℕ → ℕ
@@ -37,3 +40,25 @@ put_held d (h ∷ more) =
 abbrev pub put_all_held : List Conf → List PlainVersionedConf → List PlainVersionedConf
 put_all_held [] held = held
 put_all_held (d ∷ more) held = put_all_held more (put_held d held)
+
+-- no component stands in two slots
+abbrev pub AreDistinct : List Component → Type 0
+AreDistinct ks = (slot : ℕ) → slot < length ks → IsFirst ks slot
+
+-- a participant takes its step in the slot in which it is held: its new configuration, with the next version
+abbrev pub advance_found : Conf → ℕ → Option PlainVersionedConf → List PlainVersionedConf → List PlainVersionedConf
+advance_found d slot None held = held
+advance_found d slot (Some h) held = set held slot (versioned_conf d (next_version h.version))
+
+abbrev pub advance : Conf → ℕ → List PlainVersionedConf → List PlainVersionedConf
+advance d slot held = advance_found d slot (slice_get held slot) held
+
+-- a queue, if one takes part, and then a node
+abbrev pub advance_both : Option Conf → ℕ → Conf → ℕ → List PlainVersionedConf → List PlainVersionedConf
+advance_both None at d slot held = advance d slot held
+advance_both (Some queue) at d slot held = advance d slot (advance queue at held)
+
+-- what was read of a queue, if one takes part, and of a node is what is held in these slots
+abbrev pub AreHeldIn : List PlainVersionedConf → ℕ → ℕ → Option PlainVersionedConf → PlainVersionedConf → Type 0
+AreHeldIn held at slot None node = slice_get held slot ≡ Some node
+AreHeldIn held at slot (Some queue) node = (slice_get held at ≡ Some queue) × (slice_get held slot ≡ Some node)

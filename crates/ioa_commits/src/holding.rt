@@ -1,9 +1,9 @@
 //! The configurations that a book holds, by their slots.
 
-ghost use Rattle.std.specs.Prelude.{◌≡◌, ◌<◌, [], IfOk, length, map, slice_get};
+ghost use Rattle.std.specs.Prelude.{◌≡◌, ◌<◌, [], IfOk, IsTrue, length, map, slice_get};
 ghost use Rattle.std.specs.Arc.{arc_value};
 ghost use Rattle.std.specs.List.{list_any};
-ghost use Rattle.std.specs.Option.{option_copied};
+ghost use Rattle.std.specs.Option.{option_copied, option_map};
 ghost use Rattle.ioa_actions.specs.ComponentOrder.{same_component};
 ghost use Rattle.ioa_compose.specs.Composition.{component_names};
 ghost use Rattle.ioa_compose.specs.Participants.{participant_list, participants_of, takes_part};
@@ -47,6 +47,19 @@ pub(crate) fn components_of(alloc: Global, confs: &[Conf]) -> Result<Vec<Compone
     Ok(components)
 }
 
+/// Whether each of so many components of an index stands in no slot before its own.
+pub(crate) fn are_distinct(index: &Index, many: usize) -> bool
+    requires { many ≡ length index.now }
+    ensures { IsTrue result → spec.AreDistinct index.now }
+{
+    for slot in 0..many {
+        if !index.is_first(slot) {
+            return false;
+        }
+    }
+    true
+}
+
 /// What is held in a slot, if there is one.
 pub(crate) fn at_slot<O: Origin>(
     held: &[VersionedConf<O>],
@@ -58,7 +71,6 @@ pub(crate) fn at_slot<O: Origin>(
 }
 
 /// Whether a component is one of these.
-#[inline(always)]
 fn is_among(component: Component, parties: Parties) -> bool
     ensures { result ≡ list_any (λ k. same_component component k) (participant_list parties) }
 {
@@ -69,7 +81,6 @@ fn is_among(component: Component, parties: Parties) -> bool
 }
 
 /// Raises the version of each component in these slots that takes part in an action.
-#[inline(always)]
 pub(crate) fn raise_at<O: Origin>(
     held: &mut Vec<VersionedConf<O>>,
     slots: &[usize],
@@ -84,7 +95,6 @@ pub(crate) fn raise_at<O: Origin>(
 }
 
 /// The same for the component in one slot, if there is one.
-#[inline(always)]
 fn raise_in<O: Origin>(
     held: &mut Vec<VersionedConf<O>>,
     slot: usize,
@@ -100,7 +110,6 @@ fn raise_in<O: Origin>(
 }
 
 /// The same for the component in a slot that there is. No version is above the length of the log, so the sum is exact.
-#[inline(always)]
 fn raise_within<O: Origin>(
     held: &mut Vec<VersionedConf<O>>,
     slot: usize,
@@ -117,7 +126,6 @@ fn raise_within<O: Origin>(
 }
 
 /// Whether a component takes part in an action, whose participants are these.
-#[inline(always)]
 fn is_party(component: Component, _action: &Action, parties: Parties) -> bool
     requires { participant_list parties ≡ participants_of _action.now }
     ensures { result ≡ takes_part component _action.now }
@@ -126,7 +134,6 @@ fn is_party(component: Component, _action: &Action, parties: Parties) -> bool
 }
 
 /// Replaces the configurations of the participants. They come back with what was read of them, and with what was held.
-#[inline(always)]
 pub(crate) fn put_all<O: Origin>(
     held: &mut Vec<VersionedConf<O>>,
     index: &Index,
@@ -147,9 +154,83 @@ pub(crate) fn put_all<O: Origin>(
     }
 }
 
+/// The slots of the participants of a proposal: that of the queue, if one takes part, and that of the node.
+#[derive(Clone, Copy)]
+pub(crate) struct Slots {
+    pub(crate) queue: usize,
+    pub(crate) node: usize,
+}
+
+/// The participants take their step in the slots in which they are held: each gets its new configuration and the next
+/// version. They come back with what was read of them, and with what was held.
+#[inline(always)]
+pub(crate) fn advance_all<O: Origin>(
+    held: &mut Vec<VersionedConf<O>>,
+    slots: Slots,
+    maker: &mut MakerOf<O>,
+    queue: Option<Participant<O>>,
+    node: Participant<O>,
+) -> (Option<Participant<O>>, Participant<O>)
+    ensures advanced { held.new.items
+        ≡ spec.advance_both (option_map (λ p. p.next) queue) slots.queue node.next slots.node held.old.items }
+    ensures reads { participants_read result.0 result.1 ≡ participants_read queue node }
+{
+    match queue {
+        None => (None, advance(held, slots.node, maker, node)),
+        Some(queue) => {
+            let queue = advance(held, slots.queue, maker, queue);
+            (Some(queue), advance(held, slots.node, maker, node))
+        }
+    }
+}
+
+/// The same of one participant.
+#[inline(always)]
+fn advance<O: Origin>(
+    held: &mut Vec<VersionedConf<O>>,
+    slot: usize,
+    maker: &mut MakerOf<O>,
+    mut participant: Participant<O>,
+) -> Participant<O>
+    ensures advanced { held.new.items ≡ spec.advance participant.next slot held.old.items }
+    ensures read { result.read ≡ participant.read }
+{
+    advance_parts(held, slot, maker, &mut participant.parts);
+    participant
+}
+
+/// The same with the parts of a participant.
+#[inline(always)]
+fn advance_parts<O: Origin>(
+    held: &mut Vec<VersionedConf<O>>,
+    slot: usize,
+    maker: &mut MakerOf<O>,
+    parts: &mut Parts<O>,
+)
+    ensures advanced { held.new.items ≡ spec.advance (arc_value parts.old.next) slot held.old.items }
+    ensures read { parts.new.read ≡ parts.old.read }
+{
+    if slot < held.len() {
+        advance_within(held, slot, maker, &mut parts.next);
+    }
+}
+
+/// The same in a slot that there is.
+#[inline(always)]
+fn advance_within<O: Origin>(
+    held: &mut Vec<VersionedConf<O>>,
+    slot: usize,
+    maker: &mut MakerOf<O>,
+    next: &mut Arc<Conf>,
+)
+    requires { slot < length held.old.items }
+    ensures { held.new.items ≡ spec.advance (arc_value next.old) slot held.old.items }
+{
+    held[slot].advance(maker, next);
+}
+
 /// Replaces the configuration of a participant; its version stays as it is. The participant comes back with what was
 /// read of it, and with what was held.
-#[inline(always)]
 fn put<O: Origin>(
     held: &mut Vec<VersionedConf<O>>,
     index: &Index,
@@ -166,7 +247,6 @@ fn put<O: Origin>(
 }
 
 /// The same with the parts of a participant.
-#[inline(always)]
 fn put_parts<O: Origin>(
     held: &mut Vec<VersionedConf<O>>,
     index: &Index,
@@ -184,7 +264,6 @@ fn put_parts<O: Origin>(
 
 /// Replaces the configuration of a component, which is mostly held in the slot `near`; its version stays as it is. What
 /// was held comes out.
-#[inline(always)]
 fn put_conf<O: Origin>(
     held: &mut Vec<VersionedConf<O>>,
     index: &Index,

@@ -1,16 +1,19 @@
 //! What is held and recorded, and its commits.
 
-ghost use Rattle.std.specs.Prelude.{◌≡◌, ◌+◌, ◌%◌, ◌^◌, ◌<◌, ◌≤◌, if◌then◌else◌, [], ◌∷◌, ◌++◌, IfOk, IfErr, IsTrue};
-ghost use Rattle.std.specs.Prelude.{None, Some, length, map, nat_eq, nat_lt};
+ghost use Rattle.std.specs.Prelude.{◌≡◌, ◌+◌, ◌%◌, ◌^◌, ◌<◌, ◌≤◌, if◌then◌else◌, [], ◌∷◌, ◌++◌, IfOk, IfErr, IfSome, IsSome, IsTrue, OnSome};
+ghost use Rattle.std.specs.Prelude.{None, Some, length, nat_eq, nat_lt, slice_get};
 ghost use Rattle.std.specs.Option.{option_copied};
 ghost use Rattle.ioa_compose.specs.Composition.{component_names};
 ghost use Rattle.ioa_compose.specs.Executions.{replay};
-ghost use Rattle.ioa_commits.specs.Books.{held_of, plain_book, states_held};
+ghost use Rattle.ioa_commits.specs.Books.{held_of, holdings, plain_book, states_held};
 ghost use Rattle.ioa_commits.specs.Commits as commits;
-ghost use Rattle.ioa_commits.specs.Proposals.{participants_read, reads_of};
-ghost use Rattle.ioa_commits.specs.Versions.{read_component, with_version};
+ghost use Rattle.ioa_commits.specs.Proposals.{node_read, participants_read, queue_read, reads_of};
+ghost use Rattle.ioa_commits.specs.Slots.{AreDistinct, AreHeldIn};
+ghost use Rattle.ioa_commits.specs.Versions.{PlainVersionedConf, read_component};
 
-use crate::holding::{at_slot, components_of, first_versions, put_all, raise_at};
+use crate::holding::{
+    Slots, advance_all, are_distinct, at_slot, components_of, first_versions, put_all, raise_at,
+};
 use crate::outcome::{CommitRefusal, Committed, Refused};
 use crate::proposal::Proposal;
 use crate::standing::{Test, refusal_by};
@@ -34,6 +37,8 @@ pub struct Journal<O: Origin> {
     start: Vec<Conf>,
     held: Vec<VersionedConf<O>>,
     index: Index,
+    /// Whether no component stands in two slots, as in a book of a system.
+    is_distinct: bool,
     log: RawLog<Entry>,
     limit: usize,
     maker: MakerOf<O>,
@@ -49,12 +54,14 @@ impl<O: Origin> Model for Journal<O> {
     ghost view = { λ j. plain_book j.start.items j.log j.limit };
 
     ghost use Rattle.ioa_commits.specs.Books.{IsKept};
+    ghost use Rattle.std.specs.Prelude.{◌≡◌, true};
+    ghost use Rattle.ioa_commits.specs.Slots.{AreDistinct};
 
-    ghost invariant = { λ j. IsKept j.start.items j.held.items j.index j.log j.limit };
+    ghost invariant = { λ j. IsKept j.start.items j.held.items j.index j.log j.limit
+        × (j.is_distinct ≡ true → AreDistinct j.index) };
 }
 
 /// Puts an entry behind the others of a log. The spare comes back unless it was linked.
-#[inline(always)]
 fn append(log: &mut RawLog<Entry>, entry: Entry, spare: Spare<Entry>) -> Option<Spare<Entry>>
     requires { length log.old + 1 < 2 ^ 64 }
     ensures appended { log.new ≡ log.old ++ entry ∷ [] }
@@ -62,6 +69,19 @@ fn append(log: &mut RawLog<Entry>, entry: Entry, spare: Spare<Entry>) -> Option<
 {
     match log.push(entry, Some(spare)) {
         Ok(left) => left,
+        Err(_) => unreachable!(),
+    }
+}
+
+/// Puts an entry behind the others of a log whose last block has room.
+#[inline(always)]
+fn append_within(log: &mut RawLog<Entry>, entry: Entry)
+    requires fits { length log.old + 1 < 2 ^ 64 }
+    requires room { 0 < length log.old % 64 }
+    ensures { log.new ≡ log.old ++ entry ∷ [] }
+{
+    match log.push(entry, None) {
+        Ok(_) => {}
         Err(_) => unreachable!(),
     }
 }
@@ -81,10 +101,12 @@ impl<O: Origin> Journal<O> {
         let held = first_versions(alloc, &mut maker, &start)?;
         let components = components_of(alloc, &start)?;
         let index = Index::new(alloc, components)?;
+        let is_distinct = are_distinct(&index, held.len());
         Ok(Journal {
             start,
             held,
             index,
+            is_distinct,
             log: RawLog::new(),
             limit,
             maker,
@@ -116,7 +138,7 @@ impl<O: Origin> Journal<O> {
 
     /// The configurations held, each with its version.
     pub fn held(&self) -> &[VersionedConf<O>]
-        ensures { result.now ≡ map (with_version self.now.log) (states_held self.now) }
+        ensures { result.now ≡ holdings self.now }
     {
         self.held.as_slice()
     }
@@ -178,7 +200,6 @@ impl<O: Origin> Journal<O> {
     }
 
     /// Why a proposal is refused, if it is.
-    #[inline(never)]
     fn refusal(&self, proposal: &Proposal<O>) -> Option<CommitRefusal>
         ensures { result ≡ commits.refusal_of self.now proposal.now.reads }
     {
@@ -215,44 +236,107 @@ impl<O: Origin> Journal<O> {
         self.log.len() < self.limit
     }
 
-    /// Whether a configuration that was read is the very one that is held, with its version. It takes constant time,
-    /// and is false of equal configurations made apart.
+    /// The slot in which a configuration that was read is still held, the very one, with its version. It takes constant
+    /// time, and may be missed where equal configurations were made apart.
     #[inline(always)]
-    fn is_held(&self, read: &VersionedConf<O>) -> bool
-        ensures { IsTrue result → held_of self.now (read_component read.now) ≡ Some read.now }
+    fn slot_held(&self, read: &VersionedConf<O>) -> Option<usize>
+        ensures { IfSome result (λ s. slice_get (holdings self.now) s ≡ Some read.now) }
     {
-        match self.find_near(read.component(), read.slot()) {
-            Some(held) => read.is_held(held),
-            None => false,
+        let slot = read.slot();
+        if read.is_held(at_slot(self.held(), slot)?) {
+            Some(slot)
+        } else {
+            None
         }
     }
 
-    /// The same of all that a proposal read.
+    /// The slots in which all that a proposal read is still held, if it is.
     #[inline(always)]
-    fn are_held(&self, proposal: &Proposal<O>) -> bool
-        ensures { IsTrue result → commits.AllHeld self.now proposal.now.reads }
+    fn slots_held(&self, proposal: &Proposal<O>) -> Option<Slots>
+        ensures { IfSome result (λ s. (r : PlainVersionedConf) → node_read proposal.now.reads ≡ Some r →
+            AreHeldIn (holdings self.now) s.queue s.node (queue_read proposal.now.reads) r) }
     {
-        let is_queue_held = match proposal.queue() {
-            None => true,
-            Some(queue) => self.is_held(queue),
-        };
-        is_queue_held && self.is_held(proposal.node())
+        let node = self.slot_held(proposal.node())?;
+        match proposal.queue() {
+            None => Some(Slots { queue: node, node }),
+            Some(queue) => {
+                let queue = self.slot_held(queue)?;
+                Some(Slots { queue, node })
+            }
+        }
     }
 
-    /// Whether a proposal stands, by a cheap test. Mostly one that can be committed passes it. Of one that does not
-    /// pass it nothing is told.
+    /// Whether no component stands in two slots.
     #[inline(always)]
-    fn stands(&self, proposal: &Proposal<O>) -> bool
-        ensures { IsTrue result → commits.refusal_of self.now proposal.now.reads ≡ None }
+    fn is_distinct(&self) -> bool
+        ensures { IsTrue result → AreDistinct (component_names (states_held self.now)) }
     {
-        self.has_room() && self.are_held(proposal)
+        self.is_distinct
+    }
+
+    /// The slots of what a proposal read, if it stands by what can be told quickly.
+    #[inline(always)]
+    fn slots_standing(&self, proposal: &Proposal<O>) -> Option<Slots>
+        ensures { IfSome result (λ s. commits.StandsQuickly self.now proposal.now.reads s.queue s.node) }
+    {
+        let _node = proposal.node();
+        if self.is_distinct() && self.has_room() && !self.log().needs_spare() {
+            self.slots_held(proposal)
+        } else {
+            None
+        }
+    }
+
+    /// Commits the proposal that is offered, if a quick test shows that it stands, and if the log needs no spare. If not,
+    /// nothing is told of it, nothing is done, and [`Journal::commit`] commits or refuses it. The proposal is taken out of
+    /// its place if it is committed.
+    #[inline(always)]
+    pub fn commit_quickly(&mut self, offer: &mut Option<Proposal<O>>) -> Option<Committed<O>>
+        ensures committed { IfSome result (λ c. IfSome offer.old
+            (λ p. commits.IsCommitted self.old p c.index c.entry self.new)) }
+        ensures reads { IfSome result (λ c. IfSome offer.old (λ p. participants_read c.queue c.node ≡ p.reads)) }
+        ensures offered { OnSome result (IsSome offer.old) }
+        ensures kept { result ≡ None → (self.new ≡ self.old) × (offer.new ≡ offer.old) }
+    {
+        let slots = match offer {
+            Some(proposal) => self.slots_standing(proposal)?,
+            None => return None,
+        };
+        match offer.take() {
+            Some(proposal) => Some(self.record_held(proposal, slots)),
+            None => None,
+        }
+    }
+
+    /// Commits a proposal that stands by what can be told quickly.
+    #[inline(always)]
+    fn record_held(&mut self, proposal: Proposal<O>, slots: Slots) -> Committed<O>
+        requires { commits.StandsQuickly self.old proposal.reads slots.queue slots.node }
+        ensures committed { commits.IsCommitted self.old proposal result.index result.entry self.new }
+        ensures reads { participants_read result.queue result.node ≡ proposal.reads }
+    {
+        let Proposal {
+            entry,
+            again,
+            length: _length,
+            queue,
+            node,
+        } = proposal;
+        let index = self.log.len();
+        append_within(&mut self.log, again);
+        let (queue, node) = advance_all(&mut self.held, slots, &mut self.maker, queue, node);
+        Committed {
+            index,
+            entry,
+            queue,
+            node,
+        }
     }
 
     /// Commits a proposal: the new configurations are held, the versions of the participants rise by one, and the entry
     /// is recorded. The reasons to refuse it are tested in this order: `Unknown` (53), `Stale` (50), `Differs` (51),
     /// each of the first participant that it applies to, and `Full` (52). After a refusal the book is as it was. It
     /// takes no memory: the spare is room for more entries, and comes back if there is room already.
-    #[inline(always)]
     pub fn commit(
         &mut self,
         proposal: Proposal<O>,
@@ -265,17 +349,14 @@ impl<O: Origin> Journal<O> {
             result.1 ≡ (if nat_eq (length self.old.log % 64) 0 then None else Some spare)) }
         ensures kept { IfErr result.0 (λ _. result.1 ≡ Some spare) }
     {
-        if !self.stands(&proposal) {
-            if let Some(refusal) = self.refusal(&proposal) {
-                return (Err(Refused { refusal, proposal }), Some(spare));
-            }
+        if let Some(refusal) = self.refusal(&proposal) {
+            return (Err(Refused { refusal, proposal }), Some(spare));
         }
         let (committed, back) = self.record(proposal, spare);
         (Ok(committed), back)
     }
 
     /// Commits a proposal that is not refused.
-    #[inline(always)]
     fn record(
         &mut self,
         proposal: Proposal<O>,

@@ -122,6 +122,15 @@ impl<O: Origin> VersionedConf<O> {
         self.version = self.version.saturating_add(1);
     }
 
+    /// Puts the configuration after a step in place of this one, which comes out, and raises the version by one.
+    #[inline(always)]
+    pub(crate) fn advance(&mut self, maker: &mut MakerOf<O>, conf: &mut Arc<Conf>)
+        ensures { self.new ≡ versioned_conf (arc_value conf.old) (next_version self.old.version) }
+    {
+        self.exchange(maker, conf);
+        self.raise();
+    }
+
     /// Puts another configuration in place of this one, which comes out; the version stays as it is.
     #[inline(always)]
     pub(crate) fn exchange(&mut self, maker: &mut MakerOf<O>, conf: &mut Arc<Conf>)

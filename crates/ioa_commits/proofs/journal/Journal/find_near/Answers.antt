@@ -6,9 +6,9 @@ use Rattle.ioa_commits.proofs.journal.Journal.find_near.Goals as goal
 pub returns-in_err-slot : goal.returns-in_err-slot
 returns-in_err-slot g c =
     let nothing : option_copied c.from_residual.result ≡ None = search rules in
-    nothing ∙ rw (← c.self.view_is) (none_held _ _ _ _ _ c.self.invariant c.args.component (search rules))
+    nothing ∙ rw (← c.self.view_is) (none_held _ _ _ _ _ c.self.invariant.0 c.args.component (search rules))
 
 pub returns : goal.returns
 returns g c =
     let got = rw c.deref.ensures.value at c.at_slot.ensures in
-    got ∙ rw (← c.self.view_is) (some_held _ _ _ _ _ c.self.invariant c.args.component c.in_ok-slot.slot (search rules))
+    got ∙ rw (← c.self.view_is) (some_held _ _ _ _ _ c.self.invariant.0 c.args.component c.in_ok-slot.slot (search rules))
