@@ -13,7 +13,7 @@ use std::sync::ledger::Ledger;
 /// Where a worker looks at nodes and attempts commits. A contract may be told which book it holds: then a look and an
 /// attempt are exactly those of that book. If it isn't told, since others commit to it too, some lawful book answers.
 pub trait Board<O: Origin, L: Ledger> {
-    ghost use Rattle.std.specs.Prelude.{◌≡◌, ◌+◌, Bool, IfErr, IfOk, IfSome, IsSome, IsTrue, None, Some, true};
+    ghost use Rattle.std.specs.Prelude.{◌≡◌, ◌+◌, Bool, IfErr, IfOk, IfSome, IsSome, IsTrue, None, OnSome, Some, true};
     ghost use Rattle.ioa_boards.specs.Places.{IsSeenAgain, Puts, PutsSome};
     ghost use Rattle.ioa_commits.specs.Books.{PlainBook};
     ghost use Rattle.ioa_shared.specs.Attempts.{IsMissed, IsTaken, commits};
@@ -48,6 +48,25 @@ pub trait Board<O: Origin, L: Ledger> {
         ensures again { IfOk result (λ b. b ≡ true → IsSeenAgain place.old place.new) }
         ensures same { told ≡ true → tells self.new ≡ tells self.old };
 
+    /// The commit of the proposal that is offered, if the board can tell quickly that it stands. If not, nothing is told
+    /// of it, nothing is done, and [`Board::attempt`] is for it. If the commit is made, the share counts one more, and
+    /// the proposal is taken out of its place.
+    fn attempt_quickly(
+        &mut self,
+        offer: &mut Option<Proposal<O>>,
+        pass: &mut Pass,
+        share: &mut Share<L>,
+    ) -> Option<Taken<O>>
+        ensures taken { IfSome result (λ t. IfSome offer.old (λ x.
+            TakesInSome x pass.old t.receipt.index t.receipt.entry pass.new)) }
+        ensures offered { OnSome result (IsSome offer.old) }
+        ensures share { OnSome result (share.new ≡ share.old + 1) }
+        ensures kept { result ≡ None →
+            (offer.new ≡ offer.old) × (pass.new ≡ pass.old) × (share.new ≡ share.old) }
+        ensures told_taken { told ≡ true → IfSome result (λ t. IfSome offer.old (λ x.
+            IsTaken (tells self.old) x pass.old t.receipt.index t.receipt.entry (tells self.new) pass.new)) }
+        ensures told_kept { told ≡ true → result ≡ None → tells self.new ≡ tells self.old };
+
     /// The same as [`Board::attempt`], which calls it. The board takes the proposal out of the place where it is
     /// offered.
     fn attempt_offer(
@@ -72,7 +91,6 @@ pub trait Board<O: Origin, L: Ledger> {
 
     /// The commit of a proposal. `Older` (54) if the log is shorter than the pass has seen; else as the book's commit.
     /// If the commit is made, the share counts one more. The spare comes back unless it was linked to the log.
-    #[inline(always)]
     final fn attempt(
         &mut self,
         proposal: Proposal<O>,

@@ -1,6 +1,6 @@
 //! The board of one of several workers.
 
-ghost use Rattle.std.specs.Prelude.{◌≡◌, ◌+◌, IfErr, IfOk, IfSome, IsSome, None, Some, true};
+ghost use Rattle.std.specs.Prelude.{◌≡◌, ◌+◌, IfErr, IfOk, IfSome, IsSome, None, OnSome, Some, true};
 ghost use Rattle.ioa_boards.specs.Places.{IsSeenAgain, PutsSome};
 ghost use Rattle.ioa_shared.specs.Attempts.{commits};
 ghost use Rattle.ioa_shared.specs.SomeBook.{MissesInSome, TakesInSome};
@@ -59,6 +59,25 @@ impl<'a, R: Wait, O: Origin, L: Ledger> Board<O, L> for Locked<'a, R, O, L> {
         }
         look_first(self.rt, self.shared, alloc, place, pass, node)?;
         Ok(false)
+    }
+
+    /// It tells nothing quickly, so that each commit takes the lock once: what stands under the lock has a quick way of
+    /// its own.
+    #[inline(always)]
+    fn attempt_quickly(
+        &mut self,
+        _offer: &mut Option<Proposal<O>>,
+        _pass: &mut Pass,
+        _share: &mut Share<L>,
+    ) -> Option<Taken<O>>
+        ensures taken { IfSome result (λ t. IfSome _offer.old (λ x.
+            TakesInSome x _pass.old t.receipt.index t.receipt.entry _pass.new)) }
+        ensures offered { OnSome result (IsSome _offer.old) }
+        ensures share { OnSome result (_share.new ≡ _share.old + 1) }
+        ensures kept { result ≡ None →
+            (_offer.new ≡ _offer.old) × (_pass.new ≡ _pass.old) × (_share.new ≡ _share.old) }
+    {
+        None
     }
 
     fn attempt_offer(

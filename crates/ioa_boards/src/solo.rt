@@ -1,6 +1,6 @@
 //! The board of one worker.
 
-ghost use Rattle.std.specs.Prelude.{◌≡◌, ◌+◌, IfErr, IfOk, IfSome, IsSome, IsTrue, None, Some, true};
+ghost use Rattle.std.specs.Prelude.{◌≡◌, ◌+◌, IfErr, IfOk, IfSome, IsSome, IsTrue, None, OnSome, Some, true};
 ghost use Rattle.ioa_boards.specs.Places.{IsSeenAgain, Puts, PutsSome};
 ghost use Rattle.ioa_shared.specs.Attempts.{IsMissed, IsTaken, commits};
 ghost use Rattle.ioa_shared.specs.Openings.{BeginsAt};
@@ -54,6 +54,25 @@ impl<O: Origin, L: Ledger> Board<O, L> for Solo<O, L> {
     }
 
     #[inline(always)]
+    fn attempt_quickly(
+        &mut self,
+        offer: &mut Option<Proposal<O>>,
+        pass: &mut Pass,
+        share: &mut Share<L>,
+    ) -> Option<Taken<O>>
+        ensures taken { IfSome result (λ t. IfSome offer.old (λ x.
+            TakesInSome x pass.old t.receipt.index t.receipt.entry pass.new)) }
+        ensures offered { OnSome result (IsSome offer.old) }
+        ensures share { OnSome result (share.new ≡ share.old + 1) }
+        ensures kept { result ≡ None →
+            (offer.new ≡ offer.old) × (pass.new ≡ pass.old) × (share.new ≡ share.old) }
+        ensures told_taken { IfSome result (λ t. IfSome offer.old (λ x.
+            IsTaken self.old x pass.old t.receipt.index t.receipt.entry self.new pass.new)) }
+        ensures told_kept { result ≡ None → self.new ≡ self.old }
+    {
+        Solo::attempt_quickly(self, offer, pass, share)
+    }
+
     fn attempt_offer(
         &mut self,
         offer: &mut Option<Proposal<O>>,

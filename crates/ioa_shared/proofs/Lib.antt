@@ -2,3 +2,4 @@
 pub mod Passes
 pub mod PassLaws
 pub mod RefusalLaws
+pub mod QuickAttempts

@@ -1,7 +1,7 @@
 //! What stands under the commit lock.
 
-ghost use Rattle.std.specs.Prelude.{◌≡◌, ◌<◌, ◌≤◌, ◌+◌, ◌%◌, [], IfErr, IfOk, IsTrue, None, OnErr, OnOk, Some};
-ghost use Rattle.std.specs.Prelude.{if◌then◌else◌, length, nat_eq, replicate, true};
+ghost use Rattle.std.specs.Prelude.{◌≡◌, ◌<◌, ◌≤◌, ◌+◌, ◌%◌, [], IfErr, IfOk, IfSome, IsSome, IsTrue, None};
+ghost use Rattle.std.specs.Prelude.{OnErr, OnOk, OnSome, Some, if◌then◌else◌, length, nat_eq, replicate, true};
 ghost use Rattle.ioa_book.specs.BookLaws.{IsLawful};
 ghost use Rattle.ioa_commits.specs.Books.{plain_book};
 ghost use Rattle.ioa_compose.specs.Start.{start};
@@ -137,11 +137,74 @@ impl<O: Origin, L: Ledger> Held<O, L> {
         }
     }
 
+    /// Commits the proposal that is offered, if a quick test shows that it stands, and if the log needs no spare. If
+    /// not, nothing is told of it, nothing is done, and [`Held::attempt`] is for it. If the commit is made, the share
+    /// counts one more, the pass rises to what it leaves, and the proposal is taken out of its place.
+    #[inline(always)]
+    pub fn attempt_quickly(
+        &mut self,
+        offer: &mut Option<Proposal<O>>,
+        pass: &mut Pass,
+        share: &mut Share<L>,
+    ) -> Option<Taken<O>>
+        ensures taken { IfSome result (λ t. IfSome offer.old (λ x.
+            IsTaken self.old x pass.old t.receipt.index t.receipt.entry self.new pass.new)) }
+        ensures offered { OnSome result (IsSome offer.old) }
+        ensures share { OnSome result (share.new ≡ share.old + 1) }
+        ensures kept { result ≡ None → (self.new ≡ self.old) × (offer.new ≡ offer.old)
+            × (pass.new ≡ pass.old) × (share.new ≡ share.old) }
+        ensures before { IsLawful self.old }
+        ensures behind { IsLawful self.new }
+    {
+        let before = self.book.log().len();
+        if before < pass.length() {
+            return None;
+        }
+        self.total.audit(&mut share.part);
+        let committed = self.book.commit_quickly(offer)?;
+        let length = self.book.log().len();
+        self.total.add(&mut share.part, 1);
+        share.count += 1;
+        Some(taken(committed, length, pass))
+    }
+
     /// Commits a proposal. `Older` (54) if the log is shorter than the pass has seen; else as the book's commit. If the
     /// commit is made, the share counts one more, and the pass rises to what it leaves. If a proposal is stale, the
     /// pass rises to the version that is held. The spare comes back unless it was linked to the log.
-    #[inline(always)]
     pub fn attempt(
+        &mut self,
+        proposal: Proposal<O>,
+        spare: Spare<Entry>,
+        pass: &mut Pass,
+        share: &mut Share<L>,
+    ) -> (Result<Taken<O>, Missed<O>>, Option<Spare<Entry>>)
+        ensures taken { IfOk result.0 (λ t.
+            IsTaken self.old proposal pass.old t.receipt.index t.receipt.entry self.new pass.new) }
+        ensures missed { IfErr result.0 (λ m.
+            IsMissed self.old proposal pass.old m.why m.proposal self.new pass.new) }
+        ensures share { share.new ≡ share.old + commits result.0 }
+        ensures linked { IfOk result.0 (λ _.
+            result.1 ≡ (if nat_eq (length self.old.log % 64) 0 then None else Some spare)) }
+        ensures kept { IfErr result.0 (λ _. result.1 ≡ Some spare) }
+        ensures before { IsLawful self.old }
+        ensures behind { IsLawful self.new }
+    {
+        if self.book.log().needs_spare() {
+            return self.attempt_tested(proposal, spare, pass, share);
+        }
+        let mut offer = Some(proposal);
+        match self.attempt_quickly(&mut offer, pass, share) {
+            Some(taken) => (Ok(taken), Some(spare)),
+            None => match offer {
+                Some(proposal) => self.attempt_tested(proposal, spare, pass, share),
+                None => unreachable!(),
+            },
+        }
+    }
+
+    /// The same commit, of which nothing was told quickly.
+    #[inline(never)]
+    fn attempt_tested(
         &mut self,
         proposal: Proposal<O>,
         spare: Spare<Entry>,
@@ -172,7 +235,6 @@ impl<O: Origin, L: Ledger> Held<O, L> {
 
 impl<O: Origin, L: Ledger> Held<O, L> {
     /// The commit of a proposal at a log that is not shorter than the pass has seen.
-    #[inline(always)]
     fn commit(
         &mut self,
         proposal: Proposal<O>,

@@ -1,7 +1,7 @@
 //! The book of one worker.
 
-ghost use Rattle.std.specs.Prelude.{◌≡◌, ◌≤◌, ◌+◌, ◌%◌, [], IfErr, IfOk, IsTrue, None, OnErr, OnOk, Some};
-ghost use Rattle.std.specs.Prelude.{if◌then◌else◌, length, nat_eq, true};
+ghost use Rattle.std.specs.Prelude.{◌≡◌, ◌≤◌, ◌+◌, ◌%◌, [], IfErr, IfOk, IfSome, IsSome, IsTrue, None};
+ghost use Rattle.std.specs.Prelude.{OnErr, OnOk, OnSome, Some, if◌then◌else◌, length, nat_eq, true};
 ghost use Rattle.ioa_book.specs.BookLaws.{IsLawful};
 ghost use Rattle.ioa_commits.specs.Books.{plain_book};
 ghost use Rattle.ioa_compose.specs.Start.{start};
@@ -98,8 +98,27 @@ impl<O: Origin, L: Ledger> Solo<O, L> {
         self.held.look_again(look, pass)
     }
 
-    /// The commit of a proposal, as of [`Held::attempt`].
+    /// The quick commit of the proposal that is offered, as of [`Held::attempt_quickly`].
     #[inline(always)]
+    pub fn attempt_quickly(
+        &mut self,
+        offer: &mut Option<Proposal<O>>,
+        pass: &mut Pass,
+        share: &mut Share<L>,
+    ) -> Option<Taken<O>>
+        ensures taken { IfSome result (λ t. IfSome offer.old (λ x.
+            IsTaken self.old x pass.old t.receipt.index t.receipt.entry self.new pass.new)) }
+        ensures offered { OnSome result (IsSome offer.old) }
+        ensures share { OnSome result (share.new ≡ share.old + 1) }
+        ensures kept { result ≡ None → (self.new ≡ self.old) × (offer.new ≡ offer.old)
+            × (pass.new ≡ pass.old) × (share.new ≡ share.old) }
+        ensures before { IsLawful self.old }
+        ensures behind { IsLawful self.new }
+    {
+        self.held.attempt_quickly(offer, pass, share)
+    }
+
+    /// The commit of a proposal, as of [`Held::attempt`].
     pub fn attempt(
         &mut self,
         proposal: Proposal<O>,

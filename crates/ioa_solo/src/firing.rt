@@ -54,8 +54,60 @@ pub(crate) fn commit<O: Origin, L: Ledger, B: Board<O, L>, G: Gate>(
         (B.tells board.new) (progress_of node.new)) }
     ensures unsettled { IfOk result (λ b. b ≡ false) }
 {
-    let block = block_for(alloc, &mut hand.receipts, spare)?;
+    make_ready(alloc, &mut hand.receipts, spare)?;
     gate.before_commit(worker);
+    let mut offer = Some(proposal);
+    match board.attempt_quickly(&mut offer, &mut hand.pass, &mut hand.share) {
+        Some(taken) => {
+            let Taken {
+                receipt,
+                queue,
+                node: participant,
+            } = taken;
+            rooms.keep(queue, participant);
+            hand.receipts.put(receipt);
+            gate.after_commit(worker);
+            node.pass();
+            Ok(false)
+        }
+        None => match offer {
+            Some(proposal) => commit_tested(
+                alloc, board, gate, worker, proposal, node, hand, spare, rooms,
+            ),
+            None => unreachable!(),
+        },
+    }
+}
+
+/// The same commit, of which nothing was told quickly.
+#[inline(never)]
+fn commit_tested<O: Origin, L: Ledger, B: Board<O, L>, G: Gate>(
+    alloc: Global,
+    board: &mut B,
+    gate: &G,
+    worker: usize,
+    proposal: Proposal<O>,
+    node: &mut Progress,
+    hand: &mut Hand<L>,
+    spare: &mut Option<Spare<Entry>>,
+    rooms: &mut Rooms<O>,
+) -> Result<bool, AllocError>
+    requires stands { IsAtFire (progress_of node.old).todo }
+    requires under_way { node.old.ending ≡ None }
+    ensures gained { Gains 1 0 hand.old hand.new }
+    ensures kept { node.new.attempts ≡ node.old.attempts }
+    ensures stopped { OnErr result (node.new.ending ≡ None) }
+    ensures stays { B.told ≡ true → OnErr result (B.tells board.new ≡ B.tells board.old) }
+    ensures goes { IsToldTo B.told (B.tells board.old) hand.old.pass →
+        IsProposedIn (B.tells board.old) (progress_of node.old).program.node proposal →
+        WorksOn (B.tells board.old) hand.old (B.tells board.new) hand.new }
+    ensures fired { IsToldTo B.told (B.tells board.old) hand.old.pass →
+        IsProposedIn (B.tells board.old) (progress_of node.old).program.node proposal →
+        OnOk result (IsAfterFire (B.tells board.old) (progress_of node.old) proposal.entry.action
+        (B.tells board.new) (progress_of node.new)) }
+    ensures unsettled { IfOk result (λ b. b ≡ false) }
+{
+    let block = block_for(alloc, &mut hand.receipts, spare)?;
     match attempt(board, proposal, block, hand, spare, rooms) {
         Ok(receipt) => {
             hand.receipts.put(receipt);
@@ -70,8 +122,24 @@ pub(crate) fn commit<O: Origin, L: Ledger, B: Board<O, L>, G: Gate>(
     }
 }
 
-/// A block for a commit, and room for its receipt.
+/// Makes room for a receipt, and a spare if there is none.
 #[inline(always)]
+fn make_ready(
+    alloc: Global,
+    receipts: &mut Receipts,
+    spare: &mut Option<Spare<Entry>>,
+) -> Result<(), AllocError>
+    ensures room { OnOk result (length receipts.new.all < receipts.new.room) }
+    ensures kept { receipts.new.all ≡ receipts.old.all }
+{
+    receipts.make_room()?;
+    if spare.is_none() {
+        *spare = Some(Spare::make(alloc)?);
+    }
+    Ok(())
+}
+
+/// A block for a commit, and room for its receipt.
 fn block_for(
     alloc: Global,
     receipts: &mut Receipts,
@@ -85,7 +153,6 @@ fn block_for(
 }
 
 /// The spare that is there, or else a new one.
-#[inline(always)]
 fn spare_of(alloc: Global, spare: &mut Option<Spare<Entry>>) -> Result<Spare<Entry>, AllocError> {
     match spare.take() {
         Some(block) => Ok(block),
@@ -95,7 +162,6 @@ fn spare_of(alloc: Global, spare: &mut Option<Spare<Entry>>) -> Result<Spare<Ent
 
 /// The attempt of a proposal with a block: its receipt, or why it is missed. What was read and is held no longer is
 /// room for the next proposal.
-#[inline(always)]
 fn attempt<O: Origin, L: Ledger, B: Board<O, L>>(
     board: &mut B,
     proposal: Proposal<O>,
@@ -126,7 +192,6 @@ fn attempt<O: Origin, L: Ledger, B: Board<O, L>>(
 }
 
 /// The same with all that comes of it. What it leaves of the block is the next one's.
-#[inline(always)]
 fn attempt_with<O: Origin, L: Ledger, B: Board<O, L>>(
     board: &mut B,
     proposal: Proposal<O>,

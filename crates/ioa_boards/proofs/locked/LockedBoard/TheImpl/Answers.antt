@@ -20,3 +20,14 @@ attempt_offer-tells g c =
       told_taken = λ e. absurd (false≢true e);
       told_missed = λ e. absurd (false≢true e);
     }
+
+pub attempt_quickly-tells : goal.attempt_quickly-tells
+attempt_quickly-tells g c =
+    record {
+      taken = c.ensures.taken;
+      offered = c.ensures.offered;
+      share = c.ensures.share;
+      kept = c.ensures.kept;
+      told_taken = λ e. absurd (false≢true e);
+      told_kept = λ e _. absurd (false≢true e);
+    }
