@@ -10,5 +10,5 @@ use Rattle.ioa_values.specs.declared.sequence.Sequence.TheDeep.{deep-TreeForm}
 
 pub deep-le-weights : (t : TreeForm) → IsTree t → max (deep-TreeForm t) 0 ≤ weights (tree_items t)
 deep-le-weights (Item d) h = omega arith
-deep-le-weights (Pair left right len kind is_link) h =
+deep-le-weights (Pair left right left_len len kind is_link) h =
     omega (arith, weights-append left.value right.value, some-weigh left.value h.left_items.some, some-weigh right.value h.right_items.some)

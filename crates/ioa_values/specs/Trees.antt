@@ -10,10 +10,11 @@ use Rattle.ioa_values.specs.declared.tree.TreeForm.TheVariants.{Item, Pair}
 
 abbrev pub tree_items : TreeForm → List Data
 tree_items (Item d) = d ∷ []
-tree_items (Pair left right len kind is_link) = left.value ++ right.value
+tree_items (Pair left right left_len len kind is_link) = left.value ++ right.value
 
--- both trees have items, the number is how many there are in both, and all of these are of the kind
-pub record ArePaired (left right : List Data) (len : ℕ) (kind : ItemKind) : Type 0 where
+-- both trees have items, the numbers are how many there are in the first and in both, and all of these are of the kind
+pub record ArePaired (left right : List Data) (left_len len : ℕ) (kind : ItemKind) : Type 0 where
+  pub first_counted : left_len ≡ length left
   pub counted : len ≡ length left + length right
   pub of_kind : AreOfKind kind (left ++ right)
   pub left_items : AreItems left
@@ -21,4 +22,4 @@ pub record ArePaired (left right : List Data) (len : ℕ) (kind : ItemKind) : Ty
 
 abbrev pub IsTree : TreeForm → Type 0
 IsTree (Item d) = IsCanonical d
-IsTree (Pair left right len kind is_link) = ArePaired left.value right.value len kind
+IsTree (Pair left right left_len len kind is_link) = ArePaired left.value right.value left_len len kind

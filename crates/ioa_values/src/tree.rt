@@ -31,11 +31,12 @@ pub(crate) struct Tree {
 enum TreeForm {
     /// One item.
     Item(Value),
-    /// The items of one tree and, behind them, those of another; how many items both have, and what is
-    /// known of these; and whether the two are a list of trees, and not one tree.
+    /// The items of one tree and, behind them, those of another; how many items the first one has, and how
+    /// many both have; what is known of these; and whether the two are a list of trees, and not one tree.
     Pair {
         left: Arc<Tree>,
         right: Arc<Tree>,
+        left_len: usize,
         len: usize,
         kind: ItemKind,
         is_link: bool,
@@ -89,13 +90,15 @@ impl Tree {
     {
         left.items_law();
         right.items_law();
-        let Some(len) = left.len().checked_add(right.len()) else {
+        let left_len = left.len();
+        let Some(len) = left_len.checked_add(right.len()) else {
             return Err(AllocError);
         };
         let kind = left.kind().join(right.kind());
         let form = TreeForm::Pair {
             left,
             right,
+            left_len,
             len,
             kind,
             is_link,
@@ -137,12 +140,16 @@ impl Tree {
     {
         match &self.form {
             TreeForm::Item(item) => item,
-            TreeForm::Pair { left, right, .. } => {
-                let count = left.len();
-                if position < count {
+            TreeForm::Pair {
+                left,
+                right,
+                left_len,
+                ..
+            } => {
+                if position < *left_len {
                     left.at(position)
                 } else {
-                    right.at(position - count)
+                    right.at(position - *left_len)
                 }
             }
         }
