@@ -81,3 +81,15 @@ told_behind (Some o) xs ys more others h e t =
 pub told_first : (o : Ordering) (xs ys more others : List Data) → length xs ≡ length ys → (o ≡ Equal → ⊥) → o ≡ items_cmp (items_of xs) (items_of ys) → o ≡ items_cmp (items_of (xs ++ more)) (items_of (ys ++ others))
 told_first o xs ys more others h n t =
     t ∙ sym (parts_order xs ys more others h ∙ decided (items_cmp (items_of xs) (items_of ys)) (items_cmp (items_of more) (items_of others)) (λ e. n (t ∙ e)))
+
+nothing_more : (b : Bool) → false ≡ (b && false)
+nothing_more true = refl
+nothing_more false = refl
+
+-- two lists of which one is longer are not the same
+pub lengths_differ : (xs ys : List Data) → (length xs ≡ length ys → ⊥) → false ≡ pointwise same xs ys
+lengths_differ [] [] n = absurd (n refl)
+lengths_differ [] (y ∷ ys) n = refl
+lengths_differ (x ∷ xs) [] n = refl
+lengths_differ (x ∷ xs) (y ∷ ys) n =
+    nothing_more (same x y) ∙ ap (λ (b : Bool). same x y && b) (lengths_differ xs ys (λ e. n (ap suc e)))

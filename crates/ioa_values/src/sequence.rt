@@ -1,6 +1,7 @@
 //! Sequences of values, of which every operation costs about the same at any length.
 
-ghost use Rattle.std.specs.Prelude.{◌≡◌, ◌+◌, ◌^◌, ◌++◌, ◌∷◌, ◌<◌, [], IfOk, IfSome, OnOk, Some, length, nat_eq, slice_get};
+ghost use Rattle.std.specs.Prelude.{◌≡◌, ◌+◌, ◌^◌, ◌++◌, ◌∷◌, ◌<◌, [], IfOk, IfSome, OnOk, Some, length, nat_eq};
+ghost use Rattle.std.specs.Prelude.{slice_get};
 ghost use Rattle.std.specs.Option.{option_copied};
 ghost use lib.Pointwise.{pointwise};
 ghost use Rattle.ioa_values.specs.Collections.{is_member};
@@ -183,11 +184,14 @@ impl Sequence {
         }
     }
 
-    /// Whether two sequences have the same items. Costs time in proportion to the shorter one.
-    #[tactic(auto, using(crate::proofs::Steps::same_by_order))]
+    /// Whether two sequences have the same items. Costs time in proportion to their length, if they have one length.
+    #[tactic(auto, using(crate::proofs::Steps::same_by_order, crate::proofs::Steps::lengths_differ))]
     pub fn equals(&self, other: &Self) -> bool
         ensures { result ≡ pointwise same self.now other.now }
     {
+        if self.len() != other.len() {
+            return false;
+        }
         self.compare(other) == Ordering::Equal
     }
 

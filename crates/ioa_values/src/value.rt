@@ -277,10 +277,14 @@ impl Value {
 
     /// Whether the order does not tell two values apart.
     #[inline(never)]
+    #[tactic(auto, using(crate::proofs::Steps::same_by_order))]
     fn ties(&self, other: &Self) -> bool
         ensures { result ≡ same self.now other.now }
     {
-        self.compare(other) == Ordering::Equal
+        match (&self.form, &other.form) {
+            (ValueForm::Sequence(items), ValueForm::Sequence(others)) => items.equals(others),
+            _ => self.compare(other) == Ordering::Equal,
+        }
     }
 }
 
