@@ -5,6 +5,7 @@ ghost use Rattle.std.specs.Option.{option_copied, option_map};
 ghost use Rattle.ioa_values.specs.Data.{number};
 ghost use Rattle.ioa_actions.specs.ActionParts as parts;
 ghost use Rattle.ioa_actions.specs.Actions.{same_node_action, same_action, node_action_cmp, action_cmp};
+ghost use Rattle.ioa_actions.specs.ValuesOrder.{all_same};
 
 use ioa_values::{Value, Word, copies};
 use std::alloc::{AllocError, Global};
@@ -94,12 +95,19 @@ impl PartialEq for Values {
 
     #[inline(always)]
     fn eq(&self, other: &Self) -> bool {
-        let values = self.as_slice();
-        let others = other.as_slice();
-        if values.is_empty() && others.is_empty() {
-            return true;
-        }
-        values == others
+        are_same(self.as_slice(), other.as_slice())
+    }
+}
+
+/// Whether values are the same, in order. Mostly there is one, or none.
+#[inline(always)]
+pub fn are_same(values: &[Value], others: &[Value]) -> bool
+    ensures { result ≡ all_same values.now others.now }
+{
+    match (values, others) {
+        ([], []) => true,
+        ([value], [other]) => value.equals(other),
+        _ => values == others,
     }
 }
 

@@ -15,7 +15,7 @@ mod fault;
 mod laws;
 mod text;
 
-pub use action::{Action, NodeAction, RECEIVE, SEND, Values};
+pub use action::{Action, NodeAction, RECEIVE, SEND, Values, are_same};
 pub use component::Component;
 pub use fault::StepFault;
 pub use laws::parts_law;

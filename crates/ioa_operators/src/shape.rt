@@ -114,19 +114,29 @@ impl Shape {
 
     /// Whether a value has the shape. Costs time in proportion to the value, but looks at no item of a sequence
     /// of numbers, truth values or constants that has the shape.
+    #[inline(always)]
     #[tactic(auto, using(crate::proofs::WideShapes::narrow))]
     pub fn admits(&self, value: &Value) -> bool
         ensures { result ≡ has_shape self.now value.now }
     {
-        self.fits(value, false)
+        match (&self.form, &value.form) {
+            (ShapeForm::Naturals, ValueForm::Number(n)) => 0 <= *n,
+            (ShapeForm::Integers, ValueForm::Number(_)) => true,
+            _ => self.fits(value, false),
+        }
     }
 
     /// Whether a value has the shape if signs do not matter: a negative number passes for a natural too,
     /// at any depth. Costs what `admits` costs.
+    #[inline(always)]
     pub fn admits_negative(&self, value: &Value) -> bool
         ensures { result ≡ has_shape (wide_shape self.now) value.now }
     {
-        self.fits(value, true)
+        match (&self.form, &value.form) {
+            (ShapeForm::Naturals, ValueForm::Number(_)) => true,
+            (ShapeForm::Integers, ValueForm::Number(_)) => true,
+            _ => self.fits(value, true),
+        }
     }
 
     /// Whether a value has the shape; if `negative` is true, a negative number passes for a natural too.

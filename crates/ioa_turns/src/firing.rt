@@ -14,7 +14,7 @@ ghost use Rattle.ioa_turns.specs.Fired as spec;
 ghost use Rattle.ioa_turns.specs.NodeTurns.{arguments_in, kept_in, progress_of};
 
 use crate::progress::{LastFired, Progress};
-use ioa_actions::Action;
+use ioa_actions::{Action, are_same};
 use ioa_system::{Program, Rule};
 use ioa_terms::{Callee, Firing, Kind, Shape, Value};
 use std::alloc::{AllocError, Global};
@@ -128,17 +128,6 @@ fn has_arguments(action: &Action, arguments: &[Value]) -> bool
         Action::Local(action) => are_same(action.arguments.as_slice(), arguments),
         Action::Stimulus(action) => are_same(action.arguments.as_slice(), arguments),
     }
-}
-
-/// Whether values are the same, in order. Mostly there are none.
-#[inline(always)]
-fn are_same(values: &[Value], others: &[Value]) -> bool
-    ensures { result ≡ all_same values.now others.now }
-{
-    if values.is_empty() && others.is_empty() {
-        return true;
-    }
-    values == others
 }
 
 /// Whether arguments are a message and the two ends of its channel.
