@@ -19,10 +19,12 @@ use std::alloc::{AllocError, Global};
 use std::sync::Arc;
 
 /// The proposal of an action whose one participant was read so. A fault of the participant's own step is returned.
+/// `rule_number` is that of the action's rule in the node's program, if it is known.
 #[inline(always)]
 pub(crate) fn proposal_of_one<O: Origin>(
     alloc: Global,
     action: Arc<Action>,
+    rule_number: Option<usize>,
     length: usize,
     node: &VersionedConf<O>,
     rooms: &mut Rooms<O>,
@@ -32,7 +34,7 @@ pub(crate) fn proposal_of_one<O: Origin>(
         (and_then (picks_of (arc_value action) (Some node.now.conf ∷ []))
         (λ t. Ok (plain_proposal t.0 length (node.now ∷ [])))) }
 {
-    let node = participant(alloc, &action, node, &mut rooms.node)?;
+    let node = participant(alloc, &action, rule_number, node, &mut rooms.node)?;
     let entry = Entry::of(action);
     let again = entry.try_clone()?;
     Ok(Proposal::new(entry, again, length, None, node))
@@ -43,6 +45,7 @@ pub(crate) fn proposal_of_one<O: Origin>(
 pub(crate) fn proposal_of_two<O: Origin>(
     alloc: Global,
     action: Arc<Action>,
+    rule_number: Option<usize>,
     length: usize,
     queue: &VersionedConf<O>,
     node: &VersionedConf<O>,
@@ -53,8 +56,8 @@ pub(crate) fn proposal_of_two<O: Origin>(
         (and_then (picks_of (arc_value action) (Some queue.now.conf ∷ Some node.now.conf ∷ []))
         (λ t. Ok (plain_proposal t.0 length (queue.now ∷ node.now ∷ [])))) }
 {
-    let queue = participant(alloc, &action, queue, &mut rooms.queue)?;
-    let node = participant(alloc, &action, node, &mut rooms.node)?;
+    let queue = participant(alloc, &action, None, queue, &mut rooms.queue)?;
+    let node = participant(alloc, &action, rule_number, node, &mut rooms.node)?;
     let entry = Entry::of(action);
     let again = entry.try_clone()?;
     Ok(Proposal::new(entry, again, length, Some(queue), node))
@@ -66,6 +69,7 @@ pub(crate) fn proposal_of_two<O: Origin>(
 fn participant<O: Origin>(
     alloc: Global,
     action: &Action,
+    rule_number: Option<usize>,
     read: &VersionedConf<O>,
     room: &mut Option<Participant<O>>,
 ) -> Result<Participant<O>, StepFault>
@@ -73,7 +77,7 @@ fn participant<O: Origin>(
     ensures read { IfOk result (λ p. p.read ≡ read.now) }
 {
     match room.take() {
-        Some(kept) => participant_in(alloc, action, read, kept, room),
+        Some(kept) => participant_in(alloc, action, rule_number, read, kept, room),
         None => participant_anew(alloc, action, read),
     }
 }
@@ -83,6 +87,7 @@ fn participant<O: Origin>(
 fn participant_in<O: Origin>(
     alloc: Global,
     action: &Action,
+    rule_number: Option<usize>,
     read: &VersionedConf<O>,
     mut kept: Participant<O>,
     room: &mut Option<Participant<O>>,
@@ -90,7 +95,7 @@ fn participant_in<O: Origin>(
     ensures step { Answers StepFault.Memory (λ p. p.next) result (conf_answer (entry_of action.now) read.now.conf) }
     ensures read { IfOk result (λ p. p.read ≡ read.now) }
 {
-    match write_over(alloc, action, read, &mut kept.parts) {
+    match write_over(alloc, action, rule_number, read, &mut kept.parts) {
         Ok(()) => Ok(kept),
         Err(fault) => {
             *room = Some(kept);
@@ -105,6 +110,7 @@ fn participant_in<O: Origin>(
 fn write_over<O: Origin>(
     alloc: Global,
     action: &Action,
+    rule_number: Option<usize>,
     read: &VersionedConf<O>,
     parts: &mut Parts<O>,
 ) -> Result<(), StepFault>
@@ -113,7 +119,7 @@ fn write_over<O: Origin>(
     ensures read { OnOk result (parts.new.read ≡ read.now) }
 {
     parts.read.refresh(read)?;
-    step_over(alloc, action, read.conf(), &mut parts.next)
+    step_over(alloc, action, rule_number, read.conf(), &mut parts.next)
 }
 
 /// The same, where there is no room.
@@ -136,13 +142,14 @@ fn participant_anew<O: Origin>(
 fn step_over(
     alloc: Global,
     action: &Action,
+    rule_number: Option<usize>,
     conf: &Conf,
     next: &mut Arc<Conf>,
 ) -> Result<(), StepFault>
     ensures { Answers StepFault.Memory (λ _. arc_value next.new) result (conf_answer (entry_of action.now) conf.now) }
 {
     match Arc::get_mut(next) {
-        Some(place) => conf.step_over(alloc, action, place),
+        Some(place) => conf.step_over(alloc, action, rule_number, place),
         None => {
             *next = step_of(alloc, action, conf)?;
             Ok(())

@@ -140,22 +140,23 @@ impl<O: Origin> Snapshot<O> {
     {
         let mut rooms = Rooms::none();
         let action = Arc::try_clone(action)?;
-        self.propose_in(alloc, action, &mut rooms)
+        self.propose_in(alloc, action, None, &mut rooms)
     }
 
     /// The same proposal, with room for it: where nobody else owns what is there, the new configurations are written
-    /// over that.
+    /// over that. If `rule_number` is that of the action's rule in the node's program, the rule is not searched for.
     #[inline(always)]
     pub fn propose_in(
         &self,
         alloc: Global,
         action: Arc<Action>,
+        rule_number: Option<usize>,
         rooms: &mut Rooms<O>,
     ) -> Result<Proposal<O>, StepFault>
         ensures { Answers StepFault.Memory (λ p. p) result (spec.proposal_answer (arc_value action) self.now) }
     {
         if is_own(&action, self.node) {
-            self.propose_step(alloc, action, rooms)
+            self.propose_step(alloc, action, rule_number, rooms)
         } else {
             Err(StepFault::NotMine)
         }
@@ -167,13 +168,16 @@ impl<O: Origin> Snapshot<O> {
         &self,
         alloc: Global,
         action: Arc<Action>,
+        rule_number: Option<usize>,
         rooms: &mut Rooms<O>,
     ) -> Result<Proposal<O>, StepFault>
         ensures { Answers StepFault.Memory (λ p. p) result (spec.step_answer (arc_value action) self.now) }
     {
         match participants(&action) {
-            Parties::One(node) => self.propose_alone(alloc, action, node, rooms),
-            Parties::Two(queue, node) => self.propose_with(alloc, action, queue, node, rooms),
+            Parties::One(node) => self.propose_alone(alloc, action, rule_number, node, rooms),
+            Parties::Two(queue, node) => {
+                self.propose_with(alloc, action, rule_number, queue, node, rooms)
+            }
         }
     }
 
@@ -183,6 +187,7 @@ impl<O: Origin> Snapshot<O> {
         &self,
         alloc: Global,
         action: Arc<Action>,
+        rule_number: Option<usize>,
         node: Component,
         rooms: &mut Rooms<O>,
     ) -> Result<Proposal<O>, StepFault>
@@ -190,7 +195,9 @@ impl<O: Origin> Snapshot<O> {
         ensures { Answers StepFault.Memory (λ p. p) result (spec.step_answer (arc_value action) self.now) }
     {
         match self.read_of(node) {
-            Some(node) => proposal_of_one(alloc, action, self.length(), node, rooms),
+            Some(node) => {
+                proposal_of_one(alloc, action, rule_number, self.length(), node, rooms)
+            }
             None => Err(StepFault::NoChannel),
         }
     }
@@ -201,6 +208,7 @@ impl<O: Origin> Snapshot<O> {
         &self,
         alloc: Global,
         action: Arc<Action>,
+        rule_number: Option<usize>,
         queue: Component,
         node: Component,
         rooms: &mut Rooms<O>,
@@ -209,7 +217,7 @@ impl<O: Origin> Snapshot<O> {
         ensures { Answers StepFault.Memory (λ p. p) result (spec.step_answer (arc_value action) self.now) }
     {
         match self.read_of(queue) {
-            Some(queue) => self.propose_beside(alloc, action, queue, node, rooms),
+            Some(queue) => self.propose_beside(alloc, action, rule_number, queue, node, rooms),
             None => Err(StepFault::NoChannel),
         }
     }
@@ -219,6 +227,7 @@ impl<O: Origin> Snapshot<O> {
         &self,
         alloc: Global,
         action: Arc<Action>,
+        rule_number: Option<usize>,
         queue: &VersionedConf<O>,
         node: Component,
         rooms: &mut Rooms<O>,
@@ -228,7 +237,15 @@ impl<O: Origin> Snapshot<O> {
         ensures { Answers StepFault.Memory (λ p. p) result (spec.step_answer (arc_value action) self.now) }
     {
         match self.read_of(node) {
-            Some(node) => proposal_of_two(alloc, action, self.length(), queue, node, rooms),
+            Some(node) => proposal_of_two(
+                alloc,
+                action,
+                rule_number,
+                self.length(),
+                queue,
+                node,
+                rooms,
+            ),
             None => Err(StepFault::NoChannel),
         }
     }

@@ -1,6 +1,6 @@
 //! Queues of channels and scripts, and their steps.
 
-ghost use Rattle.std.specs.Prelude.{◌≡◌, ◌≢◌, [], ◌∷◌, ◌↔◌, IsTrue, IfOk, IfSome, IsErrOf, List, length, map};
+ghost use Rattle.std.specs.Prelude.{◌≡◌, ◌≢◌, [], ◌∷◌, ◌↔◌, IsTrue, IfOk, IfSome, IsErrOf, List, OnOk, length, map};
 ghost use Rattle.std.specs.Prelude.{slice_get};
 ghost use Rattle.std.specs.Option.{option_map};
 ghost use Rattle.ioa_values.specs.Outcome.{Answers};
@@ -255,5 +255,38 @@ impl Queue {
             Action::Local(_) => Err(StepFault::NotMine),
             Action::Stimulus(stimulus) => self.after_stimulus(stimulus),
         }
+    }
+
+    /// The same step, written over another queue, which after a fault is some queue.
+    pub fn step_over(
+        &self,
+        alloc: Global,
+        action: &Action,
+        next: &mut Queue,
+    ) -> Result<(), StepFault>
+        ensures { Answers StepFault.Memory (λ _. next.new) result (queue_answer self.now action.now) }
+    {
+        match action {
+            Action::Send { message, .. } => {
+                let message = message.try_copy()?;
+                self.send_over(alloc, message, next)?;
+                Ok(())
+            }
+            _ => {
+                *next = self.step(alloc, action)?;
+                Ok(())
+            }
+        }
+    }
+
+    /// The queue with one more message at the end, written over another queue.
+    #[tactic(auto, using(crate::proofs::Parts::one_more_message))]
+    fn send_over(&self, alloc: Global, message: Value, next: &mut Queue) -> Result<(), AllocError>
+        ensures { OnOk result (next.new ≡ with_last (Item.Message message) self.now) }
+    {
+        next.messages = self.messages.append(alloc, message)?;
+        next.stimuli = self.stimuli.try_clone()?;
+        next.component = self.component;
+        Ok(())
     }
 }

@@ -81,16 +81,14 @@ impl Conf {
         &self,
         alloc: Global,
         action: &Action,
+        rule_number: Option<usize>,
         next: &mut Conf,
     ) -> Result<(), StepFault>
         ensures { Answers StepFault.Memory (λ _. next.new) result (conf_answer (entry_of action.now) self.now) }
     {
         match self {
-            Conf::Node(node) => step_node_over(alloc, node, action, next),
-            Conf::Queue(queue) => {
-                *next = Conf::Queue(queue.step(alloc, action)?);
-                Ok(())
-            }
+            Conf::Node(node) => step_node_over(alloc, node, action, rule_number, next),
+            Conf::Queue(queue) => step_queue_over(alloc, queue, action, next),
         }
     }
 
@@ -110,15 +108,37 @@ fn step_node_over(
     alloc: Global,
     node: &NodeConf,
     action: &Action,
+    rule_number: Option<usize>,
     next: &mut Conf,
 ) -> Result<(), StepFault>
     ensures { Answers StepFault.Memory (λ _. next.new) result
         (conf_answer (entry_of action.now) (Conf.Node node.now)) }
 {
     match next {
-        Conf::Node(place) => node.step_over(alloc, action, place),
+        Conf::Node(place) => node.step_over(alloc, action, rule_number, place),
         Conf::Queue(_) => {
             *next = Conf::Node(node.step(alloc, action)?);
+            Ok(())
+        }
+    }
+}
+
+/// The step of a queue, written over another configuration, in its place if it is a queue's.
+#[inline(always)]
+#[tactic(auto, unfolding(crate::specs::Composition::conf_answer))]
+fn step_queue_over(
+    alloc: Global,
+    queue: &Queue,
+    action: &Action,
+    next: &mut Conf,
+) -> Result<(), StepFault>
+    ensures { Answers StepFault.Memory (λ _. next.new) result
+        (conf_answer (entry_of action.now) (Conf.Queue queue.now)) }
+{
+    match next {
+        Conf::Queue(place) => queue.step_over(alloc, action, place),
+        Conf::Node(_) => {
+            *next = Conf::Queue(queue.step(alloc, action)?);
             Ok(())
         }
     }

@@ -383,7 +383,7 @@ fn go_past<O: Origin, L: Ledger, B: Board<O, L>, G: Gate>(
     ensures settled { IfOk result (λ b. b ≡ true → IsSettled (progress_of node.new) snapshot.now) }
 {
     let action = node.action_fired(alloc, firing)?;
-    match snapshot.propose_in(alloc, action, rooms) {
+    match snapshot.propose_in(alloc, action, Some(firing.rule), rooms) {
         Ok(proposal) => commit(
             alloc, board, gate, worker, proposal, node, hand, spare, rooms,
         ),

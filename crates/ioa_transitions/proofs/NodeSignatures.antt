@@ -1,11 +1,12 @@
 -- Which rule of a program has an action, by relation and by the test of the code.
 use Rattle.std.proofs.Common.{◌≡◌, ◌≢◌, inl, inr, ℕ, zero, suc, ◌<◌, Bool, true, false, List, [], ◌∷◌, ◌++◌, Option, Some, None, Result, Ok, Err, refl, sym, ap, ◌∙◌, map, length, arith}
-use Rattle.std.specs.Prelude.{◌&&◌, not, if◌then◌else◌, find}
+use Rattle.std.specs.Prelude.{◌&&◌, not, if◌then◌else◌, find, get_or, slice_get}
 use Rattle.ioa_operators.specs.Shapes.{has_shape}
 use Rattle.std.specs.List.{AllByRecursion, AllZip, Contains, IsDistinct, list_all, slice_index_or}
 use Rattle.std.specs.Cmp.Lexicographic.{bytes_decides}
 use Rattle.std.specs.Option.{ok_or}
 use Rattle.std.proofs.lemmas.List.Folds.{list_all-append}
+use Rattle.std.proofs.lemmas.Option.{slice_get-get_or}
 use Rattle.ioa_values.specs.Data.{Data, is_within}
 use Rattle.ioa_values.proofs.Equality.{same_is}
 use Rattle.ioa_operators.specs.RangeCheck.{range_check}
@@ -22,7 +23,7 @@ use Rattle.ioa_source.specs.PlainText.{const, named}
 use Rattle.ioa_source.specs.Sides.{CheckedEntry, CheckedParameter}
 use Rattle.ioa_system.specs.Declarations.{DeclaresOnce}
 use Rattle.ioa_system.specs.InView.{given_bindings}
-use Rattle.ioa_system.specs.Parts.{Parts, PlainRule}
+use Rattle.ioa_system.specs.Parts.{Parts, PlainRule, rule_names}
 use Rattle.ioa_transitions.specs.NodeAnswers.{kind_agrees, constant_agrees, parameter_agrees, arguments_agree, entry_agrees, are_natural, rule_for}
 use Rattle.ioa_transitions.specs.NodeStep.{IsOfKind, TakesArgument, IsActionOf, HasRule, IsOfSort, numbers_met_by_parameter, numbers_met_by_parameters}
 
@@ -187,6 +188,38 @@ one_named (x ∷ rs) r s zero (suc j) d less at fewer there name =
 one_named (x ∷ rs) r s (suc i) zero d less at fewer there name =
     absurd (not_later x rs r i d.0 (omega arith) at (ap name_of there ∙ sym name))
 one_named (x ∷ rs) r s (suc i) (suc j) d less at fewer there name = one_named rs r s i j d.1 (omega arith) at (omega arith) there name
+
+-- a rule at a place behind one whose name differs has another name
+not_at : (x : PlainRule) (rs : List PlainRule) (r : PlainRule) (k : ℕ) → AllByRecursion (λ w. same_word (name_of x) w ≡ false) (map name_of rs) → slice_get rs k ≡ Some r → name_of x ≡ name_of r → ⊥
+not_at x [] r k differ at name = absurd (cc)
+not_at x (y ∷ rs) r zero differ at name =
+    let own : y ≡ r = cc in
+    let same_names : same_word (name_of x) (name_of y) ≡ true = (bytes_decides (name_of x) (name_of y)).1 (name ∙ ap name_of (sym own)) in
+    let wrong : true ≡ false = sym same_names ∙ differ.0 in absurd (cc)
+not_at x (y ∷ rs) r (suc k) differ at name = not_at x rs r k differ.1 at name
+
+-- the name of an entry that has an action
+agreed_name : (b : Bindings) (a : Action) (e : CheckedEntry) → entry_agrees b a e ≡ true → e.name ≡ action_name a
+agreed_name b a e h =
+    (bytes_decides e.name (action_name a)).0 (both_true (same_word e.name (action_name a)) (kind_agrees a e.kind && arguments_agree b e.parameters (action_arguments a)) h).0
+
+-- of rules whose names differ, the one at a place is the first that has an action, if it has it
+found_at : (b : Bindings) (a : Action) (rs : List PlainRule) (k : ℕ) (r : PlainRule) → IsDistinct same_word (map name_of rs) → slice_get rs k ≡ Some r → entry_agrees b a r.entry ≡ true → find (λ s. entry_agrees b a s.entry) rs ≡ Some r
+unfolding IsDistinct
+found_at b a [] k r d at h = absurd (cc)
+found_at b a (x ∷ rs) zero r d at h =
+    let own : x ≡ r = cc in
+    let passes : entry_agrees b a x.entry ≡ true = ap (λ (s : PlainRule). entry_agrees b a s.entry) own ∙ h in rw passes at
+found_at b a (x ∷ rs) (suc k) r d at h = by_test (entry_agrees b a x.entry) refl (found_at b a rs k r d.1 at h)
+  where
+    by_test : (t : Bool) → entry_agrees b a x.entry ≡ t → find (λ s. entry_agrees b a s.entry) rs ≡ Some r → (if t then Some x else find (λ s. entry_agrees b a s.entry) rs) ≡ Some r
+    by_test true e further = absurd (not_at x rs r k d.0 at (agreed_name b a x.entry e ∙ sym (agreed_name b a r.entry h)))
+    by_test false e further = further
+
+-- the rule of a number is the one that the code finds, if it has the action
+pub found_numbered : (p : Parts) (a : Action) (k : ℕ) (d : PlainRule) → IsDistinct same_word (rule_names p.automaton.rules) → k < length p.automaton.rules → entry_agrees (given_bindings p.automaton p.arguments) a (get_or p.automaton.rules k d).entry ≡ true → Some (get_or p.automaton.rules k d) ≡ rule_for p a
+found_numbered p a k d differ less h =
+    sym (found_at (given_bindings p.automaton p.arguments) a p.automaton.rules k (get_or p.automaton.rules k d) differ (slice_get-get_or p.automaton.rules k d less) h)
 
 -- one rule of a program has an action
 pub one_rule : (p : Parts) (a : Action) (r s : PlainRule) → DeclaresOnce p → HasRule p a r → HasRule p a s → r ≡ s

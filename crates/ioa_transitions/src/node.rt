@@ -111,6 +111,7 @@ impl NodeConf {
             &self.program,
             &self.variables,
             action,
+            None,
             &mut variables,
         )?;
         let program = Arc::try_clone(&self.program)?;
@@ -118,19 +119,20 @@ impl NodeConf {
     }
 
     /// The same step, written over another configuration: if that has as many values, their room is used again. After a
-    /// fault it is some configuration.
+    /// fault it is some configuration. If `rule_number` is that of the action's rule, the rule is not searched for.
     #[inline(always)]
     #[tactic(auto, unfolding(crate::specs::NodeAnswers::node_answer))]
     pub fn step_over(
         &self,
         alloc: Global,
         action: &Action,
+        rule_number: Option<usize>,
         next: &mut NodeConf,
     ) -> Result<(), StepFault>
         ensures { Answers StepFault.Memory (λ _. next.new) result (node_answer self.now action.now) }
     {
         if next.variables.len() == self.variables.len() {
-            self.write_step(alloc, action, next)
+            self.write_step(alloc, action, rule_number, next)
         } else {
             *next = self.step(alloc, action)?;
             Ok(())
@@ -144,6 +146,7 @@ impl NodeConf {
         &self,
         alloc: Global,
         action: &Action,
+        rule_number: Option<usize>,
         next: &mut NodeConf,
     ) -> Result<(), StepFault>
         requires { length next.old.variables ≡ length self.now.variables }
@@ -155,6 +158,7 @@ impl NodeConf {
             &self.program,
             &self.variables,
             action,
+            rule_number,
             &mut next.variables,
         )?;
         Ok(())

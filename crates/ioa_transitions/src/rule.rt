@@ -31,7 +31,9 @@ use ioa_terms::{
     Callee, Checked, Kind, LentValues, Name, Shape, TermFault, Value, View, Word, eval, evaluate,
     evaluate_test, perform,
 };
+use ioa_values::ValueForm;
 use std::alloc::{AllocError, Global};
+use std::mem::ManuallyDrop;
 
 /// Whether an action has an entry's name, and is of the entry's kind.
 #[inline(always)]
@@ -249,9 +251,62 @@ fn entry_agrees(
 }
 
 /// The rule that an action with these arguments takes at a node with this program, if there is one. Constants of
-/// entries read the values that the node gives the automaton's parameters.
+/// entries read the values that the node gives the automaton's parameters. If `rule_number` is the rule's number, it
+/// costs the same however many rules there are.
 #[inline(always)]
 pub fn rule_for<'a>(
+    alloc: Global,
+    program: &'a Program,
+    action: &Action,
+    rule_number: Option<usize>,
+    arguments: &[Value],
+) -> Result<Option<&'a Rule>, AllocError>
+    requires { arguments.now ≡ action_arguments action.now }
+    ensures found { IfOk result (λ r. option_copied r ≡ spec.rule_for program.now action.now) }
+    ensures resolved { IfOk result
+        (λ r. IfSome r (λ x. IsResolvedRule (declared_names program.now.automaton) x.now)) }
+    ensures agrees { IfOk result (λ r. IfSome r (λ x. spec.entry_agrees
+        (given_bindings program.now.automaton program.now.arguments) action.now x.now.entry ≡ true)) }
+{
+    if let Some(number) = rule_number {
+        let rule = rule_numbered(alloc, program, action, number, arguments)?;
+        if rule.is_some() {
+            return Ok(rule);
+        }
+    }
+    rule_among(alloc, program, action, arguments)
+}
+
+/// The same, if it is the rule of this number.
+#[inline(always)]
+#[tactic(auto, using(crate::proofs::NodeSignatures::found_numbered))]
+fn rule_numbered<'a>(
+    alloc: Global,
+    program: &'a Program,
+    action: &Action,
+    number: usize,
+    arguments: &[Value],
+) -> Result<Option<&'a Rule>, AllocError>
+    requires { arguments.now ≡ action_arguments action.now }
+    ensures found { IfOk result (λ r. IfSome r (λ x. Some x.now ≡ spec.rule_for program.now action.now)) }
+    ensures resolved { IfOk result
+        (λ r. IfSome r (λ x. IsResolvedRule (declared_names program.now.automaton) x.now)) }
+    ensures agrees { IfOk result (λ r. IfSome r (λ x. spec.entry_agrees
+        (given_bindings program.now.automaton program.now.arguments) action.now x.now.entry ≡ true)) }
+{
+    let rules = program.automaton().rules();
+    if number < rules.len() {
+        let rule = &rules[number];
+        if entry_agrees(alloc, program, &rule.entry, action, arguments)? {
+            return Ok(Some(rule));
+        }
+    }
+    Ok(None)
+}
+
+/// The same, by a search among all rules.
+#[inline(never)]
+fn rule_among<'a>(
     alloc: Global,
     program: &'a Program,
     action: &Action,
@@ -272,13 +327,15 @@ pub fn rule_for<'a>(
     Ok(None)
 }
 
-/// Puts the values of a node's state variables after an action into a list, in place of what is there.
+/// Puts the values of a node's state variables after an action into a list, in place of what is there. `rule_number` is
+/// that of the action's rule, if it is known.
 #[inline(always)]
 pub fn values_after(
     alloc: Global,
     program: &Program,
     variables: &[Value],
     action: &Action,
+    rule_number: Option<usize>,
     values: &mut Vec<Value>,
 ) -> Result<(), StepFault>
     requires valued { length variables.now ≡ length program.now.automaton.variables }
@@ -290,12 +347,28 @@ pub fn values_after(
     match action {
         Action::Send { message, from, to } | Action::Receive { message, from, to } => {
             values_by_message(
-                alloc, program, variables, action, message, *from, *to, values,
+                alloc,
+                program,
+                variables,
+                action,
+                rule_number,
+                message,
+                *from,
+                *to,
+                values,
             )
         }
         Action::Local(own) | Action::Stimulus(own) => {
             let arguments = own.arguments.as_slice();
-            values_by(alloc, program, variables, action, arguments, values)
+            values_by(
+                alloc,
+                program,
+                variables,
+                action,
+                rule_number,
+                arguments,
+                values,
+            )
         }
     }
 }
@@ -307,6 +380,89 @@ fn values_by_message(
     program: &Program,
     variables: &[Value],
     action: &Action,
+    rule_number: Option<usize>,
+    message: &Value,
+    from: i64,
+    to: i64,
+    values: &mut Vec<Value>,
+) -> Result<(), StepFault>
+    requires valued { length variables.now ≡ length program.now.automaton.variables }
+    requires own { action_arguments action.now ≡ message.now ∷ number from ∷ number to ∷ [] }
+    ensures after { Answers StepFault.Memory (λ _. values.new.items) result
+        (spec.values_answer (node_state program.now variables.now) action.now) }
+    ensures valued { OnOk result (length values.new.items ≡ length variables.now) }
+    ensures kept { length values.old.items ≡ length variables.now → length values.new.items ≡ length variables.now }
+{
+    match &message.form {
+        ValueForm::Number(n) => values_by_numbers(
+            alloc,
+            program,
+            variables,
+            action,
+            rule_number,
+            *n,
+            from,
+            to,
+            values,
+        ),
+        _ => values_by_copy(
+            alloc,
+            program,
+            variables,
+            action,
+            rule_number,
+            message,
+            from,
+            to,
+            values,
+        ),
+    }
+}
+
+/// The same if the message is a number. Numbers own nothing, so the arguments need no drop.
+#[inline(always)]
+fn values_by_numbers(
+    alloc: Global,
+    program: &Program,
+    variables: &[Value],
+    action: &Action,
+    rule_number: Option<usize>,
+    message: i64,
+    from: i64,
+    to: i64,
+    values: &mut Vec<Value>,
+) -> Result<(), StepFault>
+    requires valued { length variables.now ≡ length program.now.automaton.variables }
+    requires own { action_arguments action.now ≡ number message ∷ number from ∷ number to ∷ [] }
+    ensures after { Answers StepFault.Memory (λ _. values.new.items) result
+        (spec.values_answer (node_state program.now variables.now) action.now) }
+    ensures valued { OnOk result (length values.new.items ≡ length variables.now) }
+    ensures kept { length values.old.items ≡ length variables.now → length values.new.items ≡ length variables.now }
+{
+    let arguments = ManuallyDrop::new([
+        Value::number(message),
+        Value::number(from),
+        Value::number(to),
+    ]);
+    values_by(
+        alloc,
+        program,
+        variables,
+        action,
+        rule_number,
+        &*arguments,
+        values,
+    )
+}
+
+/// The same with a copy of the message.
+#[inline(never)]
+fn values_by_copy(
+    alloc: Global,
+    program: &Program,
+    variables: &[Value],
+    action: &Action,
+    rule_number: Option<usize>,
     message: &Value,
     from: i64,
     to: i64,
@@ -321,7 +477,15 @@ fn values_by_message(
 {
     let message = message.try_copy()?;
     let arguments = [message, Value::number(from), Value::number(to)];
-    values_by(alloc, program, variables, action, &arguments, values)
+    values_by(
+        alloc,
+        program,
+        variables,
+        action,
+        rule_number,
+        &arguments,
+        values,
+    )
 }
 
 /// The same of an action with these arguments.
@@ -331,6 +495,7 @@ fn values_by(
     program: &Program,
     variables: &[Value],
     action: &Action,
+    rule_number: Option<usize>,
     arguments: &[Value],
     values: &mut Vec<Value>,
 ) -> Result<(), StepFault>
@@ -341,7 +506,7 @@ fn values_by(
     ensures valued { OnOk result (length values.new.items ≡ length variables.now) }
     ensures kept { length values.old.items ≡ length variables.now → length values.new.items ≡ length variables.now }
 {
-    match rule_for(alloc, program, action, arguments)? {
+    match rule_for(alloc, program, action, rule_number, arguments)? {
         None => Err(StepFault::NotMine),
         Some(rule) => take_transition(alloc, program, rule, arguments, variables, values),
     }

@@ -3,7 +3,7 @@ use Rattle.std.specs.Prelude.{find}
 use Rattle.ioa_system.specs.InView.{declared_names, given_bindings}
 use Rattle.ioa_system.specs.ResolvedPrograms.{IsResolvedRule}
 use Rattle.ioa_transitions.specs.NodeAnswers as spec
-use Rattle.ioa_transitions.proofs.rule.rule_for.Given as goal
+use Rattle.ioa_transitions.proofs.rule.rule_among.Given as goal
 
 -- no rule gone by is the action's
 abbrev pub invariant-loop-rule : goal.invariant-loop-rule
