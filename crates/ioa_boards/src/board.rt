@@ -48,9 +48,9 @@ pub trait Board<O: Origin, L: Ledger> {
         ensures again { IfOk result (λ b. b ≡ true → IsSeenAgain place.old place.new) }
         ensures same { told ≡ true → tells self.new ≡ tells self.old };
 
-    /// The commit of the proposal that is offered, if the board can tell quickly that it stands. If not, nothing is told
-    /// of it, nothing is done, and [`Board::attempt`] is for it. If the commit is made, the share counts one more, and
-    /// the proposal is taken out of its place.
+    /// The commit of the proposal that is offered, if the board can tell quickly that it stands. If not, nothing is
+    /// told of it, nothing is done, and [`Board::attempt`] is for it. If the commit is made, the share counts one more,
+    /// and the proposal is taken out of its place.
     fn attempt_quickly(
         &mut self,
         offer: &mut Option<Proposal<O>>,

@@ -177,10 +177,11 @@ impl<O: Origin> Book<O> {
         self.journal.commit(proposal, spare)
     }
 
-    /// Commits the proposal that is offered, if a quick test shows that it stands, and if the log needs no spare. If not,
-    /// nothing is told of it, nothing is done, and [`Book::commit`] commits or refuses it. The proposal is taken out of its
-    /// place if it is committed. The test takes constant time for each participant. It asks that no component stands twice
-    /// in the book, which is so in the book of a system, and that what was read is held still, the very configuration.
+    /// Commits the proposal that is offered, if a quick test shows that it stands, and if the log needs no spare. If
+    /// not, nothing is told of it, nothing is done, and [`Book::commit`] commits or refuses it. The proposal is taken
+    /// out of its place if it is committed. The test takes constant time for each participant. It asks that no
+    /// component stands twice in the book, which is so in the book of a system, and that what was read is held still,
+    /// the very configuration.
     #[inline(always)]
     pub fn commit_quickly(&mut self, offer: &mut Option<Proposal<O>>) -> Option<Committed<O>>
         ensures committed { IfSome result (λ c. IfSome offer.old

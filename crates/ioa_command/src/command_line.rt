@@ -7,8 +7,10 @@ ghost use Rattle.clap.specs.Values.{kind_of};
 ghost use Rattle.ioa_streams.specs.Parts.{lines_part, text_part};
 ghost use Rattle.ioa_monitor.specs.declared.findings.Findings.{Findings};
 ghost use Rattle.ioa_command.specs.declared.faults.TextFault.{TextFault};
-ghost use Rattle.ioa_command.specs.Command.{Ends, EndsAs, Executes, Follows, IsChecked, IsCheckedBy, IsDone, Prints, Tells};
-ghost use Rattle.ioa_command.specs.Command.{Reports, Shows, ShowsAsked, ShowsLine, ShowsWords, found_status, no_finding, output};
+ghost use Rattle.ioa_command.specs.Command.{Ends, EndsAs, Executes, Follows, IsChecked, IsCheckedBy, IsDone, Prints};
+ghost use Rattle.ioa_command.specs.Command.{Tells};
+ghost use Rattle.ioa_command.specs.Command.{Reports, Shows, ShowsAsked, ShowsLine, ShowsWords, found_status};
+ghost use Rattle.ioa_command.specs.Command.{no_finding, output};
 ghost use Rattle.ioa_command.specs.Command.{ExplainsAs, IsExplained, IsTraced, explained_status, memory_line};
 ghost use Rattle.ioa_explain.specs.declared.explaining.Finding.{Finding};
 ghost use Rattle.ioa_explain.specs.declared.explaining.Finding.TheVariants.{Refused};
@@ -41,16 +43,16 @@ pub const BAD_WORDS: u8 = 2;
 const FOUND: u8 = 4;
 
 /// The program (profile): `words` are those of the command line, its own name first, and choose what it does. `run`
-/// reads a text, runs its system by workers in this runtime, and writes the report. `explain` reads a text and tells what
-/// is wrong with it. `trace` reads a text, runs its system by one worker, and shows the run. `check` reads a text and a
-/// schedule, and says whether the schedule is an execution. `print` reads a text and writes it laid out anew. A text is
-/// read from the file that is named, else from `reader`. Returns the status: 0 if all was done, or if the help or the
-/// version for which the words ask was shown; 1 if the text or the schedule was refused; 2 if the words were refused; 3
-/// if memory ran out, what several workers left could not be put together, or reading or writing failed; and 4 if the
-/// report was written and has what `--fail-on` names.
-/// If it is 1, 2 or 3, `err` says why, but where `explain` says it on `out`; a fault of `err` is ignored. If there is no
-/// memory for what it has to say, the status is 3 and a line says so. The gate is called between the steps of `run`'s
-/// workers, so who watches the program sees how far it has come.
+/// reads a text, runs its system by workers in this runtime, and writes the report. `explain` reads a text and tells
+/// what is wrong with it. `trace` reads a text, runs its system by one worker, and shows the run. `check` reads a text
+/// and a schedule, and says whether the schedule is an execution. `print` reads a text and writes it laid out anew. A
+/// text is read from the file that is named, else from `reader`. Returns the status: 0 if all was done, or if the help
+/// or the version for which the words ask was shown; 1 if the text or the schedule was refused; 2 if the words were
+/// refused; 3 if memory ran out, what several workers left could not be put together, or reading or writing failed; and
+/// 4 if the report was written and has what `--fail-on` names. If it is 1, 2 or 3, `err` says why, but where `explain`
+/// says it on `out`; a fault of `err` is ignored. If there is no memory for what it has to say, the status is 3 and a
+/// line says so. The gate is called between the steps of `run`'s workers, so who watches the program sees how far it
+/// has come.
 pub fn command<'a, R: Files + Threads + Wait + Sync, G: Gate + Sync, I: Read, O: Out, E: Out>(
     rt: &R,
     alloc: Global,

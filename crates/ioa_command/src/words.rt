@@ -10,7 +10,8 @@ ghost use Rattle.clap.specs.declared.builder.value_parser.ValueParser.TheVariant
 ghost use Rattle.ioa_command.specs.CommandLine.{number_rule, word_rule, workers_rule, steps_rule, attempts_rule};
 ghost use Rattle.ioa_command.specs.CommandLine.{check_app, explain_app, print_app, run_app, trace_app, program_app};
 ghost use Rattle.ioa_command.specs.CommandLine.{fail_on_rule, format_rule};
-ghost use Rattle.ioa_command.specs.CommandLine.{Chooses, IsCheckOf, IsChosenBy, IsErrorOf, IsNumberOf, IsRunOf, IsTraceOf};
+ghost use Rattle.ioa_command.specs.CommandLine.{Chooses, IsCheckOf, IsChosenBy, IsErrorOf, IsNumberOf, IsRunOf};
+ghost use Rattle.ioa_command.specs.CommandLine.{IsTraceOf};
 ghost use Rattle.ioa_command.specs.CommandLine as spec;
 ghost use Rattle.ioa_command.specs.CommandLine.{AreLimitsOf, AreNumbersOf, name_of};
 

@@ -1,6 +1,7 @@
 //! What is held and recorded, and its commits.
 
-ghost use Rattle.std.specs.Prelude.{◌≡◌, ◌+◌, ◌%◌, ◌^◌, ◌<◌, ◌≤◌, if◌then◌else◌, [], ◌∷◌, ◌++◌, IfOk, IfErr, IfSome, IsSome, IsTrue, OnSome};
+ghost use Rattle.std.specs.Prelude.{◌≡◌, ◌+◌, ◌%◌, ◌^◌, ◌<◌, ◌≤◌, if◌then◌else◌, [], ◌∷◌, ◌++◌, IfOk, IfErr, IfSome};
+ghost use Rattle.std.specs.Prelude.{IsSome, IsTrue, OnSome};
 ghost use Rattle.std.specs.Prelude.{None, Some, length, nat_eq, nat_lt, slice_get};
 ghost use Rattle.std.specs.Option.{option_copied};
 ghost use Rattle.ioa_compose.specs.Composition.{component_names};
@@ -287,9 +288,9 @@ impl<O: Origin> Journal<O> {
         }
     }
 
-    /// Commits the proposal that is offered, if a quick test shows that it stands, and if the log needs no spare. If not,
-    /// nothing is told of it, nothing is done, and [`Journal::commit`] commits or refuses it. The proposal is taken out of
-    /// its place if it is committed.
+    /// Commits the proposal that is offered, if a quick test shows that it stands, and if the log needs no spare. If
+    /// not, nothing is told of it, nothing is done, and [`Journal::commit`] commits or refuses it. The proposal is
+    /// taken out of its place if it is committed.
     #[inline(always)]
     pub fn commit_quickly(&mut self, offer: &mut Option<Proposal<O>>) -> Option<Committed<O>>
         ensures committed { IfSome result (λ c. IfSome offer.old

@@ -144,8 +144,8 @@ fn add_component(
     }
 }
 
-/// The entries of all nodes that have to do with one of the components, in the order in which they come first. A node of
-/// a system is a component, and these are numbered from 0: so mostly its entry stands at its number.
+/// The entries of all nodes that have to do with one of the components, in the order in which they come first. A node
+/// of a system is a component, and these are numbered from 0: so mostly its entry stands at its number.
 fn slots_by_node(alloc: Global, components: &[Component]) -> Result<Vec<NodeSlots>, AllocError>
     ensures { IfOk result (λ v. AreEntries components.now components.now v.items) }
 {

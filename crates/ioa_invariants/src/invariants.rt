@@ -50,9 +50,9 @@ impl<'a> Model for Section<'a> {
 
 /// Makes the checked invariant that an invariant of a text is. Returns `Unknown` (20) if it reads a name that is not
 /// there: no node, state variable or channel, or a word that is no constant; `Sorts` (22) if its term is no truth value
-/// or a part of it has a wrong sort, or if `queue` has other terms than two numbers; `EmptyOfWhat` (32) if nothing gives
-/// a display its sort; `Memory` (3) if no memory is left. Costs time in proportion to the term and to the shapes of its
-/// parts, and for each node or channel that it names to how many there are.
+/// or a part of it has a wrong sort, or if `queue` has other terms than two numbers; `EmptyOfWhat` (32) if nothing
+/// gives a display its sort; `Memory` (3) if no memory is left. Costs time in proportion to the term and to the shapes
+/// of its parts, and for each node or channel that it names to how many there are.
 #[tactic(auto, unfolding(crate::specs::Checked::invariant_at))]
 pub fn check_invariant(
     alloc: Global,

@@ -8,8 +8,8 @@ ghost use Rattle.ioa_lines.specs.declared.fault.LineFault.TheVariants.{BadLine};
 ghost use Rattle.ioa_system.specs.Systems.{SystemParts};
 ghost use Rattle.ioa_tokens.specs.declared.token.Token.{Token};
 
-/// The tokens of a line, against the grammar: the action that is read is spelled and one of the system, and each that is
-/// spelled and one of the system is read.
+/// The tokens of a line, against the grammar: the action that is read is spelled and one of the system, and each that
+/// is spelled and one of the system is read.
 pub fn line_law()
     ensures { (s : SystemParts) (xs : List Token) (a : Action) → (line_action s xs ≡ Some a) ↔ SpellsLine s xs a }
 {}

@@ -23,9 +23,10 @@ use ioa_verdicts::{Verdict, verdicts};
 use std::alloc::Global;
 
 /// Puts out the report of a run that left this record, with an ending for each node, node 0 first (profile): the
-/// schedule, the nodes' variables, the channels' queues, what is left of the declared scripts, the endings, the commits,
-/// and the verdicts on the invariants along the schedule. Returns what the endings and the verdicts come to. All memory is
-/// asked for before anything goes out: as much for every report, and what the verdicts take if there are invariants.
+/// schedule, the nodes' variables, the channels' queues, what is left of the declared scripts, the endings, the
+/// commits, and the verdicts on the invariants along the schedule. Returns what the endings and the verdicts come to.
+/// All memory is asked for before anything goes out: as much for every report, and what the verdicts take if there are
+/// invariants.
 pub fn report<O: Out>(
     alloc: Global,
     system: &System,

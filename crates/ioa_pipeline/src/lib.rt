@@ -1,6 +1,6 @@
-//! Whole runs, from a text to its report; runs shown step by step; checks of schedules, from a text and a schedule to what
-//! is to be said of them; and texts laid out anew. Reading, checking, running, reporting and printing meet here and
-//! nowhere else.
+//! Whole runs, from a text to its report; runs shown step by step; checks of schedules, from a text and a schedule to
+//! what is to be said of them; and texts laid out anew. Reading, checking, running, reporting and printing meet here
+//! and nowhere else.
 //!
 //! **A crate of its own**, since it alone stands on all five.
 //!

@@ -61,7 +61,8 @@ impl From<AllocError> for PrintFault {
     }
 }
 
-/// Puts out a text that spells the same source, laid out anew. Comments are not kept. The text is read, and not checked.
+/// Puts out a text that spells the same source, laid out anew. Comments are not kept. The text is read, and not
+/// checked.
 pub fn print_text<O: Out>(alloc: Global, text: &str, out: &mut O) -> Result<(), PrintFault>
     requires { O.failed out.old ≡ false }
     ensures written { PrintsAnew text.now (O.bytes out.old) (O.bytes out.new) (O.failed out.new) result }

@@ -73,7 +73,8 @@ impl From<RunFault> for TraceFault {
 }
 
 /// Runs the system that a text describes, with these options, and shows the run in a format. With the options of one
-/// worker it is the run that [`run_system`](crate::run_system) reports. `Memory` (3) may come when a beginning went out.
+/// worker it is the run that [`run_system`](crate::run_system) reports. `Memory` (3) may come when a beginning went
+/// out.
 #[tactic(auto, using(crate::proofs::Shown::runs))]
 pub fn trace_text<R: Threads + Wait + Sync, O: Out>(
     rt: &R,

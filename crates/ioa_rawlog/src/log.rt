@@ -1,6 +1,7 @@
-//! The log (profile). To a clause it is the list of its items. Inside it is a row of blocks of 64, all full but the last,
-//! and only a push at a block's edge links another.
-ghost use Rattle.core.specs.Prelude.{◌≡◌, ◌↔◌, ℕ, ◌+◌, ◌%◌, ◌^◌, ◌<◌, ◌≤◌, if◌then◌else◌, [], ◌∷◌, ◌++◌, length, slice_get, OnOk, OnErr, IfOk, IfErr, IsErr, IsTrue};
+//! The log (profile). To a clause it is the list of its items. Inside it is a row of blocks of 64, all full but the
+//! last, and only a push at a block's edge links another.
+ghost use Rattle.core.specs.Prelude.{◌≡◌, ◌↔◌, ℕ, ◌+◌, ◌%◌, ◌^◌, ◌<◌, ◌≤◌, if◌then◌else◌, [], ◌∷◌, ◌++◌, length};
+ghost use Rattle.core.specs.Prelude.{slice_get, OnOk, OnErr, IfOk, IfErr, IsErr, IsTrue};
 ghost use Rattle.core.specs.List.{AllByRecursion};
 ghost use Rattle.core.specs.Option.{option_copied};
 ghost use Rattle.core.specs.Bool.{nat_eq};

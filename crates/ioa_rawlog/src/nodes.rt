@@ -1,6 +1,6 @@
-//! Nodes that lie in blocks of their own, each with a pointer to the next. Only this module follows raw pointers. What is
-//! said here is form, with no law of automata and no rule of the profile: beside its two pointers a row owns every node
-//! (`also_owns`), and a `&` to it holds a `&` to every item and every pointer (`also_shares`).
+//! Nodes that lie in blocks of their own, each with a pointer to the next. Only this module follows raw pointers. What
+//! is said here is form, with no law of automata and no rule of the profile: beside its two pointers a row owns every
+//! node (`also_owns`), and a `&` to it holds a `&` to every item and every pointer (`also_shares`).
 ghost use Rattle.core.specs.Prelude.{◌≡◌, List, length};
 ghost use Rattle.ioa_rawlog.specs.Links.{Link, links_of, IsChained};
 ghost use Rattle.ioa_rawlog.specs.Ownership.{nodes_own, nodes_lent};

@@ -1,5 +1,5 @@
-//! A block that waits to be linked (profile). To a clause all spares are one value, so `spare ≡ None` says whether one is
-//! there. The only function of the crate that asks for memory is here.
+//! A block that waits to be linked (profile). To a clause all spares are one value, so `spare ≡ None` says whether one
+//! is there. The only function of the crate that asks for memory is here.
 use crate::nodes::Node;
 use std::alloc::{AllocError, Global};
 use std::marker::Model;

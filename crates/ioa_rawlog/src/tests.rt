@@ -1,5 +1,5 @@
-//! What no clause says: that a push takes no memory, that a long log is dropped without recursion, and that each generic
-//! function works at a concrete type.
+//! What no clause says: that a push takes no memory, that a long log is dropped without recursion, and that each
+//! generic function works at a concrete type.
 use crate::{RawLog, Spare};
 use std::alloc::{AllocError, Global};
 use std::test::Fail;

@@ -1,4 +1,5 @@
-//! Laws of the values that the runtime has, and no code: numbers lie in 64 bits, and sets and maps ascend, at any depth.
+//! Laws of the values that the runtime has, and no code: numbers lie in 64 bits, and sets and maps ascend, at any
+//! depth.
 //!
 //! **A crate of its own**, since laws of texts and of runs speak of values that the runtime may not have, and few need
 //! to know that it keeps this of its own.

@@ -17,11 +17,11 @@ use ioa_transitions::Entry;
 use std::alloc::Global;
 use std::sync::Arc;
 
-/// Whether the lines of a text are an execution of a system (Lynch 8.1): each line that has tokens spells an action, and
-/// one after another they are joint steps from the start. If not, the first line that spells none is told, `BadLine`
-/// (61); if each does, the first action that is no step, `NotStep` (60), or of which the runtime can't tell, `Undefined`
-/// (1) or `Range` (2). `Memory` (3) if memory runs out. The lines are read once, and no state is kept but the last: so
-/// what it takes of memory does not grow with their number.
+/// Whether the lines of a text are an execution of a system (Lynch 8.1): each line that has tokens spells an action,
+/// and one after another they are joint steps from the start. If not, the first line that spells none is told,
+/// `BadLine` (61); if each does, the first action that is no step, `NotStep` (60), or of which the runtime can't tell,
+/// `Undefined` (1) or `Range` (2). `Memory` (3) if memory runs out. The lines are read once, and no state is kept but
+/// the last: so what it takes of memory does not grow with their number.
 #[tactic(auto, unfolding(crate::specs::Schedules::schedule_answer))]
 pub fn check_schedule(alloc: Global, system: &System, text: &str) -> Result<(), ScheduleFault>
     ensures exact { Answers ScheduleFault.Memory (λ u. u) result (schedule_answer system.now text.now) }
@@ -70,8 +70,8 @@ fn take(alloc: Global, course: &mut Course, action: Action) -> Result<(), StepFa
     course.advance(alloc, &entry)
 }
 
-/// The refusal of lines of which one has a fault that is no fault of reading: that fault, unless a line behind it spells
-/// no action.
+/// The refusal of lines of which one has a fault that is no fault of reading: that fault, unless a line behind it
+/// spells no action.
 fn refusal(
     alloc: Global,
     system: &System,

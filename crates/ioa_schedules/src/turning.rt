@@ -1,6 +1,7 @@
 //! The turns of a block that runs.
 
-ghost use Rattle.std.specs.Prelude.{◌≡◌, ◌<◌, IfErr, IfOk, IfSome, IsTrue, MatchOption, MatchResult, None, OnErr, OnOk, Ok};
+ghost use Rattle.std.specs.Prelude.{◌≡◌, ◌<◌, IfErr, IfOk, IfSome, IsTrue, MatchOption, MatchResult, None, OnErr, OnOk};
+ghost use Rattle.std.specs.Prelude.{Ok};
 ghost use Rattle.std.specs.Prelude.{Some, false, length, true};
 ghost use Rattle.ioa_values.specs.Outcome.{Answers, and_then};
 ghost use Rattle.ioa_terms.specs.PlainTerm.{fire, terms_of};

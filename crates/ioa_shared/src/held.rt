@@ -88,8 +88,8 @@ impl<O: Origin, L: Ledger> Held<O, L> {
         Ok((held, shares))
     }
 
-    /// Whether this is the system with which the book was opened, by its number, in constant time. It is false of another
-    /// system, and also of an equal one that was given another number.
+    /// Whether this is the system with which the book was opened, by its number, in constant time. It is false of
+    /// another system, and also of an equal one that was given another number.
     pub fn is_opened_with(&self, system: &SharedOf<O, System, Global>) -> bool
         ensures { IsTrue result → BeginsAt (shared_of_value system.now) self.now }
     {

@@ -6,7 +6,8 @@ ghost use Rattle.ioa_sharing.specs.Shared.{maker_name};
 ghost use Rattle.ioa_shared.specs.Attempts.{commits};
 ghost use Rattle.ioa_shared.specs.Looks.{pass_after, told_again};
 ghost use Rattle.ioa_shared.specs.Passes.{risen_by_look};
-ghost use Rattle.ioa_shared.specs.SomeBook.{BeginsSome, FinishesSome, LeavesSome, LooksAtSome, MissesInSome, TakesInSome};
+ghost use Rattle.ioa_shared.specs.SomeBook.{BeginsSome, FinishesSome, LeavesSome, LooksAtSome, MissesInSome};
+ghost use Rattle.ioa_shared.specs.SomeBook.{TakesInSome};
 
 use crate::finish::Unfinished;
 use crate::held::Held;
@@ -32,7 +33,8 @@ pub struct Shared<O: Origin, L: Ledger> {
 }
 
 impl<O: Origin, L: Ledger> Shared<O, L> {
-    /// Whether this is the system with which the book was opened, as of [`Held::is_opened_with`], while the lock is held.
+    /// Whether this is the system with which the book was opened, as of [`Held::is_opened_with`], while the lock is
+    /// held.
     pub fn is_opened_with(&self, rt: &impl Wait, system: &SharedOf<O, System, Global>) -> bool
         ensures { IsTrue result → BeginsSome (shared_of_value system.now) }
     {

@@ -210,7 +210,8 @@ fn call_of_two(
 ) -> Result<Box<Typed>, Refusal>
     ensures { Answers Refusal.Memory (λ t. typed_of t.value) result
         (and_then (spec.two_parts kind (spec.sorting view.now (term_of a.now)) (spec.sorting view.now (term_of b.now)))
-        (λ p. Ok (typed (plain.call name.now callee (plain.term p.left (plain.term p.right plain.no_terms))) p.whole))) }
+        (λ p. Ok (typed (plain.call name.now callee (plain.term p.left (plain.term p.right plain.no_terms)))
+        p.whole))) }
 {
     let pair = two_parts(alloc, view, a, b, kind)?;
     Ok(call_of_pair(alloc, name, callee, pair)?)

@@ -37,8 +37,8 @@ fn rule_fired<'a>(rules: &'a Rules, firing: &Firing<(), (), ()>) -> Option<(usiz
     }
 }
 
-/// The number of the rule that a firing names, and the shapes of the arguments that it takes. `Unknown` (20) if it names
-/// no entry.
+/// The number of the rule that a firing names, and the shapes of the arguments that it takes. `Unknown` (20) if it
+/// names no entry.
 #[tactic(auto, unfolding(crate::specs::Firings::entry_fired))]
 fn shapes_fired<'a>(
     rules: &'a Rules,

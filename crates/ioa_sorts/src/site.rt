@@ -33,8 +33,8 @@ impl<'a> StatementSite<'a> {
         }
     }
 
-    /// A schedule block, which may assign the first `variables` names in view, and fire the actions of these rules. The first
-    /// `all_variables` names are its variables and those of the state.
+    /// A schedule block, which may assign the first `variables` names in view, and fire the actions of these rules. The
+    /// first `all_variables` names are its variables and those of the state.
     pub fn block(
         view: &'a View<'a>,
         variables: usize,

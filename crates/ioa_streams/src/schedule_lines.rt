@@ -6,8 +6,8 @@ ghost use Rattle.ioa_streams.specs.ScheduleParts as spec;
 /// How a report begins.
 const REPORT: &[u8] = b"schedule ";
 
-/// The lines of a schedule (profile). Of a report, which begins with `schedule `, they are the lines behind the first one
-/// that begin with a digit, up to the first that does not. Of any other text they are all of it.
+/// The lines of a schedule (profile). Of a report, which begins with `schedule `, they are the lines behind the first
+/// one that begin with a digit, up to the first that does not. Of any other text they are all of it.
 pub fn schedule_part(text: &str) -> &str
     ensures { result.now ≡ spec.schedule_part text.now }
 {

@@ -13,8 +13,8 @@ use std::marker::Model;
 /// As many bytes as a word can have without memory of its own.
 const SHORT: usize = 16;
 
-/// A name: of an automaton, an action, a variable or a constant. A contract sees its bytes. A short one lies in the word
-/// itself, so that it takes no memory, and neither does its copy.
+/// A name: of an automaton, an action, a variable or a constant. A contract sees its bytes. A short one lies in the
+/// word itself, so that it takes no memory, and neither does its copy.
 #[derive(Debug, Drop)]
 pub struct Word {
     text: WordText,

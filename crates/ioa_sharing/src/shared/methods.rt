@@ -38,7 +38,8 @@ impl Maker {
         }
     }
 
-    /// Puts a value in the place of a shared one, with a number as of [`Maker::share`]. The one that was there comes out.
+    /// Puts a value in the place of a shared one, with a number as of [`Maker::share`]. The one that was there comes
+    /// out.
     pub fn exchange<T: Drop, A: Allocator>(
         &mut self,
         place: &mut Shared<T, A>,
