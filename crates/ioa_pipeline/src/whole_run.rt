@@ -19,6 +19,7 @@ use ioa_text_reader::FrontFault;
 use ioa_workers::run;
 use std::alloc::Global;
 use std::fmt;
+use std::mem::ManuallyDrop;
 use std::sync::{Arc, Wait};
 use std::thread::Threads;
 use thiserror::Error;
@@ -105,7 +106,10 @@ pub fn run_system<R: Threads + Wait + Sync, G: Gate + Sync, O: Out>(
     ensures alone { IfErr result (λ f. IsFaultOfWorkers options.now.workers f) }
 {
     let (system, record, endings) = run_of(rt, alloc, text, options, gate)?;
-    write_report(alloc, &system, &record, &endings, out)
+    let written = write_report(alloc, &system, &record, &endings, out);
+    // the program ends now, and to free what the run left would cost as much as many of its steps
+    let _left = ManuallyDrop::new((system, record, endings));
+    written
 }
 
 /// Writes the report of a run that left this record and these endings.
