@@ -1,25 +1,21 @@
 //! Where names stand first.
 
+use indexmap::IndexMap;
 use ioa_source::{Declaration, Entry, Transition, Variable};
-use ioa_system::Scope;
 use ioa_terms::Word;
 use std::alloc::{AllocError, Global};
 
 /// Names, each with the position at which it stands first.
 #[derive(Drop)]
 pub(crate) struct NameIndex {
-    /// The names, once each.
-    names: Scope,
-    /// The position of each of them.
-    positions: Vec<usize>,
+    positions: IndexMap<Word, usize>,
 }
 
 impl NameIndex {
     /// No names.
     pub(crate) fn new(alloc: Global) -> Self {
         NameIndex {
-            names: Scope::new(alloc),
-            positions: Vec::new(alloc),
+            positions: IndexMap::new(alloc),
         }
     }
 
@@ -30,18 +26,16 @@ impl NameIndex {
         name: &Word,
         position: usize,
     ) -> Result<bool, AllocError> {
-        let fresh = self.names.declare(name.try_copy(alloc)?)?;
-        if fresh {
-            self.positions.push(position)?;
+        if self.positions.get(name).is_some() {
+            return Ok(false);
         }
-        Ok(fresh)
+        self.positions.insert(name.try_copy(alloc)?, position)?;
+        Ok(true)
     }
 
     /// The position at which a name stands first.
     pub(crate) fn position_of(&self, name: &Word) -> Option<usize> {
-        let slot = self.names.slot_of_word(name)?;
-        let position = self.positions.get(slot)?;
-        Some(*position)
+        self.positions.get(name).copied()
     }
 
     /// Whether a name stands before a position.
