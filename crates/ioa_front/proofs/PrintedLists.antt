@@ -7,7 +7,7 @@ use Rattle.ioa_tokens.specs.declared.mark.Mark.TheVariants as mark
 use Rattle.ioa_tokens.specs.Written.{AreTokens}
 use Rattle.ioa_cursor.specs.Lists.{Several, SeparatedBy, Section, Optional}
 use Rattle.ioa_cursor.specs.Lists as lists
-use Rattle.ioa_text_reader.specs.Grammar.{InBrackets, bare, hollow, filled}
+use Rattle.ioa_part_reader.specs.Grammar.{InBrackets, bare, hollow, filled}
 use Rattle.ioa_term_reader.proofs.PrintedGood.{AreGood, tokens_joined}
 use Rattle.ioa_front.specs.Spelling.{more_separated_spelling, separated_spelling, joined_spelling, bracketed_spelling, section_spelling, optional_spelling}
 

@@ -6,9 +6,9 @@ use Rattle.ioa_tokens.specs.declared.mark.Mark.TheVariants as mark
 use Rattle.ioa_source.specs.Sides.{SourceTarget as Target, SourceStatement as Statement, SourceStatements as Statements, SourceArms as Arms, SourceFiring as Firing}
 use Rattle.ioa_term_reader.specs.Spelling.{spelling}
 use Rattle.ioa_term_reader.proofs.PrintedGood.{tokens_joined}
-use Rattle.ioa_text_reader.specs.declared.statement.Context.{Context}
-use Rattle.ioa_text_reader.specs.Grammar as grammar
-use Rattle.ioa_text_reader.specs.Grammar.{SpellsTarget, SpellsFiring, SpellsStatement, SpellsArms, SpellsRest, SpellsStatements, SpellsLow, SpellsBlock}
+use Rattle.ioa_part_reader.specs.declared.statement.Context.{Context}
+use Rattle.ioa_part_reader.specs.Grammar as grammar
+use Rattle.ioa_part_reader.specs.Grammar.{SpellsTarget, SpellsFiring, SpellsStatement, SpellsArms, SpellsRest, SpellsStatements, SpellsLow, SpellsBlock}
 use Rattle.ioa_front.specs.Spelling.{target_spelling, firing_spelling, else_spelling, between_do_and_od, statement_spelling, statements_spelling, more_statements_spelling, arms_spelling, more_arms_spelling, list_spelling, block_spelling}
 use Rattle.ioa_front.proofs.PrintedLists.{Prints}
 use Rattle.ioa_front.proofs.PrintedDeclared.{inner_term, outer_term, call_prints, kind_again, kind_good}

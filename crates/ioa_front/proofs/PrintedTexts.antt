@@ -10,9 +10,9 @@ use Rattle.ioa_cursor.specs.Lists.{Several, SeparatedBy, SeveralLists, Section}
 use Rattle.ioa_term_reader.specs.Grammar.{bracket_limit, SpellsTerm}
 use Rattle.ioa_term_reader.specs.Spelling.{spelling}
 use Rattle.ioa_term_reader.proofs.PrintedGood.{tokens_joined}
-use Rattle.ioa_text_reader.specs.declared.statement.Context.TheVariants.{Effect}
-use Rattle.ioa_text_reader.specs.Grammar as grammar
-use Rattle.ioa_text_reader.specs.Grammar.{SpellsWord, SpellsVariable, SpellsCall, SpellsGuard, SpellsLow, SpellsTransition, SpellsGroup, SpellsBlock, schedule_with, SpellsSchedule, SpellsHead, SpellsForm, SpellsDeclaration, SpellsPlacement, SpellsInvariant, Spells}
+use Rattle.ioa_part_reader.specs.declared.statement.Context.TheVariants.{Effect}
+use Rattle.ioa_part_reader.specs.Grammar as grammar
+use Rattle.ioa_part_reader.specs.Grammar.{SpellsWord, SpellsVariable, SpellsCall, SpellsGuard, SpellsLow, SpellsTransition, SpellsGroup, SpellsBlock, schedule_with, SpellsSchedule, SpellsHead, SpellsForm, SpellsDeclaration, SpellsPlacement, SpellsInvariant, Spells}
 use Rattle.ioa_front.specs.Spelling.{separated_spelling, joined_spelling, bracketed_spelling, section_spelling, optional_spelling, word_spelling, sort_spelling, declared_spelling, call_spelling, one_call_spelling, calls_spelling, entry_spelling, variable_spelling, states_spelling, transition_spelling, list_spelling, block_spelling, schedule_spelling, form_spelling, declaration_spelling, placement_spelling, invariant_spelling, text_spelling}
 use Rattle.ioa_front.proofs.PrintedLists.{Prints, several_prints, separated_prints, optional_prints, section_prints, brackets_good}
 use Rattle.ioa_front.proofs.PrintedDeclared.{outer_term, sort_prints, word_prints, declared_prints, call_prints, kind_again, kind_good, entries_print}

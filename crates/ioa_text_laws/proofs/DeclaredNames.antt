@@ -10,8 +10,8 @@ use Rattle.ioa_source.specs.PlainText.{enumeration, tuple_of, type_named, automa
 use Rattle.ioa_source.specs.Sides.{SourceDeclaration, SourceDeclared, SourceEntry, SourceForm, SourceText}
 use Rattle.ioa_cursor.specs.Lists.{ListsSeparatedBy, SeparatedBy, Several}
 use Rattle.ioa_cursor.specs.Lists as lists
-use Rattle.ioa_text_reader.specs.Grammar as grammar
-use Rattle.ioa_text_reader.specs.Grammar.{Spells, SpellsDeclaration, SpellsDeclared, SpellsForm, SpellsWord}
+use Rattle.ioa_part_reader.specs.Grammar as grammar
+use Rattle.ioa_part_reader.specs.Grammar.{Spells, SpellsDeclaration, SpellsDeclared, SpellsForm, SpellsWord}
 use Rattle.ioa_text_reader.specs.Texts.{TextSpells, bare}
 use Rattle.ioa_front.specs.Spelling.{declaration_spelling, entry_spelling, form_spelling, head_spelling, joined_spelling, more_separated_spelling, schedule_spelling, separated_spelling, signature_spelling, states_spelling, system_spelling, text_spelling, transitions_spelling, word_spelling}
 use Rattle.ioa_front.proofs.PrintedGroups.{IsFilled, mapped_filled}

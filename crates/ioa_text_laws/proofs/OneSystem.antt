@@ -6,7 +6,7 @@ use Rattle.ioa_tokens.specs.declared.token.Token.{Token}
 use Rattle.ioa_tokens.specs.Tokens.{tokens}
 use Rattle.ioa_source.specs.Sides.{SourceText}
 use Rattle.ioa_system.specs.Systems.{SystemParts}
-use Rattle.ioa_text_reader.specs.Grammar.{Spells}
+use Rattle.ioa_part_reader.specs.Grammar.{Spells}
 use Rattle.ioa_text_reader.specs.Texts.{TextSpells, bare}
 use Rattle.ioa_check.specs.Checking.{system_of}
 use Rattle.ioa_check.specs.Systems.{IsSystemOf}

@@ -11,9 +11,9 @@ use Rattle.ioa_tokens.specs.Tokens.{tokens}
 use Rattle.ioa_source.specs.TextView.{text_of}
 use Rattle.ioa_source.specs.Sides.{SourceText}
 use Rattle.ioa_source.proofs.Sets.{Option-set, text_set}
-use Rattle.ioa_text_reader.specs.Grammar.{Spells}
+use Rattle.ioa_part_reader.specs.Grammar.{Spells}
 use Rattle.ioa_cursor.specs.Reading.{expect, skip, collect, bind}
-use Rattle.ioa_text_reader.specs.Reading.{whole, all_declarations}
+use Rattle.ioa_part_reader.specs.Reading.{whole, all_declarations}
 use Rattle.ioa_text_reader.specs.Parsing.{ReadsNothing, Parses}
 use Rattle.ioa_text_reader.specs.Texts.{length_limit, bare, TextSpells, StandsInText, is_exact}
 use Rattle.ioa_text_reader.specs.declared.fault.FrontFault.{FrontFault}

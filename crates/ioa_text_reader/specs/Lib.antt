@@ -1,10 +1,4 @@
 -- what the contracts of this crate and of those above it cite
-pub mod Built
 pub mod FaultText
-pub mod Grammar
-pub mod Groups
 pub mod Parsing
-pub mod Reading
 pub mod Texts
--- the steps of reading, which the attributes `unfolding(..)` name
-pub use Rattle.ioa_cursor.specs.Reading.{bind, choose}

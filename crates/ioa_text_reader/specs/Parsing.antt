@@ -8,7 +8,7 @@ use Rattle.ioa_cursor.specs.declared.cursor.Unread.{Unread}
 use Rattle.ioa_cursor.specs.declared.cursor.Unread.TheVariants as unread
 use Rattle.ioa_cursor.specs.Outcome.{offset_of}
 use Rattle.ioa_source.specs.TextView.{text_of}
-use Rattle.ioa_text_reader.specs.Reading.{whole}
+use Rattle.ioa_part_reader.specs.Reading.{whole}
 use Rattle.ioa_text_reader.specs.Texts.{length_limit, bare}
 use Rattle.ioa_text_reader.specs.declared.fault.FrontFault.{FrontFault}
 use Rattle.ioa_text_reader.specs.declared.fault.FrontFault.TheVariants.{Empty, BadCharacter, Unexpected}

@@ -5,7 +5,7 @@ use Rattle.ioa_tokens.specs.declared.token.LocatedToken.{LocatedToken}
 use Rattle.ioa_tokens.specs.declared.fault.CutFault.TheVariants as cut
 use Rattle.ioa_tokens.specs.Tokens.{tokens}
 use Rattle.ioa_source.specs.Sides.{SourceText}
-use Rattle.ioa_text_reader.specs.Grammar.{Spells}
+use Rattle.ioa_part_reader.specs.Grammar.{Spells}
 use Rattle.ioa_text_reader.specs.declared.fault.FrontFault.{FrontFault}
 use Rattle.ioa_text_reader.specs.declared.fault.FrontFault.TheVariants.{Empty, BadCharacter, Unexpected}
 use Rattle.ioa_text_reader.specs.declared.fault.FrontFault.TheVariants.{NumberTooLarge, TooDeep, TooLong}

@@ -1,21 +1,14 @@
-//! Texts: from a text to its tree, one small function for each production, or the refusal with its place.
+//! Texts: from a text to its tree, or the refusal with its place.
 //!
-//! **A crate of its own**, since the grammar above terms has no cycle but that of statements.
+//! **A crate of its own**, and small, since a wrong body is tried in it, over a check of this crate.
 //!
 //! **Must not know**: shapes, and programs.
 #![tactic(auto)]
 
-mod automaton;
-mod built;
-mod call;
-mod declared;
 mod fault;
 mod parsing;
-mod signature;
-mod sort;
 mod source;
-mod statement;
-mod system;
+mod whole;
 
 pub use fault::FrontFault;
 pub use ioa_tokens::LeftOut;

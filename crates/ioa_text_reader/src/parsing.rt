@@ -1,7 +1,7 @@
 //! From a text to its source.
 
 ghost use Rattle.std.specs.Prelude.{◌≡◌, ◌<◌, ◌≤◌, ◌⊎◌, List, length, true, IfOk, IfErr, MatchResult};
-ghost use Rattle.ioa_text_reader.specs.Grammar.{Spells};
+ghost use Rattle.ioa_part_reader.specs.Grammar.{Spells};
 ghost use Rattle.ioa_text_reader.specs.Parsing.{Parses, refusal_of};
 ghost use Rattle.ioa_text_reader.specs.Texts.{length_limit, TextSpells, StandsInText, is_exact};
 ghost use Rattle.ioa_text_reader.specs.declared.fault.FrontFault.{FrontFault};
@@ -11,7 +11,7 @@ ghost use Rattle.ioa_tokens.specs.declared.token.Token.{Token};
 
 use crate::fault::FrontFault;
 use crate::source::Source;
-use crate::system::whole;
+use crate::whole::whole;
 use ioa_cursor::{Tokens, Unread, offset_of};
 use ioa_tokens::{CutFault, LocatedToken, tokens};
 use std::alloc::Global;
