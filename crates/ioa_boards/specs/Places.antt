@@ -2,11 +2,11 @@
 use Rattle.std.specs.Prelude.{◌≡◌, ◌⊎◌, ℤ, Option, Some, None, Result, Ok, Err}
 use Rattle.ioa_book.specs.Looks.{PlainSnapshot}
 use Rattle.ioa_commits.specs.Books.{PlainBook}
-use Rattle.ioa_shared.specs.Looks.{view_answer}
-use Rattle.ioa_shared.specs.Passes.{PlainPass, risen_by_look}
+use Rattle.ioa_passes.specs.Looks.{view_answer}
+use Rattle.ioa_passes.specs.Passes.{PlainPass, risen_by_look}
 use Rattle.ioa_shared.specs.SomeBook.{LooksAtSome}
-use Rattle.ioa_shared.specs.declared.outcome.ViewFault.{ViewFault}
-use Rattle.ioa_shared.specs.declared.outcome.ViewFault.TheVariants.{Memory}
+use Rattle.ioa_passes.specs.declared.outcome.ViewFault.{ViewFault}
+use Rattle.ioa_passes.specs.declared.outcome.ViewFault.TheVariants.{Memory}
 
 -- a look at some lawful book is in its place, and the pass has risen to it
 pub record SeesSome (p : PlainPass) (n : ℤ) (place : Option PlainSnapshot) (q : PlainPass) : Type 0 where

@@ -2,8 +2,9 @@
 
 use crate::place::Place;
 use ioa_book::Proposal;
+use ioa_held::{Missed, Share, Taken};
+use ioa_passes::{Pass, ViewFault};
 use ioa_rawlog::Spare;
-use ioa_shared::{Missed, Pass, Share, Taken, ViewFault};
 use ioa_sharing::{Origin, SharedOf};
 use ioa_system::System;
 use ioa_transitions::Entry;
@@ -16,8 +17,8 @@ pub trait Board<O: Origin, L: Ledger> {
     ghost use Rattle.std.specs.Prelude.{◌≡◌, ◌+◌, Bool, IfErr, IfOk, IfSome, IsSome, IsTrue, None, OnSome, Some, true};
     ghost use Rattle.ioa_boards.specs.Places.{IsSeenAgain, Puts, PutsSome};
     ghost use Rattle.ioa_commits.specs.Books.{PlainBook};
-    ghost use Rattle.ioa_shared.specs.Attempts.{IsMissed, IsTaken, commits};
-    ghost use Rattle.ioa_shared.specs.Openings.{BeginsAt};
+    ghost use Rattle.ioa_held.specs.Attempts.{IsMissed, IsTaken, commits};
+    ghost use Rattle.ioa_held.specs.Openings.{BeginsAt};
     ghost use Rattle.ioa_shared.specs.SomeBook.{MissesInSome, TakesInSome};
     ghost use Rattle.ioa_sharing.specs.Named.{shared_of_value};
 

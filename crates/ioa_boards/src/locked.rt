@@ -2,14 +2,16 @@
 
 ghost use Rattle.std.specs.Prelude.{◌≡◌, ◌+◌, IfErr, IfOk, IfSome, IsSome, None, OnSome, Some, true};
 ghost use Rattle.ioa_boards.specs.Places.{IsSeenAgain, PutsSome};
-ghost use Rattle.ioa_shared.specs.Attempts.{commits};
+ghost use Rattle.ioa_held.specs.Attempts.{commits};
 ghost use Rattle.ioa_shared.specs.SomeBook.{MissesInSome, TakesInSome};
 
 use crate::board::Board;
 use crate::place::Place;
 use ioa_book::Proposal;
+use ioa_held::{Missed, Share, Taken};
+use ioa_passes::{Pass, ViewFault};
 use ioa_rawlog::Spare;
-use ioa_shared::{Missed, Pass, Share, Shared, Taken, ViewFault};
+use ioa_shared::Shared;
 use ioa_sharing::{Origin, SharedOf};
 use ioa_system::System;
 use ioa_transitions::Entry;

@@ -2,16 +2,18 @@
 
 ghost use Rattle.std.specs.Prelude.{◌≡◌, ◌+◌, IfErr, IfOk, IfSome, IsSome, IsTrue, None, OnSome, Some, true};
 ghost use Rattle.ioa_boards.specs.Places.{IsSeenAgain, Puts, PutsSome};
-ghost use Rattle.ioa_shared.specs.Attempts.{IsMissed, IsTaken, commits};
-ghost use Rattle.ioa_shared.specs.Openings.{BeginsAt};
+ghost use Rattle.ioa_held.specs.Attempts.{IsMissed, IsTaken, commits};
+ghost use Rattle.ioa_held.specs.Openings.{BeginsAt};
 ghost use Rattle.ioa_shared.specs.SomeBook.{MissesInSome, TakesInSome};
 ghost use Rattle.ioa_sharing.specs.Named.{shared_of_value};
 
 use crate::board::Board;
 use crate::place::Place;
 use ioa_book::Proposal;
+use ioa_held::{Missed, Share, Taken};
+use ioa_passes::{Pass, ViewFault};
 use ioa_rawlog::Spare;
-use ioa_shared::{Missed, Pass, Share, Solo, Taken, ViewFault};
+use ioa_shared::Solo;
 use ioa_sharing::{Origin, SharedOf};
 use ioa_system::System;
 use ioa_transitions::Entry;

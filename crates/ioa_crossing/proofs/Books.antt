@@ -8,9 +8,9 @@ use denote.Param.Send.{IsSend, IsSync, sendable, shr_send}
 use Rattle.std.specs.Prelude.{ℕ}
 use Rattle.std.proofs.Crossing.{crosses}
 use Rattle.ioa_shared.specs.contracts.shared.Shared as Shared
-use Rattle.ioa_shared.specs.contracts.held.Held as Held
-use Rattle.ioa_shared.specs.contracts.pass.Pass as Pass
-use Rattle.ioa_shared.specs.contracts.share.Share as Share
+use Rattle.ioa_held.specs.contracts.held.Held as Held
+use Rattle.ioa_passes.specs.contracts.pass.Pass as Pass
+use Rattle.ioa_held.specs.contracts.share.Share as Share
 use Rattle.ioa_book.specs.contracts.book.Book as Book
 use Rattle.std.specs.declared.sync.ledger.Ledger as Ledger
 use Rattle.std.proofs.sync.ledger.Book.TheSendSync as Total

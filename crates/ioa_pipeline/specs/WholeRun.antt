@@ -5,9 +5,9 @@ use Rattle.std.specs.Io.KnownBytes.{Keeps, Appends}
 use Rattle.ioa_text_reader.specs.FaultText.{front_fault_text}
 use Rattle.ioa_check.specs.Faults.{check_fault_text}
 use Rattle.ioa_system.specs.Systems.{SystemParts}
-use Rattle.ioa_shared.specs.declared.finish.FinishFault.{FinishFault}
-use Rattle.ioa_shared.specs.declared.finish.FinishFault.TheVariants as finish
-use Rattle.ioa_shared.specs.Texts.{finish_fault_text}
+use Rattle.ioa_held.specs.declared.finish.FinishFault.{FinishFault}
+use Rattle.ioa_held.specs.declared.finish.FinishFault.TheVariants as finish
+use Rattle.ioa_held.specs.Texts.{finish_fault_text}
 use Rattle.ioa_record.specs.declared.ending.Ending.{Ending}
 use Rattle.ioa_record.specs.declared.record.Record.{Record}
 use Rattle.ioa_pipeline.specs.declared.whole_run.RunFault.{RunFault}

@@ -1,9 +1,2 @@
 -- what the contracts of this crate and of those above it cite
-pub mod Passes
-pub mod Looks
-pub mod Attempts
-pub mod Finish
-pub mod Openings
-pub mod Texts
 pub mod SomeBook
-pub mod PassLaws

@@ -9,15 +9,15 @@ use Rattle.ioa_book.specs.Looks.{PlainSnapshot}
 use Rattle.ioa_receipts.specs.Receipts.{PlainReceipts}
 use Rattle.ioa_record.specs.declared.record.Record.{Record}
 use Rattle.ioa_system.specs.Systems.{SystemParts}
-use Rattle.ioa_shared.specs.Attempts.{IsMissed, IsTaken}
-use Rattle.ioa_shared.specs.Finish.{IsFinished, IsUnfinished}
-use Rattle.ioa_shared.specs.Looks.{view_answer}
-use Rattle.ioa_shared.specs.Openings.{BeginsAt}
-use Rattle.ioa_shared.specs.Passes.{PlainPass}
-use Rattle.ioa_shared.specs.declared.finish.FinishFault.{FinishFault}
-use Rattle.ioa_shared.specs.declared.outcome.Miss.{Miss}
-use Rattle.ioa_shared.specs.declared.outcome.ViewFault.{ViewFault}
-use Rattle.ioa_shared.specs.declared.outcome.ViewFault.TheVariants.{Memory}
+use Rattle.ioa_passes.specs.Looks.{view_answer}
+use Rattle.ioa_passes.specs.Passes.{PlainPass}
+use Rattle.ioa_passes.specs.declared.outcome.ViewFault.{ViewFault}
+use Rattle.ioa_passes.specs.declared.outcome.ViewFault.TheVariants.{Memory}
+use Rattle.ioa_held.specs.Attempts.{IsMissed, IsTaken}
+use Rattle.ioa_held.specs.Finish.{IsFinished, IsUnfinished}
+use Rattle.ioa_held.specs.Openings.{BeginsAt}
+use Rattle.ioa_held.specs.declared.finish.FinishFault.{FinishFault}
+use Rattle.ioa_held.specs.declared.outcome.Miss.{Miss}
 
 -- a look at some lawful book, under a pass
 pub record LooksAtSome (p : PlainPass) (n : ℤ) (told : Result PlainSnapshot ViewFault) : Type 0 where

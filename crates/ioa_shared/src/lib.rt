@@ -1,28 +1,14 @@
-//! What workers share: a book of commits with the sum of what they have committed, and what each worker keeps of it: a
-//! pass, a share and receipts; and the record that is left once all shares are gathered.
+//! The books at which workers look and commit: one under a lock, which several workers share, and one that a worker has
+//! for itself, with no lock.
 //!
-//! **A crate of its own**, since what stands under the commit lock is proved without a thread.
+//! **A crate of its own**, since the lock stands here alone: who has a book, and what is known of it then, is no part of
+//! what a book does.
 //!
-//! **Must not know**: schedule blocks, and texts.
-//!
-//! **Laws**: `pass_law`, `receipt_law`, `refusal_law`.
+//! **Must not know**: how a look, an attempt and a finish come about, schedule blocks, and texts.
 #![tactic(auto)]
 
-mod finish;
-mod held;
-mod laws;
-mod outcome;
-mod pass;
-mod share;
 mod shared;
 mod solo;
 
-pub use finish::{FinishFault, Unfinished};
-pub use held::Held;
-pub use ioa_receipts::{Receipt, Receipts};
-pub use laws::{pass_law, receipt_law, refusal_law};
-pub use outcome::{Aged, Miss, Missed, Older, Taken, ViewFault};
-pub use pass::{Pass, Seen};
-pub use share::Share;
 pub use shared::{Shared, open};
 pub use solo::Solo;

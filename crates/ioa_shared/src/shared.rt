@@ -3,18 +3,15 @@
 ghost use Rattle.std.specs.Prelude.{◌≡◌, ◌+◌, ◌<◌, ◌≤◌, IfErr, IfOk, IsTrue, OnErr, OnOk, Some, replicate, true};
 ghost use Rattle.ioa_sharing.specs.Named.{shared_of_value};
 ghost use Rattle.ioa_sharing.specs.Shared.{maker_name};
-ghost use Rattle.ioa_shared.specs.Attempts.{commits};
-ghost use Rattle.ioa_shared.specs.Looks.{pass_after, told_again};
-ghost use Rattle.ioa_shared.specs.Passes.{risen_by_look};
+ghost use Rattle.ioa_held.specs.Attempts.{commits};
+ghost use Rattle.ioa_passes.specs.Looks.{pass_after, told_again};
+ghost use Rattle.ioa_passes.specs.Passes.{risen_by_look};
 ghost use Rattle.ioa_shared.specs.SomeBook.{BeginsSome, FinishesSome, LeavesSome, LooksAtSome, MissesInSome};
 ghost use Rattle.ioa_shared.specs.SomeBook.{TakesInSome};
 
-use crate::finish::Unfinished;
-use crate::held::Held;
-use crate::outcome::{Missed, Taken, ViewFault};
-use crate::pass::Pass;
-use crate::share::Share;
 use ioa_book::{Proposal, Snapshot};
+use ioa_held::{Held, Missed, Share, Taken, Unfinished};
+use ioa_passes::{Pass, ViewFault};
 use ioa_rawlog::Spare;
 use ioa_receipts::Receipts;
 use ioa_record::Record;

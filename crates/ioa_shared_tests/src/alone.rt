@@ -5,8 +5,11 @@ ghost use Rattle.ioa_sharing.specs.Shared.{maker_name};
 
 use crate::texts::{LIST, send, system};
 use ioa_book::Snapshot;
+use ioa_held::Share;
+use ioa_passes::Pass;
 use ioa_rawlog::Spare;
-use ioa_shared::{Pass, Receipts, Share, Solo};
+use ioa_receipts::Receipts;
+use ioa_shared::Solo;
 use ioa_sharing::{Maker, MakerOf, Origin};
 use ioa_system::System;
 use std::alloc::{AllocError, Global};

@@ -5,8 +5,11 @@ ghost use Rattle.ioa_sharing.specs.Shared.{maker_name};
 
 use ioa_actions::Action;
 use ioa_book::{Proposal, Snapshot};
+use ioa_held::{Miss, Share};
+use ioa_passes::{Pass, ViewFault};
 use ioa_rawlog::Spare;
-use ioa_shared::{Miss, Pass, Receipts, Share, Shared, ViewFault, open};
+use ioa_receipts::Receipts;
+use ioa_shared::{Shared, open};
 use ioa_sharing::{Maker, MakerOf, Origin, SharedOf};
 use ioa_system::System;
 use std::alloc::Global;

@@ -5,8 +5,10 @@ ghost use Rattle.ioa_sharing.specs.Shared.{maker_name};
 
 use crate::desk::{Desk, desk_of};
 use crate::texts::{LIST, PING, send, system};
+use ioa_held::{FinishFault, Share, Unfinished};
+use ioa_receipts::{Receipt, Receipts};
 use ioa_record::Record;
-use ioa_shared::{FinishFault, Receipt, Receipts, Share, Shared, Unfinished};
+use ioa_shared::Shared;
 use ioa_sharing::{Maker, MakerOf, Origin, SharedOf};
 use ioa_system::System;
 use std::alloc::Global;

@@ -6,7 +6,7 @@ use Rattle.ioa_commits.specs.Books.{PlainBook}
 use Rattle.ioa_receipts.specs.declared.receipts.Receipt.{Receipt}
 use Rattle.ioa_record.specs.declared.ending.NodeFault.{NodeFault}
 use Rattle.ioa_schedules.specs.Turns.{TurnEnd, done, fires, idle}
-use Rattle.ioa_shared.specs.Passes.{PlainPass}
+use Rattle.ioa_passes.specs.Passes.{PlainPass}
 use Rattle.ioa_transitions.specs.Entries.{PlainEntry}
 use Rattle.ioa_turns.specs.Fired.{action_fired}
 use Rattle.ioa_turns.specs.NodeTurns.{PlainProgress, turn_at}

@@ -11,10 +11,10 @@ use Rattle.ioa_receipts.specs.Covers.{CoversOnce, numbered}
 use Rattle.ioa_receipts.specs.Receipts.{PlainReceipts}
 use Rattle.ioa_receipts.specs.declared.receipts.Receipt.{Receipt}
 use Rattle.ioa_receipts.proofs.Numbered.{numbered_covers}
-use Rattle.ioa_shared.specs.Finish.{CanFinish, IsUnfinished}
-use Rattle.ioa_shared.specs.Passes.{PlainPass, first_pass, unseen}
-use Rattle.ioa_shared.specs.declared.finish.FinishFault.{FinishFault}
-use Rattle.ioa_shared.specs.declared.finish.FinishFault.TheVariants.{Foreign, SharesMissing, Memory, Unaccounted}
+use Rattle.ioa_held.specs.Finish.{CanFinish, IsUnfinished}
+use Rattle.ioa_passes.specs.Passes.{PlainPass, first_pass, unseen}
+use Rattle.ioa_held.specs.declared.finish.FinishFault.{FinishFault}
+use Rattle.ioa_held.specs.declared.finish.FinishFault.TheVariants.{Foreign, SharesMissing, Memory, Unaccounted}
 use Rattle.ioa_system.specs.Systems.{SystemParts}
 use Rattle.ioa_solo.specs.Hands.{HasGained}
 use Rattle.ioa_solo.specs.Told.{AreUpTo, GoesOn, IsUpTo}

@@ -9,8 +9,8 @@ use Rattle.ioa_book.specs.Proposals.{proposal_answer}
 use Rattle.ioa_receipts.specs.Covers.{numbered}
 use Rattle.ioa_receipts.specs.Receipts.{receipt}
 use Rattle.ioa_receipts.specs.declared.receipts.Receipt.{Receipt}
-use Rattle.ioa_shared.specs.Attempts.{IsTaken}
-use Rattle.ioa_shared.specs.Passes.{PlainPass}
+use Rattle.ioa_held.specs.Attempts.{IsTaken}
+use Rattle.ioa_passes.specs.Passes.{PlainPass}
 use Rattle.ioa_solo.specs.Told.{GoesOn, IsUpTo}
 use Rattle.ioa_solo.proofs.UpTo.{commit_upto}
 

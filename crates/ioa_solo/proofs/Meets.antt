@@ -17,8 +17,8 @@ use Rattle.ioa_compose.specs.declared.configuration.Conf.{Conf}
 use Rattle.ioa_record.specs.declared.ending.Ending.TheVariants.{Fault}
 use Rattle.ioa_record.specs.declared.ending.NodeFault.{NodeFault}
 use Rattle.ioa_record.specs.declared.ending.NodeFault.TheVariants as fault
-use Rattle.ioa_shared.specs.declared.outcome.ViewFault.{ViewFault}
-use Rattle.ioa_shared.specs.declared.outcome.ViewFault.TheVariants as view
+use Rattle.ioa_passes.specs.declared.outcome.ViewFault.{ViewFault}
+use Rattle.ioa_passes.specs.declared.outcome.ViewFault.TheVariants as view
 use Rattle.ioa_system.specs.Parts.{Parts}
 use Rattle.ioa_system.specs.SameParts.{same_program, same_program_is}
 use Rattle.ioa_turns.specs.NodeTurns.{PlainProgress, progress_at, with_ending}

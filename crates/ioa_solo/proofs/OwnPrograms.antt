@@ -13,7 +13,7 @@ use Rattle.ioa_compose.specs.JointStep.{HasAnswer}
 use Rattle.ioa_compose.specs.Start.{channel_start, node_start, script_start, start}
 use Rattle.ioa_compose.specs.declared.configuration.Conf.{Conf}
 use Rattle.ioa_compose.specs.declared.configuration.Conf.TheVariants.{Node, Queue}
-use Rattle.ioa_shared.specs.Openings.{BeginsAt}
+use Rattle.ioa_held.specs.Openings.{BeginsAt}
 use Rattle.ioa_system.specs.Parts.{Parts}
 use Rattle.ioa_system.specs.SameParts.{same_program, same_program_is}
 use Rattle.ioa_system.specs.Systems.{SystemParts}

@@ -5,9 +5,9 @@ use Rattle.ioa_actions.specs.declared.component.Component.TheVariants as compone
 use Rattle.ioa_boards.specs.Places.{Puts, PutsSome}
 use Rattle.ioa_book.specs.Looks.{PlainSnapshot, snapshot_after}
 use Rattle.ioa_commits.specs.Books.{PlainBook, held_of}
-use Rattle.ioa_shared.specs.Passes.{PlainPass, risen_by_look}
-use Rattle.ioa_shared.specs.declared.outcome.ViewFault.{ViewFault}
-use Rattle.ioa_shared.specs.declared.outcome.ViewFault.TheVariants as view
+use Rattle.ioa_passes.specs.Passes.{PlainPass, risen_by_look}
+use Rattle.ioa_passes.specs.declared.outcome.ViewFault.{ViewFault}
+use Rattle.ioa_passes.specs.declared.outcome.ViewFault.TheVariants as view
 use Rattle.ioa_solo.specs.Told.{IsUpTo}
 use Rattle.ioa_solo.proofs.UpTo.{not_seen, seen_first, shown}
 

@@ -13,10 +13,10 @@ use Rattle.ioa_commits.specs.declared.outcome.CommitRefusal.TheVariants as refus
 use Rattle.ioa_book.specs.Looks.{IsLookAt, PlainSnapshot, snapshot_after}
 use Rattle.ioa_book.specs.Proposals.{proposal_answer}
 use Rattle.ioa_record.specs.declared.ending.NodeFault.{NodeFault}
-use Rattle.ioa_shared.specs.Attempts.{IsMissed, IsTaken, risen_by_refusal}
-use Rattle.ioa_shared.specs.Passes.{PlainPass}
-use Rattle.ioa_shared.specs.declared.outcome.Miss.{Miss}
-use Rattle.ioa_shared.specs.declared.outcome.Miss.TheVariants as miss
+use Rattle.ioa_held.specs.Attempts.{IsMissed, IsTaken}
+use Rattle.ioa_passes.specs.Passes.{PlainPass, risen_by_refusal}
+use Rattle.ioa_held.specs.declared.outcome.Miss.{Miss}
+use Rattle.ioa_held.specs.declared.outcome.Miss.TheVariants as miss
 use Rattle.ioa_turns.specs.Faults.{fault_of_step}
 use Rattle.ioa_turns.specs.NodeTurns.{PlainProgress, past_fire}
 use Rattle.ioa_solo.specs.Attempts.{PlainFireOutcome, fire_answer, missed, taken, unless}

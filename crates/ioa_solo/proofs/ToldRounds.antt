@@ -5,7 +5,7 @@ use Rattle.std.specs.List.{list_all}
 use Rattle.std.proofs.lemmas.List.{append-nil, drop_all, drop_more, drop-set-lt, map-append, take_all, take_more_set}
 use Rattle.ioa_commits.specs.Books.{PlainBook}
 use Rattle.ioa_receipts.specs.declared.receipts.Receipt.{Receipt}
-use Rattle.ioa_shared.specs.Passes.{PlainPass}
+use Rattle.ioa_passes.specs.Passes.{PlainPass}
 use Rattle.ioa_turns.specs.NodeTurns.{PlainProgress}
 use Rattle.ioa_solo.specs.Fires.{Comes}
 use Rattle.ioa_solo.specs.Solo.{PlainCourse, course_of, has_ended, round, rounds, then_others, visit_unless_ended}

@@ -11,8 +11,8 @@ use Rattle.ioa_record.specs.declared.ending.Ending.TheVariants.{Fault}
 use Rattle.ioa_record.specs.declared.ending.NodeFault.{NodeFault}
 use Rattle.ioa_record.specs.declared.ending.NodeFault.TheVariants as fault
 use Rattle.ioa_schedules.specs.Turns.{TurnEnd}
-use Rattle.ioa_shared.specs.declared.outcome.ViewFault.{ViewFault}
-use Rattle.ioa_shared.specs.declared.outcome.ViewFault.TheVariants as view
+use Rattle.ioa_passes.specs.declared.outcome.ViewFault.{ViewFault}
+use Rattle.ioa_passes.specs.declared.outcome.ViewFault.TheVariants as view
 use Rattle.ioa_turns.specs.Inboxes.{inboxes_seen}
 use Rattle.ioa_turns.specs.NodeTurns.{PlainProgress, turn_at, turn_on, with_ending}
 use Rattle.ioa_solo.specs.Fires.{Comes, IsAfterEnd, fault_of_view}

@@ -31,14 +31,14 @@ use Rattle.ioa_book.specs.Looks.{PlainSnapshot, snapshot_after}
 use Rattle.ioa_book.specs.Proposals.{one_or_none, proposal_answer, reads_held}
 use Rattle.ioa_book.specs.declared.outcome.LookFault.TheVariants as look
 use Rattle.ioa_book.proofs.FreshLooks.{fresh_proposal}
-use Rattle.ioa_shared.specs.Attempts.{IsTaken}
-use Rattle.ioa_shared.specs.Looks.{admitted, unless_older, view_answer}
-use Rattle.ioa_shared.specs.Passes.{PlainPass, first_older, older, plain_pass, raise_all, raise_all_next}
-use Rattle.ioa_shared.specs.Passes.{raise_next, raise_read, raise_seen, risen, risen_by_look, seen_of}
-use Rattle.ioa_shared.specs.declared.outcome.Older.{Older}
-use Rattle.ioa_shared.specs.declared.outcome.ViewFault.{ViewFault}
-use Rattle.ioa_shared.specs.declared.outcome.ViewFault.TheVariants as view
-use Rattle.ioa_shared.specs.declared.pass.Seen.{Seen}
+use Rattle.ioa_held.specs.Attempts.{IsTaken}
+use Rattle.ioa_passes.specs.Looks.{admitted, unless_older, view_answer}
+use Rattle.ioa_passes.specs.Passes.{PlainPass, first_older, older, plain_pass, raise_all, raise_all_next}
+use Rattle.ioa_passes.specs.Passes.{raise_next, raise_read, raise_seen, risen, risen_by_look, seen_of}
+use Rattle.ioa_passes.specs.declared.outcome.Older.{Older}
+use Rattle.ioa_passes.specs.declared.outcome.ViewFault.{ViewFault}
+use Rattle.ioa_passes.specs.declared.outcome.ViewFault.TheVariants as view
+use Rattle.ioa_passes.specs.declared.pass.Seen.{Seen}
 use Rattle.ioa_solo.specs.Told.{AreUpTo, IsUpTo}
 
 same_of : (k l : Component) → same_component k l ≡ true → k ≡ l

@@ -10,10 +10,10 @@ use Rattle.ioa_book.specs.Proposals.{proposal_answer}
 use Rattle.ioa_record.specs.declared.ending.Ending.TheVariants.{Fault}
 use Rattle.ioa_record.specs.declared.ending.NodeFault.{NodeFault}
 use Rattle.ioa_record.specs.declared.ending.NodeFault.TheVariants as fault
-use Rattle.ioa_shared.specs.declared.outcome.Miss.{Miss}
-use Rattle.ioa_shared.specs.declared.outcome.Miss.TheVariants as miss
-use Rattle.ioa_shared.specs.declared.outcome.ViewFault.{ViewFault}
-use Rattle.ioa_shared.specs.declared.outcome.ViewFault.TheVariants as view
+use Rattle.ioa_held.specs.declared.outcome.Miss.{Miss}
+use Rattle.ioa_held.specs.declared.outcome.Miss.TheVariants as miss
+use Rattle.ioa_passes.specs.declared.outcome.ViewFault.{ViewFault}
+use Rattle.ioa_passes.specs.declared.outcome.ViewFault.TheVariants as view
 use Rattle.ioa_schedules.specs.Turns.{TurnEnd}
 use Rattle.ioa_turns.specs.Faults.{fault_of_refusal, fault_of_step}
 use Rattle.ioa_turns.specs.NodeTurns.{PlainProgress, past_fire, with_ending}

@@ -5,8 +5,8 @@ use Rattle.ioa_commits.specs.Books.{PlainBook}
 use Rattle.ioa_commits.specs.Versions.{version}
 use Rattle.ioa_receipts.specs.Covers.{numbered}
 use Rattle.ioa_receipts.specs.declared.receipts.Receipt.{Receipt}
-use Rattle.ioa_shared.specs.Passes.{PlainPass}
-use Rattle.ioa_shared.specs.declared.pass.Seen.{Seen}
+use Rattle.ioa_passes.specs.Passes.{PlainPass}
+use Rattle.ioa_passes.specs.declared.pass.Seen.{Seen}
 use Rattle.ioa_transitions.specs.Entries.{PlainEntry}
 use Rattle.ioa_solo.specs.declared.hand.Hand.{Hand}
 

@@ -8,7 +8,7 @@ use Rattle.ioa_compose.specs.declared.configuration.Conf.{Conf}
 use Rattle.ioa_record.specs.declared.ending.Ending.{Ending}
 use Rattle.ioa_record.specs.declared.ending.Ending.TheVariants.{Fault}
 use Rattle.ioa_record.specs.declared.ending.NodeFault.TheVariants as fault
-use Rattle.ioa_shared.specs.Passes.{PlainPass}
+use Rattle.ioa_passes.specs.Passes.{PlainPass}
 use Rattle.ioa_sharing.specs.declared.named.Origin as Origin
 use Rattle.ioa_system.specs.Declarations.{IsWellDeclared}
 use Rattle.ioa_system.specs.Parts.{Parts}

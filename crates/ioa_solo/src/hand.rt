@@ -1,6 +1,8 @@
 //! What a worker has of its own.
 
-use ioa_shared::{Pass, Receipts, Share};
+use ioa_held::Share;
+use ioa_passes::Pass;
+use ioa_receipts::Receipts;
 use std::sync::ledger::Ledger;
 
 /// What a worker has of its own, whatever board it works at. It is lent to its work, and handed in at the end.

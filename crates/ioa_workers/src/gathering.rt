@@ -7,8 +7,10 @@ ghost use Rattle.ioa_sharing.specs.Named.{shared_of_value};
 ghost use Rattle.ioa_workers.specs.Slots.{AreEndingsIn, ending_in};
 
 use crate::slot::Slot;
+use ioa_held::{FinishFault, Share};
+use ioa_receipts::Receipts;
 use ioa_record::{Ending, NodeFault, Record};
-use ioa_shared::{FinishFault, Receipts, Share, Shared};
+use ioa_shared::Shared;
 use ioa_sharing::{Origin, SharedOf};
 use ioa_solo::Hand;
 use ioa_system::System;

@@ -13,5 +13,5 @@ mod slot;
 mod threads;
 
 pub use hold_gate::HoldGate;
-pub use ioa_shared::FinishFault;
+pub use ioa_held::FinishFault;
 pub use running::{STACK_SIZE, run, run_on_stacks};

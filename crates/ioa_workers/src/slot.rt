@@ -5,8 +5,10 @@ ghost use Rattle.std.specs.List.{slice_get};
 ghost use Rattle.ioa_sharing.specs.Named.{shared_of_value};
 ghost use Rattle.ioa_workers.specs.Slots.{AreNodesOf, AreUnbegun, node_numbers};
 
+use ioa_held::Share;
+use ioa_passes::Pass;
+use ioa_receipts::Receipts;
 use ioa_record::{Ending, NodeFault};
-use ioa_shared::{Pass, Receipts, Share};
 use ioa_sharing::{Origin, SharedOf};
 use ioa_solo::{Endings, GREATEST_NODES, Hand};
 use ioa_system::System;

@@ -5,8 +5,10 @@ ghost use Rattle.ioa_sharing.specs.Shared.{maker_name};
 
 use crate::texts::{LEAP, TICK, system};
 use ioa_boards::Open;
+use ioa_passes::Pass;
+use ioa_receipts::Receipts;
 use ioa_record::{Ending, NodeFault};
-use ioa_shared::{Pass, Receipts, Solo};
+use ioa_shared::Solo;
 use ioa_sharing::{Maker, MakerOf, Origin, SharedOf};
 use ioa_solo::{Endings, Hand, work};
 use ioa_system::System;

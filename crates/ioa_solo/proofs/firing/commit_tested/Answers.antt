@@ -1,7 +1,7 @@
 use Rattle.std.proofs.Common.{◌++◌, ◌∷◌, [], List, sym, ap, subst, refl, ◌∙◌, arith}
 use Rattle.ioa_receipts.specs.Receipts.{PlainReceipts}
 use Rattle.ioa_receipts.specs.declared.receipts.Receipt.{Receipt}
-use Rattle.ioa_shared.specs.Passes.{PlainPass}
+use Rattle.ioa_passes.specs.Passes.{PlainPass}
 use Rattle.ioa_turns.specs.NodeTurns.{PlainProgress, progress_of}
 use Rattle.ioa_solo.specs.Solo.{course_of}
 use Rattle.ioa_solo.specs.Told.{IsUpTo}

@@ -3,7 +3,7 @@ use Rattle.std.specs.Prelude.{is_some}
 use Rattle.ioa_actions.specs.declared.component.Component.TheVariants.{Node}
 use Rattle.ioa_book.specs.Looks.{snapshot_after}
 use Rattle.ioa_commits.specs.Books.{held_of}
-use Rattle.ioa_shared.specs.declared.outcome.ViewFault.TheVariants.{Memory, Unknown}
+use Rattle.ioa_passes.specs.declared.outcome.ViewFault.TheVariants.{Memory, Unknown}
 use Rattle.ioa_turns.specs.NodeTurns.{progress_of}
 use Rattle.ioa_solo.specs.Visits.{progress_in}
 use Rattle.ioa_solo.proofs.Meets.{met_seen, met_without}

@@ -3,7 +3,7 @@ use Rattle.std.specs.Prelude.{OnErr, OnOk, is_some}
 use Rattle.ioa_actions.specs.declared.component.Component.TheVariants.{Node}
 use Rattle.ioa_book.specs.Looks.{snapshot_after}
 use Rattle.ioa_commits.specs.Books.{PlainBook, held_of}
-use Rattle.ioa_shared.specs.declared.outcome.ViewFault.TheVariants.{Memory, Unknown}
+use Rattle.ioa_passes.specs.declared.outcome.ViewFault.TheVariants.{Memory, Unknown}
 use Rattle.ioa_turns.specs.NodeTurns.{progress_of}
 use Rattle.ioa_solo.specs.Fires.{Comes}
 use Rattle.ioa_solo.specs.Solo.{attempt}

@@ -1,0 +1,4 @@
+-- the lemmas of this crate
+pub mod ReceiptLaws
+pub mod RefusalLaws
+pub mod QuickAttempts

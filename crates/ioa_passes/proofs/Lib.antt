@@ -1,0 +1,3 @@
+-- the lemmas of this crate
+pub mod Passes
+pub mod PassLaws

@@ -1,0 +1,20 @@
+//! The law of passes. A law is the contract of a function that does nothing.
+
+ghost use Rattle.std.specs.Prelude.{◌≡◌, ℕ, ℤ, List, Ok};
+ghost use Rattle.ioa_book.specs.Looks.{PlainSnapshot};
+ghost use Rattle.ioa_commits.specs.Books.{PlainBook};
+ghost use Rattle.ioa_commits.specs.Versions.{PlainVersionedConf};
+ghost use Rattle.ioa_commits.specs.declared.outcome.CommitRefusal.{CommitRefusal};
+ghost use Rattle.ioa_passes.specs.Looks.{view_answer};
+ghost use Rattle.ioa_passes.specs.PassLaws.{IsFresh, IsRisen};
+ghost use Rattle.ioa_passes.specs.Passes.{PlainPass, risen_by_commit, risen_by_look, risen_by_refusal};
+
+/// A pass never falls, whatever is looked at, committed and refused, and no component is added to it. What it lets
+/// through is not older than what it has seen.
+pub fn pass_law()
+    ensures look { (p : PlainPass) (s : PlainSnapshot) → IsRisen p (risen_by_look s p) }
+    ensures commit { (p : PlainPass) (rs : List PlainVersionedConf) (n : ℕ) → IsRisen p (risen_by_commit rs n p) }
+    ensures refusal { (p : PlainPass) (why : CommitRefusal) → IsRisen p (risen_by_refusal why p) }
+    ensures fresh { (b : PlainBook) (p : PlainPass) (n : ℤ) (s : PlainSnapshot) →
+        view_answer b p n ≡ Ok s → IsFresh p s }
+{}

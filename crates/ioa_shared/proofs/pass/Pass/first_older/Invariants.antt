@@ -1,7 +1,0 @@
-use Rattle.std.proofs.Common.{◌≡◌}
-use Rattle.ioa_shared.specs.Passes.{first_older}
-use Rattle.ioa_shared.proofs.pass.Pass.first_older.Given as goal
-
--- the first that is older is to be found in what is left
-abbrev pub invariant-loop-read : goal.invariant-loop-read
-invariant-loop-read g l = first_older l.self.seen l.read-iterator ≡ first_older l.self.seen l.look.reads
