@@ -10,9 +10,9 @@ use Rattle.ioa_system.specs.Parts.{Parts}
 use Rattle.ioa_automata.proofs.Results.{result_is}
 use Rattle.ioa_invariants.specs.Meant.{IsInvariantOf}
 use Rattle.ioa_invariants.proofs.Complete.{invariant_found}
+use Rattle.ioa_sections.proofs.Results.{checked_is}
+use Rattle.ioa_sections.proofs.Tests.{new_word}
 use Rattle.ioa_check.specs.Checking.{new_invariant_at, invariants_at}
-use Rattle.ioa_check.proofs.Results.{checked_is}
-use Rattle.ioa_check.proofs.Tests.{new_word}
 
 module _ (constants : NameShapes) (ps : List Parts) (cs : List Channel) where
   -- an invariant of a new name

@@ -9,9 +9,9 @@ use Rattle.ioa_source.specs.declared.declaration.Channel.{Channel}
 use Rattle.ioa_source.specs.declared.declaration.Invariant.{Invariant}
 use Rattle.ioa_system.specs.Invariants.{InvariantParts}
 use Rattle.ioa_system.specs.Parts.{Parts}
+use Rattle.ioa_sections.specs.Faults.{in_declaration}
+use Rattle.ioa_sections.specs.declared.fault.CheckFault.{CheckFault}
 use Rattle.ioa_check.specs.Checking.{new_invariant_at, invariants_at}
-use Rattle.ioa_check.specs.Faults.{in_declaration}
-use Rattle.ioa_check.specs.declared.fault.CheckFault.{CheckFault}
 
 -- those found so far, and then those of the invariants that are left
 abbrev pub found_and_left : List InvariantParts → Result (List InvariantParts) CheckFault → Result (List InvariantParts) CheckFault

@@ -5,12 +5,12 @@ use Rattle.ioa_source.specs.Sides.{SourceText}
 use Rattle.ioa_system.specs.Parts.{AutomatonParts}
 use Rattle.ioa_system.specs.Systems.{SystemParts}
 use Rattle.ioa_types.specs.TextTypes.{PlainTextTypes, no_types}
-use Rattle.ioa_check.specs.declared.fault.CheckFault.{CheckFault}
-use Rattle.ioa_check.specs.declared.fault.CheckFault.TheVariants.{Memory}
+use Rattle.ioa_sections.specs.declared.fault.CheckFault.{CheckFault}
+use Rattle.ioa_sections.specs.declared.fault.CheckFault.TheVariants.{Memory}
+use Rattle.ioa_sections.specs.DeclaredParts.{DeclaredParts, declared_parts, declared_at}
+use Rattle.ioa_sections.specs.Declarations.{automata_at, types_at}
+use Rattle.ioa_sections.proofs.Results.{checked_is}
 use Rattle.ioa_check.specs.Checking.{parts_at, system_of}
-use Rattle.ioa_check.specs.DeclaredParts.{DeclaredParts, declared_parts, declared_at}
-use Rattle.ioa_check.specs.Declarations.{automata_at, types_at}
-use Rattle.ioa_check.proofs.Results.{checked_is}
 
 -- one result after two others
 after_two : {A B C E : Type 0} (r : Result A E) (f : A → Result B E) (g : B → Result C E) → and_then (and_then r f) g ≡ and_then r (λ x. and_then (f x) g)

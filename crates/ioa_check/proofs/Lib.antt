@@ -1,26 +1,10 @@
 -- the lemmas of this crate
-pub mod Searches
-pub mod Loops
-pub mod DeclaredAutomata
-pub mod Results
-pub mod Apart
-pub mod Tests
-pub mod SeenScripts
-pub mod Grounds
-pub mod SoundDeclarations
-pub mod SoundNodes
-pub mod SoundChannels
-pub mod SoundScripts
+pub mod DeclaredParts
 pub mod SoundInvariants
 pub mod DeclaredInvariants
 pub mod SoundSystems
 pub mod FromDeclarations
-pub mod CompleteTypes
-pub mod CompleteNodes
-pub mod CompleteChannels
-pub mod CompleteScripts
 pub mod CompleteInvariants
 pub mod Complete
 pub mod Declared
 pub mod Promises
-pub mod Programs

@@ -5,11 +5,11 @@ use Rattle.ioa_values.specs.Outcome.{Answers}
 use Rattle.ioa_source.specs.Sides.{SourceText}
 use Rattle.ioa_system.specs.Declarations.{IsWellDeclared}
 use Rattle.ioa_system.specs.Systems.{SystemParts}
-use Rattle.ioa_check.specs.declared.fault.CheckFault.{CheckFault}
-use Rattle.ioa_check.specs.declared.fault.CheckFault.TheVariants.{Refused, Memory}
+use Rattle.ioa_sections.specs.declared.fault.CheckFault.{CheckFault}
+use Rattle.ioa_sections.specs.declared.fault.CheckFault.TheVariants.{Refused, Memory}
+use Rattle.ioa_sections.proofs.Results.{checked_is}
 use Rattle.ioa_check.specs.Checking.{system_of}
 use Rattle.ioa_check.specs.Systems.{IsSystemOf, SaysNoSystem}
-use Rattle.ioa_check.proofs.Results.{checked_is}
 use Rattle.ioa_check.proofs.SoundSystems.{system_sound}
 use Rattle.ioa_check.proofs.Complete.{system_found}
 use Rattle.ioa_check.proofs.Declared.{declared_once}

@@ -13,11 +13,11 @@ use Rattle.ioa_automata.proofs.Results.{result_is}
 use Rattle.ioa_invariants.specs.Checked.{AreDeclaredParts, invariant_at}
 use Rattle.ioa_invariants.specs.Meant.{IsInvariantOf}
 use Rattle.ioa_invariants.proofs.Sound.{invariant_sound}
+use Rattle.ioa_sections.specs.Faults.{in_declaration}
+use Rattle.ioa_sections.proofs.Results.{checked_is, first_of, is_not_met, within_declaration}
+use Rattle.ioa_sections.proofs.Apart.{all_apart}
+use Rattle.ioa_sections.proofs.Tests.{words_turned}
 use Rattle.ioa_check.specs.Checking.{new_invariant_at, invariants_at}
-use Rattle.ioa_check.specs.Faults.{in_declaration}
-use Rattle.ioa_check.proofs.Results.{checked_is, first_of, is_not_met, within_declaration}
-use Rattle.ioa_check.proofs.Apart.{all_apart}
-use Rattle.ioa_check.proofs.Tests.{words_turned}
 
 -- checked invariants behind others of these names
 pub record AreInvariantsOf (constants : NameShapes) (ps : List Parts) (cs : List Channel) (before : List (List ℕ)) (vs : List SourceInvariant) (is : List InvariantParts) : Type 0 where

@@ -4,39 +4,20 @@ use Rattle.std.specs.List.{list_any}
 use Rattle.ioa_values.specs.Outcome.{and_then}
 use Rattle.ioa_terms.specs.Bindings.{same_word}
 use Rattle.ioa_terms.specs.Sorted.{NameShapes}
-use Rattle.ioa_source.specs.Sides.{SourceInvariant, SourcePlacement, SourceText}
+use Rattle.ioa_source.specs.Sides.{SourceInvariant, SourceText}
 use Rattle.ioa_source.specs.declared.declaration.Channel.{Channel}
 use Rattle.ioa_system.specs.Invariants.{InvariantParts}
 use Rattle.ioa_system.specs.Parts.{AutomatonParts, Parts}
-use Rattle.ioa_system.specs.Systems.{ScriptParts, SystemParts, system}
+use Rattle.ioa_system.specs.Systems.{SystemParts, system}
 use Rattle.ioa_refusals.specs.declared.refusal.Refusal.{Refusal}
 use Rattle.ioa_refusals.specs.declared.refusal.Refusal.TheVariants.{Twice}
 use Rattle.ioa_names.specs.NameTables.{words}
 use Rattle.ioa_types.specs.TextTypes.{no_types}
 use Rattle.ioa_invariants.specs.Checked.{invariant_at}
-use Rattle.ioa_check.specs.declared.fault.CheckFault.{CheckFault}
-use Rattle.ioa_check.specs.Faults.{in_declaration}
-use Rattle.ioa_check.specs.Declarations.{types_at, automata_at}
-use Rattle.ioa_check.specs.Nodes.{nodes_at, programs_at}
-use Rattle.ioa_check.specs.Channels.{channels_at, all_channels_at}
-use Rattle.ioa_check.specs.Scripts.{scripts_at}
-
--- what a system section places: the programs of its nodes, node 0 first, its channels and its scripts
-pub record PlacedParts : Type 0 where
-  pub programs : List Parts
-  pub channels : List Channel
-  pub scripts : List ScriptParts
-
-abbrev pub placed : List Parts → List Channel → List ScriptParts → PlacedParts
-placed ps cs xs = record { programs = ps; channels = cs; scripts = xs }
-
--- what a system section places, in a text of these constants and automata
-unfoldable pub placed_at : NameShapes → List AutomatonParts → List SourcePlacement → Result PlacedParts Refusal
-placed_at names automata ps = and_then (nodes_at ps)
-    (λ ns. and_then (channels_at ps)
-    (λ cs. and_then (programs_at names automata ns)
-    (λ qs. and_then (all_channels_at qs cs)
-    (λ x. and_then (scripts_at names qs ps) (λ xs. Ok (placed qs cs xs))))))
+use Rattle.ioa_sections.specs.declared.fault.CheckFault.{CheckFault}
+use Rattle.ioa_sections.specs.Faults.{in_declaration}
+use Rattle.ioa_sections.specs.Declarations.{types_at, automata_at}
+use Rattle.ioa_sections.specs.Placing.{PlacedParts, placed_at}
 
 -- an invariant over what was placed, if none of these names is its name
 unfoldable pub new_invariant_at : NameShapes → List Parts → List Channel → List (List ℕ) → SourceInvariant

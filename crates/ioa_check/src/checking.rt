@@ -6,21 +6,15 @@ ghost use Rattle.ioa_values.specs.Outcome.{Answers};
 ghost use Rattle.ioa_source.specs.TextView.{placement_of, text_of};
 ghost use Rattle.ioa_system.specs.Declarations.{IsWellDeclared};
 ghost use Rattle.ioa_invariants.specs.Checked.{AreDeclaredParts};
+ghost use Rattle.ioa_sections.specs.Faults.{in_declaration};
+ghost use Rattle.ioa_sections.specs.PlacedView.{placed_of};
+ghost use Rattle.ioa_sections.specs.Placing.{placed_at};
 ghost use Rattle.ioa_check.specs.Checking as spec;
-ghost use Rattle.ioa_check.specs.Faults.{in_declaration};
-ghost use Rattle.ioa_check.specs.PlacedView.{placed_of};
 ghost use Rattle.ioa_check.specs.Systems.{IsSystemOf, SaysNoSystem};
 
-use crate::channels::{channels_of, check_channels};
-use crate::checked::CheckedDeclarations;
-use crate::fault::{CheckFault, fault_at};
-use crate::ground::Ground;
 use crate::invariants::invariants_of;
-use crate::nodes::{nodes_of, programs_of};
-use crate::placed::Placed;
-use crate::scripts::scripts_of;
 use ioa_invariants::Section;
-use ioa_refusals::Refusal;
+use ioa_sections::{CheckFault, CheckedDeclarations, Placed, fault_at};
 use ioa_source::{Placement, Text};
 use ioa_system::System;
 use std::alloc::{AllocError, Global};
@@ -84,42 +78,13 @@ fn section_in_declaration(
     index: usize,
     placements: &Vec<Placement<(), (), ()>>,
 ) -> Result<Placed, CheckFault>
-    ensures placed { Answers CheckFault.Memory placed_of result (in_declaration index (spec.placed_at
+    ensures placed { Answers CheckFault.Memory placed_of result (in_declaration index (placed_at
         declared.now.types.constants declared.now.automata (map placement_of placements.now.items))) }
     ensures declared { IfOk result
         (λ s. AreDeclaredParts declared.now.types.constants (map arc_value s.programs.items)) }
 {
-    match check_section(alloc, declared, placements) {
+    match declared.check_section(alloc, placements) {
         Ok(placed) => Ok(placed),
         Err(refusal) => Err(fault_at(index, refusal)),
     }
-}
-
-/// What a system section places, in a text of these declarations.
-#[tactic(auto, unfolding(crate::specs::Checking::placed_at))]
-pub(crate) fn check_section(
-    alloc: Global,
-    declared: &CheckedDeclarations,
-    placements: &Vec<Placement<(), (), ()>>,
-) -> Result<Placed, Refusal>
-    ensures placed { Answers Refusal.Memory placed_of result (spec.placed_at declared.now.types.constants
-        declared.now.automata (map placement_of placements.now.items)) }
-    ensures declared { IfOk result
-        (λ s. AreDeclaredParts declared.now.types.constants (map arc_value s.programs.items)) }
-{
-    declared.grounded_law();
-    let nodes = nodes_of(alloc, placements)?;
-    let channels = channels_of(alloc, placements)?;
-    let programs = programs_of(alloc, declared, &nodes)?;
-    check_channels(alloc, &programs, &channels)?;
-    let ground = Ground {
-        types: declared.types(),
-        programs: &programs,
-    };
-    let scripts = scripts_of(alloc, &ground, placements)?;
-    Ok(Placed {
-        programs,
-        channels,
-        scripts,
-    })
 }

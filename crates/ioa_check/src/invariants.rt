@@ -3,12 +3,12 @@
 ghost use Rattle.std.specs.Prelude.{◌≡◌, ◌++◌, ◌∷◌, [], OnOk, map};
 ghost use Rattle.ioa_values.specs.Outcome.{Answers};
 ghost use Rattle.ioa_source.specs.TextView.{invariant_of};
+ghost use Rattle.ioa_sections.specs.Faults.{in_declaration};
 ghost use Rattle.ioa_check.specs.Checking as spec;
-ghost use Rattle.ioa_check.specs.Faults.{in_declaration};
 
-use crate::fault::{CheckFault, fault_at};
 use ioa_invariants::{Section, check_invariant};
 use ioa_refusals::Refusal;
+use ioa_sections::{CheckFault, fault_at};
 use ioa_source::Invariant;
 use ioa_system::{CheckedInvariant, Scope};
 use std::alloc::{AllocError, Global};

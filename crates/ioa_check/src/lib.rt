@@ -1,29 +1,16 @@
-//! From the tree of a source to its system: types and automata with sorts, nodes with their values, channels, scripts
-//! and invariants; or the refusal with the index of its declaration.
+//! From the tree of a source to its system: what its declarations and its system section come to, with its invariants;
+//! or the refusal with the index of its declaration.
 //!
-//! **A crate of its own**, since the rules of the system section are proved over what automata have become.
+//! **A crate of its own**, since what holds of a whole text is proved over what its parts have come to.
 //!
-//! **Must not know**: tokens, the reader, and how a term or an automaton gets its sorts.
+//! **Must not know**: tokens, the reader, and how terms, automata, nodes, channels and scripts are checked.
 //!
 //! **Laws**: `check_law`.
 #![tactic(auto)]
 
-mod channels;
-mod checked;
 mod checking;
-mod declarations;
-mod fault;
-mod ground;
 mod invariants;
 mod laws;
-mod nodes;
-mod placed;
-mod scripts;
-mod values;
 
-pub use channels::MOST_CHANNELS;
-pub use checked::CheckedDeclarations;
 pub use checking::check;
-pub use fault::CheckFault;
 pub use laws::check_law;
-pub use nodes::MOST_NODES;

@@ -1,6 +1,6 @@
 //! Why nothing is played.
 
-use ioa_check::CheckFault;
+use ioa_sections::CheckFault;
 use ioa_text_reader::FrontFault;
 use std::alloc::AllocError;
 use std::{fmt, io};

@@ -4,8 +4,8 @@ use Rattle.ioa_text_reader.specs.declared.fault.FrontFault.{FrontFault}
 use Rattle.ioa_text_reader.specs.declared.fault.FrontFault.TheVariants as front
 use Rattle.ioa_text_reader.specs.Texts.{TextSpells, StandsInText, is_exact, length_limit}
 use Rattle.ioa_refusals.specs.declared.refusal.Refusal.{Refusal}
-use Rattle.ioa_check.specs.declared.fault.CheckFault.{CheckFault}
-use Rattle.ioa_check.specs.declared.fault.CheckFault.TheVariants as fault
+use Rattle.ioa_sections.specs.declared.fault.CheckFault.{CheckFault}
+use Rattle.ioa_sections.specs.declared.fault.CheckFault.TheVariants as fault
 use Rattle.ioa_check.specs.Checking.{system_of}
 use Rattle.ioa_check.specs.Systems.{IsSystemOf, SaysNoSystem}
 use Rattle.ioa_system.specs.Systems.{SystemParts}

@@ -1,8 +1,8 @@
 //! System sections over the declarations of a refused text.
 
-use ioa_check::{CheckFault, CheckedDeclarations, MOST_CHANNELS, MOST_NODES};
 use ioa_culprit::ChecksSections;
 use ioa_refusals::Refusal;
+use ioa_sections::{CheckFault, CheckedDeclarations, MOST_CHANNELS, MOST_NODES};
 use ioa_source::{Placement, Text};
 use std::alloc::{AllocError, Global};
 
@@ -48,7 +48,11 @@ impl ChecksSections for Sections {
     ) -> Result<(), Refusal> {
         match &self.declared {
             None => Ok(()),
-            Some(declared) => declared.check_section(alloc, placements),
+            Some(declared) => {
+                let placed = declared.check_section(alloc, placements)?;
+                drop(placed);
+                Ok(())
+            }
         }
     }
 }

@@ -7,9 +7,10 @@ ghost use Rattle.ioa_explain.specs.Verdicts.{IsFaultOf, IsVerdictOf, IsVerdictOn
 ghost use Rattle.ioa_explain.specs.Verdicts.{HasTokens};
 
 use crate::sections::Sections;
-use ioa_check::{CheckFault, check};
+use ioa_check::check;
 use ioa_culprit::{Search, Span, Spot, culprit};
 use ioa_refusals::Refusal;
+use ioa_sections::CheckFault;
 use ioa_system::System;
 use ioa_text_reader::{FrontFault, Source, parse};
 use ioa_tokens::LocatedToken;

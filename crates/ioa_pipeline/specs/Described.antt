@@ -4,9 +4,9 @@ use Rattle.ioa_text_reader.specs.declared.fault.FrontFault.{FrontFault}
 use Rattle.ioa_text_reader.specs.declared.fault.FrontFault.TheVariants as front
 use Rattle.ioa_text_reader.specs.FaultText.{front_fault_text}
 use Rattle.ioa_text_reader.specs.Texts.{TextSpells, StandsInText, is_exact, length_limit}
-use Rattle.ioa_check.specs.declared.fault.CheckFault.{CheckFault}
-use Rattle.ioa_check.specs.declared.fault.CheckFault.TheVariants as check
-use Rattle.ioa_check.specs.Faults.{check_fault_text}
+use Rattle.ioa_sections.specs.declared.fault.CheckFault.{CheckFault}
+use Rattle.ioa_sections.specs.declared.fault.CheckFault.TheVariants as check
+use Rattle.ioa_sections.specs.Faults.{check_fault_text}
 use Rattle.ioa_check.specs.Systems.{IsSystemOf, SaysNoSystem}
 use Rattle.ioa_system.specs.Declarations.{IsWellDeclared}
 use Rattle.ioa_system.specs.Systems.{SystemParts}

@@ -2,7 +2,7 @@
 use Rattle.std.specs.Prelude.{◌≡◌, ⊤, ℕ, Bool, true, false, List, Option, Result, Ok, Err, codes}
 use Rattle.std.specs.Io.KnownBytes.{Keeps, Appends}
 use Rattle.ioa_text_reader.specs.FaultText.{front_fault_text}
-use Rattle.ioa_check.specs.Faults.{check_fault_text}
+use Rattle.ioa_sections.specs.Faults.{check_fault_text}
 use Rattle.ioa_system.specs.Systems.{SystemParts}
 use Rattle.ioa_streams.specs.Output.{AppendsBeginning}
 use Rattle.ioa_schedule_check.specs.declared.fault.ScheduleFault.{ScheduleFault}

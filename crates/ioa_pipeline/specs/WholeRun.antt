@@ -3,7 +3,7 @@ use Rattle.std.specs.Prelude.{◌≡◌, ⊤, ℕ, Bool, true, false, List, leng
 use Rattle.std.specs.Prelude.{Option, Result, Ok, Err}
 use Rattle.std.specs.Io.KnownBytes.{Keeps, Appends}
 use Rattle.ioa_text_reader.specs.FaultText.{front_fault_text}
-use Rattle.ioa_check.specs.Faults.{check_fault_text}
+use Rattle.ioa_sections.specs.Faults.{check_fault_text}
 use Rattle.ioa_system.specs.Systems.{SystemParts}
 use Rattle.ioa_held.specs.declared.finish.FinishFault.{FinishFault}
 use Rattle.ioa_held.specs.declared.finish.FinishFault.TheVariants as finish

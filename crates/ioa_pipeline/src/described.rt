@@ -5,7 +5,8 @@ ghost use Rattle.std.specs.Arc.{arc_value};
 ghost use Rattle.ioa_pipeline.specs.Described.{IsDescribed, IsExactBy, IsFaultOfText};
 ghost use Rattle.ioa_pipeline.specs.declared.described.SystemFault.TheVariants.{Front, Memory};
 
-use ioa_check::{CheckFault, check};
+use ioa_check::check;
+use ioa_sections::CheckFault;
 use ioa_system::System;
 use ioa_text_reader::{FrontFault, parse};
 use std::alloc::Global;

@@ -8,8 +8,8 @@ ghost use Rattle.ioa_pipeline.specs.ScheduleChecks.{IsFaultBefore, IsFaultIn, Sa
 ghost use Rattle.ioa_schedule_check.specs.Schedules.{IsExecutionSpelled};
 
 use crate::described::{SystemFault, system_of};
-use ioa_check::CheckFault;
 use ioa_schedule_check::{ScheduleFault, check_schedule};
+use ioa_sections::CheckFault;
 use ioa_streams::{Out, OutFailed, put_all};
 use ioa_system::System;
 use ioa_text_reader::FrontFault;

@@ -9,10 +9,10 @@ ghost use Rattle.ioa_pipeline.specs.WholeRun.{IsRefusalOf, WritesReport, WritesT
 
 use crate::described::{SystemFault, system_of};
 use ioa_boards::Gate;
-use ioa_check::CheckFault;
 use ioa_held::FinishFault;
 use ioa_monitor::{Findings, ReportFault, report};
 use ioa_record::{Ending, Options, Record};
+use ioa_sections::CheckFault;
 use ioa_streams::Out;
 use ioa_system::System;
 use ioa_text_reader::FrontFault;

@@ -8,8 +8,9 @@ use Rattle.ioa_system.specs.Systems.{SystemParts}
 use Rattle.ioa_types.specs.TextTypes.{PlainTextTypes}
 use Rattle.ioa_automata.specs.SortedAutomata.{IsAutomatonOf}
 use Rattle.ioa_sorts.proofs.Lookups.{contained_has, found_has}
-use Rattle.ioa_check.specs.Sections.{automata_in, nodes_in}
-use Rattle.ioa_check.specs.Systems.{AreNodesOf, IsNodeOf, IsProgramOf, IsSystemOf}
+use Rattle.ioa_sections.specs.Sections.{automata_in, nodes_in}
+use Rattle.ioa_sections.specs.Meant.{AreNodesOf, IsNodeOf, IsProgramOf}
+use Rattle.ioa_check.specs.Systems.{IsSystemOf}
 use Rattle.ioa_run_laws.proofs.Numbered.{AreConstants, text_constants}
 
 -- each of several is related to one of others

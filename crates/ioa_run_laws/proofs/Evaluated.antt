@@ -26,7 +26,8 @@ use Rattle.ioa_automata.specs.SortedAutomata.{block_names, block_of, AreParamete
 use Rattle.ioa_types.specs.TextTypes.{PlainTextTypes}
 use Rattle.ioa_types.specs.TypeTables.{TypeTable}
 use Rattle.ioa_automata.proofs.CheckedAutomata.{automaton_checked}
-use Rattle.ioa_check.specs.Systems.{IsEntryOn, IsSystemOf}
+use Rattle.ioa_sections.specs.Meant.{IsEntryOn}
+use Rattle.ioa_check.specs.Systems.{IsSystemOf}
 use Rattle.ioa_transitions.specs.NodeState.{NodeState}
 use Rattle.ioa_transitions.specs.NodeStep.{IsOfSort, rule_bindings}
 use Rattle.ioa_compose.specs.declared.configuration.Conf.{Conf}

@@ -25,7 +25,7 @@ use Rattle.ioa_system.specs.Parts.{Parts, message_shape}
 use Rattle.ioa_system.specs.Systems.{SystemParts}
 use Rattle.ioa_names.specs.NameTables.{AreDistinct, declared_names}
 use Rattle.ioa_automata.specs.NamesInView.{parameter_shapes, variable_shapes, inbox_shapes_of}
-use Rattle.ioa_check.proofs.Tests.{word_turned}
+use Rattle.ioa_sections.proofs.Tests.{word_turned}
 use Rattle.ioa_check.specs.Systems.{IsSystemOf}
 use Rattle.ioa_channels.specs.Queues.{messages_of}
 use Rattle.ioa_channels.specs.declared.queue.Item.{Item}

@@ -28,7 +28,8 @@ use Rattle.ioa_types.specs.TypeTables.{TypeTable}
 use Rattle.ioa_automata.specs.SortedAutomata.{AreParametersOf, IsConstantAt, IsReceive, IsRuleOf, names_at}
 use Rattle.ioa_system.specs.Systems.{program_numbered}
 use Rattle.ioa_system.specs.Parts.{rule_named}
-use Rattle.ioa_check.specs.Systems.{HaveOneMessage, IsChannelOf, IsSystemOf}
+use Rattle.ioa_sections.specs.Meant.{HaveOneMessage, IsChannelOf}
+use Rattle.ioa_check.specs.Systems.{IsSystemOf}
 use Rattle.ioa_check.proofs.Declared.{declared_once}
 use Rattle.ioa_transitions.specs.NodeState.{NodeState}
 use Rattle.ioa_transitions.specs.NodeStep.{IsOfSort, IsNodeStep, TakesArgument}

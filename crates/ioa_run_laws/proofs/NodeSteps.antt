@@ -19,7 +19,7 @@ use Rattle.ioa_names.specs.NameTables.{AreDistinct, declared_names}
 use Rattle.ioa_types.specs.TextTypes.{PlainTextTypes}
 use Rattle.ioa_automata.specs.NamesInView.{parameter_shapes, variable_shapes, own_shapes}
 use Rattle.ioa_automata.specs.SortedAutomata.{IsRuleOf, names_at}
-use Rattle.ioa_check.proofs.Tests.{word_turned}
+use Rattle.ioa_sections.proofs.Tests.{word_turned}
 use Rattle.ioa_check.specs.Systems.{IsSystemOf}
 use Rattle.ioa_transitions.specs.NodeState.{NodeState, node_state}
 use Rattle.ioa_transitions.specs.NodeStep.{IsOfSort, IsNodeStep, own_values, rule_bindings}

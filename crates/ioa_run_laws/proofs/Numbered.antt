@@ -15,7 +15,7 @@ use Rattle.ioa_types.specs.TextTypes.{PlainTextTypes, no_types}
 use Rattle.ioa_types.specs.TypeDeclarations.{IsShapeOf, constants_of, DeclaresType}
 use Rattle.ioa_types.proofs.Meant.{no_text_types, type_added}
 use Rattle.ioa_types.proofs.TypeDeclarations.{type_found}
-use Rattle.ioa_check.specs.Systems.{AreTypesOf}
+use Rattle.ioa_sections.specs.Meant.{AreTypesOf}
 
 -- the types of declarations
 types_of : (ds : List SourceDeclaration) (t u : PlainTextTypes) → AreTextTypes t → AreTypesOf ds t u → AreTextTypes u

@@ -27,7 +27,8 @@ use Rattle.ioa_types.specs.TypeTables.{TypeTable}
 use Rattle.ioa_automata.specs.SortedAutomata.{AreMessageShapes, AreParametersOf, IsConditionOf, IsNumber, IsParameterOf, IsReceive, IsRuleOf, names_at}
 use Rattle.ioa_system.specs.Systems.{program_numbered}
 use Rattle.ioa_system.specs.Parts.{rule_named}
-use Rattle.ioa_check.specs.Systems.{IsChannelOf, IsConstantOf, IsEntryOn, IsSystemOf, TakesNumber}
+use Rattle.ioa_sections.specs.Meant.{IsChannelOf, IsConstantOf, IsEntryOn, TakesNumber}
+use Rattle.ioa_check.specs.Systems.{IsSystemOf}
 use Rattle.ioa_check.proofs.Declared.{declared_once}
 use Rattle.ioa_compose.specs.Composition.{component_of, find_conf}
 use Rattle.ioa_transitions.specs.NodeState.{NodeState, node_state}

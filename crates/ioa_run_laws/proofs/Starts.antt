@@ -8,8 +8,9 @@ use Rattle.ioa_source.specs.Sides.{CheckedDeclared, CheckedTerm, CheckedVariable
 use Rattle.ioa_system.specs.InView.{given_bindings}
 use Rattle.ioa_system.specs.Parts.{Parts}
 use Rattle.ioa_system.specs.Systems.{SystemParts}
-use Rattle.ioa_check.specs.Nodes.{constant_bindings}
-use Rattle.ioa_check.specs.Systems.{AreValuesFor, IsInitialValue, IsSystemOf}
+use Rattle.ioa_sections.specs.Nodes.{constant_bindings}
+use Rattle.ioa_sections.specs.Meant.{AreValuesFor, IsInitialValue}
+use Rattle.ioa_check.specs.Systems.{IsSystemOf}
 use Rattle.ioa_transitions.specs.NodeState.{node_state}
 use Rattle.ioa_compose.specs.Start.{node_start, channel_start, script_start, start}
 use Rattle.ioa_compose.specs.declared.configuration.Conf.{Conf}

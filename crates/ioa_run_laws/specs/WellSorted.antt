@@ -24,7 +24,7 @@ use Rattle.ioa_system.specs.InView.{block_own_names}
 use Rattle.ioa_system.specs.Parts.{PlainRule, message_shape}
 use Rattle.ioa_system.specs.ResolvedPrograms.{IsResolvedAutomaton}
 use Rattle.ioa_automata.specs.NamesInView.{variable_shapes}
-use Rattle.ioa_check.specs.Systems.{HasValue}
+use Rattle.ioa_sections.specs.Meant.{HasValue}
 use Rattle.ioa_transitions.specs.NodeState.{NodeState}
 use Rattle.ioa_transitions.specs.NodeStep.{IsOfSort, rule_bindings}
 use Rattle.ioa_compose.specs.declared.configuration.Conf.{Conf}

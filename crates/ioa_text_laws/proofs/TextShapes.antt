@@ -20,7 +20,7 @@ use Rattle.ioa_types.specs.Meanings.{Means}
 use Rattle.ioa_types.specs.TextTypes.{PlainTextTypes, no_types}
 use Rattle.ioa_types.specs.TypeDeclarations.{DeclaresType, IsShapeOf, constants_of}
 use Rattle.ioa_types.specs.TypeTables.{TypeTable}
-use Rattle.ioa_check.specs.Systems.{AreTypesOf}
+use Rattle.ioa_sections.specs.Meant.{AreTypesOf}
 use Rattle.ioa_front.proofs.PrintedGroups.{IsFilled}
 use Rattle.ioa_printed_lines.specs.TextSystems.{AreConstantNames, AreTextShapes, IsTextShape}
 use Rattle.ioa_text_laws.proofs.DeclaredNames.{IsNamedDeclaration, IsNamedForm}

@@ -16,9 +16,10 @@ use Rattle.ioa_types.specs.TextTypes.{PlainTextTypes}
 use Rattle.ioa_text_reader.specs.Texts.{TextSpells}
 use Rattle.ioa_automata.specs.NamesInView.{parameter_shapes}
 use Rattle.ioa_automata.specs.SortedAutomata.{AreParametersOf, IsAutomatonOf, IsDeclaredOf, IsRuleOf, names_at}
-use Rattle.ioa_check.specs.Sections.{automata_in, nodes_in}
-use Rattle.ioa_check.specs.Systems.{AreNodesOf, IsSystemOf}
-use Rattle.ioa_check.specs.declared.nodes.TheConstants.{MOST_NODES}
+use Rattle.ioa_sections.specs.Sections.{automata_in, nodes_in}
+use Rattle.ioa_sections.specs.Meant.{AreNodesOf}
+use Rattle.ioa_sections.specs.declared.nodes.TheConstants.{MOST_NODES}
+use Rattle.ioa_check.specs.Systems.{IsSystemOf}
 use Rattle.ioa_printed_lines.specs.TextSystems.{AreConstantNames, IsTextProgram, IsTextRule, IsTextShape, IsTextSystem}
 use Rattle.ioa_text_laws.proofs.DeclaredNames.{AreNamedEntries, IsNamedDeclaration, text_named}
 use Rattle.ioa_text_laws.proofs.TextShapes.{AreTextNames, AreTextual, as_many_words, constant_names, means_text, text_types}

@@ -1,0 +1,21 @@
+-- the lemmas of this crate
+pub mod Searches
+pub mod Loops
+pub mod DeclaredAutomata
+pub mod Results
+pub mod Apart
+pub mod Tests
+pub mod SeenScripts
+pub mod Grounds
+pub mod SoundDeclarations
+pub mod SoundNodes
+pub mod SoundChannels
+pub mod SoundScripts
+pub mod SoundSections
+pub mod CompleteTypes
+pub mod CompleteNodes
+pub mod CompleteChannels
+pub mod CompleteScripts
+pub mod CompleteSections
+pub mod DeclaredOnce
+pub mod Programs

@@ -1,0 +1,16 @@
+//! What a system section places.
+
+use ioa_source::Channel;
+use ioa_system::{Program, Script};
+use std::sync::Arc;
+
+/// What a system section places: the programs of its nodes, node 0 first, and its channels and scripts as declared.
+#[derive(Drop)]
+pub struct Placed {
+    /// The programs of the nodes.
+    pub programs: Vec<Arc<Program>>,
+    /// The channels.
+    pub channels: Vec<Channel>,
+    /// The scripts.
+    pub scripts: Vec<Script>,
+}
