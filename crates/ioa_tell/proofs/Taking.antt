@@ -26,14 +26,15 @@ use Rattle.ioa_book.specs.Proposals.{find_read, proposal_answer, reads_at, reads
 use Rattle.ioa_compose.proofs.Picks.{picks_of-entry}
 use Rattle.ioa_book.proofs.FoundReads.{found_conf}
 use Rattle.ioa_book.proofs.FreshLooks.{conf_seen, fresh_proposal}
-use Rattle.ioa_tell.specs.Events.{PlainEvent, PlainFault, PlainPlace, PlainReason, taken}
-use Rattle.ioa_tell.specs.Faulted.{IsFaulted}
+use Rattle.ioa_reasons.specs.Faulted.{IsFaulted}
+use Rattle.ioa_reasons.specs.PlainReasons.{PlainFault, PlainPlace, PlainReason}
+use Rattle.ioa_reasons.specs.Reasons.{IsReason, queue_among}
+use Rattle.ioa_reasons.specs.Tests.{IsNodeReason}
+use Rattle.ioa_reasons.specs.Unfit.{IsUnfit}
+use Rattle.ioa_tell.specs.Events.{PlainEvent, taken}
 use Rattle.ioa_tell.specs.Marks as mark
-use Rattle.ioa_tell.specs.Reasons.{IsReason}
 use Rattle.ioa_tell.specs.Steps.{HearsTaken, IsNext}
-use Rattle.ioa_tell.specs.Tests.{IsNodeReason}
-use Rattle.ioa_tell.specs.Unfit.{IsUnfit}
-use Rattle.ioa_tell.specs.Told.{IsMissedIn, IsTakenFrom, TellsOn, queue_among}
+use Rattle.ioa_tell.specs.Told.{IsMissedIn, IsTakenFrom, TellsOn}
 
 -- the configuration of what was read is the one that is found
 pub conf_read : (k : Component) (rs : List PlainVersionedConf) (r : PlainVersionedConf) → find_read k rs ≡ Some r → find_conf k (read_confs rs) ≡ Some r.conf

@@ -11,12 +11,13 @@ use Rattle.ioa_commits.specs.Books.{PlainBook, states_after}
 use Rattle.ioa_compose.specs.declared.configuration.Conf.{Conf}
 use Rattle.ioa_record.specs.declared.ending.Ending.{Ending}
 use Rattle.ioa_transitions.specs.Entries.{PlainEntry}
-use Rattle.ioa_tell.specs.Events.{PlainEvent, PlainFault, PlainPlace, PlainReason, PlainStatementPlace, taken, missed, faulted, unfit, stuck, idle, stopped, ended}
-use Rattle.ioa_tell.specs.Faulted.{IsFaulted}
+use Rattle.ioa_reasons.specs.Faulted.{IsFaulted}
+use Rattle.ioa_reasons.specs.PlainReasons.{PlainFault, PlainPlace, PlainReason, PlainStatementPlace}
+use Rattle.ioa_reasons.specs.Stuck.{IsStuckTold}
+use Rattle.ioa_reasons.specs.Unfit.{IsUnfit}
+use Rattle.ioa_tell.specs.Events.{PlainEvent, taken, missed, faulted, unfit, stuck, idle, stopped, ended}
 use Rattle.ioa_tell.specs.Marks as mark
 use Rattle.ioa_tell.specs.Marks.{Mark, entries_in, marks_of}
-use Rattle.ioa_tell.specs.Stuck.{IsStuckTold}
-use Rattle.ioa_tell.specs.Unfit.{IsUnfit}
 use Rattle.ioa_tell.specs.Told.{AreHeard, AreTold, IsMissedIn, TellsOn, TellsRun, TellsSuch, endings_told}
 
 -- what follows from what a call has done, where it has

@@ -1,21 +1,9 @@
 -- what the contracts of this crate and of those above it cite
 pub mod Attempts
 pub mod Events
-pub mod Faulted
 pub mod Faults
-pub mod Faulty
-pub mod Found
-pub mod FoundFaults
-pub mod FoundUnfit
 pub mod Marks
-pub mod Misfits
 pub mod Nodes
-pub mod Reasons
 pub mod Steps
-pub mod Stopping
-pub mod Stops
-pub mod Stuck
-pub mod Tests
 pub mod Told
-pub mod Unfit
 pub mod Visits

@@ -9,8 +9,8 @@ use Rattle.ioa_compose.specs.Composition.{find_conf, joint_answer}
 use Rattle.ioa_compose.specs.Participants.{participants_of}
 use Rattle.ioa_compose.specs.declared.configuration.Conf.{Conf}
 use Rattle.ioa_transitions.specs.Entries.{PlainEntry}
+use Rattle.ioa_reasons.specs.Reasons.{queue_among}
 use Rattle.ioa_tell.specs.Events.{PlainEvent, taken}
-use Rattle.ioa_tell.specs.Told.{queue_among}
 
 -- a book in which one more entry is recorded, by the joint step (Lynch 8.2)
 pub record IsNext (old : PlainBook) (e : PlainEntry) (new : PlainBook) : Type 0 where

@@ -1,8 +1,7 @@
 -- What is told is true of a schedule (Lynch 8.1 and 8.2).
-use Rattle.std.specs.Prelude.{◌≡◌, ℕ, ◌+◌, List, [], ◌∷◌, ◌++◌, length, map, Option, Some, None, Ok, Err}
+use Rattle.std.specs.Prelude.{◌≡◌, ℕ, ◌+◌, List, [], ◌∷◌, ◌++◌, length, map, Option, Some, Ok, Err}
 use Rattle.ioa_actions.specs.ActionParts.{node_of}
 use Rattle.ioa_actions.specs.declared.action.Action.{Action}
-use Rattle.ioa_actions.specs.declared.component.Component.{Component}
 use Rattle.ioa_actions.specs.declared.component.Component.TheVariants.{Node}
 use Rattle.ioa_actions.specs.declared.fault.StepFault.TheVariants.{NotEnabled}
 use Rattle.ioa_commits.specs.Books.{PlainBook, states_after}
@@ -14,20 +13,15 @@ use Rattle.ioa_record.specs.declared.ending.Ending.{Ending}
 use Rattle.ioa_system.specs.Systems.{SystemParts}
 use Rattle.ioa_transitions.specs.Entries.{PlainEntry, entry_of}
 use Rattle.ioa_turns.specs.NodeTurns.{PlainProgress, progress_at}
-use Rattle.ioa_tell.specs.Events.{PlainEvent, PlainReason, taken, missed, faulted, unfit, stuck, idle, stopped, ended}
-use Rattle.ioa_tell.specs.Faulted.{IsFaulted}
+use Rattle.ioa_reasons.specs.Faulted.{IsFaulted}
+use Rattle.ioa_reasons.specs.PlainReasons.{PlainReason}
+use Rattle.ioa_reasons.specs.Reasons.{IsReason, queue_among}
+use Rattle.ioa_reasons.specs.Stuck.{IsStuckTold}
+use Rattle.ioa_reasons.specs.Tests.{IsNodeReason}
+use Rattle.ioa_reasons.specs.Unfit.{IsUnfit}
+use Rattle.ioa_tell.specs.Events.{PlainEvent, taken, missed, faulted, unfit, stuck, idle, stopped, ended}
 use Rattle.ioa_tell.specs.Marks.{Mark, marks_of}
-use Rattle.ioa_tell.specs.Reasons.{IsReason}
-use Rattle.ioa_tell.specs.Stuck.{IsStuckTold}
-use Rattle.ioa_tell.specs.Tests.{IsNodeReason}
-use Rattle.ioa_tell.specs.Unfit.{IsUnfit}
 use Rattle.ioa_tell.specs.Visits.{AreEndedAs, AreVisited}
-
--- the configuration of the queue among participants, which comes first of two
-abbrev pub queue_among : List Component → List Conf → Option Conf
-queue_among [] cs = None
-queue_among (n ∷ []) cs = None
-queue_among (q ∷ n ∷ more) cs = find_conf q cs
 
 -- an action that is taken in these configurations and leads to those (Lynch 8.2): it is told of its node how it was
 -- before and how it is after, and of its queue how it is after

@@ -7,24 +7,15 @@
 #![tactic(auto)]
 
 mod event;
-mod falsified;
 mod fault;
-mod faulted;
-mod faulty;
-mod found;
-mod misfits;
-mod misses;
 mod rounds;
 mod steps;
-mod stops;
-mod stuck;
 mod telling;
 mod tells;
-mod unfit;
 mod visited;
 mod visits;
 
-pub use event::{Event, Fault, NamedValue, Place, Reason, StatementPlace, Test};
+pub use event::Event;
 pub use fault::TellFault;
 pub use telling::tell;
 pub use tells::Tells;

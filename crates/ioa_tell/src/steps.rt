@@ -1,25 +1,24 @@
 //! Entries of a record, taken once more.
 
 ghost use Rattle.std.specs.Prelude.{◌≡◌, [], ◌∷◌, IfOk, OnOk, Some, Ok, true};
-ghost use Rattle.std.specs.Option.{option_copied};
 ghost use Rattle.ioa_actions.specs.ActionParts as spec;
 ghost use Rattle.ioa_book.specs.Looks.{IsLookAt, snapshot_after};
 ghost use Rattle.ioa_book.specs.Proposals.{proposal_answer};
 ghost use Rattle.ioa_commits.specs.Commits.{IsCommitted};
 ghost use Rattle.ioa_commits.specs.Versions.{read_confs};
 ghost use Rattle.ioa_compose.specs.Composition as conf;
-ghost use Rattle.ioa_compose.specs.Participants.{participants_of};
 ghost use Rattle.ioa_tell.specs.Marks as mark;
 ghost use Rattle.ioa_tell.specs.Steps.{HearsTaken, IsNext};
-ghost use Rattle.ioa_tell.specs.Told.{TellsOn, queue_among};
+ghost use Rattle.ioa_tell.specs.Told.{TellsOn};
 
 use crate::event::Event;
 use crate::fault::TellFault;
 use crate::tells::Tells;
-use ioa_actions::{Action, Component};
+use ioa_actions::Component;
 use ioa_book::{Book, Committed, Proposal, Refused, Snapshot, VersionedConf};
-use ioa_compose::{Conf, Parties, participants};
+use ioa_compose::Conf;
 use ioa_rawlog::Spare;
+use ioa_reasons::{conf_of, queue_of};
 use ioa_sharing::Origin;
 use ioa_transitions::Entry;
 use std::alloc::{AllocError, Global};
@@ -167,26 +166,4 @@ fn tell_taken<O: Origin, T: Tells>(
         queue,
     };
     out.event(alloc, event)
-}
-
-/// What a look shows of a component, if it does.
-pub(crate) fn conf_of<O: Origin>(look: &Snapshot<O>, component: Component) -> Option<&Conf>
-    ensures { option_copied result ≡ conf.find_conf component (read_confs look.now.reads) }
-{
-    for read in look.reads() {
-        if component == read.component() {
-            return Some(read.conf());
-        }
-    }
-    None
-}
-
-/// What a look shows of the queue that takes part in an action, if one does.
-fn queue_of<'a, O: Origin>(look: &'a Snapshot<O>, action: &Action) -> Option<&'a Conf>
-    ensures { option_copied result ≡ queue_among (participants_of action.now) (read_confs look.now.reads) }
-{
-    match participants(action) {
-        Parties::One(_) => None,
-        Parties::Two(queue, _) => conf_of(look, queue),
-    }
 }

@@ -13,33 +13,31 @@ ghost use Rattle.ioa_schedules.specs.Turns.{IsAtFire, IsAtFiring};
 ghost use Rattle.ioa_terms.specs.View.{firing_of};
 ghost use Rattle.ioa_turns.specs.Fired.{action_fired};
 ghost use Rattle.ioa_turns.specs.NodeTurns.{arguments_in, progress_of, with_ending};
+ghost use Rattle.ioa_reasons.specs.Faulted.{IsFaulted};
+ghost use Rattle.ioa_reasons.specs.Found.{false_part_found};
+ghost use Rattle.ioa_reasons.specs.FoundFaults.{fault_found};
+ghost use Rattle.ioa_reasons.specs.PlainReasons as told;
+ghost use Rattle.ioa_reasons.specs.Reasons.{IsReason, queue_among};
+ghost use Rattle.ioa_reasons.specs.Stuck.{IsStuckOn};
+ghost use Rattle.ioa_reasons.specs.Tests.{IsFalsified, IsNodeReason};
+ghost use Rattle.ioa_reasons.specs.Unfit.{IsUnfit};
 ghost use Rattle.ioa_tell.specs.Attempts.{IsAfterFault, IsAfterFire, IsAttempt, IsTried, IsVisit, stops};
-ghost use Rattle.ioa_tell.specs.Events as told;
-ghost use Rattle.ioa_tell.specs.Faulted.{IsFaulted};
-ghost use Rattle.ioa_tell.specs.Stuck.{IsStuckOn};
-ghost use Rattle.ioa_tell.specs.Found.{false_part_found};
-ghost use Rattle.ioa_tell.specs.FoundFaults.{fault_found};
 ghost use Rattle.ioa_tell.specs.Marks as mark;
 ghost use Rattle.ioa_tell.specs.Nodes.{progress_in};
-ghost use Rattle.ioa_tell.specs.Reasons.{IsReason};
-ghost use Rattle.ioa_tell.specs.Tests.{IsFalsified, IsNodeReason};
-ghost use Rattle.ioa_tell.specs.Told.{TellsOn, TellsSuch, queue_among};
-ghost use Rattle.ioa_tell.specs.Unfit.{IsUnfit};
+ghost use Rattle.ioa_tell.specs.Told.{TellsOn, TellsSuch};
 
-use crate::event::{Event, Reason};
-use crate::falsified::{Falsified, find_falsified};
+use crate::event::Event;
 use crate::fault::TellFault;
-use crate::faulted::{Faulted, find_faulted};
-use crate::found::StatementFault;
-use crate::misses::reason_of;
 use crate::steps::{refresh, take};
-use crate::stuck::find_stuck;
 use crate::tells::Tells;
-use crate::unfit::{Unfit, find_unfit};
 use crate::visited::Visited;
 use ioa_actions::{Action, Component, StepFault};
 use ioa_book::{Book, Proposal, Snapshot};
 use ioa_rawlog::{Spare, Walk};
+use ioa_reasons::{
+    Falsified, Faulted, Reason, StatementFault, Unfit, find_falsified, find_faulted, find_stuck,
+    find_unfit, reason_of,
+};
 use ioa_record::{Ending, NodeFault};
 use ioa_schedules::Turn;
 use ioa_sharing::Origin;

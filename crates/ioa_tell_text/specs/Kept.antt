@@ -7,8 +7,8 @@ use Rattle.ioa_actions.specs.Actions.{same_action}
 use Rattle.ioa_actions.specs.ComponentOrder.{same_component}
 use Rattle.ioa_channels.specs.Queues.{same_item}
 use Rattle.ioa_terms.specs.Bindings.{same_word}
-use Rattle.ioa_tell.specs.Events as told
-use Rattle.ioa_tell.specs.Events.{PlainReason}
+use Rattle.ioa_reasons.specs.PlainReasons as told
+use Rattle.ioa_reasons.specs.PlainReasons.{PlainReason}
 use Rattle.ioa_tell_text.specs.Tests.{false_text}
 use Rattle.ioa_tell_text.specs.declared.waiting.Passing.{Passing}
 use Rattle.ioa_tell_text.specs.declared.waiting.Passing.TheVariants.{Idle, Missed}

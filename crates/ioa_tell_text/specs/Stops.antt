@@ -7,8 +7,8 @@ use Rattle.ioa_operators.specs.declared.shape.Shape.{Shape}
 use Rattle.ioa_source.specs.Sides.{CheckedTerm}
 use Rattle.ioa_terms.specs.PlainTerm.{PlainTarget, terms_of, variable, at_key, at_field}
 use Rattle.ioa_terms.specs.declared.callee.Callee.{Callee}
-use Rattle.ioa_tell.specs.Events.{PlainFault, PlainPlace, PlainStatementPlace, assigned, tested, repeated, fired}
-use Rattle.ioa_tell.specs.Events.{condition, guard, effect}
+use Rattle.ioa_reasons.specs.PlainReasons.{PlainFault, PlainPlace, condition, guard, effect}
+use Rattle.ioa_reasons.specs.PlainReasons.{PlainStatementPlace, assigned, tested, repeated, fired}
 use Rattle.ioa_tell_text.specs.Terms.{parts_text, term_text}
 use Rattle.ioa_tell_text.specs.Tests.{values_text}
 

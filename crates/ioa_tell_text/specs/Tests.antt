@@ -6,8 +6,8 @@ use Rattle.ioa_source.specs.Sides.{CheckedTerm}
 use Rattle.ioa_terms.specs.Bindings.{same_word}
 use Rattle.ioa_terms.specs.declared.name.Name.{Name}
 use Rattle.ioa_terms.specs.declared.name.Name.TheVariants.{Word, Variable, Queue}
-use Rattle.ioa_tell.specs.declared.event.Test.{Test}
-use Rattle.ioa_tell.specs.declared.event.Test.TheVariants.{Where, Guard}
+use Rattle.ioa_reasons.specs.declared.reason.Test.{Test}
+use Rattle.ioa_reasons.specs.declared.reason.Test.TheVariants.{Where, Guard}
 use Rattle.ioa_tell_text.specs.Terms.{name_text, term_text}
 
 -- the word of a test

@@ -5,7 +5,7 @@ ghost use Rattle.std.specs.Option.{option_copied};
 ghost use Rattle.ioa_terms.specs.View.{target_of, term_of};
 ghost use Rattle.ioa_values.specs.Outcome.{Writes};
 ghost use Rattle.ioa_paper.specs.Papers.{and_text};
-ghost use Rattle.ioa_tell.specs.Events.{fault_of, place_of, statement_place_of};
+ghost use Rattle.ioa_reasons.specs.PlainReasons.{fault_of, place_of, statement_place_of};
 ghost use Rattle.ioa_tell_text.specs.Stops as spec;
 
 use crate::changes::put_word;
@@ -13,8 +13,8 @@ use crate::kept::KeptText;
 use crate::terms::{push_parts, push_term};
 use crate::tests::push_values;
 use ioa_paper::Paper;
+use ioa_reasons::{Fault, Place, StatementPlace};
 use ioa_streams::Out;
-use ioa_tell::{Fault, Place, StatementPlace};
 use ioa_terms::{Callee, Checked, Shape, Target};
 use ioa_values::{Names, Value, Word, push_shown};
 use std::alloc::{AllocError, Global};

@@ -4,13 +4,13 @@ ghost use Rattle.std.specs.Prelude.{◌≡◌, ◌++◌, false, IfOk, OnOk, code
 ghost use Rattle.ioa_terms.specs.View.{term_of};
 ghost use Rattle.ioa_values.specs.Outcome.{Writes};
 ghost use Rattle.ioa_values.specs.Text.{text};
-ghost use Rattle.ioa_tell.specs.Events.{named_value};
+ghost use Rattle.ioa_reasons.specs.PlainReasons.{named_value};
 ghost use Rattle.ioa_tell_text.specs.Terms.{name_text};
 ghost use Rattle.ioa_tell_text.specs.Tests as spec;
 
 use crate::kept::KeptText;
 use crate::terms::{push_name, push_term};
-use ioa_tell::{NamedValue, Test};
+use ioa_reasons::{NamedValue, Test};
 use ioa_terms::{Checked, Name};
 use ioa_values::{Names, Value, push_shown, show};
 use std::alloc::{AllocError, Global};

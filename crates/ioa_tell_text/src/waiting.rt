@@ -3,7 +3,7 @@
 ghost use Rattle.std.specs.Prelude.{◌≡◌, IfOk};
 ghost use Rattle.ioa_channels.specs.Fronts.{front_item};
 ghost use Rattle.ioa_channels.specs.Queues.{same_item};
-ghost use Rattle.ioa_tell.specs.Events.{reason_of};
+ghost use Rattle.ioa_reasons.specs.PlainReasons.{reason_of};
 ghost use Rattle.ioa_transitions.specs.Entries.{entry_of};
 ghost use Rattle.ioa_tell_text.specs.Kept as spec;
 ghost use Rattle.ioa_tell_text.specs.Kept.{same_passing, same_why, why_of};
@@ -12,7 +12,7 @@ use crate::kept::KeptText;
 use crate::tests::false_text;
 use ioa_actions::{Action, Component};
 use ioa_channels::{Front, Item};
-use ioa_tell::Reason;
+use ioa_reasons::Reason;
 use ioa_transitions::Entry;
 use ioa_values::Names;
 use std::alloc::{AllocError, Global};

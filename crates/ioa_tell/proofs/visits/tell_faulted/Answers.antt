@@ -5,9 +5,9 @@ use Rattle.ioa_actions.specs.declared.component.Component.TheVariants.{Node}
 use Rattle.ioa_book.specs.Looks.{PlainSnapshot}
 use Rattle.ioa_commits.specs.Books.{states_held}
 use Rattle.ioa_compose.specs.Composition.{find_conf}
-use Rattle.ioa_tell.specs.Events.{PlainFault, fault_of, place_of}
-use Rattle.ioa_tell.specs.Faulted.{IsFaulted}
-use Rattle.ioa_tell.specs.FoundFaults.{fault_found}
+use Rattle.ioa_reasons.specs.Faulted.{IsFaulted}
+use Rattle.ioa_reasons.specs.FoundFaults.{fault_found}
+use Rattle.ioa_reasons.specs.PlainReasons.{PlainFault, fault_of, place_of}
 use Rattle.ioa_tell.proofs.Taking.{faulted_in}
 use Rattle.ioa_tell.proofs.Tellings.{on_from, tells_faulted}
 use Rattle.ioa_tell.proofs.visits.tell_faulted.Goals as goal

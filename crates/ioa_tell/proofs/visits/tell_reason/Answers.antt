@@ -1,7 +1,7 @@
 use Rattle.std.proofs.Common.{ap, ◌∙◌}
 use Rattle.std.specs.Arc.{arc_value}
 use Rattle.ioa_book.specs.Looks.{PlainSnapshot}
-use Rattle.ioa_tell.specs.Events.{reason_of}
+use Rattle.ioa_reasons.specs.PlainReasons.{reason_of}
 use Rattle.ioa_tell.proofs.Taking.{missed_in}
 use Rattle.ioa_tell.proofs.Tellings.{on_from, tells_missed}
 use Rattle.ioa_tell.proofs.visits.tell_reason.Goals as goal

@@ -2,9 +2,9 @@ use Rattle.std.proofs.Common.{ap, rules, sym, subst, ◌∙◌}
 use Rattle.ioa_book.specs.Looks.{PlainSnapshot}
 use Rattle.ioa_commits.specs.Versions.{read_confs}
 use Rattle.ioa_turns.specs.NodeTurns.{progress_of}
-use Rattle.ioa_tell.specs.Events.{PlainFault, fault_of, statement_place_of}
-use Rattle.ioa_tell.specs.FoundFaults.{fault_found}
-use Rattle.ioa_tell.specs.Stuck.{IsStuckOn, IsStuckTold}
+use Rattle.ioa_reasons.specs.FoundFaults.{fault_found}
+use Rattle.ioa_reasons.specs.PlainReasons.{PlainFault, fault_of, statement_place_of}
+use Rattle.ioa_reasons.specs.Stuck.{IsStuckOn, IsStuckTold}
 use Rattle.ioa_tell.proofs.Tellings.{on_from, tells_stuck}
 use Rattle.ioa_tell.proofs.visits.tell_stuck_at.Goals as goal
 

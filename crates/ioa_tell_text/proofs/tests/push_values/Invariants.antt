@@ -1,6 +1,6 @@
 use Rattle.std.proofs.Common.{◌≡◌, ◌++◌, false, map, drop}
 use Rattle.std.specs.Prelude.{string_bytes}
-use Rattle.ioa_tell.specs.Events.{named_value}
+use Rattle.ioa_reasons.specs.PlainReasons.{named_value}
 use Rattle.ioa_tell_text.specs.Tests.{values_text}
 use Rattle.ioa_tell_text.proofs.tests.push_values.Given as goal
 

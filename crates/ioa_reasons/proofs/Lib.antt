@@ -1,0 +1,8 @@
+-- the lemmas of this crate
+pub mod FalseParts
+pub mod FaultParts
+pub mod FaultyTerms
+pub mod FieldShapes
+pub mod Firsts
+pub mod UnfitFound
+pub mod Viewed

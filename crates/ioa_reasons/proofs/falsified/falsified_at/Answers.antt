@@ -1,0 +1,11 @@
+use Rattle.std.proofs.Common.{◌≡◌, Some, rules}
+use Rattle.ioa_actions.specs.ActionParts.{action_name}
+use Rattle.ioa_system.specs.Parts.{rule_named}
+use Rattle.ioa_reasons.specs.Found.{false_part_found}
+use Rattle.ioa_reasons.proofs.FalseParts.{found_in}
+use Rattle.ioa_reasons.proofs.falsified.falsified_at.Goals as goal
+
+pub returns-in-Some : goal.returns-in-Some
+returns-in-Some c =
+    let named : rule_named (action_name c.args.action.now) c.args.conf.now.program.automaton.rules ≡ Some c.in-Some.rule.now = search rules in
+    found_in false_part_found c.args.conf.now c.args.action.now c.in-Some.rule.now named c.falsified_by.result c.falsified_by.ensures

@@ -1,7 +1,0 @@
-use Rattle.ioa_tell.specs.Events.{statement_place_of}
-use Rattle.ioa_tell.specs.FoundFaults.{fault_found}
-use Rattle.ioa_tell.proofs.FaultParts.{found_then}
-use Rattle.ioa_tell.proofs.faulted.fault_then.Goals as goal
-
-pub returns : goal.returns
-returns c = found_then (λ f. statement_place_of f.place) (λ f. fault_found f.fault) c.args.view.now c.args.values.now c.requires.named c.fault_by.result c.fault_by.ensures
