@@ -6,7 +6,7 @@ use std::alloc::{AllocError, Global};
 
 /// An action of a node in four lines: as one of the node, as a local one and as a stimulus, each a copy that is the
 /// same, and whether the last two differ.
-pub fn action_text(
+pub(crate) fn action_text(
     alloc: Global,
     constants: &Names,
     node: i64,

@@ -21,13 +21,13 @@ use std::alloc::{AllocError, Global};
 /// What is evaluated in: the names in view, those of variables first and those of constants behind them, and the
 /// constants alone.
 #[derive(Drop)]
-pub struct Scope {
+pub(crate) struct Scope {
     pub names: Vec<Word>,
     pub constants: Names,
 }
 
 /// A term with slots.
-pub fn resolved_term(
+pub(crate) fn resolved_term(
     alloc: Global,
     places: &Places,
     names: &[Word],
@@ -44,7 +44,7 @@ pub fn resolved_term(
 }
 
 /// Terms with slots.
-pub fn resolved_terms(
+pub(crate) fn resolved_terms(
     alloc: Global,
     places: &Places,
     names: &[Word],
@@ -63,7 +63,10 @@ pub fn resolved_terms(
 
 /// The environment of names of which the first have values.
 #[tactic(auto, using(crate::proofs::Names::names_split))]
-pub fn environment<'a>(names: &'a [Word], values: &'a [Value]) -> Result<Env<'a>, CommandFault>
+pub(crate) fn environment<'a>(
+    names: &'a [Word],
+    values: &'a [Value],
+) -> Result<Env<'a>, CommandFault>
     ensures { IfOk result (λ e. names_of e ≡ map Name.Word names.now) }
 {
     if values.len() > names.len() {
@@ -74,7 +77,7 @@ pub fn environment<'a>(names: &'a [Word], values: &'a [Value]) -> Result<Env<'a>
 }
 
 /// The value of a term.
-pub fn value_of(alloc: Global, term: &Checked, env: &Env) -> Result<Value, TermFault>
+pub(crate) fn value_of(alloc: Global, term: &Checked, env: &Env) -> Result<Value, TermFault>
     requires { IsResolved (term_of term.now) (names_of env.now) }
 {
     eval(alloc, term, env)
@@ -119,7 +122,7 @@ fn called(alloc: Global, callee: Callee, values: Vec<Value>) -> Result<Value, Te
 }
 
 /// What a question about the value of a term is answered.
-pub fn answered(
+pub(crate) fn answered(
     alloc: Global,
     command: &str,
     constants: &Names,
@@ -169,7 +172,7 @@ fn answer_text(
 }
 
 /// The number and the name of a fault.
-pub fn fault_text(alloc: Global, fault: TermFault) -> Result<String, CommandFault> {
+pub(crate) fn fault_text(alloc: Global, fault: TermFault) -> Result<String, CommandFault> {
     match fault {
         TermFault::Memory => Err(CommandFault::Memory),
         TermFault::Undefined | TermFault::Range => Ok(format!(in alloc; "{fault}")?),
@@ -177,7 +180,7 @@ pub fn fault_text(alloc: Global, fault: TermFault) -> Result<String, CommandFaul
 }
 
 /// Whether a copy of a shape admits a value, as text, or the fault of the value.
-pub fn admits_text(
+pub(crate) fn admits_text(
     alloc: Global,
     shape: &Shape,
     answer: Result<Value, TermFault>,
@@ -198,7 +201,7 @@ fn copy_admits(alloc: Global, shape: &Shape, value: &Value) -> Result<bool, Allo
 }
 
 /// The values that statements leave of those of all variables, or their fault.
-pub fn effect_text(
+pub(crate) fn effect_text(
     alloc: Global,
     statements: &Vec<Statement<usize, Callee, Shape>>,
     names: &[Word],
@@ -246,7 +249,11 @@ fn values_text(alloc: Global, constants: &Names, values: &[Value]) -> Result<Str
 }
 
 /// The values of terms.
-pub fn values_of(alloc: Global, terms: &Vec<Checked>, env: &Env) -> Result<Vec<Value>, TermFault>
+pub(crate) fn values_of(
+    alloc: Global,
+    terms: &Vec<Checked>,
+    env: &Env,
+) -> Result<Vec<Value>, TermFault>
     requires { AreTermsResolved (terms_of (map term_of terms.now.items)) (names_of env.now) }
 {
     evaluate_all(alloc, terms, env)

@@ -1,7 +1,7 @@
 //! The help of the program.
 
 /// What the program is for, its commands with their parts, and what they answer.
-pub const HELP: &str = "\
+pub(crate) const HELP: &str = "\
 ioa_term_rows <SCRIPT: the sorts and the values of terms, and what statements do. It writes the script anew with the
 answers that it gives, so `ioa_term_rows <SCRIPT | diff SCRIPT -` shows the rows that fail.
 

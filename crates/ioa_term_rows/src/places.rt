@@ -8,20 +8,20 @@ use std::alloc::Global;
 
 /// A name, and the shape that it has or that it is the name of.
 #[derive(Drop)]
-pub struct NamedShape {
+pub(crate) struct NamedShape {
     pub name: Word,
     pub shape: Shape,
 }
 
 /// The names in view and the types, which are lent.
 #[derive(Drop)]
-pub struct Places<'a> {
+pub(crate) struct Places<'a> {
     pub view: &'a View<'a>,
     pub types: &'a [NamedShape],
 }
 
 /// The shape of a type, if one has this name.
-pub fn shape_of_type<'a>(types: &'a [NamedShape], name: &Word) -> Option<&'a Shape> {
+pub(crate) fn shape_of_type<'a>(types: &'a [NamedShape], name: &Word) -> Option<&'a Shape> {
     for declared in types {
         if declared.name == *name {
             return Some(&declared.shape);
@@ -31,7 +31,7 @@ pub fn shape_of_type<'a>(types: &'a [NamedShape], name: &Word) -> Option<&'a Sha
 }
 
 /// The slot of a name in view.
-pub fn slot_of(places: &Places, name: &Name) -> Result<usize, CommandFault> {
+pub(crate) fn slot_of(places: &Places, name: &Name) -> Result<usize, CommandFault> {
     match places.view.find(name) {
         Some((slot, _)) => Ok(slot),
         None => Err(CommandFault::Bad("a name is not in view")),
@@ -39,7 +39,7 @@ pub fn slot_of(places: &Places, name: &Name) -> Result<usize, CommandFault> {
 }
 
 /// The slot of a variable, and a copy of its declared shape.
-pub fn variable_of(
+pub(crate) fn variable_of(
     alloc: Global,
     places: &Places,
     name: &Word,

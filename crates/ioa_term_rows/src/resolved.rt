@@ -13,7 +13,7 @@ ghost use Rattle.ioa_terms.specs.View.{term_of, target_of, statement_of, arm_of}
 use ioa_terms::{Arm, Callee, Checked, Function, Name, Shape, Statement, Target, Word};
 
 /// Whether a slot is the first one of a name.
-pub fn is_first(name: &Word, slot: usize, names: &[Word]) -> bool
+pub(crate) fn is_first(name: &Word, slot: usize, names: &[Word]) -> bool
     ensures { IsTrue result → slot_in (Name.Word name.now) (map Name.Word names.now) ≡ Some slot }
 {
     for (at, other) in names.iter().enumerate() {
@@ -37,7 +37,7 @@ fn is_at(name: &Name, slot: usize, names: &[Word]) -> bool
 
 /// Whether each name of a term has its slot.
 #[cycle(resolving)]
-pub fn is_resolved(term: &Checked, names: &[Word]) -> bool
+pub(crate) fn is_resolved(term: &Checked, names: &[Word]) -> bool
     ensures { IsTrue result → IsResolved (term_of term.now) (map Name.Word names.now) }
 {
     match term {
@@ -64,7 +64,7 @@ fn is_of(name: &Word, callee: Callee) -> bool
 
 /// Whether each name of each term has its slot.
 #[cycle(resolving)]
-pub fn are_resolved(parts: &Vec<Checked>, names: &[Word]) -> bool
+pub(crate) fn are_resolved(parts: &Vec<Checked>, names: &[Word]) -> bool
     ensures { IsTrue result → AreTermsResolved (terms_of (map term_of parts.now.items)) (map Name.Word names.now) }
 {
     for part in parts {
@@ -76,7 +76,7 @@ pub fn are_resolved(parts: &Vec<Checked>, names: &[Word]) -> bool
 }
 
 /// Whether the name of a target has its slot among the variables, and the key's names have theirs.
-pub fn is_resolved_target(
+pub(crate) fn is_resolved_target(
     target: &Target<usize, Callee, Shape>,
     variables: &[Word],
     names: &[Word],
@@ -93,7 +93,7 @@ pub fn is_resolved_target(
 
 /// Whether each name of a statement of an effect has its slot. No effect has a loop or a firing.
 #[cycle(resolving_statements)]
-pub fn is_resolved_statement(
+pub(crate) fn is_resolved_statement(
     statement: &Statement<usize, Callee, Shape>,
     variables: &[Word],
     names: &[Word],
@@ -116,7 +116,7 @@ pub fn is_resolved_statement(
 
 /// The same of the tests and the statements of arms.
 #[cycle(resolving_statements)]
-pub fn are_resolved_arms(
+pub(crate) fn are_resolved_arms(
     arms: &Vec<Arm<usize, Callee, Shape>>,
     variables: &[Word],
     names: &[Word],
@@ -134,7 +134,7 @@ pub fn are_resolved_arms(
 
 /// The same of statements.
 #[cycle(resolving_statements)]
-pub fn are_resolved_statements(
+pub(crate) fn are_resolved_statements(
     statements: &Vec<Statement<usize, Callee, Shape>>,
     variables: &[Word],
     names: &[Word],

@@ -14,17 +14,21 @@ const NO_KIND: CommandFault = CommandFault::Bad(
 );
 
 /// A term in a box.
-pub fn boxed(alloc: Global, term: Checked) -> Result<Box<Checked>, AllocError> {
+pub(crate) fn boxed(alloc: Global, term: Checked) -> Result<Box<Checked>, AllocError> {
     Ok(Box::new(alloc, term)?)
 }
 
 /// The term with slots and shapes.
-pub fn resolve(alloc: Global, places: &Places, term: &Term) -> Result<Box<Checked>, CommandFault> {
+pub(crate) fn resolve(
+    alloc: Global,
+    places: &Places,
+    term: &Term,
+) -> Result<Box<Checked>, CommandFault> {
     resolve_in(alloc, places, None, term)
 }
 
 /// The terms with slots and shapes.
-pub fn resolve_each(
+pub(crate) fn resolve_each(
     alloc: Global,
     places: &Places,
     terms: &Vec<Term>,
@@ -96,7 +100,7 @@ fn push(terms: &mut Vec<Checked>, term: Box<Checked>) -> Result<(), AllocError> 
 
 /// Whether the parts of a call are one display: the name before it says of which kind the display is.
 fn is_only_display(parts: &Vec<Term>) -> bool {
-    matches!(parts.as_slice(), [Term::Display(_, _, _)])
+    matches!(parts.as_slice(), [Term::Display(..)])
 }
 
 /// The only term.

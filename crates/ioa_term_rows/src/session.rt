@@ -22,7 +22,7 @@ use std::mem;
 
 /// What is in view.
 #[derive(Drop)]
-pub struct TermSession {
+pub(crate) struct TermSession {
     alloc: Global,
     types: Vec<NamedShape>,
     type_constants: usize,
@@ -58,7 +58,7 @@ impl Session for TermSession {
 
 impl TermSession {
     /// Nothing is in view.
-    pub fn new(alloc: Global) -> Self {
+    pub(crate) fn new(alloc: Global) -> Self {
         TermSession {
             alloc,
             types: Vec::new(alloc),

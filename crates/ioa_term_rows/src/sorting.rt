@@ -13,7 +13,7 @@ use ioa_typed::Typed;
 use std::alloc::{AllocError, Global};
 
 /// The sort that a term has of its own, or its refusal.
-pub fn own_sort(alloc: Global, places: &Places, text: &str) -> Result<String, CommandFault> {
+pub(crate) fn own_sort(alloc: Global, places: &Places, text: &str) -> Result<String, CommandFault> {
     let term = whole_term(alloc, text)?;
     match infer(alloc, places.view, &term) {
         Ok(Some(typed)) => Ok(sort_of(alloc, typed)?),
@@ -35,7 +35,7 @@ fn sort_text(alloc: Global, shape: &Shape) -> Result<String, AllocError> {
 }
 
 /// `ok` if a term has a sort, or its refusal.
-pub fn fits(alloc: Global, places: &Places, text: &str) -> Result<String, CommandFault> {
+pub(crate) fn fits(alloc: Global, places: &Places, text: &str) -> Result<String, CommandFault> {
     match at_sort(alloc, places, text)? {
         Ok(_) => Ok(String::from_str(alloc, "ok")?),
         Err(fault) => refused(alloc, fault),
@@ -43,7 +43,7 @@ pub fn fits(alloc: Global, places: &Places, text: &str) -> Result<String, Comman
 }
 
 /// A term at a sort, with slots and sorts, or its refusal.
-pub fn resolved(alloc: Global, places: &Places, text: &str) -> Result<String, CommandFault> {
+pub(crate) fn resolved(alloc: Global, places: &Places, text: &str) -> Result<String, CommandFault> {
     match at_sort(alloc, places, text)? {
         Ok(term) => Ok(term_text(alloc, &term)?),
         Err(fault) => refused(alloc, fault),

@@ -13,7 +13,7 @@ use std::sync::Arc;
 const BRACKETS: usize = 64;
 
 /// The shape of the sort that a text is.
-pub fn whole_sort(
+pub(crate) fn whole_sort(
     alloc: Global,
     types: &[NamedShape],
     text: &str,
@@ -26,7 +26,7 @@ pub fn whole_sort(
 }
 
 /// The shape of the sort that comes next.
-pub fn next_sort(
+pub(crate) fn next_sort(
     alloc: Global,
     types: &[NamedShape],
     tokens: &mut Tokens<'_>,
@@ -112,12 +112,12 @@ fn named_sort(
 }
 
 /// A copy of a shape in a box.
-pub fn boxed_copy(alloc: Global, shape: &Shape) -> Result<Box<Shape>, AllocError> {
+pub(crate) fn boxed_copy(alloc: Global, shape: &Shape) -> Result<Box<Shape>, AllocError> {
     Ok(Box::new(alloc, shape.try_copy(alloc)?)?)
 }
 
 /// The name and the shape of a declaration, `NAME SORT`.
-pub fn next_declaration(
+pub(crate) fn next_declaration(
     alloc: Global,
     types: &[NamedShape],
     tokens: &mut Tokens<'_>,
@@ -135,7 +135,7 @@ fn named(alloc: Global, name: Word, shape: Box<Shape>) -> Result<Box<NamedShape>
 
 /// The type that a text declares, `NAME = enumeration of N` or `NAME = tuple of FIELD: SORT, ..`. `first` is the index
 /// of its first constant.
-pub fn whole_type(
+pub(crate) fn whole_type(
     alloc: Global,
     types: &[NamedShape],
     first: usize,

@@ -13,7 +13,7 @@ use std::alloc::{AllocError, Global};
 type Step = Statement<usize, Callee, Shape>;
 
 /// The statements that a text is.
-pub fn whole_statements(
+pub(crate) fn whole_statements(
     alloc: Global,
     places: &Places,
     text: &str,

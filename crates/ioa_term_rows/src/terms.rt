@@ -8,7 +8,7 @@ use ioa_tokens::{CutFault, LocatedToken, Mark, tokens};
 use std::alloc::{AllocError, Global};
 
 /// The tokens of a text.
-pub fn tokens_of(alloc: Global, text: &str) -> Result<Vec<LocatedToken<'_>>, CommandFault> {
+pub(crate) fn tokens_of(alloc: Global, text: &str) -> Result<Vec<LocatedToken<'_>>, CommandFault> {
     match tokens(alloc, text) {
         Ok(located) => Ok(located),
         Err(CutFault::Memory) => Err(CommandFault::Memory),
@@ -18,7 +18,7 @@ pub fn tokens_of(alloc: Global, text: &str) -> Result<Vec<LocatedToken<'_>>, Com
 }
 
 /// The term that comes next.
-pub fn next_term(alloc: Global, tokens: &mut Tokens<'_>) -> Result<Box<Term>, CommandFault> {
+pub(crate) fn next_term(alloc: Global, tokens: &mut Tokens<'_>) -> Result<Box<Term>, CommandFault> {
     match term(alloc, tokens, BRACKET_LIMIT) {
         Ok(built) => Ok(boxed(alloc, built)?),
         Err(Unread::Memory) => Err(CommandFault::Memory),
@@ -32,7 +32,7 @@ fn boxed(alloc: Global, built: Built<Term>) -> Result<Box<Term>, AllocError> {
 }
 
 /// The word that comes next.
-pub fn next_word(alloc: Global, tokens: &mut Tokens<'_>) -> Result<Word, CommandFault> {
+pub(crate) fn next_word(alloc: Global, tokens: &mut Tokens<'_>) -> Result<Word, CommandFault> {
     match tokens.word(alloc) {
         Ok(word) => Ok(word),
         Err(Unread::Memory) => Err(CommandFault::Memory),
@@ -41,7 +41,7 @@ pub fn next_word(alloc: Global, tokens: &mut Tokens<'_>) -> Result<Word, Command
 }
 
 /// Goes past a mark that has to come next.
-pub fn expect(tokens: &mut Tokens<'_>, mark: Mark) -> Result<(), CommandFault> {
+pub(crate) fn expect(tokens: &mut Tokens<'_>, mark: Mark) -> Result<(), CommandFault> {
     if tokens.skip(mark) {
         Ok(())
     } else {
@@ -50,7 +50,7 @@ pub fn expect(tokens: &mut Tokens<'_>, mark: Mark) -> Result<(), CommandFault> {
 }
 
 /// Tests that no token is left.
-pub fn at_end(tokens: &Tokens<'_>) -> Result<(), CommandFault> {
+pub(crate) fn at_end(tokens: &Tokens<'_>) -> Result<(), CommandFault> {
     if tokens.len() == 0 {
         Ok(())
     } else {
@@ -59,7 +59,7 @@ pub fn at_end(tokens: &Tokens<'_>) -> Result<(), CommandFault> {
 }
 
 /// The term that a text is.
-pub fn whole_term(alloc: Global, text: &str) -> Result<Box<Term>, CommandFault> {
+pub(crate) fn whole_term(alloc: Global, text: &str) -> Result<Box<Term>, CommandFault> {
     let located = tokens_of(alloc, text)?;
     let mut rest = Tokens::new(located.as_slice());
     let term = next_term(alloc, &mut rest)?;
@@ -68,7 +68,7 @@ pub fn whole_term(alloc: Global, text: &str) -> Result<Box<Term>, CommandFault> 
 }
 
 /// What stands before the last ` at ` of a text, and what stands behind it.
-pub fn around_at(text: &str) -> Result<(&str, &str), CommandFault> {
+pub(crate) fn around_at(text: &str) -> Result<(&str, &str), CommandFault> {
     text.rsplit_once(" at ")
         .ok_or(CommandFault::Bad("the word `at` is wanted"))
 }

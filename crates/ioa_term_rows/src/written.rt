@@ -7,7 +7,7 @@ use std::alloc::AllocError;
 
 /// Writes a shape as a sort is written.
 #[cycle(writing_sorts)]
-pub fn push_sort(text: &mut String, shape: &Shape) -> Result<(), AllocError> {
+pub(crate) fn push_sort(text: &mut String, shape: &Shape) -> Result<(), AllocError> {
     match &shape.form {
         ShapeForm::Truths => text.push_str("Bool"),
         ShapeForm::Integers => text.push_str("Int"),
@@ -35,7 +35,7 @@ fn push_sort_in(text: &mut String, before: &str, shape: &Shape) -> Result<(), Al
 /// Writes a term with brackets about each operator and its operands, with the slot of each name behind `@`, and with
 /// the sort of each display, and of what has a field, behind `:`.
 #[cycle(writing_terms)]
-pub fn push_term(text: &mut String, term: &Checked) -> Result<(), AllocError> {
+pub(crate) fn push_term(text: &mut String, term: &Checked) -> Result<(), AllocError> {
     match term {
         Checked::Number(number) => push_number(text, *number),
         Checked::Truth(truth) => text.push_str(if *truth { "true" } else { "false" }),
