@@ -1,7 +1,6 @@
 -- What invariants read of the programs of a section has declared shapes.
-use Rattle.std.proofs.Common.{List, [], ◌∷◌, Result, Ok, Err}
+use Rattle.std.proofs.Common.{List, [], ◌∷◌}
 use Rattle.std.specs.List.{AllByRecursion}
-use Rattle.std.specs.Prelude.{IfOk}
 use Rattle.ioa_terms.specs.Sorted.{NameShapes}
 use Rattle.ioa_system.specs.Parts.{Parts}
 use Rattle.ioa_sort_rules.specs.DeclaredTypes.{TupleTypes}

@@ -85,9 +85,10 @@ impl From<FinishFault> for RunFault {
     }
 }
 
-/// Runs the system that a text describes, by as many workers as the options say, and writes the report. Returns what the
-/// report's endings and verdicts come to. With one worker the run is on the calling thread; with several each has a thread
-/// of its own, and all of them have ended when this returns. The gate is called between the steps of the workers.
+/// Runs the system that a text describes, by as many workers as the options say, and writes the report. Returns what
+/// the report's endings and verdicts come to. With one worker the run is on the calling thread; with several each has a
+/// thread of its own, and all of them have ended when this returns. The gate is called between the steps of the
+/// workers.
 #[tactic(auto, using(crate::proofs::Reported::late, crate::proofs::Reported::calm))]
 pub fn run_system<R: Threads + Wait + Sync, G: Gate + Sync, O: Out>(
     rt: &R,

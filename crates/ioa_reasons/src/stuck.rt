@@ -25,8 +25,8 @@ use ioa_turns::{BlockSteps, Progress};
 use ioa_values::Value;
 use std::alloc::{AllocError, Global};
 
-/// The part at which the next turn of a node's block stops on a look, for whoever tells why the node ended by a fault of
-/// its block. The node stays as it is. None if none is found, or if the look shows nothing that may be the node's.
+/// The part at which the next turn of a node's block stops on a look, for whoever tells why the node ended by a fault
+/// of its block. The node stays as it is. None if none is found, or if the look shows nothing that may be the node's.
 /// `AllocError` if memory runs out.
 pub fn find_stuck<'a, O: Origin>(
     alloc: Global,

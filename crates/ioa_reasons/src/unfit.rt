@@ -31,9 +31,9 @@ pub struct Unfit<'a> {
     pub value: Value,
 }
 
-/// The first argument of this action that is not of the sort of its parameter at the node that a look shows, for whoever
-/// tells why the node ended by a fault of its step. None if each argument fits, or if the look shows no node that has a
-/// rule of the action's name. `AllocError` if memory runs out.
+/// The first argument of this action that is not of the sort of its parameter at the node that a look shows, for
+/// whoever tells why the node ended by a fault of its step. None if each argument fits, or if the look shows no node
+/// that has a rule of the action's name. `AllocError` if memory runs out.
 pub fn find_unfit<'a, O: Origin>(
     alloc: Global,
     look: &'a Snapshot<O>,
