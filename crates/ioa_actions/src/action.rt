@@ -19,9 +19,17 @@ pub const SEND: &str = "send";
 pub const RECEIVE: &str = "receive";
 
 /// The values of an action's arguments, in order. A contract sees them as a list. One value takes no memory of its own.
-#[derive(Debug, Drop)]
+#[derive(Debug)]
 pub struct Values {
     items: ValueList,
+}
+
+/// By hand, so that crates above do not prove again how the parts are let go (DECISIONS).
+impl Drop for Values {
+    #[inline(always)]
+    fn drop(self) {
+        let Values { items: _ } = self;
+    }
 }
 
 /// How values are kept.
@@ -146,7 +154,7 @@ impl Ord for Values {
 }
 
 /// An action of one node, by its name. Actions are ordered by node, name and arguments.
-#[derive(Debug, Drop, PartialEq, Eq, PartialOrd, Ord)]
+#[derive(Debug, PartialEq, Eq, PartialOrd, Ord)]
 pub struct NodeAction {
     /// The node.
     pub node: i64,
@@ -156,9 +164,21 @@ pub struct NodeAction {
     pub arguments: Values,
 }
 
+/// By hand, so that crates above do not prove again how the parts are let go (DECISIONS).
+impl Drop for NodeAction {
+    #[inline(always)]
+    fn drop(self) {
+        let NodeAction {
+            node: _,
+            name: _,
+            arguments: _,
+        } = self;
+    }
+}
+
 /// An action of a system (Lynch 8.1 and 14.1; stimuli are the profile's). Actions are ordered by kind,
 /// in the order of the variants, and then by their parts from left to right.
-#[derive(Debug, Drop, PartialEq, Eq, PartialOrd, Ord)]
+#[derive(Debug, PartialEq, Eq, PartialOrd, Ord)]
 pub enum Action {
     /// `send(m, i, j)`: node i puts message m into channel i -> j.
     Send {
@@ -182,6 +202,27 @@ pub enum Action {
     Local(NodeAction),
     /// An input of a node that its script puts in.
     Stimulus(NodeAction),
+}
+
+/// By hand, so that crates above do not prove again how the parts are let go (DECISIONS).
+impl Drop for Action {
+    #[inline(always)]
+    fn drop(self) {
+        match self {
+            Action::Send {
+                message: _,
+                from: _,
+                to: _,
+            }
+            | Action::Receive {
+                message: _,
+                from: _,
+                to: _,
+            }
+            | Action::Local(_)
+            | Action::Stimulus(_) => {}
+        }
+    }
 }
 
 impl NodeAction {

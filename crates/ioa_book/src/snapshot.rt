@@ -29,11 +29,22 @@ use std::sync::Arc;
 /// script, each with its version, and how long the log was. It has room for as many as a node of a system of 64 nodes
 /// can have to do with, so it asks for no memory; more go to the heap. What is read stands in an `Option`, since a
 /// place in which nothing is read yet has a blank.
-#[derive(Drop)]
 pub struct Snapshot<O: Origin> {
     node: i64,
     length: usize,
     reads: SmallVec<Option<VersionedConf<O>>, ROOM>,
+}
+
+/// By hand, so that crates above do not prove again how the parts are let go (DECISIONS).
+impl<O: Origin> Drop for Snapshot<O> {
+    #[inline(always)]
+    fn drop(self) {
+        let Snapshot {
+            node: _,
+            length: _,
+            reads: _,
+        } = self;
+    }
 }
 
 impl<O: Origin> Model for Snapshot<O> {

@@ -16,12 +16,22 @@ use std::alloc::{AllocError, Global};
 use std::marker::Model;
 
 /// An item of a queue.
-#[derive(Debug, Drop)]
+#[derive(Debug)]
 pub enum Item {
     /// A message on its way through a channel.
     Message(Value),
     /// A stimulus that a script has left.
     Stimulus(NodeAction),
+}
+
+/// By hand, so that crates above do not prove again how the parts are let go (DECISIONS).
+impl Drop for Item {
+    #[inline(always)]
+    fn drop(self) {
+        match self {
+            Item::Message(_) | Item::Stimulus(_) => {}
+        }
+    }
 }
 
 /// The first item of a queue, which the queue lends.
@@ -47,11 +57,23 @@ pub fn copy_stimuli(alloc: Global, stimuli: &[NodeAction]) -> Result<Vec<NodeAct
 /// The queue of a channel or of a script: the items that were put in and have not come out, in order. A contract sees
 /// the name of its component and the list of its items. A queue begins with the stimuli of a script or with nothing,
 /// and only messages are put in, so the stimuli that are left are in front of all messages.
-#[derive(Debug, Drop)]
+#[derive(Debug)]
 pub struct Queue {
     component: Component,
     stimuli: Stimuli,
     messages: Sequence,
+}
+
+/// By hand, so that crates above do not prove again how the parts are let go (DECISIONS).
+impl Drop for Queue {
+    #[inline(always)]
+    fn drop(self) {
+        let Queue {
+            component: _,
+            stimuli: _,
+            messages: _,
+        } = self;
+    }
 }
 
 impl Model for Queue {

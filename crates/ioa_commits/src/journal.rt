@@ -33,7 +33,6 @@ use std::marker::Model;
 /// configurations held, that each version held is how often its component has taken part, and that the log is no longer
 /// than the limit. What is held is shared with whoever has read it, and bears numbers of the maker: by these a commit
 /// tells in constant time that a configuration is the one that was read. `O` stands for the maker.
-#[derive(Drop)]
 pub struct Journal<O: Origin> {
     start: Vec<Conf>,
     held: Vec<VersionedConf<O>>,
@@ -43,6 +42,21 @@ pub struct Journal<O: Origin> {
     log: RawLog<Entry>,
     limit: usize,
     maker: MakerOf<O>,
+}
+
+/// By hand, so that crates above do not prove again how the parts are let go (DECISIONS).
+impl<O: Origin> Drop for Journal<O> {
+    fn drop(self) {
+        let Journal {
+            start: _,
+            held: _,
+            index: _,
+            is_distinct: _,
+            log: _,
+            limit: _,
+            maker: _,
+        } = self;
+    }
 }
 
 impl<O: Origin> Model for Journal<O> {
@@ -396,7 +410,15 @@ impl<O: Origin> Journal<O> {
     pub fn into_parts(self) -> (RawLog<Entry>, MakerOf<O>)
         ensures { result.0 ≡ self.log }
     {
-        let Journal { log, maker, .. } = self;
+        let Journal {
+            start: _,
+            held: _,
+            index: _,
+            is_distinct: _,
+            log,
+            limit: _,
+            maker,
+        } = self;
         (log, maker)
     }
 }

@@ -16,19 +16,33 @@ use std::sync::Arc;
 
 /// What was read of a participant, and its configuration after its own step. It is one word, so that it is moved at
 /// little cost. A commit leaves in it the configuration that was held, and then it is room for another one.
-#[derive(Drop)]
 pub struct Participant<O: Origin> {
     /// The two, each of which can be written over.
     pub parts: Box<Parts<O>>,
 }
 
+/// By hand, so that crates above do not prove again how the parts are let go (DECISIONS).
+impl<O: Origin> Drop for Participant<O> {
+    #[inline(always)]
+    fn drop(self) {
+        let Participant { parts: _ } = self;
+    }
+}
+
 /// The parts of a participant.
-#[derive(Drop)]
 pub struct Parts<O: Origin> {
     /// What was read.
     pub read: VersionedConf<O>,
     /// The configuration after the step.
     pub next: Arc<Conf>,
+}
+
+/// By hand, so that crates above do not prove again how the parts are let go (DECISIONS).
+impl<O: Origin> Drop for Parts<O> {
+    #[inline(always)]
+    fn drop(self) {
+        let Parts { read: _, next: _ } = self;
+    }
 }
 
 impl<O: Origin> Model for Participant<O> {

@@ -15,11 +15,22 @@ use std::sync::Arc;
 /// A configuration with the version of its component: how many steps the component has taken. The configuration is
 /// shared: the book holds it, and whoever has looked at it. Its number tells at once that two own the same one. It also
 /// says in which slot the book that gave it holds it. That is a hint, of which no contract speaks.
-#[derive(Drop)]
 pub struct VersionedConf<O: Origin> {
     conf: SharedOf<O, Conf, Global>,
     version: usize,
     slot: usize,
+}
+
+/// By hand, so that crates above do not prove again how the parts are let go (DECISIONS).
+impl<O: Origin> Drop for VersionedConf<O> {
+    #[inline(always)]
+    fn drop(self) {
+        let VersionedConf {
+            conf: _,
+            version: _,
+            slot: _,
+        } = self;
+    }
 }
 
 impl<O: Origin> Model for VersionedConf<O> {

@@ -30,13 +30,24 @@ use std::marker::Model;
 /// has made: no configuration that is held and no version. The type keeps that each look shows what the log led to at
 /// its length, that the log is an execution from the start, and that the counts sum to its length. `O` stands for the
 /// maker of the book.
-#[derive(Drop)]
 pub struct Core<O: Origin> {
     book: Book<O>,
     hands: Vec<Hand<O>>,
     counts: Vec<usize>,
     /// The spare for the next commit, if one is left.
     spare: Option<Spare<Entry>>,
+}
+
+/// By hand, so that crates above do not prove again how the parts are let go (DECISIONS).
+impl<O: Origin> Drop for Core<O> {
+    fn drop(self) {
+        let Core {
+            book: _,
+            hands: _,
+            counts: _,
+            spare: _,
+        } = self;
+    }
 }
 
 impl<O: Origin> Model for Core<O> {
@@ -110,7 +121,13 @@ impl<O: Origin> Core<O> {
         ensures log { result.0 ≡ self.log }
         ensures law { IsLawful (book_of self) }
     {
-        self.book.into_parts()
+        let Core {
+            book,
+            hands: _,
+            counts: _,
+            spare: _,
+        } = self;
+        book.into_parts()
     }
 
     /// Does what an event says. After want of memory the core is as it was.

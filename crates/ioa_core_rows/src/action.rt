@@ -83,7 +83,7 @@ fn message_of(alloc: Global, call: Call) -> Result<Action, CommandFault> {
     };
     match action {
         Action::Send { .. } | Action::Receive { .. } => Ok(action),
-        Action::Local(_) | Action::Stimulus(_) => Err(CommandFault::Bad(ACTION_WANTED)),
+        Action::Local(..) | Action::Stimulus(..) => Err(CommandFault::Bad(ACTION_WANTED)),
     }
 }
 

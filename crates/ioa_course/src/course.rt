@@ -19,10 +19,16 @@ use std::marker::Model;
 
 /// The configurations of a system's components on their way along a schedule, moved in place by one action after
 /// another, with an index of the components. A contract sees the configurations.
-#[derive(Drop)]
 pub struct Course {
     confs: Vec<Conf>,
     index: Index,
+}
+
+/// By hand, so that crates above do not prove again how the parts are let go (DECISIONS).
+impl Drop for Course {
+    fn drop(self) {
+        let Course { confs: _, index: _ } = self;
+    }
 }
 
 impl Model for Course {

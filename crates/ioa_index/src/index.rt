@@ -16,11 +16,21 @@ use std::marker::Model;
 
 /// A list of components with, for each node, the slots of the components that the node has to do with. So a look at one
 /// node, and a step of one, don't go through the components of all others. A contract sees the list.
-#[derive(Drop)]
 pub struct Index {
     components: Vec<Component>,
     firsts: Vec<usize>,
     by_node: Vec<NodeSlots>,
+}
+
+/// By hand, so that crates above do not prove again how the parts are let go (DECISIONS).
+impl Drop for Index {
+    fn drop(self) {
+        let Index {
+            components: _,
+            firsts: _,
+            by_node: _,
+        } = self;
+    }
 }
 
 /// The slots of the components that a node has to do with.

@@ -31,7 +31,7 @@ pub(crate) fn members_of_set(value: Value) -> Result<Arc<Vec<Value>>, TermFault>
     ensures members { Takes (λ v. v.value.items) result (as_set value) }
     ensures ascending { IfOk result (λ v. IsAscending v.value.items) }
 {
-    match value.form {
+    match value.into_form() {
         ValueForm::Set(members) => Ok(members),
         _ => Err(TermFault::Undefined),
     }
@@ -43,7 +43,7 @@ pub(crate) fn entries_of_map(value: Value) -> Result<Arc<Vec<(Value, Value)>>, T
     ensures entries { Takes (λ v. v.value.items) result (as_map value) }
     ensures ascending { IfOk result (λ v. IsAscending (keys_of v.value.items)) }
 {
-    match value.form {
+    match value.into_form() {
         ValueForm::Map(entries) => Ok(entries),
         _ => Err(TermFault::Undefined),
     }
@@ -54,7 +54,7 @@ pub(crate) fn entries_of_map(value: Value) -> Result<Arc<Vec<(Value, Value)>>, T
 pub(crate) fn parts_of_tuple(value: Value) -> Result<Arc<Vec<Value>>, TermFault>
     ensures { Takes (λ v. v.value.items) result (as_tuple value) }
 {
-    match value.form {
+    match value.into_form() {
         ValueForm::Tuple(parts) => Ok(parts),
         _ => Err(TermFault::Undefined),
     }
@@ -64,7 +64,7 @@ pub(crate) fn parts_of_tuple(value: Value) -> Result<Arc<Vec<Value>>, TermFault>
 pub(crate) fn part(value: Value) -> Result<Value, TermFault>
     ensures { AnswersOrLacks false result (Some value) }
 {
-    match value.form {
+    match value.into_form() {
         ValueForm::Number(n) => Ok(Value::number(n)),
         form => Ok(Value { form }),
     }

@@ -8,7 +8,6 @@ use std::alloc::{AllocError, Global};
 use std::marker::Model;
 
 /// Says that an entry stands in the log at an index.
-#[derive(Drop)]
 pub struct Receipt {
     /// The index.
     pub index: usize,
@@ -16,11 +15,25 @@ pub struct Receipt {
     pub entry: Entry,
 }
 
+/// By hand, so that crates above do not prove again how the parts are let go (DECISIONS).
+impl Drop for Receipt {
+    #[inline(always)]
+    fn drop(self) {
+        let Receipt { index: _, entry: _ } = self;
+    }
+}
+
 /// The receipts that a worker keeps, in the order in which it got them. A contract sees them and for how many there is
 /// room, so that a worker can make room before it takes the lock.
-#[derive(Drop)]
 pub struct Receipts {
     all: Vec<Receipt>,
+}
+
+/// By hand, so that crates above do not prove again how the parts are let go (DECISIONS).
+impl Drop for Receipts {
+    fn drop(self) {
+        let Receipts { all: _ } = self;
+    }
 }
 
 impl Model for Receipts {

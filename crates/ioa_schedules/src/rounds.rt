@@ -75,10 +75,10 @@ fn may_be_quiet(body: &[Statement<usize, Callee, Shape>]) -> bool
 {
     match body {
         [] => true,
-        [Statement::Assign(_, _), ..] => false,
+        [Statement::Assign(..), ..] => false,
         [Statement::If(arms, others), ..] => choice_begins_quietly(arms, others),
-        [Statement::While(_, _), ..] => true,
-        [Statement::Fire(_), ..] => false,
+        [Statement::While(..), ..] => true,
+        [Statement::Fire(..), ..] => false,
     }
 }
 
@@ -104,10 +104,10 @@ fn begins_quietly(body: &[Statement<usize, Callee, Shape>]) -> bool
 {
     match body {
         [] => true,
-        [Statement::Assign(_, _), ..] => false,
-        [Statement::If(_, _), ..] => true,
-        [Statement::While(_, _), ..] => true,
-        [Statement::Fire(_), ..] => false,
+        [Statement::Assign(..), ..] => false,
+        [Statement::If(..), ..] => true,
+        [Statement::While(..), ..] => true,
+        [Statement::Fire(..), ..] => false,
     }
 }
 

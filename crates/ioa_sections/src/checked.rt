@@ -26,10 +26,19 @@ use std::sync::Arc;
 
 /// What the declarations of a text describe: its types, its constants and its automata, checked. It is made once, and
 /// any number of system sections can be asked over it.
-#[derive(Drop)]
 pub struct CheckedDeclarations {
     types: AllTypes,
     automata: Vec<Arc<CheckedAutomaton>>,
+}
+
+/// By hand, so that crates above do not prove again how the parts are let go (DECISIONS).
+impl Drop for CheckedDeclarations {
+    fn drop(self) {
+        let CheckedDeclarations {
+            types: _,
+            automata: _,
+        } = self;
+    }
 }
 
 impl Model for CheckedDeclarations {

@@ -6,7 +6,6 @@
 use ioa_terms::{Kind, Sort, Statement, Tree, Word};
 
 /// `x: S`: a name for any value of a sort (profile).
-#[derive(Drop)]
 pub struct Declared<D> {
     /// The name.
     pub name: Word,
@@ -16,8 +15,18 @@ pub struct Declared<D> {
     pub shape: D,
 }
 
+/// By hand, so that crates above do not prove again how the parts are let go (DECISIONS).
+impl<D: Drop> Drop for Declared<D> {
+    fn drop(self) {
+        let Declared {
+            name: _,
+            sort: _,
+            shape: _,
+        } = self;
+    }
+}
+
 /// A parameter of a signature's entry (profile).
-#[derive(Drop)]
 pub enum Parameter<N, C, D> {
     /// A term whose value the argument has to be.
     Const(Tree<N, C, D>),
@@ -25,8 +34,16 @@ pub enum Parameter<N, C, D> {
     Declared(Declared<D>),
 }
 
+/// By hand, so that crates above do not prove again how the parts are let go (DECISIONS).
+impl<N: Drop, C: Drop, D: Drop> Drop for Parameter<N, C, D> {
+    fn drop(self) {
+        match self {
+            Parameter::Const(_) | Parameter::Declared(_) => {}
+        }
+    }
+}
+
 /// An entry of a signature: the actions of one name (Lynch 8.1).
-#[derive(Drop)]
 pub struct Entry<N, C, D> {
     /// Input, output or internal.
     pub kind: Kind,
@@ -38,8 +55,19 @@ pub struct Entry<N, C, D> {
     pub condition: Option<Tree<N, C, D>>,
 }
 
+/// By hand, so that crates above do not prove again how the parts are let go (DECISIONS).
+impl<N: Drop, C: Drop, D: Drop> Drop for Entry<N, C, D> {
+    fn drop(self) {
+        let Entry {
+            kind: _,
+            name: _,
+            parameters: _,
+            condition: _,
+        } = self;
+    }
+}
+
 /// A variable of the state (Lynch 8.1; sorts and initial terms: profile) or of a schedule block (profile).
-#[derive(Drop)]
 pub struct Variable<N, C, D> {
     /// Its name and sort.
     pub declared: Declared<D>,
@@ -47,8 +75,17 @@ pub struct Variable<N, C, D> {
     pub initial: Option<Tree<N, C, D>>,
 }
 
+/// By hand, so that crates above do not prove again how the parts are let go (DECISIONS).
+impl<N: Drop, C: Drop, D: Drop> Drop for Variable<N, C, D> {
+    fn drop(self) {
+        let Variable {
+            declared: _,
+            initial: _,
+        } = self;
+    }
+}
+
 /// A transition: when an action is enabled, and what it changes (Lynch 8.1).
-#[derive(Drop)]
 pub struct Transition<N, C, D> {
     /// The kind of its action.
     pub kind: Kind,
@@ -62,8 +99,20 @@ pub struct Transition<N, C, D> {
     pub effect: Vec<Statement<N, C, D>>,
 }
 
+/// By hand, so that crates above do not prove again how the parts are let go (DECISIONS).
+impl<N: Drop, C: Drop, D: Drop> Drop for Transition<N, C, D> {
+    fn drop(self) {
+        let Transition {
+            kind: _,
+            name: _,
+            arguments: _,
+            pre: _,
+            effect: _,
+        } = self;
+    }
+}
+
 /// A schedule block (profile): what a node does in its turns. An automaton without one has the empty block.
-#[derive(Drop)]
 pub struct Schedule<N, C, D> {
     /// Its own variables.
     pub variables: Vec<Variable<N, C, D>>,
@@ -71,8 +120,17 @@ pub struct Schedule<N, C, D> {
     pub statements: Vec<Statement<N, C, D>>,
 }
 
+/// By hand, so that crates above do not prove again how the parts are let go (DECISIONS).
+impl<N: Drop, C: Drop, D: Drop> Drop for Schedule<N, C, D> {
+    fn drop(self) {
+        let Schedule {
+            variables: _,
+            statements: _,
+        } = self;
+    }
+}
+
 /// An automaton (Lynch 8.1) with its schedule block (profile).
-#[derive(Drop)]
 pub struct Automaton<N, C, D> {
     /// Its name.
     pub name: Word,
@@ -88,8 +146,21 @@ pub struct Automaton<N, C, D> {
     pub schedule: Schedule<N, C, D>,
 }
 
+/// By hand, so that crates above do not prove again how the parts are let go (DECISIONS).
+impl<N: Drop, C: Drop, D: Drop> Drop for Automaton<N, C, D> {
+    fn drop(self) {
+        let Automaton {
+            name: _,
+            parameters: _,
+            signature: _,
+            states: _,
+            transitions: _,
+            schedule: _,
+        } = self;
+    }
+}
+
 /// What a type's values are (profile).
-#[derive(Drop)]
 pub enum TypeForm<D> {
     /// The constants of these names.
     Enumeration(Vec<Word>),
@@ -97,8 +168,16 @@ pub enum TypeForm<D> {
     Tuple(Vec<Declared<D>>),
 }
 
+/// By hand, so that crates above do not prove again how the parts are let go (DECISIONS).
+impl<D: Drop> Drop for TypeForm<D> {
+    fn drop(self) {
+        match self {
+            TypeForm::Enumeration(_) | TypeForm::Tuple(_) => {}
+        }
+    }
+}
+
 /// `type T = ..`: a name for an enumeration or a tuple type (profile).
-#[derive(Drop)]
 pub struct TypeDeclaration<D> {
     /// The type's name.
     pub name: Word,
@@ -106,8 +185,14 @@ pub struct TypeDeclaration<D> {
     pub form: TypeForm<D>,
 }
 
+/// By hand, so that crates above do not prove again how the parts are let go (DECISIONS).
+impl<D: Drop> Drop for TypeDeclaration<D> {
+    fn drop(self) {
+        let TypeDeclaration { name: _, form: _ } = self;
+    }
+}
+
 /// A declaration of a text, before the system section (profile).
-#[derive(Drop)]
 pub enum Declaration<N, C, D> {
     /// A type.
     Type(TypeDeclaration<D>),
@@ -115,8 +200,16 @@ pub enum Declaration<N, C, D> {
     Automaton(Automaton<N, C, D>),
 }
 
+/// By hand, so that crates above do not prove again how the parts are let go (DECISIONS).
+impl<N: Drop, C: Drop, D: Drop> Drop for Declaration<N, C, D> {
+    fn drop(self) {
+        match self {
+            Declaration::Type(_) | Declaration::Automaton(_) => {}
+        }
+    }
+}
+
 /// `node k: A(t, u)`: an automaton placed on a node (profile).
-#[derive(Drop)]
 pub struct Node<N, C, D> {
     /// The node's number.
     pub number: i64,
@@ -124,6 +217,17 @@ pub struct Node<N, C, D> {
     pub automaton: Word,
     /// The values of the automaton's parameters.
     pub arguments: Vec<Tree<N, C, D>>,
+}
+
+/// By hand, so that crates above do not prove again how the parts are let go (DECISIONS).
+impl<N: Drop, C: Drop, D: Drop> Drop for Node<N, C, D> {
+    fn drop(self) {
+        let Node {
+            number: _,
+            automaton: _,
+            arguments: _,
+        } = self;
+    }
 }
 
 /// `channel i -> j`: a reliable FIFO channel (Lynch 14.1).
@@ -145,7 +249,6 @@ pub struct Call<N, C, D> {
 }
 
 /// `script k: a(t, u), b`: what the environment does to a node, in order (profile).
-#[derive(Drop)]
 pub struct ScriptDeclaration<N, C, D> {
     /// The node's number.
     pub node: i64,
@@ -153,8 +256,14 @@ pub struct ScriptDeclaration<N, C, D> {
     pub calls: Vec<Call<N, C, D>>,
 }
 
+/// By hand, so that crates above do not prove again how the parts are let go (DECISIONS).
+impl<N: Drop, C: Drop, D: Drop> Drop for ScriptDeclaration<N, C, D> {
+    fn drop(self) {
+        let ScriptDeclaration { node: _, calls: _ } = self;
+    }
+}
+
 /// An item of the system section (profile).
-#[derive(Drop)]
 pub enum Placement<N, C, D> {
     /// A node.
     Node(Node<N, C, D>),
@@ -164,8 +273,16 @@ pub enum Placement<N, C, D> {
     Script(ScriptDeclaration<N, C, D>),
 }
 
+/// By hand, so that crates above do not prove again how the parts are let go (DECISIONS).
+impl<N: Drop, C: Drop, D: Drop> Drop for Placement<N, C, D> {
+    fn drop(self) {
+        match self {
+            Placement::Node(_) | Placement::Channel(_) | Placement::Script(_) => {}
+        }
+    }
+}
+
 /// `invariant A: t`: a term that is to be true in each state (profile).
-#[derive(Drop)]
 pub struct Invariant<N, C, D> {
     /// The invariant's name.
     pub name: Word,
@@ -173,8 +290,14 @@ pub struct Invariant<N, C, D> {
     pub term: Tree<N, C, D>,
 }
 
+/// By hand, so that crates above do not prove again how the parts are let go (DECISIONS).
+impl<N: Drop, C: Drop, D: Drop> Drop for Invariant<N, C, D> {
+    fn drop(self) {
+        let Invariant { name: _, term: _ } = self;
+    }
+}
+
 /// A whole text (profile).
-#[derive(Drop)]
 pub struct Text<N, C, D> {
     /// The declarations before the system section, in order.
     pub declarations: Vec<Declaration<N, C, D>>,
@@ -182,4 +305,15 @@ pub struct Text<N, C, D> {
     pub system: Vec<Placement<N, C, D>>,
     /// The invariants behind it, in order.
     pub invariants: Vec<Invariant<N, C, D>>,
+}
+
+/// By hand, so that crates above do not prove again how the parts are let go (DECISIONS).
+impl<N: Drop, C: Drop, D: Drop> Drop for Text<N, C, D> {
+    fn drop(self) {
+        let Text {
+            declarations: _,
+            system: _,
+            invariants: _,
+        } = self;
+    }
 }

@@ -30,7 +30,6 @@ use std::sync::Arc;
 
 /// An entry of a signature with its transition (Lynch 8.1), and the names that only its terms read. A contract sees
 /// plain data.
-#[derive(Drop)]
 pub struct Rule {
     /// The entry.
     pub entry: Entry<usize, Callee, Shape>,
@@ -40,6 +39,18 @@ pub struct Rule {
     pub transition: Transition<usize, Callee, Shape>,
     /// The names of the entry's own parameters, behind those that the automaton declares.
     pub own: Vec<Word>,
+}
+
+/// By hand, so that crates above do not prove again how the parts are let go (DECISIONS).
+impl Drop for Rule {
+    fn drop(self) {
+        let Rule {
+            entry: _,
+            shapes: _,
+            transition: _,
+            own: _,
+        } = self;
+    }
 }
 
 impl Model for Rule {
@@ -95,7 +106,6 @@ impl PartialEq for Rule {
 /// An automaton of a text, made ready to step. The nodes on which it is placed share it. Its type
 /// guarantees that each name which a step, an initial value or the schedule block reads is resolved to the
 /// slot of its value.
-#[derive(Drop)]
 pub struct CheckedAutomaton {
     name: Word,
     constants: Arc<Names>,
@@ -107,6 +117,22 @@ pub struct CheckedAutomaton {
     schedule: Schedule<usize, Callee, Shape>,
     /// The names of the schedule block's own variables, and then that of the inboxes, if the automaton takes messages.
     own: Vec<Word>,
+}
+
+/// By hand, so that crates above do not prove again how the parts are let go (DECISIONS).
+impl Drop for CheckedAutomaton {
+    fn drop(self) {
+        let CheckedAutomaton {
+            name: _,
+            constants: _,
+            parameters: _,
+            variables: _,
+            scope: _,
+            rules: _,
+            schedule: _,
+            own: _,
+        } = self;
+    }
 }
 
 impl Model for CheckedAutomaton {

@@ -15,12 +15,23 @@ use std::sync::Arc;
 /// An invariant (profile): a term that is to be true in each state. It carries the names `x@k` and `queue(i, j)` that
 /// its term reads, each once, in the order of their first places; behind them it reads the text's constants. Its type
 /// guarantees that each name is resolved to the slot of its value.
-#[derive(Drop)]
 pub struct CheckedInvariant {
     name: Word,
     constants: Arc<Names>,
     readings: Vec<Name>,
     term: Checked,
+}
+
+/// By hand, so that crates above do not prove again how the parts are let go (DECISIONS).
+impl Drop for CheckedInvariant {
+    fn drop(self) {
+        let CheckedInvariant {
+            name: _,
+            constants: _,
+            readings: _,
+            term: _,
+        } = self;
+    }
 }
 
 impl Model for CheckedInvariant {

@@ -14,13 +14,25 @@ use std::sync::Arc;
 
 /// A node's program. Its type guarantees that each parameter of the automaton has a value, and each state
 /// variable and each variable of the schedule block a first one.
-#[derive(Drop)]
 pub struct Program {
     node: i64,
     automaton: Arc<CheckedAutomaton>,
     arguments: Vec<Value>,
     initial: Vec<Value>,
     block: Vec<Value>,
+}
+
+/// By hand, so that crates above do not prove again how the parts are let go (DECISIONS).
+impl Drop for Program {
+    fn drop(self) {
+        let Program {
+            node: _,
+            automaton: _,
+            arguments: _,
+            initial: _,
+            block: _,
+        } = self;
+    }
 }
 
 impl Model for Program {

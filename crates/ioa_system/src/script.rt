@@ -7,10 +7,19 @@ use ioa_actions::NodeAction;
 use std::marker::Model;
 
 /// A script: the inputs that the environment has for a node, in order (profile). A contract sees plain data.
-#[derive(Drop)]
 pub struct Script {
     node: i64,
     stimuli: Vec<NodeAction>,
+}
+
+/// By hand, so that crates above do not prove again how the parts are let go (DECISIONS).
+impl Drop for Script {
+    fn drop(self) {
+        let Script {
+            node: _,
+            stimuli: _,
+        } = self;
+    }
 }
 
 impl Model for Script {

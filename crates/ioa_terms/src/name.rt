@@ -9,7 +9,6 @@ use std::hash::{Hash, Hasher};
 
 /// A name that a term reads (profile). A look-up, an assignment and a slot are of such names. An invariant reads those
 /// of the last two forms, all other terms read words.
-#[derive(Drop)]
 pub enum Name {
     /// A parameter, a variable or a constant, by its word.
     Word(Word),
@@ -27,6 +26,16 @@ pub enum Name {
         /// The number of the node that receives.
         to: i64,
     },
+}
+
+/// By hand, so that crates above do not prove again how the parts are let go (DECISIONS).
+impl Drop for Name {
+    fn drop(self) {
+        match self {
+            Name::Word(_) | Name::Variable { name: _, node: _ } | Name::Queue { from: _, to: _ } =>
+                {}
+        }
+    }
 }
 
 impl Name {

@@ -8,7 +8,6 @@ use ioa_values::Word;
 use std::alloc::{AllocError, Global};
 
 /// A sort as a text spells it (profile).
-#[derive(Drop)]
 pub enum Sort {
     /// `Bool`: the truth values.
     Bool,
@@ -24,6 +23,21 @@ pub enum Sort {
     Map(Box<Sort>, Box<Sort>),
     /// The type of a name that the text declares.
     Named(Word),
+}
+
+/// By hand, so that crates above do not prove again how the parts are let go (DECISIONS).
+impl Drop for Sort {
+    fn drop(self) {
+        match self {
+            Sort::Bool
+            | Sort::Int
+            | Sort::Nat
+            | Sort::Seq(_)
+            | Sort::Set(_)
+            | Sort::Map(_, _)
+            | Sort::Named(_) => {}
+        }
+    }
 }
 
 impl Sort {

@@ -20,7 +20,6 @@ pub enum Kind {
 /// value. `C` is the annotation of a call: in a text nothing, in a checked system what is called. `D` is the
 /// annotation of a display, a field and an assigned variable: in a text nothing, in a checked system the
 /// shape of its values.
-#[derive(Drop)]
 pub enum Tree<N, C, D> {
     /// A number.
     Number(i64),
@@ -40,6 +39,22 @@ pub enum Tree<N, C, D> {
     Field(Box<Tree<N, C, D>>, Word, D),
 }
 
+/// By hand, so that crates above do not prove again how the parts are let go (DECISIONS).
+impl<N: Drop, C: Drop, D: Drop> Drop for Tree<N, C, D> {
+    fn drop(self) {
+        match self {
+            Tree::Number(_)
+            | Tree::Truth(_)
+            | Tree::Name(_, _)
+            | Tree::One(_, _)
+            | Tree::Two(_, _, _)
+            | Tree::Call(_, _, _)
+            | Tree::Display(_, _, _)
+            | Tree::Field(_, _, _) => {}
+        }
+    }
+}
+
 /// A term as a text spells it.
 pub type Term = Tree<(), (), ()>;
 
@@ -47,7 +62,6 @@ pub type Term = Tree<(), (), ()>;
 pub type Checked = Tree<usize, Callee, Shape>;
 
 /// The target of an assignment (profile), with the shape of the variable.
-#[derive(Drop)]
 pub enum Target<N, C, D> {
     /// `x`: a variable.
     Variable(Word, N, D),
@@ -57,9 +71,17 @@ pub enum Target<N, C, D> {
     Field(Word, N, D, Word),
 }
 
+/// By hand, so that crates above do not prove again how the parts are let go (DECISIONS).
+impl<N: Drop, C: Drop, D: Drop> Drop for Target<N, C, D> {
+    fn drop(self) {
+        match self {
+            Target::Variable(_, _, _) | Target::At(_, _, _, _) | Target::Field(_, _, _, _) => {}
+        }
+    }
+}
+
 /// `t then s`, an arm of an `if`.
 #[cycle(statement)]
-#[derive(Drop)]
 pub struct Arm<N, C, D> {
     /// The test.
     pub test: Tree<N, C, D>,
@@ -67,8 +89,15 @@ pub struct Arm<N, C, D> {
     pub body: Vec<Statement<N, C, D>>,
 }
 
+/// By hand, so that crates above do not prove again how the parts are let go (DECISIONS).
+impl<N: Drop, C: Drop, D: Drop> Drop for Arm<N, C, D> {
+    #[cycle(letting_go)]
+    fn drop(self) {
+        let Arm { test: _, body: _ } = self;
+    }
+}
+
 /// `fire a(t, u)`: what a schedule block asks for (profile).
-#[derive(Drop)]
 pub struct Firing<N, C, D> {
     /// The kind of the action, if it is written.
     pub kind: Option<Kind>,
@@ -80,10 +109,21 @@ pub struct Firing<N, C, D> {
     pub arguments: Vec<Tree<N, C, D>>,
 }
 
+/// By hand, so that crates above do not prove again how the parts are let go (DECISIONS).
+impl<N: Drop, C: Drop, D: Drop> Drop for Firing<N, C, D> {
+    fn drop(self) {
+        let Firing {
+            kind: _,
+            action: _,
+            rule: _,
+            arguments: _,
+        } = self;
+    }
+}
+
 /// A statement of an effect or of a schedule block (profile). In an effect `while` and `fire` have no
 /// meaning: the grammar has no such effect.
 #[cycle(statement)]
-#[derive(Drop)]
 pub enum Statement<N, C, D> {
     /// `x := t`.
     Assign(Target<N, C, D>, Tree<N, C, D>),
@@ -93,4 +133,17 @@ pub enum Statement<N, C, D> {
     While(Tree<N, C, D>, Vec<Statement<N, C, D>>),
     /// `fire a(t, u)`. Only in a schedule block.
     Fire(Firing<N, C, D>),
+}
+
+/// By hand, so that crates above do not prove again how the parts are let go (DECISIONS).
+impl<N: Drop, C: Drop, D: Drop> Drop for Statement<N, C, D> {
+    #[cycle(letting_go)]
+    fn drop(self) {
+        match self {
+            Statement::Assign(_, _)
+            | Statement::If(_, _)
+            | Statement::While(_, _)
+            | Statement::Fire(_) => {}
+        }
+    }
 }

@@ -16,10 +16,20 @@ use std::marker::Model;
 use std::sync::Arc;
 
 /// The configuration of a node: its program, which is shared, and the values of its state variables.
-#[derive(Drop)]
 pub struct NodeConf {
     program: Arc<Program>,
     variables: Vec<Value>,
+}
+
+/// By hand, so that crates above do not prove again how the parts are let go (DECISIONS).
+impl Drop for NodeConf {
+    #[inline(always)]
+    fn drop(self) {
+        let NodeConf {
+            program: _,
+            variables: _,
+        } = self;
+    }
 }
 
 impl Model for NodeConf {

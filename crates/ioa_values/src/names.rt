@@ -15,9 +15,16 @@ use std::marker::Model;
 
 /// The names of the text's constants, in the order of their declaration: a constant is its index
 /// among them. A contract sees the list of the names.
-#[derive(Debug, Drop)]
+#[derive(Debug)]
 pub struct Names {
     words: Vec<Word>,
+}
+
+/// By hand, so that crates above do not prove again how the parts are let go (DECISIONS).
+impl Drop for Names {
+    fn drop(self) {
+        let Names { words: _ } = self;
+    }
 }
 
 impl Model for Names {

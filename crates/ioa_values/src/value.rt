@@ -7,6 +7,7 @@ ghost use Rattle.ioa_values.specs.Data.{items_of, entries_of, as_number, as_trut
 ghost use Rattle.ioa_values.specs.Collections.{IsAscending, keys_of};
 ghost use Rattle.ioa_values.specs.Canonical.{IsCanonical, AllCanonical, AllEntriesCanonical};
 ghost use Rattle.ioa_values.specs.DataOrder.{same, data_cmp, items_cmp, entries_cmp, kind};
+ghost use Rattle.ioa_values.specs.ValueForm.{data_of, IsCanonicalForm};
 
 use crate::sequence::Sequence;
 use std::alloc::{AllocError, Global};
@@ -19,10 +20,19 @@ use std::sync::Arc;
 /// the members of a set and the keys of a map ascend without doubles, at any depth. Collections are shared,
 /// so that a value is copied in constant time.
 #[cycle(value)]
-#[derive(Debug, Drop)]
+#[derive(Debug)]
 pub struct Value {
     /// What the value is.
     pub form: ValueForm,
+}
+
+/// By hand, so that crates above do not prove again how the parts are let go (DECISIONS).
+impl Drop for Value {
+    #[cycle(letting_go)]
+    #[inline(always)]
+    fn drop(self) {
+        let Value { form: _ } = self;
+    }
 }
 
 /// What a value is. A set is kept as its members in ascending order, and a map as its entries in
@@ -133,6 +143,16 @@ impl Value {
         canonical_entries(&entries);
         let form = ValueForm::Map(Arc::new(alloc, entries)?);
         Ok(Value { form })
+    }
+
+    /// What the value is, for whoever takes its parts.
+    #[inline(always)]
+    pub fn into_form(self) -> ValueForm
+        ensures value { data_of result ≡ self }
+        ensures law { IsCanonicalForm result }
+    {
+        let Value { form } = self;
+        form
     }
 
     /// The number, if the value is one.
