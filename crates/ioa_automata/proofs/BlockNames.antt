@@ -1,34 +1,22 @@
 -- The names in view in a schedule block: in which order they are, and that they differ.
-use Rattle.std.proofs.Common.{◌≡◌, ◌+◌, Bool, true, false, List, [], ◌∷◌, ◌++◌, Result, Ok, refl, sym, ap, subst, ◌∙◌, length, take}
+use Rattle.std.proofs.Common.{◌≡◌, ◌+◌, false, List, [], ◌∷◌, ◌++◌, Result, Ok, sym, ap, subst, ◌∙◌, length, take}
 use Rattle.std.specs.List.{AllByRecursion, IsDistinct}
 use Rattle.std.proofs.lemmas.List.{append_assoc}
 use Rattle.ioa_values.proofs.AllOf.{all_appended, all_parts}
 use Rattle.ioa_terms.specs.declared.name.Name.{Name}
 use Rattle.ioa_terms.specs.Bindings.{same_name}
-use Rattle.ioa_terms.specs.SameNames.{same_name_is}
 use Rattle.ioa_terms.specs.Sorted.{NameShapes}
 use Rattle.ioa_source.specs.Sides.{CheckedDeclared, CheckedVariable}
 use Rattle.ioa_system.specs.Parts.{PlainRule}
 use Rattle.ioa_refusals.specs.declared.refusal.Refusal.{Refusal}
 use Rattle.ioa_sorts.specs.StatementSites.{block_site}
 use Rattle.ioa_names.specs.NameTables.{AreDistinct, declared_names}
-use Rattle.ioa_names.proofs.Names.{all_found, first_differ, new_found}
+use Rattle.ioa_names.proofs.Names.{all_found, first_differ, new_found, turned}
 use Rattle.ioa_names.proofs.Words.{names_joined}
 use Rattle.ioa_automata.specs.NamesInView.{parameter_shapes, variable_shapes, inbox_shapes, block_own_shapes, block_names_or}
 use Rattle.ioa_automata.specs.Rules.{PlainSurroundings}
 use Rattle.ioa_automata.specs.Schedules.{site_in}
 use Rattle.ioa_automata.specs.SortedAutomata.{block_names, block_of}
-
--- two names are the same whichever comes first
-turned : (x y : Name) → same_name x y ≡ false → same_name y x ≡ false
-turned x y h = by_test (same_name y x) refl
-  where
-    by_test : (b : Bool) → same_name y x ≡ b → same_name y x ≡ false
-    by_test true e =
-        let same : y ≡ x = (same_name_is y x).0 e in
-        let other : same_name x y ≡ true = (same_name_is x y).1 (sym same) in
-        absurd (cc)
-    by_test false e = e
 
 -- names that differ still do without one of them, which differs from the others
 apart_removed : (xs : List Name) (y : Name) (rest : List Name) → IsDistinct same_name (xs ++ y ∷ rest) → AllByRecursion (λ x. same_name y x ≡ false) (xs ++ rest) × IsDistinct same_name (xs ++ rest)
@@ -37,7 +25,7 @@ apart_removed [] y rest d = d
 apart_removed (x ∷ xs) y rest d =
     let others = apart_removed xs y rest d.1 in
     let apart = all_parts (λ z. same_name x z ≡ false) xs (y ∷ rest) d.0 in
-    ((turned x y apart.1.0, others.0), (all_appended (λ z. same_name x z ≡ false) xs rest apart.0 apart.1.1, others.1))
+    ((turned y x apart.1.0, others.0), (all_appended (λ z. same_name x z ≡ false) xs rest apart.0 apart.1.1, others.1))
 
 -- and in another order
 order_swapped : (xs ys zs : List Name) → IsDistinct same_name (xs ++ (ys ++ zs)) → IsDistinct same_name (ys ++ (xs ++ zs))

@@ -40,7 +40,7 @@ all_behind names (n ∷ more) all h =
     all_behind one.0 more all one.2 ∙ ap (λ ns. ns ++ more) (sym a.1) ∙ append_assoc names ((n.0, n.1) ∷ []) more
 
 -- two names differ whichever comes first
-turned : (y x : Name) → same_name x y ≡ false → same_name y x ≡ false
+pub turned : (y x : Name) → same_name x y ≡ false → same_name y x ≡ false
 turned y x h = by_test (same_name y x) refl
   where
     by_test : (b : Bool) → same_name y x ≡ b → same_name y x ≡ false
