@@ -1,21 +1,16 @@
 //! From a text to its system.
 
-ghost use Rattle.std.specs.Prelude.{IfErr, IfOk, map};
-ghost use Rattle.std.specs.Arc.{arc_value};
+ghost use Rattle.std.specs.Prelude.{IfErr, IfOk};
 ghost use Rattle.ioa_values.specs.Outcome.{Answers};
-ghost use Rattle.ioa_source.specs.TextView.{placement_of, text_of};
+ghost use Rattle.ioa_source.specs.TextView.{text_of};
 ghost use Rattle.ioa_system.specs.Declarations.{IsWellDeclared};
-ghost use Rattle.ioa_invariants.specs.Checked.{AreDeclaredParts};
-ghost use Rattle.ioa_sections.specs.Faults.{in_declaration};
-ghost use Rattle.ioa_sections.specs.PlacedView.{placed_of};
-ghost use Rattle.ioa_sections.specs.Placing.{placed_at};
 ghost use Rattle.ioa_check.specs.Checking as spec;
 ghost use Rattle.ioa_check.specs.Systems.{IsSystemOf, SaysNoSystem};
 
 use crate::invariants::invariants_of;
 use ioa_invariants::Section;
-use ioa_sections::{CheckFault, CheckedDeclarations, Placed, fault_at};
-use ioa_source::{Placement, Text};
+use ioa_sections::{CheckFault, CheckedDeclarations, Placed};
+use ioa_source::Text;
 use ioa_system::System;
 use std::alloc::{AllocError, Global};
 use std::sync::Arc;
@@ -54,7 +49,7 @@ fn check_parts(
     ensures { Answers CheckFault.Memory (λ s. s) result (spec.parts_at declared.now.types.constants
         declared.now.automata index (text_of text.now)) }
 {
-    let placed = section_in_declaration(alloc, declared, index, &text.system)?;
+    let placed = declared.section_in_declaration(alloc, index, &text.system)?;
     let first = index.checked_add(1).ok_or(AllocError)?;
     let section = Section {
         types: declared.types(),
@@ -69,22 +64,4 @@ fn check_parts(
         scripts,
     } = placed;
     Ok(System::new(constants, programs, channels, scripts, found))
-}
-
-/// What the system section of an index places, in a text of these declarations. A fault tells the index.
-fn section_in_declaration(
-    alloc: Global,
-    declared: &CheckedDeclarations,
-    index: usize,
-    placements: &Vec<Placement<(), (), ()>>,
-) -> Result<Placed, CheckFault>
-    ensures placed { Answers CheckFault.Memory placed_of result (in_declaration index (placed_at
-        declared.now.types.constants declared.now.automata (map placement_of placements.now.items))) }
-    ensures declared { IfOk result
-        (λ s. AreDeclaredParts declared.now.types.constants (map arc_value s.programs.items)) }
-{
-    match declared.check_section(alloc, placements) {
-        Ok(placed) => Ok(placed),
-        Err(refusal) => Err(fault_at(index, refusal)),
-    }
 }

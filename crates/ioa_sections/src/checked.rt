@@ -5,13 +5,14 @@ ghost use Rattle.std.specs.Arc.{arc_value};
 ghost use Rattle.ioa_values.specs.Outcome.{Answers};
 ghost use Rattle.ioa_source.specs.TextView.{declaration_of, placement_of};
 ghost use Rattle.ioa_sections.specs.DeclaredParts as spec;
+ghost use Rattle.ioa_sections.specs.Faults.{in_declaration};
 ghost use Rattle.ioa_sections.specs.Grounds.{AreGrounded, AreGroundedPrograms};
 ghost use Rattle.ioa_sections.specs.PlacedView.{placed_of};
 ghost use Rattle.ioa_sections.specs.Placing.{placed_at};
 
 use crate::channels::{channels_of, check_channels};
 use crate::declarations::{automata_of, types_of};
-use crate::fault::CheckFault;
+use crate::fault::{CheckFault, fault_at};
 use crate::ground::Ground;
 use crate::nodes::{nodes_of, programs_of};
 use crate::placed::Placed;
@@ -129,5 +130,24 @@ impl CheckedDeclarations {
             channels,
             scripts,
         })
+    }
+
+    /// What the system section of an index places over these declarations. A refusal is that of `check_section`, with
+    /// the index.
+    pub fn section_in_declaration(
+        &self,
+        alloc: Global,
+        index: usize,
+        placements: &Vec<Placement<(), (), ()>>,
+    ) -> Result<Placed, CheckFault>
+        ensures placed { Answers CheckFault.Memory placed_of result (in_declaration index (placed_at
+            self.now.types.constants self.now.automata (map placement_of placements.now.items))) }
+        ensures grounded { IfOk result
+            (λ s. AreGroundedPrograms self.now.types.constants (map arc_value s.programs.items)) }
+    {
+        match self.check_section(alloc, placements) {
+            Ok(placed) => Ok(placed),
+            Err(refusal) => Err(fault_at(index, refusal)),
+        }
     }
 }
