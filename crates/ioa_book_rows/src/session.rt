@@ -30,7 +30,7 @@ length look LOOK          how long the log was at a look
 length proposal PROPOSAL  how long the log was at the look of a proposal
 count LOOK                how many components a look has read
 version LOOK COMPONENT    the version that a look has read of a component, or: not read
-same LOOK LOOK COMPONENT  whether two looks have read equal configurations of a component: equal, different, or: not read
+same LOOK LOOK COMPONENT  whether two looks have read equal configurations of a component: equal, different, not read
 end                       takes the book apart: the actions that are recorded, and how many states they lead to
 
 ACTION is send MESSAGE FROM TO, receive MESSAGE FROM TO, local NODE NAME NUMBER.., or stimulus NODE NAME NUMBER..
