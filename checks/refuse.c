@@ -1,5 +1,5 @@
 // Stands before the C library's memory, as LD_PRELOAD: refuses one request of the program, the one whose number the
-// variable REFUSE has, counted from 1. At the end it writes `requests N live M` on standard error: how many requests
+// variable REFUSE has, counted from 1. At its end it writes `requests N live M` on standard error: how many requests
 // there were, and how many blocks were not given back.
 #define _GNU_SOURCE
 #include <dlfcn.h>
@@ -43,8 +43,20 @@ __attribute__((constructor)) static void begin(void) {
     refused = number ? strtol(number, NULL, 10) : 0;
 }
 
-__attribute__((destructor)) static void end(void) {
+static void tell(void) {
+    static int told;
     char line[64];
+    if (told++) return;
     int length = snprintf(line, sizeof line, "requests %ld live %ld\n", requests, live);
-    if (write(2, line, (size_t)length) != length) _exit(3);
+    if (write(2, line, (size_t)length) != length) abort();
 }
+
+// A program may end so, and then no destructor runs.
+__attribute__((noreturn)) void _exit(int status) {
+    void (*next)(int) = dlsym(RTLD_NEXT, "_exit");
+    tell();
+    next(status);
+    abort();
+}
+
+__attribute__((destructor)) static void end(void) { tell(); }
