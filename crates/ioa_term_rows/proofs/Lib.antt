@@ -1,2 +1,0 @@
--- the lemmas of this crate
-pub mod Names
