@@ -17,7 +17,7 @@ use Rattle.ioa_automata.proofs.CheckedAutomata.{parameter_words, variable_words,
 -- with the names of its variables and parameters, and of its block's variables and the inboxes
 pub automaton_ready : (t : PlainTextTypes) (text : AreTextTypes t) (a : SourceAutomaton) (h : PlainHeading) (w : List ℕ) (cs : List (List ℕ)) (rs : List PlainRule) (b : CheckedSchedule) → heading_at t a ≡ result_is h → automaton_at t a ≡ result_is (automaton_parts w cs h.parameters h.variables rs b) → IsCheckedAutomaton (words h.outer) (variable_names b.variables ++ inbox_words (message_shape rs)) (automaton_parts w cs h.parameters h.variables rs b)
 automaton_ready t text a h w cs rs b heading made = record {
-  names = ap words (heading_outer t text a h heading) ∙ words_joined (variable_shapes h.variables) (parameter_shapes h.parameters) ∙ (λ i. variable_words h.variables i ++ parameter_words h.parameters i);
+  named = ap words (heading_outer t text a h heading) ∙ words_joined (variable_shapes h.variables) (parameter_shapes h.parameters) ∙ (λ i. variable_words h.variables i ++ parameter_words h.parameters i);
   block = refl;
   resolved = automaton_checked t text.named a (automaton_parts w cs h.parameters h.variables rs b) (automaton_sound t text a (automaton_parts w cs h.parameters h.variables rs b) made);
 }

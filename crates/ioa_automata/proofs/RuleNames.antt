@@ -8,7 +8,7 @@ use Rattle.ioa_system.specs.Parts.{PlainRule}
 use Rattle.ioa_refusals.specs.declared.refusal.Refusal.TheVariants.{Twice, BadArgument}
 use Rattle.ioa_types.specs.TypeTables.{are_new}
 use Rattle.ioa_types.proofs.TypeDeclarations.{new_differ}
-use Rattle.ioa_system.specs.Indexes.{AreIndexed}
+use Rattle.ioa_names.specs.Indexes.{AreIndexed}
 use Rattle.ioa_automata.specs.NamesInView.{own_names_or}
 use Rattle.ioa_automata.specs.Parts.{PlainSortedEntry, sorted_entry, parameters_at, where_at, entry_at, transition_at}
 use Rattle.ioa_automata.specs.Rules.{transition_for, transition_or, may_have_name, message_at, sorted_rule, PlainSurroundings, rule_of, rule_at, rules_at, names_or}

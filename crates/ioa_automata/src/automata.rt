@@ -8,7 +8,7 @@ ghost use Rattle.ioa_terms.specs.Bindings.{same_word};
 ghost use Rattle.ioa_source.specs.TextView.{automaton_of, declared_of, entry_of, transition_of, variable_of};
 ghost use Rattle.ioa_types.specs.Meanings.{AreTextTypes};
 ghost use Rattle.ioa_automata.specs.Automata as spec;
-ghost use Rattle.ioa_system.specs.Indexes.{AreIndexed};
+ghost use Rattle.ioa_names.specs.Indexes.{AreIndexed};
 ghost use Rattle.ioa_automata.specs.NamesInView.{given_names_or};
 ghost use Rattle.ioa_automata.specs.Parts.{all_declared_at, variables_at};
 ghost use Rattle.ioa_automata.specs.Rules.{entry_for, has_entry, have_entries, names_or, rules_at};
@@ -18,10 +18,10 @@ use crate::names::{given_names, outer_names};
 use crate::parts::{sort_all_declared, sort_variables};
 use crate::rules::{Surroundings, Transitions, sort_rules};
 use crate::schedules::{block_own_words, sort_schedule};
-use ioa_names::{NameTable, View};
+use ioa_names::{NameTable, NamedAutomaton, RuleTable, Scope, View};
 use ioa_refusals::Refusal;
 use ioa_source::{Automaton, Declared, Entry, Schedule, Transition, Variable};
-use ioa_system::{CheckedAutomaton, Rule, Rules, Scope};
+use ioa_system::{CheckedAutomaton, Rule};
 use ioa_terms::{Callee, Shape, Word};
 use ioa_types::{AllTypes, TextTypes};
 use std::alloc::Global;
@@ -48,7 +48,7 @@ struct Given {
 /// What an automaton has behind its heading: its entries with their transitions, and its schedule block.
 #[derive(Drop)]
 pub(crate) struct Body {
-    pub rules: Rules,
+    pub rules: RuleTable,
     pub schedule: Schedule<usize, Callee, Shape>,
 }
 
@@ -211,13 +211,13 @@ fn sort_actions(
     alloc: Global,
     around: &Surroundings,
     automaton: &Automaton<(), (), ()>,
-) -> Result<Rules, Refusal>
+) -> Result<RuleTable, Refusal>
     ensures { Answers Refusal.Memory (λ rs. rs) result
         (spec.actions_at (surroundings_of around.now) (automaton_of automaton.now)) }
 {
     let names = entry_names(alloc, &automaton.signature)?;
     let rules = sort_entries(alloc, around, &names, automaton)?;
-    Ok(Rules::new(rules, names))
+    Ok(RuleTable::new(rules, names))
 }
 
 /// The entries of an automaton with their transitions. `names` are those of the entries.
@@ -254,7 +254,7 @@ pub fn sort_automaton(
     alloc: Global,
     types: &AllTypes,
     automaton: &Automaton<(), (), ()>,
-) -> Result<CheckedAutomaton, Refusal>
+) -> Result<NamedAutomaton, Refusal>
     ensures { Answers Refusal.Memory (λ a. a) result
         (spec.automaton_at types.now (automaton_of automaton.now)) }
 {
@@ -264,18 +264,20 @@ pub fn sort_automaton(
     let own = block_own_words(alloc, &body.schedule.variables, body.rules.as_slice())?;
     let name = automaton.name.try_copy(alloc)?;
     let constants = Arc::try_clone(types.names())?;
+    let words = heading.outer.names().to_words(alloc)?;
     let heading = Box::into_inner(heading);
     let body = Box::into_inner(body);
-    Ok(CheckedAutomaton::new(
+    let found = CheckedAutomaton::new(
         name,
         constants,
         heading.parameters,
         heading.variables,
-        heading.outer.into_names(),
-        body.rules,
+        words,
+        body.rules.into_rules(),
         body.schedule,
         own,
-    ))
+    );
+    Ok(NamedAutomaton::new(alloc, found, heading.outer.into_names())?)
 }
 
 /// What an automaton of this heading has behind it.

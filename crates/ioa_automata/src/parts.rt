@@ -16,12 +16,11 @@ ghost use Rattle.ioa_sorts.specs.Statements.{all_ok, statement_sortings};
 ghost use Rattle.ioa_automata.specs.Parts as spec;
 ghost use Rattle.ioa_automata.specs.SortedView.{sorted_parameter_of, sorted_parameters_of, sorted_entry_of};
 
-use ioa_names::View;
+use ioa_names::{RuleTable, View};
 use ioa_refusals::Refusal;
 use ioa_sort_rules::shape_in_terms;
 use ioa_sorts::{StatementSite, fit, infer, sort_statements};
 use ioa_source::{Declared, Entry, Parameter, Transition, Variable};
-use ioa_system::Rules;
 use ioa_terms::{Callee, Checked, Kind, Shape, ShapeForm, Statement, Term};
 use ioa_typed::Typed;
 use ioa_types::Types;
@@ -351,7 +350,7 @@ fn sort_effect(
         (all_ok (statement_sortings (effect_site (take variables view.now) view.now)
         (statements_of (map statement_of effect.now.items)))) }
 {
-    let none = Rules::none(alloc);
+    let none = RuleTable::none(alloc);
     let site = StatementSite::effect(view, variables, &none);
     sort_statements(alloc, &site, effect)
 }

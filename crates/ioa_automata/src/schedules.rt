@@ -15,11 +15,11 @@ ghost use Rattle.ioa_automata.specs.SortedView.{surroundings_of};
 use crate::names::block_names;
 use crate::parts::sort_variables;
 use crate::rules::Surroundings;
-use ioa_names::{NameTable, View};
+use ioa_names::{NameTable, RuleTable, View};
 use ioa_refusals::Refusal;
 use ioa_sorts::{StatementSite, sort_statements};
 use ioa_source::{Schedule, Variable};
-use ioa_system::{Rule, Rules, message_shape};
+use ioa_system::{Rule, message_shape};
 use ioa_terms::{Callee, Shape, Statement, Word, inboxes_word};
 use std::alloc::{AllocError, Global};
 
@@ -42,7 +42,7 @@ fn sort_block_variables(
 fn sort_block_statements(
     alloc: Global,
     around: &Surroundings,
-    rules: &Rules,
+    rules: &RuleTable,
     own: &NameTable,
     variables: usize,
     statements: &Vec<Statement<(), (), ()>>,
@@ -63,7 +63,7 @@ fn sort_block_statements(
 pub(crate) fn sort_schedule(
     alloc: Global,
     around: &Surroundings,
-    rules: &Rules,
+    rules: &RuleTable,
     schedule: &Schedule<(), (), ()>,
 ) -> Result<Schedule<usize, Callee, Shape>, Refusal>
     ensures { Answers Refusal.Memory schedule_of result

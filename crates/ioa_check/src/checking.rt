@@ -9,6 +9,7 @@ ghost use Rattle.ioa_check.specs.Systems.{IsSystemOf, SaysNoSystem};
 
 use crate::invariants::invariants_of;
 use ioa_invariants::Section;
+use ioa_names::programs_alone;
 use ioa_sections::{CheckFault, CheckedDeclarations, Placed};
 use ioa_source::Text;
 use ioa_system::System;
@@ -63,5 +64,6 @@ fn check_parts(
         channels,
         scripts,
     } = placed;
+    let programs = programs_alone(alloc, programs)?;
     Ok(System::new(constants, programs, channels, scripts, found))
 }

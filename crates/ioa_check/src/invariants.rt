@@ -7,10 +7,11 @@ ghost use Rattle.ioa_sections.specs.Faults.{in_declaration};
 ghost use Rattle.ioa_check.specs.Checking as spec;
 
 use ioa_invariants::{Section, check_invariant};
+use ioa_names::Scope;
 use ioa_refusals::Refusal;
 use ioa_sections::{CheckFault, fault_at};
 use ioa_source::Invariant;
-use ioa_system::{CheckedInvariant, Scope};
+use ioa_system::CheckedInvariant;
 use std::alloc::{AllocError, Global};
 
 /// The invariants of a text, in the order of their declaration. The first of them stands in the top declaration of this

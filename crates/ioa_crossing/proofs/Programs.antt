@@ -18,7 +18,6 @@ use Rattle.ioa_source.specs.contracts.declaration.Schedule as Schedule
 use Rattle.ioa_terms.specs.contracts.tree.Tree as Tree
 use Rattle.ioa_terms.specs.contracts.tree.Statement as Statement
 use Rattle.ioa_values.specs.contracts.names.Names as Names
-use Rattle.ioa_system.specs.contracts.scope.Scope as Scope
 use Rattle.ioa_system.specs.contracts.automaton.Rule as Rule
 use Rattle.ioa_system.specs.contracts.rules.Rules as Rules
 use Rattle.ioa_system.specs.contracts.automaton.CheckedAutomaton as CheckedAutomaton
@@ -39,12 +38,6 @@ sort_send = search (owners, word_send, crosses, sort_knot.crosses, sendable) dep
 
 pub sort_sync : IsSync (Sort.the_field).row
 sort_sync = search (owners, word_sync, crosses, sort_knot.crosses, sendable) depth 60 fits 20000
-
-pub scope_send : IsSend (Scope.the_field).row
-scope_send = search (owners, word_send, crosses, sendable) depth 60 fits 20000
-
-pub scope_sync : IsSync (Scope.the_field).row
-scope_sync = search (owners, word_sync, crosses, sendable) depth 60 fits 20000
 
 pub names_send : IsSend (Names.the_field).row
 names_send = search (owners, word_send, crosses, sendable) depth 60 fits 20000
@@ -113,16 +106,16 @@ pub rule_sync : IsSync (Rule.the_field).row
 rule_sync = search (entry_sync, shape_sync, transition_sync, word_sync, crosses, sendable) depth 60 fits 20000
 
 pub rules_send : IsSend (Rules.the_field).row
-rules_send = search (rule_send, scope_send, crosses, sendable) depth 60 fits 20000
+rules_send = search (rule_send, crosses, sendable) depth 60 fits 20000
 
 pub rules_sync : IsSync (Rules.the_field).row
-rules_sync = search (rule_sync, scope_sync, crosses, sendable) depth 60 fits 20000
+rules_sync = search (rule_sync, crosses, sendable) depth 60 fits 20000
 
 pub automaton_send : IsSend (CheckedAutomaton.the_field).row
-automaton_send = search (word_send, names_send, names_sync, declared_send, variable_send, scope_send, rules_send, schedule_send, crosses, sendable) depth 60 fits 20000
+automaton_send = search (word_send, names_send, names_sync, declared_send, variable_send, rules_send, schedule_send, crosses, sendable) depth 60 fits 20000
 
 pub automaton_sync : IsSync (CheckedAutomaton.the_field).row
-automaton_sync = search (word_sync, names_send, names_sync, declared_sync, variable_sync, scope_sync, rules_sync, schedule_sync, crosses, sendable) depth 60 fits 20000
+automaton_sync = search (word_sync, names_send, names_sync, declared_sync, variable_sync, rules_sync, schedule_sync, crosses, sendable) depth 60 fits 20000
 
 pub program_send : IsSend (Program.the_field).row
 program_send = search (automaton_send, automaton_sync, value_send, crosses, sendable) depth 60 fits 20000

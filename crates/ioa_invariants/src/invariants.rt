@@ -10,11 +10,11 @@ ghost use Rattle.ioa_invariants.specs.Checked as spec;
 
 use crate::names::names_read;
 use crate::shapes::reading_shapes;
-use ioa_names::{NameTable, Readings, View};
+use ioa_names::{NameTable, NamedProgram, Readings, View};
 use ioa_refusals::Refusal;
 use ioa_sorts::fit;
 use ioa_source::{Channel, Invariant};
-use ioa_system::{CheckedInvariant, Program};
+use ioa_system::CheckedInvariant;
 use ioa_terms::{Checked, Shape, ShapeForm, Term};
 use ioa_types::AllTypes;
 use std::alloc::Global;
@@ -28,14 +28,12 @@ pub struct Section<'a> {
     /// The text's types and constants.
     pub types: &'a AllTypes,
     /// The programs of the nodes, node 0 first.
-    pub programs: &'a [Arc<Program>],
+    pub programs: &'a [NamedProgram],
     /// The channels.
     pub channels: &'a [Channel],
 }
 
 impl<'a> Model for Section<'a> {
-    ghost use Rattle.std.specs.Prelude.{map};
-    ghost use Rattle.std.specs.Arc.{arc_value};
     ghost use Rattle.ioa_invariants.specs.Sections.{SectionParts, section_parts, section_code};
     ghost use Rattle.ioa_invariants.specs.Checked.{AreDeclaredParts};
 
@@ -43,9 +41,9 @@ impl<'a> Model for Section<'a> {
 
     ghost coded = { section_code };
 
-    ghost view = { λ s. section_parts s.types.now.constants (map arc_value s.programs.now) s.channels.now };
+    ghost view = { λ s. section_parts s.types.now.constants s.programs.now s.channels.now };
 
-    ghost invariant = { λ s. AreDeclaredParts s.types.now.constants (map arc_value s.programs.now) };
+    ghost invariant = { λ s. AreDeclaredParts s.types.now.constants s.programs.now };
 }
 
 /// Makes the checked invariant that an invariant of a text is. Returns `Unknown` (20) if it reads a name that is not

@@ -1,16 +1,16 @@
 //! The shapes of what an invariant reads.
 
 ghost use Rattle.std.specs.Prelude.{◌≡◌, IfOk, length, map};
-ghost use Rattle.std.specs.Arc.{arc_value};
 ghost use Rattle.std.specs.List.{list_any};
 ghost use Rattle.ioa_values.specs.Outcome.{Answers};
-ghost use Rattle.std.specs.Option.{option_copied, option_map};
+ghost use Rattle.std.specs.Option.{option_copied};
 ghost use Rattle.ioa_operators.specs.Shapes.{sequences};
 ghost use Rattle.ioa_invariants.specs.ReadShapes as spec;
 
+use ioa_names::{NamedProgram, named_program_numbered};
 use ioa_refusals::Refusal;
 use ioa_source::Channel;
-use ioa_system::{Program, message_shape, program_numbered};
+use ioa_system::message_shape;
 use ioa_terms::{Name, Shape, ShapeForm, Word};
 use std::alloc::{AllocError, Global};
 use std::sync::Arc;
@@ -19,12 +19,12 @@ use std::sync::Arc;
 /// (20) if there is no such node, variable or channel.
 pub(crate) fn reading_shapes(
     alloc: Global,
-    programs: &[Arc<Program>],
+    programs: &[NamedProgram],
     channels: &[Channel],
     names: &[Name],
 ) -> Result<Vec<Shape>, Refusal>
     ensures shapes { Answers Refusal.Memory (λ ss. ss.items) result
-        (spec.reading_shapes (map arc_value programs.now) channels.now names.now) }
+        (spec.reading_shapes programs.now channels.now names.now) }
     ensures many { IfOk result (λ ss. length ss.items ≡ length names.now) }
 {
     let mut shapes = Vec::new(alloc);
@@ -38,23 +38,23 @@ pub(crate) fn reading_shapes(
 /// The shape of what a name reads.
 fn reading_shape(
     alloc: Global,
-    programs: &[Arc<Program>],
+    programs: &[NamedProgram],
     channels: &[Channel],
     name: &Name,
 ) -> Result<Shape, Refusal>
     ensures { Answers Refusal.Memory (λ s. s) result
-        (spec.shape_or (spec.reading_shape (map arc_value programs.now) channels.now name.now)) }
+        (spec.shape_or (spec.reading_shape programs.now channels.now name.now)) }
 {
     match name {
         Name::Word(_) => Err(Refusal::Unknown),
         Name::Variable { name, node } => {
-            variable_shape(alloc, name, program_numbered(programs, *node))
+            variable_shape(alloc, name, named_program_numbered(programs, *node))
         }
         Name::Queue { from, to } => {
             if !has_channel(channels, *from, *to) {
                 return Err(Refusal::Unknown);
             }
-            queue_shape(alloc, program_numbered(programs, *to))
+            queue_shape(alloc, named_program_numbered(programs, *to))
         }
     }
 }
@@ -63,14 +63,14 @@ fn reading_shape(
 fn variable_shape(
     alloc: Global,
     name: &Word,
-    program: Option<&Arc<Program>>,
+    program: Option<&NamedProgram>,
 ) -> Result<Shape, Refusal>
     ensures { Answers Refusal.Memory (λ s. s) result
-        (spec.shape_or (spec.variable_shape name.now (option_map arc_value (option_copied program.entry)))) }
+        (spec.shape_or (spec.variable_shape name.now (option_copied program.entry))) }
 {
     match program {
         None => Err(Refusal::Unknown),
-        Some(program) => match program.automaton().variable_named(name) {
+        Some(program) => match program.variable_named(name) {
             None => Err(Refusal::Unknown),
             Some(variable) => Ok(variable.declared.shape.try_copy(alloc)?),
         },
@@ -78,13 +78,13 @@ fn variable_shape(
 }
 
 /// The shape of a queue, if there is the node that receives: sequences of the messages that it takes.
-fn queue_shape(alloc: Global, program: Option<&Arc<Program>>) -> Result<Shape, Refusal>
+fn queue_shape(alloc: Global, program: Option<&NamedProgram>) -> Result<Shape, Refusal>
     ensures { Answers Refusal.Memory (λ s. s) result
-        (spec.shape_or (spec.queue_shape (option_map arc_value (option_copied program.entry)))) }
+        (spec.shape_or (spec.queue_shape (option_copied program.entry))) }
 {
     match program {
         None => Err(Refusal::Unknown),
-        Some(program) => match message_shape(program.automaton().rules()) {
+        Some(program) => match message_shape(program.program().automaton().rules()) {
             None => Err(Refusal::Unknown),
             Some(message) => Ok(sequences_of(alloc, message)?),
         },

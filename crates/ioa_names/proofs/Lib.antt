@@ -4,3 +4,5 @@ pub mod Names
 pub mod Named
 pub mod Slots
 pub mod Words
+pub mod Scopes
+pub mod StateNames

@@ -2,3 +2,5 @@
 pub mod NameTables
 pub mod OuterNames
 pub mod Views
+pub mod Indexes
+pub mod StateNames

@@ -9,18 +9,27 @@ ghost use Rattle.ioa_terms.specs.Sorted as sorted;
 ghost use Rattle.ioa_names.specs.NameTables as spec;
 ghost use Rattle.ioa_names.specs.Views as views;
 
+use crate::scope::Scope;
 use ioa_refusals::Refusal;
 use ioa_sort_rules::shape_in_terms;
-use ioa_system::Scope;
 use ioa_terms::{Name, Shape, Word};
 use std::alloc::{AllocError, Global};
 use std::marker::Model;
 
 /// A declared shape, and beside it the shape that a name of it has in a term. A contract sees the declared one.
-#[derive(Drop)]
 pub(crate) struct DeclaredShape {
     shape: Shape,
     in_terms: Shape,
+}
+
+/// By hand, so that crates above do not prove again how the parts are let go (DECISIONS).
+impl Drop for DeclaredShape {
+    fn drop(self) {
+        let DeclaredShape {
+            shape: _,
+            in_terms: _,
+        } = self;
+    }
 }
 
 impl Model for DeclaredShape {
@@ -64,10 +73,19 @@ impl DeclaredShape {
 
 /// Words that differ from each other, each with a declared shape. The slot of a word is its index among them. A
 /// contract sees the pairs of names and declared shapes.
-#[derive(Drop)]
 pub struct NameTable {
     names: Scope,
     shapes: Vec<DeclaredShape>,
+}
+
+/// By hand, so that crates above do not prove again how the parts are let go (DECISIONS).
+impl Drop for NameTable {
+    fn drop(self) {
+        let NameTable {
+            names: _,
+            shapes: _,
+        } = self;
+    }
 }
 
 impl Model for NameTable {
@@ -202,10 +220,19 @@ impl NameTable {
 
     /// The names.
     #[tactic(auto, using(crate::proofs::Tables::words_zip))]
+    pub fn names(&self) -> &Scope
+        ensures { result.now ≡ spec.words self.now }
+    {
+        &self.names
+    }
+
+    /// The names alone.
+    #[tactic(auto, using(crate::proofs::Tables::words_zip))]
     pub fn into_names(self) -> Scope
         ensures { result ≡ spec.words self }
     {
-        self.names
+        let NameTable { names, shapes: _ } = self;
+        names
     }
 }
 

@@ -1,6 +1,6 @@
 -- A loop over the declarations of a text that makes the automata.
 use Rattle.std.proofs.Common.{◌≡◌, ◌<◌, ◌+◌, ℕ, List, [], ◌∷◌, ◌++◌, Result, Ok, Err, refl, sym, ap, map, drop, length, get_or}
-use Rattle.std.proofs.lemmas.List.{append_assoc, drop_more, map-append}
+use Rattle.std.proofs.lemmas.List.{append_assoc, drop_more}
 use Rattle.ioa_values.specs.Outcome.{and_then}
 use Rattle.ioa_source.specs.PlainText.{automaton}
 use Rattle.ioa_source.specs.Sides.{SourceAutomaton, SourceDeclaration}
@@ -28,14 +28,14 @@ automaton_more t i names a found more done h = rw h (by_rest (automata_at t (i +
     by_rest (Ok cs) = ap Ok (sym (append_assoc done (found ∷ []) cs))
     by_rest (Err f) = refl
 
--- one declaration further: a type makes no automaton, and an automaton is seen behind those before
-module _ {X : Type 0} (view : X → AutomatonParts) (t : PlainTextTypes) (i : ℕ) (names : List (List ℕ)) (items : List (Declaration (Unit {0}) (Unit {0}) (Unit {0}))) (d : Declaration (Unit {0}) (Unit {0}) (Unit {0})) (done : List X) (within : i < length items) (at : d ≡ get_or items i d) where
+-- one declaration further: a type makes no automaton, and an automaton is put behind those before
+module _ (t : PlainTextTypes) (i : ℕ) (names : List (List ℕ)) (items : List (Declaration (Unit {0}) (Unit {0}) (Unit {0}))) (d : Declaration (Unit {0}) (Unit {0}) (Unit {0})) (done : List AutomatonParts) (within : i < length items) (at : d ≡ get_or items i d) where
   pub type_behind : (x : TypeDeclaration (Unit {0})) → d ≡ declaration.Type x →
-      made_and_left (map view done) (automata_at t i names (map declaration_of (drop i items))) ≡ made_and_left (map view done) (automata_at t (i + 1) names (map declaration_of (drop (i + 1) items)))
+      made_and_left done (automata_at t i names (map declaration_of (drop i items))) ≡ made_and_left done (automata_at t (i + 1) names (map declaration_of (drop (i + 1) items)))
   type_behind x is = rw (drop_more items i d within, ← at, is) refl
 
-  pub automaton_behind : (a : Automaton (Unit {0}) (Unit {0}) (Unit {0})) (found : X) → d ≡ declaration.Automaton a → in_declaration i (new_automaton_at t names (automaton_of a)) ≡ Ok (view found) →
-      made_and_left (map view done) (automata_at t i names (map declaration_of (drop i items))) ≡ made_and_left (map view (done ++ found ∷ [])) (automata_at t (i + 1) (names ++ (automaton_of a).name ∷ []) (map declaration_of (drop (i + 1) items)))
+  pub automaton_behind : (a : Automaton (Unit {0}) (Unit {0}) (Unit {0})) (found : AutomatonParts) → d ≡ declaration.Automaton a → in_declaration i (new_automaton_at t names (automaton_of a)) ≡ Ok found →
+      made_and_left done (automata_at t i names (map declaration_of (drop i items))) ≡ made_and_left (done ++ found ∷ []) (automata_at t (i + 1) (names ++ (automaton_of a).name ∷ []) (map declaration_of (drop (i + 1) items)))
   automaton_behind a found is made =
-      rw (drop_more items i d within, ← at, is, map-append view done (found ∷ []))
-      (automaton_more t i names (automaton_of a) (view found) (map declaration_of (drop (i + 1) items)) (map view done) made)
+      rw (drop_more items i d within, ← at, is)
+      (automaton_more t i names (automaton_of a) found (map declaration_of (drop (i + 1) items)) done made)

@@ -2,7 +2,6 @@
 
 ghost use Rattle.std.specs.Prelude.{◌≡◌, [], IfOk, IfSome, map, slice_get};
 ghost use Rattle.std.specs.Option.{option_copied, option_map};
-ghost use Rattle.std.specs.Arc.{arc_value};
 ghost use Rattle.std.specs.List.{list_any};
 ghost use Rattle.ioa_values.specs.Outcome.{Answers};
 ghost use Rattle.ioa_terms.specs.Bindings.{names_of};
@@ -18,13 +17,13 @@ ghost use Rattle.ioa_sections.specs.Sections.{channels_in};
 
 use crate::values::gives_number;
 use ioa_actions::{RECEIVE, SEND};
+use ioa_names::{NamedProgram, named_program_numbered};
 use ioa_refusals::Refusal;
 use ioa_sort_rules::is_same_sort;
 use ioa_source::{Channel, Parameter, Placement};
-use ioa_system::{Program, Rule, program_numbered};
+use ioa_system::{Program, Rule};
 use ioa_terms::{Callee, Env, Shape};
 use std::alloc::{AllocError, Global};
-use std::sync::Arc;
 
 /// The greatest number of channels.
 pub const MOST_CHANNELS: usize = 256;
@@ -87,13 +86,13 @@ fn is_channel(channels: &[Channel], channel: &Channel) -> bool
 /// The program of the node that has a number. `Unknown` (20) if there is no such node.
 #[tactic(auto, unfolding(crate::specs::Channels::program_or))]
 pub(crate) fn program_or(
-    programs: &Vec<Arc<Program>>,
+    programs: &Vec<NamedProgram>,
     number: i64,
-) -> Result<&Arc<Program>, Refusal>
-    ensures { Answers Refusal.Memory (λ p. arc_value p.now) result
-        (spec.program_or (program_numbered number (map arc_value programs.now.items))) }
+) -> Result<&NamedProgram, Refusal>
+    ensures { Answers Refusal.Memory (λ p. p.now) result
+        (spec.program_or (program_numbered number programs.now.items)) }
 {
-    match program_numbered(programs, number) {
+    match named_program_numbered(programs, number) {
         None => Err(Refusal::Unknown),
         Some(program) => Ok(program),
     }
@@ -206,23 +205,23 @@ fn check_receiver(
 
 /// Passes if the ends of a channel are nodes of these programs, and the receiver takes what the sender sends.
 #[tactic(auto, unfolding(crate::specs::Channels::channel_between))]
-fn check_ends(alloc: Global, programs: &Vec<Arc<Program>>, channel: &Channel) -> Result<(), Refusal>
+fn check_ends(alloc: Global, programs: &Vec<NamedProgram>, channel: &Channel) -> Result<(), Refusal>
     ensures { Answers Refusal.Memory (λ x. x) result
-        (spec.channel_between (map arc_value programs.now.items) channel.now) }
+        (spec.channel_between programs.now.items channel.now) }
 {
     let sender = program_or(programs, channel.from)?;
     let receiver = program_or(programs, channel.to)?;
-    check_receiver(alloc, sender, receiver, channel.from)
+    check_receiver(alloc, sender.program(), receiver.program(), channel.from)
 }
 
 /// The same, if it is from one node to another. Else `SelfChannel` (29).
 #[tactic(auto, unfolding(crate::specs::Channels::channel_at))]
 fn check_channel(
     alloc: Global,
-    programs: &Vec<Arc<Program>>,
+    programs: &Vec<NamedProgram>,
     channel: &Channel,
 ) -> Result<(), Refusal>
-    ensures { Answers Refusal.Memory (λ x. x) result (spec.channel_at (map arc_value programs.now.items) channel.now) }
+    ensures { Answers Refusal.Memory (λ x. x) result (spec.channel_at programs.now.items channel.now) }
 {
     if channel.from == channel.to {
         return Err(Refusal::SelfChannel);
@@ -233,11 +232,11 @@ fn check_channel(
 /// Passes if each channel does.
 pub(crate) fn check_channels(
     alloc: Global,
-    programs: &Vec<Arc<Program>>,
+    programs: &Vec<NamedProgram>,
     channels: &[Channel],
 ) -> Result<(), Refusal>
     ensures { Answers Refusal.Memory (λ x. x) result
-        (spec.all_channels_at (map arc_value programs.now.items) channels.now) }
+        (spec.all_channels_at programs.now.items channels.now) }
 {
     for channel in channels {
         check_channel(alloc, programs, channel)?;

@@ -1,7 +1,6 @@
 //! What the declarations of a text describe.
 
 ghost use Rattle.std.specs.Prelude.{◌≡◌, IfOk, map};
-ghost use Rattle.std.specs.Arc.{arc_value};
 ghost use Rattle.ioa_values.specs.Outcome.{Answers};
 ghost use Rattle.ioa_source.specs.TextView.{declaration_of, placement_of};
 ghost use Rattle.ioa_sections.specs.DeclaredParts as spec;
@@ -17,19 +16,18 @@ use crate::ground::Ground;
 use crate::nodes::{nodes_of, programs_of};
 use crate::placed::Placed;
 use crate::scripts::scripts_of;
+use ioa_names::NamedAutomaton;
 use ioa_refusals::Refusal;
 use ioa_source::{Declaration, Placement};
-use ioa_system::CheckedAutomaton;
 use ioa_types::AllTypes;
 use std::alloc::Global;
 use std::marker::Model;
-use std::sync::Arc;
 
 /// What the declarations of a text describe: its types, its constants and its automata, checked. It is made once, and
 /// any number of system sections can be asked over it.
 pub struct CheckedDeclarations {
     types: AllTypes,
-    automata: Vec<Arc<CheckedAutomaton>>,
+    automata: Vec<NamedAutomaton>,
 }
 
 /// By hand, so that crates above do not prove again how the parts are let go (DECISIONS).
@@ -43,8 +41,6 @@ impl Drop for CheckedDeclarations {
 }
 
 impl Model for CheckedDeclarations {
-    ghost use Rattle.std.specs.Prelude.{map};
-    ghost use Rattle.std.specs.Arc.{arc_value};
     ghost use Rattle.ioa_sections.specs.DeclaredParts.{DeclaredParts, declared_code, declared_parts};
     ghost use Rattle.ioa_sections.specs.Grounds.{AreGrounded};
 
@@ -52,9 +48,9 @@ impl Model for CheckedDeclarations {
 
     ghost coded = { declared_code };
 
-    ghost view = { λ d. declared_parts d.types (map arc_value d.automata.items) };
+    ghost view = { λ d. declared_parts d.types d.automata.items };
 
-    ghost invariant = { λ d. AreGrounded d.types.constants (map arc_value d.automata.items) };
+    ghost invariant = { λ d. AreGrounded d.types.constants d.automata.items };
 }
 
 impl CheckedDeclarations {
@@ -82,8 +78,8 @@ impl CheckedDeclarations {
     }
 
     /// The automata, in the order of their declaration.
-    pub(crate) fn automata(&self) -> &Vec<Arc<CheckedAutomaton>>
-        ensures automata { map arc_value result.now.items ≡ self.now.automata }
+    pub(crate) fn automata(&self) -> &Vec<NamedAutomaton>
+        ensures automata { result.now.items ≡ self.now.automata }
         ensures grounded { AreGrounded self.now.types.constants self.now.automata }
     {
         &self.automata
@@ -113,7 +109,7 @@ impl CheckedDeclarations {
         ensures placed { Answers Refusal.Memory placed_of result (placed_at self.now.types.constants
             self.now.automata (map placement_of placements.now.items)) }
         ensures grounded { IfOk result
-            (λ s. AreGroundedPrograms self.now.types.constants (map arc_value s.programs.items)) }
+            (λ s. AreGroundedPrograms self.now.types.constants s.programs.items) }
     {
         self.grounded_law();
         let nodes = nodes_of(alloc, placements)?;
@@ -143,7 +139,7 @@ impl CheckedDeclarations {
         ensures placed { Answers CheckFault.Memory placed_of result (in_declaration index (placed_at
             self.now.types.constants self.now.automata (map placement_of placements.now.items))) }
         ensures grounded { IfOk result
-            (λ s. AreGroundedPrograms self.now.types.constants (map arc_value s.programs.items)) }
+            (λ s. AreGroundedPrograms self.now.types.constants s.programs.items) }
     {
         match self.check_section(alloc, placements) {
             Ok(placed) => Ok(placed),

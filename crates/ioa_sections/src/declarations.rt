@@ -1,7 +1,6 @@
 //! The types and the automata that a text declares.
 
 ghost use Rattle.std.specs.Prelude.{◌≡◌, ◌++◌, ◌∷◌, [], OnOk, map};
-ghost use Rattle.std.specs.Arc.{arc_value};
 ghost use Rattle.ioa_values.specs.Outcome.{Answers};
 ghost use Rattle.ioa_source.specs.TextView.{automaton_of, declaration_of};
 ghost use Rattle.ioa_types.specs.TextTypes.{no_types};
@@ -10,12 +9,11 @@ ghost use Rattle.ioa_sections.specs.Faults.{in_declaration};
 
 use crate::fault::{CheckFault, fault_at};
 use ioa_automata::sort_automaton;
+use ioa_names::{NamedAutomaton, Scope};
 use ioa_refusals::Refusal;
 use ioa_source::{Automaton, Declaration};
-use ioa_system::{CheckedAutomaton, Scope};
 use ioa_types::{AllTypes, TextTypes};
 use std::alloc::Global;
-use std::sync::Arc;
 
 /// The types and the constants of a text.
 pub(crate) fn types_of(
@@ -54,8 +52,8 @@ pub(crate) fn automata_of(
     alloc: Global,
     types: &AllTypes,
     declarations: &Vec<Declaration<(), (), ()>>,
-) -> Result<Vec<Arc<CheckedAutomaton>>, CheckFault>
-    ensures { Answers CheckFault.Memory (λ cs. map arc_value cs.items) result
+) -> Result<Vec<NamedAutomaton>, CheckFault>
+    ensures { Answers CheckFault.Memory (λ cs. cs.items) result
         (spec.automata_at types.now 0 [] (map declaration_of declarations.now.items)) }
 {
     let mut names = Scope::new(alloc);
@@ -79,8 +77,8 @@ fn automaton_in_declaration(
     names: &mut Scope,
     index: usize,
     automaton: &Automaton<(), (), ()>,
-) -> Result<Arc<CheckedAutomaton>, CheckFault>
-    ensures found { Answers CheckFault.Memory arc_value result
+) -> Result<NamedAutomaton, CheckFault>
+    ensures found { Answers CheckFault.Memory (λ a. a) result
         (in_declaration index (spec.new_automaton_at types.now names.old (automaton_of automaton.now))) }
     ensures named { OnOk result (names.new ≡ names.old ++ (automaton_of automaton.now).name ∷ []) }
 {
@@ -97,14 +95,13 @@ fn new_automaton(
     types: &AllTypes,
     names: &mut Scope,
     automaton: &Automaton<(), (), ()>,
-) -> Result<Arc<CheckedAutomaton>, Refusal>
-    ensures found { Answers Refusal.Memory arc_value result
+) -> Result<NamedAutomaton, Refusal>
+    ensures found { Answers Refusal.Memory (λ a. a) result
         (spec.new_automaton_at types.now names.old (automaton_of automaton.now)) }
     ensures named { OnOk result (names.new ≡ names.old ++ (automaton_of automaton.now).name ∷ []) }
 {
     if !names.declare(automaton.name.try_copy(alloc)?)? {
         return Err(Refusal::Twice);
     }
-    let found = sort_automaton(alloc, types, automaton)?;
-    Ok(Arc::new(alloc, found)?)
+    sort_automaton(alloc, types, automaton)
 }

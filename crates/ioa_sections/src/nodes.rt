@@ -2,7 +2,6 @@
 
 ghost use Rattle.std.specs.Prelude.{◌≡◌, ◌<◌, ◌^◌, [], IfOk, IfSome, find, length, map, pos, slice_get};
 ghost use Rattle.std.specs.Option.{option_copied, option_map};
-ghost use Rattle.std.specs.Arc.{arc_value};
 ghost use Rattle.std.specs.List.{list_any};
 ghost use Rattle.ioa_values.specs.Outcome.{Answers};
 ghost use Rattle.ioa_terms.specs.View.{term_of};
@@ -19,7 +18,7 @@ ghost use Rattle.ioa_sections.specs.Sections.{node_at, nodes_in};
 use crate::checked::CheckedDeclarations;
 use crate::values::{argument_values, check_constants, gives_number, variable_values};
 use ioa_actions::{RECEIVE, SEND};
-use ioa_names::{NameTable, View};
+use ioa_names::{NameTable, NamedAutomaton, NamedProgram, View};
 use ioa_refusals::Refusal;
 use ioa_sorts::sort_arguments;
 use ioa_source::{Declared, Node, Parameter, Placement};
@@ -101,15 +100,11 @@ fn node_numbered<'a>(nodes: &[&'a Node<(), (), ()>], number: i64) -> Option<&'a 
 }
 
 /// The automaton that has a name.
-fn automaton_named<'a>(
-    automata: &'a Vec<Arc<CheckedAutomaton>>,
-    name: &Word,
-) -> Option<&'a Arc<CheckedAutomaton>>
-    ensures { option_map arc_value (option_copied result)
-        ≡ spec.automaton_named name.now (map arc_value automata.now.items) }
+fn automaton_named<'a>(automata: &'a Vec<NamedAutomaton>, name: &Word) -> Option<&'a NamedAutomaton>
+    ensures { option_copied result ≡ spec.automaton_named name.now automata.now.items }
 {
     for automaton in automata {
-        if automaton.name() == name {
+        if automaton.automaton().name() == name {
             return Some(automaton);
         }
     }
@@ -302,17 +297,18 @@ fn block_values(
 fn program_of(
     alloc: Global,
     number: i64,
-    automaton: &Arc<CheckedAutomaton>,
+    automaton: &NamedAutomaton,
     arguments: Vec<Value>,
-) -> Result<Program, Refusal>
-    requires { length arguments.items ≡ length (arc_value automaton.now).parameters }
+) -> Result<NamedProgram, Refusal>
+    requires { length arguments.items ≡ length automaton.now.parameters }
     ensures { Answers Refusal.Memory (λ p. p) result
-        (spec.program_of number (arc_value automaton.now) arguments.items) }
+        (spec.program_of number automaton.now arguments.items) }
 {
-    let initial = start_values(alloc, automaton, &arguments, number)?;
-    let block = block_values(alloc, automaton, &arguments)?;
-    let shared = Arc::try_clone(automaton)?;
-    Ok(Program::new(number, shared, arguments, initial, block))
+    let shared = Arc::try_clone(automaton.automaton())?;
+    let initial = start_values(alloc, &shared, &arguments, number)?;
+    let block = block_values(alloc, &shared, &arguments)?;
+    let program = Program::new(number, shared, arguments, initial, block);
+    Ok(NamedProgram::new(alloc, program, automaton)?)
 }
 
 /// The program of the node of a number on which an automaton is placed with these arguments.
@@ -322,13 +318,13 @@ fn program_with(
     types: &AllTypes,
     number: i64,
     arguments: &Vec<Term>,
-    automaton: &Arc<CheckedAutomaton>,
-) -> Result<Program, Refusal>
-    requires { HaveDeclaredShapes types.now.constants (spec.parameter_shapes (arc_value automaton.now)) }
+    automaton: &NamedAutomaton,
+) -> Result<NamedProgram, Refusal>
+    requires { HaveDeclaredShapes types.now.constants (spec.parameter_shapes automaton.now) }
     ensures { Answers Refusal.Memory (λ p. p) result (spec.program_with types.now.constants number
-        (map term_of arguments.now.items) (arc_value automaton.now)) }
+        (map term_of arguments.now.items) automaton.now) }
 {
-    let shapes = shapes_of(alloc, automaton.parameters())?;
+    let shapes = shapes_of(alloc, automaton.automaton().parameters())?;
     let given = given_values(alloc, types, &shapes, arguments)?;
     program_of(alloc, number, automaton, given)
 }
@@ -340,7 +336,7 @@ fn node_program(
     declared: &CheckedDeclarations,
     number: i64,
     node: &Node<(), (), ()>,
-) -> Result<Program, Refusal>
+) -> Result<NamedProgram, Refusal>
     ensures { Answers Refusal.Memory (λ p. p) result (spec.node_program declared.now.types.constants
         declared.now.automata number (node_of node.now)) }
 {
@@ -359,7 +355,7 @@ fn program_at(
     declared: &CheckedDeclarations,
     nodes: &[&Node<(), (), ()>],
     number: i64,
-) -> Result<Program, Refusal>
+) -> Result<NamedProgram, Refusal>
     ensures { Answers Refusal.Memory (λ p. p) result (spec.program_at declared.now.types.constants
         declared.now.automata number (find (spec.has_number number) (map node_at nodes.now))) }
 {
@@ -375,13 +371,12 @@ fn program_at_position(
     declared: &CheckedDeclarations,
     nodes: &[&Node<(), (), ()>],
     position: usize,
-) -> Result<Arc<Program>, Refusal>
+) -> Result<NamedProgram, Refusal>
     requires { position < 2 ^ 63 }
-    ensures { Answers Refusal.Memory arc_value result (spec.program_at declared.now.types.constants
+    ensures { Answers Refusal.Memory (λ p. p) result (spec.program_at declared.now.types.constants
         declared.now.automata (pos position) (find (spec.has_number (pos position)) (map node_at nodes.now))) }
 {
-    let program = program_at(alloc, declared, nodes, position as i64)?;
-    Ok(Arc::new(alloc, program)?)
+    program_at(alloc, declared, nodes, position as i64)
 }
 
 /// The programs of nodes, node 0 first.
@@ -389,8 +384,8 @@ pub(crate) fn programs_of(
     alloc: Global,
     declared: &CheckedDeclarations,
     nodes: &[&Node<(), (), ()>],
-) -> Result<Vec<Arc<Program>>, Refusal>
-    ensures { Answers Refusal.Memory (λ ps. map arc_value ps.items) result
+) -> Result<Vec<NamedProgram>, Refusal>
+    ensures { Answers Refusal.Memory (λ ps. ps.items) result
         (spec.programs_at declared.now.types.constants declared.now.automata (map node_at nodes.now)) }
 {
     let mut programs = Vec::new(alloc);

@@ -1,14 +1,14 @@
 //! What a system section places.
 
+use ioa_names::NamedProgram;
 use ioa_source::Channel;
-use ioa_system::{Program, Script};
-use std::sync::Arc;
+use ioa_system::Script;
 
 /// What a system section places: the programs of its nodes, node 0 first, and its channels and scripts as declared.
 #[derive(Drop)]
 pub struct Placed {
     /// The programs of the nodes.
-    pub programs: Vec<Arc<Program>>,
+    pub programs: Vec<NamedProgram>,
     /// The channels.
     pub channels: Vec<Channel>,
     /// The scripts.

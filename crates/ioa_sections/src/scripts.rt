@@ -162,7 +162,13 @@ fn script_at(
         (spec.script_at ground.now.constants ground.now.programs number (map call_of calls.now.items)) }
 {
     let program = program_or(ground.programs, number)?;
-    let stimuli = stimuli_of(alloc, ground.types, number, program.automaton(), calls)?;
+    let stimuli = stimuli_of(
+        alloc,
+        ground.types,
+        number,
+        program.program().automaton(),
+        calls,
+    )?;
     Ok(Script::new(number, stimuli))
 }
 

@@ -6,7 +6,7 @@ use Rattle.std.proofs.lemmas.List.{length-map}
 use Rattle.ioa_terms.specs.Bindings.{same_word, slot_in}
 use Rattle.ioa_terms.proofs.Slots.{slot_within}
 use Rattle.ioa_source.specs.Sides.{SourceFiring}
-use Rattle.ioa_system.specs.Indexes.{AreIndexed}
+use Rattle.ioa_names.specs.Indexes.{AreIndexed}
 use Rattle.ioa_system.specs.Parts.{PlainRule, rule_names}
 use Rattle.ioa_sorts.specs.Firings.{fires, is_of_kind, number_fired}
 use Rattle.ioa_sorts.proofs.CompleteStatements.{number_is}

@@ -8,7 +8,7 @@ use Rattle.std.proofs.lemmas.Slice.Eq.{bytes_eq-Decides}
 use Rattle.ioa_terms.specs.declared.name.Name.TheVariants.{Word}
 use Rattle.ioa_terms.specs.Bindings.{same_word, slot_in}
 use Rattle.ioa_terms.proofs.Slots.{slot_within}
-use Rattle.ioa_system.specs.Indexes.{AreIndexed}
+use Rattle.ioa_names.specs.Indexes.{AreIndexed}
 
 -- what holds of each element holds of those that a list contains
 at_position : {A : Type 0} (P : A → Type 0) (xs : List A) (k : ℕ) (d : A) → AllByRecursion P xs → k < length xs → P (slice_index_or xs k d)

@@ -7,9 +7,9 @@ ghost use Rattle.ioa_terms.specs.View.{firing_of, term_of};
 ghost use Rattle.ioa_sorts.specs.Firings as spec;
 
 use crate::displays::fit_each;
-use ioa_names::View;
+use ioa_names::{RuleTable, View};
 use ioa_refusals::Refusal;
-use ioa_system::{Rule, Rules};
+use ioa_system::Rule;
 use ioa_terms::{Callee, Checked, Firing, Kind, Shape, Term};
 use std::alloc::Global;
 
@@ -24,7 +24,7 @@ fn is_of_kind(written: Option<Kind>, kind: Kind) -> bool
 }
 
 /// The number of the rule that a firing names, and the rule, if there is one.
-fn rule_fired<'a>(rules: &'a Rules, firing: &Firing<(), (), ()>) -> Option<(usize, &'a Rule)>
+fn rule_fired<'a>(rules: &'a RuleTable, firing: &Firing<(), (), ()>) -> Option<(usize, &'a Rule)>
     ensures rule { option_map (λ f. f.1.now) result ≡ find (spec.fires (firing_of firing.now)) rules.now }
     ensures number { IfSome result (λ f. f.0 ≡ spec.number_fired (firing_of firing.now) rules.now) }
 {
@@ -41,7 +41,7 @@ fn rule_fired<'a>(rules: &'a Rules, firing: &Firing<(), (), ()>) -> Option<(usiz
 /// names no entry.
 #[tactic(auto, unfolding(crate::specs::Firings::entry_fired))]
 fn shapes_fired<'a>(
-    rules: &'a Rules,
+    rules: &'a RuleTable,
     firing: &Firing<(), (), ()>,
 ) -> Result<(usize, &'a Vec<Shape>), Refusal>
     ensures shapes { Answers Refusal.Memory (λ f. f.1.now.items) result (spec.entry_fired
@@ -72,7 +72,7 @@ pub fn sort_arguments(
 pub(crate) fn sort_firing(
     alloc: Global,
     view: &View,
-    rules: &Rules,
+    rules: &RuleTable,
     firing: &Firing<(), (), ()>,
 ) -> Result<Firing<usize, Callee, Shape>, Refusal>
     ensures { Answers Refusal.Memory firing_of result (spec.firing_at view.now rules.now (firing_of firing.now)) }

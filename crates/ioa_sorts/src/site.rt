@@ -4,8 +4,7 @@ ghost use Rattle.std.specs.Prelude.{◌≡◌, [], take};
 ghost use Rattle.ioa_sorts.specs.SiteView.{site_of};
 ghost use Rattle.ioa_sorts.specs.StatementSites.{block_site, effect_site};
 
-use ioa_names::View;
-use ioa_system::Rules;
+use ioa_names::{RuleTable, View};
 
 /// Where statements are written (profile): in the effect of a transition or in a schedule block. The variables that
 /// they may assign come first among the names in view, and in a schedule block the state variables come next.
@@ -15,12 +14,12 @@ pub struct StatementSite<'a> {
     pub(crate) variables: usize,
     pub(crate) all_variables: usize,
     pub(crate) in_block: bool,
-    pub(crate) rules: &'a Rules,
+    pub(crate) rules: &'a RuleTable,
 }
 
 impl<'a> StatementSite<'a> {
     /// An effect, which may assign the first `variables` names in view. `none` are no rules: an effect fires nothing.
-    pub fn effect(view: &'a View<'a>, variables: usize, none: &'a Rules) -> Self
+    pub fn effect(view: &'a View<'a>, variables: usize, none: &'a RuleTable) -> Self
         requires { none.now ≡ [] }
         ensures { site_of result ≡ effect_site (take variables view.now) view.now }
     {
@@ -39,7 +38,7 @@ impl<'a> StatementSite<'a> {
         view: &'a View<'a>,
         variables: usize,
         all_variables: usize,
-        rules: &'a Rules,
+        rules: &'a RuleTable,
     ) -> Self
         ensures { site_of result ≡ block_site (take variables view.now) (take all_variables view.now) view.now
             rules.now }

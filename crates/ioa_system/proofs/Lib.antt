@@ -1,4 +1,3 @@
 -- the lemmas of this crate
-pub mod Scopes
 pub mod Inboxes
 pub mod Numbers

@@ -6,5 +6,4 @@ pub mod ResolvedPrograms
 pub mod Invariants
 pub mod Systems
 pub mod SameParts
-pub mod Indexes
 pub mod Numbered

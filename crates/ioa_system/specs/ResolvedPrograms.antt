@@ -61,8 +61,8 @@ pub record IsResolvedAutomaton (a : AutomatonParts) : Type 0 where
 
 -- the same, if these are the names of the state variables and behind them those of the parameters, and these the names
 -- that come first in view in the schedule block
-pub record IsCheckedAutomaton (scope own : List (List ℕ)) (a : AutomatonParts) : Type 0 where
-  pub names : scope ≡ variable_names a.variables ++ parameter_names a.parameters
+pub record IsCheckedAutomaton (names own : List (List ℕ)) (a : AutomatonParts) : Type 0 where
+  pub named : names ≡ variable_names a.variables ++ parameter_names a.parameters
   pub block : own ≡ block_own_names a
   pub resolved : IsResolvedAutomaton a
 

@@ -2,7 +2,7 @@
 
 ghost use Rattle.std.specs.Prelude.{◌≡◌, ◌↔◌, ℕ, List, [], IsTrue, IfSome, All, map, length, slice_get};
 ghost use Rattle.std.specs.List.{IsDistinct};
-ghost use Rattle.std.specs.Option.{is_some, option_and_then, option_copied, option_map};
+ghost use Rattle.std.specs.Option.{is_some, option_copied};
 ghost use Rattle.std.specs.Arc.{arc_value};
 ghost use Rattle.ioa_terms.specs.Bindings.{names_of, same_word};
 ghost use Rattle.ioa_terms.specs.PlainTerm.{statements_of};
@@ -12,13 +12,11 @@ ghost use Rattle.ioa_system.specs.InView.{entry_constant, initial_value, entry_c
 ghost use Rattle.ioa_system.specs.InView.{block_own_names, parameter_names, variable_names};
 ghost use Rattle.ioa_system.specs.Numbered.{AreNumbered, IsNumberOf};
 ghost use Rattle.ioa_system.specs.Parts.{automaton_parts, message_shape, rule_named, rule_names};
-ghost use Rattle.ioa_system.specs.Parts.{variable_named};
 ghost use Rattle.ioa_system.specs.ResolvedPrograms.{IsCheckedAutomaton, IsResolvedRule};
 ghost use Rattle.ioa_system.specs.ResolvedPrograms.{AreResolvedVariables, IsResolvedSchedule};
 ghost use Rattle.ioa_system.specs.SameParts.{same_rule, same_parameters, same_automaton};
 
 use crate::rules::Rules;
-use crate::scope::Scope;
 use ioa_actions::RECEIVE;
 use ioa_source::{
     Declared, Entry, Schedule, Transition, Variable, are_same_variables, is_same_declared,
@@ -112,7 +110,7 @@ pub struct CheckedAutomaton {
     parameters: Vec<Declared<Shape>>,
     variables: Vec<Variable<usize, Callee, Shape>>,
     /// The names of the state variables, and then those of the parameters.
-    scope: Scope,
+    names: Vec<Word>,
     rules: Rules,
     schedule: Schedule<usize, Callee, Shape>,
     /// The names of the schedule block's own variables, and then that of the inboxes, if the automaton takes messages.
@@ -127,7 +125,7 @@ impl Drop for CheckedAutomaton {
             constants: _,
             parameters: _,
             variables: _,
-            scope: _,
+            names: _,
             rules: _,
             schedule: _,
             own: _,
@@ -152,26 +150,26 @@ impl Model for CheckedAutomaton {
 
     ghost use Rattle.ioa_system.specs.ResolvedPrograms.{IsCheckedAutomaton};
 
-    ghost invariant = { λ a. IsCheckedAutomaton a.scope a.own.items (automaton_parts a.name (arc_value a.constants)
+    ghost invariant = { λ a. IsCheckedAutomaton a.names.items a.own.items (automaton_parts a.name (arc_value a.constants)
         (map declared_of a.parameters.items) (map variable_of a.variables.items) a.rules
         (schedule_of a.schedule)) };
 }
 
 impl CheckedAutomaton {
-    /// The automaton of these parts. `constants` are the names of the text's constants, `scope` has those of
-    /// the state variables and behind them those of the parameters, and `own` those of the block's variables and
-    /// behind them that of the inboxes, if the automaton takes messages.
+    /// The automaton of these parts. `constants` are the names of the text's constants, `names` those of the state
+    /// variables and behind them those of the parameters, and `own` those of the block's variables and behind them
+    /// that of the inboxes, if the automaton takes messages.
     pub fn new(
         name: Word,
         constants: Arc<Names>,
         parameters: Vec<Declared<Shape>>,
         variables: Vec<Variable<usize, Callee, Shape>>,
-        scope: Scope,
+        names: Vec<Word>,
         rules: Rules,
         schedule: Schedule<usize, Callee, Shape>,
         own: Vec<Word>,
     ) -> Self
-        requires { IsCheckedAutomaton scope own.items (automaton_parts name (arc_value constants)
+        requires { IsCheckedAutomaton names.items own.items (automaton_parts name (arc_value constants)
             (map declared_of parameters.items) (map variable_of variables.items) rules (schedule_of schedule)) }
         ensures { result ≡ automaton_parts name (arc_value constants) (map declared_of parameters.items)
             (map variable_of variables.items) rules (schedule_of schedule) }
@@ -181,7 +179,7 @@ impl CheckedAutomaton {
             constants,
             parameters,
             variables,
-            scope,
+            names,
             rules,
             schedule,
             own,
@@ -216,13 +214,6 @@ impl CheckedAutomaton {
             (map variable_of result.now) }
     {
         self.variables.as_slice()
-    }
-
-    /// The state variable of a name, if there is one. Costs a constant expected time.
-    pub fn variable_named(&self, name: &Word) -> Option<&Variable<usize, Callee, Shape>>
-        ensures { option_map variable_of (option_copied result) ≡ variable_named name.now self.now.variables }
-    {
-        variable_at(&self.variables, self.scope.slot_of_word(name))
     }
 
     /// The entries with their transitions, in the order of the signature.
@@ -321,14 +312,14 @@ impl CheckedAutomaton {
     fn parameter_names(&self) -> &[Word]
         ensures { result.now ≡ parameter_names self.now.parameters }
     {
-        &self.scope.as_slice()[self.variables.len()..]
+        &self.names.as_slice()[self.variables.len()..]
     }
 
     /// The names of the state variables.
     fn variable_names(&self) -> &[Word]
         ensures { result.now ≡ variable_names self.now.variables }
     {
-        &self.scope.as_slice()[..self.variables.len()]
+        &self.names.as_slice()[..self.variables.len()]
     }
 
     /// Whether two automata are the same, whatever memory they are kept in. Costs time in proportion to
@@ -350,21 +341,6 @@ impl CheckedAutomaton {
                     && (are_same_variables(&self.variables, &other.variables)
                         && (self.rules.as_slice() == other.rules.as_slice()
                             && is_same_schedule(&self.schedule, &other.schedule)))))
-    }
-}
-
-/// The variable at a slot, if there is one.
-#[tactic(auto, using(crate::proofs::Scopes::got))]
-fn variable_at(
-    variables: &Vec<Variable<usize, Callee, Shape>>,
-    slot: Option<usize>,
-) -> Option<&Variable<usize, Callee, Shape>>
-    ensures { option_map variable_of (option_copied result)
-        ≡ option_and_then (slice_get (map variable_of variables.now.items)) slot }
-{
-    match slot {
-        Some(slot) => variables.get(slot),
-        None => None,
     }
 }
 

@@ -11,7 +11,6 @@ mod automaton;
 mod invariant;
 mod program;
 mod rules;
-mod scope;
 mod script;
 mod system;
 
@@ -19,6 +18,5 @@ pub use automaton::{CheckedAutomaton, Rule, message_shape};
 pub use invariant::CheckedInvariant;
 pub use program::{Program, program_numbered};
 pub use rules::Rules;
-pub use scope::Scope;
 pub use script::Script;
 pub use system::System;

@@ -1,15 +1,12 @@
-//! The rules of an automaton, each found by its name and by its number.
+//! The rules of an automaton, each found by its number.
 
-ghost use Rattle.std.specs.Prelude.{◌≡◌, [], map, slice_get};
+ghost use Rattle.std.specs.Prelude.{◌≡◌, [], slice_get};
 ghost use Rattle.std.specs.List.{IsDistinct};
 ghost use Rattle.std.specs.Option.{option_copied};
-ghost use Rattle.ioa_terms.specs.Bindings.{same_word, slot_in};
-ghost use Rattle.ioa_system.specs.Indexes.{AreIndexed};
+ghost use Rattle.ioa_terms.specs.Bindings.{same_word};
 ghost use Rattle.ioa_system.specs.Parts.{rule_names};
 
 use crate::automaton::Rule;
-use crate::scope::Scope;
-use ioa_terms::{Name, Word};
 use std::alloc::Global;
 use std::marker::Model;
 
@@ -18,20 +15,19 @@ use std::marker::Model;
 /// at most. A contract sees the list.
 pub struct Rules {
     rules: Vec<Rule>,
-    names: Scope,
 }
 
 /// By hand, so that crates above do not prove again how the parts are let go (DECISIONS).
 impl Drop for Rules {
     fn drop(self) {
-        let Rules { rules: _, names: _ } = self;
+        let Rules { rules: _ } = self;
     }
 }
 
 impl Model for Rules {
     ghost use Rattle.std.specs.Prelude.{List};
     ghost use Rattle.std.specs.Coded.{coded_list};
-    ghost use Rattle.ioa_system.specs.Parts.{PlainRule, rule_code, rule_names};
+    ghost use Rattle.ioa_system.specs.Parts.{PlainRule, rule_code};
 
     ghost Value = { List PlainRule };
 
@@ -39,9 +35,11 @@ impl Model for Rules {
 
     ghost view = { λ r. r.rules.items };
 
-    ghost use Rattle.ioa_system.specs.Indexes.{AreIndexed};
+    ghost use Rattle.std.specs.List.{IsDistinct};
+    ghost use Rattle.ioa_terms.specs.Bindings.{same_word};
+    ghost use Rattle.ioa_system.specs.Parts.{rule_names};
 
-    ghost invariant = { λ r. AreIndexed r.names (rule_names r.rules.items) };
+    ghost invariant = { λ r. IsDistinct same_word (rule_names r.rules.items) };
 }
 
 impl Rules {
@@ -51,16 +49,15 @@ impl Rules {
     {
         Rules {
             rules: Vec::new(alloc),
-            names: Scope::new(alloc),
         }
     }
 
-    /// These rules, whose names are these.
-    pub fn new(rules: Vec<Rule>, names: Scope) -> Self
-        requires { AreIndexed names (rule_names rules.items) }
+    /// These rules, which differ in name.
+    pub fn new(rules: Vec<Rule>) -> Self
+        requires { IsDistinct same_word (rule_names rules.items) }
         ensures { result ≡ rules.items }
     {
-        Rules { rules, names }
+        Rules { rules }
     }
 
     /// The rules, in the order of the signature.
@@ -77,13 +74,5 @@ impl Rules {
         ensures differ { IsDistinct same_word (rule_names self.now) }
     {
         self.rules.get(number)
-    }
-
-    /// The number of the rule of a name, if there is one. Costs what the look-up of a name costs.
-    pub fn number_of(&self, name: &Word) -> Option<usize>
-        ensures number { result ≡ slot_in (Name.Word name.now) (map Name.Word (rule_names self.now)) }
-        ensures differ { IsDistinct same_word (rule_names self.now) }
-    {
-        self.names.slot_of_word(name)
     }
 }

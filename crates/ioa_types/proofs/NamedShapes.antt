@@ -1,5 +1,5 @@
 -- Types by their names, as the code finds them and declares them.
-use Rattle.std.proofs.Common.{◌≡◌, ℕ, Bool, true, false, cond, List, [], ◌∷◌, ◌++◌, Option, Some, None, Result, Ok, Err, map, refl, sym, ap, ◌∙◌}
+use Rattle.std.proofs.Common.{◌≡◌, ℕ, Bool, true, false, cond, List, [], ◌∷◌, ◌++◌, Some, None, Result, Ok, Err, refl, ap}
 use Rattle.std.specs.Map.{lookup}
 use Rattle.indexmap.specs.IndexMap.{insert_entry}
 use Rattle.ioa_operators.specs.Shapes.{PlainShape}
@@ -8,8 +8,8 @@ use Rattle.ioa_terms.specs.Bindings.{same_word}
 use Rattle.ioa_terms.specs.Sorted.{NameShapes, shape_named}
 use Rattle.ioa_refusals.specs.declared.refusal.Refusal.{Refusal}
 use Rattle.ioa_refusals.specs.declared.refusal.Refusal.TheVariants.{Twice}
-use Rattle.ioa_names.specs.NameTables.{named_newly, with_name}
-use Rattle.ioa_types.specs.TypeTables.{known_type, named_shapes}
+use Rattle.ioa_names.specs.NameTables.{with_name}
+use Rattle.ioa_types.specs.TypeTables.{named_shapes}
 
 -- the shape of a word is found by the word
 pub found_word : (w : List ℕ) (ts : List (List ℕ × PlainShape)) → shape_named (Word w) (named_shapes ts) ≡ lookup (same_word w) ts

@@ -10,9 +10,9 @@ ghost use Rattle.ioa_types.specs.TypeTables as spec;
 
 use crate::height::{FieldShapes, ShapeWithHeight};
 use indexmap::IndexMap;
+use ioa_names::Scope;
 use ioa_refusals::Refusal;
 use ioa_source::{Declared, Sort};
-use ioa_system::Scope;
 use ioa_terms::{Name, Word};
 use std::alloc::{AllocError, Global};
 use std::marker::Model;

@@ -1,4 +1,4 @@
-use Rattle.std.proofs.Common.{◌≡◌, ◌++◌, ◌∙◌, sym, ap, map, length, rules}
+use Rattle.std.proofs.Common.{◌≡◌, ◌++◌, ◌∙◌, sym, ap, length, rules}
 use Rattle.std.specs.Arc.{arc_value}
 use Rattle.std.specs.List.{zip}
 use Rattle.ioa_operators.specs.Shapes.{truths}
@@ -15,7 +15,7 @@ use Rattle.ioa_invariants.proofs.invariants.check_invariant.Goals as goal
 pub new-requires-2 : goal.new-requires-2
 new-requires-2 c =
     let table = c.section.inside.types.now.constants in
-    let ps = map arc_value c.section.inside.programs.now in
+    let ps = c.section.inside.programs.now in
     let cs = c.section.inside.channels.now in
     let u = term_of c.args.invariant.now.term in
     let ns = c.in_ok-names.names in
@@ -34,7 +34,7 @@ new-requires-2 c =
 pub returns : goal.returns
 returns c =
     let table = c.section.inside.types.now.constants in
-    let ps = map arc_value c.section.inside.programs.now in
+    let ps = c.section.inside.programs.now in
     let cs = c.section.inside.channels.now in
     let v = invariant_of c.args.invariant.now in
     let ns = c.in_ok-names.names in

@@ -1,17 +1,14 @@
-use Rattle.std.proofs.Common.{◌∷◌, [], ◌∙◌, length, map, arith, Global}
-use Rattle.std.proofs.lemmas.List.{map-append}
-use Rattle.std.specs.Arc.{arc_value}
-use Rattle.ioa_system.specs.declared.program.Program.{Program}
+use Rattle.std.proofs.Common.{◌∙◌, length, map, arith}
 use Rattle.ioa_sections.specs.Sections.{node_at}
 use Rattle.ioa_sections.proofs.Programs.{programs_more, programs_stop}
 use Rattle.ioa_sections.proofs.nodes.programs_of.Goals as goal
 
 pub returns-in-Err : goal.returns-in-Err
 returns-in-Err c =
-    programs_stop c.args.declared.now.types.constants c.args.declared.now.automata (map node_at c.args.nodes.now) (length c.args.nodes.now) c.loop-position.position (map arc_value c.loop-position.programs.items) c.in-Err.refusal (omega arith) c.loop-position.invariant c.in-Err.ensures
+    programs_stop c.args.declared.now.types.constants c.args.declared.now.automata (map node_at c.args.nodes.now) (length c.args.nodes.now) c.loop-position.position c.loop-position.programs.items c.in-Err.refusal (omega arith) c.loop-position.invariant c.in-Err.ensures
 
 pub loop-position-preserved : goal.loop-position-preserved
 loop-position-preserved c =
     let ps = c.loop-position.programs.items in
-    rw (c.in_ok-push-in-Ok.ensures.items, map-append (arc_value {X = Program} {Z = Global}) ps (c.in-Ok.program ∷ []))
-    (c.loop-position.invariant ∙ programs_more c.args.declared.now.types.constants c.args.declared.now.automata (map node_at c.args.nodes.now) (length c.args.nodes.now) c.loop-position.position (map arc_value ps) (arc_value c.in-Ok.program) (omega arith) c.in-Ok.ensures)
+    rw c.in_ok-push-in-Ok.ensures.items
+    (c.loop-position.invariant ∙ programs_more c.args.declared.now.types.constants c.args.declared.now.automata (map node_at c.args.nodes.now) (length c.args.nodes.now) c.loop-position.position ps c.in-Ok.program (omega arith) c.in-Ok.ensures)

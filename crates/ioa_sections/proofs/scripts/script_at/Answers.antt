@@ -1,5 +1,4 @@
-use Rattle.std.proofs.Common.{◌≡◌, map, rules, subst, sym}
-use Rattle.std.specs.Arc.{arc_value}
+use Rattle.std.proofs.Common.{◌≡◌, rules, subst, sym}
 use Rattle.std.specs.Ordering.{int_eq}
 use Rattle.ioa_system.specs.Parts.{Parts}
 use Rattle.ioa_sections.proofs.Grounds.{program_grounded}
@@ -14,8 +13,8 @@ use Rattle.ioa_sections.proofs.scripts.script_at.Goals as goal
 pub stimuli_of-requires : goal.stimuli_of-requires
 stimuli_of-requires c =
     let names = c.ground.inside.types.now.constants in
-    let programs = map arc_value c.ground.inside.programs.now.items in
-    let program = arc_value c.in_ok-program.program.now in
+    let programs = c.ground.inside.programs.now.items in
+    let program = c.in_ok-program.program.now in
     let made : program_or (program_numbered c.args.number programs) ≡ result_is program = search rules in
     let found = program_found (program_numbered c.args.number programs) program made in
     let grounded = program_grounded names programs c.ground.invariant (λ (p : Parts). int_eq p.node c.args.number) program found in

@@ -1,5 +1,4 @@
 use Rattle.std.proofs.Common.{length, map, subst, sym}
-use Rattle.std.specs.Arc.{arc_value}
 use Rattle.ioa_types.specs.TextTypes.{PlainTextTypes}
 use Rattle.ioa_sections.specs.Grounds.{AreGroundedPrograms}
 use Rattle.ioa_sections.specs.Sections.{node_at}
@@ -13,7 +12,7 @@ invariant_of-ground c =
     let names = c.args.self.now.types.constants in
     let automata = c.args.self.now.automata in
     let nodes = map node_at c.deref.result.now in
-    let programs = map arc_value c.in_ok-programs.programs.items in
+    let programs = c.in_ok-programs.programs.items in
     let sound = programs_sound names automata nodes c.grounded_law.ensures (length nodes) 0 programs c.in_ok-programs.ensures in
     subst (λ (t : PlainTextTypes). AreGroundedPrograms t.constants programs) (sym c.types.ensures) (programs_grounded names automata nodes c.grounded_law.ensures 0 programs sound.0)
 
@@ -22,6 +21,6 @@ returns-clause-grounded c =
     let names = c.args.self.now.types.constants in
     let automata = c.args.self.now.automata in
     let nodes = map node_at c.deref.result.now in
-    let programs = map arc_value c.in_ok-programs.programs.items in
+    let programs = c.in_ok-programs.programs.items in
     let sound = programs_sound names automata nodes c.grounded_law.ensures (length nodes) 0 programs c.in_ok-programs.ensures in
     programs_grounded names automata nodes c.grounded_law.ensures 0 programs sound.0

@@ -66,4 +66,16 @@ impl Scope {
     {
         self.names.as_slice()
     }
+
+    /// The names in order, with their own memory.
+    pub fn to_words(&self, alloc: Global) -> Result<Vec<Word>, AllocError>
+        ensures { IfOk result (λ ws. ws.items ≡ self.now) }
+    {
+        let mut words = Vec::with_capacity(alloc, self.names.len())?;
+        for name in self.as_slice() {
+            let word = name.try_copy(alloc)?;
+            words.push(word)?;
+        }
+        Ok(words)
+    }
 }
