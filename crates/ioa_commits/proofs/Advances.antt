@@ -1,8 +1,8 @@
 -- The participants of a step take it in the slots in which they are held.
-use Rattle.std.proofs.Common.{if◌then◌else◌, ◌≡◌, ◌≢◌, ◌+◌, ◌≤◌, ◌<◌, ℕ, zero, suc, Bool, true, false, List, [], ◌∷◌, ◌++◌, Option, Some, None, Result, Ok, Err, refl, sym, ap, subst, ◌∙◌, map, length, set, arith}
+use Rattle.std.proofs.Common.{◌≡◌, ◌≢◌, ◌+◌, ◌≤◌, ℕ, zero, suc, Bool, true, false, List, [], ◌∷◌, ◌++◌, Option, Some, None, Result, Ok, Err, refl, sym, ap, ◌∙◌, map, length, set, arith}
 use Rattle.std.specs.Prelude.{◌||◌, slice_get}
 use Rattle.ioa_values.specs.Outcome.{and_then}
-use Rattle.std.specs.List.{list_any, position_from}
+use Rattle.std.specs.List.{position_from}
 use Rattle.std.specs.Option.{option_map}
 use Rattle.std.proofs.lemmas.Option.{slice_get-map, slice_get_past, slice_get_within}
 use Rattle.ioa_actions.specs.ComponentOrder.{same_component}
@@ -17,7 +17,7 @@ use Rattle.ioa_compose.specs.Participants.{participants_of, takes_part}
 use Rattle.ioa_compose.specs.declared.configuration.Conf.{Conf}
 use Rattle.ioa_compose.proofs.Components.{component_of-conf_answer, takes_part-is}
 use Rattle.ioa_commits.specs.Proposals.{PlainParticipant, participants_next, participants_read}
-use Rattle.ioa_commits.specs.Slots.{AreDistinct, AreHeldIn, advance, advance_both, advance_found, next_version, put_all_held, put_held}
+use Rattle.ioa_commits.specs.Slots.{AreDistinct, AreHeldIn, advance, advance_both, next_version, put_all_held, put_held}
 use Rattle.ioa_commits.specs.Versions.{PlainVersionedConf, read_component, version, versioned_conf, with_version}
 use Rattle.ioa_commits.proofs.Lookups.{held_components}
 use Rattle.ioa_commits.proofs.Puts.{IsPutAt, put_at, put_components}

@@ -1,15 +1,15 @@
 -- Commits of what stands by what can be told quickly.
-use Rattle.std.proofs.Common.{◌≡◌, ◌≤◌, ◌<◌, ◌%◌, IfSome, IsTrue, ℕ, zero, suc, Bool, true, false, List, [], ◌∷◌, ◌++◌, Option, Some, None, refl, sym, ap, subst, ◌∙◌, map, length, arith}
+use Rattle.std.proofs.Common.{◌≡◌, ◌≤◌, ◌<◌, ◌%◌, IfSome, IsTrue, ℕ, zero, suc, Bool, true, false, List, [], ◌∷◌, Option, Some, None, refl, sym, ap, subst, ◌∙◌, map, length, arith}
 use Rattle.std.specs.Prelude.{nat_lt, slice_get}
 use Rattle.std.specs.Option.{option_map}
 use Rattle.ioa_actions.specs.ActionParts.{node_of}
 use Rattle.ioa_actions.specs.declared.component.Component.{Component}
 use Rattle.ioa_index.specs.Own.{own_slots}
 use Rattle.ioa_transitions.specs.Entries.{PlainEntry}
-use Rattle.ioa_compose.specs.Composition.{component_names, component_of, find_conf}
+use Rattle.ioa_compose.specs.Composition.{component_names, component_of}
 use Rattle.ioa_compose.specs.declared.configuration.Conf.{Conf}
 use Rattle.ioa_commits.specs.Books.{IsKept, PlainBook, held_of, holdings, plain_book, states_after, states_held}
-use Rattle.ioa_commits.specs.Commits.{AllHeld, StandsQuickly, refusal_of}
+use Rattle.ioa_commits.specs.Commits.{StandsQuickly, refusal_of}
 use Rattle.ioa_commits.specs.Proposals.{IsTrueProposal, PlainParticipant, node_read, participants_next, participants_read, queue_read, reads_of}
 use Rattle.ioa_commits.specs.Slots.{AreDistinct, AreHeldIn, advance_both, put_all_held, raise_at}
 use Rattle.ioa_commits.specs.Versions.{PlainVersionedConf, read_component, read_confs, with_version}

@@ -1,5 +1,5 @@
 -- Quick commits of the proposal that is offered.
-use Rattle.std.proofs.Common.{◌≡◌, ◌≤◌, ◌+◌, ℕ, List, [], ◌∷◌, ◌++◌, Option, Some, None, IfSome, IsSome, refl, sym, ap, ◌∙◌, length, arith}
+use Rattle.std.proofs.Common.{◌≡◌, ◌≤◌, ◌+◌, ℕ, List, [], ◌∷◌, Option, Some, None, IfSome, IsSome, ap, ◌∙◌, length}
 use Rattle.std.proofs.lemmas.List.{length-append}
 use Rattle.ioa_transitions.specs.Entries.{PlainEntry}
 use Rattle.ioa_commits.specs.Books.{PlainBook}

@@ -12,7 +12,7 @@ use Rattle.ioa_compose.specs.Composition.{joint_answer}
 use Rattle.ioa_compose.specs.Executions.{after_step, replay}
 use Rattle.ioa_compose.specs.Start.{start}
 use Rattle.ioa_lines.specs.Lines as lines
-use Rattle.ioa_lines.specs.Lines.{IsBadLine, Lines, lines_answer, lines_of}
+use Rattle.ioa_lines.specs.Lines.{lines_answer, lines_of}
 use Rattle.ioa_lines.specs.declared.fault.LineFault.{LineFault}
 use Rattle.ioa_lines.specs.declared.fault.LineFault.TheVariants as line
 use Rattle.ioa_lines.proofs.LinesLaw.{actions_complete, actions_sound, bad_sound}

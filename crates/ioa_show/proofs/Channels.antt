@@ -1,8 +1,7 @@
 -- What is under way on a channel, by the place at which its traffic is noted.
 use Rattle.std.proofs.Common.{◌≡◌, ◌∙◌, ℕ, ℤ, suc, ◌+◌, ◌-◌, ◌<◌, ◌≤◌, Bool, true, false, if◌then◌else◌, List, [], ◌∷◌, ◌++◌, Some, None, Result, Ok, Err, OnOk, refl, sym, ap, length, get_or, set, arith}
-use Rattle.std.specs.Prelude.{Decides, ◌&&◌}
+use Rattle.std.specs.Prelude.{Decides}
 use Rattle.std.specs.List.{position_from}
-use Rattle.std.specs.Ordering.{int_eq}
 use Rattle.std.proofs.lemmas.Bool.Decides.{Decides-and, Decides-int_eq}
 use Rattle.ioa_show.specs.Matching.{rest_of, same_ends, with_queue}
 use Rattle.ioa_show.specs.Traffics.{is_on, waiting_on}

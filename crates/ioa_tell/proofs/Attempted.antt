@@ -8,7 +8,6 @@ use Rattle.ioa_actions.specs.declared.fault.StepFault.{StepFault}
 use Rattle.ioa_actions.specs.declared.fault.StepFault.TheVariants as step
 use Rattle.ioa_terms.specs.declared.tree.Kind.{Kind}
 use Rattle.ioa_transitions.specs.Entries.{PlainEntry}
-use Rattle.ioa_compose.specs.declared.configuration.Conf.{Conf}
 use Rattle.ioa_system.specs.Parts.{Parts}
 use Rattle.ioa_commits.specs.Books.{PlainBook}
 use Rattle.ioa_commits.specs.Proposals.{PlainProposal}

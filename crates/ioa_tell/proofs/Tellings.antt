@@ -18,7 +18,7 @@ use Rattle.ioa_reasons.specs.Unfit.{IsUnfit}
 use Rattle.ioa_tell.specs.Events.{PlainEvent, taken, missed, faulted, unfit, stuck, idle, stopped, ended}
 use Rattle.ioa_tell.specs.Marks as mark
 use Rattle.ioa_tell.specs.Marks.{Mark, entries_in, marks_of}
-use Rattle.ioa_tell.specs.Told.{AreHeard, AreTold, IsMissedIn, TellsOn, TellsRun, TellsSuch, endings_told}
+use Rattle.ioa_tell.specs.Told.{AreHeard, AreTold, IsMissedIn, TellsOn, endings_told}
 
 -- what follows from what a call has done, where it has
 pub on_map : {X E : Type 0} {P Q : Type 0} (r : Result X E) → (P → Q) → OnOk r P → OnOk r Q

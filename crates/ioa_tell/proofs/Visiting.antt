@@ -1,6 +1,6 @@
 -- Visits of nodes, one after another, and the whole run.
 use Rattle.std.proofs.Common.{◌≡◌, ℕ, ◌<◌, List, [], ◌∷◌, ◌++◌, get_or, map, length, Some, refl, sym, ap, subst, ◌∙◌, append_assoc}
-use Rattle.std.specs.Prelude.{Result, Ok, Err, OnOk, slice_get, slice_set}
+use Rattle.std.specs.Prelude.{slice_get, slice_set}
 use Rattle.std.proofs.lemmas.List.{append-nil, map-set}
 use Rattle.std.proofs.lemmas.Option.{slice_get-get_or, slice_get-map}
 use Rattle.std.specs.Option.{option_map}
@@ -14,10 +14,10 @@ use Rattle.ioa_turns.specs.NodeTurns.{PlainProgress, progress_at}
 use Rattle.ioa_tell.specs.Attempts.{IsVisit}
 use Rattle.ioa_tell.specs.Events.{PlainEvent}
 use Rattle.ioa_tell.specs.Marks as mark
-use Rattle.ioa_tell.specs.Marks.{Mark, entries_in, marks_of}
-use Rattle.ioa_tell.specs.Told.{AreHeard, AreTold, TellsOn, TellsRun, TellsSuch, endings_told}
+use Rattle.ioa_tell.specs.Marks.{Mark, entries_in}
+use Rattle.ioa_tell.specs.Told.{AreHeard, AreTold, TellsRun, TellsSuch, endings_told}
 use Rattle.ioa_tell.specs.Visits.{AreEndedAs, AreVisited, AreVisits, IsEndedAs, PlainVisit, marks_in}
-use Rattle.ioa_tell.proofs.Tellings.{heard_then, log_after, on_map, tells_further, tells_nothing}
+use Rattle.ioa_tell.proofs.Tellings.{heard_then, log_after, tells_further, tells_nothing}
 
 entries_then : (xs ys : List Mark) → entries_in (xs ++ ys) ≡ entries_in xs ++ entries_in ys
 entries_then [] ys = refl

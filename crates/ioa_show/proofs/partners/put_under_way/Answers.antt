@@ -1,7 +1,7 @@
-use Rattle.std.proofs.Common.{◌≡◌, ◌∙◌, ◌+◌, ◌++◌, ◌∷◌, [], ℕ, List, Some, None, Result, Ok, Err, OnOk, sym, ap, arith, rules}
+use Rattle.std.proofs.Common.{◌≡◌, ◌∷◌, [], Some, None, arith, rules}
 use Rattle.std.specs.List.{position_from}
-use Rattle.ioa_show.specs.Traffics.{is_on, waiting_on}
-use Rattle.ioa_show.proofs.Channels.{ends_at, nothing_waits, place-within, put_at_ok, put_behind, waits_at}
+use Rattle.ioa_show.specs.Traffics.{is_on}
+use Rattle.ioa_show.proofs.Channels.{nothing_waits, place-within, put_at_ok, put_behind}
 use Rattle.ioa_show.proofs.partners.put_under_way.Goals as goal
 
 pub index_mut-requires : goal.index_mut-requires

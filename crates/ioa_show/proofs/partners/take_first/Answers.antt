@@ -1,8 +1,8 @@
-use Rattle.std.proofs.Common.{◌≡◌, ◌∙◌, ◌+◌, ◌∷◌, [], ℕ, Some, None, refl, sym, ap, arith, rules}
+use Rattle.std.proofs.Common.{◌≡◌, ◌∙◌, [], Some, None, sym, ap, arith, rules}
 use Rattle.std.specs.List.{position_from}
 use Rattle.ioa_show.specs.Matching.{first_of, rest_of}
 use Rattle.ioa_show.specs.Traffics.{is_on, waiting_on}
-use Rattle.ioa_show.proofs.Channels.{ends_at, nothing_changes, nothing_waits, place-within, put_at, waits_here}
+use Rattle.ioa_show.proofs.Channels.{nothing_changes, nothing_waits, place-within, put_at, waits_here}
 use Rattle.ioa_show.proofs.partners.take_first.Goals as goal
 
 pub index_mut-requires : goal.index_mut-requires

@@ -1,4 +1,4 @@
-use Rattle.std.proofs.Common.{◌≡◌, ◌∷◌, ◌+◌, ap, arith, length, refl, ◌∙◌}
+use Rattle.std.proofs.Common.{◌≡◌, ◌∷◌, ap, arith, length, refl, ◌∙◌}
 use Rattle.ioa_paper.specs.Papers.{and_text}
 use Rattle.ioa_show.specs.Steps.{step_line, step_lines}
 use Rattle.ioa_show.proofs.Going.{lines_end, lines_off, lines_on}

@@ -1,5 +1,5 @@
-use Rattle.std.proofs.Common.{◌≡◌, ◌≤◌, ◌+◌, ap, length, refl, rules, sym, ◌∙◌, arith}
-use Rattle.ioa_held.proofs.QuickAttempts.{HasOneMore, one_more, taken_offer}
+use Rattle.std.proofs.Common.{◌≡◌, ◌≤◌, ◌+◌, ap, length, rules, sym, ◌∙◌}
+use Rattle.ioa_held.proofs.QuickAttempts.{one_more, taken_offer}
 use Rattle.ioa_held.proofs.held.Held.attempt_quickly.Goals as goal
 
 pub overflow_add-share : goal.overflow_add-share
