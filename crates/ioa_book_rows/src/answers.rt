@@ -1,13 +1,12 @@
 //! The texts of what a book gives.
 
 use ioa_actions::{Action, push_listed, show_action};
-use ioa_book::{CommitRefusal, Committed};
 use ioa_compose::Conf;
 use ioa_rawlog::RawLog;
-use ioa_sharing::Origin;
 use ioa_transitions::Entry;
 use ioa_values::Names;
 use std::alloc::{AllocError, Global};
+use std::fmt::Display;
 
 /// The text of an action.
 pub(crate) fn action_text(alloc: Global, action: &Action) -> Result<String, AllocError> {
@@ -28,19 +27,19 @@ pub(crate) fn log_text(alloc: Global, log: &RawLog<Entry>) -> Result<String, All
 }
 
 /// The index and the text of the action of a commit that was made.
-pub(crate) fn committed_text<O: Origin>(
+pub(crate) fn committed_text(
     alloc: Global,
-    committed: &Committed<O>,
+    index: usize,
+    action: &Action,
 ) -> Result<String, AllocError> {
-    let index = committed.index;
-    let action = action_text(alloc, committed.entry.action())?;
+    let action = action_text(alloc, action)?;
     format!(in alloc; "{index} {action}")
 }
 
 /// A refusal, and the action of the proposal that came back.
-pub(crate) fn refused_text(
+pub(crate) fn refused_text<R: Display>(
     alloc: Global,
-    refusal: CommitRefusal,
+    refusal: &R,
     action: &Action,
 ) -> Result<String, AllocError> {
     let action = action_text(alloc, action)?;
@@ -56,4 +55,18 @@ pub(crate) fn execution_text(
     let count = states.len();
     let actions = log_text(alloc, log)?;
     format!(in alloc; "{actions}; {count} states")
+}
+
+/// Writes a space and a number behind a text.
+fn push_number(text: &mut String, number: u64) -> Result<(), AllocError> {
+    write!(text, " {number}")
+}
+
+/// How many commits each hand has made.
+pub(crate) fn counts_text(alloc: Global, counts: &[usize]) -> Result<String, AllocError> {
+    let mut text = String::from_str(alloc, "counts")?;
+    for count in counts {
+        push_number(&mut text, *count as u64)?;
+    }
+    Ok(text)
 }

@@ -1,8 +1,9 @@
-//! The program of rows for the book of commits: looks, proposals and commits on a book of a text, in any order.
+//! The program of rows for books of commits: looks, proposals and commits on a book of a text, in any order, and hands
+//! of the core machine.
 //!
 //! **A crate of its own**, since it is proved once for all rows of `checks/book/`.
 //!
-//! **Must not know**: how a commit is tested.
+//! **Must not know**: how a commit is tested, and what an event of a hand comes to.
 #![tactic(auto)]
 
 ghost use Rattle.std.specs.Prelude.{◌≡◌};
@@ -47,5 +48,6 @@ fn answer_by<O: Origin>(
     requires { maker_name maker ≡ O.name }
 {
     let maker: MakerOf<O> = MakerOf::of(maker);
-    answer_script(words, script, &mut BookRows::new(alloc, maker), out)
+    let mut session = BookRows::new(alloc, maker);
+    answer_script(words, script, &mut session, out)
 }

@@ -1,5 +1,7 @@
 //! How the words of a command are read.
 
+ghost use Rattle.std.specs.Prelude.{◌≤◌, IfOk};
+
 use ioa_actions::{Action, Component, NodeAction};
 use ioa_rows::CommandFault;
 use ioa_values::{Value, Word};
@@ -37,6 +39,20 @@ pub(crate) fn count_of(word: &str) -> Result<usize, CommandFault> {
     }
 }
 
+/// The number from 0 up to the most that a word is.
+pub(crate) fn count_within(
+    word: &str,
+    most: usize,
+    wanted: &'static str,
+) -> Result<usize, CommandFault>
+    ensures { IfOk result (λ n. n ≤ most) }
+{
+    match word.parse::<usize>() {
+        Ok(count) if count <= most => Ok(count),
+        _ => Err(CommandFault::Bad(wanted)),
+    }
+}
+
 /// The number that a word is.
 fn number_of(word: &str) -> Result<i64, CommandFault> {
     match word.parse::<i64>() {
@@ -67,24 +83,41 @@ fn channel_of(nodes: &[&str]) -> Result<Component, CommandFault> {
     }
 }
 
+/// The action that words are, in a text that declares these constants.
+pub(crate) fn action_of(
+    alloc: Global,
+    constants: &[Word],
+    words: &[&str],
+) -> Result<Action, CommandFault> {
+    match words {
+        [kind, rest @ ..] => action_of_kind(alloc, constants, kind, rest),
+        [] => Err(CommandFault::Bad("an action is wanted")),
+    }
+}
+
 /// The action of a kind, with the words behind it.
-pub(crate) fn action_of(alloc: Global, kind: &str, words: &[&str]) -> Result<Action, CommandFault> {
+fn action_of_kind(
+    alloc: Global,
+    constants: &[Word],
+    kind: &str,
+    words: &[&str],
+) -> Result<Action, CommandFault> {
     match kind.as_bytes() {
-        b"send" => send_of(words),
-        b"receive" => receive_of(words),
-        b"local" => Ok(Action::Local(node_action_of(alloc, words)?)),
-        b"stimulus" => Ok(Action::Stimulus(node_action_of(alloc, words)?)),
+        b"send" => send_of(constants, words),
+        b"receive" => receive_of(constants, words),
+        b"local" => Ok(Action::Local(node_action_of(alloc, constants, words)?)),
+        b"stimulus" => Ok(Action::Stimulus(node_action_of(alloc, constants, words)?)),
         _ => Err(CommandFault::Bad("send, receive, local or stimulus is wanted")),
     }
 }
 
 /// The send of a message and two nodes.
-fn send_of(words: &[&str]) -> Result<Action, CommandFault> {
+fn send_of(constants: &[Word], words: &[&str]) -> Result<Action, CommandFault> {
     match words {
         [message, from, to] => {
             let from = number_of(from)?;
             let to = number_of(to)?;
-            let message = Value::number(number_of(message)?);
+            let message = value_of(constants, message)?;
             Ok(Action::Send { message, from, to })
         }
         _ => Err(CommandFault::Bad("a message and two nodes are wanted")),
@@ -92,25 +125,29 @@ fn send_of(words: &[&str]) -> Result<Action, CommandFault> {
 }
 
 /// The receive of a message and two nodes.
-fn receive_of(words: &[&str]) -> Result<Action, CommandFault> {
+fn receive_of(constants: &[Word], words: &[&str]) -> Result<Action, CommandFault> {
     match words {
         [message, from, to] => {
             let from = number_of(from)?;
             let to = number_of(to)?;
-            let message = Value::number(number_of(message)?);
+            let message = value_of(constants, message)?;
             Ok(Action::Receive { message, from, to })
         }
         _ => Err(CommandFault::Bad("a message and two nodes are wanted")),
     }
 }
 
-/// The action of a node, a name and numbers.
-fn node_action_of(alloc: Global, words: &[&str]) -> Result<NodeAction, CommandFault> {
+/// The action of a node, a name and values.
+fn node_action_of(
+    alloc: Global,
+    constants: &[Word],
+    words: &[&str],
+) -> Result<NodeAction, CommandFault> {
     match words {
-        [node, name, numbers @ ..] => {
+        [node, name, values @ ..] => {
             let node = number_of(node)?;
             let name = name_of(alloc, name)?;
-            let arguments = numbers_of(alloc, numbers)?;
+            let arguments = values_of(alloc, constants, values)?;
             Ok(NodeAction::new(alloc, node, &name, arguments)?)
         }
         _ => Err(CommandFault::Bad("a node and a name are wanted")),
@@ -120,24 +157,51 @@ fn node_action_of(alloc: Global, words: &[&str]) -> Result<NodeAction, CommandFa
 /// The name of an action.
 fn name_of(alloc: Global, name: &str) -> Result<Word, CommandFault> {
     let bytes = name.as_bytes();
-    if bytes.iter().all(|&byte| byte < 128) {
+    if bytes
+        .iter()
+        .all(|&byte| byte.is_ascii_alphanumeric() || byte == b'_')
+    {
         Ok(Word::from_ascii(alloc, bytes)?)
     } else {
-        Err(CommandFault::Bad("the name of an action has letters of ASCII"))
+        Err(CommandFault::Bad("a name of letters, digits and _ is wanted"))
     }
 }
 
-/// The numbers that words are.
-fn numbers_of(alloc: Global, words: &[&str]) -> Result<Vec<Value>, CommandFault> {
-    let mut numbers = Vec::new(alloc);
+/// The values that words are.
+fn values_of(
+    alloc: Global,
+    constants: &[Word],
+    words: &[&str],
+) -> Result<Vec<Value>, CommandFault> {
+    let mut values = Vec::new(alloc);
     for word in words {
-        push_number(&mut numbers, number_of(word)?)?;
+        push_value(&mut values, value_of(constants, word)?)?;
     }
-    Ok(numbers)
+    Ok(values)
 }
 
-/// Adds a number.
-fn push_number(numbers: &mut Vec<Value>, number: i64) -> Result<(), AllocError> {
-    numbers.push(Value::number(number))?;
+/// Adds a value.
+fn push_value(values: &mut Vec<Value>, value: Value) -> Result<(), AllocError> {
+    values.push(value)?;
     Ok(())
+}
+
+/// The value that a word is.
+fn value_of(constants: &[Word], word: &str) -> Result<Value, CommandFault> {
+    match word.as_bytes() {
+        b"true" => Ok(Value::truth(true)),
+        b"false" => Ok(Value::truth(false)),
+        _ => match word.parse::<i64>() {
+            Ok(number) => Ok(Value::number(number)),
+            Err(_) => constant_of(constants, word),
+        },
+    }
+}
+
+/// The constant of a name.
+fn constant_of(constants: &[Word], word: &str) -> Result<Value, CommandFault> {
+    match constants.iter().position(|name| name.as_str() == word) {
+        Some(position) => Ok(Value::constant(position)),
+        None => Err(CommandFault::Bad("a number, true, false or a constant of the text is wanted")),
+    }
 }

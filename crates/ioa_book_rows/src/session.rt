@@ -1,20 +1,25 @@
-//! What the program keeps between its commands: a text, a book, looks and proposals.
+//! What the program keeps between its commands: a text, a book, a core, looks and proposals.
 
 mod books;
+mod hands;
 mod looks;
 mod proposals;
 
 use crate::reading::{count_of, only_count, only_number};
 use ioa_book::{Book, Proposal, Snapshot};
+use ioa_core::Core;
 use ioa_rawlog::Spare;
 use ioa_rows::{CommandFault, Session};
 use ioa_sharing::{MakerOf, Origin};
+use ioa_system::System;
 use ioa_transitions::Entry;
+use ioa_values::Word;
 use std::alloc::{AllocError, Global};
+use std::sync::Arc;
 
 /// The help of the program.
 const HELP: &str = "\
-Answers a script of commands about a book of commits: writes the script from standard input anew, with the answers.
+Answers a script of commands about books of commits: writes the script from standard input anew, with the answers.
 A line `= ..` is an answer, an empty line and a line `# ..` are remarks. Looks and proposals are counted from 0.
 
 | LINE                    adds a line to the system text; the first one after a book begins a new text
@@ -33,25 +38,56 @@ version LOOK COMPONENT    the version that a look has read of a component, or: n
 same LOOK LOOK COMPONENT  whether two looks have read equal configurations of a component: equal, different, not read
 end                       takes the book apart: the actions that are recorded, and how many states they lead to
 
-ACTION is send MESSAGE FROM TO, receive MESSAGE FROM TO, local NODE NAME NUMBER.., or stimulus NODE NAME NUMBER..
-COMPONENT is node NODE, channel FROM TO, or script NODE.";
+The core machine: hands that look, propose and commit, each of which holds one look or one proposal, counted from 0. If
+there is no such hand, the reply is NoHand.
+
+core HANDS LIMIT          makes a core of the text, in place of the book: a core; or why the text is refused
+hand HAND look NODE       a hand looks at a node: Looked or NoNode
+hand HAND propose ACTION  it proposes an action on its look: Proposed, Refused with the fault of the step, NothingLooked
+hand HAND commit          it commits its proposal: Committed with the index in the log, 50 Stale with a component, its
+                          version at the look and its version now, 52 Full, or NothingProposed
+hand HAND abandon         it lets go what it holds: Abandoned
+counts                    how many commits each hand has made
+
+ACTION is send VALUE FROM TO, receive VALUE FROM TO, local NODE NAME VALUE.., or stimulus NODE NAME VALUE.., and a VALUE
+is a number, true, false or a constant of the text. COMPONENT is node NODE, channel FROM TO, or script NODE.";
 
 /// The session of the program. `O` stands for the maker of its books.
-#[derive(Drop)]
 pub(crate) struct BookRows<O: Origin> {
     alloc: Global,
     /// The system text, line by line.
     text: String,
     /// Whether a book was made of the text.
     is_read: bool,
+    /// The system of the last text that was not refused.
+    system: Option<Arc<System>>,
     /// What makes the next book, if there is none.
     maker: Option<MakerOf<O>>,
     book: Option<Box<Book<O>>>,
+    core: Option<Box<Core<O>>>,
     looks: Vec<Snapshot<O>>,
     /// The proposals; none in the place of one that is committed.
     proposals: Vec<Option<Proposal<O>>>,
     /// The spare for the next commit, if one is left.
     spare: Option<Spare<Entry>>,
+}
+
+/// By hand, so that no function proves again how the parts are let go.
+impl<O: Origin> Drop for BookRows<O> {
+    fn drop(self) {
+        let BookRows {
+            alloc: _,
+            text: _,
+            is_read: _,
+            system: _,
+            maker: _,
+            book: _,
+            core: _,
+            looks: _,
+            proposals: _,
+            spare: _,
+        } = self;
+    }
 }
 
 impl<O: Origin> BookRows<O> {
@@ -61,8 +97,10 @@ impl<O: Origin> BookRows<O> {
             alloc,
             text: String::new(alloc),
             is_read: false,
+            system: None,
             maker: Some(maker),
             book: None,
+            core: None,
             looks: Vec::new(alloc),
             proposals: Vec::new(alloc),
             spare: None,
@@ -74,6 +112,14 @@ impl<O: Origin> BookRows<O> {
         match &self.book {
             Some(book) => Ok(book),
             None => Err(CommandFault::Bad("there is no book")),
+        }
+    }
+
+    /// The constants of the last text that was not refused.
+    fn constants(&self) -> &[Word] {
+        match &self.system {
+            Some(system) => system.names().as_slice(),
+            None => &[],
         }
     }
 
@@ -101,6 +147,9 @@ impl<O: Origin> BookRows<O> {
             b"version" => self.version(words),
             b"same" => self.same(words),
             b"end" => self.end(words),
+            b"core" => self.begin_core(words),
+            b"hand" => self.hand(words),
+            b"counts" => self.counts(words),
             _ => Err(CommandFault::Bad("there is no such command")),
         }
     }

@@ -15,9 +15,10 @@ use ioa_system::System;
 use ioa_text_reader::parse;
 use ioa_transitions::Entry;
 use std::alloc::{AllocError, Global};
+use std::sync::Arc;
 
 /// The greatest limit of a book.
-const MOST_ACTIONS: usize = 1_000_000;
+pub(super) const MOST_ACTIONS: usize = 1_000_000;
 
 impl<O: Origin> BookRows<O> {
     /// Adds a line to the text, or begins a new one if a book was made of this one. There is no answer.
@@ -29,6 +30,29 @@ impl<O: Origin> BookRows<O> {
         self.text.push_str(line)?;
         self.text.push('\n')?;
         Ok(String::new(self.alloc))
+    }
+
+    /// Reads the text and keeps its system, or tells why it is refused.
+    pub(super) fn read(&mut self) -> Result<Option<String>, AllocError> {
+        self.is_read = true;
+        match parse(self.alloc, &self.text) {
+            Ok(source) => self.keep_checked(check(self.alloc, source.text())),
+            Err(fault) => Ok(Some(format!(in self.alloc; "{fault}")?)),
+        }
+    }
+
+    /// Keeps what the check of the text found, or tells why it is refused.
+    fn keep_checked(
+        &mut self,
+        found: Result<System, CheckFault>,
+    ) -> Result<Option<String>, AllocError> {
+        match found {
+            Ok(system) => {
+                self.system = Some(Arc::new(self.alloc, system)?);
+                Ok(None)
+            }
+            Err(fault) => Ok(Some(format!(in self.alloc; "{fault}")?)),
+        }
     }
 
     /// Makes a book of the text, with no looks and no proposals.
@@ -43,38 +67,32 @@ impl<O: Origin> BookRows<O> {
         if limit > MOST_ACTIONS {
             return Err(CommandFault::Bad("the limit is above 1000000"));
         }
-        self.is_read = true;
-        match parse(self.alloc, &self.text) {
-            Ok(source) => self.open_checked(check(self.alloc, source.text()), limit),
-            Err(fault) => Ok(format!(in self.alloc; "{fault}")?),
+        match self.read()? {
+            Some(refusal) => Ok(refusal),
+            None => self.open_read(limit),
         }
     }
 
-    /// Makes a book of what the check of the text found.
-    fn open_checked(
-        &mut self,
-        found: Result<System, CheckFault>,
-        limit: usize,
-    ) -> Result<String, CommandFault>
+    /// Makes a book of the system that was read.
+    fn open_read(&mut self, limit: usize) -> Result<String, CommandFault>
         requires { limit ≤ 1000000 }
     {
-        match &found {
-            Ok(system) => self.open_system(system, limit),
-            Err(fault) => Ok(format!(in self.alloc; "{fault}")?),
-        }
-    }
-
-    /// Makes a book of a system.
-    fn open_system(&mut self, system: &System, limit: usize) -> Result<String, CommandFault>
-        requires { limit ≤ 1000000 }
-    {
-        drop(self.close());
-        match self.maker.take() {
-            Some(maker) => {
+        self.clear();
+        match (&self.system, self.maker.take()) {
+            (Some(system), Some(maker)) => {
                 self.book = Some(book_of(self.alloc, maker, system, limit)?);
                 Ok(String::from_str(self.alloc, "a book")?)
             }
-            None => Err(CommandFault::Bad("there is no maker")),
+            _ => Err(CommandFault::Bad("there is no maker")),
+        }
+    }
+
+    /// Takes the book and the core apart, and keeps their maker.
+    pub(super) fn clear(&mut self) {
+        drop(self.close());
+        if let Some(core) = self.core.take() {
+            let (_log, maker) = Box::into_inner(core).into_parts();
+            self.maker = Some(maker);
         }
     }
 

@@ -22,9 +22,9 @@ impl<O: Origin> BookRows<O> {
     /// What comes of the proposal of an action on a look.
     fn proposed(&self, words: &[&str]) -> Result<Result<Proposal<O>, StepFault>, CommandFault> {
         match words {
-            [look, kind, rest @ ..] => {
+            [look, rest @ ..] => {
                 let look = self.look_at(count_of(look)?)?;
-                let action = lent(self.alloc, action_of(self.alloc, kind, rest)?)?;
+                let action = lent(self.alloc, action_of(self.alloc, self.constants(), rest)?)?;
                 Ok(look.propose(self.alloc, &action))
             }
             _ => Err(CommandFault::Bad("a look and an action are wanted")),
@@ -122,7 +122,7 @@ fn done_text<O: Origin>(
     done: Result<Committed<O>, Refused<O>>,
 ) -> Result<String, AllocError> {
     match done {
-        Ok(committed) => committed_text(alloc, &committed),
+        Ok(committed) => committed_text(alloc, committed.index, committed.entry.action()),
         Err(refused) => put_back(alloc, place, refused),
     }
 }
@@ -135,5 +135,5 @@ fn put_back<O: Origin>(
 ) -> Result<String, AllocError> {
     let Refused { refusal, proposal } = refused;
     let proposal = place.insert(proposal);
-    refused_text(alloc, refusal, proposal.entry().action())
+    refused_text(alloc, &refusal, proposal.entry().action())
 }
