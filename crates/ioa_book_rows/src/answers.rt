@@ -3,6 +3,7 @@
 use ioa_actions::{Action, push_listed, show_action};
 use ioa_compose::Conf;
 use ioa_rawlog::RawLog;
+use ioa_record::Record;
 use ioa_transitions::Entry;
 use ioa_values::Names;
 use std::alloc::{AllocError, Global};
@@ -55,6 +56,16 @@ pub(crate) fn execution_text(
     let count = states.len();
     let actions = log_text(alloc, log)?;
     format!(in alloc; "{actions}; {count} states")
+}
+
+/// The same of a record, and how many commits each share counts.
+pub(crate) fn record_text(alloc: Global, left: &Record) -> Result<String, AllocError> {
+    let mut text = execution_text(alloc, &left.schedule, &left.states)?;
+    text.push_str("; commits")?;
+    for count in &left.commits {
+        push_number(&mut text, *count)?;
+    }
+    Ok(text)
 }
 
 /// Writes a space and a number behind a text.

@@ -1,5 +1,5 @@
-//! The program of rows for books of commits: looks, proposals and commits on a book of a text, in any order, and hands
-//! of the core machine.
+//! The program of rows for books of commits: looks, proposals and commits on a book of a text, in any order; hands of
+//! the core machine; and a book as it stands under the commit lock, with passes, attempts and its finish.
 //!
 //! **A crate of its own**, since it is proved once for all rows of `checks/book/`.
 //!
@@ -10,15 +10,19 @@ ghost use Rattle.std.specs.Prelude.{◌≡◌};
 ghost use Rattle.ioa_sharing.specs.Shared.{maker_name};
 
 mod answers;
+mod blank;
+mod desk;
 mod reading;
 mod session;
 
+use blank::BlankOf;
 use ioa_rows::answer_script;
 use ioa_sharing::{Maker, MakerOf, Origin};
 use session::BookRows;
 use std::alloc::Global;
 use std::io::Stdout;
 use std::marker::Brand;
+use std::sync::ledger::{Blank, Ledger};
 use std::{env, io};
 
 fn main(rt: HostRuntime) -> io::Result<()> {
@@ -34,20 +38,25 @@ fn answer_once(
     script: &String,
     out: &mut Stdout,
 ) -> io::Result<()> {
-    answer_by::<Brand>(alloc, Maker::new(), words, script, out)
+    answer_by::<Brand, Brand>(alloc, Maker::new(), Blank::new(1), words, script, out)
 }
 
-/// The same by a maker of this origin. It takes no `&str`, since its caller could not say then what the origin is.
-fn answer_by<O: Origin>(
+/// The same by a maker of this origin and a blank of this ledger. It takes no `&str`, since its caller could not say
+/// then what the two are.
+fn answer_by<O: Origin, L: Ledger>(
     alloc: Global,
     maker: Maker,
+    blank: Blank,
     words: &[String],
     script: &String,
     out: &mut Stdout,
 ) -> io::Result<()>
-    requires { maker_name maker ≡ O.name }
+    requires maker { maker_name maker ≡ O.name }
+    requires name { blank.name ≡ L.name }
+    requires parts { (blank.parts ≡ L.parts) × (L.parts ≡ 1) }
 {
     let maker: MakerOf<O> = MakerOf::of(maker);
-    let mut session = BookRows::new(alloc, maker);
+    let blank: BlankOf<L> = BlankOf::of(blank);
+    let mut session = BookRows::new(alloc, maker, blank);
     answer_script(words, script, &mut session, out)
 }

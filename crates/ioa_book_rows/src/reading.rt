@@ -31,6 +31,17 @@ pub(crate) fn only_number(words: &[&str]) -> Result<i64, CommandFault> {
     }
 }
 
+/// The two numbers from 0 that are the only words.
+pub(crate) fn two_counts(words: &[&str]) -> Result<(usize, usize), CommandFault> {
+    match words {
+        [word, other] => {
+            let count = count_of(word)?;
+            Ok((count, count_of(other)?))
+        }
+        _ => Err(CommandFault::Bad("two numbers are wanted")),
+    }
+}
+
 /// The number from 0 that a word is.
 pub(crate) fn count_of(word: &str) -> Result<usize, CommandFault> {
     match word.parse::<usize>() {
@@ -54,7 +65,7 @@ pub(crate) fn count_within(
 }
 
 /// The number that a word is.
-fn number_of(word: &str) -> Result<i64, CommandFault> {
+pub(crate) fn number_of(word: &str) -> Result<i64, CommandFault> {
     match word.parse::<i64>() {
         Ok(number) => Ok(number),
         Err(_) => Err(CommandFault::Bad("a number is wanted")),

@@ -16,11 +16,12 @@ use ioa_text_reader::parse;
 use ioa_transitions::Entry;
 use std::alloc::{AllocError, Global};
 use std::sync::Arc;
+use std::sync::ledger::Ledger;
 
 /// The greatest limit of a book.
 pub(super) const MOST_ACTIONS: usize = 1_000_000;
 
-impl<O: Origin> BookRows<O> {
+impl<O: Origin, L: Ledger> BookRows<O, L> {
     /// Adds a line to the text, or begins a new one if a book was made of this one. There is no answer.
     pub(super) fn add_line(&mut self, line: &str) -> Result<String, CommandFault> {
         if self.is_read {

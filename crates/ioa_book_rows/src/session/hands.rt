@@ -13,11 +13,12 @@ use ioa_system::System;
 use ioa_values::Word;
 use std::alloc::{AllocError, Global};
 use std::slice;
+use std::sync::ledger::Ledger;
 
 /// The most hands.
 const MOST_HANDS: usize = 1000;
 
-impl<O: Origin> BookRows<O> {
+impl<O: Origin, L: Ledger> BookRows<O, L> {
     /// Makes a core of the text.
     pub(super) fn begin_core(&mut self, words: &[&str]) -> Result<String, CommandFault> {
         match words {

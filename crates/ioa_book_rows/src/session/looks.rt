@@ -7,8 +7,9 @@ use ioa_book::{LookFault, Snapshot};
 use ioa_rows::CommandFault;
 use ioa_sharing::Origin;
 use std::alloc::{AllocError, Global};
+use std::sync::ledger::Ledger;
 
-impl<O: Origin> BookRows<O> {
+impl<O: Origin, L: Ledger> BookRows<O, L> {
     /// Looks at a node.
     pub(super) fn look(&mut self, node: i64) -> Result<String, CommandFault> {
         match self.book()?.look(self.alloc, node) {
@@ -18,7 +19,7 @@ impl<O: Origin> BookRows<O> {
     }
 
     /// Keeps a look, and tells its number and its node.
-    fn keep_look(&mut self, look: Snapshot<O>) -> Result<String, AllocError> {
+    pub(super) fn keep_look(&mut self, look: Snapshot<O>) -> Result<String, AllocError> {
         let number = self.looks.len();
         let node = look.node();
         self.looks.push(look)?;
@@ -118,7 +119,7 @@ fn same_text<O: Origin>(
 }
 
 /// The number of a look, and its node.
-fn look_text(alloc: Global, number: usize, node: i64) -> Result<String, AllocError> {
+pub(super) fn look_text(alloc: Global, number: usize, node: i64) -> Result<String, AllocError> {
     format!(in alloc; "look {number} at node {node}")
 }
 

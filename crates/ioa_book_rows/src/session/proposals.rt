@@ -11,8 +11,9 @@ use ioa_sharing::Origin;
 use ioa_transitions::Entry;
 use std::alloc::{AllocError, Global};
 use std::sync::Arc;
+use std::sync::ledger::Ledger;
 
-impl<O: Origin> BookRows<O> {
+impl<O: Origin, L: Ledger> BookRows<O, L> {
     /// Proposes an action on a look.
     pub(super) fn propose(&mut self, words: &[&str]) -> Result<String, CommandFault> {
         let found = self.proposed(words)?;
@@ -108,7 +109,10 @@ fn commit_at<O: Origin>(
 }
 
 /// The spare that is kept, or a new one.
-fn spare_of(alloc: Global, kept: &mut Option<Spare<Entry>>) -> Result<Spare<Entry>, AllocError> {
+pub(super) fn spare_of(
+    alloc: Global,
+    kept: &mut Option<Spare<Entry>>,
+) -> Result<Spare<Entry>, AllocError> {
     match kept.take() {
         Some(spare) => Ok(spare),
         None => Spare::make(alloc),
