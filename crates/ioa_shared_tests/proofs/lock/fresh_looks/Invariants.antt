@@ -1,9 +1,0 @@
-use Rattle.ioa_shared_tests.proofs.lock.fresh_looks.Given as goal
-
--- the origin stands for the list of the maker that is made here
-abbrev pub ghosts-are_fresh-O-Origin : goal.ghosts-are_fresh-O-Origin
-ghosts-are_fresh-O-Origin a a' = record { name = a'.maker.ledger.name }
-
--- and the ledger for the one that the blank begins
-abbrev pub ghosts-are_fresh-L-Ledger : goal.ghosts-are_fresh-L-Ledger
-ghosts-are_fresh-L-Ledger a a' = record { name = a'.blank.name; parts = a'.blank.parts }
