@@ -1,15 +1,13 @@
 //! Sets that are shared.
 
 use ioa_operators::{Function, TermFault, call};
-use ioa_values::{Names, Value, show};
+use ioa_values::{FiniteSet, Names, Value, show};
 use std::alloc::{AllocError, Global};
 use std::test::Fail;
 
 /// The set of one number.
 fn set_of(alloc: Global, number: i64) -> Result<Value, AllocError> {
-    let mut members = Vec::new(alloc);
-    members.push(Value::number(number))?;
-    Value::set(alloc, members)
+    Ok(Value::set(FiniteSet::new().insert(alloc, &Value::number(number))?))
 }
 
 /// A set with one more member, which shares the others with it.

@@ -8,7 +8,7 @@ use Rattle.std.proofs.string.String.TheSendSync as String
 use Rattle.std.proofs.sync.Arc.TheSendSync as Arc
 use Rattle.std.proofs.vec.Vec.TheSendSync as Vec
 use Rattle.ioa_values.proofs.item_kind.ItemKind.TheSendSync as ItemKind
-use Rattle.ioa_values.proofs.sequence.Sequence.TheLaws.TheKnot as knot
+use Rattle.ioa_values.proofs.entry_tree.EntryTree.TheLaws.TheKnot as knot
 use Rattle.ioa_values.specs.contracts.value.Value as Value
 use Rattle.ioa_values.specs.contracts.word.Word as Word
 use Rattle.ioa_actions.specs.contracts.action.Values as Values

@@ -16,7 +16,7 @@ use Rattle.std.specs.declared.sync.ledger.Ledger as Ledger
 use Rattle.std.proofs.sync.ledger.Book.TheSendSync as Total
 use Rattle.std.proofs.sync.ledger.Share.TheSendSync as Part
 use Rattle.std.proofs.sync.Mutex.TheSendSync as Mutex
-use Rattle.ioa_values.proofs.sequence.Sequence.TheLaws.TheKnot as knot
+use Rattle.ioa_values.proofs.entry_tree.EntryTree.TheLaws.TheKnot as knot
 use Rattle.ioa_channels.specs.contracts.queue.Queue as Queue
 use Rattle.ioa_transitions.specs.contracts.entry.Entry as Entry
 use Rattle.ioa_transitions.specs.contracts.node.NodeConf as NodeConf

@@ -9,14 +9,14 @@ ghost use Rattle.ioa_operators.specs.Shapes.{display_value, display_takes_memory
 use crate::fault::TermFault;
 use crate::sets::set_of_values;
 use crate::shape::{DisplayForm, Shape, ShapeForm, each_admits};
-use ioa_values::{Sequence, Value};
+use ioa_values::{FiniteMap, Sequence, Value};
 use std::alloc::Global;
 
 /// The value of a display of these parts that has a shape (profile). Returns `Undefined (1)` if no such
 /// display has the shape, if the display of a map has parts, or if the parts of a tuple are not as many as
 /// its fields or lack their shapes. Returns `Memory (3)` if no memory is left for the value. The shapes of
 /// the items of a sequence or a set are not checked. The parts are used up. Costs time in proportion to the
-/// parts, and for a set what `collections::set_of` costs.
+/// parts, and for a set what `FiniteSet::of` costs.
 pub fn display(
     alloc: Global,
     form: DisplayForm,
@@ -57,7 +57,7 @@ fn braces(alloc: Global, shape: &Shape, parts: Vec<Value>) -> Result<Value, Term
         ShapeForm::Sequences(_) => Ok(Value::sequence(Sequence::from_vec(alloc, parts)?)),
         ShapeForm::Sets(_) => set_of_values(alloc, parts),
         ShapeForm::Maps(_, _) => match parts.as_slice() {
-            [] => Ok(Value::map(alloc, Vec::new(alloc))?),
+            [] => Ok(Value::map(FiniteMap::new())),
             [_, ..] => Err(TermFault::Undefined),
         },
         _ => Err(TermFault::Undefined),

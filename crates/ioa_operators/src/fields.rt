@@ -9,7 +9,7 @@ ghost use Rattle.ioa_operators.specs.Shapes.{field_position, field_value, part_n
 use crate::fault::TermFault;
 use crate::parts::parts_of_tuple;
 use crate::shape::{Shape, ShapeForm};
-use ioa_values::{Value, Word, collections};
+use ioa_values::{Value, Word, unshare};
 use std::alloc::Global;
 use std::mem;
 
@@ -95,7 +95,7 @@ fn replace_among(
     let parts = parts_of_tuple(value)?;
     match position_of(names, name) {
         Some(position) if position < parts.len() => {
-            let mut parts = collections::unshare(alloc, parts)?;
+            let mut parts = unshare(alloc, parts)?;
             put_at(&mut parts, position, new);
             Ok(Value::tuple(alloc, parts)?)
         }

@@ -52,8 +52,8 @@ enum CallParts {
 /// or fewer parts than the function takes, one is of another kind than it takes, the sequence of `head` or
 /// `tail` is empty, or a divisor is below 1. Returns `Range (2)` if the result lies outside 64 bits, and
 /// `Memory (3)` if no memory is left for `head`, `tail` or a function that changes a set or a map. The
-/// values are used up. The functions of sequences and `size` cost the same whatever the values hold, the
-/// others time in proportion to the values.
+/// values are used up. The functions of sequences and `size` cost the same whatever the values hold, those of
+/// one set or map time in proportion to its logarithm, and `union` in proportion to both sets.
 pub fn call(alloc: Global, function: Function, parts: Vec<Value>) -> Result<Value, TermFault>
     ensures value { Answers TermFault.Memory (λ v. v) result (checked_result (call_value function parts.items)) }
     ensures memory { LacksMemoryOnlyIf (call_takes_memory function) result (call_value function parts.items) }
@@ -128,10 +128,10 @@ fn call_of_two(
     match function {
         Function::Quotient => quotient(&left, &right),
         Function::Remainder => remainder(&left, &right),
-        Function::Insert => insert(alloc, left, right),
-        Function::Delete => delete(alloc, &left, right),
-        Function::Union => unite(alloc, left, right),
-        Function::Remove => remove(alloc, left, &right),
+        Function::Insert => insert(alloc, &left, &right),
+        Function::Delete => delete(alloc, &left, &right),
+        Function::Union => unite(alloc, &left, &right),
+        Function::Remove => remove(alloc, &left, &right),
         Function::Defined => key_membership(&left, &right),
         _ => Err(TermFault::Undefined),
     }
@@ -148,7 +148,7 @@ fn call_of_three(
     ensures { AnswersOrLacks (call_takes_memory function) result (call_three function first second third) }
 {
     match function {
-        Function::Update => update(alloc, first, second, third),
+        Function::Update => update(alloc, &first, &second, &third),
         _ => Err(TermFault::Undefined),
     }
 }

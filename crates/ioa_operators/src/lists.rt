@@ -8,7 +8,7 @@ ghost use Rattle.ioa_operators.specs.Operators.{binary_value, call_one, rest};
 use crate::fault::TermFault;
 use crate::operator::{BinaryOperator, Function};
 use crate::parts::count_value;
-use ioa_values::{Sequence, Value, ValueForm, collections};
+use ioa_values::{Sequence, Value, ValueForm};
 use std::alloc::Global;
 
 /// A value, and then the items of a sequence. Costs the same at any length.
@@ -50,14 +50,15 @@ pub(crate) fn concatenate(alloc: Global, left: &Value, right: &Value) -> Result<
     }
 }
 
-/// Whether a value is an item of a sequence or a member of a set. Costs one comparison an item.
+/// Whether a value is an item of a sequence or a member of a set. Costs one comparison an item of a sequence, and in a
+/// set comparisons in proportion to the logarithm of the members.
 #[tactic(auto, using(ioa_values::proofs::ItemLists::list_of_items))]
 pub(crate) fn membership(value: &Value, whole: &Value) -> Result<Value, TermFault>
     ensures { AnswersOrLacks false result (binary_value BinaryOperator.Member value.now whole.now) }
 {
     match &whole.form {
         ValueForm::Sequence(items) => Ok(Value::truth(items.contains(value))),
-        ValueForm::Set(members) => Ok(Value::truth(collections::contains(members, value))),
+        ValueForm::Set(members) => Ok(Value::truth(members.contains(value))),
         _ => Err(TermFault::Undefined),
     }
 }

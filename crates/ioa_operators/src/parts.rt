@@ -1,9 +1,8 @@
 //! The parts that operators take, as what they have to be.
 
-ghost use Rattle.std.specs.Prelude.{IfOk, Some, pos, false};
+ghost use Rattle.std.specs.Prelude.{Some, pos, false};
 ghost use Rattle.ioa_values.specs.Data.{number, as_number, as_truth};
-ghost use Rattle.ioa_values.specs.Collections.{IsAscending, keys_of};
-ghost use Rattle.ioa_operators.specs.Operators.{as_tuple, as_set, as_map};
+ghost use Rattle.ioa_operators.specs.Operators.{as_tuple};
 ghost use Rattle.ioa_operators.specs.RangeCheck.{AnswersOrLacks};
 ghost use Rattle.ioa_operators.specs.CallParts.{Takes};
 
@@ -23,30 +22,6 @@ pub(crate) fn truth_of(value: &Value) -> Result<bool, TermFault>
     ensures { Takes (λ b. b) result (as_truth value.now) }
 {
     value.as_truth().ok_or(TermFault::Undefined)
-}
-
-/// The members of a set, which others may share. They ascend, as every set keeps them.
-#[tactic(auto, using(ioa_values::proofs::ItemLists::list_of_items))]
-pub(crate) fn members_of_set(value: Value) -> Result<Arc<Vec<Value>>, TermFault>
-    ensures members { Takes (λ v. v.value.items) result (as_set value) }
-    ensures ascending { IfOk result (λ v. IsAscending v.value.items) }
-{
-    match value.into_form() {
-        ValueForm::Set(members) => Ok(members),
-        _ => Err(TermFault::Undefined),
-    }
-}
-
-/// The entries of a map, which others may share. Their keys ascend, as every map keeps them.
-#[tactic(auto, using(ioa_values::proofs::ItemLists::pairs_of_entries))]
-pub(crate) fn entries_of_map(value: Value) -> Result<Arc<Vec<(Value, Value)>>, TermFault>
-    ensures entries { Takes (λ v. v.value.items) result (as_map value) }
-    ensures ascending { IfOk result (λ v. IsAscending (keys_of v.value.items)) }
-{
-    match value.into_form() {
-        ValueForm::Map(entries) => Ok(entries),
-        _ => Err(TermFault::Undefined),
-    }
 }
 
 /// The parts of a tuple, which others may share.

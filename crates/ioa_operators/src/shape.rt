@@ -3,13 +3,14 @@
 ghost use Rattle.std.specs.Prelude.{◌≡◌, ◌↔◌, ◌+◌, [], ◌&&◌, IfOk, IsTrue, nat_eq, nat_le, nat_lt};
 ghost use Rattle.ioa_operators.specs.SameShapes.{same_shape, same_shapes};
 ghost use lib.Pointwise.{pointwise};
+ghost use Rattle.ioa_values.specs.Collections.{keys_of, values_of};
 ghost use Rattle.ioa_values.specs.Data.{items_of};
 ghost use Rattle.ioa_operators.specs.Shapes.{naturals, constants, shapes_of, has_shape, have_shapes, all_have};
 ghost use Rattle.ioa_operators.specs.Shapes.{wide_shape, wide_shape_if, wide_shapes_if};
 ghost use Rattle.ioa_operators.specs.ShapeKinds.{AdmitsKind};
 ghost use Rattle.ioa_operators.specs.ShapeView.{shape_of};
 
-use ioa_values::{ItemKind, Sequence, Value, ValueForm, Word};
+use ioa_values::{FiniteMap, FiniteSet, ItemKind, Sequence, Value, ValueForm, Word};
 use std::alloc::{AllocError, Global};
 use std::marker::Model;
 use std::sync::Arc;
@@ -149,7 +150,7 @@ impl Shape {
 
     /// Whether a value has the shape; if `negative` is true, a negative number passes for a natural too.
     #[cycle(admitting)]
-    #[tactic(auto, using(crate::proofs::Falls::most_shapes))]
+    #[tactic(auto, using(crate::proofs::Falls::most_shapes, crate::proofs::ShapeLists::entries_have_both))]
     fn fits(&self, value: &Value, negative: bool) -> bool
         ensures { result ≡ has_shape (wide_shape_if negative self.now) value.now }
     {
@@ -167,17 +168,13 @@ impl Shape {
                 _ => false,
             },
             ShapeForm::Sets(members) => match &value.form {
-                ValueForm::Set(values) => all_fit(members, values, negative),
+                ValueForm::Set(values) => all_members_fit(members, values, negative),
                 _ => false,
             },
             ShapeForm::Maps(keys, values) => match &value.form {
                 ValueForm::Map(entries) => {
-                    for (key, value) in entries.iter() {
-                        if !keys.fits(key, negative) || !values.fits(value, negative) {
-                            return false;
-                        }
-                    }
-                    true
+                    all_keys_fit(keys, entries, negative)
+                        && all_values_fit(values, entries, negative)
                 }
                 _ => false,
             },
@@ -318,19 +315,6 @@ fn each_fits(shapes: &Vec<Shape>, values: &Vec<Value>, negative: bool) -> bool
     shapes.len() == values.len()
 }
 
-/// Whether values all have a shape; if `negative` is true, negative numbers pass for naturals too.
-#[cycle(admitting)]
-fn all_fit(shape: &Shape, values: &Vec<Value>, negative: bool) -> bool
-    ensures { result ≡ all_have (wide_shape_if negative shape.now) (items_of values.now.items) }
-{
-    for value in values {
-        if !shape.fits(value, negative) {
-            return false;
-        }
-    }
-    true
-}
-
 /// Whether the items of a sequence all have a shape; if `negative` is true, negative numbers pass for
 /// naturals too. Looks at each item only if what the sequence knows of all its items does not tell.
 #[cycle(admitting)]
@@ -342,6 +326,56 @@ fn all_items_fit(shape: &Shape, items: &Sequence, negative: bool) -> bool
     }
     for position in 0..items.len() {
         if !shape.fits(items.at(position), negative) {
+            return false;
+        }
+    }
+    true
+}
+
+/// Whether the members of a set all have a shape; if `negative` is true, negative numbers pass for naturals too. Looks at
+/// each member only if what the set knows of all its members does not tell.
+#[cycle(admitting)]
+fn all_members_fit(shape: &Shape, members: &FiniteSet, negative: bool) -> bool
+    ensures { result ≡ all_have (wide_shape_if negative shape.now) (items_of members.now) }
+{
+    if shape.fits_kind(members.kind(), negative) {
+        return true;
+    }
+    for position in 0..members.len() {
+        if !shape.fits(members.at(position), negative) {
+            return false;
+        }
+    }
+    true
+}
+
+/// Whether the keys of a map all have a shape; if `negative` is true, negative numbers pass for naturals too. Looks at
+/// each key only if what the map knows of all its keys does not tell.
+#[cycle(admitting)]
+fn all_keys_fit(shape: &Shape, entries: &FiniteMap, negative: bool) -> bool
+    ensures { result ≡ all_have (wide_shape_if negative shape.now) (items_of (keys_of entries.now)) }
+{
+    if shape.fits_kind(entries.key_kind(), negative) {
+        return true;
+    }
+    for position in 0..entries.len() {
+        if !shape.fits(entries.at(position).0, negative) {
+            return false;
+        }
+    }
+    true
+}
+
+/// The same of its values.
+#[cycle(admitting)]
+fn all_values_fit(shape: &Shape, entries: &FiniteMap, negative: bool) -> bool
+    ensures { result ≡ all_have (wide_shape_if negative shape.now) (items_of (values_of entries.now)) }
+{
+    if shape.fits_kind(entries.value_kind(), negative) {
+        return true;
+    }
+    for position in 0..entries.len() {
+        if !shape.fits(entries.at(position).1, negative) {
             return false;
         }
     }

@@ -7,11 +7,11 @@ ghost use Rattle.ioa_paper.specs.Papers.{and_text};
 
 use crate::paper::Paper;
 use ioa_streams::Out;
-use ioa_values::{Names, Sequence, Value, ValueForm};
+use ioa_values::{FiniteMap, FiniteSet, Names, Sequence, Value, ValueForm};
 
 /// Writes the text of a value.
 #[cycle(putting)]
-#[tactic(auto, using(ioa_values::proofs::Falls::most_items, ioa_values::proofs::Falls::most_entries))]
+#[tactic(auto, using(ioa_values::proofs::Falls::most_items))]
 pub fn put_value<O: Out>(paper: &mut Paper<'_, O>, names: &Names, value: &Value)
     ensures { paper.new ≡ and_text paper.old (text names.now value.now) }
 {
@@ -19,9 +19,9 @@ pub fn put_value<O: Out>(paper: &mut Paper<'_, O>, names: &Names, value: &Value)
         ValueForm::Number(n) => paper.put_number(*n),
         ValueForm::Truth(b) => put_truth(paper, *b),
         ValueForm::Constant(index) => put_name(paper, names, *index),
-        ValueForm::Tuple(parts) => put_enclosed(paper, names, "[", parts, "]"),
+        ValueForm::Tuple(parts) => put_tuple(paper, names, parts),
         ValueForm::Sequence(items) => put_sequence(paper, names, items),
-        ValueForm::Set(members) => put_enclosed(paper, names, "{", members, "}"),
+        ValueForm::Set(members) => put_set(paper, names, members),
         ValueForm::Map(entries) => put_map(paper, names, entries),
     }
 }
@@ -42,21 +42,15 @@ fn put_name<O: Out>(paper: &mut Paper<'_, O>, names: &Names, index: usize)
     }
 }
 
-/// Writes values between two brackets.
+/// Writes a tuple.
 #[cycle(putting)]
-fn put_enclosed<O: Out>(
-    paper: &mut Paper<'_, O>,
-    names: &Names,
-    left: &str,
-    values: &Vec<Value>,
-    right: &str,
-)
+fn put_tuple<O: Out>(paper: &mut Paper<'_, O>, names: &Names, parts: &Vec<Value>)
     ensures { paper.new ≡ and_text paper.old
-        (left.now ++ with_commas (texts names.now (items_of values.now.items)) ++ right.now) }
+        (codes "[" ++ with_commas (texts names.now (items_of parts.now.items)) ++ codes "]") }
 {
-    paper.put(left);
-    put_values(paper, names, values);
-    paper.put(right);
+    paper.put("[");
+    put_values(paper, names, parts);
+    paper.put("]");
 }
 
 /// Writes values with commas between them.
@@ -92,11 +86,33 @@ fn put_items<O: Out>(paper: &mut Paper<'_, O>, names: &Names, items: &Sequence)
     }
 }
 
+/// Writes a set.
+#[cycle(putting)]
+fn put_set<O: Out>(paper: &mut Paper<'_, O>, names: &Names, members: &FiniteSet)
+    ensures { paper.new ≡ and_text paper.old
+        (codes "{" ++ with_commas (texts names.now (items_of members.now)) ++ codes "}") }
+{
+    paper.put("{");
+    put_members(paper, names, members);
+    paper.put("}");
+}
+
+/// Writes members with commas between them.
+#[cycle(putting)]
+fn put_members<O: Out>(paper: &mut Paper<'_, O>, names: &Names, members: &FiniteSet)
+    ensures { paper.new ≡ and_text paper.old (with_commas (texts names.now (items_of members.now))) }
+{
+    for position in 0..members.len() {
+        put_separator(paper, position);
+        put_value(paper, names, members.at(position));
+    }
+}
+
 /// Writes a map.
 #[cycle(putting)]
-fn put_map<O: Out>(paper: &mut Paper<'_, O>, names: &Names, entries: &Vec<(Value, Value)>)
+fn put_map<O: Out>(paper: &mut Paper<'_, O>, names: &Names, entries: &FiniteMap)
     ensures { paper.new ≡ and_text paper.old
-        (codes "{" ++ with_commas (entry_texts names.now (entries_of entries.now.items)) ++ codes "}") }
+        (codes "{" ++ with_commas (entry_texts names.now (entries_of entries.now)) ++ codes "}") }
 {
     paper.put("{");
     put_entries(paper, names, entries);
@@ -105,15 +121,15 @@ fn put_map<O: Out>(paper: &mut Paper<'_, O>, names: &Names, entries: &Vec<(Value
 
 /// Writes entries with commas between them.
 #[cycle(putting)]
-fn put_entries<O: Out>(paper: &mut Paper<'_, O>, names: &Names, entries: &Vec<(Value, Value)>)
-    ensures { paper.new ≡ and_text paper.old
-        (with_commas (entry_texts names.now (entries_of entries.now.items))) }
+fn put_entries<O: Out>(paper: &mut Paper<'_, O>, names: &Names, entries: &FiniteMap)
+    ensures { paper.new ≡ and_text paper.old (with_commas (entry_texts names.now (entries_of entries.now))) }
 {
-    for (position, entry) in entries.iter().enumerate() {
+    for position in 0..entries.len() {
+        let (key, value) = entries.at(position);
         put_separator(paper, position);
-        put_value(paper, names, &entry.0);
+        put_value(paper, names, key);
         paper.put(" -> ");
-        put_value(paper, names, &entry.1);
+        put_value(paper, names, value);
     }
 }
 

@@ -6,11 +6,11 @@ ghost use Rattle.ioa_values.specs.Data.{fits};
 ghost use Rattle.ioa_printed_lines.specs.TextSystems.{IsBounded};
 ghost use Rattle.ioa_runtime_values.specs.RuntimeValues.{IsBoundedEntry};
 
-use ioa_values::{Sequence, Value, ValueForm};
+use ioa_values::{FiniteMap, FiniteSet, Sequence, Value, ValueForm};
 
 /// Each number in a value, at any depth, lies in 64 bits. Does nothing.
 #[cycle(bounded)]
-#[tactic(auto, using(ioa_values::proofs::Falls::most_items, ioa_values::proofs::Falls::most_entries, crate::proofs::BoundedLists::are_bounded, crate::proofs::BoundedLists::are_entries_bounded,))]
+#[tactic(auto, using(ioa_values::proofs::Falls::most_items, crate::proofs::BoundedLists::are_bounded, crate::proofs::BoundedLists::are_entries_bounded,))]
 pub fn bounded_law(value: &Value)
     ensures { IsBounded value.now }
 {
@@ -20,7 +20,7 @@ pub fn bounded_law(value: &Value)
         ValueForm::Constant(_) => {}
         ValueForm::Tuple(parts) => bounded_values(parts),
         ValueForm::Sequence(items) => bounded_items(items),
-        ValueForm::Set(members) => bounded_values(members),
+        ValueForm::Set(members) => bounded_members(members),
         ValueForm::Map(entries) => bounded_entries(entries),
     }
 }
@@ -50,12 +50,23 @@ fn bounded_items(items: &Sequence)
     }
 }
 
-/// The same of each key and each value of a list of entries.
+/// The same of each member of a set.
 #[cycle(bounded)]
-fn bounded_entries(entries: &Vec<(Value, Value)>)
-    ensures { AllByRecursion IsBoundedEntry entries.now.items }
+fn bounded_members(members: &FiniteSet)
+    ensures { AllByRecursion IsBounded members.now }
 {
-    for (key, value) in entries {
+    for position in 0..members.len() {
+        bounded_law(members.at(position));
+    }
+}
+
+/// The same of each key and each value of a map.
+#[cycle(bounded)]
+fn bounded_entries(entries: &FiniteMap)
+    ensures { AllByRecursion IsBoundedEntry entries.now }
+{
+    for position in 0..entries.len() {
+        let (key, value) = entries.at(position);
         bounded_law(key);
         bounded_law(value);
     }

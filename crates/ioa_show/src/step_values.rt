@@ -8,11 +8,11 @@ ghost use Rattle.ioa_show.specs.Tagged.{tagged, tagged_entries, tagged_items};
 
 use ioa_paper::{Paper, put_separator};
 use ioa_streams::Out;
-use ioa_values::{Names, Sequence, Value, ValueForm};
+use ioa_values::{FiniteMap, FiniteSet, Names, Sequence, Value, ValueForm};
 
 /// Writes a value.
 #[cycle(telling)]
-#[tactic(auto, using(ioa_values::proofs::Falls::most_items, ioa_values::proofs::Falls::most_entries))]
+#[tactic(auto, using(ioa_values::proofs::Falls::most_items))]
 pub fn put_tagged<O: Out>(paper: &mut Paper<'_, O>, names: &Names, value: &Value)
     ensures { paper.new ≡ and_text paper.old (tagged names.now value.now) }
 {
@@ -22,7 +22,7 @@ pub fn put_tagged<O: Out>(paper: &mut Paper<'_, O>, names: &Names, value: &Value
         ValueForm::Constant(index) => put_constant(paper, names, *index),
         ValueForm::Tuple(parts) => put_enclosed(paper, names, "{\"tuple\":[", parts),
         ValueForm::Sequence(items) => put_sequence(paper, names, items),
-        ValueForm::Set(members) => put_enclosed(paper, names, "{\"set\":[", members),
+        ValueForm::Set(members) => put_set(paper, names, members),
         ValueForm::Map(entries) => put_map(paper, names, entries),
     }
 }
@@ -97,11 +97,33 @@ fn put_items<O: Out>(paper: &mut Paper<'_, O>, names: &Names, items: &Sequence)
     }
 }
 
+/// Writes a set.
+#[cycle(telling)]
+fn put_set<O: Out>(paper: &mut Paper<'_, O>, names: &Names, members: &FiniteSet)
+    ensures { paper.new ≡ and_text paper.old
+        (codes "{\"set\":[" ++ with_commas (tagged_items names.now (items_of members.now)) ++ codes "]}") }
+{
+    paper.put("{\"set\":[");
+    put_members(paper, names, members);
+    paper.put("]}");
+}
+
+/// Writes members with commas between them.
+#[cycle(telling)]
+fn put_members<O: Out>(paper: &mut Paper<'_, O>, names: &Names, members: &FiniteSet)
+    ensures { paper.new ≡ and_text paper.old (with_commas (tagged_items names.now (items_of members.now))) }
+{
+    for position in 0..members.len() {
+        put_separator(paper, position);
+        put_tagged(paper, names, members.at(position));
+    }
+}
+
 /// Writes a map.
 #[cycle(telling)]
-fn put_map<O: Out>(paper: &mut Paper<'_, O>, names: &Names, entries: &Vec<(Value, Value)>)
+fn put_map<O: Out>(paper: &mut Paper<'_, O>, names: &Names, entries: &FiniteMap)
     ensures { paper.new ≡ and_text paper.old
-        (codes "{\"map\":[" ++ with_commas (tagged_entries names.now (entries_of entries.now.items)) ++ codes "]}") }
+        (codes "{\"map\":[" ++ with_commas (tagged_entries names.now (entries_of entries.now)) ++ codes "]}") }
 {
     paper.put("{\"map\":[");
     put_entries(paper, names, entries);
@@ -110,16 +132,17 @@ fn put_map<O: Out>(paper: &mut Paper<'_, O>, names: &Names, entries: &Vec<(Value
 
 /// Writes entries with commas between them.
 #[cycle(telling)]
-fn put_entries<O: Out>(paper: &mut Paper<'_, O>, names: &Names, entries: &Vec<(Value, Value)>)
+fn put_entries<O: Out>(paper: &mut Paper<'_, O>, names: &Names, entries: &FiniteMap)
     ensures { paper.new ≡ and_text paper.old
-        (with_commas (tagged_entries names.now (entries_of entries.now.items))) }
+        (with_commas (tagged_entries names.now (entries_of entries.now))) }
 {
-    for (position, entry) in entries.iter().enumerate() {
+    for position in 0..entries.len() {
+        let (key, value) = entries.at(position);
         put_separator(paper, position);
         paper.put("[");
-        put_tagged(paper, names, &entry.0);
+        put_tagged(paper, names, key);
         paper.put(", ");
-        put_tagged(paper, names, &entry.1);
+        put_tagged(paper, names, value);
         paper.put("]");
     }
 }

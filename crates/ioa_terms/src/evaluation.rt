@@ -5,7 +5,7 @@ ghost use Rattle.std.specs.Option.{option_and_then, option_map};
 ghost use Rattle.ioa_values.specs.Outcome.{Answers, and_then};
 ghost use Rattle.ioa_terms.specs.Meaning.{answer, inbox_value};
 ghost use Rattle.ioa_terms.specs.Inboxes.{inbox_entries, inboxes_of, inboxes_value, inboxes_word};
-ghost use Rattle.ioa_values.specs.Collections.{IsAscending, keys_of, value_at};
+ghost use Rattle.ioa_values.specs.Collections.{value_at};
 ghost use Rattle.ioa_values.specs.Data as datum;
 ghost use Rattle.ioa_values.specs.DataOrder.{same};
 ghost use Rattle.ioa_operators.specs.Operators as spec;
@@ -29,8 +29,7 @@ use ioa_operators::{
     BinaryOperator, Function, TermFault, binary, call, call_lent, display, field, left_decision,
     unary,
 };
-use ioa_values::collections::update;
-use ioa_values::{Value, Word};
+use ioa_values::{FiniteMap, Value, Word};
 use std::alloc::{AllocError, Global};
 
 /// The value of a term in an environment (profile). Parts are evaluated from left to right, and the first
@@ -352,25 +351,24 @@ fn read_slot(alloc: Global, env: &Env, slot: usize) -> Result<Value, TermFault>
 fn map_of(alloc: Global, inboxes: &[Inbox]) -> Result<Value, AllocError>
     ensures { IfOk result (λ v. v ≡ inboxes_value (inboxes_of inboxes.now)) }
 {
-    Value::map(alloc, entries_of(alloc, inboxes)?)
+    Ok(Value::map(entries_of(alloc, inboxes)?))
 }
 
 /// The entries of the map of the inboxes.
 #[tactic(auto, using(crate::proofs::Inboxes::one_inbox_more))]
-fn entries_of(alloc: Global, inboxes: &[Inbox]) -> Result<Vec<(Value, Value)>, AllocError>
-    ensures entries { IfOk result (λ v. v.items ≡ inbox_entries (inboxes_of inboxes.now)) }
-    ensures ascending { IfOk result (λ v. IsAscending (keys_of v.items)) }
+fn entries_of(alloc: Global, inboxes: &[Inbox]) -> Result<FiniteMap, AllocError>
+    ensures { IfOk result (λ m. m ≡ inbox_entries (inboxes_of inboxes.now)) }
 {
-    let mut entries = Vec::new(alloc);
+    let mut entries = FiniteMap::new();
     let mut left = inboxes.len();
     while left > 0 {
         left -= 1;
         let inbox = inboxes[left];
         let messages = inbox.messages.try_clone()?;
-        entries = update(
-            entries,
-            Value::number(inbox.sender),
-            Value::sequence(messages),
+        entries = entries.update(
+            alloc,
+            &Value::number(inbox.sender),
+            &Value::sequence(messages),
         )?;
     }
     Ok(entries)

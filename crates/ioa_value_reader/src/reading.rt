@@ -13,7 +13,7 @@ use crate::ascent::{ascends, keys_ascend};
 use ioa_cursor::{Tokens, Unread};
 use ioa_operators::{Shape, ShapeForm};
 use ioa_tokens::Mark;
-use ioa_values::{Names, Sequence, Value, Word};
+use ioa_values::{FiniteMap, FiniteSet, Names, Sequence, Value, Word};
 use std::alloc::{AllocError, Global};
 
 /// Reads a value of a shape. A negative number is read where a natural is asked for, and what follows the value is
@@ -193,7 +193,7 @@ fn set_of(alloc: Global, members: Vec<Value>, tokens: &Tokens<'_>) -> Result<Val
     ensures { Reads (λ v. v) (spec.as_set (members.items, tokens.now)) result tokens.now }
 {
     if ascends(&members) {
-        Ok(Value::set(alloc, members)?)
+        Ok(Value::set(FiniteSet::of_ascending(alloc, &members)?))
     } else {
         Err(tokens.refusal())
     }
@@ -205,7 +205,7 @@ fn map_of(alloc: Global, entries: Vec<(Value, Value)>, tokens: &Tokens<'_>) -> R
     ensures { Reads (λ v. v) (spec.as_map (entries.items, tokens.now)) result tokens.now }
 {
     if keys_ascend(&entries) {
-        Ok(Value::map(alloc, entries)?)
+        Ok(Value::map(FiniteMap::of_ascending(alloc, &entries)?))
     } else {
         Err(tokens.refusal())
     }

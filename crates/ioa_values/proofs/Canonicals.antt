@@ -39,5 +39,5 @@ of_form (Truth b) h = tt
 of_form (Constant k) h = tt
 of_form (Tuple v) h = items_all v.value.items h
 of_form (Sequence ds) h = items_all ds h
-of_form (Set v) h = made_set v.value.items h.0 h.1
-of_form (Map v) h = made_map v.value.items h.0 h.1
+of_form (Set ds) h = made_set ds h.0 h.1
+of_form (Map es) h = made_map es h.0 h.1

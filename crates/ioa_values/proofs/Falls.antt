@@ -2,11 +2,10 @@
 use Rattle.std.proofs.Common.{◌≡◌, ℕ, zero, suc, ◌+◌, ◌*◌, ◌≤◌, List, [], ◌∷◌, Some, arith}
 use Rattle.std.specs.Prelude.{slice_get}
 use denote.Param.Weighed.{most, w_this}
-use Rattle.ioa_values.specs.Data.{Data, entries_of}
-use Rattle.ioa_values.specs.Weight.{weight, weights, entries_weight}
+use Rattle.ioa_values.specs.Data.{Data}
+use Rattle.ioa_values.specs.Weight.{weight, weights, pairs_weight}
 use Rattle.ioa_values.specs.declared.value.Value.{Value}
-use Rattle.ioa_values.specs.declared.sequence.Sequence.TheDeep.{size-Value}
-use Rattle.ioa_values.specs.declared.sequence.Sequence.TheShapes.{weighed-ValueForm-Map-0-at-2}
+use Rattle.ioa_values.specs.declared.entry_tree.EntryTree.TheDeep.{size-Value}
 
 -- of items
 pub most_items : (ds : List Value) → most (w_this.weight Value size-Value) ds ≤ 2 * weights ds + 2
@@ -19,7 +18,8 @@ item_falls [] i d h = absurd (cc)
 item_falls (e ∷ ds) zero d h = let same : e ≡ d = cc in rw (← same) (omega arith)
 item_falls (e ∷ ds) (suc i) d h = omega (arith, item_falls ds i d h)
 
--- of entries
-pub most_entries : (es : List (Value × Value)) → most (weighed-ValueForm-Map-0-at-2.weight Value size-Value) es ≤ 2 * entries_weight (entries_of es) + 2
-most_entries [] = omega arith
-most_entries (e ∷ es) = omega (arith, most_entries es)
+-- the key and the value of an entry of a map
+pub entry_falls : (es : List (Data × Data)) (i : ℕ) (e : Data × Data) → slice_get es i ≡ Some e → weight e.0 + weight e.1 + 1 ≤ pairs_weight es
+entry_falls [] i e h = absurd (cc)
+entry_falls (f ∷ es) zero e h = let same : f ≡ e = cc in rw (← same) (omega arith)
+entry_falls (f ∷ es) (suc i) e h = omega (arith, entry_falls es i e h)

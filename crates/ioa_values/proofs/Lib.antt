@@ -5,8 +5,10 @@ pub mod Ascending
 pub mod Canonicals
 pub mod Commas
 pub mod Endings
+pub mod EntryTrees
 pub mod Equality
 pub mod Falls
+pub mod FiniteSets
 pub mod Halves
 pub mod ItemKinds
 pub mod ItemLists

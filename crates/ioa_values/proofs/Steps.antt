@@ -6,9 +6,9 @@ use lib.Pointwise.{pointwise}
 use Rattle.std.specs.Ordering.{is_eq, ordering_then}
 use Rattle.std.specs.declared.cmp.Ordering.{Ordering}
 use Rattle.std.specs.declared.cmp.Ordering.TheVariants.{Less, Equal, Greater}
-use Rattle.ioa_values.specs.Data.{Data, items_of}
+use Rattle.ioa_values.specs.Data.{Data, items_of, entries_of}
 use Rattle.ioa_values.specs.Collections.{is_member}
-use Rattle.ioa_values.specs.DataOrder.{data_cmp, items_cmp, same, then_equal, then_then}
+use Rattle.ioa_values.specs.DataOrder.{data_cmp, items_cmp, entries_cmp, same, then_equal, then_then}
 
 -- an item and what is behind it
 drop_next : {A : Type 0} (xs : List A) (i : ℕ) (x : A) → slice_get xs i ≡ Some x → drop i xs ≡ x ∷ drop (suc i) xs
@@ -93,3 +93,21 @@ lengths_differ [] (y ∷ ys) n = refl
 lengths_differ (x ∷ xs) [] n = refl
 lengths_differ (x ∷ xs) (y ∷ ys) n =
     nothing_more (same x y) ∙ ap (λ (b : Bool). same x y && b) (lengths_differ xs ys (λ e. n (ap suc e)))
+
+-- the same of entries: two equal ones decide nothing, two keys that differ decide, and else two values that do
+next_entries : (es fs : List (Data × Data)) (i : ℕ) (e f : Data × Data) → slice_get es i ≡ Some e → slice_get fs i ≡ Some f →
+    entries_cmp (entries_of (drop i es)) (entries_of (drop i fs))
+    ≡ ordering_then (data_cmp e.0 f.0) (ordering_then (data_cmp e.1 f.1) (entries_cmp (entries_of (drop (i + 1) es)) (entries_of (drop (i + 1) fs))))
+next_entries es fs i e f h k = rw (drop_from es i e h, drop_from fs i f k) refl
+
+pub entries_alike : (es fs : List (Data × Data)) (i : ℕ) (e f : Data × Data) → slice_get es i ≡ Some e → slice_get fs i ≡ Some f → data_cmp e.0 f.0 ≡ Equal → data_cmp e.1 f.1 ≡ Equal →
+    entries_cmp (entries_of (drop i es)) (entries_of (drop i fs)) ≡ entries_cmp (entries_of (drop (i + 1) es)) (entries_of (drop (i + 1) fs))
+entries_alike es fs i e f h k a b = next_entries es fs i e f h k ∙ left_out _ _ a ∙ left_out _ _ b
+
+pub keys_apart : (es fs : List (Data × Data)) (i : ℕ) (e f : Data × Data) → slice_get es i ≡ Some e → slice_get fs i ≡ Some f → (data_cmp e.0 f.0 ≡ Equal → ⊥) →
+    entries_cmp (entries_of (drop i es)) (entries_of (drop i fs)) ≡ data_cmp e.0 f.0
+keys_apart es fs i e f h k n = next_entries es fs i e f h k ∙ decided _ _ n
+
+pub values_apart : (es fs : List (Data × Data)) (i : ℕ) (e f : Data × Data) → slice_get es i ≡ Some e → slice_get fs i ≡ Some f → data_cmp e.0 f.0 ≡ Equal → (data_cmp e.1 f.1 ≡ Equal → ⊥) →
+    entries_cmp (entries_of (drop i es)) (entries_of (drop i fs)) ≡ data_cmp e.1 f.1
+values_apart es fs i e f h k a n = next_entries es fs i e f h k ∙ left_out _ _ a ∙ decided _ _ n

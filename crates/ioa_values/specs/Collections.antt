@@ -46,6 +46,11 @@ abbrev pub keys_of : List (Data × Data) → List Data
 keys_of [] = []
 keys_of (p ∷ more) = p.0 ∷ keys_of more
 
+-- the values of a map
+abbrev pub values_of : List (Data × Data) → List Data
+values_of [] = []
+values_of (p ∷ more) = p.1 ∷ values_of more
+
 -- the value at a key, if the map has the key
 abbrev pub value_at : Data → List (Data × Data) → Option Data
 value_at k [] = None

@@ -4,6 +4,10 @@ pub mod Collections
 pub mod Data
 pub mod DataCode
 pub mod DataOrder
+pub mod EntryTreeWeights
+pub mod EntryTrees
+pub mod FiniteSetWeights
+pub mod FiniteSets
 pub mod ItemKinds
 pub mod ItemLists
 pub mod Merging

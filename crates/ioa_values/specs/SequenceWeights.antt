@@ -7,7 +7,7 @@ use Rattle.ioa_values.specs.Data.{Data}
 use Rattle.ioa_values.specs.ItemLists.{items_in}
 use Rattle.ioa_values.specs.Weight.{sequence_weight}
 use Rattle.ioa_values.specs.WeightSums.{weights-append}
-use Rattle.ioa_values.specs.declared.sequence.Sequence.TheDeep.{deep-Sequence}
+use Rattle.ioa_values.specs.declared.entry_tree.EntryTree.TheDeep.{deep-Sequence}
 
 pub deep-le-sequence : (front back : Option (Arc (List Data) Global)) →
     deep-Sequence (record { front = front; back = back }) ≤ sequence_weight (items_in front ++ items_in back)

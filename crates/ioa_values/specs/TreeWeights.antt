@@ -6,7 +6,7 @@ use Rattle.ioa_values.specs.Weight.{weights}
 use Rattle.ioa_values.specs.WeightSums.{weights-append, some-weigh}
 use Rattle.ioa_values.specs.declared.tree.TreeForm.{TreeForm}
 use Rattle.ioa_values.specs.declared.tree.TreeForm.TheVariants.{Item, Pair}
-use Rattle.ioa_values.specs.declared.sequence.Sequence.TheDeep.{deep-TreeForm}
+use Rattle.ioa_values.specs.declared.entry_tree.EntryTree.TheDeep.{deep-TreeForm}
 
 pub deep-le-weights : (t : TreeForm) → IsTree t → max (deep-TreeForm t) 0 ≤ weights (tree_items t)
 deep-le-weights (Item d) h = omega arith

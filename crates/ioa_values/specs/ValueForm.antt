@@ -12,8 +12,8 @@ data_of (Truth b) = truth b
 data_of (Constant k) = constant k
 data_of (Tuple v) = tuple (items_of v.value.items)
 data_of (Sequence ds) = sequence (items_of ds)
-data_of (Set v) = finite_set (items_of v.value.items)
-data_of (Map v) = finite_map (entries_of v.value.items)
+data_of (Set ds) = finite_set (items_of ds)
+data_of (Map es) = finite_map (entries_of es)
 
 -- the values inside are canonical, and the members of a set, or the keys of a map, come in ascending order without
 -- doubles
@@ -23,5 +23,5 @@ IsCanonicalForm (Truth b) = Unit {0}
 IsCanonicalForm (Constant k) = Unit {0}
 IsCanonicalForm (Tuple v) = AllCanonical v.value.items
 IsCanonicalForm (Sequence ds) = AllCanonical ds
-IsCanonicalForm (Set v) = IsAscending v.value.items × AllCanonical v.value.items
-IsCanonicalForm (Map v) = IsAscending (keys_of v.value.items) × AllEntriesCanonical v.value.items
+IsCanonicalForm (Set ds) = IsAscending ds × AllCanonical ds
+IsCanonicalForm (Map es) = IsAscending (keys_of es) × AllEntriesCanonical es

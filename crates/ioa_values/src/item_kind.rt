@@ -1,7 +1,7 @@
-//! What is known of all items of a sequence.
+//! What is known of all items of a sequence, of all members of a set, and of all keys and all values of a map.
 
 ghost use Rattle.std.specs.Prelude.{◌≡◌, true};
-ghost use Rattle.ioa_values.specs.ItemKinds.{common_kind, is_of_kind};
+ghost use Rattle.ioa_values.specs.ItemKinds.{common_kind, is_of_kind, kind_between, kind_with};
 
 use crate::value::{Value, ValueForm};
 
@@ -53,6 +53,23 @@ impl ItemKind {
                 ItemKind::Constants(least.min(first), greatest.max(last))
             }
             _ => ItemKind::Any,
+        }
+    }
+
+    /// What is known of one value between others, of which this is known, if there are any.
+    pub(crate) fn between(self, left: Option<Self>, right: Option<Self>) -> Self
+        ensures { result ≡ kind_between left self right }
+    {
+        self.with(left).with(right)
+    }
+
+    /// What is known of values together with others, if there are any.
+    fn with(self, others: Option<Self>) -> Self
+        ensures { result ≡ kind_with others self }
+    {
+        match others {
+            None => self,
+            Some(kind) => kind.join(self),
         }
     }
 }

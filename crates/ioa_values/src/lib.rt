@@ -9,7 +9,10 @@
 //! **Laws**: `canonical_law`, `maps_law`, `sets_law`.
 #![tactic(auto)]
 
-pub mod collections;
+mod collections;
+mod entry_tree;
+mod finite_map;
+mod finite_set;
 mod item_kind;
 mod laws;
 mod names;
@@ -18,6 +21,9 @@ mod tree;
 mod value;
 mod word;
 
+pub use collections::unshare;
+pub use finite_map::FiniteMap;
+pub use finite_set::FiniteSet;
 pub use item_kind::ItemKind;
 pub use laws::{maps_law, sets_law};
 pub use names::{Names, push_separator, push_shown, show};

@@ -7,6 +7,8 @@ ghost use Rattle.ioa_values.specs.Canonical.{IsCanonical};
 ghost use Rattle.ioa_values.specs.Outcome.{Writes};
 ghost use Rattle.ioa_values.specs.Text.{text, texts, entry_texts, with_commas, separator};
 
+use crate::finite_map::FiniteMap;
+use crate::finite_set::FiniteSet;
 use crate::sequence::Sequence;
 use crate::value::{Value, ValueForm};
 use crate::word::Word;
@@ -86,7 +88,7 @@ pub fn push_shown(output: &mut String, names: &Names, value: &Value) -> Result<(
 
 /// Writes the text of a value.
 #[cycle(showing)]
-#[tactic(auto, using(crate::proofs::Falls::most_items, crate::proofs::Falls::most_entries))]
+#[tactic(auto, using(crate::proofs::Falls::most_items))]
 fn push_value(output: &mut String, names: &Names, value: &Value) -> Result<(), AllocError>
     ensures { OnOk result (Writes output.old output.new (text names.now value.now)) }
 {
@@ -94,9 +96,9 @@ fn push_value(output: &mut String, names: &Names, value: &Value) -> Result<(), A
         ValueForm::Number(n) => push_number(output, *n),
         ValueForm::Truth(b) => output.push_str(if *b { "true" } else { "false" }),
         ValueForm::Constant(index) => push_name(output, names, *index),
-        ValueForm::Tuple(parts) => push_enclosed(output, names, "[", parts, "]"),
+        ValueForm::Tuple(parts) => push_tuple(output, names, parts),
         ValueForm::Sequence(items) => push_sequence(output, names, items),
-        ValueForm::Set(members) => push_enclosed(output, names, "{", members, "}"),
+        ValueForm::Set(members) => push_set(output, names, members),
         ValueForm::Map(entries) => push_map(output, names, entries),
     }
 }
@@ -119,21 +121,15 @@ fn push_name(output: &mut String, names: &Names, index: usize) -> Result<(), All
     }
 }
 
-/// Writes values between two brackets.
+/// Writes a tuple.
 #[cycle(showing)]
-fn push_enclosed(
-    output: &mut String,
-    names: &Names,
-    left: &str,
-    values: &Vec<Value>,
-    right: &str,
-) -> Result<(), AllocError>
+fn push_tuple(output: &mut String, names: &Names, parts: &Vec<Value>) -> Result<(), AllocError>
     ensures { OnOk result (Writes output.old output.new
-        (left.now ++ with_commas (texts names.now (items_of values.now.items)) ++ right.now)) }
+        (codes "[" ++ with_commas (texts names.now (items_of parts.now.items)) ++ codes "]")) }
 {
-    output.push_str(left)?;
-    push_values(output, names, values)?;
-    output.push_str(right)
+    output.push_str("[")?;
+    push_values(output, names, parts)?;
+    output.push_str("]")
 }
 
 /// Writes values with commas between them.
@@ -173,15 +169,35 @@ fn push_items(output: &mut String, names: &Names, items: &Sequence) -> Result<()
     Ok(())
 }
 
+/// Writes a set.
+#[cycle(showing)]
+fn push_set(output: &mut String, names: &Names, members: &FiniteSet) -> Result<(), AllocError>
+    ensures { OnOk result (Writes output.old output.new
+        (codes "{" ++ with_commas (texts names.now (items_of members.now)) ++ codes "}")) }
+{
+    output.push_str("{")?;
+    push_members(output, names, members)?;
+    output.push_str("}")
+}
+
+/// Writes members with commas between them.
+#[cycle(showing)]
+fn push_members(output: &mut String, names: &Names, members: &FiniteSet) -> Result<(), AllocError>
+    ensures { OnOk result (Writes output.old output.new
+        (with_commas (texts names.now (items_of members.now)))) }
+{
+    for position in 0..members.len() {
+        push_separator(output, position)?;
+        push_value(output, names, members.at(position))?;
+    }
+    Ok(())
+}
+
 /// Writes a map.
 #[cycle(showing)]
-fn push_map(
-    output: &mut String,
-    names: &Names,
-    entries: &Vec<(Value, Value)>,
-) -> Result<(), AllocError>
+fn push_map(output: &mut String, names: &Names, entries: &FiniteMap) -> Result<(), AllocError>
     ensures { OnOk result (Writes output.old output.new
-        (codes "{" ++ with_commas (entry_texts names.now (entries_of entries.now.items)) ++ codes "}")) }
+        (codes "{" ++ with_commas (entry_texts names.now (entries_of entries.now)) ++ codes "}")) }
 {
     output.push_str("{")?;
     push_entries(output, names, entries)?;
@@ -190,19 +206,16 @@ fn push_map(
 
 /// Writes entries with commas between them.
 #[cycle(showing)]
-fn push_entries(
-    output: &mut String,
-    names: &Names,
-    entries: &Vec<(Value, Value)>,
-) -> Result<(), AllocError>
+fn push_entries(output: &mut String, names: &Names, entries: &FiniteMap) -> Result<(), AllocError>
     ensures { OnOk result (Writes output.old output.new
-        (with_commas (entry_texts names.now (entries_of entries.now.items)))) }
+        (with_commas (entry_texts names.now (entries_of entries.now)))) }
 {
-    for (position, entry) in entries.iter().enumerate() {
+    for position in 0..entries.len() {
+        let (key, value) = entries.at(position);
         push_separator(output, position)?;
-        push_value(output, names, &entry.0)?;
+        push_value(output, names, key)?;
         output.push_str(" -> ")?;
-        push_value(output, names, &entry.1)?;
+        push_value(output, names, value)?;
     }
     Ok(())
 }

@@ -321,7 +321,7 @@ impl Sequence {
 }
 
 /// Passes if a sequence of `len` items has room for `more`: none has more than 2^63 - 1, as no slice has.
-fn have_room(len: usize, more: usize) -> Result<(), AllocError>
+pub(crate) fn have_room(len: usize, more: usize) -> Result<(), AllocError>
     ensures { OnOk result (len + more < 2 ^ 63) }
 {
     match len.checked_add(more) {

@@ -1,14 +1,14 @@
 //! Values, as terms have them and configurations keep them.
 
 ghost use Rattle.std.specs.Prelude.{◌≡◌, ◌↔◌, IfOk, IsTrue, true};
-ghost use Rattle.std.specs.Ordering.{ordering_then};
 ghost use Rattle.ioa_values.specs.Data.{number, truth, constant, tuple, sequence, finite_set, finite_map};
 ghost use Rattle.ioa_values.specs.Data.{items_of, entries_of, as_number, as_truth, is_within};
-ghost use Rattle.ioa_values.specs.Collections.{IsAscending, keys_of};
 ghost use Rattle.ioa_values.specs.Canonical.{IsCanonical, AllCanonical, AllEntriesCanonical};
-ghost use Rattle.ioa_values.specs.DataOrder.{same, data_cmp, items_cmp, entries_cmp, kind};
+ghost use Rattle.ioa_values.specs.DataOrder.{same, data_cmp, items_cmp, kind};
 ghost use Rattle.ioa_values.specs.ValueForm.{data_of, IsCanonicalForm};
 
+use crate::finite_map::FiniteMap;
+use crate::finite_set::FiniteSet;
 use crate::sequence::Sequence;
 use std::alloc::{AllocError, Global};
 use std::cmp::Ordering;
@@ -35,8 +35,7 @@ impl Drop for Value {
     }
 }
 
-/// What a value is. A set is kept as its members in ascending order, and a map as its entries in
-/// ascending order of keys, both without doubles.
+/// What a value is.
 #[cycle(value)]
 #[derive(Debug, Drop)]
 pub enum ValueForm {
@@ -51,9 +50,9 @@ pub enum ValueForm {
     /// A sequence of its items.
     Sequence(Sequence),
     /// A finite set of its members.
-    Set(Arc<Vec<Value>>),
+    Set(FiniteSet),
     /// A finite map, as pairs of a key and its value.
-    Map(Arc<Vec<(Value, Value)>>),
+    Map(FiniteMap),
 }
 
 impl Model for Value {
@@ -125,24 +124,24 @@ impl Value {
         }
     }
 
-    /// A set of its members, which ascend without doubles.
-    pub fn set(alloc: Global, members: Vec<Value>) -> Result<Self, AllocError>
-        requires { IsAscending members.items }
-        ensures { IfOk result (λ v. v ≡ finite_set (items_of members.items)) }
+    /// A set of its members; takes no memory.
+    pub fn set(members: FiniteSet) -> Self
+        ensures { result ≡ finite_set (items_of members) }
     {
-        canonical_values(&members);
-        let form = ValueForm::Set(Arc::new(alloc, members)?);
-        Ok(Value { form })
+        members.members_law();
+        Value {
+            form: ValueForm::Set(members),
+        }
     }
 
-    /// A map of its entries, whose keys ascend without doubles.
-    pub fn map(alloc: Global, entries: Vec<(Value, Value)>) -> Result<Self, AllocError>
-        requires { IsAscending (keys_of entries.items) }
-        ensures { IfOk result (λ v. v ≡ finite_map (entries_of entries.items)) }
+    /// A map of its entries; takes no memory.
+    pub fn map(entries: FiniteMap) -> Self
+        ensures { result ≡ finite_map (entries_of entries) }
     {
-        canonical_entries(&entries);
-        let form = ValueForm::Map(Arc::new(alloc, entries)?);
-        Ok(Value { form })
+        entries.entries_law();
+        Value {
+            form: ValueForm::Map(entries),
+        }
     }
 
     /// What the value is, for whoever takes its parts.
@@ -234,8 +233,8 @@ impl Value {
             ValueForm::Constant(index) => ValueForm::Constant(*index),
             ValueForm::Tuple(parts) => ValueForm::Tuple(Arc::try_clone(parts)?),
             ValueForm::Sequence(items) => ValueForm::Sequence(items.try_clone()?),
-            ValueForm::Set(members) => ValueForm::Set(Arc::try_clone(members)?),
-            ValueForm::Map(entries) => ValueForm::Map(Arc::try_clone(entries)?),
+            ValueForm::Set(members) => ValueForm::Set(members.try_clone()?),
+            ValueForm::Map(entries) => ValueForm::Map(entries.try_clone()?),
         };
         Ok(Value { form })
     }
@@ -259,7 +258,7 @@ impl Value {
     /// item by item with a list that another one begins with first, sets and maps as their ascending lists;
     /// values of two kinds by their kinds, in the order of `ValueForm`.
     #[cycle(comparing)]
-    #[tactic(auto, using(crate::proofs::Falls::most_items, crate::proofs::Falls::most_entries))]
+    #[tactic(auto, using(crate::proofs::Falls::most_items))]
     pub(crate) fn compare(&self, other: &Self) -> Ordering
         ensures { result ≡ data_cmp self.now other.now }
     {
@@ -269,8 +268,8 @@ impl Value {
             (ValueForm::Constant(k), ValueForm::Constant(l)) => k.cmp(l),
             (ValueForm::Tuple(xs), ValueForm::Tuple(ys)) => compare_values(xs, ys),
             (ValueForm::Sequence(xs), ValueForm::Sequence(ys)) => xs.compare(ys),
-            (ValueForm::Set(xs), ValueForm::Set(ys)) => compare_values(xs, ys),
-            (ValueForm::Map(xs), ValueForm::Map(ys)) => compare_entries(xs, ys),
+            (ValueForm::Set(xs), ValueForm::Set(ys)) => xs.compare(ys),
+            (ValueForm::Map(xs), ValueForm::Map(ys)) => xs.compare(ys),
             _ => self.kind().cmp(&other.kind()),
         }
     }
@@ -320,7 +319,7 @@ pub fn copies(alloc: Global, values: &[Value]) -> Result<Vec<Value>, AllocError>
 }
 
 /// What every value of a list keeps; changes nothing.
-fn canonical_values(values: &Vec<Value>)
+pub(crate) fn canonical_values(values: &Vec<Value>)
     ensures { AllCanonical values.now.items }
 {
     for value in values {
@@ -329,7 +328,7 @@ fn canonical_values(values: &Vec<Value>)
 }
 
 /// What every entry of a list keeps; changes nothing.
-fn canonical_entries(entries: &Vec<(Value, Value)>)
+pub(crate) fn canonical_entries(entries: &Vec<(Value, Value)>)
     ensures { AllEntriesCanonical entries.now.items }
 {
     for (key, value) in entries {
@@ -350,31 +349,6 @@ fn compare_values(values: &Vec<Value>, others: &Vec<Value>) -> Ordering
         }
     }
     values.len().cmp(&others.len())
-}
-
-/// The order of lists of entries: the first two keys or values that differ decide, and else the lengths.
-#[cycle(comparing)]
-fn compare_entries(entries: &Vec<(Value, Value)>, others: &Vec<(Value, Value)>) -> Ordering
-    ensures { result ≡ entries_cmp (entries_of entries.now.items) (entries_of others.now.items) }
-{
-    for position in 0..entries.len().min(others.len()) {
-        match compare_entry(&entries[position], &others[position]) {
-            Ordering::Equal => {}
-            decided => return decided,
-        }
-    }
-    entries.len().cmp(&others.len())
-}
-
-/// The order of two entries: by the keys, and then by the values.
-#[cycle(comparing)]
-fn compare_entry(left: &(Value, Value), right: &(Value, Value)) -> Ordering
-    ensures { result ≡ ordering_then (data_cmp left.now.0 right.now.0) (data_cmp left.now.1 right.now.1) }
-{
-    match left.0.compare(&right.0) {
-        Ordering::Equal => left.1.compare(&right.1),
-        decided => decided,
-    }
 }
 
 impl PartialEq for Value {

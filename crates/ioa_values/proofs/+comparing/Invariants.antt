@@ -14,7 +14,12 @@ invariant-sequence::Sequence::compare-loop-position l =
     items_cmp (items_of (drop l.position l.self)) (items_of (drop l.position l.other))
     ≡ items_cmp (items_of l.self) (items_of l.other)
 
-abbrev pub invariant-value::compare_entries-loop-position : goal.invariant-value::compare_entries-loop-position
-invariant-value::compare_entries-loop-position l =
-    entries_cmp (entries_of (drop l.position l.entries.items)) (entries_of (drop l.position l.others.items))
-    ≡ entries_cmp (entries_of l.entries.items) (entries_of l.others.items)
+abbrev pub invariant-finite_set::FiniteSet::compare-loop-position : goal.invariant-finite_set::FiniteSet::compare-loop-position
+invariant-finite_set::FiniteSet::compare-loop-position l =
+    items_cmp (items_of (drop l.position l.self)) (items_of (drop l.position l.other))
+    ≡ items_cmp (items_of l.self) (items_of l.other)
+
+abbrev pub invariant-finite_map::FiniteMap::compare-loop-position : goal.invariant-finite_map::FiniteMap::compare-loop-position
+invariant-finite_map::FiniteMap::compare-loop-position l =
+    entries_cmp (entries_of (drop l.position l.self)) (entries_of (drop l.position l.other))
+    ≡ entries_cmp (entries_of l.self) (entries_of l.other)

@@ -12,6 +12,10 @@ invariant-bounded_values-loop-value l = AllByRecursion IsBounded (take l.value-i
 abbrev pub invariant-bounded_items-loop-position : goal.invariant-bounded_items-loop-position
 invariant-bounded_items-loop-position l = AllByRecursion IsBounded (take l.position l.items)
 
+-- the members gone by
+abbrev pub invariant-bounded_members-loop-position : goal.invariant-bounded_members-loop-position
+invariant-bounded_members-loop-position l = AllByRecursion IsBounded (take l.position l.members)
+
 -- the entries gone by
-abbrev pub invariant-bounded_entries-loop-key : goal.invariant-bounded_entries-loop-key
-invariant-bounded_entries-loop-key l = AllByRecursion IsBoundedEntry (take l.key-index l.entries.items)
+abbrev pub invariant-bounded_entries-loop-position : goal.invariant-bounded_entries-loop-position
+invariant-bounded_entries-loop-position l = AllByRecursion IsBoundedEntry (take l.position l.entries)

@@ -15,7 +15,12 @@ abbrev pub invariant-put_items-loop-position : goal.invariant-put_items-loop-pos
 invariant-put_items-loop-position g l =
     l.paper ≡ and_text l.initial.paper (with_commas (tagged_items l.names (items_of (take l.position l.items))))
 
+-- what is written so far are the members gone by
+abbrev pub invariant-put_members-loop-position : goal.invariant-put_members-loop-position
+invariant-put_members-loop-position g l =
+    l.paper ≡ and_text l.initial.paper (with_commas (tagged_items l.names (items_of (take l.position l.members))))
+
 -- what is written so far are the entries gone by
 abbrev pub invariant-put_entries-loop-position : goal.invariant-put_entries-loop-position
 invariant-put_entries-loop-position g l =
-    l.paper ≡ and_text l.initial.paper (with_commas (tagged_entries l.names (entries_of (take l.position l.entries.items))))
+    l.paper ≡ and_text l.initial.paper (with_commas (tagged_entries l.names (entries_of (take l.position l.entries))))

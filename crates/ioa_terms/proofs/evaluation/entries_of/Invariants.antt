@@ -1,13 +1,11 @@
 use Rattle.std.proofs.Common.{◌≡◌, ◌≤◌, drop, length}
-use Rattle.ioa_values.specs.Collections.{IsAscending, keys_of}
 use Rattle.ioa_terms.specs.Inboxes.{inbox_entries, inboxes_of}
 use Rattle.ioa_terms.proofs.evaluation.entries_of.Given as goal
 
 -- the entries so far are those of the last inboxes
 abbrev pub invariant-loop-left : goal.invariant-loop-left
 invariant-loop-left l = record {
-  entries : l.entries.items ≡ inbox_entries (inboxes_of (drop l.left l.inboxes));
-  ascending : IsAscending (keys_of l.entries.items);
+  entries : l.entries ≡ inbox_entries (inboxes_of (drop l.left l.inboxes));
   within : l.left ≤ length l.inboxes;
 }
 

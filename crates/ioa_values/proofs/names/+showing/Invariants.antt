@@ -13,7 +13,12 @@ abbrev pub invariant-push_items-loop-position : goal.invariant-push_items-loop-p
 invariant-push_items-loop-position l =
     string_bytes l.output ≡ string_bytes l.initial.output ++ with_commas (texts l.names (items_of (take l.position l.items)))
 
+-- what is written so far are the members gone by
+abbrev pub invariant-push_members-loop-position : goal.invariant-push_members-loop-position
+invariant-push_members-loop-position l =
+    string_bytes l.output ≡ string_bytes l.initial.output ++ with_commas (texts l.names (items_of (take l.position l.members)))
+
 -- what is written so far are the entries gone by
 abbrev pub invariant-push_entries-loop-position : goal.invariant-push_entries-loop-position
 invariant-push_entries-loop-position l =
-    string_bytes l.output ≡ string_bytes l.initial.output ++ with_commas (entry_texts l.names (entries_of (take l.position l.entries.items)))
+    string_bytes l.output ≡ string_bytes l.initial.output ++ with_commas (entry_texts l.names (entries_of (take l.position l.entries)))
