@@ -193,7 +193,8 @@ impl Shape {
             (ShapeForm::Naturals, ItemKind::Naturals) => true,
             (ShapeForm::Naturals, ItemKind::Integers) => negative,
             (ShapeForm::Constants(_, from, many), ItemKind::Constants(least, greatest)) => {
-                lies_among(least, *from, *many) && lies_among(greatest, *from, *many)
+                lies_among(usize::from(least), *from, *many)
+                    && lies_among(usize::from(greatest), *from, *many)
             }
             _ => false,
         }

@@ -1,94 +1,77 @@
 -- What a change of entries is for the set, or the map, that they are.
-use Rattle.std.proofs.Common.{◌≡◌, ◌∙◌, ℕ, zero, suc, ◌+◌, ◌^◌, ◌<◌, ◌≤◌, List, [], ◌∷◌, Some, refl, sym, ap, subst, arith, length, set}
+use Rattle.std.proofs.Common.{◌≡◌, ℕ, zero, suc, ◌+◌, ◌^◌, ◌<◌, ◌≤◌, List, [], ◌∷◌, Some, true, refl, ap, arith, length}
 use Rattle.std.specs.Prelude.{slice_get}
-use Rattle.std.specs.List.{AllByRecursion, insert, remove}
+use Rattle.std.specs.List.{AllByRecursion}
 use Rattle.ioa_values.specs.Data.{Data, truth}
-use Rattle.std.specs.Prelude.{true}
-use Rattle.ioa_values.specs.Canonical.{IsCanonical, IsCanonicalEntry, AllCanonical, AllEntriesCanonical}
-use Rattle.ioa_values.specs.Collections.{IsAscending, keys_of, with_member, without_member, with_entry, without_key}
+use Rattle.ioa_values.specs.DataOrder.{data_cmp}
+use Rattle.ioa_values.specs.Canonical.{IsCanonicalEntry, AllCanonical, AllEntriesCanonical}
+use Rattle.ioa_values.specs.Collections.{IsAscending, keys_of, with_entry, without_key}
 use Rattle.ioa_values.specs.EntryTrees.{entries_with}
-use Rattle.ioa_values.specs.FiniteSets.{IsUnit, AreMapEntries, AreSetEntries}
-use Rattle.ioa_values.specs.Positions.{IsPositionOf, Belongs}
-use Rattle.ioa_values.proofs.Ascending.{with_member_ascends, without_member_ascends, with_entry_ascends, without_key_ascends}
-use Rattle.ioa_values.proofs.EntryTrees.{keys_inserted, keys_removed, keys_with}
-use Rattle.ioa_values.proofs.Positions.{with_belonging, without_standing, entry_standing, entry_belonging, key_standing, many_keys}
+use Rattle.ioa_values.specs.FiniteSets.{IsUnit, IsMap, IsSet}
+use Rattle.ioa_values.specs.ItemKinds.{AreOfKind, common_kind, is_of_kind}
+use Rattle.ioa_values.specs.declared.item_kind.ItemKind.{ItemKind}
+use Rattle.ioa_values.proofs.AllKept.{all_with_entry, all_without_key}
+use Rattle.ioa_values.proofs.Ascending.{by_each, keys_with, keys_without, with_entry_ascends, without_key_ascends}
+use Rattle.ioa_values.proofs.EntryTrees.{keys_of_all, many_keys}
+use Rattle.ioa_values.proofs.ItemKinds.{kind_with, kind_without, value_kind_with, value_kind_without}
 
--- what holds of all entries holds of all with one more, with another one, and without one
-pub all_inserted : {A : Type 0} (P : A → Type 0) (xs : List A) (i : ℕ) (x : A) → P x → AllByRecursion P xs → AllByRecursion P (insert xs i x)
-all_inserted P xs zero x p h = (p, h)
-all_inserted P [] (suc i) x p h = (p, h)
-all_inserted P (y ∷ xs) (suc i) x p h = (h.0, all_inserted P xs i x p h.1)
+-- how many there are with one more, and without one
+pub most_with : (k v : Data) (es : List (Data × Data)) → length (with_entry k v es) ≤ length es + 1
+most_with k v [] = omega arith
+most_with k v (e ∷ es) =
+    by_each (λ (l : List (Data × Data)). length l ≤ length {A = Data × Data} (e ∷ es) + 1) (data_cmp k e.0) ((k, v) ∷ e ∷ es) ((k, v) ∷ es) (e ∷ with_entry k v es)
+    (λ o. omega arith) (λ o. omega arith) (λ o. omega (arith, most_with k v es))
 
-pub all_changed : {A : Type 0} (P : A → Type 0) (xs : List A) (i : ℕ) (x : A) → P x → AllByRecursion P xs → AllByRecursion P (set xs i x)
-all_changed P [] i x p h = tt
-all_changed P (y ∷ xs) zero x p h = (p, h.1)
-all_changed P (y ∷ xs) (suc i) x p h = (h.0, all_changed P xs i x p h.1)
-
-pub all_removed : {A : Type 0} (P : A → Type 0) (xs : List A) (i : ℕ) → AllByRecursion P xs → AllByRecursion P (remove xs i)
-all_removed P [] zero h = tt
-all_removed P [] (suc i) h = tt
-all_removed P (y ∷ xs) zero h = h.1
-all_removed P (y ∷ xs) (suc i) h = (h.0, all_removed P xs i h.1)
-
--- how many there are then
-pub more_inserted : {A : Type 0} (xs : List A) (i : ℕ) (x : A) → length (insert xs i x) ≤ length xs + 1
-more_inserted xs zero x = omega arith
-more_inserted [] (suc i) x = omega arith
-more_inserted (y ∷ xs) (suc i) x = omega (arith, more_inserted xs i x)
-
-pub as_many : {A : Type 0} (xs : List A) (i : ℕ) (x : A) → length (set xs i x) ≡ length xs
-as_many [] i x = refl
-as_many (y ∷ xs) zero x = refl
-as_many (y ∷ xs) (suc i) x = ap suc (as_many xs i x)
-
-pub fewer_removed : {A : Type 0} (xs : List A) (i : ℕ) → length (remove xs i) ≤ length xs
-fewer_removed [] zero = omega arith
-fewer_removed [] (suc i) = omega arith
-fewer_removed (y ∷ xs) zero = omega arith
-fewer_removed (y ∷ xs) (suc i) = omega (arith, fewer_removed xs i)
+pub most_without : (k : Data) (es : List (Data × Data)) → length (without_key k es) ≤ length es
+most_without k [] = omega arith
+most_without k (e ∷ es) =
+    by_each (λ (l : List (Data × Data)). length l ≤ length {A = Data × Data} (e ∷ es)) (data_cmp k e.0) (e ∷ es) es (e ∷ without_key k es)
+    (λ o. omega arith) (λ o. omega arith) (λ o. omega (arith, most_without k es))
 
 -- the keys of canonical entries are canonical
 pub canonical_keys : (es : List (Data × Data)) → AllEntriesCanonical es → AllCanonical (keys_of es)
 canonical_keys [] h = tt
 canonical_keys (e ∷ es) h = (h.0.0, canonical_keys es h.1)
 
--- a set with one more member
-pub set_inserted : (d : Data) (es : List (Data × Data)) (i : ℕ) → AreSetEntries es → Belongs d (keys_of es) i → IsCanonical d → length es + 1 < 2 ^ 63 → AreSetEntries (insert es i (d, truth true))
-set_inserted d es i h b k room = record {
+-- a set with one more member, and without one
+pub set_with : (d : Data) (es : List (Data × Data)) (kind more : ItemKind) → IsSet es kind → IsCanonicalEntry (d, truth true) → is_of_kind more d ≡ true → length es + 1 < 2 ^ 63 → IsSet (with_entry d (truth true) es) (common_kind kind more)
+set_with d es kind more h canonical of room = record {
   entries = record {
-    within = omega (arith, more_inserted es i (d, truth true));
-    canonical = all_inserted IsCanonicalEntry es i (d, truth true) (k, tt) h.entries.canonical;
-    ascending = rw (keys_inserted es i (d, truth true), ← with_belonging d (keys_of es) i b) (with_member_ascends d (keys_of es) h.entries.ascending);
+    entries = record {
+      within = omega (arith, most_with d (truth true) es);
+      canonical = all_with_entry IsCanonicalEntry d (truth true) es canonical h.entries.entries.canonical;
+      ascending = with_entry_ascends d (truth true) es h.entries.entries.ascending;
+    };
+    units = all_with_entry IsUnit d (truth true) es refl h.entries.units;
   };
-  units = all_inserted IsUnit es i (d, truth true) refl h.units;
+  keys = rw (keys_with d (truth true) es) (kind_with kind more d (keys_of es) h.keys of);
 }
 
-pub set_inserted_is : (d : Data) (es : List (Data × Data)) (i : ℕ) → Belongs d (keys_of es) i → keys_of (insert es i (d, truth true)) ≡ with_member d (keys_of es)
-set_inserted_is d es i b = keys_inserted es i (d, truth true) ∙ sym (with_belonging d (keys_of es) i b)
-
--- a set without a member
-pub set_removed : (d : Data) (es : List (Data × Data)) (i : ℕ) → AreSetEntries es → IsPositionOf d (keys_of es) i → AreSetEntries (remove es i)
-set_removed d es i h p = record {
+pub set_without : (d : Data) (es : List (Data × Data)) (kind : ItemKind) → IsSet es kind → IsSet (without_key d es) kind
+set_without d es kind h = record {
   entries = record {
-    within = let kept = h.entries.within in omega (arith, fewer_removed es i);
-    canonical = all_removed IsCanonicalEntry es i h.entries.canonical;
-    ascending = rw (keys_removed es i, ← without_standing d (keys_of es) i p) (without_member_ascends d (keys_of es) h.entries.ascending);
+    entries = record {
+      within = let kept = h.entries.entries.within in omega (arith, most_without d es);
+      canonical = all_without_key IsCanonicalEntry d es h.entries.entries.canonical;
+      ascending = without_key_ascends d es h.entries.entries.ascending;
+    };
+    units = all_without_key IsUnit d es h.entries.units;
   };
-  units = all_removed IsUnit es i h.units;
+  keys = rw (keys_without d es) (kind_without kind d (keys_of es) h.keys);
 }
-
-pub set_removed_is : (d : Data) (es : List (Data × Data)) (i : ℕ) → IsPositionOf d (keys_of es) i → keys_of (remove es i) ≡ without_member d (keys_of es)
-set_removed_is d es i p = keys_removed es i ∙ sym (without_standing d (keys_of es) i p)
 
 -- a set of keys that ascend
-pub set_made : (ds : List Data) → IsAscending ds → AllCanonical ds → length ds < 2 ^ 63 → AreSetEntries (entries_with (truth true) ds)
-set_made ds a k room = record {
+pub set_made : (ds : List Data) (kind : ItemKind) → IsAscending ds → AllCanonical ds → length ds < 2 ^ 63 → AreOfKind kind ds → IsSet (entries_with (truth true) ds) kind
+set_made ds kind a k room of = record {
   entries = record {
-    within = omega (arith, as_many_entries ds);
-    canonical = made_canonical ds k;
-    ascending = rw (keys_with (truth true) ds) a;
+    entries = record {
+      within = omega (arith, as_many_entries ds);
+      canonical = made_canonical ds k;
+      ascending = rw (keys_of_all (truth true) ds) a;
+    };
+    units = made_units ds;
   };
-  units = made_units ds;
+  keys = rw (keys_of_all (truth true) ds) of;
 }
   where
     as_many_entries : (ds : List Data) → length (entries_with (truth true) ds) ≡ length ds
@@ -103,26 +86,28 @@ set_made ds a k room = record {
     made_units [] = tt
     made_units (d ∷ ds) = (refl, made_units ds)
 
--- a map with one more entry, with another value at a key, and without a key
-pub map_inserted : (k v : Data) (es : List (Data × Data)) (i : ℕ) → AreMapEntries es → Belongs k (keys_of es) i → IsCanonical k → IsCanonical v → length es + 1 < 2 ^ 63 → AreMapEntries (insert es i (k, v))
-map_inserted k v es i h b c d room = record {
-  within = omega (arith, more_inserted es i (k, v));
-  canonical = all_inserted IsCanonicalEntry es i (k, v) (c, d) h.canonical;
-  ascending = rw (← entry_belonging k v es i b) (with_entry_ascends k v es h.ascending);
+-- a map in which a key has a value, and without a key
+pub map_with : (k v : Data) (es : List (Data × Data)) (key_kind key_more value_kind value_more : ItemKind) → IsMap es key_kind value_kind → IsCanonicalEntry (k, v) → is_of_kind key_more k ≡ true → is_of_kind value_more v ≡ true → length es + 1 < 2 ^ 63 →
+    IsMap (with_entry k v es) (common_kind key_kind key_more) (common_kind value_kind value_more)
+map_with k v es kk km vk vm h canonical of_key of_value room = record {
+  entries = record {
+    within = omega (arith, most_with k v es);
+    canonical = all_with_entry IsCanonicalEntry k v es canonical h.entries.canonical;
+    ascending = with_entry_ascends k v es h.entries.ascending;
+  };
+  keys = rw (keys_with k v es) (kind_with kk km k (keys_of es) h.keys of_key);
+  values = value_kind_with vk vm k v es h.values of_value;
 }
 
-pub map_changed : (k v : Data) (es : List (Data × Data)) (i : ℕ) → AreMapEntries es → IsPositionOf k (keys_of es) i → IsCanonical k → IsCanonical v → AreMapEntries (set es i (k, v))
-map_changed k v es i h p c d = record {
-  within = let kept = h.within in omega (arith, as_many es i (k, v));
-  canonical = all_changed IsCanonicalEntry es i (k, v) (c, d) h.canonical;
-  ascending = rw (← entry_standing k v es i p) (with_entry_ascends k v es h.ascending);
-}
-
-pub map_removed : (k : Data) (es : List (Data × Data)) (i : ℕ) → AreMapEntries es → IsPositionOf k (keys_of es) i → AreMapEntries (remove es i)
-map_removed k es i h p = record {
-  within = let kept = h.within in omega (arith, fewer_removed es i);
-  canonical = all_removed IsCanonicalEntry es i h.canonical;
-  ascending = rw (← key_standing k es i p) (without_key_ascends k es h.ascending);
+pub map_without : (k : Data) (es : List (Data × Data)) (key_kind value_kind : ItemKind) → IsMap es key_kind value_kind → IsMap (without_key k es) key_kind value_kind
+map_without k es kk vk h = record {
+  entries = record {
+    within = let kept = h.entries.within in omega (arith, most_without k es);
+    canonical = all_without_key IsCanonicalEntry k es h.entries.canonical;
+    ascending = without_key_ascends k es h.entries.ascending;
+  };
+  keys = rw (keys_without k es) (kind_without kk k (keys_of es) h.keys);
+  values = value_kind_without vk k es h.values;
 }
 
 -- a member is the key of the entry at its position

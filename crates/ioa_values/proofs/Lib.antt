@@ -14,6 +14,5 @@ pub mod ItemKinds
 pub mod ItemLists
 pub mod Members
 pub mod Merging
-pub mod Positions
 pub mod Rules
 pub mod Steps

@@ -201,3 +201,29 @@ same_values (e ∷ es) (f ∷ fs) a b h = at (data_cmp e.0 f.0) refl (same_value
         (λ t. rw (tied_equal k e.0 t ∙ p) (none_at f.0 fs b.0))
         (h k ∙ ap (λ (d : Data). by_order (data_cmp k d) None (Some f.1) (value_at k fs)) (sym p))) in
         λ i. (p i, q i) ∷ rest i
+
+-- a set does not change by a member that it has, nor without a value that it has not
+pub with_a_member : (d : Data) (xs : List Data) → IsAscending xs → is_member d xs ≡ true → with_member d xs ≡ xs
+with_a_member d [] a h = absurd (cc)
+with_a_member d (x ∷ xs) a h =
+    by_each (λ (l : List Data). l ≡ x ∷ xs) (data_cmp d x) (d ∷ x ∷ xs) (x ∷ xs) (x ∷ with_member d xs)
+    (λ e. absurd (true≢false (sym h ∙ none_same d (x ∷ xs) (e, all_later d x xs e a.0))))
+    (λ e. refl)
+    (λ e. ap (λ (l : List Data). x ∷ l) (with_a_member d xs a.1 (rw e at h)))
+
+pub without_no_member : (d : Data) (xs : List Data) → is_member d xs ≡ false → without_member d xs ≡ xs
+without_no_member d [] h = refl
+without_no_member d (x ∷ xs) h =
+    by_each (λ (l : List Data). l ≡ x ∷ xs) (data_cmp d x) (x ∷ xs) xs (x ∷ without_member d xs)
+    (λ e. refl)
+    (λ e. absurd (true≢false (rw e at h)))
+    (λ e. ap (λ (l : List Data). x ∷ l) (without_no_member d xs (rw e at h)))
+
+-- a map does not change without a key that it has not
+pub without_no_key : (k : Data) (es : List (Data × Data)) → value_at k es ≡ None → without_key k es ≡ es
+without_no_key k [] h = refl
+without_no_key k (e ∷ es) h =
+    by_each (λ (l : List (Data × Data)). l ≡ e ∷ es) (data_cmp k e.0) (e ∷ es) es (e ∷ without_key k es)
+    (λ o. refl)
+    (λ o. absurd (let told : Some e.1 ≡ None = rw o at h in cc))
+    (λ o. ap (λ (l : List (Data × Data)). e ∷ l) (without_no_key k es (rw o at h)))

@@ -7,13 +7,12 @@ use Rattle.ioa_values.specs.Data.{Data}
 use Rattle.ioa_values.specs.EntryTrees.{EntriesAndHeight, around}
 use Rattle.ioa_values.specs.Weight.{pairs_weight}
 use Rattle.ioa_values.specs.WeightSums.{pairs-weight-append}
-use Rattle.ioa_values.specs.declared.item_kind.ItemKind.{ItemKind}
 use Rattle.ioa_values.specs.declared.entry_tree.EntryTree.TheDeep.{deep-EntryTree}
 
-pub deep-le-tree : (left : Option (Arc EntriesAndHeight Global)) (key value : Data) (right : Option (Arc EntriesAndHeight Global)) (len height : ℕ) (key_kind value_kind : ItemKind) →
-    deep-EntryTree (record { left = left; key = key; value = value; right = right; len = len; height = height; key_kind = key_kind; value_kind = value_kind })
-    ≤ pairs_weight (around left key value right)
-deep-le-tree None k v None len height kk vk = omega arith
-deep-le-tree (Some l) k v None len height kk vk = omega (arith, pairs-weight-append l.value.0 ((k, v) ∷ []))
-deep-le-tree None k v (Some r) len height kk vk = omega arith
-deep-le-tree (Some l) k v (Some r) len height kk vk = omega (arith, pairs-weight-append l.value.0 ((k, v) ∷ r.value.0))
+pub deep-le-tree : (left : Option (Arc EntriesAndHeight Global)) (entry : Arc (Data × Data) Global) (right : Option (Arc EntriesAndHeight Global)) (len height : ℕ) →
+    deep-EntryTree (record { left = left; entry = entry; right = right; len = len; height = height })
+    ≤ pairs_weight (around left entry.value right)
+deep-le-tree None e None len height = omega arith
+deep-le-tree (Some l) e None len height = omega (arith, pairs-weight-append l.value.0 (e.value ∷ []))
+deep-le-tree None e (Some r) len height = omega arith
+deep-le-tree (Some l) e (Some r) len height = omega (arith, pairs-weight-append l.value.0 (e.value ∷ r.value.0))

@@ -1,12 +1,8 @@
 -- Trees of entries: what they mean (view), and what each of them keeps (form).
-use Rattle.std.specs.Prelude.{◌≡◌, ℕ, ◌+◌, ◌-◌, ◌≤◌, max, List, [], ◌∷◌, ◌++◌, length, Option, Some, None, Result, Ok, Err}
+use Rattle.std.specs.Prelude.{◌≡◌, ℕ, ◌+◌, ◌-◌, ◌≤◌, max, List, [], ◌∷◌, ◌++◌, length, Option, Some, None}
 use Rattle.std.specs.declared.alloc.Global.{Global}
 use Rattle.std.specs.declared.sync.Arc.{Arc}
 use Rattle.ioa_values.specs.Data.{Data}
-use Rattle.ioa_values.specs.Canonical.{AllEntriesCanonical}
-use Rattle.ioa_values.specs.Collections.{keys_of, values_of}
-use Rattle.ioa_values.specs.ItemKinds.{AreOfKind}
-use Rattle.ioa_values.specs.declared.item_kind.ItemKind.{ItemKind}
 
 -- the entries of a tree in order, and how many levels it has
 abbrev pub EntriesAndHeight : Type 0
@@ -22,8 +18,8 @@ height_in None = 0
 height_in (Some tree) = tree.value.1
 
 -- an entry between the entries of two trees
-abbrev pub around : Option (Arc EntriesAndHeight Global) → Data → Data → Option (Arc EntriesAndHeight Global) → List (Data × Data)
-around left k v right = entries_in left ++ (k, v) ∷ entries_in right
+abbrev pub around : Option (Arc EntriesAndHeight Global) → Data × Data → Option (Arc EntriesAndHeight Global) → List (Data × Data)
+around left e right = entries_in left ++ e ∷ entries_in right
 
 -- neither is more than so much above the other
 abbrev pub DifferBy : ℕ → ℕ → ℕ → Type 0
@@ -45,22 +41,7 @@ pub record IsBalanced (left right : Option (Arc EntriesAndHeight Global)) (len h
   pub even : DifferBy 1 (height_in left) (height_in right)
   pub low : height ≤ len
 
--- all keys are of a kind, all values are of a kind, and each of both is canonical
-pub record AreKept (es : List (Data × Data)) (key_kind value_kind : ItemKind) : Type 0 where
-  pub keys : AreOfKind key_kind (keys_of es)
-  pub values : AreOfKind value_kind (values_of es)
-  pub canonical : AllEntriesCanonical es
-
 -- keys with the same value each
 abbrev pub entries_with : Data → List Data → List (Data × Data)
 entries_with v [] = []
 entries_with v (k ∷ ks) = (k, v) ∷ entries_with v ks
-
--- a position that was found, or where a key belongs; and the same behind so many others
-abbrev pub position_in : Result ℕ ℕ → ℕ
-position_in (Ok i) = i
-position_in (Err i) = i
-
-abbrev pub moved_by : ℕ → Result ℕ ℕ → Result ℕ ℕ
-moved_by n (Ok i) = Ok (n + i)
-moved_by n (Err i) = Err (n + i)

@@ -7,7 +7,8 @@ use Rattle.std.proofs.Common.{arith, ap}
 use Rattle.ioa_values.specs.Data.{Data}
 use Rattle.ioa_values.specs.Collections.{keys_of}
 use Rattle.ioa_values.specs.EntryTrees.{EntriesAndHeight, entries_in}
-use Rattle.ioa_values.specs.FiniteSets.{IsUnit, AreSetEntries}
+use Rattle.ioa_values.specs.FiniteSets.{IsUnit, IsSet}
+use Rattle.ioa_values.specs.declared.item_kind.ItemKind.{ItemKind}
 use Rattle.ioa_values.specs.Weight.{weight, weights, pairs_weight, sequence_weight, map_weight}
 use Rattle.ioa_values.specs.declared.entry_tree.EntryTree.TheDeep.{deep-FiniteSet, deep-FiniteMap}
 
@@ -16,11 +17,12 @@ pub units-weigh : (es : List (Data × Data)) → AllByRecursion IsUnit es → pa
 units-weigh [] h = omega arith
 units-weigh (e ∷ es) h = let light = ap weight h.0 in omega (arith, units-weigh es h.1)
 
-pub deep-le-set : (root : Option (Arc EntriesAndHeight Global)) → AreSetEntries (entries_in root) →
-    deep-FiniteSet (record { root = root }) ≤ sequence_weight (keys_of (entries_in root))
-deep-le-set None h = omega arith
-deep-le-set (Some tree) h = omega (arith, units-weigh tree.value.0 h.units)
+pub deep-le-set : (root : Option (Arc EntriesAndHeight Global)) (kind : ItemKind) → IsSet (entries_in root) kind →
+    deep-FiniteSet (record { root = root; kind = kind }) ≤ sequence_weight (keys_of (entries_in root))
+deep-le-set None kind h = omega arith
+deep-le-set (Some tree) kind h = omega (arith, units-weigh tree.value.0 h.entries.units)
 
-pub deep-le-map : (root : Option (Arc EntriesAndHeight Global)) → deep-FiniteMap (record { root = root }) ≤ map_weight (entries_in root)
-deep-le-map None = omega arith
-deep-le-map (Some tree) = omega arith
+pub deep-le-map : (root : Option (Arc EntriesAndHeight Global)) (key_kind value_kind : ItemKind) →
+    deep-FiniteMap (record { root = root; key_kind = key_kind; value_kind = value_kind }) ≤ map_weight (entries_in root)
+deep-le-map None kk vk = omega arith
+deep-le-map (Some tree) kk vk = omega arith

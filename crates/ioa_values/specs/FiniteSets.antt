@@ -3,7 +3,9 @@ use Rattle.std.specs.Prelude.{◌≡◌, ◌^◌, ◌<◌, List, true, length}
 use Rattle.std.specs.List.{AllByRecursion}
 use Rattle.ioa_values.specs.Data.{Data, truth}
 use Rattle.ioa_values.specs.Canonical.{AllEntriesCanonical}
-use Rattle.ioa_values.specs.Collections.{IsAscending, keys_of}
+use Rattle.ioa_values.specs.Collections.{IsAscending, keys_of, values_of}
+use Rattle.ioa_values.specs.ItemKinds.{AreOfKind}
+use Rattle.ioa_values.specs.declared.item_kind.ItemKind.{ItemKind}
 
 -- an entry of which only the key counts
 abbrev pub IsUnit : Data × Data → Type 0
@@ -19,3 +21,14 @@ pub record AreMapEntries (es : List (Data × Data)) : Type 0 where
 pub record AreSetEntries (es : List (Data × Data)) : Type 0 where
   pub entries : AreMapEntries es
   pub units : AllByRecursion IsUnit es
+
+-- the entries of a map, with what is known of all keys and of all values
+pub record IsMap (es : List (Data × Data)) (key_kind value_kind : ItemKind) : Type 0 where
+  pub entries : AreMapEntries es
+  pub keys : AreOfKind key_kind (keys_of es)
+  pub values : AreOfKind value_kind (values_of es)
+
+-- the entries of a set, with what is known of all members
+pub record IsSet (es : List (Data × Data)) (kind : ItemKind) : Type 0 where
+  pub entries : AreSetEntries es
+  pub keys : AreOfKind kind (keys_of es)

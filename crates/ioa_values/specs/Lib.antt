@@ -12,7 +12,6 @@ pub mod ItemKinds
 pub mod ItemLists
 pub mod Merging
 pub mod Outcome
-pub mod Positions
 pub mod SequenceWeights
 pub mod Text
 pub mod TreeWeights

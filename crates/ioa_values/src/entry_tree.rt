@@ -1,16 +1,13 @@
 //! Trees of entries, of which finite sets and finite maps are made. Trees are shared and never changed: an operation
 //! makes the few nodes that are new and takes all else from the tree that it is given.
 
-ghost use Rattle.std.specs.Prelude.{◌≡◌, ◌+◌, ◌^◌, ◌<◌, ◌≤◌, ◌∷◌, [], max, IfOk, Some, length, slice_get, slice_set};
-ghost use Rattle.std.specs.List.{insert, remove};
-ghost use Rattle.ioa_values.specs.Canonical.{AllEntriesCanonical};
-ghost use Rattle.ioa_values.specs.Collections.{IsAscending, keys_of, values_of};
+ghost use Rattle.std.specs.Prelude.{◌≡◌, ◌+◌, ◌++◌, ◌^◌, ◌<◌, ◌≤◌, ◌∷◌, [], max, IfOk, Some, drop, length, slice_get};
+ghost use Rattle.std.specs.Option.{option_copied};
+ghost use Rattle.ioa_values.specs.Canonical.{AllEntriesCanonical, IsCanonicalEntry};
+ghost use Rattle.ioa_values.specs.Collections.{IsAscending, keys_of, value_at, with_entry, without_key};
 ghost use Rattle.ioa_values.specs.EntryTrees.{entries_in, height_in, around, DifferBy, IsHeightOver, IsGrown};
-ghost use Rattle.ioa_values.specs.EntryTrees.{entries_with, moved_by, position_in};
-ghost use Rattle.ioa_values.specs.ItemKinds.{AreOfKind, AreAllOfKind};
-ghost use Rattle.ioa_values.specs.Positions.{Finds};
+ghost use Rattle.ioa_values.specs.EntryTrees.{entries_with};
 
-use crate::item_kind::ItemKind;
 use crate::value::Value;
 use std::alloc::{AllocError, Global};
 use std::cmp::Ordering;
@@ -25,35 +22,30 @@ use std::sync::Arc;
 pub(crate) struct EntryTree {
     /// What comes in front of the node's entry.
     left: Option<Arc<EntryTree>>,
-    /// The entry's key.
-    key: Value,
-    /// The entry's value.
-    value: Value,
+    /// The entry: a key and its value.
+    entry: Arc<(Value, Value)>,
     /// What comes behind the entry.
     right: Option<Arc<EntryTree>>,
     /// How many entries there are.
     len: usize,
     /// How many levels there are.
     height: usize,
-    /// What is known of all keys.
-    key_kind: ItemKind,
-    /// What is known of all values.
-    value_kind: ItemKind,
 }
 
 impl Model for EntryTree {
     ghost use base.Stored.{coded_ℕ, coded_list, coded×};
+    ghost use Rattle.ioa_values.specs.Canonical.{AllEntriesCanonical};
     ghost use Rattle.ioa_values.specs.DataCode.{data_code};
-    ghost use Rattle.ioa_values.specs.EntryTrees.{EntriesAndHeight, around, IsBalanced, AreKept};
+    ghost use Rattle.ioa_values.specs.EntryTrees.{EntriesAndHeight, around, IsBalanced};
 
     ghost Value = { EntriesAndHeight };
 
     ghost coded = { coded× (coded_list (coded× data_code data_code)) coded_ℕ };
 
-    ghost view = { λ t. (around t.left t.key t.value t.right, t.height) };
+    ghost view = { λ t. (around t.left t.entry.value t.right, t.height) };
 
     ghost invariant = { λ t. IsBalanced t.left t.right t.len t.height
-        × AreKept (around t.left t.key t.value t.right) t.key_kind t.value_kind };
+        × AllEntriesCanonical (around t.left t.entry.value t.right) };
 
     ghost use Rattle.ioa_values.specs.Weight.{pairs_weight};
 
@@ -61,157 +53,183 @@ impl Model for EntryTree {
 
     ghost use Rattle.ioa_values.specs.EntryTreeWeights.{deep-le-tree};
 
-    ghost size_decreases = { λ t h. deep-le-tree t.left t.key t.value t.right t.len t.height t.key_kind t.value_kind };
+    ghost size_decreases = { λ t h. deep-le-tree t.left t.entry t.right t.len t.height };
 }
 
 impl EntryTree {
     /// A tree of two trees whose levels differ by one at most, and an entry between them.
+    #[inline(always)]
     fn new(
         alloc: Global,
-        left: &Option<Arc<EntryTree>>,
-        key: &Value,
-        value: &Value,
-        right: &Option<Arc<EntryTree>>,
+        left: Option<Arc<EntryTree>>,
+        entry: Arc<(Value, Value)>,
+        right: Option<Arc<EntryTree>>,
     ) -> Result<Arc<EntryTree>, AllocError>
-        requires { DifferBy 1 (height_in left.now) (height_in right.now) }
-        ensures entries { IfOk result (λ t. t.value.0 ≡ around left.now key.now value.now right.now) }
-        ensures height { IfOk result (λ t. t.value.1 ≡ max (height_in left.now) (height_in right.now) + 1) }
+        requires { DifferBy 1 (height_in left) (height_in right) }
+        ensures entries { IfOk result (λ t. t.value.0 ≡ around left entry.value right) }
+        ensures height { IfOk result (λ t. t.value.1 ≡ max (height_in left) (height_in right) + 1) }
     {
-        tree_law(left);
-        tree_law(right);
-        key.canonical_law();
-        value.canonical_law();
-        let len = match count_of(left).checked_add(count_of(right)) {
+        tree_law(&left);
+        tree_law(&right);
+        entry_law(&entry);
+        let len = match count_of(&left).checked_add(count_of(&right)) {
             Some(len) if len < usize::MAX => len + 1,
             _ => return Err(AllocError),
         };
-        let height = height_of(left).max(height_of(right)) + 1;
-        let key_kind = ItemKind::of(key).between(key_kind_of(left), key_kind_of(right));
-        let value_kind = ItemKind::of(value).between(value_kind_of(left), value_kind_of(right));
+        let height = height_of(&left).max(height_of(&right)) + 1;
         let tree = EntryTree {
-            left: share(left)?,
-            key: key.try_copy()?,
-            value: value.try_copy()?,
-            right: share(right)?,
+            left,
+            entry,
+            right,
             len,
             height,
-            key_kind,
-            value_kind,
         };
         Ok(Arc::new(alloc, tree)?)
     }
 
-    /// The same of two trees whose levels differ by two at most: parts of the higher one go to the other side.
-    fn balanced(
+    /// The same, of parts that stay with others.
+    fn shared(
         alloc: Global,
         left: &Option<Arc<EntryTree>>,
-        key: &Value,
-        value: &Value,
+        entry: &Arc<(Value, Value)>,
         right: &Option<Arc<EntryTree>>,
     ) -> Result<Arc<EntryTree>, AllocError>
-        requires { DifferBy 2 (height_in left.now) (height_in right.now) }
-        ensures entries { IfOk result (λ t. t.value.0 ≡ around left.now key.now value.now right.now) }
-        ensures height { IfOk result (λ t. IsHeightOver (height_in left.now) (height_in right.now) t.value.1) }
+        requires { DifferBy 1 (height_in left.now) (height_in right.now) }
+        ensures entries { IfOk result (λ t. t.value.0 ≡ around left.now entry.now.value right.now) }
+        ensures height { IfOk result (λ t. t.value.1 ≡ max (height_in left.now) (height_in right.now) + 1) }
     {
-        if height_of(left).saturating_sub(height_of(right)) > 1 {
-            EntryTree::turned_right(alloc, left, key, value, right)
-        } else if height_of(right).saturating_sub(height_of(left)) > 1 {
-            EntryTree::turned_left(alloc, left, key, value, right)
+        EntryTree::new(alloc, share(left)?, Arc::try_clone(entry)?, share(right)?)
+    }
+
+    /// A tree of two trees whose levels differ by two at most, and an entry between them: parts of the higher one go to
+    /// the other side.
+    #[inline(always)]
+    fn balanced(
+        alloc: Global,
+        left: Option<Arc<EntryTree>>,
+        entry: Arc<(Value, Value)>,
+        right: Option<Arc<EntryTree>>,
+    ) -> Result<Arc<EntryTree>, AllocError>
+        requires { DifferBy 2 (height_in left) (height_in right) }
+        ensures entries { IfOk result (λ t. t.value.0 ≡ around left entry.value right) }
+        ensures height { IfOk result (λ t. IsHeightOver (height_in left) (height_in right) t.value.1) }
+    {
+        if height_of(&left).saturating_sub(height_of(&right)) > 1 {
+            EntryTree::turned_right(alloc, &left, &entry, &right)
+        } else if height_of(&right).saturating_sub(height_of(&left)) > 1 {
+            EntryTree::turned_left(alloc, &left, &entry, &right)
         } else {
-            EntryTree::new(alloc, left, key, value, right)
+            EntryTree::new(alloc, left, entry, right)
         }
+    }
+
+    /// The same of a left tree that is new.
+    #[inline(always)]
+    fn with_left(
+        alloc: Global,
+        left: Option<Arc<EntryTree>>,
+        entry: &Arc<(Value, Value)>,
+        right: &Option<Arc<EntryTree>>,
+    ) -> Result<Arc<EntryTree>, AllocError>
+        requires { DifferBy 2 (height_in left) (height_in right.now) }
+        ensures entries { IfOk result (λ t. t.value.0 ≡ around left entry.now.value right.now) }
+        ensures height { IfOk result (λ t. IsHeightOver (height_in left) (height_in right.now) t.value.1) }
+    {
+        EntryTree::balanced(alloc, left, Arc::try_clone(entry)?, share(right)?)
+    }
+
+    /// The same of a right tree that is new.
+    #[inline(always)]
+    fn with_right(
+        alloc: Global,
+        left: &Option<Arc<EntryTree>>,
+        entry: &Arc<(Value, Value)>,
+        right: Option<Arc<EntryTree>>,
+    ) -> Result<Arc<EntryTree>, AllocError>
+        requires { DifferBy 2 (height_in left.now) (height_in right) }
+        ensures entries { IfOk result (λ t. t.value.0 ≡ around left.now entry.now.value right) }
+        ensures height { IfOk result (λ t. IsHeightOver (height_in left.now) (height_in right) t.value.1) }
+    {
+        EntryTree::balanced(alloc, share(left)?, Arc::try_clone(entry)?, right)
     }
 
     /// The same where the left tree is two levels higher: the tree on its right goes to the other side, or if that is
     /// the higher part, the half of it that is next.
+    #[inline(never)]
     fn turned_right(
         alloc: Global,
         left: &Option<Arc<EntryTree>>,
-        key: &Value,
-        value: &Value,
+        entry: &Arc<(Value, Value)>,
         right: &Option<Arc<EntryTree>>,
     ) -> Result<Arc<EntryTree>, AllocError>
         requires { height_in left.now ≡ height_in right.now + 2 }
-        ensures entries { IfOk result (λ t. t.value.0 ≡ around left.now key.now value.now right.now) }
+        ensures entries { IfOk result (λ t. t.value.0 ≡ around left.now entry.now.value right.now) }
         ensures height { IfOk result (λ t. IsHeightOver (height_in left.now) (height_in right.now) t.value.1) }
     {
         let Some(higher) = left else { unreachable!() };
         let higher: &EntryTree = higher;
         if height_of(&higher.left) >= height_of(&higher.right) {
-            let behind = Some(EntryTree::new(alloc, &higher.right, key, value, right)?);
-            return EntryTree::new(alloc, &higher.left, &higher.key, &higher.value, &behind);
+            let behind = Some(EntryTree::shared(alloc, &higher.right, entry, right)?);
+            return EntryTree::shared(alloc, &higher.left, &higher.entry, &behind);
         }
         let Some(middle) = &higher.right else {
             unreachable!()
         };
         let middle: &EntryTree = middle;
-        let front = Some(EntryTree::new(
-            alloc,
-            &higher.left,
-            &higher.key,
-            &higher.value,
-            &middle.left,
-        )?);
-        let behind = Some(EntryTree::new(alloc, &middle.right, key, value, right)?);
-        EntryTree::new(alloc, &front, &middle.key, &middle.value, &behind)
+        let front = Some(EntryTree::shared(alloc, &higher.left, &higher.entry, &middle.left)?);
+        let behind = Some(EntryTree::shared(alloc, &middle.right, entry, right)?);
+        EntryTree::shared(alloc, &front, &middle.entry, &behind)
     }
 
     /// The same where the right tree is two levels higher.
+    #[inline(never)]
     fn turned_left(
         alloc: Global,
         left: &Option<Arc<EntryTree>>,
-        key: &Value,
-        value: &Value,
+        entry: &Arc<(Value, Value)>,
         right: &Option<Arc<EntryTree>>,
     ) -> Result<Arc<EntryTree>, AllocError>
         requires { height_in right.now ≡ height_in left.now + 2 }
-        ensures entries { IfOk result (λ t. t.value.0 ≡ around left.now key.now value.now right.now) }
+        ensures entries { IfOk result (λ t. t.value.0 ≡ around left.now entry.now.value right.now) }
         ensures height { IfOk result (λ t. IsHeightOver (height_in left.now) (height_in right.now) t.value.1) }
     {
         let Some(higher) = right else { unreachable!() };
         let higher: &EntryTree = higher;
         if height_of(&higher.right) >= height_of(&higher.left) {
-            let front = Some(EntryTree::new(alloc, left, key, value, &higher.left)?);
-            return EntryTree::new(alloc, &front, &higher.key, &higher.value, &higher.right);
+            let front = Some(EntryTree::shared(alloc, left, entry, &higher.left)?);
+            return EntryTree::shared(alloc, &front, &higher.entry, &higher.right);
         }
         let Some(middle) = &higher.left else {
             unreachable!()
         };
         let middle: &EntryTree = middle;
-        let front = Some(EntryTree::new(alloc, left, key, value, &middle.left)?);
-        let behind = Some(EntryTree::new(
-            alloc,
-            &middle.right,
-            &higher.key,
-            &higher.value,
-            &higher.right,
-        )?);
-        EntryTree::new(alloc, &front, &middle.key, &middle.value, &behind)
+        let front = Some(EntryTree::shared(alloc, left, entry, &middle.left)?);
+        let behind = Some(EntryTree::shared(alloc, &middle.right, &higher.entry, &higher.right)?);
+        EntryTree::shared(alloc, &front, &middle.entry, &behind)
     }
 
     /// Two trees of any levels, and an entry between them, as one tree. Costs as many nodes as the levels differ by.
-    pub(crate) fn joined(
+    fn joined(
         alloc: Global,
         left: &Option<Arc<EntryTree>>,
-        key: &Value,
-        value: &Value,
+        entry: &Arc<(Value, Value)>,
         right: &Option<Arc<EntryTree>>,
     ) -> Result<Arc<EntryTree>, AllocError>
-        ensures entries { IfOk result (λ t. t.value.0 ≡ around left.now key.now value.now right.now) }
+        ensures entries { IfOk result (λ t. t.value.0 ≡ around left.now entry.now.value right.now) }
         ensures height { IfOk result (λ t. IsGrown (max (height_in left.now) (height_in right.now)) t.value.1) }
     {
         match (left, right) {
             (Some(higher), _) if height_of(left).saturating_sub(height_of(right)) > 1 => {
                 let higher: &EntryTree = higher;
-                let behind = Some(EntryTree::joined(alloc, &higher.right, key, value, right)?);
-                EntryTree::balanced(alloc, &higher.left, &higher.key, &higher.value, &behind)
+                let behind = EntryTree::joined(alloc, &higher.right, entry, right)?;
+                EntryTree::with_right(alloc, &higher.left, &higher.entry, Some(behind))
             }
             (_, Some(higher)) if height_of(right).saturating_sub(height_of(left)) > 1 => {
                 let higher: &EntryTree = higher;
-                let front = Some(EntryTree::joined(alloc, left, key, value, &higher.left)?);
-                EntryTree::balanced(alloc, &front, &higher.key, &higher.value, &higher.right)
+                let front = EntryTree::joined(alloc, left, entry, &higher.left)?;
+                EntryTree::with_left(alloc, Some(front), &higher.entry, &higher.right)
             }
-            _ => EntryTree::new(alloc, left, key, value, right),
+            _ => EntryTree::shared(alloc, left, entry, right),
         }
     }
 
@@ -229,7 +247,8 @@ impl EntryTree {
             Some((key, value)) => {
                 let left = EntryTree::of_entries(alloc, &entries[..middle])?;
                 let right = EntryTree::of_entries(alloc, &entries[middle + 1..])?;
-                Ok(Some(EntryTree::joined(alloc, &left, key, value, &right)?))
+                let entry = entry_of(alloc, key, value)?;
+                Ok(Some(EntryTree::joined(alloc, &left, &entry, &right)?))
             }
         }
     }
@@ -249,132 +268,21 @@ impl EntryTree {
             Some(key) => {
                 let left = EntryTree::of_keys(alloc, &keys[..middle], value)?;
                 let right = EntryTree::of_keys(alloc, &keys[middle + 1..], value)?;
-                Ok(Some(EntryTree::joined(alloc, &left, key, value, &right)?))
+                let entry = entry_of(alloc, key, value)?;
+                Ok(Some(EntryTree::joined(alloc, &left, &entry, &right)?))
             }
-        }
-    }
-
-    /// The tree with one more entry, which comes to stand at a position.
-    #[tactic(auto, using(crate::proofs::EntryTrees::insert_front, crate::proofs::EntryTrees::insert_behind))]
-    pub(crate) fn with_entry(
-        &self,
-        alloc: Global,
-        position: usize,
-        key: &Value,
-        value: &Value,
-    ) -> Result<Arc<EntryTree>, AllocError>
-        requires { position ≤ length self.now.0 }
-        ensures entries { IfOk result (λ t. t.value.0 ≡ insert self.now.0 position (key.now, value.now)) }
-        ensures height { IfOk result (λ t. IsGrown self.now.1 t.value.1) }
-    {
-        let count = count_of(&self.left);
-        match (position <= count, &self.left, &self.right) {
-            (true, None, right) => {
-                let left = EntryTree::of(alloc, key, value)?;
-                EntryTree::balanced(alloc, &Some(left), &self.key, &self.value, right)
-            }
-            (true, Some(left), right) => {
-                let left = left.with_entry(alloc, position, key, value)?;
-                EntryTree::balanced(alloc, &Some(left), &self.key, &self.value, right)
-            }
-            (false, left, None) => {
-                let right = EntryTree::of(alloc, key, value)?;
-                EntryTree::balanced(alloc, left, &self.key, &self.value, &Some(right))
-            }
-            (false, left, Some(right)) => {
-                let right = right.with_entry(alloc, position - count - 1, key, value)?;
-                EntryTree::balanced(alloc, left, &self.key, &self.value, &Some(right))
-            }
-        }
-    }
-
-    /// The tree with another entry at a position.
-    #[tactic(auto, using(crate::proofs::EntryTrees::set_front, crate::proofs::EntryTrees::set_here, crate::proofs::EntryTrees::set_behind))]
-    pub(crate) fn with_other_entry(
-        &self,
-        alloc: Global,
-        position: usize,
-        key: &Value,
-        value: &Value,
-    ) -> Result<Arc<EntryTree>, AllocError>
-        requires { position < length self.now.0 }
-        ensures entries { IfOk result (λ t. t.value.0 ≡ slice_set self.now.0 position (key.now, value.now)) }
-        ensures height { IfOk result (λ t. t.value.1 ≡ self.now.1) }
-    {
-        let count = count_of(&self.left);
-        match (position.cmp(&count), &self.left, &self.right) {
-            (Ordering::Equal, _, _) => EntryTree::new(alloc, &self.left, key, value, &self.right),
-            (Ordering::Less, Some(left), _) => {
-                let left = left.with_other_entry(alloc, position, key, value)?;
-                EntryTree::new(alloc, &Some(left), &self.key, &self.value, &self.right)
-            }
-            (Ordering::Greater, _, Some(right)) => {
-                let right = right.with_other_entry(alloc, position - count - 1, key, value)?;
-                EntryTree::new(alloc, &self.left, &self.key, &self.value, &Some(right))
-            }
-            _ => unreachable!(),
-        }
-    }
-
-    /// The tree without the entry at a position, if others are there.
-    #[tactic(auto, using(crate::proofs::EntryTrees::remove_front, crate::proofs::EntryTrees::remove_here, crate::proofs::EntryTrees::remove_last, crate::proofs::EntryTrees::remove_behind))]
-    pub(crate) fn without_entry(
-        &self,
-        alloc: Global,
-        position: usize,
-    ) -> Result<Option<Arc<EntryTree>>, AllocError>
-        requires { position < length self.now.0 }
-        ensures entries { IfOk result (λ t. entries_in t ≡ remove self.now.0 position) }
-        ensures height { IfOk result (λ t. IsGrown (height_in t) self.now.1) }
-    {
-        let count = count_of(&self.left);
-        match (position.cmp(&count), &self.left, &self.right) {
-            (Ordering::Equal, _, None) => share(&self.left),
-            (Ordering::Equal, _, Some(right)) => {
-                right.law();
-                let (key, value) = right.at(0);
-                let rest = right.without_entry(alloc, 0)?;
-                Ok(Some(EntryTree::balanced(alloc, &self.left, key, value, &rest)?))
-            }
-            (Ordering::Less, Some(left), _) => {
-                let left = left.without_entry(alloc, position)?;
-                Ok(Some(EntryTree::balanced(alloc, &left, &self.key, &self.value, &self.right)?))
-            }
-            (Ordering::Greater, _, Some(right)) => {
-                let right = right.without_entry(alloc, position - count - 1)?;
-                Ok(Some(EntryTree::balanced(alloc, &self.left, &self.key, &self.value, &right)?))
-            }
-            _ => unreachable!(),
-        }
-    }
-
-    /// The position of a key among keys that ascend, or as an error the position where it belongs. Costs a comparison a
-    /// level.
-    #[tactic(auto, using(crate::proofs::EntryTrees::searching))]
-    pub(crate) fn position_of(&self, key: &Value) -> Result<usize, usize>
-        requires { IsAscending (keys_of self.now.0) }
-        ensures { Finds key.now (keys_of self.now.0) result }
-    {
-        self.law();
-        let count = count_of(&self.left);
-        match (key.cmp(&self.key), &self.left, &self.right) {
-            (Ordering::Equal, _, _) => Ok(count),
-            (Ordering::Less, None, _) => Err(0),
-            (Ordering::Less, Some(left), _) => left.position_of(key),
-            (Ordering::Greater, _, None) => Err(count + 1),
-            (Ordering::Greater, _, Some(right)) => moved(count + 1, right.position_of(key)),
         }
     }
 
     /// The entry at a position.
     #[tactic(auto, using(crate::proofs::EntryTrees::got_front, crate::proofs::EntryTrees::got_here, crate::proofs::EntryTrees::got_behind))]
-    pub(crate) fn at(&self, position: usize) -> (&Value, &Value)
+    pub(crate) fn at(&self, position: usize) -> &Arc<(Value, Value)>
         requires { position < length self.now.0 }
-        ensures { slice_get self.now.0 position ≡ Some (result.0.now, result.1.now) }
+        ensures { slice_get self.now.0 position ≡ Some result.now.value }
     {
         let count = count_of(&self.left);
         match (position.cmp(&count), &self.left, &self.right) {
-            (Ordering::Equal, _, _) => (&self.key, &self.value),
+            (Ordering::Equal, _, _) => &self.entry,
             (Ordering::Less, Some(left), _) => left.at(position),
             (Ordering::Greater, _, Some(right)) => right.at(position - count - 1),
             _ => unreachable!(),
@@ -382,15 +290,11 @@ impl EntryTree {
     }
 
     /// The tree of one entry.
-    pub(crate) fn of(
-        alloc: Global,
-        key: &Value,
-        value: &Value,
-    ) -> Result<Arc<EntryTree>, AllocError>
-        ensures entries { IfOk result (λ t. t.value.0 ≡ (key.now, value.now) ∷ []) }
+    fn of(alloc: Global, entry: &Arc<(Value, Value)>) -> Result<Arc<EntryTree>, AllocError>
+        ensures entries { IfOk result (λ t. t.value.0 ≡ entry.now.value ∷ []) }
         ensures height { IfOk result (λ t. t.value.1 ≡ 1) }
     {
-        EntryTree::new(alloc, &None, key, value, &None)
+        EntryTree::new(alloc, None, Arc::try_clone(entry)?, None)
     }
 
     /// How many entries it has.
@@ -398,20 +302,6 @@ impl EntryTree {
         ensures { result ≡ length self.now.0 }
     {
         self.len
-    }
-
-    /// What is known of all keys.
-    pub(crate) fn key_kind(&self) -> ItemKind
-        ensures { AreOfKind result (keys_of self.now.0) }
-    {
-        self.key_kind
-    }
-
-    /// What is known of all values.
-    pub(crate) fn value_kind(&self) -> ItemKind
-        ensures { AreOfKind result (values_of self.now.0) }
-    {
-        self.value_kind
     }
 
     /// What every tree keeps; does nothing.
@@ -426,86 +316,138 @@ impl EntryTree {
     }
 }
 
-/// A position that was found behind so many others.
-fn moved(count: usize, found: Result<usize, usize>) -> Result<usize, usize>
-    requires { position_in found + count < 2 ^ 64 }
-    ensures { result ≡ moved_by count found }
-{
-    match found {
-        Ok(position) => Ok(count + position),
-        Err(position) => Err(count + position),
-    }
-}
-
-/// The position of a key in a tree whose keys ascend, or as an error the position where it belongs.
-pub(crate) fn position_of(tree: &Option<Arc<EntryTree>>, key: &Value) -> Result<usize, usize>
+/// The value at a key in a tree whose keys ascend, if the key is one of them. Costs a comparison a level.
+#[tactic(auto, using(crate::proofs::EntryTrees::getting))]
+pub(crate) fn value_of<'a>(tree: &'a Option<Arc<EntryTree>>, key: &Value) -> Option<&'a Value>
     requires { IsAscending (keys_of (entries_in tree.now)) }
-    ensures { Finds key.now (keys_of (entries_in tree.now)) result }
+    ensures { option_copied result ≡ value_at key.now (entries_in tree.now) }
 {
-    match tree {
-        None => Err(0),
-        Some(tree) => tree.position_of(key),
+    let mut part = tree;
+    while let Some(tree) = part {
+        let tree: &EntryTree = tree;
+        match key.order(&tree.entry.0) {
+            Ordering::Less => part = &tree.left,
+            Ordering::Equal => return Some(&tree.entry.1),
+            Ordering::Greater => part = &tree.right,
+        }
     }
+    None
 }
 
-/// The entry of a tree at a position.
-pub(crate) fn entry_at(tree: &Option<Arc<EntryTree>>, position: usize) -> (&Value, &Value)
-    requires { position < length (entries_in tree.now) }
-    ensures { slice_get (entries_in tree.now) position ≡ Some (result.0.now, result.1.now) }
-{
-    match tree {
-        None => unreachable!(),
-        Some(tree) => tree.at(position),
-    }
-}
-
-/// A tree with one more entry, which comes to stand at a position.
+/// The tree of keys that ascend in which the key of an entry has its value, and every other key what it had.
+#[tactic(auto, using(crate::proofs::EntryTrees::entering))]
 pub(crate) fn with_entry(
     alloc: Global,
     tree: &Option<Arc<EntryTree>>,
-    position: usize,
-    key: &Value,
-    value: &Value,
+    entry: &Arc<(Value, Value)>,
 ) -> Result<Arc<EntryTree>, AllocError>
-    requires { position ≤ length (entries_in tree.now) }
-    ensures { IfOk result (λ t. t.value.0 ≡ insert (entries_in tree.now) position (key.now, value.now)) }
+    requires { IsAscending (keys_of (entries_in tree.now)) }
+    ensures entries { IfOk result
+        (λ t. t.value.0 ≡ with_entry entry.now.value.0 entry.now.value.1 (entries_in tree.now)) }
+    ensures height { IfOk result (λ t. IsGrown (height_in tree.now) t.value.1) }
 {
-    match tree {
-        None => EntryTree::of(alloc, key, value),
-        Some(tree) => tree.with_entry(alloc, position, key, value),
+    let Some(tree) = tree else {
+        return EntryTree::of(alloc, entry);
+    };
+    let tree: &EntryTree = tree;
+    match entry.0.order(&tree.entry.0) {
+        Ordering::Less => {
+            let left = with_entry(alloc, &tree.left, entry)?;
+            EntryTree::with_left(alloc, Some(left), &tree.entry, &tree.right)
+        }
+        Ordering::Equal => EntryTree::shared(alloc, &tree.left, entry, &tree.right),
+        Ordering::Greater => {
+            let right = with_entry(alloc, &tree.right, entry)?;
+            EntryTree::with_right(alloc, &tree.left, &tree.entry, Some(right))
+        }
     }
 }
 
-/// A tree with another entry at a position.
-pub(crate) fn with_other_entry(
+/// The tree of keys that ascend without a key.
+#[tactic(auto, using(crate::proofs::EntryTrees::leaving))]
+pub(crate) fn without_key(
     alloc: Global,
     tree: &Option<Arc<EntryTree>>,
-    position: usize,
     key: &Value,
-    value: &Value,
-) -> Result<Arc<EntryTree>, AllocError>
-    requires { position < length (entries_in tree.now) }
-    ensures { IfOk result (λ t. t.value.0 ≡ slice_set (entries_in tree.now) position (key.now, value.now)) }
-{
-    match tree {
-        None => unreachable!(),
-        Some(tree) => tree.with_other_entry(alloc, position, key, value),
-    }
-}
-
-/// A tree without the entry at a position, if others are there.
-pub(crate) fn without_entry(
-    alloc: Global,
-    tree: &Option<Arc<EntryTree>>,
-    position: usize,
 ) -> Result<Option<Arc<EntryTree>>, AllocError>
+    requires { IsAscending (keys_of (entries_in tree.now)) }
+    ensures entries { IfOk result (λ t. entries_in t ≡ without_key key.now (entries_in tree.now)) }
+    ensures height { IfOk result (λ t. IsGrown (height_in t) (height_in tree.now)) }
+{
+    let Some(tree) = tree else {
+        return Ok(None);
+    };
+    let tree: &EntryTree = tree;
+    match key.order(&tree.entry.0) {
+        Ordering::Less => {
+            let left = without_key(alloc, &tree.left, key)?;
+            Ok(Some(EntryTree::with_left(alloc, left, &tree.entry, &tree.right)?))
+        }
+        Ordering::Equal => both(alloc, &tree.left, &tree.right),
+        Ordering::Greater => {
+            let right = without_key(alloc, &tree.right, key)?;
+            Ok(Some(EntryTree::with_right(alloc, &tree.left, &tree.entry, right)?))
+        }
+    }
+}
+
+/// Two trees whose levels differ by one at most, as one tree: the first entry on the right comes between them.
+#[tactic(auto, using(crate::proofs::EntryTrees::first_and_rest))]
+fn both(
+    alloc: Global,
+    left: &Option<Arc<EntryTree>>,
+    right: &Option<Arc<EntryTree>>,
+) -> Result<Option<Arc<EntryTree>>, AllocError>
+    requires { DifferBy 1 (height_in left.now) (height_in right.now) }
+    ensures entries { IfOk result (λ t. entries_in t ≡ entries_in left.now ++ entries_in right.now) }
+    ensures height { IfOk result (λ t. IsGrown (height_in t) (max (height_in left.now) (height_in right.now) + 1)) }
+{
+    let Some(tree) = right else {
+        return share(left);
+    };
+    tree.law();
+    let rest = without_first(alloc, tree)?;
+    Ok(Some(EntryTree::with_right(alloc, left, tree.at(0), rest)?))
+}
+
+/// A tree without its first entry.
+#[tactic(auto, using(crate::proofs::EntryTrees::rest_of_all))]
+fn without_first(alloc: Global, tree: &EntryTree) -> Result<Option<Arc<EntryTree>>, AllocError>
+    ensures entries { IfOk result (λ t. entries_in t ≡ drop 1 tree.now.0) }
+    ensures height { IfOk result (λ t. IsGrown (height_in t) tree.now.1) }
+{
+    let Some(left) = &tree.left else {
+        return share(&tree.right);
+    };
+    left.law();
+    let left = without_first(alloc, left)?;
+    Ok(Some(EntryTree::with_left(alloc, left, &tree.entry, &tree.right)?))
+}
+
+/// The entry of a tree at a position.
+pub(crate) fn entry_at(tree: &Option<Arc<EntryTree>>, position: usize) -> &(Value, Value)
     requires { position < length (entries_in tree.now) }
-    ensures { IfOk result (λ t. entries_in t ≡ remove (entries_in tree.now) position) }
+    ensures { slice_get (entries_in tree.now) position ≡ Some result.now }
 {
     match tree {
         None => unreachable!(),
-        Some(tree) => tree.without_entry(alloc, position),
+        Some(tree) => {
+            let entry: &(Value, Value) = tree.at(position);
+            entry
+        }
     }
+}
+
+/// An entry of a key and a value, to be shared.
+pub(crate) fn entry_of(
+    alloc: Global,
+    key: &Value,
+    value: &Value,
+) -> Result<Arc<(Value, Value)>, AllocError>
+    ensures entry { IfOk result (λ e. e.value ≡ (key.now, value.now)) }
+    ensures canonical { IfOk result (λ e. IsCanonicalEntry (key.now, value.now)) }
+{
+    Ok(Arc::new(alloc, (key.try_copy()?, value.try_copy()?))?)
 }
 
 /// How many entries a tree has.
@@ -528,26 +470,6 @@ fn height_of(tree: &Option<Arc<EntryTree>>) -> usize
     }
 }
 
-/// What is known of all its keys, if it has any.
-fn key_kind_of(tree: &Option<Arc<EntryTree>>) -> Option<ItemKind>
-    ensures { AreAllOfKind result (keys_of (entries_in tree.now)) }
-{
-    match tree {
-        None => None,
-        Some(tree) => Some(tree.key_kind()),
-    }
-}
-
-/// What is known of all its values, if it has any.
-fn value_kind_of(tree: &Option<Arc<EntryTree>>) -> Option<ItemKind>
-    ensures { AreAllOfKind result (values_of (entries_in tree.now)) }
-{
-    match tree {
-        None => None,
-        Some(tree) => Some(tree.value_kind()),
-    }
-}
-
 /// What each tree keeps; does nothing.
 fn tree_law(tree: &Option<Arc<EntryTree>>)
     ensures low { height_in tree.now ≤ length (entries_in tree.now) }
@@ -556,6 +478,15 @@ fn tree_law(tree: &Option<Arc<EntryTree>>)
     if let Some(tree) = tree {
         tree.law();
     }
+}
+
+/// What each entry keeps; does nothing.
+fn entry_law(entry: &Arc<(Value, Value)>)
+    ensures { IsCanonicalEntry entry.now.value }
+{
+    let (key, value): &(Value, Value) = entry;
+    key.canonical_law();
+    value.canonical_law();
 }
 
 /// The same tree once more.

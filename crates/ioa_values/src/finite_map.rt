@@ -7,9 +7,10 @@ ghost use Rattle.ioa_values.specs.Collections.{IsAscending, keys_of, values_of, 
 ghost use Rattle.ioa_values.specs.Data.{entries_of};
 ghost use Rattle.ioa_values.specs.DataOrder.{entries_cmp};
 ghost use Rattle.ioa_values.specs.ItemKinds.{AreOfKind};
-ghost use Rattle.ioa_values.specs.Positions.{Belongs, Finds, IsPositionOf};
 
-use crate::entry_tree::{self, EntryTree, count_of, entry_at, share};
+use crate::entry_tree::{
+    EntryTree, count_of, entry_at, entry_of, share, value_of, with_entry, without_key,
+};
 use crate::item_kind::ItemKind;
 use crate::sequence::have_room;
 use crate::value::{Value, canonical_entries};
@@ -24,6 +25,10 @@ use std::sync::Arc;
 #[derive(Debug)]
 pub struct FiniteMap {
     root: Option<Arc<EntryTree>>,
+    /// What is known of all keys.
+    key_kind: ItemKind,
+    /// What is known of all values.
+    value_kind: ItemKind,
 }
 
 /// By hand, so that crates above do not prove again how the parts are let go (DECISIONS).
@@ -31,7 +36,11 @@ impl Drop for FiniteMap {
     #[cycle(letting_go)]
     #[inline(always)]
     fn drop(self) {
-        let FiniteMap { root: _ } = self;
+        let FiniteMap {
+            root: _,
+            key_kind: _,
+            value_kind: _,
+        } = self;
     }
 }
 
@@ -46,11 +55,11 @@ impl Model for FiniteMap {
     ghost coded = { coded_list (coded× data_code data_code) };
 
     ghost use Rattle.ioa_values.specs.EntryTrees.{entries_in};
-    ghost use Rattle.ioa_values.specs.FiniteSets.{AreMapEntries};
+    ghost use Rattle.ioa_values.specs.FiniteSets.{IsMap};
 
     ghost view = { λ m. entries_in m.root };
 
-    ghost invariant = { λ m. AreMapEntries (entries_in m.root) };
+    ghost invariant = { λ m. IsMap (entries_in m.root) m.key_kind m.value_kind };
 
     ghost use Rattle.ioa_values.specs.Weight.{map_weight};
 
@@ -58,7 +67,7 @@ impl Model for FiniteMap {
 
     ghost use Rattle.ioa_values.specs.FiniteSetWeights.{deep-le-map};
 
-    ghost size_decreases = { λ m h. deep-le-map m.root };
+    ghost size_decreases = { λ m h. deep-le-map m.root m.key_kind m.value_kind };
 }
 
 impl FiniteMap {
@@ -66,7 +75,11 @@ impl FiniteMap {
     pub fn new() -> Self
         ensures { result ≡ [] }
     {
-        FiniteMap { root: None }
+        FiniteMap {
+            root: None,
+            key_kind: ItemKind::Nothing,
+            value_kind: ItemKind::Nothing,
+        }
     }
 
     /// The map of entries whose keys ascend. Costs time in proportion to their number.
@@ -76,8 +89,11 @@ impl FiniteMap {
     {
         have_room(entries.len(), 0)?;
         canonical_entries(entries);
-        let root = EntryTree::of_entries(alloc, entries)?;
-        Ok(FiniteMap { root })
+        Ok(FiniteMap {
+            root: EntryTree::of_entries(alloc, entries)?,
+            key_kind: ItemKind::of_keys(entries),
+            value_kind: ItemKind::of_values(entries),
+        })
     }
 
     /// What every map keeps of its entries; does nothing.
@@ -100,20 +116,14 @@ impl FiniteMap {
     pub fn key_kind(&self) -> ItemKind
         ensures { AreOfKind result (keys_of self.now) }
     {
-        match &self.root {
-            None => ItemKind::Any,
-            Some(root) => root.key_kind(),
-        }
+        self.key_kind
     }
 
     /// What is known of all its values. Costs the same at any size.
     pub fn value_kind(&self) -> ItemKind
         ensures { AreOfKind result (values_of self.now) }
     {
-        match &self.root {
-            None => ItemKind::Any,
-            Some(root) => root.value_kind(),
-        }
+        self.value_kind
     }
 
     /// The key and the value at a position. Costs time in proportion to the logarithm of the size.
@@ -121,25 +131,15 @@ impl FiniteMap {
         requires { position < length self.now }
         ensures { slice_get self.now position ≡ Some (result.0.now, result.1.now) }
     {
-        entry_at(&self.root, position)
-    }
-
-    /// The position of a key, or as an error the position where it belongs.
-    fn position_of(&self, key: &Value) -> Result<usize, usize>
-        ensures { Finds key.now (keys_of self.now) result }
-    {
-        entry_tree::position_of(&self.root, key)
+        let (key, value) = entry_at(&self.root, position);
+        (key, value)
     }
 
     /// The value at a key, if the map has the key. Costs comparisons in proportion to the logarithm of the size.
-    #[tactic(auto, using(crate::proofs::Positions::key_within))]
     pub fn get(&self, key: &Value) -> Option<&Value>
         ensures { option_copied result ≡ value_at key.now self.now }
     {
-        match self.position_of(key) {
-            Ok(position) => Some(self.at(position).1),
-            Err(_) => None,
-        }
+        value_of(&self.root, key)
     }
 
     /// The map in which a key has a value, and every other key what it had. Costs time in proportion to the logarithm of
@@ -147,65 +147,37 @@ impl FiniteMap {
     pub fn update(&self, alloc: Global, key: &Value, value: &Value) -> Result<Self, AllocError>
         ensures { IfOk result (λ m. m ≡ with_entry key.now value.now self.now) }
     {
-        match self.position_of(key) {
-            Ok(position) => self.replace_at(alloc, position, key, value),
-            Err(position) => self.insert_at(alloc, position, key, value),
-        }
-    }
-
-    /// The same of a key that stands at a position.
-    fn replace_at(
-        &self,
-        alloc: Global,
-        position: usize,
-        key: &Value,
-        value: &Value,
-    ) -> Result<Self, AllocError>
-        requires { IsPositionOf key.now (keys_of self.now) position }
-        ensures { IfOk result (λ m. m ≡ with_entry key.now value.now self.now) }
-    {
-        key.canonical_law();
-        value.canonical_law();
-        let root = entry_tree::with_other_entry(alloc, &self.root, position, key, value)?;
-        Ok(FiniteMap { root: Some(root) })
-    }
-
-    /// The same of a key that belongs at a position.
-    fn insert_at(
-        &self,
-        alloc: Global,
-        position: usize,
-        key: &Value,
-        value: &Value,
-    ) -> Result<Self, AllocError>
-        requires { Belongs key.now (keys_of self.now) position }
-        ensures { IfOk result (λ m. m ≡ with_entry key.now value.now self.now) }
-    {
         have_room(self.len(), 1)?;
-        key.canonical_law();
-        value.canonical_law();
-        let root = entry_tree::with_entry(alloc, &self.root, position, key, value)?;
-        Ok(FiniteMap { root: Some(root) })
+        let key_kind = self.key_kind.join(ItemKind::of(key));
+        let value_kind = self.value_kind.join(ItemKind::of(value));
+        let entry = entry_of(alloc, key, value)?;
+        let root = Some(with_entry(alloc, &self.root, &entry)?);
+        Ok(FiniteMap {
+            root,
+            key_kind,
+            value_kind,
+        })
     }
 
     /// The map without a key. Costs time in proportion to the logarithm of the size.
-    #[tactic(auto, using(crate::proofs::Positions::key_belonging))]
+    #[tactic(auto, using(crate::proofs::Members::without_no_key))]
     pub fn remove(&self, alloc: Global, key: &Value) -> Result<Self, AllocError>
         ensures { IfOk result (λ m. m ≡ without_key key.now self.now) }
     {
-        match self.position_of(key) {
-            Ok(position) => self.remove_at(alloc, position, key),
-            Err(_) => self.try_clone(),
+        match self.get(key) {
+            Some(_) => self.without(alloc, key),
+            None => self.try_clone(),
         }
     }
 
-    /// The map without the key at a position.
-    fn remove_at(&self, alloc: Global, position: usize, _key: &Value) -> Result<Self, AllocError>
-        requires { IsPositionOf _key.now (keys_of self.now) position }
-        ensures { IfOk result (λ m. m ≡ without_key _key.now self.now) }
+    /// The same of a key that the map has.
+    fn without(&self, alloc: Global, key: &Value) -> Result<Self, AllocError>
+        ensures { IfOk result (λ m. m ≡ without_key key.now self.now) }
     {
         Ok(FiniteMap {
-            root: entry_tree::without_entry(alloc, &self.root, position)?,
+            root: without_key(alloc, &self.root, key)?,
+            key_kind: self.key_kind,
+            value_kind: self.value_kind,
         })
     }
 
@@ -215,6 +187,8 @@ impl FiniteMap {
     {
         Ok(FiniteMap {
             root: share(&self.root)?,
+            key_kind: self.key_kind,
+            value_kind: self.value_kind,
         })
     }
 

@@ -6,10 +6,11 @@ ghost use Rattle.ioa_values.specs.Collections.{IsAscending, is_member, with_memb
 ghost use Rattle.ioa_values.specs.Data.{items_of};
 ghost use Rattle.ioa_values.specs.DataOrder.{items_cmp};
 ghost use Rattle.ioa_values.specs.ItemKinds.{AreOfKind};
-ghost use Rattle.ioa_values.specs.Positions.{Belongs, Finds, IsPositionOf};
 
 use crate::collections;
-use crate::entry_tree::{self, EntryTree, count_of, entry_at, share};
+use crate::entry_tree::{
+    EntryTree, count_of, entry_at, entry_of, share, value_of, with_entry, without_key,
+};
 use crate::item_kind::ItemKind;
 use crate::sequence::have_room;
 use crate::value::{Value, canonical_values};
@@ -25,6 +26,8 @@ use std::sync::Arc;
 pub struct FiniteSet {
     /// The members as keys, each with the value `true`, which says nothing.
     root: Option<Arc<EntryTree>>,
+    /// What is known of all members.
+    kind: ItemKind,
 }
 
 /// By hand, so that crates above do not prove again how the parts are let go (DECISIONS).
@@ -32,7 +35,7 @@ impl Drop for FiniteSet {
     #[cycle(letting_go)]
     #[inline(always)]
     fn drop(self) {
-        let FiniteSet { root: _ } = self;
+        let FiniteSet { root: _, kind: _ } = self;
     }
 }
 
@@ -48,11 +51,11 @@ impl Model for FiniteSet {
 
     ghost use Rattle.ioa_values.specs.Collections.{keys_of};
     ghost use Rattle.ioa_values.specs.EntryTrees.{entries_in};
-    ghost use Rattle.ioa_values.specs.FiniteSets.{AreSetEntries};
+    ghost use Rattle.ioa_values.specs.FiniteSets.{IsSet};
 
     ghost view = { λ s. keys_of (entries_in s.root) };
 
-    ghost invariant = { λ s. AreSetEntries (entries_in s.root) };
+    ghost invariant = { λ s. IsSet (entries_in s.root) s.kind };
 
     ghost use Rattle.ioa_values.specs.Weight.{sequence_weight};
 
@@ -60,7 +63,7 @@ impl Model for FiniteSet {
 
     ghost use Rattle.ioa_values.specs.FiniteSetWeights.{deep-le-set};
 
-    ghost size_decreases = { λ s h. deep-le-set s.root h };
+    ghost size_decreases = { λ s h. deep-le-set s.root s.kind h };
 }
 
 impl FiniteSet {
@@ -68,7 +71,10 @@ impl FiniteSet {
     pub fn new() -> Self
         ensures { result ≡ [] }
     {
-        FiniteSet { root: None }
+        FiniteSet {
+            root: None,
+            kind: ItemKind::Nothing,
+        }
     }
 
     /// The set of the values of a list. Costs comparisons in proportion to n log n for n values.
@@ -86,8 +92,9 @@ impl FiniteSet {
     {
         have_room(members.len(), 0)?;
         canonical_values(members);
+        let kind = ItemKind::of_all(members);
         let root = EntryTree::of_keys(alloc, members, &Value::truth(true))?;
-        Ok(FiniteSet { root })
+        Ok(FiniteSet { root, kind })
     }
 
     /// What every set keeps of its members; does nothing.
@@ -99,7 +106,7 @@ impl FiniteSet {
     }
 
     /// How many members it has.
-    #[tactic(auto, using(crate::proofs::Positions::many_keys))]
+    #[tactic(auto, using(crate::proofs::EntryTrees::many_keys))]
     pub fn len(&self) -> usize
         ensures members { result ≡ length self.now }
         ensures within { result < 2 ^ 63 }
@@ -111,10 +118,7 @@ impl FiniteSet {
     pub fn kind(&self) -> ItemKind
         ensures { AreOfKind result self.now }
     {
-        match &self.root {
-            None => ItemKind::Any,
-            Some(root) => root.key_kind(),
-        }
+        self.kind
     }
 
     /// The member at a position. Costs time in proportion to the logarithm of the size.
@@ -122,67 +126,61 @@ impl FiniteSet {
         requires { position < length self.now }
         ensures { slice_get self.now position ≡ Some result.now }
     {
-        entry_at(&self.root, position).0
-    }
-
-    /// The position of a value, or as an error the position where it belongs.
-    fn position_of(&self, value: &Value) -> Result<usize, usize>
-        ensures { Finds value.now self.now result }
-    {
-        entry_tree::position_of(&self.root, value)
+        &entry_at(&self.root, position).0
     }
 
     /// Whether a value is a member. Costs comparisons in proportion to the logarithm of the size.
-    #[tactic(auto, using(crate::proofs::Positions::member_standing, crate::proofs::Positions::member_belonging))]
+    #[tactic(auto, using(crate::proofs::Ascending::key_is_member))]
     pub fn contains(&self, value: &Value) -> bool
         ensures { result ≡ is_member value.now self.now }
     {
         self.members_law();
-        self.position_of(value).is_ok()
+        value_of(&self.root, value).is_some()
     }
 
     /// The set with one more member. Costs time in proportion to the logarithm of the size.
-    #[tactic(auto, using(crate::proofs::Positions::with_standing))]
+    #[tactic(auto, using(crate::proofs::Members::with_a_member))]
     pub fn insert(&self, alloc: Global, member: &Value) -> Result<Self, AllocError>
         ensures { IfOk result (λ s. s ≡ with_member member.now self.now) }
     {
-        match self.position_of(member) {
-            Ok(_) => self.try_clone(),
-            Err(position) => self.insert_at(alloc, position, member),
+        self.members_law();
+        if self.contains(member) {
+            self.try_clone()
+        } else {
+            self.with_new(alloc, member)
         }
     }
 
-    /// The set with one more member, which belongs at a position.
-    fn insert_at(&self, alloc: Global, position: usize, member: &Value) -> Result<Self, AllocError>
-        requires { Belongs member.now self.now position }
+    /// The same of a value that is no member yet.
+    fn with_new(&self, alloc: Global, member: &Value) -> Result<Self, AllocError>
         ensures { IfOk result (λ s. s ≡ with_member member.now self.now) }
     {
         have_room(self.len(), 1)?;
-        member.canonical_law();
-        let unit = Value::truth(true);
-        let root = entry_tree::with_entry(alloc, &self.root, position, member, &unit)?;
-        Ok(FiniteSet { root: Some(root) })
+        let kind = self.kind.join(ItemKind::of(member));
+        let entry = entry_of(alloc, member, &Value::truth(true))?;
+        let root = Some(with_entry(alloc, &self.root, &entry)?);
+        Ok(FiniteSet { root, kind })
     }
 
     /// The set without a member. Costs time in proportion to the logarithm of the size.
-    #[tactic(auto, using(crate::proofs::Positions::without_belonging))]
+    #[tactic(auto, using(crate::proofs::Members::without_no_member))]
     pub fn remove(&self, alloc: Global, member: &Value) -> Result<Self, AllocError>
         ensures { IfOk result (λ s. s ≡ without_member member.now self.now) }
     {
-        match self.position_of(member) {
-            Ok(position) => self.remove_at(alloc, position, member),
-            Err(_) => self.try_clone(),
+        if self.contains(member) {
+            self.without(alloc, member)
+        } else {
+            self.try_clone()
         }
     }
 
-    /// The set without the member at a position.
-    fn remove_at(&self, alloc: Global, position: usize, _member: &Value) -> Result<Self, AllocError>
-        requires { IsPositionOf _member.now self.now position }
-        ensures { IfOk result (λ s. s ≡ without_member _member.now self.now) }
+    /// The same of a value that is a member.
+    fn without(&self, alloc: Global, member: &Value) -> Result<Self, AllocError>
+        ensures { IfOk result (λ s. s ≡ without_member member.now self.now) }
     {
-        Ok(FiniteSet {
-            root: entry_tree::without_entry(alloc, &self.root, position)?,
-        })
+        let root = without_key(alloc, &self.root, member)?;
+        let kind = self.kind;
+        Ok(FiniteSet { root, kind })
     }
 
     /// The set of the members of either of two sets. Costs time in proportion to the sizes of both.
@@ -212,6 +210,7 @@ impl FiniteSet {
     {
         Ok(FiniteSet {
             root: share(&self.root)?,
+            kind: self.kind,
         })
     }
 

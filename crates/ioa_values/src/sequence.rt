@@ -120,7 +120,7 @@ impl Sequence {
             (Some(front), Some(back)) => front.kind().join(back.kind()),
             (Some(front), None) => front.kind(),
             (None, Some(back)) => back.kind(),
-            (None, None) => ItemKind::Any,
+            (None, None) => ItemKind::Nothing,
         }
     }
 

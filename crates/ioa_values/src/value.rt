@@ -274,6 +274,17 @@ impl Value {
         }
     }
 
+    /// The same order. Numbers are compared here.
+    #[inline(always)]
+    pub(crate) fn order(&self, other: &Self) -> Ordering
+        ensures { result ≡ data_cmp self.now other.now }
+    {
+        match (&self.form, &other.form) {
+            (ValueForm::Number(m), ValueForm::Number(n)) => m.cmp(n),
+            _ => self.compare(other),
+        }
+    }
+
     /// Whether two values are the same.
     #[inline(always)]
     pub fn equals(&self, other: &Self) -> bool

@@ -1,6 +1,6 @@
 use Rattle.std.proofs.Common.{◌≡◌, ◌∙◌, true, false, min, length, sym, arith, rules}
 use Rattle.ioa_values.specs.Collections.{keys_of, values_of}
-use Rattle.ioa_values.proofs.Positions.{many_keys}
+use Rattle.ioa_values.proofs.EntryTrees.{many_keys}
 use Rattle.ioa_operators.specs.Shapes.{has_shape, wide_shape_if}
 use Rattle.ioa_operators.specs.ShapeKinds.{AdmitsKind}
 use Rattle.ioa_operators.proofs.ShapeLists.{all_of_kind, have_shapes_ended, one_lacks, others_have, key_there, value_there, none_behind, many_values}

@@ -11,5 +11,5 @@ entry_at-requires c =
 
 pub returns : goal.returns
 returns c =
-    subst (λ (ds : List Data). slice_get ds c.args.position ≡ Some c.entry_at.result.0.now) c.self.view_is
-    (key_got (entries_in c.self.inside.root) c.args.position c.entry_at.result.0.now c.entry_at.result.1.now c.entry_at.ensures)
+    subst (λ (ds : List Data). slice_get ds c.args.position ≡ Some c.entry_at.result.now.0) c.self.view_is
+    (key_got (entries_in c.self.inside.root) c.args.position c.entry_at.result.now.0 c.entry_at.result.now.1 c.entry_at.ensures)

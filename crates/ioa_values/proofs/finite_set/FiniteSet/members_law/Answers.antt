@@ -6,4 +6,4 @@ use Rattle.ioa_values.proofs.finite_set.FiniteSet.members_law.Goals as goal
 
 pub returns-clause-canonical : goal.returns-clause-canonical
 returns-clause-canonical c =
-    subst AllCanonical c.self.view_is (canonical_keys (entries_in c.self.inside.root) c.self.invariant.entries.canonical)
+    subst AllCanonical c.self.view_is (canonical_keys (entries_in c.self.inside.root) c.self.invariant.entries.entries.canonical)

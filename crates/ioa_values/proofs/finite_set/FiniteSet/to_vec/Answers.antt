@@ -1,4 +1,4 @@
-use Rattle.std.proofs.Common.{◌≡◌, ◌≤◌, ◌+◌, length, take, get_or, refl, arith, rules}
+use Rattle.std.proofs.Common.{◌≡◌, ◌+◌, take, refl, arith, rules}
 use Rattle.std.proofs.lemmas.List.{take_more}
 use Rattle.std.proofs.lemmas.Option.{get_or_from_slice_get}
 use Rattle.ioa_values.proofs.finite_set.FiniteSet.to_vec.Goals as goal

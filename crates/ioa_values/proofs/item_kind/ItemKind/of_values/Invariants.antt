@@ -1,0 +1,8 @@
+use Rattle.std.proofs.Common.{take}
+use Rattle.ioa_values.specs.Collections.{values_of}
+use Rattle.ioa_values.specs.ItemKinds.{AreOfKind}
+use Rattle.ioa_values.proofs.item_kind.ItemKind.of_values.Given as goal
+
+-- the values gone by are of the kind
+abbrev pub invariant-loop-value : goal.invariant-loop-value
+invariant-loop-value l = AreOfKind l.kind (values_of (take l.value-index l.entries.items))
