@@ -39,23 +39,24 @@ fn before_value(operator: UnaryOperator, value: &Value) -> Result<Value, TermFau
 /// The value of an operator between two values (profile). Returns `Undefined (1)` if a value is of another
 /// kind than the operator takes or a map lacks the key, `Range (2)` if the result lies outside 64 bits, and
 /// `Memory (3)` if no memory is left for `-|`, `|-` or `||`, or if the value of `m[k]` has too many owners
-/// to be shared. The values are used up. Comparisons, `\in` and `m[k]` cost time in proportion to the
-/// values; all else costs the same whatever the values hold.
+/// to be shared. Comparisons, and `\in` of a sequence, cost time in proportion to the values, `\in` of a set and
+/// `m[k]` in proportion to the logarithm of the set or the map; all else costs the same whatever the values hold.
 pub fn binary(
     alloc: Global,
     operator: BinaryOperator,
-    left: Value,
-    right: Value,
+    left: &Value,
+    right: &Value,
 ) -> Result<Value, TermFault>
-    ensures value { Answers TermFault.Memory (λ v. v) result (checked_result (binary_value operator left right)) }
-    ensures memory { LacksMemoryOnlyIf (operator_takes_memory operator) result (binary_value operator left right) }
-    ensures canonical { IsCanonical left → IsCanonical right → IfOk result IsCanonical }
+    ensures value { Answers TermFault.Memory (λ v. v) result
+        (checked_result (binary_value operator left.now right.now)) }
+    ensures memory { LacksMemoryOnlyIf (operator_takes_memory operator) result
+        (binary_value operator left.now right.now) }
+    ensures canonical { IsCanonical left.now → IsCanonical right.now → IfOk result IsCanonical }
 {
-    between_values(alloc, operator, &left, &right)
+    between_values(alloc, operator, left, right)
 }
 
-/// The value of an operator between two values, in one exact clause. It only looks at the values, since an
-/// owned value would be dropped on each way out.
+/// The value of an operator between two values, in one exact clause.
 fn between_values(
     alloc: Global,
     operator: BinaryOperator,

@@ -68,9 +68,9 @@ fn apply_function(alloc: Global, function: Function, parts: Vec<Value>) -> Resul
 {
     match few(parts) {
         Some(CallParts::One(value)) => call_of_one(alloc, function, &value),
-        Some(CallParts::Two(left, right)) => call_of_two(alloc, function, left, right),
+        Some(CallParts::Two(left, right)) => call_of_two(alloc, function, &left, &right),
         Some(CallParts::Three(first, second, third)) => {
-            call_of_three(alloc, function, first, second, third)
+            call_of_three(alloc, function, &first, &second, &third)
         }
         None => Err(TermFault::Undefined),
     }
@@ -116,39 +116,68 @@ fn call_of_one(alloc: Global, function: Function, value: &Value) -> Result<Value
     }
 }
 
-/// The value of a function of two values.
+/// The value of a function of two values, which are lent, with the faults of [`call`].
+#[tactic(auto, using(crate::proofs::Memory::answers))]
+pub fn call_two_lent(
+    alloc: Global,
+    function: Function,
+    left: &Value,
+    right: &Value,
+) -> Result<Value, TermFault>
+    ensures { Answers TermFault.Memory (λ v. v) result (checked_result (call_two function left.now right.now)) }
+{
+    call_of_two(alloc, function, left, right)
+}
+
+/// The same, in one exact clause.
 fn call_of_two(
     alloc: Global,
     function: Function,
-    left: Value,
-    right: Value,
+    left: &Value,
+    right: &Value,
 ) -> Result<Value, TermFault>
-    ensures { AnswersOrLacks (call_takes_memory function) result (call_two function left right) }
+    ensures { AnswersOrLacks (call_takes_memory function) result (call_two function left.now right.now) }
 {
     match function {
-        Function::Quotient => quotient(&left, &right),
-        Function::Remainder => remainder(&left, &right),
-        Function::Insert => insert(alloc, &left, &right),
-        Function::Delete => delete(alloc, &left, &right),
-        Function::Union => unite(alloc, &left, &right),
-        Function::Remove => remove(alloc, &left, &right),
-        Function::Defined => key_membership(&left, &right),
+        Function::Quotient => quotient(left, right),
+        Function::Remainder => remainder(left, right),
+        Function::Insert => insert(alloc, left, right),
+        Function::Delete => delete(alloc, left, right),
+        Function::Union => unite(alloc, left, right),
+        Function::Remove => remove(alloc, left, right),
+        Function::Defined => key_membership(left, right),
         _ => Err(TermFault::Undefined),
     }
 }
 
-/// The value of a function of three values.
+/// The value of a function of three values, which are lent, with the faults of [`call`].
+#[tactic(auto, using(crate::proofs::Memory::answers))]
+pub fn call_three_lent(
+    alloc: Global,
+    function: Function,
+    first: &Value,
+    second: &Value,
+    third: &Value,
+) -> Result<Value, TermFault>
+    ensures { Answers TermFault.Memory (λ v. v) result
+        (checked_result (call_three function first.now second.now third.now)) }
+{
+    call_of_three(alloc, function, first, second, third)
+}
+
+/// The same, in one exact clause.
 fn call_of_three(
     alloc: Global,
     function: Function,
-    first: Value,
-    second: Value,
-    third: Value,
+    first: &Value,
+    second: &Value,
+    third: &Value,
 ) -> Result<Value, TermFault>
-    ensures { AnswersOrLacks (call_takes_memory function) result (call_three function first second third) }
+    ensures { AnswersOrLacks (call_takes_memory function) result
+        (call_three function first.now second.now third.now) }
 {
     match function {
-        Function::Update => update(alloc, &first, &second, &third),
+        Function::Update => update(alloc, first, second, third),
         _ => Err(TermFault::Undefined),
     }
 }

@@ -28,7 +28,7 @@ pub use between::{binary, unary};
 pub use displays::display;
 pub use fault::TermFault;
 pub use fields::{field, replace_field};
-pub use functions::{call, call_lent};
+pub use functions::{call, call_lent, call_three_lent, call_two_lent};
 pub use laws::decision_law;
 pub use lists::first_item;
 pub use operator::{BinaryOperator, Function, UnaryOperator};

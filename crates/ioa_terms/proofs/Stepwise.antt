@@ -1,12 +1,12 @@
 -- Evaluation one step after another is the meaning.
-use Rattle.std.proofs.Common.{◌≡◌, Bool, true, false, List, ◌∷◌, ◌++◌, Option, Some, None, Result, Ok, Err, refl, sym, ap, ◌∙◌, if◌then◌else◌, append-nil}
+use Rattle.std.proofs.Common.{◌≡◌, ◌<◌, ◌≤◌, arith, length, get_or, Bool, true, false, List, [], ◌∷◌, ◌++◌, Option, Some, None, Result, Ok, Err, refl, sym, ap, ◌∙◌, if◌then◌else◌, append-nil}
 use Rattle.std.specs.Prelude.{◌&&◌}
 use Rattle.std.specs.List.{list_all}
 use Rattle.std.proofs.lemmas.List.Folds.{list_all-append}
 use Rattle.std.specs.Option.{option_and_then, option_map, option_or, ok_or}
 use Rattle.ioa_values.specs.Data.{Data, is_within}
 use Rattle.ioa_values.specs.Outcome.{and_then}
-use Rattle.ioa_operators.specs.Operators.{unary_value, binary_value, left_decision}
+use Rattle.ioa_operators.specs.Operators.{unary_value, binary_value, call_two, call_value, left_decision}
 use Rattle.ioa_operators.specs.Shapes.{display_value, field_value}
 use Rattle.ioa_operators.specs.RangeCheck.{range_check, result_of, checked_result}
 use Rattle.ioa_terms.specs.Bindings.{Bindings}
@@ -15,6 +15,7 @@ use Rattle.ioa_terms.specs.PlainTerm.{PlainTerm, PlainTerms, name, one, two, cal
 use Rattle.ioa_terms.specs.Meaning.{answer, numbers_met, all_numbers_met, value, values, named_call_value, if_any, if_none, if_open}
 use Rattle.ioa_terms.specs.Stepwise.{stepwise_answer, stepwise_answers, with_right}
 use Rattle.ioa_operators.specs.declared.operator.BinaryOperator.{BinaryOperator}
+use Rattle.ioa_operators.specs.declared.operator.Function.{Function}
 use Rattle.ioa_operators.specs.declared.shape.Shape.{Shape}
 use Rattle.ioa_operators.specs.declared.fault.TermFault.{TermFault}
 use Rattle.ioa_operators.specs.declared.fault.TermFault.TheVariants.{Undefined, Range}
@@ -89,3 +90,23 @@ mutual
   pub all_stepwise_is : {N C : Type 0} (ts : PlainTerms N C Shape) (e : Bindings) → stepwise_answers ts e ≡ range_check (all_numbers_met ts e) (values ts e)
   all_stepwise_is no_terms e = refl
   all_stepwise_is (term t more) e = rw (stepwise_is t e, all_stepwise_is more e) (one_more (numbers_met t e) (all_numbers_met more e) (value t e) (values more e))
+
+-- a function of the results of two terms, one after the other
+in_order : (ra rb : Result Data TermFault) (f : Function) →
+    and_then (and_then ra (λ v. and_then (and_then rb (λ w. Ok (w ∷ []))) (λ vs. Ok (v ∷ vs)))) (λ vs. checked_result (call_value f vs))
+    ≡ and_then ra (λ v. and_then rb (λ w. checked_result (call_two f v w)))
+in_order (Ok v) (Ok w) f = refl
+in_order (Ok v) (Err e) f = refl
+in_order (Err e) rb f = refl
+
+pub called_with_two : {N C : Type 0} (a b : PlainTerm N C Shape) (e : Bindings) (f : Function) →
+    and_then (stepwise_answers (term a (term b no_terms)) e) (λ vs. checked_result (call_value f vs))
+    ≡ and_then (stepwise_answer a e) (λ v. and_then (stepwise_answer b e) (λ w. checked_result (call_two f v w)))
+called_with_two a b e f = in_order (stepwise_answer a e) (stepwise_answer b e) f
+
+-- a list of two
+pub two_items : {A : Type 0} (xs : List A) (x y : A) → 2 ≤ length xs → length xs < 3 → x ≡ get_or xs 0 x → y ≡ get_or xs 1 y → xs ≡ x ∷ y ∷ []
+two_items [] x y l m h g = absurd (omega arith)
+two_items (a ∷ []) x y l m h g = absurd (omega arith)
+two_items (a ∷ b ∷ []) x y l m h g = let first : x ≡ a = h in let second : y ≡ b = g in cc
+two_items (a ∷ b ∷ c ∷ xs) x y l m h g = absurd (omega arith)

@@ -9,7 +9,7 @@ ghost use Rattle.ioa_values.specs.Collections.{value_at};
 ghost use Rattle.ioa_values.specs.Data as datum;
 ghost use Rattle.ioa_values.specs.DataOrder.{same};
 ghost use Rattle.ioa_operators.specs.Operators as spec;
-ghost use Rattle.ioa_operators.specs.Operators.{binary_value, call_value};
+ghost use Rattle.ioa_operators.specs.Operators.{binary_value, call_two, call_value};
 ghost use Rattle.ioa_terms.specs.Resolved.{AreTermsResolved, IsCallee, IsResolved};
 ghost use Rattle.ioa_terms.specs.Bindings.{names_of, slot_in, lookup};
 ghost use Rattle.ioa_operators.specs.RangeCheck.{range_check, checked_result};
@@ -26,8 +26,8 @@ use crate::name::Name;
 use crate::quick::{lent_value, quick_test, quick_value};
 use crate::tree::Checked;
 use ioa_operators::{
-    BinaryOperator, Function, TermFault, binary, call, call_lent, display, field, left_decision,
-    unary,
+    BinaryOperator, Function, TermFault, binary, call, call_lent, call_two_lent, display, field,
+    left_decision, unary,
 };
 use ioa_values::{FiniteMap, Value, Word};
 use std::alloc::{AllocError, Global};
@@ -88,7 +88,7 @@ pub(crate) fn evaluate_lent(
     }
 }
 
-/// What the value of a term comes to, if it is made of one or two values that are lent.
+/// What the value of a term comes to, if it is made of one or two values that are lent, or found quickly.
 fn of_lent_parts(
     alloc: Global,
     term: &Checked,
@@ -101,13 +101,57 @@ fn of_lent_parts(
         (stepwise_answer (term_of term.now) (environment_of view.now values.now))) }
 {
     match term {
-        Checked::Two(operator, a, b) => {
-            let left = lent_value(a, view, values)?;
-            let right = lent_value(b, view, values)?;
-            Some(of_two(alloc, *operator, left, right))
-        }
+        Checked::Two(operator, a, b) => of_sides(alloc, *operator, a, b, view, values),
         Checked::Call(name, callee, parts) => { of_call(alloc, name, *callee, parts, view, values) }
         _ => None,
+    }
+}
+
+/// The same of an operator between two terms.
+fn of_sides(
+    alloc: Global,
+    operator: BinaryOperator,
+    a: &Checked,
+    b: &Checked,
+    view: &View,
+    values: &[Value],
+) -> Option<Result<Value, TermFault>>
+    requires named { IsNamed view.now values.now }
+    requires left { IsResolved (term_of a.now) (names_in_view view.now) }
+    requires right { IsResolved (term_of b.now) (names_in_view view.now) }
+    ensures { IfSome result (λ r. Answers TermFault.Memory (λ v. v) r (stepwise_answer
+        (plain.two operator (term_of a.now) (term_of b.now)) (environment_of view.now values.now))) }
+{
+    match lent_value(a, view, values) {
+        Some(left) => of_right_side(alloc, operator, left, b, view, values),
+        None => {
+            let left = quick_value(a, view, values)?;
+            of_right_side(alloc, operator, &left, b, view, values)
+        }
+    }
+}
+
+/// The same where the value of the left side is known.
+fn of_right_side(
+    alloc: Global,
+    operator: BinaryOperator,
+    left: &Value,
+    b: &Checked,
+    view: &View,
+    values: &[Value],
+) -> Option<Result<Value, TermFault>>
+    requires named { IsNamed view.now values.now }
+    requires right { IsResolved (term_of b.now) (names_in_view view.now) }
+    ensures { IfSome result (λ r. Answers TermFault.Memory (λ v. v) r
+        (with_right operator left.now (spec.left_decision operator left.now)
+        (stepwise_answer (term_of b.now) (environment_of view.now values.now)))) }
+{
+    match lent_value(b, view, values) {
+        Some(right) => Some(of_two(alloc, operator, left, right)),
+        None => {
+            let right = quick_value(b, view, values)?;
+            Some(of_two(alloc, operator, left, &right))
+        }
     }
 }
 
@@ -123,15 +167,11 @@ fn of_two(
 {
     match left_decision(operator, left) {
         Some(decision) => Ok(Value::truth(decision)),
-        None => {
-            let left = left.try_copy()?;
-            let right = right.try_copy()?;
-            binary(alloc, operator, left, right)
-        }
+        None => binary(alloc, operator, left, right),
     }
 }
 
-/// What a call comes to, if it is of a function of one value that is lent.
+/// What a call comes to, if it is of a function of one or two values that are lent, or found quickly.
 fn of_call(
     alloc: Global,
     _name: &Word,
@@ -148,13 +188,13 @@ fn of_call(
         (environment_of view.now values.now))) }
 {
     match callee {
-        Callee::Function(function) => of_part(alloc, function, parts, view, values),
+        Callee::Function(function) => of_parts(alloc, function, parts, view, values),
         Callee::Inboxes(_) => None,
     }
 }
 
 /// The same of a function.
-fn of_part(
+fn of_parts(
     alloc: Global,
     function: Function,
     parts: &Vec<Checked>,
@@ -172,7 +212,58 @@ fn of_part(
             let value = lent_value(part, view, values)?;
             Some(call_lent(alloc, function, value))
         }
+        [first, second] => of_two_parts(alloc, function, first, second, view, values),
         _ => None,
+    }
+}
+
+/// The same of two parts.
+fn of_two_parts(
+    alloc: Global,
+    function: Function,
+    first: &Checked,
+    second: &Checked,
+    view: &View,
+    values: &[Value],
+) -> Option<Result<Value, TermFault>>
+    requires named { IsNamed view.now values.now }
+    requires first { IsResolved (term_of first.now) (names_in_view view.now) }
+    requires second { IsResolved (term_of second.now) (names_in_view view.now) }
+    ensures { IfSome result (λ r. Answers TermFault.Memory (λ v. v) r
+        (and_then (stepwise_answer (term_of first.now) (environment_of view.now values.now))
+        (λ v. and_then (stepwise_answer (term_of second.now) (environment_of view.now values.now))
+        (λ w. checked_result (call_two function v w))))) }
+{
+    match lent_value(first, view, values) {
+        Some(first) => of_second_part(alloc, function, first, second, view, values),
+        None => {
+            let first = quick_value(first, view, values)?;
+            of_second_part(alloc, function, &first, second, view, values)
+        }
+    }
+}
+
+/// The same where the value of the first part is known.
+fn of_second_part(
+    alloc: Global,
+    function: Function,
+    first: &Value,
+    second: &Checked,
+    view: &View,
+    values: &[Value],
+) -> Option<Result<Value, TermFault>>
+    requires named { IsNamed view.now values.now }
+    requires second { IsResolved (term_of second.now) (names_in_view view.now) }
+    ensures { IfSome result (λ r. Answers TermFault.Memory (λ v. v) r
+        (and_then (stepwise_answer (term_of second.now) (environment_of view.now values.now))
+        (λ w. checked_result (call_two function first.now w)))) }
+{
+    match lent_value(second, view, values) {
+        Some(second) => Some(call_two_lent(alloc, function, first, second)),
+        None => {
+            let second = quick_value(second, view, values)?;
+            Some(call_two_lent(alloc, function, first, &second))
+        }
     }
 }
 
@@ -277,7 +368,7 @@ pub(crate) fn evaluate_stepwise(
                 Some(decision) => Ok(Value::truth(decision)),
                 None => {
                     let right = evaluate_stepwise(alloc, b, env)?;
-                    binary(alloc, *operator, left, right)
+                    binary(alloc, *operator, &left, &right)
                 }
             }
         }
@@ -394,11 +485,7 @@ fn inbox_at(alloc: Global, env: &Env, slot: usize, sender: &Value) -> Result<Val
 {
     match env.get(slot) {
         Some(Slot::Inboxes(inboxes)) => messages_from(alloc, inboxes, sender),
-        Some(Slot::Variable(map)) => {
-            let map = map.try_copy()?;
-            let sender = sender.try_copy()?;
-            binary(alloc, BinaryOperator::At, map, sender)
-        }
+        Some(Slot::Variable(map)) => binary(alloc, BinaryOperator::At, map, sender),
         Some(Slot::Constant(_)) | None => Err(TermFault::Undefined),
     }
 }

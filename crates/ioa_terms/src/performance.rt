@@ -19,11 +19,11 @@ ghost use Rattle.ioa_terms.specs.Views.{IsNamed, environment_of, names_in_view, 
 
 use crate::callee::Callee;
 use crate::environment::{Env, View};
-use crate::evaluation::{evaluate_lent, evaluate_stepwise, evaluate_test, read};
+use crate::evaluation::{evaluate, evaluate_lent, evaluate_test, read};
 use crate::name::Name;
 use crate::quick::{quick_result, quick_truth};
 use crate::tree::{Checked, Statement, Target};
-use ioa_operators::{Function, Shape, ShapeForm, TermFault, call, replace_field};
+use ioa_operators::{Function, Shape, ShapeForm, TermFault, call_three_lent, replace_field};
 use ioa_values::{Value, Word};
 use std::alloc::Global;
 use std::mem;
@@ -240,51 +240,39 @@ fn whole_value(
     ensures { Answers TermFault.Memory (λ v. v) result (stepwise_assignment (target_of target.now) (term_of term.now)
         (environment_of view.now values.now)) }
 {
-    assignment_value(alloc, target, term, &view.env(values))
-}
-
-/// The same in an environment.
-fn assignment_value(
-    alloc: Global,
-    target: &Target<usize, Callee, Shape>,
-    term: &Checked,
-    env: &Env,
-) -> Result<Value, TermFault>
-    requires target { IsResolvedTarget (target_of target.now) (names_of env.now) (names_of env.now) }
-    requires term { IsResolved (term_of term.now) (names_of env.now) }
-    ensures { Answers TermFault.Memory (λ v. v) result
-        (stepwise_assignment (target_of target.now) (term_of term.now) env.now) }
-{
     match target {
-        Target::Variable(_, _, _) => evaluate_stepwise(alloc, term, env),
+        Target::Variable(_, _, _) => evaluate(alloc, term, view, values),
         Target::At(name, at, _, key) => {
-            let key = evaluate_stepwise(alloc, key, env)?;
-            assignment_value_at_key(alloc, name, *at, key, term, env)
+            let key = evaluate(alloc, key, view, values)?;
+            value_with_key(alloc, name, *at, &key, term, view, values)
         }
         Target::Field(name, at, shape, field) => {
-            let value = evaluate_stepwise(alloc, term, env)?;
-            replace(alloc, name, *at, shape, field, value, env)
+            let value = evaluate(alloc, term, view, values)?;
+            replace(alloc, name, *at, shape, field, value, &view.env(values))
         }
     }
 }
 
 /// The map of a variable, in which a key has the value of a term.
-fn assignment_value_at_key(
+fn value_with_key(
     alloc: Global,
     name: &Word,
     at: usize,
-    key: Value,
+    key: &Value,
     term: &Checked,
-    env: &Env,
+    view: &View,
+    values: &[Value],
 ) -> Result<Value, TermFault>
-    requires target { slot_in (Name.Word name.now) (names_of env.now) ≡ Some at }
-    requires term { IsResolved (term_of term.now) (names_of env.now) }
+    requires target { slot_in (Name.Word name.now) (names_in_view view.now) ≡ Some at }
+    requires term { IsResolved (term_of term.now) (names_in_view view.now) }
+    requires named { IsNamed view.now values.now }
     ensures { Answers TermFault.Memory (λ v. v) result
-        (and_then (stepwise_answer (term_of term.now) env.now)
-        (λ v. checked_result (option_and_then (updated_map key v) (lookup (Name.Word name.now) env.now)))) }
+        (and_then (stepwise_answer (term_of term.now) (environment_of view.now values.now))
+        (λ v. checked_result (option_and_then (updated_map key.now v)
+        (lookup (Name.Word name.now) (environment_of view.now values.now))))) }
 {
-    let value = evaluate_stepwise(alloc, term, env)?;
-    update(alloc, name, at, key, value, env)
+    let value = evaluate(alloc, term, view, values)?;
+    update(alloc, name, at, key, &value, &view.env(values))
 }
 
 /// The map of a variable, in which a key has another value.
@@ -292,20 +280,16 @@ fn update(
     alloc: Global,
     name: &Word,
     at: usize,
-    key: Value,
-    value: Value,
+    key: &Value,
+    value: &Value,
     env: &Env,
 ) -> Result<Value, TermFault>
     requires { slot_in (Name.Word name.now) (names_of env.now) ≡ Some at }
     ensures { Answers TermFault.Memory (λ v. v) result
-        (checked_result (option_and_then (updated_map key value) (lookup (Name.Word name.now) env.now))) }
+        (checked_result (option_and_then (updated_map key.now value.now) (lookup (Name.Word name.now) env.now))) }
 {
     let map = read(alloc, env, name, at)?;
-    let mut parts = Vec::new(alloc);
-    parts.push(map)?;
-    parts.push(key)?;
-    parts.push(value)?;
-    call(alloc, Function::Update, parts)
+    call_three_lent(alloc, Function::Update, &map, key, value)
 }
 
 /// The tuple of a variable, in which a field has another value.
