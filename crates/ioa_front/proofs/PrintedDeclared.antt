@@ -18,7 +18,7 @@ use Rattle.ioa_term_reader.specs.Spelling.{spelling}
 use Rattle.ioa_term_reader.proofs.Printed.{term_printed}
 use Rattle.ioa_term_reader.proofs.PrintedGood.{tokens_joined, term_good}
 use Rattle.ioa_part_reader.specs.Grammar as grammar
-use Rattle.ioa_part_reader.specs.Grammar.{inner_limit, SpellsSort, SpellsWord, declare, SpellsDeclared, SpellsParameters, InBrackets, SpellsCall, SpellsKind, SpellsEntry, SpellsGroup}
+use Rattle.ioa_part_reader.specs.Grammar.{inner_limit, SpellsSort, SpellsWord, declare, SpellsDeclared, SpellsParameters, SpellsCall, SpellsKind, SpellsEntry, SpellsGroup}
 use Rattle.ioa_front.specs.Spelling.{separated_spelling, joined_spelling, bracketed_spelling, optional_spelling, word_spelling, sort_spelling, declared_spelling, parameter_spelling, kind_mark, one_call_spelling, entry_spelling}
 use Rattle.ioa_front.proofs.PrintedLists.{Prints, separated_prints, optional_prints, bracketed_prints}
 use Rattle.ioa_front.proofs.PrintedGroups.{Alone, IsAgain, IsFilled, mapped_filled, all_mapped, PrintsEach, ended_each, groups_prints, gathered_prints}

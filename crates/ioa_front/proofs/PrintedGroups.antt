@@ -6,7 +6,7 @@ use Rattle.ioa_tokens.specs.declared.token.Token.{Token}
 use Rattle.ioa_tokens.specs.declared.token.Token.TheVariants as token
 use Rattle.ioa_tokens.specs.declared.mark.Mark.{Mark}
 use Rattle.ioa_tokens.specs.Written.{AreTokens}
-use Rattle.ioa_cursor.specs.Lists.{SeparatedBy, SeparatedOrEndedBy, ListsSeparatedBy, SeveralLists}
+use Rattle.ioa_cursor.specs.Lists.{SeparatedOrEndedBy, ListsSeparatedBy, SeveralLists}
 use Rattle.ioa_cursor.specs.Lists as lists
 use Rattle.ioa_term_reader.proofs.PrintedGood.{tokens_joined}
 use Rattle.ioa_front.specs.Spelling.{more_separated_spelling, separated_spelling, joined_spelling}

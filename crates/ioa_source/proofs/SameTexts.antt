@@ -1,8 +1,7 @@
 -- Parts of texts that the tests find the same are equal, if the tests of annotations decide equality.
-use Rattle.std.proofs.Common.{◌≡◌, Bool, true, Option, refl, ap}
+use Rattle.std.proofs.Common.{◌≡◌, Bool, Option, refl, ap}
 use Rattle.std.specs.Option.{option_eq}
 use Rattle.std.specs.Bool.{Decides}
-use Rattle.std.proofs.lemmas.Bool.{and_parts}
 use Rattle.std.proofs.lemmas.Bool.Decides.{Decides-and, Decides-like}
 use Rattle.std.proofs.lemmas.Slice.Eq.{slice_eq-Decides, bytes_eq-Decides}
 use Rattle.ioa_terms.specs.SameTerms.{same_term}

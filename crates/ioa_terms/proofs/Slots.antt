@@ -3,7 +3,7 @@ use Rattle.std.proofs.Common.{◌≡◌, ℕ, zero, suc, ◌+◌, ◌<◌, ◌�
 use Rattle.std.specs.List.{zip, slice_get}
 use Rattle.std.specs.Prelude.{nat_lt, IfSome}
 use Rattle.std.proofs.lemmas.Bool.Decides.{nat_tests}
-use Rattle.std.proofs.lemmas.List.{get_or_append_left, get_or-append-add, length-append, length-map, map-append, take-append-drop, take_all}
+use Rattle.std.proofs.lemmas.List.{get_or_append_left, get_or-append-add, length-append, map-append, take-append-drop, take_all}
 use Rattle.std.proofs.lemmas.Slice.Zip.{firsts-zip}
 use Rattle.std.specs.Option.{option_map}
 use Rattle.ioa_terms.specs.declared.callee.Callee.{Callee}
