@@ -1,9 +1,10 @@
 #!/usr/bin/env python3
 """Prints what a step on a set or a map costs: bench/collections.py PROGRAM
 
-Each line is a step and, for each size, how many instructions it takes. A text first fills the collection, and then makes
-the step many times; what it takes to fill alone is subtracted. Instructions are counted by `valgrind --tool=callgrind`,
-so the same program and text give the same number each time.
+Each line is a step and, for each size, how many instructions it takes. A text first fills the collection, then makes the
+step many times, and in the end empties the collection, so that no report has its members; what the same text takes
+without the steps is subtracted. Instructions are counted by `valgrind --tool=callgrind`, so the same program and text
+give the same number each time.
 """
 import os
 import subprocess
@@ -30,20 +31,22 @@ KINDS = {
 
 
 def text(kind, effect, size, steps):
-    """The text that fills a collection of this kind, and then makes so many steps."""
+    """The text that fills a collection of this kind, makes so many steps, and empties it."""
     fill = "m[n] := n" if kind == "map" else "s := insert(n, s)"
     return f"""\
 automaton A
-  signature internal fill, step
+  signature internal fill, step, clear
   states
     m: Map[Nat, Int] := {{}}, s: Set[Nat] := {{}}, x: Int := 0, b: Bool := false, n: Nat := 0, i: Nat := 0
   transitions
     internal fill eff {fill}; n := n + 1
     internal step eff {effect.format(size=size)}; i := i + 1
+    internal clear eff m := {{}}; s := {{}}
   schedule
     do
       while n < {size} do fire fill od;
-      while i < {steps} do fire step od
+      while i < {steps} do fire step od;
+      fire clear
     od
 system
   node 0: A
