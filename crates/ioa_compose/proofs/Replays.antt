@@ -44,15 +44,15 @@ replay-fault (suc n) f (entry ∷ more) cs mid h e = at_step (joint_answer entry
     at_step (Ok next) h further = further next h
     at_step (Err g) h further = refl
 
--- a replay that stops has no execution, or had no memory
-pub StopsAt-no_execution : (start : List Conf) (entries : List PlainEntry) (e : ReplayFault) → StopsAt start entries e → (e.fault ≡ Memory) ⊎ (replay entries start ≡ None)
-StopsAt-no_execution start entries e s = by_fault s.fault
+-- entries at which a replay stops have no replay, or it had no memory
+pub StopsAt-no_replay : (start : List Conf) (entries : List PlainEntry) (e : ReplayFault) → StopsAt start entries e → (e.fault ≡ Memory) ⊎ (replay entries start ≡ None)
+StopsAt-no_replay start entries e s = by_fault s.fault
   where
     by_fault : (e.fault ≡ Memory) ⊎ IsFaultOf e.fault (slice_get entries e.position) s.reached → (e.fault ≡ Memory) ⊎ (replay entries start ≡ None)
     by_fault (inl m) = inl m
     by_fault (inr f) = inr (replay-fault e.position e.fault entries start s.reached s.before f)
 
 -- the same of a result
-pub stopped-no_execution : {X : Type 0} (r : Result X ReplayFault) (start : List Conf) (entries : List PlainEntry) → IfErr r (StopsAt start entries) → IfErr r (λ e. (e.fault ≡ Memory) ⊎ (replay entries start ≡ None))
-stopped-no_execution (Ok x) start entries h = tt
-stopped-no_execution (Err e) start entries h = StopsAt-no_execution start entries e h
+pub stopped-no_replay : {X : Type 0} (r : Result X ReplayFault) (start : List Conf) (entries : List PlainEntry) → IfErr r (StopsAt start entries) → IfErr r (λ e. (e.fault ≡ Memory) ⊎ (replay entries start ≡ None))
+stopped-no_replay (Ok x) start entries h = tt
+stopped-no_replay (Err e) start entries h = StopsAt-no_replay start entries e h

@@ -51,7 +51,8 @@ fn steps(alloc: Global, start: Vec<Conf>, entries: &[Entry]) -> Result<Vec<Conf>
 }
 
 /// The configurations after the joint steps by a list of entries (Lynch 8.1), or the position of the first entry that
-/// is no step, with the fault of its joint step. If memory runs out it may stop at any entry.
+/// is no step or meets a number outside 64 bits, with the fault of its joint step. If memory runs out it may stop at any
+/// entry.
 pub fn replay_from(
     alloc: Global,
     start: Vec<Conf>,
@@ -59,18 +60,19 @@ pub fn replay_from(
 ) -> Result<Vec<Conf>, ReplayFault>
     ensures execution { IfOk result (λ v. replay entries.now start.items ≡ Some v.items) }
     ensures stopped { IfErr result (StopsAt start.items entries.now) }
-    ensures no_execution { IfErr result
+    ensures no_replay { IfErr result
         (λ e. (e.fault ≡ StepFault.Memory) ⊎ (replay entries.now start.items ≡ None)) }
 {
     steps(alloc, start, entries)
 }
 
 /// The configurations after the joint steps by a list of entries from a system's start (Lynch 8.1), or the position of
-/// the first entry that is no step, with the fault of its joint step. If memory runs out it may stop at any entry.
+/// the first entry that is no step or meets a number outside 64 bits, with the fault of its joint step. If memory runs
+/// out it may stop at any entry.
 pub fn replay(alloc: Global, system: &System, entries: &[Entry]) -> Result<Vec<Conf>, ReplayFault>
     ensures execution { IfOk result (λ v. replay entries.now (start system.now) ≡ Some v.items) }
     ensures stopped { IfErr result (StopsAt (start system.now) entries.now) }
-    ensures no_execution { IfErr result
+    ensures no_replay { IfErr result
         (λ e. (e.fault ≡ StepFault.Memory) ⊎ (replay entries.now (start system.now) ≡ None)) }
 {
     match start(alloc, system) {

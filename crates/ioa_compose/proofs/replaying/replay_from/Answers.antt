@@ -1,5 +1,5 @@
-use Rattle.ioa_compose.proofs.Replays.{stopped-no_execution}
+use Rattle.ioa_compose.proofs.Replays.{stopped-no_replay}
 use Rattle.ioa_compose.proofs.replaying.replay_from.Goals as goal
 
-pub returns-clause-no_execution : goal.returns-clause-no_execution
-returns-clause-no_execution c = stopped-no_execution _ c.args.start.items c.args.entries.now c.steps.ensures.stopped
+pub returns-clause-no_replay : goal.returns-clause-no_replay
+returns-clause-no_replay c = stopped-no_replay _ c.args.start.items c.args.entries.now c.steps.ensures.stopped
