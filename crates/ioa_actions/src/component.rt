@@ -24,6 +24,16 @@ pub enum Component {
     Script(i64),
 }
 
+/// Whether a channel keeps the order of its messages: reliable FIFO channels (Lynch 14.1), and reliable ones without an
+/// order (profile).
+#[derive(Clone, Copy, Debug, PartialEq, Eq)]
+pub enum ChannelKind {
+    /// The message that was sent first comes out first.
+    Ordered,
+    /// Any message that is on the channel may come out.
+    Unordered,
+}
+
 impl Component {
     /// How two components compare: by kind, and then by their nodes from left to right.
     pub fn compare(&self, other: &Self) -> Ordering

@@ -1,4 +1,4 @@
-//! Actions and components of a system: their order, their text, what an action has (its node, its name, its
+//! Actions, components and kinds of channels of a system: their order, their text, what an action has (its node, its name, its
 //! arguments, its message), and why an action is no step.
 //!
 //! **A crate of its own**, since nodes, queues and the composition share it and are proved side by side; the words
@@ -16,7 +16,7 @@ mod laws;
 mod text;
 
 pub use action::{Action, NodeAction, RECEIVE, SEND, Values, are_same};
-pub use component::Component;
+pub use component::{ChannelKind, Component};
 pub use fault::StepFault;
 pub use laws::parts_law;
 pub use text::{push_listed, show_action, show_node_action};

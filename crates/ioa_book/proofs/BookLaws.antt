@@ -1,7 +1,7 @@
 -- The laws of executions hold of every book.
 use Rattle.std.proofs.Common.{◌≡◌, ◌≤◌, Some, length}
 use Rattle.ioa_compose.specs.Executions.{replay}
-use Rattle.ioa_compose.proofs.Deliveries.{hands_out_prefix, takes_in_order}
+use Rattle.ioa_compose.proofs.Deliveries.{hands_out_from_empty, takes_in_order}
 use Rattle.ioa_compose.proofs.Projections.{replay_projects, replays}
 use Rattle.ioa_commits.specs.Books.{PlainBook, states_held}
 use Rattle.ioa_book.specs.BookLaws.{IsLawful}
@@ -13,6 +13,6 @@ lawful b leads within =
       within = within;
       projections = replay_projects b.log b.start (states_held b) leads;
       execution = λ s. replays b.log b.start (states_held b) s leads;
-      channels = λ s. hands_out_prefix b.log b.start (states_held b) (replays b.log b.start (states_held b) s leads);
+      channels = λ s. hands_out_from_empty b.log b.start (states_held b) (replays b.log b.start (states_held b) s leads);
       scripts = λ s. takes_in_order b.log b.start (states_held b) (replays b.log b.start (states_held b) s leads);
     }

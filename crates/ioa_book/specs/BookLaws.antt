@@ -1,7 +1,7 @@
 -- What is true of every book (Lynch 8.1, 8.2 and 14.1).
 use Rattle.std.specs.Prelude.{◌≡◌, ◌≤◌, length, Some}
 use Rattle.ioa_compose.specs.Automata.{IsExecution, ProjectsOnEach}
-use Rattle.ioa_compose.specs.Channels.{HandsOutPrefix}
+use Rattle.ioa_compose.specs.Channels.{HandsOutFromEmpty}
 use Rattle.ioa_compose.specs.Executions.{replay}
 use Rattle.ioa_compose.specs.JointStep.{HasAnswer, IsJointState, IsJointStep}
 use Rattle.ioa_compose.specs.Scripts.{TakesInOrder}
@@ -18,7 +18,8 @@ pub record IsLawful (b : PlainBook) : Type 0 where
   pub projections : ProjectsOnEach HasAnswer b.start b.log (states_held b)
   -- if the start is a state of the composition, the log is an execution of it (Lynch 8.1 and 8.2)
   pub execution : IsJointState b.start → IsExecution (IsJointStep IsStep) b.start b.log (states_held b)
-  -- and each channel that was empty has handed out a prefix of what was sent on it (Lynch 14.1)
-  pub channels : IsJointState b.start → HandsOutPrefix b.start b.log (states_held b)
+  -- and each channel that was empty has handed out what was sent on it, by its kind: a prefix (Lynch 14.1), or if it
+  -- keeps no order no message more often than it was sent (profile)
+  pub channels : IsJointState b.start → HandsOutFromEmpty b.start b.log (states_held b)
   -- and each script a beginning of what was in it (profile)
   pub scripts : IsJointState b.start → TakesInOrder b.start b.log (states_held b)

@@ -1,5 +1,6 @@
 -- the lemmas of this crate
 pub mod Items
+pub mod HandedOut
 pub mod Names
 pub mod Parts
 pub mod QueueSteps

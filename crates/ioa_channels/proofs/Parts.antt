@@ -1,14 +1,19 @@
 -- The stimuli and the messages of a queue.
-use Rattle.std.proofs.Common.{◌≡◌, ◌∙◌, ℕ, zero, suc, ◌+◌, ◌<◌, ◌≤◌, false, List, [], ◌∷◌, ◌++◌, Some, None, Err, drop, length, map, refl, sym, ap, append_assoc, add-one, arith}
-use Rattle.std.specs.Prelude.{slice_get}
+use Rattle.std.proofs.Common.{◌≡◌, ◌∙◌, ℕ, zero, suc, ◌+◌, ◌<◌, ◌≤◌, Bool, true, false, if◌then◌else◌, Result, Ok, List, [], ◌∷◌, ◌++◌, Some, None, Err, drop, length, map, refl, sym, ap, append_assoc, add-one, arith}
+use Rattle.std.specs.Prelude.{slice_get, ◌||◌}
 use Rattle.std.specs.Option.{option_map}
+use Rattle.std.specs.List.{list_any}
 use Rattle.std.proofs.lemmas.List.{map-append, length-append, length-map}
 use Rattle.ioa_values.specs.Data.{Data}
 use Rattle.ioa_values.specs.DataOrder.{same}
 use Rattle.ioa_actions.specs.declared.action.NodeAction.{NodeAction}
 use Rattle.ioa_actions.specs.declared.fault.StepFault.TheVariants.{NotEnabled}
 use Rattle.ioa_channels.specs.declared.queue.Item.TheVariants.{Message, Stimulus}
-use Rattle.ioa_channels.specs.Queues.{queue_items, messages_of, items_behind}
+use Rattle.ioa_channels.specs.Queues.{queue_items, messages_of, same_item, items_behind, without_equal, without_message}
+use Rattle.ioa_values.specs.Outcome.{and_then}
+use Rattle.ioa_values.specs.Collections.{is_member}
+use Rattle.ioa_channels.specs.declared.queue.Item.{Item}
+use Rattle.ioa_actions.specs.declared.fault.StepFault.{StepFault}
 
 -- one more message is one more item at the end
 pub one_more_message : (stimuli : List NodeAction) (messages : List Data) (m : Data) →
@@ -69,3 +74,43 @@ drop_next (x ∷ xs) (suc n) = drop_next xs n
 
 pub drop_further : {A : Type 0} (xs : List A) (n : ℕ) → drop (n + 1) xs ≡ drop 1 (drop n xs)
 drop_further xs n = rw add-one (drop_next xs n)
+
+-- a message comes out of messages as it does out of items
+lifted : (n : Data) (r : Result (List Data) StepFault) → and_then (and_then r (λ ms. Ok (map Message ms))) (λ items. Ok (Message n ∷ items)) ≡ and_then (and_then r (λ ms. Ok (n ∷ ms))) (λ ms. Ok (map Message ms))
+lifted n (Ok ms) = refl
+lifted n (Err f) = refl
+
+tested : (t : Bool) (n : Data) (more : List Data) (r : Result (List Item) StepFault) (s : Result (List Data) StepFault) → r ≡ and_then s (λ ms. Ok (map Message ms)) →
+    (if t then Ok (map Message more) else and_then r (λ items. Ok (Message n ∷ items))) ≡ and_then (if t then Ok more else and_then s (λ ms. Ok (n ∷ ms))) (λ ms. Ok (map Message ms))
+tested true n more r s e = refl
+tested false n more r s e = rw e (lifted n s)
+
+among_messages : (m : Data) (ms : List Data) → without_equal (Message m) (map Message ms) ≡ and_then (without_message m ms) (λ ms. Ok (map Message ms))
+among_messages m [] = refl
+among_messages m (n ∷ ms) = tested (same m n) n ms (without_equal (Message m) (map Message ms)) (without_message m ms) (among_messages m ms)
+
+behind_stimulus : (a : NodeAction) (stimuli : List NodeAction) (r : Result (List Data) StepFault) → and_then (and_then r (λ ms. Ok (queue_items stimuli ms))) (λ items. Ok (Stimulus a ∷ items)) ≡ and_then r (λ ms. Ok (queue_items (a ∷ stimuli) ms))
+behind_stimulus a stimuli (Ok ms) = refl
+behind_stimulus a stimuli (Err f) = refl
+
+pub any_message : (m : Data) (stimuli : List NodeAction) (ms : List Data) → without_equal (Message m) (queue_items stimuli ms) ≡ and_then (without_message m ms) (λ ms. Ok (queue_items stimuli ms))
+any_message m [] ms = among_messages m ms
+any_message m (a ∷ stimuli) ms = rw (any_message m stimuli ms) (behind_stimulus a stimuli (without_message m ms))
+
+-- a message that is not there does not come out
+pub not_there : (m : Data) (ms : List Data) → is_member m ms ≡ false → without_message m ms ≡ Err NotEnabled
+not_there m [] h = refl
+not_there m (n ∷ ms) h = by_test (same m n) refl h (λ k. not_there m ms k)
+  where
+    by_test : (t : Bool) → same m n ≡ t → t || is_member m ms ≡ false → (is_member m ms ≡ false → without_message m ms ≡ Err NotEnabled) → without_message m (n ∷ ms) ≡ Err NotEnabled
+    by_test true e h further = absurd (cc)
+    by_test false e h further = rw (e, further h) refl
+
+-- a message is among the items of a queue exactly if it is among its messages
+among_all_messages : (m : Data) (ms : List Data) → is_member m ms ≡ list_any (same_item (Message m)) (map Message ms)
+among_all_messages m [] = refl
+among_all_messages m (n ∷ ms) = ap (λ (t : Bool). same m n || t) (among_all_messages m ms)
+
+pub message_among : (m : Data) (stimuli : List NodeAction) (ms : List Data) → is_member m ms ≡ list_any (same_item (Message m)) (queue_items stimuli ms)
+message_among m [] ms = among_all_messages m ms
+message_among m (a ∷ stimuli) ms = message_among m stimuli ms

@@ -1,16 +1,19 @@
 //! Queues of channels and scripts, and their steps.
 
-ghost use Rattle.std.specs.Prelude.{◌≡◌, ◌≢◌, [], ◌∷◌, ◌↔◌, IsTrue, IfOk, IfSome, IsErrOf, List, OnOk, length, map};
+ghost use Rattle.std.specs.Prelude.{◌≡◌, [], ◌∷◌, ◌↔◌, IsTrue, IfOk, Ok, IfSome, IsErrOf, List, OnOk, length, map};
 ghost use Rattle.std.specs.Prelude.{slice_get};
+ghost use Rattle.std.specs.List.{list_any};
 ghost use Rattle.std.specs.Option.{option_map};
-ghost use Rattle.ioa_values.specs.Outcome.{Answers};
-ghost use Rattle.ioa_channels.specs.Queues.{queue_state, queue_items, messages_of};
-ghost use Rattle.ioa_channels.specs.Queues.{with_last, without_first, queue_answer};
+ghost use Rattle.ioa_values.specs.Outcome.{Answers, and_then};
+ghost use Rattle.ioa_channels.specs.Queues.{queue_state, queue_items, messages_of, same_item};
+ghost use Rattle.ioa_channels.specs.Queues.{with_last, items_behind, without_equal, without_item, without_message};
+ghost use Rattle.ioa_channels.specs.Queues.{queue_answer};
+ghost use Rattle.ioa_channels.specs.QueueSteps.{ComesOut};
 ghost use Rattle.ioa_channels.specs.Fronts.{front_item};
 ghost use Rattle.ioa_channels.specs.SameQueues.{same_queue};
 
 use crate::stimuli::Stimuli;
-use ioa_actions::{Action, Component, NodeAction, StepFault};
+use ioa_actions::{Action, ChannelKind, Component, NodeAction, StepFault};
 use ioa_values::{Sequence, Value};
 use std::alloc::{AllocError, Global};
 use std::marker::Model;
@@ -55,11 +58,12 @@ pub fn copy_stimuli(alloc: Global, stimuli: &[NodeAction]) -> Result<Vec<NodeAct
 }
 
 /// The queue of a channel or of a script: the items that were put in and have not come out, in order. A contract sees
-/// the name of its component and the list of its items. A queue begins with the stimuli of a script or with nothing,
+/// the name of its component, whether it keeps the order, and the list of its items. A queue begins with the stimuli of a script or with nothing,
 /// and only messages are put in, so the stimuli that are left are in front of all messages.
 #[derive(Debug)]
 pub struct Queue {
     component: Component,
+    kind: ChannelKind,
     stimuli: Stimuli,
     messages: Sequence,
 }
@@ -70,6 +74,7 @@ impl Drop for Queue {
     fn drop(self) {
         let Queue {
             component: _,
+            kind: _,
             stimuli: _,
             messages: _,
         } = self;
@@ -83,16 +88,17 @@ impl Model for Queue {
 
     ghost coded = { queue_state_code };
 
-    ghost view = { λ q. queue_state q.component (queue_items q.stimuli q.messages) };
+    ghost view = { λ q. queue_state q.component q.kind (queue_items q.stimuli q.messages) };
 }
 
 impl Queue {
     /// The queue of a component with nothing in it; takes no memory.
-    pub fn empty(component: Component) -> Self
-        ensures { result ≡ queue_state component [] }
+    pub fn empty(component: Component, kind: ChannelKind) -> Self
+        ensures { result ≡ queue_state component kind [] }
     {
         Queue {
             component,
+            kind,
             stimuli: Stimuli::none(),
             messages: Sequence::new(),
         }
@@ -104,10 +110,11 @@ impl Queue {
         component: Component,
         stimuli: Vec<NodeAction>,
     ) -> Result<Self, AllocError>
-        ensures { IfOk result (λ q. q ≡ queue_state component (map Item.Stimulus stimuli.items)) }
+        ensures { IfOk result (λ q. q ≡ queue_state component ChannelKind.Ordered (map Item.Stimulus stimuli.items)) }
     {
         Ok(Queue {
             component,
+            kind: ChannelKind::Ordered,
             stimuli: Stimuli::of(alloc, stimuli)?,
             messages: Sequence::new(),
         })
@@ -118,6 +125,13 @@ impl Queue {
         ensures { result ≡ self.now.component }
     {
         self.component
+    }
+
+    /// Whether it keeps the order of its messages.
+    pub fn kind(&self) -> ChannelKind
+        ensures { result ≡ self.now.kind }
+    {
+        self.kind
     }
 
     /// How many items it has.
@@ -159,6 +173,14 @@ impl Queue {
         }
     }
 
+    /// Whether a message is among its items. Costs time in proportion to the messages.
+    #[tactic(auto, using(crate::proofs::Parts::message_among))]
+    pub fn holds(&self, message: &Value) -> bool
+        ensures { result ≡ list_any (same_item (Item.Message message.now)) self.now.items }
+    {
+        self.messages.contains(message)
+    }
+
     /// Whether two queues are the same, whatever memory they are kept in. Costs time in proportion to the shorter one.
     #[tactic(auto, using(crate::proofs::SameQueues::same_queue_is))]
     pub fn equals(&self, other: &Self) -> bool
@@ -168,12 +190,13 @@ impl Queue {
         self.is_same(other)
     }
 
-    /// Whether two queues are of one component and have the same items.
+    /// Whether two queues are of one component and one kind and have the same items.
     #[tactic(auto, using(crate::proofs::SameQueues::same_parts))]
     fn is_same(&self, other: &Self) -> bool
         ensures { result ≡ same_queue self.now other.now }
     {
         self.component == other.component
+            && self.kind == other.kind
             && self.stimuli.as_slice() == other.stimuli.as_slice()
             && self.messages.equals(&other.messages)
     }
@@ -185,6 +208,7 @@ impl Queue {
     {
         Ok(Queue {
             component: self.component,
+            kind: self.kind,
             stimuli: self.stimuli.try_clone()?,
             messages: self.messages.try_clone()?,
         })
@@ -197,25 +221,27 @@ impl Queue {
     {
         Ok(Queue {
             component: self.component,
+            kind: self.kind,
             stimuli: self.stimuli.try_clone()?,
             messages: self.messages.append(alloc, message)?,
         })
     }
 
-    /// The queue without its first item, which is to be this one (Lynch 14.1). `NotEnabled` (40) if the first item is
-    /// another, or there is none.
+    /// The queue without this item: it is to be the first (Lynch 14.1), but of a queue that keeps no order any message
+    /// may come out, and then the first that is equal to it does. `NotEnabled` (40) if the item cannot come out. A
+    /// message costs time in proportion to those in front of it.
     pub fn after_receive(&self, alloc: Global, item: &Item) -> Result<Self, StepFault>
-        ensures answer { Answers StepFault.Memory (λ q. q) result (without_first item.now self.now) }
-        ensures first { IfOk result (λ q. self.now.items ≡ item.now ∷ q.items) }
-        ensures not_first { IsErrOf result StepFault.NotEnabled
-            → (rest : List Item) → self.now.items ≢ item.now ∷ rest }
+        ensures answer { Answers StepFault.Memory (λ q. q) result (without_item item.now self.now) }
+        ensures out { IfOk result (λ q. ComesOut item.now self.now.kind self.now.items q.items) }
+        ensures not_out { IsErrOf result StepFault.NotEnabled
+            → (rest : List Item) → ComesOut item.now self.now.kind self.now.items rest → ⊥ }
     {
         self.after_item(alloc, item)
     }
 
-    /// The queue without its first item, which is to be this one.
+    /// The queue without this item.
     fn after_item(&self, alloc: Global, item: &Item) -> Result<Self, StepFault>
-        ensures { Answers StepFault.Memory (λ q. q) result (without_first item.now self.now) }
+        ensures { Answers StepFault.Memory (λ q. q) result (without_item item.now self.now) }
     {
         match item {
             Item::Message(message) => self.after_message(alloc, message),
@@ -223,9 +249,21 @@ impl Queue {
         }
     }
 
-    /// The queue without its first item, which is to be this message.
+    /// The queue without this message.
     fn after_message(&self, alloc: Global, message: &Value) -> Result<Self, StepFault>
-        ensures { Answers StepFault.Memory (λ q. q) result (without_first (Item.Message message.now) self.now) }
+        ensures { Answers StepFault.Memory (λ q. q) result (without_item (Item.Message message.now) self.now) }
+    {
+        match self.kind {
+            ChannelKind::Ordered => self.after_first(alloc, message),
+            ChannelKind::Unordered => self.after_any(alloc, message),
+        }
+    }
+
+    /// The queue without its first item, which is to be this message.
+    fn after_first(&self, alloc: Global, message: &Value) -> Result<Self, StepFault>
+        ensures { Answers StepFault.Memory (λ q. q) result
+            (and_then (items_behind (Item.Message message.now) self.now.items)
+            (λ items. Ok (queue_state self.now.component self.now.kind items))) }
     {
         match (self.stimuli.as_slice(), self.messages.first()) {
             ([], Some(first)) => {
@@ -234,6 +272,7 @@ impl Queue {
                 }
                 Ok(Queue {
                     component: self.component,
+                    kind: self.kind,
                     stimuli: Stimuli::none(),
                     messages: self.messages.without_first(alloc)?,
                 })
@@ -243,9 +282,25 @@ impl Queue {
         }
     }
 
+    /// The queue without the first message that is equal to this one.
+    #[tactic(auto, using(crate::proofs::Parts::any_message))]
+    fn after_any(&self, alloc: Global, message: &Value) -> Result<Self, StepFault>
+        ensures { Answers StepFault.Memory (λ q. q) result
+            (and_then (without_equal (Item.Message message.now) self.now.items)
+            (λ items. Ok (queue_state self.now.component self.now.kind items))) }
+    {
+        let messages = without_message(alloc, &self.messages, message)?;
+        Ok(Queue {
+            component: self.component,
+            kind: self.kind,
+            stimuli: self.stimuli.try_clone()?,
+            messages,
+        })
+    }
+
     /// The queue without its first item, which is to be this stimulus; takes no memory.
     fn after_stimulus(&self, action: &NodeAction) -> Result<Self, StepFault>
-        ensures { Answers StepFault.Memory (λ q. q) result (without_first (Item.Stimulus action.now) self.now) }
+        ensures { Answers StepFault.Memory (λ q. q) result (without_item (Item.Stimulus action.now) self.now) }
     {
         match self.stimuli.as_slice() {
             [] => Err(StepFault::NotEnabled),
@@ -255,6 +310,7 @@ impl Queue {
                 }
                 Ok(Queue {
                     component: self.component,
+                    kind: self.kind,
                     stimuli: self.stimuli.behind_first()?,
                     messages: self.messages.try_clone()?,
                 })
@@ -263,8 +319,8 @@ impl Queue {
     }
 
     /// The queue after an action (Lynch 8.1 and 14.1): a send puts its message in, a receive takes its message out, and
-    /// a stimulus takes itself out. `NotEnabled` (40) if the item to come out is not the first, `NotMine` (41) for an
-    /// action that has no queue. It is meant for an action in which the queue takes part, and does not test that.
+    /// a stimulus takes itself out. `NotEnabled` (40) if the item to come out is not the first, or if the queue keeps no
+    /// order and has no such message; `NotMine` (41) for an action that has no queue. It is meant for an action in which the queue takes part, and does not test that.
     pub fn step(&self, alloc: Global, action: &Action) -> Result<Self, StepFault>
         ensures { Answers StepFault.Memory (λ q. q) result (queue_answer self.now action.now) }
     {
@@ -309,6 +365,45 @@ impl Queue {
         next.messages = self.messages.append(alloc, message)?;
         next.stimuli = self.stimuli.try_clone()?;
         next.component = self.component;
+        next.kind = self.kind;
         Ok(())
     }
+}
+
+/// Messages without the first that is equal to this one; `NotEnabled` (40) if there is none, which takes no memory.
+/// Costs time in proportion to the messages in front of it.
+#[tactic(auto, using(crate::proofs::Parts::not_there))]
+fn without_message(
+    alloc: Global,
+    messages: &Sequence,
+    message: &Value,
+) -> Result<Sequence, StepFault>
+    ensures { Answers StepFault.Memory (λ s. s) result (without_message message.now messages.now) }
+{
+    if !messages.contains(message) {
+        return Err(StepFault::NotEnabled);
+    }
+    take_out(alloc, messages, message)
+}
+
+/// The same, message by message.
+fn take_out(alloc: Global, messages: &Sequence, message: &Value) -> Result<Sequence, StepFault>
+    ensures { Answers StepFault.Memory (λ s. s) result (without_message message.now messages.now) }
+{
+    let mut before = Sequence::new();
+    let mut rest = messages.try_clone()?;
+    for turn in 0..messages.len() {
+        match rest.first() {
+            Some(first) => {
+                if message.equals(first) {
+                    let behind = rest.without_first(alloc)?;
+                    return Ok(before.join(alloc, &behind)?);
+                }
+                before = before.append(alloc, first.try_copy()?)?;
+            }
+            None => return Err(StepFault::NotEnabled),
+        }
+        rest = rest.without_first(alloc)?;
+    }
+    Err(StepFault::NotEnabled)
 }

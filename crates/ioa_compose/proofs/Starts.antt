@@ -8,6 +8,7 @@ use Rattle.std.proofs.lemmas.List.Folds.{list_all-append}
 use Rattle.std.proofs.lemmas.Bool.Decides.{Decides-int_eq}
 use Rattle.ioa_actions.specs.declared.component.Component.{Component}
 use Rattle.ioa_actions.specs.declared.component.Component.TheVariants as component
+use Rattle.ioa_actions.specs.declared.component.ChannelKind.TheVariants.{Ordered}
 use Rattle.ioa_source.specs.declared.declaration.Channel.{Channel}
 use Rattle.ioa_system.specs.Declarations.{IsWellDeclared, has_node, same_channel}
 use Rattle.ioa_system.specs.Parts.{Parts}
@@ -199,7 +200,7 @@ at_any P test (x ∷ xs) each h = by_test (test x) refl h (at_any P test xs each
 -- the scripts of a start in which each node's script is found by its name
 module _ (s : SystemParts) where
   abbrev script_at : ℤ → Conf
-  script_at k = Queue (queue_state (component.Script k) (map Stimulus (stimuli_in (script_of k s.scripts))))
+  script_at k = Queue (queue_state (component.Script k) Ordered (map Stimulus (stimuli_in (script_of k s.scripts))))
 
   abbrev IsScriptAt : ℤ → Type 0
   IsScriptAt k = find_conf (component.Script k) (start s) ≡ Some (script_at k)
@@ -209,11 +210,11 @@ module _ (s : SystemParts) where
   scripted each c own declared =
       let found = at_any (λ (p : Parts). IsScriptAt p.node) (λ (p : Parts). int_eq p.node c.node) s.programs each declared in
       let same : found.0.node ≡ c.node = (Decides-int_eq found.0.node c.node).0 found.2 in
-      subst IsScriptAt same found.1 ∙ ap (λ (o : Option ScriptParts). Some (Queue (queue_state (component.Script c.node) (map Stimulus (stimuli_in o))))) own
+      subst IsScriptAt same found.1 ∙ ap (λ (o : Option ScriptParts). Some (Queue (queue_state (component.Script c.node) Ordered (map Stimulus (stimuli_in o))))) own
 
   -- and that of another node is empty
   unscripted : (p : Parts) → IsScriptAt p.node → StartsUnscripted s.scripts (start s) p
-  unscripted p found none = found ∙ ap (λ (o : Option ScriptParts). Some (Queue (queue_state (component.Script p.node) (map Stimulus (stimuli_in o))))) (no_script p.node s.scripts none)
+  unscripted p found none = found ∙ ap (λ (o : Option ScriptParts). Some (Queue (queue_state (component.Script p.node) Ordered (map Stimulus (stimuli_in o))))) (no_script p.node s.scripts none)
 
 -- the start of a system that declares each thing once
 pub is_start : (s : SystemParts) → IsWellDeclared s → IsStart s (start s)

@@ -19,7 +19,7 @@ ghost use Rattle.ioa_system.specs.Systems.{SystemParts};
 ghost use Rattle.ioa_compose.specs.Start.{start};
 ghost use Rattle.ioa_compose.specs.IsStart.{IsStart};
 ghost use Rattle.ioa_compose.specs.Automata.{IsExecution, ProjectsOnEach};
-ghost use Rattle.ioa_compose.specs.Channels.{HandsOutInOrder, HandsOutPrefix, message_sent, message_received};
+ghost use Rattle.ioa_compose.specs.Channels.{HandsOut, HandsOutFromEmpty, message_sent, message_received};
 ghost use Rattle.ioa_compose.specs.Scripts.{TakesInOrder, stimulus_taken};
 
 /// From a state of the composition the code gives a list of configurations for an entry exactly if a joint step by it
@@ -65,8 +65,8 @@ pub fn signature_law()
 {}
 
 /// The start of a system that declares each thing once has each component of the system once and no other: each node
-/// with its program and its initial values, each declared channel with an empty queue, and each declared script with
-/// its stimuli (Lynch 8.1 and 14.1, and profile for scripts). It is a state of the composition.
+/// with its program and its initial values, each declared channel with an empty queue of its kind, and each declared
+/// script with its stimuli (Lynch 8.1 and 14.1, and profile for scripts). It is a state of the composition.
 pub fn start_law()
     ensures start { (s : SystemParts) → IsWellDeclared s → IsStart s (start s) }
     ensures state { (s : SystemParts) → IsWellDeclared s → IsJointState (start s) }
@@ -91,13 +91,15 @@ pub fn projection_law()
         → ProjectsOnEach HasAnswer start entries confs }
 {}
 
-/// In an execution each channel hands out its messages in the order in which they were sent, and keeps the rest: the
-/// messages received are a prefix of the messages sent (Lynch 14.1). So does each script with its stimuli (profile).
-pub fn prefix_law()
+/// In an execution each channel hands out its messages in the order in which they were sent and keeps the rest, or, if it
+/// keeps no order, hands out and keeps each message as often as it was sent. The former is what Lynch 14.1 says: the
+/// messages received are a prefix of the messages sent. The latter is profile, and so is that each script hands out its
+/// stimuli in order.
+pub fn delivery_law()
     ensures queued { (entries : List PlainEntry) (start confs : List Conf) →
-        IsExecution (IsJointStep IsStep) start entries confs → HandsOutInOrder start entries confs }
+        IsExecution (IsJointStep IsStep) start entries confs → HandsOut start entries confs }
     ensures from_empty { (entries : List PlainEntry) (start confs : List Conf) →
-        IsExecution (IsJointStep IsStep) start entries confs → HandsOutPrefix start entries confs }
+        IsExecution (IsJointStep IsStep) start entries confs → HandsOutFromEmpty start entries confs }
     ensures scripts { (entries : List PlainEntry) (start confs : List Conf) →
         IsExecution (IsJointStep IsStep) start entries confs → TakesInOrder start entries confs }
 {}

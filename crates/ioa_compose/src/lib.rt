@@ -5,7 +5,7 @@
 //!
 //! **Must not know**: schedule blocks.
 //!
-//! **Laws**: `execution_law`, `joint_step_law`, `pick_law`, `prefix_law`, `projection_law`, `signature_law`,
+//! **Laws**: `delivery_law`, `execution_law`, `joint_step_law`, `pick_law`, `projection_law`, `signature_law`,
 //! `start_law`.
 #![tactic(auto)]
 
@@ -22,7 +22,7 @@ pub use composition::{
 };
 pub use configuration::Conf;
 pub use laws::{
-    execution_law, joint_step_law, pick_law, prefix_law, projection_law, signature_law, start_law,
+    delivery_law, execution_law, joint_step_law, pick_law, projection_law, signature_law, start_law,
 };
 pub use parties::{Parties, participants, takes_part_in};
 pub use projection::project;

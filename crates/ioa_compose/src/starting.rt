@@ -3,6 +3,7 @@
 ghost use Rattle.std.specs.Prelude.{◌≡◌, ◌++◌, IfOk, OnOk, map};
 ghost use Rattle.std.specs.Arc.{arc_value};
 ghost use Rattle.ioa_system.specs.Systems.{script_of};
+ghost use Rattle.ioa_actions.specs.declared.component.ChannelKind.TheVariants as ChannelKind;
 ghost use Rattle.ioa_channels.specs.Queues.{queue_state};
 ghost use Rattle.ioa_compose.specs.Start.{start, node_start, channel_start, script_start, stimuli_in};
 
@@ -41,7 +42,7 @@ fn start_nodes(
     Ok(())
 }
 
-/// Adds the empty queues of channels at the end.
+/// Adds the empty queues of channels at the end, each of its channel's kind.
 fn start_channels(confs: &mut Vec<Conf>, channels: &[Channel]) -> Result<(), AllocError>
     ensures { OnOk result (confs.new.items ≡ confs.old.items ++ map channel_start channels.now) }
 {
@@ -50,7 +51,7 @@ fn start_channels(confs: &mut Vec<Conf>, channels: &[Channel]) -> Result<(), All
             from: channel.from,
             to: channel.to,
         };
-        confs.push(Conf::Queue(Queue::empty(component)))?;
+        confs.push(Conf::Queue(Queue::empty(component, channel.kind)))?;
     }
     Ok(())
 }
@@ -69,7 +70,7 @@ fn start_scripts(alloc: Global, confs: &mut Vec<Conf>, system: &System) -> Resul
 
 /// The script of a node, with the stimuli that are declared for the node.
 fn start_script(alloc: Global, system: &System, node: i64) -> Result<Conf, AllocError>
-    ensures { IfOk result (λ c. c ≡ Conf.Queue (queue_state (Component.Script node)
+    ensures { IfOk result (λ c. c ≡ Conf.Queue (queue_state (Component.Script node) ChannelKind.Ordered
         (map Item.Stimulus (stimuli_in (script_of node system.now.scripts))))) }
 {
     let stimuli = match system.script_of(node) {

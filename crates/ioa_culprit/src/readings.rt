@@ -7,7 +7,6 @@ use crate::halt::Halt;
 use crate::offers::Offers;
 use crate::section::{has_channel, program_of};
 use ioa_names::{ReadNames, Readings};
-use ioa_source::Channel;
 use ioa_terms::{Name, Shape, Term};
 
 /// The names that the term of an invariant reads and that are there, with their shapes. A name that is not there is
@@ -102,7 +101,7 @@ fn is_there(ask: &Ask<'_>, offers: &Offers, name: &Name) -> bool {
 
 /// Whether a queue is there: a channel to a node that takes messages.
 fn is_queue_there(ask: &Ask<'_>, offers: &Offers, from: i64, to: i64) -> bool {
-    if !has_channel(&ask.whole.source.system, &Channel { from, to }) {
+    if !has_channel(&ask.whole.source.system, from, to) {
         return false;
     }
     match program_of(&ask.whole.source.system, to) {

@@ -10,7 +10,7 @@ use crate::rules::shapes_taken;
 use crate::sections::ChecksSections;
 use crate::terms::pass_each;
 use crate::unknown::Sought;
-use ioa_actions::{RECEIVE, SEND};
+use ioa_actions::{ChannelKind, RECEIVE, SEND};
 use ioa_names::{NameTable, View};
 use ioa_refusals::Refusal;
 use ioa_source::{Automaton, Call, Channel, Declaration, Node, Placement, ScriptDeclaration, Text};
@@ -114,7 +114,8 @@ fn pass_placement(walk: &mut Walk<'_>, placement: &Placement<(), (), ()>) -> Res
         Placement::Channel(channel) => {
             let first = walk.mark(Mark::Channel)?;
             let _from = walk.number(channel.from)?;
-            let last = walk.number(channel.to)?;
+            let to = walk.number(channel.to)?;
+            let last = pass_kind(walk, channel.kind, to)?;
             Ok(Part { first, last })
         }
         Placement::Script(script) => {
@@ -123,6 +124,15 @@ fn pass_placement(walk: &mut Walk<'_>, placement: &Placement<(), (), ()>) -> Res
             let last = pass_calls(walk, last, &script.calls)?;
             Ok(Part { first, last })
         }
+    }
+}
+
+/// Passes what says that a channel keeps no order. Returns the position of the channel's last token, which is this one
+/// if it keeps its order.
+fn pass_kind(walk: &mut Walk<'_>, kind: ChannelKind, before: usize) -> Result<usize, Halt> {
+    match kind {
+        ChannelKind::Ordered => Ok(before),
+        ChannelKind::Unordered => Ok(walk.mark(Mark::Unordered)?),
     }
 }
 
@@ -189,12 +199,12 @@ fn is_node_of(placement: &Placement<(), (), ()>, number: i64) -> bool {
     }
 }
 
-/// Whether a channel is one of these.
-pub(crate) fn has_channel(placements: &[Placement<(), (), ()>], channel: &Channel) -> bool {
+/// Whether a channel with these ends is one of these.
+pub(crate) fn has_channel(placements: &[Placement<(), (), ()>], from: i64, to: i64) -> bool {
     for placement in placements {
         match placement {
             Placement::Channel(other) => {
-                if other.from == channel.from && other.to == channel.to {
+                if other.from == from && other.to == to {
                     return true;
                 }
             }

@@ -16,7 +16,7 @@ pub(crate) enum Kind {
 }
 
 /// The kinds of tokens that texts can have, and the end, in the order in which they are told.
-pub(crate) static KINDS: [Kind; 72] = [
+pub(crate) static KINDS: [Kind; 73] = [
     Kind::Mark(Mark::Comma),
     Kind::Mark(Mark::Semicolon),
     Kind::Mark(Mark::Colon),
@@ -84,6 +84,7 @@ pub(crate) static KINDS: [Kind; 72] = [
     Kind::Mark(Mark::System),
     Kind::Mark(Mark::Node),
     Kind::Mark(Mark::Channel),
+    Kind::Mark(Mark::Unordered),
     Kind::Mark(Mark::Script),
     Kind::Mark(Mark::Invariant),
     Kind::Word,

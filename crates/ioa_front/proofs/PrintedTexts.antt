@@ -144,6 +144,8 @@ placement_prints _ xs ys (grammar.node {call = c} d) =
     record { again = λ zs. grammar.node {call = c} (p.again zs); good = λ h. let g = p.good h.1.1.1 in ((tt, (h.1.0, (tt, g.0))), g.1) }
 placement_prints _ xs ys grammar.channel =
     record { again = λ zs. grammar.channel; good = λ h. ((tt, (h.1.0, (tt, (h.1.1.1.0, tt)))), h.1.1.1.1) }
+placement_prints _ xs ys grammar.unordered =
+    record { again = λ zs. grammar.unordered; good = λ h. ((tt, (h.1.0, (tt, (h.1.1.1.0, (tt, tt))))), h.1.1.1.1.1) }
 placement_prints _ xs ys (grammar.script d) =
     let p = calls_print d in
     record { again = λ zs. grammar.script (p.again zs); good = λ h. let g = p.good h.1.1.1 in ((tt, (h.1.0, (tt, g.0))), g.1) }

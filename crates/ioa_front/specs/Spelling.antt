@@ -1,6 +1,8 @@
 -- The tokens that print puts for each part of a text (profile): each name has its own sort, each entry its own kind,
 -- and no mark ends a list.
 use Rattle.std.specs.Prelude.{ℕ, Bool, true, false, ◌&&◌, if◌then◌else◌, List, [], ◌∷◌, ◌++◌, Option, Some, None}
+use Rattle.ioa_actions.specs.declared.component.ChannelKind.{ChannelKind}
+use Rattle.ioa_actions.specs.declared.component.ChannelKind.TheVariants.{Ordered, Unordered}
 use Rattle.ioa_tokens.specs.declared.token.Token.{Token}
 use Rattle.ioa_tokens.specs.declared.token.Token.TheVariants as token
 use Rattle.ioa_tokens.specs.declared.mark.Mark.{Mark}
@@ -243,12 +245,17 @@ declaration_spelling (automaton a) =
     ++ (transitions_spelling a.transitions
     ++ schedule_spelling a.schedule))))
 
--- node Number : Call, channel Number -> Number, or script Number : Call {, Call}
+-- [unordered], behind the ends of a channel
+abbrev pub channel_kind_spelling : ChannelKind → List Token
+channel_kind_spelling Ordered = []
+channel_kind_spelling Unordered = token.Mark mark.Unordered ∷ []
+
+-- node Number : Call, channel Number -> Number [unordered], or script Number : Call {, Call}
 abbrev pub placement_spelling : Placement → List Token
 placement_spelling (node n) =
     token.Mark mark.Node ∷ token.Number n.number ∷ token.Mark mark.Colon ∷ call_spelling n.automaton n.arguments
 placement_spelling (channel c) =
-    token.Mark mark.Channel ∷ token.Number c.from ∷ token.Mark mark.Arrow ∷ token.Number c.to ∷ []
+    token.Mark mark.Channel ∷ token.Number c.from ∷ token.Mark mark.Arrow ∷ token.Number c.to ∷ channel_kind_spelling c.kind
 placement_spelling (script s) =
     token.Mark mark.Script ∷ token.Number s.node ∷ token.Mark mark.Colon ∷ calls_spelling s.calls
 

@@ -9,6 +9,7 @@ use crate::declarations::put_declarations;
 use crate::piece::Pieces;
 use crate::statements::put_call;
 use crate::terms::put_term;
+use ioa_actions::ChannelKind;
 use ioa_source::{Call, Invariant, Placement, Text};
 use ioa_tokens::Mark;
 use std::alloc::{AllocError, Global};
@@ -24,6 +25,16 @@ fn put_calls<'a>(out: &mut Pieces<'a>, calls: &'a [Call<(), (), ()>]) -> Result<
         first = false;
     }
     Ok(())
+}
+
+/// Puts what says that a channel keeps no order, if it keeps none.
+fn put_channel_kind(out: &mut Pieces<'_>, kind: ChannelKind) -> Result<(), AllocError>
+    ensures { Puts (spec.channel_kind_spelling kind) result out.old out.new }
+{
+    match kind {
+        ChannelKind::Ordered => Ok(()),
+        ChannelKind::Unordered => out.put_mark(Mark::Unordered),
+    }
 }
 
 /// Puts a node, a channel or a script.
@@ -44,7 +55,8 @@ fn put_placement<'a>(
             out.put_mark(Mark::Channel)?;
             out.put_number(channel.from)?;
             out.put_mark(Mark::Arrow)?;
-            out.put_number(channel.to)
+            out.put_number(channel.to)?;
+            put_channel_kind(out, channel.kind)
         }
         Placement::Script(script) => {
             out.put_mark(Mark::Script)?;

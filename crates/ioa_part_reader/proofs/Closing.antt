@@ -32,6 +32,7 @@ mark_level mark.Signature = 7
 mark_level mark.States = 6
 mark_level mark.Transitions = 5
 mark_level mark.Schedule = 4
+mark_level mark.Unordered = 4
 mark_level mark.Type = 3
 mark_level mark.Automaton = 3
 mark_level mark.Node = 3

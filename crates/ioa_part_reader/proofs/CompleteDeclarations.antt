@@ -1,5 +1,7 @@
 -- Declarations, placements and invariants are read as they are spelled, a production at a time.
-use Rattle.std.proofs.Common.{◌≡◌, ℕ, ℤ, ◌<◌, Bool, true, false, List, [], ◌∷◌, Option, refl, arith}
+use Rattle.std.proofs.Common.{◌≡◌, ◌∙◌, ℕ, ℤ, ◌<◌, Bool, true, false, List, [], ◌∷◌, Option, refl, arith}
+use Rattle.ioa_actions.specs.declared.component.ChannelKind.{ChannelKind}
+use Rattle.ioa_actions.specs.declared.component.ChannelKind.TheVariants.{Ordered, Unordered}
 use Rattle.ioa_tokens.specs.declared.token.Token.{Token}
 use Rattle.ioa_tokens.specs.declared.token.Token.TheVariants as token
 use Rattle.ioa_tokens.specs.declared.mark.Mark.TheVariants as mark
@@ -235,10 +237,23 @@ node_read : (n : ℤ) (c : Call) (xs ys : List Token) → reading.call xs ≡ re
 unfolding reading.placement reading.node number expect skip bind choose
 node_read n c xs ys e = rw e refl
 
+abbrev channel_with : ℤ → ℤ → ChannelKind → Placement
+channel_with i j o = declarations.channel (record { from = i; to = j; kind = o })
+
+-- what stands behind the ends of a channel
 channel_read : (i j : ℤ) (xs : List Token) → reading.placement (token.Mark mark.Channel ∷ token.Number i ∷ token.Mark mark.Arrow ∷ token.Number j ∷ xs)
-    ≡ read_next (declarations.channel (record { from = i; to = j })) xs
+    ≡ read_next (channel_with i j (reading.channel_kind (skip mark.Unordered xs).0)) (skip mark.Unordered xs).1
 unfolding reading.placement reading.channel number expect skip bind choose
 channel_read i j xs = refl
+
+ordered_read : (i j : ℤ) (xs : List Token) → level xs < 4 → reading.placement (token.Mark mark.Channel ∷ token.Number i ∷ token.Mark mark.Arrow ∷ token.Number j ∷ xs)
+    ≡ read_next (channel_with i j Ordered) xs
+ordered_read i j xs h = channel_read i j xs ∙ rw (skip_below mark.Unordered xs h) refl
+
+unordered_read : (i j : ℤ) (xs : List Token) → reading.placement (token.Mark mark.Channel ∷ token.Number i ∷ token.Mark mark.Arrow ∷ token.Number j ∷ token.Mark mark.Unordered ∷ xs)
+    ≡ read_next (channel_with i j Unordered) xs
+unfolding reading.placement reading.channel number expect skip bind choose
+unordered_read i j xs = refl
 
 script_read : (n : ℤ) (cs : List Call) (xs ys : List Token) → reading.calls xs ≡ read_next cs ys →
     reading.placement (token.Mark mark.Script ∷ token.Number n ∷ token.Mark mark.Colon ∷ xs) ≡ read_next (declarations.script (script_with n cs)) ys
@@ -247,18 +262,21 @@ script_read n cs xs ys e = rw e refl
 
 placement_complete : (x : Placement) (xs ys : List Token) → SpellsPlacement x xs ys → level ys < 4 → reading.placement xs ≡ read_next x ys
 placement_complete _ _ ys (grammar.node {n = n} {call = c} {xs = xs} d) h = node_read n c xs ys (call_complete c xs ys d (omega arith))
-placement_complete _ _ ys (grammar.channel {i = i} {j = j}) h = channel_read i j ys
+placement_complete _ _ ys (grammar.channel {i = i} {j = j}) h = ordered_read i j ys h
+placement_complete _ _ ys (grammar.unordered {i = i} {j = j}) h = unordered_read i j ys
 placement_complete _ _ ys (grammar.script {n = n} {calls = cs} {xs = xs} d) h = script_read n cs xs ys (calls_complete cs xs ys d (omega arith))
 
 placement_begins : (x : Placement) (xs ys : List Token) → SpellsPlacement x xs ys → at_placement xs ≡ true
 unfolding at_placement at
 placement_begins _ _ _ (grammar.node d) = refl
 placement_begins _ _ _ grammar.channel = refl
+placement_begins _ _ _ grammar.unordered = refl
 placement_begins _ _ _ (grammar.script d) = refl
 
 placement_level : (x : Placement) (xs ys : List Token) → SpellsPlacement x xs ys → level xs < 4
 placement_level _ _ _ (grammar.node d) = omega arith
 placement_level _ _ _ grammar.channel = omega arith
+placement_level _ _ _ grammar.unordered = omega arith
 placement_level _ _ _ (grammar.script d) = omega arith
 
 -- placements are read as they are spelled

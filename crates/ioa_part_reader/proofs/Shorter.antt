@@ -166,6 +166,7 @@ declaration_shorter _ _ _ (grammar.automaton_parts h s v t b) =
 pub placement_shorter : (p : Placement) (xs ys : List Token) → SpellsPlacement p xs ys → length ys < length xs
 placement_shorter _ _ _ (grammar.node d) = let a = call_shorter _ _ _ d in omega arith
 placement_shorter _ _ _ grammar.channel = omega arith
+placement_shorter _ _ _ grammar.unordered = omega arith
 placement_shorter _ _ _ (grammar.script d) = let a = separated_shorter SpellsCall call_shorter d in omega arith
 
 pub invariant_shorter : (x : Invariant) (xs ys : List Token) → SpellsInvariant x xs ys → length ys < length xs

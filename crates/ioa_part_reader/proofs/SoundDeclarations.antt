@@ -1,6 +1,7 @@
 -- What is read as declarations, placements and invariants is spelled.
-use Rattle.std.proofs.Common.{◌≡◌, List, ◌∷◌, Option, true, false, Bool, refl}
+use Rattle.std.proofs.Common.{◌≡◌, ℤ, List, ◌∷◌, Option, true, false, Bool, refl, sym, subst}
 use Rattle.std.proofs.lemmas.Option.{some_pair_parts}
+use Rattle.ioa_actions.specs.declared.component.ChannelKind.TheVariants.{Unordered}
 use Rattle.ioa_tokens.specs.declared.token.Token.{Token}
 use Rattle.ioa_tokens.specs.declared.token.Token.TheVariants as token
 use Rattle.ioa_tokens.specs.declared.mark.Mark.TheVariants as mark
@@ -175,13 +176,23 @@ node_sound xs ys x e =
     let p = some_pair_parts _ _ _ _ done in
     rw (number_taken xs n n_is, expected_taken mark.Colon n.1 c c_is, ← p.0, ← p.1) (grammar.node (call_sound c.1 a.1 a.0 a_is)))))
 
+-- a channel of these ends, whose kind is told by what comes next
+channel_of_kind : (i j : ℤ) (xs : List Token) (b : Bool) → (skip mark.Unordered xs).0 ≡ b →
+    SpellsPlacement (channel (record { from = i; to = j; kind = reading.channel_kind b })) (token.Mark mark.Channel ∷ token.Number i ∷ token.Mark mark.Arrow ∷ token.Number j ∷ xs) (skip mark.Unordered xs).1
+channel_of_kind i j xs true e =
+    let Spelled : List Token → Type 0 = λ zs. SpellsPlacement (channel (record { from = i; to = j; kind = Unordered })) (token.Mark mark.Channel ∷ token.Number i ∷ token.Mark mark.Arrow ∷ token.Number j ∷ zs) (skip mark.Unordered xs).1 in
+    let there : Spelled (token.Mark mark.Unordered ∷ (skip mark.Unordered xs).1) = grammar.unordered in
+    subst Spelled (sym (skip_taken mark.Unordered xs e)) there
+channel_of_kind i j xs false e = rw (skip_left mark.Unordered xs e) grammar.channel
+
 channel_sound : (xs ys : List Token) (x : Channel) → reading.channel xs ≡ read_next x ys → SpellsPlacement (channel x) (token.Mark mark.Channel ∷ xs) ys
 unfolding reading.channel
 channel_sound xs ys x e =
     let P : Type 0 = SpellsPlacement (channel x) (token.Mark mark.Channel ∷ xs) ys in
     bind_cases P e (λ i i_is e1. bind_cases P e1 (λ a a_is e2. bind_cases P e2 (λ j j_is done.
     let p = some_pair_parts _ _ _ _ done in
-    rw (number_taken xs i i_is, expected_taken mark.Arrow i.1 a a_is, number_taken a.1 j j_is, ← p.0, ← p.1) grammar.channel)))
+    rw (number_taken xs i i_is, expected_taken mark.Arrow i.1 a a_is, number_taken a.1 j j_is, ← p.0, ← p.1)
+    (channel_of_kind i.0 j.0 j.1 (skip mark.Unordered j.1).0 refl))))
 
 script_sound : (xs ys : List Token) (x : Script) → reading.script xs ≡ read_next x ys → SpellsPlacement (script x) (token.Mark mark.Script ∷ xs) ys
 unfolding reading.script

@@ -1,6 +1,7 @@
 -- The grammar of texts (profile), a production at a time. `SpellsX x xs ys` says that the tokens `xs` are a spelling of
--- `x`, followed by the tokens `ys`. The next token decides each choice. There are no unordered channels yet.
+-- `x`, followed by the tokens `ys`. The next token decides each choice.
 use Rattle.std.specs.Prelude.{ℕ, suc, ℤ, List, [], ◌∷◌, ◌≤◌, Option, Some, None, map}
+use Rattle.ioa_actions.specs.declared.component.ChannelKind.TheVariants.{Ordered, Unordered}
 use Rattle.ioa_tokens.specs.declared.token.Token.{Token}
 use Rattle.ioa_tokens.specs.declared.token.Token.TheVariants as token
 use Rattle.ioa_tokens.specs.declared.mark.Mark.TheVariants as mark
@@ -245,14 +246,18 @@ pub data SpellsDeclaration : Declaration → List Token → List Token → Type 
       }))
       (token.Mark mark.Automaton ∷ token.Word w ∷ xs) ys
 
--- Placement: node Number : Call, channel Number -> Number, or script Number : Call {, Call}
+-- Placement: node Number : Call, channel Number -> Number [unordered], or script Number : Call {, Call}
 pub data SpellsPlacement : Placement → List Token → List Token → Type 0 where
   node : {n : ℤ} {call : Call} {xs ys : List Token} → SpellsCall call xs ys →
       SpellsPlacement (plain.node (record { number = n; automaton = call.name; arguments = call.arguments }))
       (token.Mark mark.Node ∷ token.Number n ∷ token.Mark mark.Colon ∷ xs) ys
   channel : {i j : ℤ} {xs : List Token} →
-      SpellsPlacement (plain.channel (record { from = i; to = j }))
+      SpellsPlacement (plain.channel (record { from = i; to = j; kind = Ordered }))
       (token.Mark mark.Channel ∷ token.Number i ∷ token.Mark mark.Arrow ∷ token.Number j ∷ xs) xs
+  unordered : {i j : ℤ} {xs : List Token} →
+      SpellsPlacement (plain.channel (record { from = i; to = j; kind = Unordered }))
+      (token.Mark mark.Channel ∷ token.Number i ∷ token.Mark mark.Arrow ∷ token.Number j ∷ token.Mark mark.Unordered ∷ xs)
+      xs
   script : {n : ℤ} {calls : List Call} {xs ys : List Token} → SeparatedBy mark.Comma SpellsCall calls xs ys →
       SpellsPlacement (plain.script (record { node = n; calls = calls }))
       (token.Mark mark.Script ∷ token.Number n ∷ token.Mark mark.Colon ∷ xs) ys

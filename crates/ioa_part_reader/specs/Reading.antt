@@ -19,6 +19,8 @@ use Rattle.ioa_source.specs.Sides.{SourceType as TypeOf}
 use Rattle.ioa_source.specs.Sides.{SourceAutomaton as Automaton, SourceDeclaration as Declaration}
 use Rattle.ioa_source.specs.Sides.{SourceNode as Node, SourceCall as Call, SourceScript as Script}
 use Rattle.ioa_source.specs.Sides.{SourcePlacement as Placement, SourceInvariant as Invariant, SourceText}
+use Rattle.ioa_actions.specs.declared.component.ChannelKind.{ChannelKind}
+use Rattle.ioa_actions.specs.declared.component.ChannelKind.TheVariants.{Ordered, Unordered}
 use Rattle.ioa_source.specs.declared.declaration.Channel.{Channel}
 use Rattle.ioa_cursor.specs.Reading.{◌>>=◌, choose, skip, expect, word, number, end}
 use Rattle.ioa_cursor.specs.Reading.{at, at_word, peek_mark, advance, begins_with, resumes_with}
@@ -398,11 +400,16 @@ node xs =
     number xs >>= λ n. expect mark.Colon n.1 >>= λ c. call c.1 >>= λ a.
     Some (record { number = n.0; automaton = a.0.name; arguments = a.0.arguments }, a.1)
 
--- Number -> Number, after the first word
+-- the kind of a channel, by whether it is declared unordered
+abbrev pub channel_kind : Bool → ChannelKind
+channel_kind false = Ordered
+channel_kind true = Unordered
+
+-- Number -> Number [unordered], after the first word
 unfoldable pub channel : List Token → Option (Channel × List Token)
 channel xs =
     number xs >>= λ i. expect mark.Arrow i.1 >>= λ a. number a.1 >>= λ j.
-    Some (record { from = i.0; to = j.0 }, j.1)
+    Some (record { from = i.0; to = j.0; kind = channel_kind (skip mark.Unordered j.1).0 }, (skip mark.Unordered j.1).1)
 
 -- Number : Call {, Call}, after the first word
 unfoldable pub script : List Token → Option (Script × List Token)

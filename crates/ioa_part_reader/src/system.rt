@@ -9,6 +9,7 @@ ghost use Rattle.ioa_part_reader.specs.Reading as spec;
 use crate::automaton::automaton;
 use crate::call::{call, calls};
 use crate::declared::{declared_names, words};
+use ioa_actions::ChannelKind;
 use ioa_cursor::{Tokens, Unread};
 use ioa_source::{
     Channel, Declaration, Invariant, Node, Placement, ScriptDeclaration, TypeDeclaration, TypeForm,
@@ -110,7 +111,18 @@ fn node(alloc: Global, tokens: &mut Tokens<'_>) -> Result<Node<(), (), ()>, Unre
     })
 }
 
-/// Number `->` Number, after `channel`
+/// The kind of a channel, by whether it is declared `unordered`.
+fn channel_kind(is_unordered: bool) -> ChannelKind
+    ensures { result ≡ spec.channel_kind is_unordered }
+{
+    if is_unordered {
+        ChannelKind::Unordered
+    } else {
+        ChannelKind::Ordered
+    }
+}
+
+/// Number `->` Number [`unordered`], after `channel`
 #[tactic(auto, unfolding(crate::specs::Reading::channel, crate::specs::bind))]
 fn channel(tokens: &mut Tokens<'_>) -> Result<Channel, Unread>
     ensures { Reads (λ c. c) (spec.channel tokens.old) result tokens.new }
@@ -118,7 +130,8 @@ fn channel(tokens: &mut Tokens<'_>) -> Result<Channel, Unread>
     let from = tokens.number()?;
     tokens.expect(Mark::Arrow)?;
     let to = tokens.number()?;
-    Ok(Channel { from, to })
+    let kind = channel_kind(tokens.skip(Mark::Unordered));
+    Ok(Channel { from, to, kind })
 }
 
 /// Number `:` Call {`,` Call}, after `script`

@@ -21,11 +21,12 @@ use Rattle.ioa_reasons.specs.declared.reason.StatementPlace.{StatementPlace}
 use Rattle.ioa_reasons.specs.declared.reason.StatementPlace.TheVariants as statement
 use Rattle.ioa_reasons.specs.declared.reason.Test.{Test}
 
--- why an action was not enabled: there is nothing in the queue, another item is its first, the node's step is not
--- enabled, or this part of a test of the node is false, whose names have these values
+-- why an action was not enabled: there is nothing in the queue, another item is its first, its message is not in the
+-- queue, the node's step is not enabled, or this part of a test of the node is false, whose names have these values
 pub data PlainReason : Type 0 where
   empty : Component → PlainReason
   first : Component → Item → PlainReason
+  absent : Component → PlainReason
   node : PlainReason
   falsified : Test → CheckedTerm → List (Name × Data) → PlainReason
 
@@ -36,6 +37,7 @@ named_value n = (n.name.now, n.value)
 abbrev pub reason_of : Reason → PlainReason
 reason_of (reason.Empty k) = empty k
 reason_of (reason.First k f) = first k (front_item f)
+reason_of (reason.Absent k) = absent k
 reason_of reason.Node = node
 reason_of (reason.False test part values) = falsified test (term_of part.now) (map named_value values.now)
 

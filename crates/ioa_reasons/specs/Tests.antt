@@ -24,7 +24,7 @@ use Rattle.ioa_compose.specs.declared.configuration.Conf.{Conf}
 use Rattle.ioa_compose.specs.declared.configuration.Conf.TheVariants as conf
 use Rattle.ioa_transitions.specs.NodeState.{NodeState}
 use Rattle.ioa_transitions.specs.NodeStep.{rule_bindings}
-use Rattle.ioa_reasons.specs.PlainReasons.{PlainReason, empty, first, node, falsified}
+use Rattle.ioa_reasons.specs.PlainReasons.{PlainReason, empty, first, absent, node, falsified}
 use Rattle.ioa_reasons.specs.declared.reason.Test.{Test}
 use Rattle.ioa_reasons.specs.declared.reason.Test.TheVariants.{Where, Guard}
 
@@ -111,5 +111,6 @@ pub record IsFalsified (there : Option Conf) (a : Action) (f : FalsePart) : Type
 abbrev pub IsNodeReason : Option Conf → Action → PlainReason → Type 0
 IsNodeReason there a (empty k) = Unit {0}
 IsNodeReason there a (first k x) = Unit {0}
+IsNodeReason there a (absent k) = Unit {0}
 IsNodeReason there a node = Unit {0}
 IsNodeReason there a (falsified test t vs) = IsFalsified there a (record { test = test; part = t; values = vs })

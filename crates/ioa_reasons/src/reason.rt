@@ -64,6 +64,8 @@ pub enum Reason<'a> {
     Empty(Component),
     /// The action takes an item out of this queue, whose first item is another one.
     First(Component, Front<'a>),
+    /// The action receives a message from this queue, which keeps no order, has messages, and has not this one.
+    Absent(Component),
     /// The node's own step is not enabled: the condition of the entry or the guard is false.
     Node,
     /// This part of the test is false, and it is the first one. Its names have these values.

@@ -3,6 +3,7 @@ use Rattle.std.proofs.Common.{◌≡◌, ℕ, ◌<◌, List, [], ◌∷◌, ◌+
 use Rattle.std.specs.List.{AllByRecursion}
 use Rattle.ioa_transitions.specs.Entries.{PlainEntry}
 use Rattle.ioa_actions.specs.declared.component.Component.TheVariants as component
+use Rattle.ioa_actions.specs.declared.component.ChannelKind.TheVariants.{Ordered}
 use Rattle.ioa_source.specs.declared.declaration.Channel.{Channel}
 use Rattle.ioa_system.specs.Declarations.{IsWellDeclared}
 use Rattle.ioa_system.specs.Systems.{ScriptParts, SystemParts}
@@ -19,7 +20,7 @@ use Rattle.ioa_compose.specs.Channels.{Delivers}
 use Rattle.ioa_compose.specs.Scripts.{TakesBeginning}
 use Rattle.ioa_compose.proofs.Replays.{replay-push}
 use Rattle.ioa_compose.proofs.Projections.{projects, replays}
-use Rattle.ioa_compose.proofs.Deliveries.{hands_out_prefix, takes_in_order}
+use Rattle.ioa_compose.proofs.Deliveries.{hands_out_from_empty, takes_in_order}
 use Rattle.ioa_compose.proofs.Starts.{is_start, start_state}
 use Rattle.ioa_record.specs.declared.ending.Ending.{Ending}
 use Rattle.ioa_record.specs.declared.record.Record.{Record}
@@ -32,20 +33,20 @@ ReplaysWithin-push limit from entries entry states next x e room = record {
   within = omega (arith, length-append entries (entry ∷ []));
 }
 
--- in an execution each channel that was empty at the start hands out a beginning of what is sent on it
-each_beginning : (entries : List PlainEntry) (from confs : List Conf) → IsExecution (IsJointStep IsStep) from entries confs → (cs : List Channel) →
-    AllByRecursion (λ c. StartsEmpty from (component.Channel c.from c.to)) cs → AllByRecursion (Delivers entries confs) cs
-each_beginning entries from confs h [] empty = tt
-each_beginning entries from confs h (c ∷ cs) empty =
-    let end = hands_out_prefix entries from confs h c.from c.to (queue_state (component.Channel c.from c.to) []) empty.0 refl in
-    (record { queue = end.0; held = end.1; order = end.2 }, each_beginning entries from confs h cs empty.1)
+-- in an execution each channel that was empty at the start delivers what is sent on it
+each_channel : (entries : List PlainEntry) (from confs : List Conf) → IsExecution (IsJointStep IsStep) from entries confs → (cs : List Channel) →
+    AllByRecursion (StartsEmpty from) cs → AllByRecursion (Delivers entries confs) cs
+each_channel entries from confs h [] empty = tt
+each_channel entries from confs h (c ∷ cs) empty =
+    let end = hands_out_from_empty entries from confs h c.from c.to (queue_state (component.Channel c.from c.to) c.kind []) empty.0 refl in
+    (record { queue = end.0; held = end.1; handed_out = end.2 }, each_channel entries from confs h cs empty.1)
 
 -- and each script that had stimuli at the start hands out a beginning of them
 each_script : (entries : List PlainEntry) (from confs : List Conf) → IsExecution (IsJointStep IsStep) from entries confs → (cs : List ScriptParts) →
     AllByRecursion (StartsScripted from) cs → AllByRecursion (TakesBeginning entries confs) cs
 each_script entries from confs h [] starts = tt
 each_script entries from confs h (c ∷ cs) starts =
-    let end = takes_in_order entries from confs h c.node (queue_state (component.Script c.node) (map Stimulus c.stimuli)) starts.0 in
+    let end = takes_in_order entries from confs h c.node (queue_state (component.Script c.node) Ordered (map Stimulus c.stimuli)) starts.0 in
     (record { queue = end.0; held = end.1; order = end.2 }, each_script entries from confs h cs starts.1)
 
 -- what a run of a system leaves, if that declares each thing once
@@ -57,7 +58,7 @@ is_run_of s limit r endings w left =
       begins = begins;
       execution = execution;
       projections = projects IsStep r.schedule (start s) r.states.items execution;
-      channels = each_beginning r.schedule (start s) r.states.items execution s.channels begins.channels;
+      channels = each_channel r.schedule (start s) r.states.items execution s.channels begins.channels;
       scripts = each_script r.schedule (start s) r.states.items execution s.scripts begins.scripts;
       left = left;
     }

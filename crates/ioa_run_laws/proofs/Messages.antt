@@ -13,6 +13,8 @@ use Rattle.ioa_terms.proofs.Sound.{value_has}
 use Rattle.ioa_actions.specs.ActionParts.{send_name, receive_name}
 use Rattle.ioa_actions.specs.declared.component.Component.{Component}
 use Rattle.ioa_actions.specs.declared.component.Component.TheVariants as component
+use Rattle.ioa_actions.specs.declared.component.ChannelKind.{ChannelKind}
+use Rattle.ioa_actions.specs.declared.component.ChannelKind.TheVariants.{Ordered, Unordered}
 use Rattle.ioa_actions.specs.declared.action.Action.{Action}
 use Rattle.ioa_actions.specs.declared.action.Action.TheVariants as action
 use Rattle.ioa_source.specs.PlainText.{const, named}
@@ -35,7 +37,7 @@ use Rattle.ioa_transitions.specs.NodeState.{NodeState}
 use Rattle.ioa_transitions.specs.NodeStep.{IsOfSort, IsNodeStep, TakesArgument}
 use Rattle.ioa_compose.specs.Participants.{takes_part}
 use Rattle.ioa_channels.specs.Queues.{QueueState}
-use Rattle.ioa_channels.specs.QueueSteps.{IsQueueStep}
+use Rattle.ioa_channels.specs.QueueSteps.{IsQueueStep, ComesOut, LosesItem}
 use Rattle.ioa_channels.specs.declared.queue.Item.{Item}
 use Rattle.ioa_channels.specs.declared.queue.Item.TheVariants.{Message, Stimulus}
 use Rattle.ioa_run_laws.specs.Shaped.{IsShapedNode, IsMessageTo, IsItemTo, IsShapedQueue}
@@ -175,17 +177,31 @@ module _ (s : SystemParts) where
       }
   one_more (component.Script l) items m i j part sent h = tt
 
-  one_less : (k : Component) (y : Item) (items : List Item) → IsShapedQueue s k (y ∷ items) → IsShapedQueue s k items
-  one_less (component.Node l) y items h = absurd h
-  one_less (component.Channel from to) y items h = record { channel = h.channel; declared = h.declared; from = h.from; to = h.to; messages = h.messages.1 }
-  one_less (component.Script l) y items h = tt
+  others : (j : ℤ) (x : Item) (before behind : List Item) → AllByRecursion (IsItemTo s j) (before ++ x ∷ behind) → AllByRecursion (IsItemTo s j) (before ++ behind)
+  others j x [] behind h = h.1
+  others j x (y ∷ before) behind h = (h.0, others j x before behind h.1)
+
+  left : (j : ℤ) (x : Item) (o : ChannelKind) (xs ys : List Item) → ComesOut x o xs ys → AllByRecursion (IsItemTo s j) xs → AllByRecursion (IsItemTo s j) ys
+  left j (Message m) Ordered xs ys out h = (subst (AllByRecursion (IsItemTo s j)) out h).1
+  left j (Message m) Unordered xs ys out h =
+      subst (AllByRecursion (IsItemTo s j)) (sym out.rest) (others j (Message m) out.before out.behind (subst (AllByRecursion (IsItemTo s j)) out.whole h))
+  left j (Stimulus a) o xs ys out h = (subst (AllByRecursion (IsItemTo s j)) out h).1
+
+  one_less : (k : Component) (x : Item) (o : ChannelKind) (xs ys : List Item) → ComesOut x o xs ys → IsShapedQueue s k xs → IsShapedQueue s k ys
+  one_less (component.Node l) x o xs ys out h = absurd h
+  one_less (component.Channel from to) x o xs ys out h =
+      record { channel = h.channel; declared = h.declared; from = h.from; to = h.to; messages = left to x o xs ys out h.messages }
+  one_less (component.Script l) x o xs ys out h = tt
+
+  loses : (x : Item) (q r : QueueState) → LosesItem x q r → IsShapedQueue s q.component q.items → IsShapedQueue s r.component r.items
+  loses x q r lost h = subst (λ (p : QueueState). IsShapedQueue s p.component r.items) (sym lost.1) (one_less q.component x q.kind q.items r.items lost.0 h)
 
   pub queue_shaped : (a : Action) (q r : QueueState) → takes_part q.component a ≡ true → ((m : Data) (i j : ℤ) → a ≡ action.Send m i j → (c : declaration.Channel) → Contains s.channels c → c.from ≡ i → c.to ≡ j → IsMessageTo s j m) →
       IsShapedQueue s q.component q.items → IsQueueStep a q r → IsShapedQueue s r.component r.items
   queue_shaped (action.Send m i j) q r part sent h step =
       subst (λ (p : QueueState). IsShapedQueue s p.component p.items) (sym step) (one_more q.component q.items m i j part (sent m i j refl) h)
   queue_shaped (action.Receive m i j) q r part sent h step =
-      one_less r.component (Message m) r.items (subst (λ (p : QueueState). IsShapedQueue s p.component p.items) step h)
+      loses (Message m) q r step h
   queue_shaped (action.Local a) q r part sent h step = absurd step
   queue_shaped (action.Stimulus a) q r part sent h step =
-      one_less r.component (Stimulus a) r.items (subst (λ (p : QueueState). IsShapedQueue s p.component p.items) step h)
+      loses (Stimulus a) q r step h

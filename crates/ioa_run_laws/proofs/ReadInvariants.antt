@@ -278,7 +278,7 @@ module _ (x : SourceText) (s : SystemParts) (h : IsSystemOf x s) where
     node_there : (p : Parts) → Contains s.programs p → (c : Conf) × (find_conf (component.Node p.node) cs ≡ Some c)
     node_there p present = still_there (component.Node p.node) (Node (node_state p p.initial)) (contained_has (StartsInitial (start s)) s.programs p initial.nodes present)
 
-    queues_there : (channels : List declaration.Channel) → AllByRecursion (λ c. StartsEmpty (start s) (component.Channel c.from c.to)) channels → AllByRecursion (λ c. (d : Conf) × (find_conf (component.Channel c.from c.to) cs ≡ Some d)) channels
+    queues_there : (channels : List declaration.Channel) → AllByRecursion (StartsEmpty (start s)) channels → AllByRecursion (λ c. (d : Conf) × (find_conf (component.Channel c.from c.to) cs ≡ Some d)) channels
     queues_there [] g = tt
     queues_there (c ∷ more) g = (still_there (component.Channel c.from c.to) _ g.0, queues_there more g.1)
 

@@ -3,8 +3,9 @@ use Rattle.std.proofs.Common.{◌≡◌, ◌∙◌, ℕ, ℤ, suc, ◌+◌, ◌-
 use Rattle.std.specs.Prelude.{Decides}
 use Rattle.std.specs.List.{position_from}
 use Rattle.std.proofs.lemmas.Bool.Decides.{Decides-and, Decides-int_eq}
+use Rattle.ioa_values.specs.Data.{Data}
 use Rattle.ioa_show.specs.Matching.{rest_of, same_ends, with_queue}
-use Rattle.ioa_show.specs.Traffics.{is_on, waiting_on}
+use Rattle.ioa_show.specs.Traffics.{is_on, waits, waiting_on}
 use Rattle.ioa_show.specs.declared.partners.Traffic.{Traffic}
 
 -- the test of two channels says so exactly if their ends are the same
@@ -35,9 +36,9 @@ record IsPlace (i j : ℤ) (ts : List Traffic) (n m : ℕ) : Type 0 where
   behind : n ≤ m
   within : m - n < length ts
   ends : (d : Traffic) → ((get_or ts (m - n) d).from ≡ i) × ((get_or ts (m - n) d).to ≡ j)
-  here : (d : Traffic) → waiting_on ts i j ≡ (get_or ts (m - n) d).waiting.items
+  here : (d : Traffic) → waiting_on ts i j ≡ waits (get_or ts (m - n) d)
   changed : (t : Traffic) → t.from ≡ i → t.to ≡ j → (a b : ℤ)
-      → waiting_on (set ts (m - n) t) a b ≡ with_queue i j t.waiting.items (waiting_on ts) a b
+      → waiting_on (set ts (m - n) t) a b ≡ with_queue i j (waits t) (waiting_on ts) a b
 
 -- behind other traffic the place is one further on
 next_place : (i j : ℤ) (c : Traffic) (cs : List Traffic) (n m : ℕ) → is_on i j c ≡ false → IsPlace i j cs (n + 1) m → IsPlace i j (c ∷ cs) n m
@@ -49,7 +50,7 @@ next_place i j c cs n m e p =
       ends = λ d. rw further (p.ends d);
       here = λ d. rw (further, e) (p.here d);
       changed = λ t f g a b. rw further
-          (other_choice (same_ends c.from c.to a b) (same_ends i j a b) c.waiting.items t.waiting.items (waiting_on cs a b)
+          (other_choice (same_ends c.from c.to a b) (same_ends i j a b) (waits c) (waits t) (waiting_on cs a b)
           (waiting_on (set cs (m - (n + 1)) t) a b) (ends_apart i j c a b e) (p.changed t f g a b));
     }
 
@@ -64,7 +65,7 @@ first_place i j c cs n m s e =
       ends = λ d. rw first own;
       here = λ d. rw (first, e) refl;
       changed = λ t f g a b. rw (first, f, g, own.0, own.1)
-          (same_choice (same_ends i j a b) t.waiting.items (waiting_on cs a b) c.waiting.items);
+          (same_choice (same_ends i j a b) (waits t) (waiting_on cs a b) (waits c));
     }
 
 -- what is found by its ends is the place
@@ -81,7 +82,7 @@ place i j (c ∷ cs) n m h = by_test (is_on i j c) refl h (λ k. place i j cs (n
 record IsNowhere (i j : ℤ) (ts : List Traffic) : Type 0 where
   nothing : waiting_on ts i j ≡ []
   added : (t : Traffic) → t.from ≡ i → t.to ≡ j → (a b : ℤ)
-      → waiting_on (ts ++ t ∷ []) a b ≡ with_queue i j t.waiting.items (waiting_on ts) a b
+      → waiting_on (ts ++ t ∷ []) a b ≡ with_queue i j (waits t) (waiting_on ts) a b
 
 nowhere : (i j : ℤ) (ts : List Traffic) (n : ℕ) → None ≡ position_from (λ t. is_on i j t) n ts → IsNowhere i j ts
 nowhere i j [] n h = record { nothing = refl; added = λ t f g a b. rw (f, g) refl }
@@ -95,12 +96,12 @@ nowhere i j (c ∷ cs) n h = by_test (is_on i j c) refl h (λ k. nowhere i j cs 
         record {
           nothing = rw e rest.nothing;
           added = λ t f g a b.
-              other_choice (same_ends c.from c.to a b) (same_ends i j a b) c.waiting.items t.waiting.items
+              other_choice (same_ends c.from c.to a b) (same_ends i j a b) (waits c) (waits t)
               (waiting_on cs a b) (waiting_on (cs ++ t ∷ []) a b) (ends_apart i j c a b e) (rest.added t f g a b);
         }
 
 -- where nothing is under way, nothing is taken
-nothing_taken : (i j : ℤ) (w : ℤ → ℤ → List ℕ) → w i j ≡ [] → (a b : ℤ) → w a b ≡ with_queue i j [] w a b
+nothing_taken : (i j : ℤ) (w : ℤ → ℤ → List (ℕ × Data)) → w i j ≡ [] → (a b : ℤ) → w a b ≡ with_queue i j [] w a b
 nothing_taken i j w none a b = by_test (same_ends i j a b) refl
   where
     by_test : (t : Bool) → same_ends i j a b ≡ t → w a b ≡ (if t then [] else w a b)
@@ -118,49 +119,49 @@ module _ (ts : List Traffic) (i j : ℤ) where
   pub ends_at : (m : ℕ) (d : Traffic) → Some m ≡ position_from (λ t. is_on i j t) 0 ts → ((get_or ts m d).from ≡ i) × ((get_or ts m d).to ≡ j)
   ends_at m d h = let p : IsPlace i j ts 0 m = place i j ts 0 m (sym h) in let same : m ≡ m - 0 = omega arith in rw same (p.ends d)
 
-  pub waits_at : (m : ℕ) (d : Traffic) → Some m ≡ position_from (λ t. is_on i j t) 0 ts → waiting_on ts i j ≡ (get_or ts m d).waiting.items
+  pub waits_at : (m : ℕ) (d : Traffic) → Some m ≡ position_from (λ t. is_on i j t) 0 ts → waiting_on ts i j ≡ waits (get_or ts m d)
   waits_at m d h = let p : IsPlace i j ts 0 m = place i j ts 0 m (sym h) in let same : m ≡ m - 0 = omega arith in rw same (p.here d)
 
   -- other traffic at the place changes what is under way on this channel alone
-  pub put_at : (m : ℕ) (t : Traffic) (ks : List ℕ) → Some m ≡ position_from (λ t. is_on i j t) 0 ts → t.from ≡ i → t.to ≡ j
-      → t.waiting.items ≡ ks → waiting_on (set ts m t) ≡ with_queue i j ks (waiting_on ts)
-  put_at m t ks h f g w =
+  pub put_at : (m : ℕ) (t : Traffic) (ws : List (ℕ × Data)) → Some m ≡ position_from (λ t. is_on i j t) 0 ts → t.from ≡ i → t.to ≡ j
+      → waits t ≡ ws → waiting_on (set ts m t) ≡ with_queue i j ws (waiting_on ts)
+  put_at m t ws h f g w =
       let p : IsPlace i j ts 0 m = place i j ts 0 m (sym h) in
       let same : m ≡ m - 0 = omega arith in
-      let each : (a b : ℤ) → waiting_on (set ts m t) a b ≡ with_queue i j ks (waiting_on ts) a b = λ a b. rw (same, ← w) (p.changed t f g a b) in
+      let each : (a b : ℤ) → waiting_on (set ts m t) a b ≡ with_queue i j ws (waiting_on ts) a b = λ a b. rw (same, ← w) (p.changed t f g a b) in
       λ x a b. each a b x
 
   -- and so does traffic that is new
-  pub put_behind : (t : Traffic) (ks : List ℕ) → None ≡ position_from (λ t. is_on i j t) 0 ts → t.from ≡ i → t.to ≡ j
-      → t.waiting.items ≡ ks → waiting_on (ts ++ t ∷ []) ≡ with_queue i j ks (waiting_on ts)
-  put_behind t ks h f g w =
+  pub put_behind : (t : Traffic) (ws : List (ℕ × Data)) → None ≡ position_from (λ t. is_on i j t) 0 ts → t.from ≡ i → t.to ≡ j
+      → waits t ≡ ws → waiting_on (ts ++ t ∷ []) ≡ with_queue i j ws (waiting_on ts)
+  put_behind t ws h f g w =
       let p : IsNowhere i j ts = nowhere i j ts 0 h in
-      let each : (a b : ℤ) → waiting_on (ts ++ t ∷ []) a b ≡ with_queue i j ks (waiting_on ts) a b = λ a b. rw (← w) (p.added t f g a b) in
+      let each : (a b : ℤ) → waiting_on (ts ++ t ∷ []) a b ≡ with_queue i j ws (waiting_on ts) a b = λ a b. rw (← w) (p.added t f g a b) in
       λ x a b. each a b x
 
   -- without a place nothing is under way, and nothing is taken
   pub nothing_waits : None ≡ position_from (λ t. is_on i j t) 0 ts → waiting_on ts i j ≡ []
   nothing_waits h = (nowhere i j ts 0 h).nothing
 
-  pub nothing_changes : None ≡ position_from (λ t. is_on i j t) 0 ts → waiting_on ts ≡ with_queue i j (rest_of (waiting_on ts i j)) (waiting_on ts)
-  nothing_changes h =
+  pub nothing_changes : (m : Data) → None ≡ position_from (λ t. is_on i j t) 0 ts → waiting_on ts ≡ with_queue i j (rest_of m (waiting_on ts i j)) (waiting_on ts)
+  nothing_changes m h =
       let none : waiting_on ts i j ≡ [] = nothing_waits h in
-      let each : (a b : ℤ) → waiting_on ts a b ≡ with_queue i j (rest_of (waiting_on ts i j)) (waiting_on ts) a b =
+      let each : (a b : ℤ) → waiting_on ts a b ≡ with_queue i j (rest_of m (waiting_on ts i j)) (waiting_on ts) a b =
       λ a b. rw none (nothing_taken i j (waiting_on ts) none a b) in
       λ x a b. each a b x
 
   -- what is read at the place has these ends, and what is under way on the channel
   pub waits_here : (m : ℕ) (c : Traffic) → Some m ≡ position_from (λ t. is_on i j t) 0 ts → c ≡ get_or ts m c
-      → (c.from ≡ i) × (c.to ≡ j) × (waiting_on ts i j ≡ c.waiting.items)
+      → (c.from ≡ i) × (c.to ≡ j) × (waiting_on ts i j ≡ waits c)
   waits_here m c h is =
       let own : ((get_or ts m c).from ≡ i) × ((get_or ts m c).to ≡ j) = ends_at m c h in
-      (ap (λ (t : Traffic). t.from) is ∙ own.0, ap (λ (t : Traffic). t.to) is ∙ own.1, waits_at m c h ∙ ap (λ (t : Traffic). t.waiting.items) (sym is))
+      (ap (λ (t : Traffic). t.from) is ∙ own.0, ap (λ (t : Traffic). t.to) is ∙ own.1, waits_at m c h ∙ ap waits (sym is))
 
-  -- one more position is put behind what is read at the place
-  pub put_at_ok : {X Y : Type 0} (m : ℕ) (c t : Traffic) (ks : List ℕ) (r : Result X Y) → Some m ≡ position_from (λ t. is_on i j t) 0 ts
-      → c ≡ get_or ts m c → t.from ≡ c.from → t.to ≡ c.to → OnOk r (t.waiting.items ≡ c.waiting.items ++ ks)
-      → OnOk r (waiting_on (set ts m t) ≡ with_queue i j (waiting_on ts i j ++ ks) (waiting_on ts))
-  put_at_ok m c t ks (Ok x) h is f g w =
-      let here : (c.from ≡ i) × (c.to ≡ j) × (waiting_on ts i j ≡ c.waiting.items) = waits_here m c h is in
-      put_at m t (waiting_on ts i j ++ ks) h (f ∙ here.0) (g ∙ here.1) (w ∙ ap (λ (x : List ℕ). x ++ ks) (sym here.2))
-  put_at_ok m c t ks (Err e) h is f g w = tt
+  -- one more send is put behind what is read at the place
+  pub put_at_ok : {X Y : Type 0} (m : ℕ) (c t : Traffic) (ws : List (ℕ × Data)) (r : Result X Y) → Some m ≡ position_from (λ t. is_on i j t) 0 ts
+      → c ≡ get_or ts m c → t.from ≡ c.from → t.to ≡ c.to → OnOk r (waits t ≡ waits c ++ ws)
+      → OnOk r (waiting_on (set ts m t) ≡ with_queue i j (waiting_on ts i j ++ ws) (waiting_on ts))
+  put_at_ok m c t ws (Ok x) h is f g w =
+      let here : (c.from ≡ i) × (c.to ≡ j) × (waiting_on ts i j ≡ waits c) = waits_here m c h is in
+      put_at m t (waiting_on ts i j ++ ws) h (f ∙ here.0) (g ∙ here.1) (w ∙ ap (λ (x : List (ℕ × Data)). x ++ ws) (sym here.2))
+  put_at_ok m c t ws (Err e) h is f g w = tt

@@ -5,3 +5,4 @@ pub mod Jsons
 pub mod Passing
 pub mod Puts
 pub mod Tags
+pub mod Waiting

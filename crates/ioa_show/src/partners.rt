@@ -4,28 +4,39 @@ ghost use Rattle.std.specs.Prelude.{◌≡◌, ◌++◌, ◌∷◌, ◌<◌, [],
 ghost use Rattle.std.specs.List.{position_from};
 ghost use Rattle.ioa_show.specs.Matching.{and_receive, first_of, matched_with, partner_at, partners_of, rest_of};
 ghost use Rattle.ioa_show.specs.Matching.{with_queue};
-ghost use Rattle.ioa_show.specs.Traffics.{is_on, matching, waiting_on};
+ghost use Rattle.ioa_show.specs.Traffics.{has_message, is_on, matching, waiting_on, waits};
 
 use ioa_actions::Action;
 use ioa_rawlog::RawLog;
 use ioa_transitions::Entry;
+use ioa_values::Value;
 use std::alloc::{AllocError, Global};
 use std::collections::VecDeque;
 
+/// A send whose message was not received.
+#[derive(Clone, Copy)]
+pub struct Waiting<'a> {
+    /// Its position in the schedule.
+    pub position: usize,
+    /// Its message.
+    pub message: &'a Value,
+}
+
 /// What is under way on a channel.
 #[derive(Drop)]
-pub struct Traffic {
+pub struct Traffic<'a> {
     /// The node that sends.
     pub from: i64,
     /// The node that receives.
     pub to: i64,
-    /// The positions of the sends whose messages were not received, in order.
-    pub waiting: VecDeque<usize>,
+    /// The sends whose messages were not received, in order.
+    pub waiting: VecDeque<Waiting<'a>>,
 }
 
-/// For each action of a schedule the position of its partner: of the k-th send on a channel that of the k-th receive
-/// from it, and of the receive that of the send. A send whose message was not received has none, and neither has an
-/// action that is neither a send nor a receive. Takes memory for a few numbers an action.
+/// For each action of a schedule the position of its partner: of a receive that of the first send on its channel whose
+/// message is equal and was not received before, and of that send that of the receive. A send whose message was not
+/// received has none, and neither has an action that is neither a send nor a receive. Takes memory for a few numbers an
+/// action.
 pub fn partners(alloc: Global, schedule: &RawLog<Entry>) -> Result<Vec<Option<usize>>, AllocError>
     ensures { IfOk result (λ v. v.items ≡ partners_of schedule.now) }
 {
@@ -38,18 +49,22 @@ pub fn partners(alloc: Global, schedule: &RawLog<Entry>) -> Result<Vec<Option<us
 }
 
 /// Notes one more action, and its partner if that is known already.
-fn note(
+fn note<'a>(
     alloc: Global,
-    channels: &mut Vec<Traffic>,
+    channels: &mut Vec<Traffic<'a>>,
     found: &mut Vec<Option<usize>>,
-    action: &Action,
+    action: &'a Action,
 ) -> Result<(), AllocError>
     ensures { OnOk result (matching channels.new.items found.new.items
         ≡ matched_with action.now (matching channels.old.items found.old.items)) }
 {
     match action {
-        Action::Send { from, to, .. } => note_send(alloc, channels, found, *from, *to),
-        Action::Receive { from, to, .. } => note_receive(channels, found, *from, *to),
+        Action::Send { message, from, to } => {
+            note_send(alloc, channels, found, *from, *to, message)
+        }
+        Action::Receive { message, from, to } => {
+            note_receive(channels, found, *from, *to, message)
+        }
         Action::Local(_) => note_other(found),
         Action::Stimulus(_) => note_other(found),
     }
@@ -64,34 +79,37 @@ fn note_other(found: &mut Vec<Option<usize>>) -> Result<(), AllocError>
 }
 
 /// Notes a send on a channel.
-fn note_send(
+fn note_send<'a>(
     alloc: Global,
-    channels: &mut Vec<Traffic>,
+    channels: &mut Vec<Traffic<'a>>,
     found: &mut Vec<Option<usize>>,
     from: i64,
     to: i64,
+    message: &'a Value,
 ) -> Result<(), AllocError>
     ensures way { OnOk result (waiting_on channels.new.items ≡ with_queue from to
-        (waiting_on channels.old.items from to ++ (length found.old.items ∷ [])) (waiting_on channels.old.items)) }
+        (waiting_on channels.old.items from to ++ ((length found.old.items, message.now) ∷ []))
+        (waiting_on channels.old.items)) }
     ensures found { OnOk result (found.new.items ≡ found.old.items ++ (None ∷ [])) }
 {
-    put_under_way(alloc, channels, from, to, found.len())?;
+    put_under_way(alloc, channels, from, to, found.len(), message)?;
     note_other(found)
 }
 
 /// Notes a receive from a channel, and at the send that it takes, if there is one, that its message was received.
 fn note_receive(
-    channels: &mut Vec<Traffic>,
+    channels: &mut Vec<Traffic<'_>>,
     found: &mut Vec<Option<usize>>,
     from: i64,
     to: i64,
+    message: &Value,
 ) -> Result<(), AllocError>
     ensures way { OnOk result (waiting_on channels.new.items ≡ with_queue from to
-        (rest_of (waiting_on channels.old.items from to)) (waiting_on channels.old.items)) }
+        (rest_of message.now (waiting_on channels.old.items from to)) (waiting_on channels.old.items)) }
     ensures found { OnOk result (found.new.items
-        ≡ and_receive (first_of (waiting_on channels.old.items from to)) found.old.items) }
+        ≡ and_receive (first_of message.now (waiting_on channels.old.items from to)) found.old.items) }
 {
-    let sent = take_first(channels, from, to);
+    let sent = take_first(channels, from, to, message);
     note_partners(found, sent)
 }
 
@@ -117,70 +135,95 @@ fn mark(found: &mut Vec<Option<usize>>, position: usize, partner: usize)
     }
 }
 
-/// Puts the position of a send behind what is under way on its channel.
-fn put_under_way(
+/// Puts a send behind what is under way on its channel.
+fn put_under_way<'a>(
     alloc: Global,
-    channels: &mut Vec<Traffic>,
+    channels: &mut Vec<Traffic<'a>>,
     from: i64,
     to: i64,
     position: usize,
+    message: &'a Value,
 ) -> Result<(), AllocError>
     ensures { OnOk result (waiting_on channels.new.items ≡ with_queue from to
-        (waiting_on channels.old.items from to ++ (position ∷ [])) (waiting_on channels.old.items)) }
+        (waiting_on channels.old.items from to ++ ((position, message.now) ∷ [])) (waiting_on channels.old.items)) }
 {
     match place_of(channels, from, to) {
-        Some(place) => put_last(&mut channels[place], position),
+        Some(place) => put_last(&mut channels[place], position, message),
         None => {
-            let channel = first_send(alloc, from, to, position)?;
+            let channel = first_send(alloc, from, to, position, message)?;
             channels.push(channel)?;
             Ok(())
         }
     }
 }
 
-/// Puts a position behind those that wait.
-fn put_last(channel: &mut Traffic, position: usize) -> Result<(), AllocError>
+/// Puts a send behind those that wait.
+#[tactic(auto, using(crate::proofs::Waiting::one_more))]
+fn put_last<'a>(
+    channel: &mut Traffic<'a>,
+    position: usize,
+    message: &'a Value,
+) -> Result<(), AllocError>
     ensures from { channel.new.from ≡ channel.old.from }
     ensures to { channel.new.to ≡ channel.old.to }
-    ensures waiting { OnOk result (channel.new.waiting.items ≡ channel.old.waiting.items ++ (position ∷ [])) }
+    ensures waiting { OnOk result (waits channel.new ≡ waits channel.old ++ ((position, message.now) ∷ [])) }
 {
-    channel.waiting.push_back(position)?;
+    channel.waiting.push_back(Waiting { position, message })?;
     Ok(())
 }
 
 /// A channel with one send.
-fn first_send(alloc: Global, from: i64, to: i64, position: usize) -> Result<Traffic, AllocError>
-    ensures { IfOk result (λ t. (t.from ≡ from) × (t.to ≡ to) × (t.waiting.items ≡ position ∷ [])) }
+fn first_send<'a>(
+    alloc: Global,
+    from: i64,
+    to: i64,
+    position: usize,
+    message: &'a Value,
+) -> Result<Traffic<'a>, AllocError>
+    ensures { IfOk result (λ t. (t.from ≡ from) × (t.to ≡ to) × (waits t ≡ (position, message.now) ∷ [])) }
 {
     let mut waiting = VecDeque::new(alloc);
-    waiting.push_back(position)?;
+    waiting.push_back(Waiting { position, message })?;
     Ok(Traffic { from, to, waiting })
 }
 
-/// Takes the first position of what is under way on a channel, if there is one.
-fn take_first(channels: &mut Vec<Traffic>, from: i64, to: i64) -> Option<usize>
+/// Takes the first send with this message of what is under way on a channel, if there is one: its position.
+fn take_first(channels: &mut Vec<Traffic<'_>>, from: i64, to: i64, message: &Value) -> Option<usize>
     ensures way { waiting_on channels.new.items ≡ with_queue from to
-        (rest_of (waiting_on channels.old.items from to)) (waiting_on channels.old.items) }
-    ensures first { result ≡ first_of (waiting_on channels.old.items from to) }
+        (rest_of message.now (waiting_on channels.old.items from to)) (waiting_on channels.old.items) }
+    ensures first { result ≡ first_of message.now (waiting_on channels.old.items from to) }
 {
     match place_of(channels, from, to) {
-        Some(place) => pop_first(&mut channels[place]),
+        Some(place) => take_equal(&mut channels[place], message),
         None => None,
     }
 }
 
-/// Takes the first position that waits.
-fn pop_first(channel: &mut Traffic) -> Option<usize>
+/// Takes the first send that waits with this message.
+fn take_equal(channel: &mut Traffic<'_>, message: &Value) -> Option<usize>
     ensures from { channel.new.from ≡ channel.old.from }
     ensures to { channel.new.to ≡ channel.old.to }
-    ensures first { result ≡ first_of channel.old.waiting.items }
-    ensures rest { channel.new.waiting.items ≡ rest_of channel.old.waiting.items }
+    ensures first { result ≡ first_of message.now (waits channel.old) }
+    ensures rest { waits channel.new ≡ rest_of message.now (waits channel.old) }
 {
-    channel.waiting.pop_front()
+    match place_of_message(&channel.waiting, message) {
+        Some(place) => match channel.waiting.remove(place) {
+            Some(sent) => Some(sent.position),
+            None => None,
+        },
+        None => None,
+    }
+}
+
+/// Where the first send that waits with this message stands, if there is one.
+fn place_of_message(waiting: &VecDeque<Waiting<'_>>, message: &Value) -> Option<usize>
+    ensures { result ≡ position_from (λ w. has_message message.now w) 0 waiting.now.items }
+{
+    waiting.iter().position(|sent| message.equals(sent.message))
 }
 
 /// Where the traffic of a channel is noted, if it is.
-fn place_of(channels: &[Traffic], from: i64, to: i64) -> Option<usize>
+fn place_of(channels: &[Traffic<'_>], from: i64, to: i64) -> Option<usize>
     ensures { result ≡ position_from (λ t. is_on from to t) 0 channels.now }
 {
     channels

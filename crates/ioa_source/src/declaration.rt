@@ -3,6 +3,7 @@
 //! each call: with nothing in a text, with what is called in a checked system. `D` annotates each display,
 //! field, assigned variable and declared sort: with nothing in a text, with a shape in a checked system.
 
+use ioa_actions::ChannelKind;
 use ioa_terms::{Kind, Sort, Statement, Tree, Word};
 
 /// `x: S`: a name for any value of a sort (profile).
@@ -230,13 +231,16 @@ impl<N: Drop, C: Drop, D: Drop> Drop for Node<N, C, D> {
     }
 }
 
-/// `channel i -> j`: a reliable FIFO channel (Lynch 14.1).
+/// `channel i -> j`: a reliable FIFO channel (Lynch 14.1); `channel i -> j unordered`: a reliable one that hands out any
+/// message that is on it (profile).
 #[derive(Clone, Copy, Debug, PartialEq, Eq)]
 pub struct Channel {
     /// The node that sends.
     pub from: i64,
     /// The node that receives.
     pub to: i64,
+    /// Whether it keeps the order of its messages.
+    pub kind: ChannelKind,
 }
 
 /// `a(t, u)`: an action's name with its arguments, in a script (profile).

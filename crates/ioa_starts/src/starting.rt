@@ -9,7 +9,7 @@ ghost use Rattle.ioa_compose.specs.SameConfs.{same_conf};
 ghost use Rattle.ioa_compose.specs.Start.{start, node_start, channel_start, script_start, stimuli_in};
 ghost use Rattle.ioa_starts.specs.Queues.{queue_starts};
 
-use ioa_actions::{Component, NodeAction};
+use ioa_actions::{ChannelKind, Component, NodeAction};
 use ioa_channels::{Item, Queue};
 use ioa_compose::Conf;
 use ioa_source::Channel;
@@ -99,7 +99,7 @@ fn is_node_start(conf: &Conf, program: &Program) -> bool
     }
 }
 
-/// Whether a configuration is the empty queue of a channel.
+/// Whether a configuration is the empty queue of a channel, and of the channel's kind.
 fn is_channel_start(conf: &Conf, channel: &Channel) -> bool
     ensures { result ≡ same_conf conf.now (channel_start channel.now) }
 {
@@ -107,7 +107,7 @@ fn is_channel_start(conf: &Conf, channel: &Channel) -> bool
         from: channel.from,
         to: channel.to,
     };
-    is_queue_of(conf, component, &[])
+    is_queue_of(conf, component, channel.kind, &[])
 }
 
 /// Whether a configuration is the script of a program's node, with the stimuli that are declared for the node.
@@ -115,7 +115,13 @@ fn is_script_start(conf: &Conf, system: &System, program: &Program) -> bool
     ensures { result ≡ same_conf conf.now (script_start system.now.scripts program.now) }
 {
     let node = program.node();
-    is_queue_of(conf, Component::Script(node), stimuli_of(system, node))
+    let component = Component::Script(node);
+    is_queue_of(
+        conf,
+        component,
+        ChannelKind::Ordered,
+        stimuli_of(system, node),
+    )
 }
 
 /// The stimuli that are declared for a node.
@@ -128,13 +134,15 @@ fn stimuli_of(system: &System, node: i64) -> &[NodeAction]
     }
 }
 
-/// Whether a configuration is the queue of a component and holds these stimuli and no message.
-fn is_queue_of(conf: &Conf, component: Component, stimuli: &[NodeAction]) -> bool
-    ensures { result ≡ same_conf conf.now (Conf.Queue (queue_state component (map Item.Stimulus stimuli.now))) }
+/// Whether a configuration is the queue of a component, is of this kind, and holds these stimuli and no message.
+fn is_queue_of(conf: &Conf, component: Component, kind: ChannelKind, stimuli: &[NodeAction]) -> bool
+    ensures { result ≡ same_conf conf.now (Conf.Queue (queue_state component kind (map Item.Stimulus stimuli.now))) }
 {
     match conf {
         Conf::Node(_) => false,
-        Conf::Queue(queue) => queue.component() == component && has_stimuli(queue, stimuli),
+        Conf::Queue(queue) => {
+            queue.component() == component && queue.kind() == kind && has_stimuli(queue, stimuli)
+        }
     }
 }
 

@@ -464,6 +464,9 @@ fn tell_missed<O: Origin, T: Tells>(
         Reason::First(queue, front) => {
             tell_reason(alloc, book, look, action, Reason::First(queue, front), out)
         }
+        Reason::Absent(queue) => {
+            tell_reason(alloc, book, look, action, Reason::Absent(queue), out)
+        }
         Reason::Node | Reason::False(_, _, _) => { tell_refused(alloc, book, look, action, out) }
     }
 }

@@ -20,6 +20,7 @@ use Rattle.ioa_tell_text.specs.declared.waiting.Why.TheVariants as why
 abbrev pub why_of : List (List ℕ) → PlainReason → Why
 why_of names (told.empty k) = why.Empty k
 why_of names (told.first k x) = why.First k x
+why_of names (told.absent k) = why.Absent k
 why_of names told.node = why.Node
 why_of names (told.falsified test t vs) = why.False (false_text names test t vs)
 
@@ -27,6 +28,7 @@ why_of names (told.falsified test t vs) = why.False (false_text names test t vs)
 abbrev pub same_why : Why → Why → Bool
 same_why (why.Empty k) (why.Empty l) = same_component k l
 same_why (why.First k x) (why.First l y) = same_component k l && same_item x y
+same_why (why.Absent k) (why.Absent l) = same_component k l
 same_why why.Node why.Node = true
 same_why (why.False s) (why.False t) = same_word s t
 same_why v w = false

@@ -23,6 +23,7 @@ taken_line names k e before after queue =
 abbrev pub why_text : List (List ℕ) → Why → List ℕ
 why_text names (why.Empty k) = component_text k ++ codes " is empty"
 why_text names (why.First k x) = codes "first in " ++ (component_text k ++ (codes " is " ++ item_text names x))
+why_text names (why.Absent k) = component_text k ++ codes " has no such message"
 why_text names why.Node = codes "not enabled: its where or its guard is false"
 why_text names (why.False text) = text
 

@@ -126,6 +126,7 @@ fn put_why<O: Out>(paper: &mut Paper<'_, O>, names: &Names, why: &Why)
     match why {
         Why::Empty(queue) => put_empty(paper, *queue),
         Why::First(queue, item) => put_first(paper, names, *queue, item),
+        Why::Absent(queue) => put_absent(paper, *queue),
         Why::Node => paper.put("not enabled: its where or its guard is false"),
         Why::False(text) => paper.put(text.as_str()),
     }
@@ -148,6 +149,14 @@ fn put_first<O: Out>(paper: &mut Paper<'_, O>, names: &Names, queue: Component, 
     put_component(paper, queue);
     paper.put(" is ");
     put_item(paper, names, item);
+}
+
+/// Writes that a queue has not a message.
+fn put_absent<O: Out>(paper: &mut Paper<'_, O>, queue: Component)
+    ensures { paper.new ≡ and_text paper.old (component_text queue ++ codes " has no such message") }
+{
+    put_component(paper, queue);
+    paper.put(" has no such message");
 }
 
 /// Writes an item.

@@ -24,6 +24,8 @@ pub(crate) enum Why {
     Empty(Component),
     /// This is the first item of the queue.
     First(Component, Item),
+    /// This queue, which keeps no order, has not the message.
+    Absent(Component),
     /// The node's own step is not enabled.
     Node,
     /// A test of the node is false, as this text tells.
@@ -54,6 +56,7 @@ pub(crate) fn kept(alloc: Global, names: &Names, reason: Reason<'_>) -> Result<W
     match reason {
         Reason::Empty(queue) => Ok(Why::Empty(queue)),
         Reason::First(queue, front) => Ok(Why::First(queue, item_of(alloc, front)?)),
+        Reason::Absent(queue) => Ok(Why::Absent(queue)),
         Reason::Node => Ok(Why::Node),
         Reason::False(test, part, values) => {
             Ok(Why::False(false_text(alloc, names, test, part, values)?))
@@ -123,6 +126,7 @@ fn is_why(kept: &Why, why: &Why) -> bool
         (Why::First(kept, item), Why::First(queue, front)) => {
             *kept == *queue && is_item(item, front)
         }
+        (Why::Absent(kept), Why::Absent(queue)) => *kept == *queue,
         (Why::Node, Why::Node) => true,
         (Why::False(kept), Why::False(text)) => kept.is_same(text),
         _ => false,

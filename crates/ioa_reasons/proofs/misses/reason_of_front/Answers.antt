@@ -6,6 +6,7 @@ returns-else-is_taken_out c = record {
   queue = c.args.queue.now;
   is = refl;
   name = sym c.component.ensures;
-  first = sym c.requires;
+  in_order = c.requires.in_order;
+  first = sym c.requires.first;
   other = sym c.is_taken_out.ensures ∙ c.if-is_taken_out.false;
 }
