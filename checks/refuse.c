@@ -7,10 +7,13 @@
 #include <unistd.h>
 #include <stdio.h>
 #include <string.h>
+#include <stdatomic.h>
 
-static long requests, live, refused;
+// Several threads may ask at once, so the counts are atomic.
+static atomic_long requests, live;
+static long refused;
 
-static int is_refused(void) { return ++requests == refused; }
+static int is_refused(void) { return atomic_fetch_add(&requests, 1) + 1 == refused; }
 
 void *malloc(size_t size) {
     static void *(*next)(size_t);
@@ -47,7 +50,7 @@ static void tell(void) {
     static int told;
     char line[64];
     if (told++) return;
-    int length = snprintf(line, sizeof line, "requests %ld live %ld\n", requests, live);
+    int length = snprintf(line, sizeof line, "requests %ld live %ld\n", (long)requests, (long)live);
     if (write(2, line, (size_t)length) != length) abort();
 }
 
