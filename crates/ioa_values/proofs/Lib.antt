@@ -14,5 +14,6 @@ pub mod ItemKinds
 pub mod ItemLists
 pub mod Members
 pub mod Merging
+pub mod Removing
 pub mod Rules
 pub mod Steps

@@ -1,7 +1,8 @@
 -- How two lists of items compare, one item after another.
-use Rattle.std.proofs.Common.{◌≡◌, ◌∙◌, ℕ, zero, suc, ◌+◌, ◌++◌, List, [], ◌∷◌, Option, Some, None, Bool, ◌&&◌, length, drop, true, false, refl, sym, ap, add-one, arith}
+use Rattle.std.proofs.Common.{◌≡◌, ◌∙◌, ℕ, zero, suc, ◌+◌, ◌++◌, List, [], ◌∷◌, Option, Some, None, Bool, ◌&&◌, ◌||◌, cond, length, drop, true, false, refl, sym, ap, add-one, arith}
 use Rattle.std.specs.Prelude.{slice_get}
-use Rattle.std.specs.Option.{IfSome}
+use Rattle.std.specs.List.{position_from}
+use Rattle.std.specs.Option.{IfSome, is_some}
 use lib.Pointwise.{pointwise}
 use Rattle.std.specs.Ordering.{is_eq, ordering_then}
 use Rattle.std.specs.declared.cmp.Ordering.{Ordering}
@@ -40,11 +41,26 @@ items_apart xs ys i x y h k n =
     rw (drop_from xs i x h, drop_from ys i y k) (decided (data_cmp x y) (items_cmp (items_of (drop (i + 1) xs)) (items_of (drop (i + 1) ys))) n)
 
 -- an item is the value, or one behind it may be
-pub member_here : (d : Data) (xs : List Data) (i : ℕ) (x : Data) → slice_get xs i ≡ Some x → same d x ≡ true → is_member d (drop i xs) ≡ true
-member_here d xs i x h e = rw (drop_from xs i x h, e) refl
+pub found_here : (d : Data) (xs : List Data) (i : ℕ) (x : Data) → slice_get xs i ≡ Some x → same d x ≡ true →
+    position_from (same d) i (drop i xs) ≡ Some i
+found_here d xs i x h e = rw (drop_from xs i x h, e) refl
 
-pub member_later : (d : Data) (xs : List Data) (i : ℕ) (x : Data) → slice_get xs i ≡ Some x → same d x ≡ false → is_member d (drop i xs) ≡ is_member d (drop (i + 1) xs)
-member_later d xs i x h e = rw (drop_from xs i x h, e) refl
+pub found_later : (d : Data) (xs : List Data) (i : ℕ) (x : Data) → slice_get xs i ≡ Some x → same d x ≡ false →
+    position_from (same d) i (drop i xs) ≡ position_from (same d) (i + 1) (drop (i + 1) xs)
+found_later d xs i x h e = rw (drop_from xs i x h, e) refl
+
+-- a value is among the items exactly if it has a position
+member_from : (d : Data) (i : ℕ) (xs : List Data) → is_some (position_from (same d) i xs) ≡ is_member d xs
+member_from d i [] = refl
+member_from d i (x ∷ xs) = by_test (same d x) (member_from d (i + 1) xs)
+  where
+    by_test : (t : Bool) → is_some (position_from (same d) (i + 1) xs) ≡ is_member d xs →
+        is_some (cond t (Some i) (position_from (same d) (i + 1) xs)) ≡ (t || is_member d xs)
+    by_test true more = refl
+    by_test false more = more
+
+pub found_member : (d : Data) (xs : List Data) → is_some (position_from (same d) 0 xs) ≡ is_member d xs
+found_member d xs = member_from d 0 xs
 
 -- two lists are the same if the order finds them equal
 both_equal : (o p : Ordering) → is_eq (ordering_then o p) ≡ (is_eq o && is_eq p)

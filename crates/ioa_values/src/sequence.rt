@@ -2,6 +2,7 @@
 
 ghost use Rattle.std.specs.Prelude.{◌≡◌, ◌+◌, ◌^◌, ◌++◌, ◌∷◌, ◌<◌, [], IfOk, IfSome, OnOk, Some, length, nat_eq};
 ghost use Rattle.std.specs.Prelude.{slice_get};
+ghost use Rattle.std.specs.List.{position_from, remove};
 ghost use Rattle.std.specs.Option.{option_copied};
 ghost use lib.Pointwise.{pointwise};
 ghost use Rattle.ioa_values.specs.Collections.{is_member};
@@ -147,16 +148,25 @@ impl Sequence {
         Some(self.at(0))
     }
 
-    /// Whether a value is one of its items. Costs one comparison an item.
-    pub fn contains(&self, value: &Value) -> bool
-        ensures { result ≡ is_member value.now self.now }
+    /// The position of the first item that is equal to a value, if there is one. Costs one comparison an item, up to
+    /// that one.
+    pub fn position_of(&self, value: &Value) -> Option<usize>
+        ensures { result ≡ position_from (same value.now) 0 self.now }
     {
         for position in 0..self.len() {
             if value == self.at(position) {
-                return true;
+                return Some(position);
             }
         }
-        false
+        None
+    }
+
+    /// Whether a value is one of its items. Costs one comparison an item, up to the first that is equal.
+    #[tactic(auto, using(crate::proofs::Steps::found_member))]
+    pub fn contains(&self, value: &Value) -> bool
+        ensures { result ≡ is_member value.now self.now }
+    {
+        self.position_of(value).is_some()
     }
 
     /// The order of sequences: the first two items that differ decide, and else the lengths.
@@ -269,6 +279,26 @@ impl Sequence {
         }
     }
 
+    /// The sequence without the item at a position. It shares with this one all but the way to that position. Costs
+    /// time and memory in proportion to the logarithm of the length.
+    #[tactic(auto, using(crate::proofs::Removing::removing_rules))]
+    pub fn without_item(&self, alloc: Global, position: usize) -> Result<Self, AllocError>
+        requires { position < length self.now }
+        ensures { IfOk result (λ s. s ≡ remove self.now position) }
+    {
+        self.items_law();
+        let count = item_count(&self.front);
+        if position < count {
+            let front = without_item_at(alloc, &self.front, position)?;
+            let back = share(&self.back)?;
+            Ok(Sequence { front, back })
+        } else {
+            let back = without_item_at(alloc, &self.back, position - count)?;
+            let front = share(&self.front)?;
+            Ok(Sequence { front, back })
+        }
+    }
+
     /// The sequence with the items of a tree at its end.
     fn push_last(&self, alloc: Global, tree: Arc<Tree>) -> Result<Self, AllocError>
         ensures { IfOk result (λ s. s ≡ self.now ++ tree.value) }
@@ -360,6 +390,21 @@ fn item_at(chain: &Option<Arc<Tree>>, position: usize) -> &Value
     match chain {
         None => unreachable!(),
         Some(chain) => chain.at(position),
+    }
+}
+
+/// A chain without the item at a position, if any others are left.
+fn without_item_at(
+    alloc: Global,
+    chain: &Option<Arc<Tree>>,
+    position: usize,
+) -> Result<Option<Arc<Tree>>, AllocError>
+    requires { position < length (items_in chain.now) }
+    ensures { IfOk result (λ c. items_in c ≡ remove (items_in chain.now) position) }
+{
+    match chain {
+        None => unreachable!(),
+        Some(chain) => Tree::without_item(alloc, chain, position),
     }
 }
 

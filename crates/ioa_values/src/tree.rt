@@ -2,6 +2,7 @@
 //! that are new and takes all else from the trees that it is given.
 
 ghost use Rattle.std.specs.Prelude.{◌≡◌, ◌++◌, ◌∷◌, ◌<◌, [], IfOk, IfSome, Some, length, slice_get};
+ghost use Rattle.std.specs.List.{remove};
 ghost use Rattle.ioa_values.specs.Data.{items_of};
 ghost use Rattle.ioa_values.specs.DataOrder.{items_cmp};
 ghost use Rattle.ioa_values.specs.ItemKinds.{AreOfKind};
@@ -255,6 +256,143 @@ impl Tree {
         }
     }
 
+    /// A tree without the item at a position, if any others are left. A list of trees stays a list of trees.
+    #[tactic(auto, using(crate::proofs::Removing::removing_rules))]
+    pub(crate) fn without_item(
+        alloc: Global,
+        tree: &Arc<Tree>,
+        position: usize,
+    ) -> Result<Option<Arc<Tree>>, AllocError>
+        requires { position < length tree.now.value }
+        ensures { IfOk result (λ t. items_in t ≡ remove tree.now.value position) }
+    {
+        let opened: &Tree = tree;
+        match &opened.form {
+            TreeForm::Item(_) => Ok(None),
+            TreeForm::Pair {
+                left,
+                right,
+                left_len: count,
+                is_link,
+                ..
+            } => {
+                if position < *count {
+                    match Tree::without_item(alloc, left, position)? {
+                        None => Ok(Some(Arc::try_clone(right)?)),
+                        Some(left) => {
+                            let right = Arc::try_clone(right)?;
+                            Ok(Some(Tree::balanced(alloc, left, right, *is_link)?))
+                        }
+                    }
+                } else {
+                    match Tree::without_item(alloc, right, position - *count)? {
+                        None => Ok(Some(Arc::try_clone(left)?)),
+                        Some(right) => {
+                            let left = Arc::try_clone(left)?;
+                            Ok(Some(Tree::balanced(alloc, left, right, *is_link)?))
+                        }
+                    }
+                }
+            }
+        }
+    }
+
+    /// Two trees, one of which may have become too large beside the other: as one tree, in which parts of the larger
+    /// one then go to the other side, or as a list of two.
+    fn balanced(
+        alloc: Global,
+        left: Arc<Tree>,
+        right: Arc<Tree>,
+        is_link: bool,
+    ) -> Result<Arc<Tree>, AllocError>
+        ensures { IfOk result (λ t. t.value ≡ left.value ++ right.value) }
+    {
+        if is_link {
+            Tree::pair(alloc, left, right, true)
+        } else if is_too_large(left.len(), right.len()) {
+            Tree::turned_right(alloc, &left, right)
+        } else if is_too_large(right.len(), left.len()) {
+            Tree::turned_left(alloc, left, &right)
+        } else {
+            Tree::pair(alloc, left, right, false)
+        }
+    }
+
+    /// Two trees as one, of which the right one is the larger: its left part goes to the left, or if that is the
+    /// larger part, the half of it that is next.
+    fn turned_left(
+        alloc: Global,
+        left: Arc<Tree>,
+        right: &Arc<Tree>,
+    ) -> Result<Arc<Tree>, AllocError>
+        ensures { IfOk result (λ t. t.value ≡ left.value ++ right.now.value) }
+    {
+        let opened: &Tree = right;
+        match &opened.form {
+            TreeForm::Item(_) => Tree::pair(alloc, left, Arc::try_clone(right)?, false),
+            TreeForm::Pair {
+                left: inner,
+                right: outer,
+                ..
+            } => {
+                let outer = Arc::try_clone(outer)?;
+                let opened: &Tree = inner;
+                match &opened.form {
+                    TreeForm::Pair {
+                        left: first,
+                        right: second,
+                        ..
+                    } if is_inner_large(inner.len(), outer.len()) => {
+                        let left = Tree::pair(alloc, left, Arc::try_clone(first)?, false)?;
+                        let right = Tree::pair(alloc, Arc::try_clone(second)?, outer, false)?;
+                        Tree::pair(alloc, left, right, false)
+                    }
+                    _ => {
+                        let left = Tree::pair(alloc, left, Arc::try_clone(inner)?, false)?;
+                        Tree::pair(alloc, left, outer, false)
+                    }
+                }
+            }
+        }
+    }
+
+    /// The same with the larger one on the left.
+    fn turned_right(
+        alloc: Global,
+        left: &Arc<Tree>,
+        right: Arc<Tree>,
+    ) -> Result<Arc<Tree>, AllocError>
+        ensures { IfOk result (λ t. t.value ≡ left.now.value ++ right.value) }
+    {
+        let opened: &Tree = left;
+        match &opened.form {
+            TreeForm::Item(_) => Tree::pair(alloc, Arc::try_clone(left)?, right, false),
+            TreeForm::Pair {
+                left: outer,
+                right: inner,
+                ..
+            } => {
+                let outer = Arc::try_clone(outer)?;
+                let opened: &Tree = inner;
+                match &opened.form {
+                    TreeForm::Pair {
+                        left: first,
+                        right: second,
+                        ..
+                    } if is_inner_large(inner.len(), outer.len()) => {
+                        let left = Tree::pair(alloc, outer, Arc::try_clone(first)?, false)?;
+                        let right = Tree::pair(alloc, Arc::try_clone(second)?, right, false)?;
+                        Tree::pair(alloc, left, right, false)
+                    }
+                    _ => {
+                        let right = Tree::pair(alloc, Arc::try_clone(inner)?, right, false)?;
+                        Tree::pair(alloc, outer, right, false)
+                    }
+                }
+            }
+        }
+    }
+
     /// A chain as one tree.
     pub(crate) fn one_tree(alloc: Global, chain: &Arc<Tree>) -> Result<Arc<Tree>, AllocError>
         ensures { IfOk result (λ t. t.value ≡ chain.now.value) }
@@ -276,4 +414,15 @@ impl Tree {
 /// about twice as many.
 fn is_about(len: usize, new: usize) -> bool {
     len / 2 <= new
+}
+
+/// Whether a tree of `len` items is too large beside one of `other` items: if it has more than three times as many.
+fn is_too_large(len: usize, other: usize) -> bool {
+    len.div_ceil(3) > other
+}
+
+/// Whether the inner part of the larger tree has to be opened too: if it has at least about twice as many items as
+/// the outer one.
+fn is_inner_large(inner: usize, outer: usize) -> bool {
+    inner / 2 >= outer
 }
