@@ -32,7 +32,9 @@ takes_out : (x : Item) (xs ys : List Item) → without_equal x xs ≡ Ok ys → 
 takes_out x [] ys h = absurd (cc)
 takes_out x (y ∷ more) ys h = by_test (same_item x y) refl h (λ zs k. takes_out x more zs k)
   where
-    by_rest : (r : Result (List Item) StepFault) → without_equal x more ≡ r → same_item x y ≡ false → and_then r (λ items. Ok (y ∷ items)) ≡ Ok ys → ((zs : List Item) → without_equal x more ≡ Ok zs → TakesOut x more zs) → TakesOut x (y ∷ more) ys
+    by_rest : (r : Result (List Item) StepFault) → without_equal x more ≡ r → same_item x y ≡ false →
+        and_then r (λ items. Ok (y ∷ items)) ≡ Ok ys →
+        ((zs : List Item) → without_equal x more ≡ Ok zs → TakesOut x more zs) → TakesOut x (y ∷ more) ys
     by_rest (Ok zs) k e h further =
         let rest : y ∷ zs ≡ ys = cc in
         let there : TakesOut x more zs = further zs k in
@@ -45,7 +47,9 @@ takes_out x (y ∷ more) ys h = by_test (same_item x y) refl h (λ zs k. takes_o
         }
     by_rest (Err f) k e h further = absurd (cc)
 
-    by_test : (t : Bool) → same_item x y ≡ t → (if t then Ok more else and_then (without_equal x more) (λ items. Ok (y ∷ items))) ≡ Ok ys → ((zs : List Item) → without_equal x more ≡ Ok zs → TakesOut x more zs) → TakesOut x (y ∷ more) ys
+    by_test : (t : Bool) → same_item x y ≡ t →
+        (if t then Ok more else and_then (without_equal x more) (λ items. Ok (y ∷ items))) ≡ Ok ys →
+        ((zs : List Item) → without_equal x more ≡ Ok zs → TakesOut x more zs) → TakesOut x (y ∷ more) ys
     by_test true e h further =
         let same_one : x ≡ y = (same_item_is x y).0 e in
         let left : more ≡ ys = cc in
@@ -53,11 +57,14 @@ takes_out x (y ∷ more) ys h = by_test (same_item x y) refl h (λ zs k. takes_o
     by_test false e h further = by_rest (without_equal x more) refl e h further
 
 -- and what is taken out is the first equal item
-found_behind : (x : Item) (before behind : List Item) → list_any (same_item x) before ≡ false → without_equal x (before ++ x ∷ behind) ≡ Ok (before ++ behind)
+found_behind : (x : Item) (before behind : List Item) → list_any (same_item x) before ≡ false →
+    without_equal x (before ++ x ∷ behind) ≡ Ok (before ++ behind)
 found_behind x [] behind h = let itself : same_item x x ≡ true = (same_item_is x x).1 refl in rw itself refl
 found_behind x (y ∷ before) behind h = by_test (same_item x y) refl h (λ k. found_behind x before behind k)
   where
-    by_test : (t : Bool) → same_item x y ≡ t → t || list_any (same_item x) before ≡ false → (list_any (same_item x) before ≡ false → without_equal x (before ++ x ∷ behind) ≡ Ok (before ++ behind)) → without_equal x (y ∷ (before ++ x ∷ behind)) ≡ Ok (y ∷ (before ++ behind))
+    by_test : (t : Bool) → same_item x y ≡ t → t || list_any (same_item x) before ≡ false →
+        (list_any (same_item x) before ≡ false → without_equal x (before ++ x ∷ behind) ≡ Ok (before ++ behind)) →
+        without_equal x (y ∷ (before ++ x ∷ behind)) ≡ Ok (y ∷ (before ++ behind))
     by_test true e h further = absurd (cc)
     by_test false e h further = rw (e, further h) refl
 

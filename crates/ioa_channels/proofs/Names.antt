@@ -12,12 +12,16 @@ use Rattle.ioa_channels.specs.Queues.{QueueState, queue_state, queue_answer, ite
 component-without_item : (x : Item) (q r : QueueState) → without_item x q ≡ Ok r → r.component ≡ q.component
 component-without_item x q r h = kept (items_left x q.kind q.items) h
   where
-    kept : (s : Result (List Item) StepFault) → and_then s (λ items. Ok (queue_state q.component q.kind items)) ≡ Ok r → r.component ≡ q.component
-    kept (Ok items) e = let same_state : queue_state q.component q.kind items ≡ r = cc in ap (λ (s : QueueState). s.component) (sym same_state)
+    kept : (s : Result (List Item) StepFault) →
+        and_then s (λ items. Ok (queue_state q.component q.kind items)) ≡ Ok r → r.component ≡ q.component
+    kept (Ok items) e =
+        let same_state : queue_state q.component q.kind items ≡ r = cc in
+        ap (λ (s : QueueState). s.component) (sym same_state)
     kept (Err f) e = absurd (cc)
 
 -- a queue's step keeps its name
-pub component-queue_answer : (q : QueueState) (a : Action) (r : QueueState) → queue_answer q a ≡ Ok r → r.component ≡ q.component
+pub component-queue_answer : (q : QueueState) (a : Action) (r : QueueState) → queue_answer q a ≡ Ok r →
+    r.component ≡ q.component
 component-queue_answer q (Send m i j) r h =
     let same_state : with_last (item.Message m) q ≡ r = cc in ap (λ (s : QueueState). s.component) (sym same_state)
 component-queue_answer q (Receive m i j) r h = component-without_item (item.Message m) q r h

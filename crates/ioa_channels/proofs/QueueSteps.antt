@@ -23,7 +23,8 @@ left_is (Stimulus a) o xs ys = items_behind_is (Stimulus a) xs ys
 pub loses : (x : Item) (q r : QueueState) → without_item x q ≡ Ok r → LosesItem x q r
 loses x q r h = by_items (items_left x q.kind q.items) refl h
   where
-    by_items : (s : Result (List Item) StepFault) → items_left x q.kind q.items ≡ s → and_then s (λ items. Ok (queue_state q.component q.kind items)) ≡ Ok r → LosesItem x q r
+    by_items : (s : Result (List Item) StepFault) → items_left x q.kind q.items ≡ s →
+        and_then s (λ items. Ok (queue_state q.component q.kind items)) ≡ Ok r → LosesItem x q r
     by_items (Ok items) e h =
         let same_state : queue_state q.component q.kind items ≡ r = cc in
         let out : ComesOut x q.kind q.items items = (left_is x q.kind q.items items).0 e in

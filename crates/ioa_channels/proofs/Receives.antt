@@ -10,7 +10,8 @@ use Rattle.ioa_channels.proofs.QueueSteps.{loses, is_lost}
 
 -- what is left is what was there without the item
 pub came_out : (x : Item) (q : QueueState) (result : Result QueueState StepFault) →
-    Answers Memory (λ (r : QueueState). r) result (without_item x q) → IfOk result (λ r. ComesOut x q.kind q.items r.items)
+    Answers Memory (λ (r : QueueState). r) result (without_item x q) →
+    IfOk result (λ r. ComesOut x q.kind q.items r.items)
 came_out x q (Ok r) answer = (loses x q r answer).0
 came_out x q (Err e) answer = tt
 
@@ -21,5 +22,6 @@ pub stays_in : (x : Item) (q : QueueState) (result : Result QueueState StepFault
 stays_in x q (Ok r) answer fault rest out = absurd (cc)
 stays_in x q (Err e) (inl memory) fault rest out = let same_fault : e ≡ NotEnabled = cc in absurd (cc)
 stays_in x q (Err e) (inr none) fault rest out =
-    let found : without_item x q ≡ Ok (queue_state q.component q.kind rest) = is_lost x q (queue_state q.component q.kind rest) (out, refl) in
+    let left : QueueState = queue_state q.component q.kind rest in
+    let found : without_item x q ≡ Ok left = is_lost x q left (out, refl) in
     absurd (cc)

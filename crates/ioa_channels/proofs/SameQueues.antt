@@ -25,7 +25,8 @@ kind_is a b = (same_true kind.the_type (search rules) a b, true_same kind.the_ty
 pub same_queue_is : (q r : QueueState) → Decides (same_queue q r) (q ≡ r)
 same_queue_is q r =
     Decides-like _ (λ p i. record { component = p.0 i; kind = p.1.0 i; items = p.1.1 i })
-    (λ e. (ap (λ (s : QueueState). s.component) e, (ap (λ (s : QueueState). s.kind) e, ap (λ (s : QueueState). s.items) e)))
+    (λ e.
+    (ap (λ (s : QueueState). s.component) e, (ap (λ (s : QueueState). s.kind) e, ap (λ (s : QueueState). s.items) e)))
     (Decides-and _ _ (Decides-same_component q.component r.component)
     (Decides-and _ _ (kind_is q.kind r.kind) (slice_eq-Decides same_item_is q.items r.items _ refl)))
 

@@ -5,4 +5,4 @@ pub mod Queues
 pub mod QueueSteps
 pub mod SameItems
 pub mod SameQueues
-pub mod Stimuli
+pub mod Heads

@@ -15,12 +15,13 @@ pub fn queue_step_law()
 {}
 
 /// What is said of what a queue has handed out, by its kind, is so without a step, and a receive or a send in front of
-/// other steps keeps it (Lynch 14.1, and profile for queues that keep no order). So an unordered channel that began empty
-/// has handed out no message more often than it was sent.
+/// other steps keeps it (Lynch 14.1, and profile for queues that keep no order). So an unordered channel that began
+/// empty has handed out no message more often than it was sent.
 pub fn handed_out_law()
     ensures nothing { (o : ChannelKind) (items : List Item) → IsHandedOut o items [] [] items }
     ensures receive { (o : ChannelKind) (m : Data) (q r : List Item) (sent received : List Data) (left : List Item) →
-        ComesOut (Item.Message m) o q r → IsHandedOut o r sent received left → IsHandedOut o q sent (m ∷ received) left }
+        ComesOut (Item.Message m) o q r → IsHandedOut o r sent received left →
+        IsHandedOut o q sent (m ∷ received) left }
     ensures send { (o : ChannelKind) (m : Data) (q : List Item) (sent received : List Data) (left : List Item) →
         IsHandedOut o (q ++ Item.Message m ∷ []) sent received left → IsHandedOut o q (m ∷ sent) received left }
     ensures no_more_often { (m : Data) (sent received : List Data) (left : List Item) →

@@ -1,5 +1,5 @@
-//! Queues, of the messages under way on a channel and of the stimuli left in a script, and their steps. A channel's queue
-//! keeps the order of its messages or hands out any of them.
+//! Queues, of the messages under way on a channel and of the stimuli left in a script, and their steps. A channel's
+//! queue keeps the order of its messages or hands out any of them.
 //!
 //! **A crate of its own**, since it is proved beside nodes, and small, since wrong bodies are tried in it.
 //!
@@ -8,6 +8,7 @@
 //! **Laws**: `queue_step_law`, `handed_out_law`.
 #![tactic(auto)]
 
+mod head;
 mod laws;
 mod queue;
 mod stimuli;

@@ -12,6 +12,7 @@ ghost use Rattle.ioa_channels.specs.QueueSteps.{ComesOut};
 ghost use Rattle.ioa_channels.specs.Fronts.{front_item};
 ghost use Rattle.ioa_channels.specs.SameQueues.{same_queue};
 
+use crate::head::Head;
 use crate::stimuli::Stimuli;
 use ioa_actions::{Action, ChannelKind, Component, NodeAction, StepFault};
 use ioa_values::{Sequence, Value};
@@ -58,13 +59,12 @@ pub fn copy_stimuli(alloc: Global, stimuli: &[NodeAction]) -> Result<Vec<NodeAct
 }
 
 /// The queue of a channel or of a script: the items that were put in and have not come out, in order. A contract sees
-/// the name of its component, whether it keeps the order, and the list of its items. A queue begins with the stimuli of a script or with nothing,
-/// and only messages are put in, so the stimuli that are left are in front of all messages.
+/// the name of its component, whether it keeps the order, and the list of its items. A queue begins with the stimuli of
+/// a script or with nothing, and only messages are put in, so the stimuli that are left are in front of all messages.
 #[derive(Debug)]
 pub struct Queue {
     component: Component,
-    kind: ChannelKind,
-    stimuli: Stimuli,
+    head: Head,
     messages: Sequence,
 }
 
@@ -74,8 +74,7 @@ impl Drop for Queue {
     fn drop(self) {
         let Queue {
             component: _,
-            kind: _,
-            stimuli: _,
+            head: _,
             messages: _,
         } = self;
     }
@@ -88,7 +87,9 @@ impl Model for Queue {
 
     ghost coded = { queue_state_code };
 
-    ghost view = { λ q. queue_state q.component q.kind (queue_items q.stimuli q.messages) };
+    ghost use Rattle.ioa_channels.specs.Heads.{kind_in, stimuli_in};
+
+    ghost view = { λ q. queue_state q.component (kind_in q.head) (queue_items (stimuli_in q.head) q.messages) };
 }
 
 impl Queue {
@@ -98,8 +99,7 @@ impl Queue {
     {
         Queue {
             component,
-            kind,
-            stimuli: Stimuli::none(),
+            head: Head::Nothing(kind),
             messages: Sequence::new(),
         }
     }
@@ -114,8 +114,7 @@ impl Queue {
     {
         Ok(Queue {
             component,
-            kind: ChannelKind::Ordered,
-            stimuli: Stimuli::of(alloc, stimuli)?,
+            head: Head::Stimuli(Stimuli::of(alloc, stimuli)?),
             messages: Sequence::new(),
         })
     }
@@ -131,7 +130,7 @@ impl Queue {
     pub fn kind(&self) -> ChannelKind
         ensures { result ≡ self.now.kind }
     {
-        self.kind
+        self.head.kind()
     }
 
     /// How many items it has.
@@ -139,14 +138,14 @@ impl Queue {
     pub fn len(&self) -> usize
         ensures { result ≡ length self.now.items }
     {
-        self.stimuli.as_slice().len() + self.messages.len()
+        self.head.as_slice().len() + self.messages.len()
     }
 
-    /// Its first item, if it has one: what comes out next.
+    /// Its first item, if it has one: what comes out next, if the queue keeps the order.
     pub fn front(&self) -> Option<Front<'_>>
         ensures { option_map front_item result ≡ slice_get self.now.items 0 }
     {
-        match self.stimuli.as_slice() {
+        match self.head.as_slice() {
             [] => match self.messages.first() {
                 Some(message) => Some(Front::Message(message)),
                 None => None,
@@ -159,7 +158,7 @@ impl Queue {
     pub fn parts(&self) -> (&[NodeAction], &Sequence)
         ensures { self.now.items ≡ queue_items result.0.now result.1.now }
     {
-        (self.stimuli.as_slice(), &self.messages)
+        (self.head.as_slice(), &self.messages)
     }
 
     /// Its messages, first to last, if no stimulus is left in it.
@@ -167,7 +166,7 @@ impl Queue {
         ensures exact { option_map (λ m. m.now) result ≡ messages_of self.now.items }
         ensures items { IfSome result (λ m. self.now.items ≡ map Item.Message m.now) }
     {
-        match self.stimuli.as_slice() {
+        match self.head.as_slice() {
             [] => Some(&self.messages),
             [_, ..] => None,
         }
@@ -196,8 +195,8 @@ impl Queue {
         ensures { result ≡ same_queue self.now other.now }
     {
         self.component == other.component
-            && self.kind == other.kind
-            && self.stimuli.as_slice() == other.stimuli.as_slice()
+            && self.head.kind() == other.head.kind()
+            && self.head.as_slice() == other.head.as_slice()
             && self.messages.equals(&other.messages)
     }
 
@@ -208,8 +207,7 @@ impl Queue {
     {
         Ok(Queue {
             component: self.component,
-            kind: self.kind,
-            stimuli: self.stimuli.try_clone()?,
+            head: self.head.try_clone()?,
             messages: self.messages.try_clone()?,
         })
     }
@@ -221,15 +219,14 @@ impl Queue {
     {
         Ok(Queue {
             component: self.component,
-            kind: self.kind,
-            stimuli: self.stimuli.try_clone()?,
+            head: self.head.try_clone()?,
             messages: self.messages.append(alloc, message)?,
         })
     }
 
     /// The queue without this item: it is to be the first (Lynch 14.1), but of a queue that keeps no order any message
-    /// may come out, and then the first that is equal to it does. `NotEnabled` (40) if the item cannot come out. A
-    /// message costs time in proportion to those in front of it.
+    /// may come out, and then the first that is equal to it does. `NotEnabled` (40) if the item cannot come out, which
+    /// takes no memory. Of a queue that keeps no order a message costs a comparison with each in front of it.
     pub fn after_receive(&self, alloc: Global, item: &Item) -> Result<Self, StepFault>
         ensures answer { Answers StepFault.Memory (λ q. q) result (without_item item.now self.now) }
         ensures out { IfOk result (λ q. ComesOut item.now self.now.kind self.now.items q.items) }
@@ -253,7 +250,7 @@ impl Queue {
     fn after_message(&self, alloc: Global, message: &Value) -> Result<Self, StepFault>
         ensures { Answers StepFault.Memory (λ q. q) result (without_item (Item.Message message.now) self.now) }
     {
-        match self.kind {
+        match self.head.kind() {
             ChannelKind::Ordered => self.after_first(alloc, message),
             ChannelKind::Unordered => self.after_any(alloc, message),
         }
@@ -265,15 +262,14 @@ impl Queue {
             (and_then (items_behind (Item.Message message.now) self.now.items)
             (λ items. Ok (queue_state self.now.component self.now.kind items))) }
     {
-        match (self.stimuli.as_slice(), self.messages.first()) {
+        match (self.head.as_slice(), self.messages.first()) {
             ([], Some(first)) => {
                 if !first.equals(message) {
                     return Err(StepFault::NotEnabled);
                 }
                 Ok(Queue {
                     component: self.component,
-                    kind: self.kind,
-                    stimuli: Stimuli::none(),
+                    head: Head::Nothing(self.head.kind()),
                     messages: self.messages.without_first(alloc)?,
                 })
             }
@@ -282,8 +278,10 @@ impl Queue {
         }
     }
 
-    /// The queue without the first message that is equal to this one.
+    /// The queue without the first message that is equal to this one. It is the rare way, so its code does not stand in
+    /// that of a step.
     #[tactic(auto, using(crate::proofs::Parts::any_message))]
+    #[inline(never)]
     fn after_any(&self, alloc: Global, message: &Value) -> Result<Self, StepFault>
         ensures { Answers StepFault.Memory (λ q. q) result
             (and_then (without_equal (Item.Message message.now) self.now.items)
@@ -292,8 +290,7 @@ impl Queue {
         let messages = without_message(alloc, &self.messages, message)?;
         Ok(Queue {
             component: self.component,
-            kind: self.kind,
-            stimuli: self.stimuli.try_clone()?,
+            head: self.head.try_clone()?,
             messages,
         })
     }
@@ -302,7 +299,7 @@ impl Queue {
     fn after_stimulus(&self, action: &NodeAction) -> Result<Self, StepFault>
         ensures { Answers StepFault.Memory (λ q. q) result (without_item (Item.Stimulus action.now) self.now) }
     {
-        match self.stimuli.as_slice() {
+        match self.head.as_slice() {
             [] => Err(StepFault::NotEnabled),
             [first, ..] => {
                 if !first.equals(action) {
@@ -310,8 +307,7 @@ impl Queue {
                 }
                 Ok(Queue {
                     component: self.component,
-                    kind: self.kind,
-                    stimuli: self.stimuli.behind_first()?,
+                    head: self.head.behind_first()?,
                     messages: self.messages.try_clone()?,
                 })
             }
@@ -319,8 +315,9 @@ impl Queue {
     }
 
     /// The queue after an action (Lynch 8.1 and 14.1): a send puts its message in, a receive takes its message out, and
-    /// a stimulus takes itself out. `NotEnabled` (40) if the item to come out is not the first, or if the queue keeps no
-    /// order and has no such message; `NotMine` (41) for an action that has no queue. It is meant for an action in which the queue takes part, and does not test that.
+    /// a stimulus takes itself out. `NotEnabled` (40) if the item to come out is not the first, or if the queue keeps
+    /// no order and has no such message; `NotMine` (41) for an action that has no queue. It is meant for an action in
+    /// which the queue takes part, and does not test that.
     pub fn step(&self, alloc: Global, action: &Action) -> Result<Self, StepFault>
         ensures { Answers StepFault.Memory (λ q. q) result (queue_answer self.now action.now) }
     {
@@ -363,16 +360,15 @@ impl Queue {
         ensures { OnOk result (next.new ≡ with_last (Item.Message message) self.now) }
     {
         next.messages = self.messages.append(alloc, message)?;
-        next.stimuli = self.stimuli.try_clone()?;
+        next.head = self.head.try_clone()?;
         next.component = self.component;
-        next.kind = self.kind;
         Ok(())
     }
 }
 
 /// Messages without the first that is equal to this one; `NotEnabled` (40) if there is none, which takes no memory.
-/// Costs time in proportion to the messages in front of it.
-#[tactic(auto, using(crate::proofs::Parts::not_there))]
+/// Costs a comparison with each message up to that one.
+#[tactic(auto, using(crate::proofs::Parts::taking_rules))]
 fn without_message(
     alloc: Global,
     messages: &Sequence,
@@ -380,30 +376,8 @@ fn without_message(
 ) -> Result<Sequence, StepFault>
     ensures { Answers StepFault.Memory (λ s. s) result (without_message message.now messages.now) }
 {
-    if !messages.contains(message) {
-        return Err(StepFault::NotEnabled);
+    match messages.position_of(message) {
+        None => Err(StepFault::NotEnabled),
+        Some(position) => Ok(messages.without_item(alloc, position)?),
     }
-    take_out(alloc, messages, message)
-}
-
-/// The same, message by message.
-fn take_out(alloc: Global, messages: &Sequence, message: &Value) -> Result<Sequence, StepFault>
-    ensures { Answers StepFault.Memory (λ s. s) result (without_message message.now messages.now) }
-{
-    let mut before = Sequence::new();
-    let mut rest = messages.try_clone()?;
-    for turn in 0..messages.len() {
-        match rest.first() {
-            Some(first) => {
-                if message.equals(first) {
-                    let behind = rest.without_first(alloc)?;
-                    return Ok(before.join(alloc, &behind)?);
-                }
-                before = before.append(alloc, first.try_copy()?)?;
-            }
-            None => return Err(StepFault::NotEnabled),
-        }
-        rest = rest.without_first(alloc)?;
-    }
-    Err(StepFault::NotEnabled)
 }

@@ -1,6 +1,6 @@
 //! The stimuli that a script has left.
 
-ghost use Rattle.std.specs.Prelude.{◌≡◌, ◌<◌, [], IfOk, drop, length};
+ghost use Rattle.std.specs.Prelude.{◌≡◌, ◌<◌, IfOk, drop, length};
 
 use ioa_actions::NodeAction;
 use std::alloc::{AllocError, Global};
@@ -11,7 +11,7 @@ use std::sync::Arc;
 /// script share one list, and each keeps how many of it have come out.
 #[derive(Debug, Drop)]
 pub(crate) struct Stimuli {
-    all: Option<Arc<Vec<NodeAction>>>,
+    all: Arc<Vec<NodeAction>>,
     passed: usize,
 }
 
@@ -25,30 +25,18 @@ impl Model for Stimuli {
 
     ghost coded = { coded_list node_action.the_row.coded };
 
-    ghost use Rattle.ioa_channels.specs.Stimuli.{all_of};
+    ghost view = { λ s. drop s.passed s.all.value.items };
 
-    ghost view = { λ s. drop s.passed (all_of s.all) };
-
-    ghost invariant = { λ s. s.passed ≤ length (all_of s.all) };
+    ghost invariant = { λ s. s.passed ≤ length s.all.value.items };
 }
 
 impl Stimuli {
-    /// No stimuli; takes no memory.
-    pub(crate) fn none() -> Self
-        ensures { result ≡ [] }
-    {
-        Stimuli {
-            all: None,
-            passed: 0,
-        }
-    }
-
     /// These stimuli, first to last.
     pub(crate) fn of(alloc: Global, stimuli: Vec<NodeAction>) -> Result<Self, AllocError>
         ensures { IfOk result (λ s. s ≡ stimuli.items) }
     {
         Ok(Stimuli {
-            all: Some(Arc::new(alloc, stimuli)?),
+            all: Arc::new(alloc, stimuli)?,
             passed: 0,
         })
     }
@@ -57,22 +45,15 @@ impl Stimuli {
     pub(crate) fn as_slice(&self) -> &[NodeAction]
         ensures { result.now ≡ self.now }
     {
-        match &self.all {
-            None => &[],
-            Some(all) => &all[self.passed..],
-        }
+        &self.all[self.passed..]
     }
 
     /// The same stimuli once more, sharing the list; takes no memory.
     pub(crate) fn try_clone(&self) -> Result<Self, AllocError>
         ensures { IfOk result (λ s. s ≡ self.now) }
     {
-        let all = match &self.all {
-            None => None,
-            Some(all) => Some(Arc::try_clone(all)?),
-        };
         Ok(Stimuli {
-            all,
+            all: Arc::try_clone(&self.all)?,
             passed: self.passed,
         })
     }

@@ -11,4 +11,8 @@ pub returns-in-Ordered : goal.returns-in-Ordered
 returns-in-Ordered c =
     let q : QueueState = c.args.self.now in
     let kind : c.args.self.now.kind ≡ Ordered = search rules in
-    subst (λ (o : ChannelKind). Answers Memory (λ r. r) c.after_first.result (and_then (items_left (Message c.args.message.now) o q.items) (λ items. Ok (queue_state q.component q.kind items)))) (sym kind) c.after_first.ensures
+    subst
+    (λ (o : ChannelKind). Answers Memory (λ r. r) c.after_first.result
+    (and_then (items_left (Message c.args.message.now) o q.items)
+    (λ items. Ok (queue_state q.component q.kind items))))
+    (sym kind) c.after_first.ensures
