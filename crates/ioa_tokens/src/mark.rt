@@ -139,6 +139,8 @@ pub enum Mark {
     Yield,
     /// `unordered`
     Unordered,
+    /// `choose`
+    Choose,
     /// `Bool`
     Bool,
     /// `Int`
@@ -202,8 +204,6 @@ pub enum LeftOut {
     ForAll,
     /// `\E`
     Exists,
-    /// `choose`
-    Choose,
 }
 
 impl fmt::Display for LeftOut {

@@ -45,7 +45,7 @@ static SIGNS: [(&str, Mark); 30] = [
 ];
 
 /// The reserved words, and the sign that is written with letters.
-static RESERVED: [(&str, Mark); 41] = [
+static RESERVED: [(&str, Mark); 42] = [
     ("automaton", Mark::Automaton),
     ("signature", Mark::Signature),
     ("states", Mark::States),
@@ -80,6 +80,7 @@ static RESERVED: [(&str, Mark); 41] = [
     ("invariant", Mark::Invariant),
     ("yield", Mark::Yield),
     ("unordered", Mark::Unordered),
+    ("choose", Mark::Choose),
     ("Bool", Mark::Bool),
     ("Int", Mark::Int),
     ("Nat", Mark::Nat),
@@ -90,7 +91,7 @@ static RESERVED: [(&str, Mark); 41] = [
 ];
 
 /// The words that the profile leaves out.
-static LEFT_OUT: [(&str, LeftOut); 19] = [
+static LEFT_OUT: [(&str, LeftOut); 18] = [
     ("uses", LeftOut::Uses),
     ("assumes", LeftOut::Assumes),
     ("components", LeftOut::Components),
@@ -109,7 +110,6 @@ static LEFT_OUT: [(&str, LeftOut); 19] = [
     ("Real", LeftOut::Real),
     ("\\A", LeftOut::ForAll),
     ("\\E", LeftOut::Exists),
-    ("choose", LeftOut::Choose),
 ];
 
 /// Whether a text begins with a spelling. Mostly the first byte tells.
